@@ -1,0 +1,168 @@
+-- What walks over trees use of their leaves.
+use mathlib.Core.Former.{Count}
+use Rattle.std.proofs.Common.{◌≡◌, ℕ, Bool, true, false, ◌||◌, ◌&&◌, not, List, [], ◌∷◌, ◌++◌, ◌+◌, ◌-◌, ◌<◌, ◌≤◌, length, get_or, take, drop, length-append, append_assoc, refl, sym, ap, ◌∙◌, arith}
+use Rattle.std.specs.Borrow.{Bor}
+use Rattle.std.specs.List.{list_any}
+use Rattle.std.proofs.lemmas.List.{take_more, take_rest, drop_more, append-nil, take-append-drop}
+use Rattle.std.proofs.lemmas.List.Folds.{list_any-append}
+use Rattle.std.proofs.lemmas.Grind.{common_steps}
+use Rattle.asn1_tags.specs.Tags.{has, tag_eq, meet, distinct}
+use Rattle.asn1_tags.specs.declared.tags.Tag.{Tag}
+use Rattle.asn1_tags.specs.declared.trees.TagTree.{TagTree, Leaf, Choice, Choice', Row_of-TagTree, end_of-TagTree, more_of-TagTree, items-the_row-TagTree, items_hidden-the_row-TagTree-0}
+use Rattle.asn1_tags.specs.Trees.{Tree, Trees, leaf, choice, none, more, shape, row_shapes, shapes, leaves, leaves_of}
+
+row_shapes_is : (n : _) (row : Row_of-TagTree n) → row_shapes row ≡ shapes (items-the_row-TagTree n row)
+unfolding shape row_shapes
+row_shapes_is n end_of-TagTree = refl
+row_shapes_is n (more_of-TagTree t rest) = ap (more (shape t)) (row_shapes_is _ rest)
+
+abbrev row_of : TagTree → (n : Count) × Row_of-TagTree n
+row_of (Choice' p n row) = (_, row)
+row_of _ = (_, end_of-TagTree)
+
+-- the shape of a leaf
+pub shape-Leaf : (t : Tag) → shape (Leaf t) ≡ leaf t
+unfolding shape
+shape-Leaf t = refl
+
+-- the shape of a choice
+pub shape-Choice : (s : Bor (List TagTree)) → shape (Choice s) ≡ choice (shapes s.now)
+unfolding shape row_shapes
+shape-Choice s =
+    let row = row_of (Choice s) in
+    ap choice (row_shapes_is row.0 row.1 ∙ ap shapes (items_hidden-the_row-TagTree-0 s.now))
+
+-- the shapes of several trees, first and rest
+pub shapes-cons : (t : TagTree) (ts : List TagTree) → shapes (t ∷ ts) ≡ more (shape t) (shapes ts)
+shapes-cons t ts = refl
+
+-- the leaves of trees that stand behind one another
+pub leaves_of-append : (ts us : List TagTree) → leaves_of (shapes (ts ++ us)) ≡ leaves_of (shapes ts) ++ leaves_of (shapes us)
+leaves_of-append [] us = refl
+leaves_of-append (t ∷ ts) us =
+    ap (λ ls. leaves (shape t) ++ ls) (leaves_of-append ts us) ∙ sym (append_assoc (leaves (shape t)) (leaves_of (shapes ts)) (leaves_of (shapes us)))
+
+-- one more tree
+pub leaves_of-take : (ts : List TagTree) (i : ℕ) (d : TagTree) → i < length ts →
+    leaves_of (shapes (take (i + 1) ts)) ≡ leaves_of (shapes (take i ts)) ++ leaves (shape (get_or ts i d))
+leaves_of-take ts i d lt =
+    ap (λ us. leaves_of (shapes us)) (take_more ts i d lt)
+    ∙ leaves_of-append (take i ts) (get_or ts i d ∷ [])
+    ∙ ap (λ ls. leaves_of (shapes (take i ts)) ++ ls) (append-nil (leaves (shape (get_or ts i d))))
+
+-- one tree fewer
+pub leaves_of-drop : (ts : List TagTree) (i : ℕ) (d : TagTree) → i < length ts →
+    leaves_of (shapes (drop i ts)) ≡ leaves (shape (get_or ts i d)) ++ leaves_of (shapes (drop (i + 1) ts))
+leaves_of-drop ts i d lt = ap (λ us. leaves_of (shapes us)) (drop_more ts i d lt)
+
+-- the leaves before a place and from it on
+leaves_of-split : (ts : List TagTree) (i : ℕ) → leaves_of (shapes ts) ≡ leaves_of (shapes (take i ts)) ++ leaves_of (shapes (drop i ts))
+leaves_of-split ts i = ap (λ us. leaves_of (shapes us)) (sym (take-append-drop i ts)) ∙ leaves_of-append (take i ts) (drop i ts)
+
+has-append : (t : Tag) (xs ys : List Tag) → has t (xs ++ ys) ≡ (has t xs || has t ys)
+has-append t xs ys = list_any-append (λ s. tag_eq s t) xs ys
+
+-- a walk that looks for a tag
+pub has_more : (t : Tag) (ts : List TagTree) (i : ℕ) (d : TagTree) → i < length ts →
+    has t (leaves_of (shapes (take (i + 1) ts))) ≡ (has t (leaves_of (shapes (take i ts))) || has t (leaves (shape (get_or ts i d))))
+has_more t ts i d lt = ap (has t) (leaves_of-take ts i d lt) ∙ has-append t (leaves_of (shapes (take i ts))) (leaves (shape (get_or ts i d)))
+
+-- a tree that has the tag settles it
+pub has_at : (t : Tag) (ts : List TagTree) (i : ℕ) (d : TagTree) → i < length ts →
+    has t (leaves (shape (get_or ts i d))) ≡ true → has t (leaves_of (shapes ts)) ≡ true
+has_at t ts i d lt h =
+    let e1 = ap (has t) (leaves_of-split ts i) in
+    let e2 = has-append t (leaves_of (shapes (take i ts))) (leaves_of (shapes (drop i ts))) in
+    let e3 = ap (has t) (leaves_of-drop ts i d lt) in
+    let e4 = has-append t (leaves (shape (get_or ts i d))) (leaves_of (shapes (drop (i + 1) ts))) in
+    grind (arith, common_steps)
+
+-- a walk that counts
+pub count_more : (ts : List TagTree) (i : ℕ) (d : TagTree) → i < length ts →
+    length (leaves_of (shapes (take (i + 1) ts))) ≡ length (leaves_of (shapes (take i ts))) + length (leaves (shape (get_or ts i d)))
+count_more ts i d lt = ap length (leaves_of-take ts i d lt) ∙ length-append (leaves_of (shapes (take i ts))) (leaves (shape (get_or ts i d)))
+
+pub count_upto : (ts : List TagTree) (i : ℕ) (d : TagTree) → i < length ts →
+    length (leaves_of (shapes (take i ts))) + length (leaves (shape (get_or ts i d))) ≤ length (leaves_of (shapes ts))
+count_upto ts i d lt =
+    let e1 = ap length (leaves_of-split ts (i + 1)) in
+    let e2 = length-append (leaves_of (shapes (take (i + 1) ts))) (leaves_of (shapes (drop (i + 1) ts))) in
+    let e3 = count_more ts i d lt in
+    omega arith
+
+meet-append : (us xs ys : List Tag) → meet (xs ++ ys) us ≡ (meet xs us || meet ys us)
+meet-append us xs ys = list_any-append (λ t. has t us) xs ys
+
+-- a walk that looks for a tag of another list
+pub meet_more : (us : List Tag) (ts : List TagTree) (i : ℕ) (d : TagTree) → i < length ts →
+    meet (leaves_of (shapes (take (i + 1) ts))) us ≡ (meet (leaves_of (shapes (take i ts))) us || meet (leaves (shape (get_or ts i d))) us)
+meet_more us ts i d lt =
+    ap (λ ls. meet ls us) (leaves_of-take ts i d lt) ∙ meet-append us (leaves_of (shapes (take i ts))) (leaves (shape (get_or ts i d)))
+
+pub meet_at : (us : List Tag) (ts : List TagTree) (i : ℕ) (d : TagTree) → i < length ts →
+    meet (leaves (shape (get_or ts i d))) us ≡ true → meet (leaves_of (shapes ts)) us ≡ true
+meet_at us ts i d lt h =
+    let e1 = ap (λ ls. meet ls us) (leaves_of-split ts i) in
+    let e2 = meet-append us (leaves_of (shapes (take i ts))) (leaves_of (shapes (drop i ts))) in
+    let e3 = ap (λ ls. meet ls us) (leaves_of-drop ts i d lt) in
+    let e4 = meet-append us (leaves (shape (get_or ts i d))) (leaves_of (shapes (drop (i + 1) ts))) in
+    grind (arith, common_steps)
+
+shuffle : (a b d y s : Bool) → (not (a || b) && (d && (y && not s))) ≡ ((not a && d) && (y && not (b || s)))
+shuffle true b d y s = refl
+shuffle false true true true s = refl
+shuffle false true true false s = refl
+shuffle false true false y s = refl
+shuffle false false d y s = refl
+
+and_true : (b : Bool) → b ≡ (b && true)
+and_true true = refl
+and_true false = refl
+
+distinct-append : (xs ys : List Tag) → distinct (xs ++ ys) ≡ (distinct xs && (distinct ys && not (meet xs ys)))
+distinct-append [] ys = and_true (distinct ys)
+distinct-append (x ∷ xs) ys =
+    ap (λ b. not b && distinct (xs ++ ys)) (has-append x xs ys)
+    ∙ ap (λ b. not (has x xs || has x ys) && b) (distinct-append xs ys)
+    ∙ shuffle (has x xs) (has x ys) (distinct xs) (distinct ys) (meet xs ys)
+
+-- a walk that looks for a tag that stands twice: the tree at i, and those behind it
+distinct_rest : (ts : List TagTree) (i : ℕ) (d : TagTree) → i < length ts →
+    distinct (leaves_of (shapes (drop i ts)))
+    ≡ (distinct (leaves (shape (get_or ts i d)))
+    && (distinct (leaves_of (shapes (drop (i + 1) ts))) && not (meet (leaves (shape (get_or ts i d))) (leaves_of (shapes (drop (i + 1) ts))))))
+distinct_rest ts i d lt =
+    ap distinct (leaves_of-drop ts i d lt) ∙ distinct-append (leaves (shape (get_or ts i d))) (leaves_of (shapes (drop (i + 1) ts)))
+
+pub distinct_stop : (ts : List TagTree) (i : ℕ) (d : TagTree) → i < length ts →
+    distinct (leaves_of (shapes ts)) ≡ distinct (leaves_of (shapes (drop i ts))) →
+    distinct (leaves (shape (get_or ts i d))) ≡ false → distinct (leaves_of (shapes ts)) ≡ false
+distinct_stop ts i d lt e h = let r = distinct_rest ts i d lt in grind (arith, common_steps)
+
+pub distinct_clash : (ts : List TagTree) (i : ℕ) (d : TagTree) → i < length ts →
+    distinct (leaves_of (shapes ts)) ≡ distinct (leaves_of (shapes (drop i ts))) →
+    meet (leaves (shape (get_or ts i d))) (leaves_of (shapes (take (length ts - (i + 1)) (drop (i + 1) ts)))) ≡ true →
+    distinct (leaves_of (shapes ts)) ≡ false
+distinct_clash ts i d lt e h =
+    let r = distinct_rest ts i d lt in
+    let k : meet (leaves (shape (get_or ts i d))) (leaves_of (shapes (drop (i + 1) ts))) ≡ true = rw (take_rest ts (i + 1)) at h in
+    grind (arith, common_steps)
+
+pub distinct_more : (ts : List TagTree) (i : ℕ) (d : TagTree) → i < length ts →
+    distinct (leaves_of (shapes ts)) ≡ distinct (leaves_of (shapes (drop i ts))) →
+    distinct (leaves (shape (get_or ts i d))) ≡ true →
+    meet (leaves (shape (get_or ts i d))) (leaves_of (shapes (take (length ts - (i + 1)) (drop (i + 1) ts)))) ≡ false →
+    distinct (leaves_of (shapes ts)) ≡ distinct (leaves_of (shapes (drop (i + 1) ts)))
+distinct_more ts i d lt e h apart =
+    let r = distinct_rest ts i d lt in
+    let k : meet (leaves (shape (get_or ts i d))) (leaves_of (shapes (drop (i + 1) ts))) ≡ false = rw (take_rest ts (i + 1)) at apart in
+    grind (arith, common_steps)
+
+-- what a tree is, by its cases
+pub ruleset tree_shapes = (shape-Leaf, shape-Choice)
+
+-- steps of walks that look and count
+pub ruleset walks = (shape-Leaf, shape-Choice, has_more, has_at, count_more, count_upto, meet_more, meet_at)
+
+-- steps of the walk that looks for a tag that stands twice
+pub ruleset repeats = (shape-Leaf, shape-Choice, distinct_stop, distinct_clash, distinct_more)

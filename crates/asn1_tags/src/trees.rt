@@ -1,0 +1,66 @@
+ghost use Rattle.std.specs.Prelude.{◌≡◌, ◌≢◌, ◌↔◌, ◌<◌, ◌^◌, IsTrue, length, AllPairs, Contains};
+ghost use Rattle.std.specs.Option.{SomeIff};
+ghost use Rattle.asn1_tags.specs.Tags.{IsSmallest};
+ghost use Rattle.asn1_tags.specs.Trees.{choice, leaves, leaves_of, none, shape, shapes};
+
+use crate::classes::Class;
+use crate::tags::Tag;
+use crate::walks;
+use std::fmt;
+
+/// The tags with which an encoding of a type can begin.
+///
+/// A type with a tag of its own is a leaf. An untagged CHOICE has none, and is the trees of its
+/// alternatives. A tree borrows its branches, and is copied as a tag is.
+#[derive(Clone, Copy)]
+pub enum TagTree<'a> {
+    /// The one tag of a type.
+    Leaf(Tag),
+    /// The trees of a CHOICE's alternatives.
+    Choice(&'a [TagTree<'a>]),
+}
+
+impl TagTree<'_> {
+    /// A choice of nothing, the tree of a type that can begin with any tag.
+    pub fn empty() -> TagTree<'static>
+        ensures { shape result ≡ choice none }
+    {
+        TagTree::Choice(&[])
+    }
+
+    /// The smallest leaf in the canonical order of tags, and `Private 4294967295` where there is no leaf.
+    pub fn smallest_tag(&self) -> Tag
+        ensures { IsSmallest (leaves (shape self.now)) result }
+    {
+        walks::smallest_leaf(self)
+            .unwrap_or(Tag::new(Class::Private, u32::MAX))
+    }
+
+    /// Whether no tag stands at two leaves of the tree.
+    pub fn is_unique(&self) -> bool
+        ensures { IsTrue result ↔ AllPairs (λ s t. s ≢ t) (leaves (shape self.now)) }
+    {
+        walks::has_distinct_leaves(self)
+    }
+
+    /// Whether no tag stands at two leaves of the trees, taken together.
+    pub fn is_unique_set(nodes: &[TagTree<'_>]) -> bool
+        ensures { IsTrue result ↔ AllPairs (λ s t. s ≢ t) (leaves_of (shapes nodes.now)) }
+    {
+        walks::have_distinct_leaves(nodes)
+    }
+
+    /// Whether the tag is a leaf of one of the trees.
+    pub fn tag_contains(tag: &Tag, nodes: &[TagTree<'_>]) -> bool
+        ensures { IsTrue result ↔ Contains (leaves_of (shapes nodes.now)) tag.now }
+    {
+        walks::have_leaf(nodes, tag)
+    }
+
+    /// How many leaves the trees have together, and `None` where the number does not fit.
+    pub fn leaf_count(nodes: &[TagTree<'_>]) -> Option<usize>
+        ensures { let count = length (leaves_of (shapes nodes.now)) in SomeIff result (count < 2 ^ 64) count }
+    {
+        walks::leaf_count(nodes)
+    }
+}
