@@ -37,6 +37,7 @@ impl TagTree<'_> {
     }
 
     /// Whether no tag stands at two leaves of the tree.
+    #[tactic(auto, using(crate::proofs::Distinct::tag_tests))]
     pub fn is_unique(&self) -> bool
         ensures { IsTrue result ↔ AllPairs (λ s t. s ≢ t) (leaves (shape self.now)) }
     {
@@ -44,6 +45,7 @@ impl TagTree<'_> {
     }
 
     /// Whether no tag stands at two leaves of the trees, taken together.
+    #[tactic(auto, using(crate::proofs::Distinct::tag_tests))]
     pub fn is_unique_set(nodes: &[TagTree<'_>]) -> bool
         ensures { IsTrue result ↔ AllPairs (λ s t. s ≢ t) (leaves_of (shapes nodes.now)) }
     {
@@ -51,6 +53,7 @@ impl TagTree<'_> {
     }
 
     /// Whether the tag is a leaf of one of the trees.
+    #[tactic(auto, using(crate::proofs::Distinct::tag_tests))]
     pub fn tag_contains(tag: &Tag, nodes: &[TagTree<'_>]) -> bool
         ensures { IsTrue result ↔ Contains (leaves_of (shapes nodes.now)) tag.now }
     {

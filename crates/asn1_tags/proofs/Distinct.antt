@@ -1,0 +1,85 @@
+-- Tests of lists of tags, and what they decide.
+use Rattle.std.proofs.Common.{◌≡◌, ◌≢◌, ℕ, zero, suc, Bool, true, false, List, [], ◌∷◌, ◌<◌, ◌↔◌, ◌||◌, ◌&&◌, not, AllPairs, Contains, IsTrue, length, get_or, refl, sym, ap, ◌∙◌, subst, arith}
+use Rattle.std.specs.List.{list_any}
+use Rattle.std.proofs.lemmas.Bool.{false≢true}
+use Rattle.std.proofs.lemmas.Grind.{common_steps}
+use Rattle.std.proofs.lemmas.List.Folds.{list_any_at, Any-from_list_any}
+use Rattle.asn1_tags.specs.Tags.{class_number, tag_eq, has, distinct}
+use Rattle.asn1_tags.specs.declared.classes.Class.{Class}
+use Rattle.asn1_tags.specs.declared.classes.Class.TheVariants.{Universal, Application, Context, Private}
+use Rattle.asn1_tags.specs.declared.tags.Tag.{Tag}
+
+class_of : ℕ → Class
+class_of zero = Universal
+class_of (suc zero) = Application
+class_of (suc (suc zero)) = Context
+class_of _ = Private
+
+class_back : (k : Class) → class_of (class_number k) ≡ k
+unfolding class_of
+class_back Universal = refl
+class_back Application = refl
+class_back Context = refl
+class_back Private = refl
+
+-- classes with one number are one class
+pub class_number-injective : (j k : Class) → class_number j ≡ class_number k → j ≡ k
+class_number-injective j k e = sym (class_back j) ∙ (ap class_of e ∙ class_back k)
+
+-- tags with one class and one number are one tag
+pub same_tag : (s t : Tag) → class_number s.class ≡ class_number t.class → s.value ≡ t.value → s ≡ t
+same_tag s t e f =
+    let same = class_number-injective s.class t.class e in
+    λ i. record { class = same i; value = f i }
+
+pub tag_eq-true : (s t : Tag) → tag_eq s t ≡ true → s ≡ t
+tag_eq-true s t h =
+    let classes : class_number s.class ≡ class_number t.class = grind (arith, common_steps) in
+    let values : s.value ≡ t.value = grind (arith, common_steps) in
+    same_tag s t classes values
+
+pub tag_eq-refl : (t : Tag) → tag_eq t t ≡ true
+tag_eq-refl t = grind (arith, common_steps)
+
+-- a tag that the test finds is one of the list
+pub Contains-from_has : (t : Tag) (ts : List Tag) → has t ts ≡ true → Contains ts t
+Contains-from_has t ts h =
+    let found = Any-from_list_any (λ s. tag_eq s t) ts h in
+    let same : found.1 ≡ t = tag_eq-true found.1 t found.4 in
+    (found.0, found.2, subst (λ s. get_or ts found.0 s ≡ s) same found.3)
+
+-- the test finds each tag of the list
+pub has-from_Contains : (t : Tag) (ts : List Tag) → Contains ts t → has t ts ≡ true
+has-from_Contains t ts c = list_any_at (λ s. tag_eq s t) ts c.0 t c.1 (subst (λ s. tag_eq s t ≡ true) (sym c.2) (tag_eq-refl t))
+
+-- where the test finds no tag twice, any two places have two tags
+pub AllPairs-from_distinct : (ts : List Tag) → distinct ts ≡ true → AllPairs (λ s t. s ≢ t) ts
+AllPairs-from_distinct [] h i j d lt within = absurd (omega arith)
+AllPairs-from_distinct (t ∷ ts) h zero zero d lt within = absurd (omega arith)
+AllPairs-from_distinct (t ∷ ts) h (suc i) zero d lt within = absurd (omega arith)
+AllPairs-from_distinct (t ∷ ts) h zero (suc j) d lt within =
+    λ e.
+    let absent : has t ts ≡ false = grind (arith, common_steps) in
+    let here : tag_eq (get_or ts j d) t ≡ true = subst (λ s. tag_eq (get_or ts j d) s ≡ true) (sym e) (tag_eq-refl (get_or ts j d)) in
+    false≢true (sym absent ∙ list_any_at (λ s. tag_eq s t) ts j d (omega arith) here)
+AllPairs-from_distinct (t ∷ ts) h (suc i) (suc j) d lt within =
+    let rest : distinct ts ≡ true = grind (arith, common_steps) in
+    AllPairs-from_distinct ts rest i j d (omega arith) (omega arith)
+
+-- the converse
+pub distinct-from_AllPairs : (ts : List Tag) → AllPairs (λ s t. s ≢ t) ts → distinct ts ≡ true
+distinct-from_AllPairs [] h = refl
+distinct-from_AllPairs (t ∷ ts) h = by_test (distinct-from_AllPairs ts rest) (has t ts) refl
+  where
+    rest : AllPairs (λ s t. s ≢ t) ts
+    rest i j d lt within = h (suc i) (suc j) d (omega arith) (omega arith)
+
+    by_test : distinct ts ≡ true → (b : Bool) → has t ts ≡ b → (not b && distinct ts) ≡ true
+    by_test apart false e = apart
+    by_test apart true e =
+        let found = Contains-from_has t ts e in
+        let within : found.0 < length ts = found.1 in
+        absurd (h zero (suc found.0) t (omega arith) (omega arith) (sym found.2))
+
+-- the tests of lists of tags, by what they decide
+pub ruleset tag_tests = (Contains-from_has, has-from_Contains, AllPairs-from_distinct, distinct-from_AllPairs)
