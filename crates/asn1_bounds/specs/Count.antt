@@ -1,0 +1,18 @@
+-- How many whole numbers a set of them has.
+use Rattle.std.specs.Prelude.{◌≡◌, ℕ, ◌<◌, ℤ, pos, negsuc, ◌+ℤ◌, ◌-ℤ◌}
+
+-- the number, and 0 in place of one below it
+abbrev pub or_zero : ℤ → ℕ
+or_zero (pos n) = n
+or_zero (negsuc n) = 0
+
+-- how many whole numbers there are from the first to the last: none where the first is above the last
+abbrev pub numbers_between : ℤ → ℤ → ℕ
+numbers_between first last = or_zero (last -ℤ first +ℤ pos 1)
+
+-- a set of whole numbers has this many: its members can be told off, from the one at 0 to the one before the count
+pub record HasCount (Member : ℤ → Type 0) (count : ℕ) : Type 0 where
+  pub nth : ℕ → ℤ
+  pub belongs : (i : ℕ) → i < count → Member (nth i)
+  pub once : (i j : ℕ) → nth i ≡ nth j → i ≡ j
+  pub every : (n : ℤ) → Member n → (i : ℕ) × (i < count) × (nth i ≡ n)
