@@ -72,10 +72,10 @@ IsSmallestIfAny-append ts us (Some s) None h k =
     subst (λ xs. IsSmallestIfAny (ts ++ xs) (Some s)) (sym k) (subst (λ xs. IsSmallestIfAny xs (Some s)) (sym (append-nil ts)) h)
 IsSmallestIfAny-append ts us (Some s) (Some t) h k =
     elim (lesser-cases s t) [
-      inl p ↦ subst (λ x. IsSmallestIfAny (ts ++ us) (Some x)) (sym p.1)
-        (Contains-append_right ts us t k.0, All-append (IsAtMost t) ts us (All-IsAtMost t s ts p.0 h.1) k.1)
-    | inr p ↦ subst (λ x. IsSmallestIfAny (ts ++ us) (Some x)) (sym p.1)
-        (Contains-append_left ts us s h.0, All-append (IsAtMost s) ts us h.1 (All-IsAtMost s t us p.0 k.1))
+      | inl p ↦ subst (λ x. IsSmallestIfAny (ts ++ us) (Some x)) (sym p.1)
+          (Contains-append_right ts us t k.0, All-append (IsAtMost t) ts us (All-IsAtMost t s ts p.0 h.1) k.1)
+      | inr p ↦ subst (λ x. IsSmallestIfAny (ts ++ us) (Some x)) (sym p.1)
+          (Contains-append_left ts us s h.0, All-append (IsAtMost s) ts us h.1 (All-IsAtMost s t us p.0 k.1))
     ]
 
 -- one tag alone
@@ -118,8 +118,8 @@ nonempty (t ∷ ts) = inr (λ e. cc)
 pub IsSmallest-alone : (ts : List Tag) (s t : Tag) → IsSmallest ts s → IsSmallest ts t → s ≡ t
 IsSmallest-alone ts s t h k =
     elim (nonempty ts) [
-      inl e ↦ h.none e ∙ sym (k.none e)
-    | inr some ↦ IsAtMost-antisym s t (above t s (k.among some) h.least) (above s t (h.among some) k.least)
+      | inl e ↦ h.none e ∙ sym (k.none e)
+      | inr some ↦ IsAtMost-antisym s t (above t s (k.among some) h.least) (above s t (h.among some) k.least)
     ]
   where
     above : (x y : Tag) → Contains ts x → All (IsAtMost y) ts → IsAtMost y x

@@ -3,12 +3,11 @@
 
 mod classes;
 mod tags;
+#[cfg(test)]
+mod tests;
 mod trees;
 mod universal;
 mod walks;
-
-#[cfg(test)]
-mod tests;
 
 pub use classes::Class;
 pub use tags::Tag;

@@ -1,0 +1,192 @@
+use crate::{Class, Tag, TagTree};
+use std::test::Fail;
+
+#[test]
+fn universal_tags_have_their_numbers(rt: HostRuntime) {
+    for (tag, number) in [
+        (Tag::EOC, 0),
+        (Tag::BOOL, 1),
+        (Tag::INTEGER, 2),
+        (Tag::BIT_STRING, 3),
+        (Tag::OCTET_STRING, 4),
+        (Tag::NULL, 5),
+        (Tag::OBJECT_IDENTIFIER, 6),
+        (Tag::OBJECT_DESCRIPTOR, 7),
+        (Tag::EXTERNAL, 8),
+        (Tag::REAL, 9),
+        (Tag::ENUMERATED, 10),
+        (Tag::EMBEDDED_PDV, 11),
+        (Tag::UTF8_STRING, 12),
+        (Tag::RELATIVE_OID, 13),
+        (Tag::SEQUENCE, 16),
+        (Tag::SET, 17),
+        (Tag::NUMERIC_STRING, 18),
+        (Tag::PRINTABLE_STRING, 19),
+        (Tag::TELETEX_STRING, 20),
+        (Tag::VIDEOTEX_STRING, 21),
+        (Tag::IA5_STRING, 22),
+        (Tag::UTC_TIME, 23),
+        (Tag::GENERALIZED_TIME, 24),
+        (Tag::GRAPHIC_STRING, 25),
+        (Tag::VISIBLE_STRING, 26),
+        (Tag::GENERAL_STRING, 27),
+        (Tag::UNIVERSAL_STRING, 28),
+        (Tag::CHARACTER_STRING, 29),
+        (Tag::BMP_STRING, 30),
+        (Tag::DATE, 31),
+        (Tag::CHOICE, 0),
+    ] {
+        assert_eq!(rt; tag, Tag::new(Class::Universal, number), "at {number}");
+    }
+}
+
+#[test]
+fn classes_have_their_numbers_and_texts(rt: HostRuntime) -> Result<(), Fail> {
+    for (class, number, text) in [
+        (Class::Universal, 0, "universal"),
+        (Class::Application, 1, "application"),
+        (Class::Context, 2, "context"),
+        (Class::Private, 3, "private"),
+    ] {
+        assert_eq!(rt; class as u8, number);
+        assert_eq!(rt; Class::from_u8(number), Some(class));
+        assert_eq!(rt; class.is_universal(), number == 0);
+        let shown = class.to_string(rt.alloc())?;
+        assert_eq!(rt; shown.as_str(), text);
+    }
+    assert_eq!(rt; Class::from_u8(4), None);
+    assert_eq!(rt; Class::from_u8(255), None);
+    Ok(())
+}
+
+#[test]
+fn tags_have_their_texts(rt: HostRuntime) -> Result<(), Fail> {
+    for (tag, text) in [
+        (Tag::EOC, "Universal 0"),
+        (Tag::new_application(30), "Application 30"),
+        (Tag::new_context(0), "Context 0"),
+        (Tag::new_private(4294967295), "Private 4294967295"),
+    ] {
+        let shown = tag.to_string(rt.alloc())?;
+        assert_eq!(rt; shown.as_str(), text);
+    }
+    Ok(())
+}
+
+#[test]
+fn tags_go_by_class_then_number(rt: HostRuntime) {
+    let ascending = [
+        Tag::EOC,
+        Tag::BOOL,
+        Tag::new_application(0),
+        Tag::new_application(7),
+        Tag::new_context(3).set_value(2),
+        Tag::new_context(3),
+        Tag::new_private(1),
+    ];
+    for (i, left) in ascending.iter().enumerate() {
+        for (j, right) in ascending.iter().enumerate() {
+            assert_eq!(rt; left.const_cmp(right), i.cmp(&j), "{left} and {right}");
+            assert_eq!(rt; left.cmp(right), i.cmp(&j), "{left} and {right}");
+            assert_eq!(rt; left.const_less_than(right), i < j, "{left} and {right}");
+            assert_eq!(rt; left.const_eq(right), i == j, "{left} and {right}");
+        }
+    }
+    assert!(rt; Tag::CHOICE.is_choice());
+    assert!(rt; Tag::EOC.is_choice());
+    assert!(rt; !Tag::new_context(0).is_choice());
+}
+
+// The tree of a type with that tag.
+macro_rules! leaf {
+    ($class:ident $value:literal) => {
+        TagTree::Leaf(Tag {
+            class: Class::$class,
+            value: $value,
+        })
+    };
+}
+
+const JUST_A0: &[TagTree<'static>] = &[leaf!(Application 0)];
+
+const JUST_A1: &[TagTree<'static>] = &[leaf!(Application 1)];
+
+const APPLICATIONS: &[TagTree<'static>] = &[leaf!(Application 0), leaf!(Application 1)];
+
+const CONTEXTS: &[TagTree<'static>] = &[leaf!(Context 0), leaf!(Context 2)];
+
+const A0_TWICE: &[TagTree<'static>] = &[
+    TagTree::Choice(JUST_A0),
+    leaf!(Application 0),
+    leaf!(Context 2),
+];
+
+const A1_BELOW: &[TagTree<'static>] = &[leaf!(Universal 1), TagTree::Choice(JUST_A1)];
+
+const C1_AND_NOTHING: &[TagTree<'static>] = &[leaf!(Context 1), TagTree::Choice(&[])];
+
+#[test]
+fn a_tree_with_each_tag_once_is_unique(rt: HostRuntime) {
+    let nodes = [
+        leaf!(Universal 0),
+        leaf!(Universal 3),
+        TagTree::Choice(APPLICATIONS),
+        TagTree::Choice(CONTEXTS),
+        leaf!(Private 0),
+        leaf!(Private 1),
+    ];
+    let tree = TagTree::Choice(&nodes);
+    assert!(rt; tree.is_unique());
+    assert!(rt; TagTree::is_unique_set(&nodes));
+    assert_eq!(rt; tree.smallest_tag(), Tag::EOC);
+    assert_eq!(rt; TagTree::leaf_count(&nodes), Some(8));
+    assert!(rt; TagTree::tag_contains(&Tag::new_context(2), &nodes));
+    assert!(rt; !TagTree::tag_contains(&Tag::new_context(1), &nodes));
+}
+
+#[test]
+fn a_tag_may_stand_again_in_another_branch(rt: HostRuntime) {
+    let nodes = [
+        leaf!(Universal 0),
+        leaf!(Universal 3),
+        TagTree::Choice(APPLICATIONS),
+        TagTree::Choice(A0_TWICE),
+        leaf!(Private 1),
+        leaf!(Private 1),
+    ];
+    let tree = TagTree::Choice(&nodes);
+    assert!(rt; !tree.is_unique());
+    assert_eq!(rt; tree.smallest_tag(), Tag::EOC);
+    assert_eq!(rt; TagTree::leaf_count(&nodes), Some(9));
+
+    let cousins = [
+        leaf!(Universal 0),
+        TagTree::Choice(APPLICATIONS),
+        TagTree::Choice(A1_BELOW),
+    ];
+    assert!(rt; !TagTree::is_unique_set(&cousins));
+    assert_eq!(rt; TagTree::leaf_count(&cousins), Some(5));
+}
+
+#[test]
+fn the_smallest_tag_is_of_the_lowest_class(rt: HostRuntime) {
+    let nodes = [leaf!(Context 0), leaf!(Universal 3)];
+    let tree = TagTree::Choice(&nodes);
+    assert_eq!(rt; tree.smallest_tag(), Tag::BIT_STRING);
+    assert!(rt; tree.is_unique());
+    assert_eq!(rt; TagTree::leaf_count(&nodes), Some(2));
+
+    let nothing = TagTree::empty();
+    assert_eq!(rt; nothing.smallest_tag(), Tag::new_private(4294967295));
+    assert!(rt; nothing.is_unique());
+    assert_eq!(rt; TagTree::leaf_count(&[nothing]), Some(0));
+}
+
+#[test]
+fn a_tree_prints_as_its_tags(rt: HostRuntime) -> Result<(), Fail> {
+    let nodes = [TagTree::Leaf(Tag::INTEGER), TagTree::Choice(C1_AND_NOTHING)];
+    let tree = TagTree::Choice(&nodes);
+    let shown = format!(in rt.alloc(); "{tree:?}")?;
+    assert_eq!(rt; shown.as_str(), "(Universal 2, (Context 1, ()))");
+    Ok(())
+}

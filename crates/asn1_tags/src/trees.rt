@@ -32,8 +32,7 @@ impl TagTree<'_> {
     pub fn smallest_tag(&self) -> Tag
         ensures { IsSmallest (leaves (shape self.now)) result }
     {
-        walks::smallest_leaf(self)
-            .unwrap_or(Tag::new(Class::Private, u32::MAX))
+        walks::smallest_leaf(self).unwrap_or(Tag::new(Class::Private, u32::MAX))
     }
 
     /// Whether no tag stands at two leaves of the tree.
@@ -65,5 +64,23 @@ impl TagTree<'_> {
         ensures { let count = length (leaves_of (shapes nodes.now)) in SomeIff result (count < 2 ^ 64) count }
     {
         walks::leaf_count(nodes)
+    }
+}
+
+impl fmt::Debug for TagTree<'_> {
+    fn fmt<W: fmt::Write>(&self, f: &mut fmt::Formatter<W>) -> fmt::Result {
+        match self {
+            TagTree::Leaf(tag) => write!(f, "{tag}"),
+            TagTree::Choice(nodes) => {
+                f.write_str("(")?;
+                for (i, node) in nodes.iter().enumerate() {
+                    if i > 0 {
+                        f.write_str(", ")?;
+                    }
+                    write!(f, "{node:?}")?;
+                }
+                f.write_str(")")
+            }
+        }
     }
 }
