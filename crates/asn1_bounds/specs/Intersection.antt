@@ -24,9 +24,13 @@ module _ {T : Type 0} (number : T → ℤ) where
       if int_lt (number e) (number s) then None else Some (if single then bounded.Single s else bounded.Range (Some s) (Some e))
   bound_between single start end = Some (bounded.Range start end)
 
-  -- no bound leaves the other side as it is; two others leave what lies between the greater start and the lesser
-  -- end, as a single where either of them is one
+  -- two bounds that both restrict leave what lies between the greater start and the lesser end, as a single where
+  -- either of them is one
+  abbrev pub common : Bounded T → Bounded T → Option (Bounded T)
+  common a b = bound_between (is_single a || is_single b) (greater_start (start_of a) (start_of b)) (lesser_end (end_of a) (end_of b))
+
+  -- no bound leaves the other side as it is
   abbrev pub intersection : Bounded T → Bounded T → Option (Bounded T)
   intersection bounded.None b = Some b
   intersection a bounded.None = Some a
-  intersection a b = bound_between (is_single a || is_single b) (greater_start (start_of a) (start_of b)) (lesser_end (end_of a) (end_of b))
+  intersection a b = common a b

@@ -1,4 +1,4 @@
-ghost use Rattle.std.specs.Prelude.{◌≡◌, ◌↔◌, IsTrue, ℕ, ℤ, pos, ◌-ℤ◌, ◌≤◌, ◌≤ℤ◌, Option, IsSome, IsSomeAnd, IfSome, IfNone, MatchOption, MatchResult};
+ghost use Rattle.std.specs.Prelude.{◌≡◌, ◌↔◌, IsTrue, ◌&&◌, find, ℕ, ℤ, pos, ◌-ℤ◌, ◌≤◌, ◌≤ℤ◌, Option, IsSome, IsSomeAnd, IfSome, IfNone, MatchOption, MatchResult};
 ghost use Rattle.std.specs.Option.{ForSome, option_copied};
 ghost use Rattle.std.specs.Int.{int_min};
 ghost use Rattle.either.specs.Either.{IsLeftAnd};
@@ -6,9 +6,9 @@ ghost use Rattle.either.specs.declared.Either.{Either};
 ghost use Rattle.either.specs.declared.Either.TheVariants.{Right};
 ghost use Rattle.asn1_bounds.specs.Count.{HasCount};
 ghost use Rattle.asn1_bounds.specs.Ends.{start_of, end_of, range_start, is_single};
-ghost use Rattle.asn1_bounds.specs.Intersection.{greater_start, lesser_end, bound_between, intersection};
+ghost use Rattle.asn1_bounds.specs.Intersection.{greater_start, lesser_end, bound_between, common, intersection};
 ghost use Rattle.asn1_bounds.specs.Members.{IsMember, IsUpright};
-ghost use Rattle.asn1_bounds.specs.Octets.{IsSigned, FitsOctets, IsLeastWidth};
+ghost use Rattle.asn1_bounds.specs.Octets.{is_signed, fits_octets, octets_of};
 ghost use Rattle.asn1_bounds.specs.Text.{bound_text};
 
 use crate::number::WholeNumber;
@@ -157,10 +157,9 @@ impl<T: WholeNumber> Bounded<T> {
         ensures bounded { IsSome result ↔ (IsSome (start_of self.now) × IsSome (end_of self.now)) }
         ensures counted { IfSome result (λ most. (count : ℕ) × HasCount (IsMember T.number self.now) count × (T.number most ≡ int_min (pos count) T.greatest)) }
     {
-        match self.start_and_end() {
-            (Some(start), Some(end)) => Some(start.count_to(*end)),
-            _ => None,
-        }
+        let start = self.as_start()?;
+        let end = self.as_end()?;
+        Some(start.count_to(*end))
     }
 
     /// What a codec writes of a member: its offset (`Left`) from the start of a range that has one, and else the
@@ -191,14 +190,20 @@ impl<T: WholeNumber> Bounded<T> {
         ensures inhabited { IsUpright T.number self.now → IsUpright T.number other.now → IfSome result (λ both. (n : ℤ) × IsMember T.number both n) }
     {
         match (self, other) {
-            (Bounded::None, bound) | (bound, Bounded::None) => Some(*bound),
-            _ => bound_between(
-                self.is_single() || other.is_single(),
-                greater_start(self.as_start(), other.as_start()),
-                lesser_end(self.as_end(), other.as_end()),
-            ),
+            (Bounded::None, _) => Some(*other),
+            (_, Bounded::None) => Some(*self),
+            _ => common(self, other),
         }
     }
+}
+
+// What two bounds leave that both restrict.
+fn common<T: WholeNumber>(a: &Bounded<T>, b: &Bounded<T>) -> Option<Bounded<T>>
+    ensures { result ≡ common T.number a.now b.now }
+{
+    let start = greater_start(a.as_start(), b.as_start());
+    let end = lesser_end(a.as_end(), b.as_end());
+    bound_between(a.is_single() || b.is_single(), start, end)
 }
 
 // The start that both starts leave.
@@ -243,32 +248,43 @@ impl Bounded<i128> {
     /// A sign is needed where the start is negative or missing. There are no octets where 8 do not hold both ends,
     /// or where an end is missing.
     pub fn range_in_bytes(&self) -> (bool, Option<u8>)
-        ensures signed { IsTrue result.0 ↔ IsSigned self.now }
-        ensures least { IsLeastWidth self.now result.0 result.1 }
+        ensures signed { result.0 ≡ is_signed self.now }
+        ensures octets { result.1 ≡ octets_of self.now }
     {
         let signed = self.as_start().is_none_or(|start| *start < 0);
         let octets = match self.start_and_end() {
-            (Some(start), Some(end)) => [1, 2, 4, 8]
-                .into_iter()
-                .find(|octets| fits_octets(signed, *octets, *start) && fits_octets(signed, *octets, *end)),
+            (Some(start), Some(end)) => first_width(&[1, 2, 4, 8], signed, *start, *end),
             _ => None,
         };
         (signed, octets)
     }
 }
 
-// Whether so many octets hold the number, in two's complement where the sign is kept.
+// The first of some numbers of octets that holds both numbers.
+fn first_width(widths: &[u8], signed: bool, start: i128, end: i128) -> Option<u8>
+    ensures { result ≡ find (λ octets. fits_octets signed octets start && fits_octets signed octets end) widths.now }
+{
+    widths
+        .iter()
+        .copied()
+        .find(|octets| fits_octets(signed, *octets, start) && fits_octets(signed, *octets, end))
+}
+
+// Whether so many octets hold the number, in two's complement where there is a sign.
 fn fits_octets(signed: bool, octets: u8, number: i128) -> bool
-    requires least { 1 ≤ octets }
-    requires most { octets ≤ 8 }
-    ensures { IsTrue result ↔ FitsOctets signed octets number }
+    ensures { result ≡ fits_octets signed octets number }
 {
     let bits = 8 * u32::from(octets);
     if signed {
-        let half = 2i128.pow(bits - 1);
-        -half <= number && number < half
+        match 2i128.checked_pow(bits.saturating_sub(1)) {
+            Some(half) => -half <= number && number < half,
+            None => true,
+        }
     } else {
-        0 <= number && number < 2i128.pow(bits)
+        match 2i128.checked_pow(bits) {
+            Some(limit) => 0 <= number && number < limit,
+            None => 0 <= number,
+        }
     }
 }
 

@@ -1,0 +1,19 @@
+use Rattle.std.proofs.Common.{◌≡◌, ◌∙◌, Some}
+use Rattle.asn1_bounds.specs.Intersection.{intersection}
+use Rattle.asn1_bounds.proofs.Intersecting.{upright-inhabited, IsCommon, intersection-IsCommon, intersection-None, intersection-common}
+use Rattle.asn1_bounds.proofs.bounded.Bounded.intersect.Goals as goal
+
+pub returns-in-None-default-clause-inhabited : goal.returns-in-None-default-clause-inhabited
+returns-in-None-default-clause-inhabited g c = λ p q. upright-inhabited _ _ q
+
+pub returns-in_default-None : goal.returns-in_default-None
+returns-in_default-None g c =
+    let shape = intersection-None g.T.WholeNumber.number c.args.self.now c.args.other.now c.in_default-None.is-1 in
+    let is = intersection-IsCommon g.T.WholeNumber.number c.args.self.now c.args.other.now _ shape in
+    record { shape = shape; members = is.members; disjoint = is.disjoint; inhabited = is.inhabited }
+
+pub returns-in_default : goal.returns-in_default
+returns-in_default g c =
+    let shape = c.common.ensures ∙ intersection-common g.T.WholeNumber.number c.args.self.now c.args.other.now c.in_default.not-None-0 c.in_default.not-None-1 in
+    let is = intersection-IsCommon g.T.WholeNumber.number c.args.self.now c.args.other.now _ shape in
+    record { shape = shape; members = is.members; disjoint = is.disjoint; inhabited = is.inhabited }
