@@ -26,3 +26,8 @@ module _ {T : Type 0} where
   is_single bounded.None = false
   is_single (bounded.Single v) = true
   is_single (bounded.Range start end) = false
+
+  abbrev pub is_range : Bounded T → Bool
+  is_range bounded.None = false
+  is_range (bounded.Single v) = false
+  is_range (bounded.Range start end) = true

@@ -1,6 +1,10 @@
 pub mod Count
 pub mod Ends
 pub mod Intersection
+pub mod Kind
+pub mod Kinds
+pub mod Lending
 pub mod Members
 pub mod Octets
+pub mod Sets
 pub mod Text

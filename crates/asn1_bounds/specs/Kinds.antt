@@ -1,0 +1,36 @@
+-- The three kinds of constraint that a set can hold: of values, of sizes and of permitted alphabets.
+use Rattle.std.specs.Prelude.{ℕ, ℤ, pos, negsuc, ◌≤◌, ◌^◌, ◌-◌, ◌≤ℤ◌, ⊤, List, Some, MatchOption, unwrap_or}
+use Rattle.std.specs.Option.{option_map}
+use Rattle.asn1_bounds.specs.declared.bounded.Bounded.{Bounded}
+use Rattle.asn1_bounds.specs.declared.bounded.Bounded.TheVariants as bounded
+use Rattle.asn1_bounds.specs.declared.alphabet.PermittedAlphabet.{PermittedAlphabet}
+use Rattle.asn1_bounds.specs.Ends.{start_of, end_of}
+use Rattle.asn1_bounds.specs.Intersection.{intersection}
+use Rattle.asn1_bounds.specs.Members.{IsMember}
+
+-- the number is a member of a value constraint's bound
+abbrev pub HasValue : Bounded ℤ → ℤ → Type 0
+HasValue bound n = IsMember (λ z. z) bound n
+
+-- the length is a member of a size constraint's bound
+abbrev pub HasLength : Bounded ℕ → ℕ → Type 0
+HasLength bound n = IsMember pos bound (pos n)
+
+-- the characters of a permitted alphabet
+abbrev pub characters : PermittedAlphabet → List ℕ
+characters alphabet = alphabet.0.now
+
+-- the intersection of two bounds of values; where they have no value in common, a bound without members
+abbrev pub value_intersection : Bounded ℤ → Bounded ℤ → Bounded ℤ
+value_intersection a b = unwrap_or (intersection (λ z. z) a b) (bounded.Range (Some (pos 1)) (Some (negsuc 0)))
+
+-- the intersection of two bounds of sizes; where they have no length in common, a bound without members
+abbrev pub size_intersection : Bounded ℕ → Bounded ℕ → Bounded ℕ
+size_intersection a b = unwrap_or (intersection pos a b) (bounded.Range (Some 1) (Some 0))
+
+-- the bound with each value as the whole number that it is
+module _ {T : Type 0} (number : T → ℤ) where
+  abbrev pub numbers : Bounded T → Bounded ℤ
+  numbers bounded.None = bounded.None
+  numbers (bounded.Single v) = bounded.Single (number v)
+  numbers (bounded.Range start end) = bounded.Range (option_map number start) (option_map number end)

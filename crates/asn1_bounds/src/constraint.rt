@@ -1,0 +1,105 @@
+ghost use Rattle.std.specs.Prelude.{◌≡◌, ℤ, pos, Bool, IsTrue, Some, None};
+ghost use Rattle.std.specs.Option.{option_copied};
+
+use crate::alphabet::PermittedAlphabet;
+use crate::extensible::Extensible;
+use crate::size::Size;
+use crate::value::Value;
+
+/// One constraint of a type.
+#[derive(Clone, Copy, Debug, Drop, PartialEq)]
+pub enum Constraint<'a> {
+    /// Of the values of an INTEGER.
+    Value(Extensible<'a, Value>),
+    /// Of the length of a string or a list.
+    Size(Extensible<'a, Size>),
+    /// Of the characters of a string.
+    PermittedAlphabet(Extensible<'a, PermittedAlphabet<'a>>),
+    /// The extension marker alone.
+    Extensible,
+}
+
+/// The kind of a constraint.
+#[derive(Clone, Copy, Debug, PartialEq)]
+pub enum ConstraintDiscriminant {
+    /// Of [`Constraint::Value`].
+    Value,
+    /// Of [`Constraint::Size`].
+    Size,
+    /// Of [`Constraint::PermittedAlphabet`].
+    PermittedAlphabet,
+    /// Of [`Constraint::Extensible`].
+    Extensible,
+}
+
+impl<'a> Constraint<'a> {
+    ghost use Rattle.asn1_bounds.specs.Kind.{kind_of, index_of, value_of, size_of, alphabet_of, is_extensible};
+
+    /// The kind.
+    pub fn kind(&self) -> ConstraintDiscriminant
+        ensures { result ≡ kind_of self.now }
+    {
+        match self {
+            Constraint::Value(_) => ConstraintDiscriminant::Value,
+            Constraint::Size(_) => ConstraintDiscriminant::Size,
+            Constraint::PermittedAlphabet(_) => ConstraintDiscriminant::PermittedAlphabet,
+            Constraint::Extensible => ConstraintDiscriminant::Extensible,
+        }
+    }
+
+    /// The place of the kind among the kinds, from 0 to 3.
+    pub fn variant_as_isize(&self) -> isize
+        ensures { result ≡ pos (index_of self.now) }
+    {
+        self.kind() as isize
+    }
+
+    /// The part on values, where this is one.
+    pub fn as_value(&self) -> Option<&Extensible<'a, Value>>
+        ensures { option_copied result ≡ value_of self.now }
+    {
+        match self {
+            Constraint::Value(part) => Some(part),
+            _ => None,
+        }
+    }
+
+    /// The part on values, where this is one.
+    pub fn to_value(&self) -> Option<Extensible<'a, Value>>
+        ensures { result ≡ value_of self.now }
+    {
+        self.as_value().copied()
+    }
+
+    /// The part on lengths, where this is one.
+    pub fn to_size(&self) -> Option<Extensible<'a, Size>>
+        ensures { result ≡ size_of self.now }
+    {
+        match self {
+            Constraint::Size(part) => Some(*part),
+            _ => None,
+        }
+    }
+
+    /// The part on characters, where this is one.
+    pub fn as_permitted_alphabet(&self) -> Option<&Extensible<'a, PermittedAlphabet<'a>>>
+        ensures { option_copied result ≡ alphabet_of self.now }
+    {
+        match self {
+            Constraint::PermittedAlphabet(part) => Some(part),
+            _ => None,
+        }
+    }
+
+    /// Whether the constraint is extensible, as the extension marker is.
+    pub fn is_extensible(&self) -> bool
+        ensures { result ≡ is_extensible self.now }
+    {
+        match self {
+            Constraint::Value(part) => part.extensible.is_some(),
+            Constraint::Size(part) => part.extensible.is_some(),
+            Constraint::PermittedAlphabet(part) => part.extensible.is_some(),
+            Constraint::Extensible => true,
+        }
+    }
+}

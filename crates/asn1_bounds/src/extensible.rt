@@ -1,0 +1,115 @@
+ghost use Rattle.std.specs.Prelude.{◌≡◌, [], None, Some, IsSomeAnd};
+ghost use Rattle.std.specs.Bool.{OnTrue, OnFalse};
+
+use crate::alphabet::PermittedAlphabet;
+use crate::size::Size;
+use crate::value::Value;
+
+/// A constraint, and whether it is extensible: then the constraints that later versions added stand beside it.
+///
+/// The default is the default of the constraint, not extensible.
+#[derive(Clone, Copy, Debug, Default, Drop, PartialEq)]
+pub struct Extensible<'a, T> {
+    /// The constraint of the extension root.
+    pub constraint: T,
+    /// The additions of an extensible constraint; `None` where it is not extensible.
+    pub extensible: Option<&'a [T]>,
+}
+
+/// A kind of constraint, of which two restrict together.
+pub trait Intersect: Copy {
+    ghost intersection: { Self → Self → Self };
+
+    /// What both constraints leave.
+    fn intersect(&self, other: &Self) -> Self
+        ensures { result ≡ intersection self.now other.now };
+}
+
+impl Intersect for Value {
+    ghost use Rattle.asn1_bounds.specs.Kinds.{value_intersection};
+
+    ghost intersection = { λ a b. record { bound = value_intersection a.bound b.bound } };
+
+    fn intersect(&self, other: &Self) -> Self {
+        Value::intersect(self, other)
+    }
+}
+
+impl Intersect for Size {
+    ghost use Rattle.asn1_bounds.specs.Kinds.{size_intersection};
+
+    ghost intersection = { λ a b. record { bound = size_intersection a.bound b.bound } };
+
+    fn intersect(&self, other: &Self) -> Self {
+        Size::intersect(self, other)
+    }
+}
+
+impl Intersect for PermittedAlphabet<'_> {
+    ghost intersection = { λ _ other. other };
+
+    fn intersect(&self, other: &Self) -> Self {
+        PermittedAlphabet::intersect(self, other)
+    }
+}
+
+impl<'a, T> Extensible<'a, T> {
+    /// The constraint, not extensible.
+    pub fn new(constraint: T) -> Self
+        ensures { result ≡ record { constraint = constraint; extensible = None } }
+    {
+        Extensible {
+            constraint,
+            extensible: None,
+        }
+    }
+
+    /// The constraint, extensible by these.
+    pub fn new_extensible(constraint: T, constraints: &'a [T]) -> Self
+        ensures { result ≡ record { constraint = constraint; extensible = Some constraints.entry } }
+    {
+        Extensible {
+            constraint,
+            extensible: Some(constraints),
+        }
+    }
+
+    /// The constraint extensible with no additions as yet, or not extensible.
+    pub fn set_extensible(self, extensible: bool) -> Self
+        ensures root { result.constraint ≡ self.entry.constraint }
+        ensures extensible { OnTrue extensible (IsSomeAnd result.extensible (λ additions. additions.now ≡ [])) }
+        ensures fixed { OnFalse extensible (result.extensible ≡ None) }
+    {
+        self.extensible_with_constraints(if extensible { Some(&[]) } else { None })
+    }
+
+    /// The constraint extensible by these, or not extensible.
+    pub fn extensible_with_constraints(mut self, constraints: Option<&'a [T]>) -> Self
+        ensures { result ≡ record { constraint = self.entry.constraint; extensible = constraints.entry } }
+    {
+        self.extensible = constraints;
+        self
+    }
+}
+
+impl<T: Intersect> Extensible<'_, T> {
+    ghost use Rattle.asn1_bounds.specs.Sets.{part_intersection};
+
+    /// What both constraints leave: extensible only where both are, with the additions of this one.
+    pub fn intersect(&self, other: &Self) -> Self
+        ensures { result ≡ part_intersection T.intersection self.now other.now }
+    {
+        Extensible {
+            constraint: self.constraint.intersect(&other.constraint),
+            extensible: other.extensible.and(self.extensible),
+        }
+    }
+}
+
+impl<T> From<T> for Extensible<'_, T> {
+    ghost from_gives = { λ constraint part. part ≡ record { constraint = constraint; extensible = None } };
+
+    fn from(constraint: T) -> Self {
+        Extensible::new(constraint)
+    }
+}

@@ -1,0 +1,55 @@
+ghost use Rattle.std.specs.Prelude.{◌≡◌, ◌↔◌, ℤ};
+ghost use Rattle.asn1_bounds.specs.Kinds.{HasValue, value_intersection};
+ghost use Rattle.asn1_bounds.specs.Octets.{is_signed, octets_of};
+
+use crate::bounded::Bounded;
+
+/// A constraint of the values of an INTEGER (X.680, 51.2 and 51.4).
+#[derive(Clone, Copy, Debug, Default, PartialEq, Eq, PartialOrd, Ord, Hash)]
+pub struct Value {
+    /// Whose members are the values.
+    pub bound: Bounded<i128>,
+}
+
+impl Value {
+    /// The constraint to the members of the bound.
+    pub fn new(bound: Bounded<i128>) -> Self
+        ensures { result ≡ record { bound = bound } }
+    {
+        Value { bound }
+    }
+
+    /// Whether the values need a sign, as [`Bounded::range_in_bytes`] answers it.
+    pub fn get_sign(&self) -> bool
+        ensures { result ≡ is_signed self.now.bound }
+    {
+        self.bound.range_in_bytes().0
+    }
+
+    /// The least number of octets for the values, as [`Bounded::range_in_bytes`] answers it.
+    pub fn get_range(&self) -> Option<u8>
+        ensures { result ≡ octets_of self.now.bound }
+    {
+        self.bound.range_in_bytes().1
+    }
+
+    /// The bound.
+    pub fn bounded(&self) -> &Bounded<i128>
+        ensures { result.now ≡ self.now.bound }
+    {
+        &self.bound
+    }
+
+    /// The constraint to the values of both. Where they have none in common, its bound is the range from 1 to -1,
+    /// which has no members.
+    pub fn intersect(&self, other: &Self) -> Self
+        ensures shape { result.bound ≡ value_intersection self.now.bound other.now.bound }
+        ensures members { (n : ℤ) → HasValue result.bound n ↔ (HasValue self.now.bound n × HasValue other.now.bound n) }
+        ensures commutative { result.bound ≡ value_intersection other.now.bound self.now.bound }
+        ensures associative { (third : _) → value_intersection result.bound third ≡ value_intersection self.now.bound (value_intersection other.now.bound third) }
+        ensures left_identity { self.now.bound ≡ Bounded.None → result ≡ other.now }
+        ensures right_identity { other.now.bound ≡ Bounded.None → result ≡ self.now }
+    {
+        Value::new(self.bound.intersect(&other.bound).unwrap_or(Bounded::const_new(1, -1)))
+    }
+}
