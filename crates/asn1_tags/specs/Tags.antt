@@ -1,6 +1,6 @@
 -- Classes and tags: their numbers, their order, their texts, and lists of them.
-use Rattle.std.specs.Prelude.{◌≡◌, ◌≢◌, ◌⊎◌, ◌<◌, ◌≤◌, ℕ, Bool, true, false, ◌&&◌, ◌==◌, not, if◌then◌else◌, fold, Option, Some, None, MatchOption, List, [], ◌∷◌, ◌++◌, codes, All, Contains}
-use Rattle.std.specs.List.{list_any}
+use Rattle.std.specs.Prelude.{◌≡◌, ◌≢◌, ◌⊎◌, ◌<◌, ◌≤◌, ℕ, Bool, true, false, ◌&&◌, ◌==◌, not, if◌then◌else◌, fold, position, length, slice_index_or, ◌+◌, Result, MatchResult, Option, Some, None, MatchOption, List, [], ◌∷◌, ◌++◌, codes, All, Contains}
+use Rattle.std.specs.List.{list_any, position_or_len}
 use Rattle.std.specs.Fmt.{decimal}
 use Rattle.std.specs.declared.cmp.Ordering.{Ordering}
 use Rattle.std.specs.Ordering.{nat_cmp, on, then_cmp, is_lt}
@@ -30,6 +30,26 @@ tag_eq s t = (class_number s.class == class_number t.class) && (s.value == t.val
 -- whether the tag stands among these
 abbrev pub has : Tag → List Tag → Bool
 has t ts = list_any (λ s. tag_eq s t) ts
+
+-- the first place of the tag among these
+abbrev pub position_of : Tag → List Tag → Option ℕ
+position_of t ts = position (λ s. tag_eq s t) ts
+
+-- the same, where the answer without a place says how many tags there are
+abbrev pub IsFirstPlaceOf : Tag → List Tag → Result ℕ ℕ → Type 0
+IsFirstPlaceOf t ts r =
+    MatchResult
+    r
+    (λ place. (has t ts ≡ true) × (place ≡ position_or_len (λ s. tag_eq s t) ts))
+    (λ count. (has t ts ≡ false) × (count ≡ length ts))
+
+-- the tag behind so many others, or how many more there would have to be
+abbrev pub IsTagBehind : List Tag → ℕ → Result Tag ℕ → Type 0
+IsTagBehind ts skipped r =
+    MatchResult
+    r
+    (λ t. (skipped < length ts) × (t ≡ slice_index_or ts skipped t))
+    (λ left. length ts + left ≡ skipped)
 
 -- whether a tag stands in both lists
 abbrev pub meet : List Tag → List Tag → Bool

@@ -169,6 +169,37 @@ fn a_tag_may_stand_again_in_another_branch(rt: HostRuntime) {
 }
 
 #[test]
+fn leaves_are_numbered_from_the_left(rt: HostRuntime) {
+    let nodes = [
+        leaf!(Universal 0),
+        TagTree::Choice(APPLICATIONS),
+        TagTree::Choice(A0_TWICE),
+        leaf!(Private 1),
+    ];
+    let count = TagTree::leaf_count(&nodes);
+    assert_eq!(rt; count, Some(7));
+    for (place, tag, first) in [
+        (0, Tag::EOC, 0),
+        (1, Tag::new_application(0), 1),
+        (2, Tag::new_application(1), 2),
+        (3, Tag::new_application(0), 1),
+        (4, Tag::new_application(0), 1),
+        (5, Tag::new_context(2), 5),
+        (6, Tag::new_private(1), 6),
+    ] {
+        assert_eq!(rt; TagTree::leaf_at(&nodes, place), Some(tag), "at {place}");
+        assert_eq!(rt;
+            TagTree::leaf_position(&tag, &nodes),
+            Some(first),
+            "of {tag}"
+        );
+    }
+    assert_eq!(rt; TagTree::leaf_at(&nodes, 7), None);
+    assert_eq!(rt; TagTree::leaf_at(&nodes, usize::MAX), None);
+    assert_eq!(rt; TagTree::leaf_position(&Tag::BOOL, &nodes), None);
+}
+
+#[test]
 fn the_smallest_tag_is_of_the_lowest_class(rt: HostRuntime) {
     let nodes = [leaf!(Context 0), leaf!(Universal 3)];
     let tree = TagTree::Choice(&nodes);

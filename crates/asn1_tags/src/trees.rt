@@ -1,11 +1,11 @@
-ghost use Rattle.std.specs.Prelude.{◌≡◌, ◌≢◌, ◌↔◌, ◌<◌, ◌^◌, IsTrue, length, AllPairs, Contains};
+ghost use Rattle.std.specs.Prelude.{◌≡◌, ◌≢◌, ◌↔◌, ◌<◌, ◌^◌, IsTrue, length, AllPairs, Contains, IfSome, Some, slice_get};
 ghost use Rattle.std.specs.Option.{SomeIff};
-ghost use Rattle.asn1_tags.specs.Tags.{IsSmallest};
+ghost use Rattle.asn1_tags.specs.Tags.{IsSmallest, position_of};
 ghost use Rattle.asn1_tags.specs.Trees.{choice, leaves, leaves_of, none, shape, shapes};
 
 use crate::classes::Class;
 use crate::tags::Tag;
-use crate::walks;
+use crate::{places, walks};
 use std::fmt;
 
 /// The tags with which an encoding of a type can begin.
@@ -64,6 +64,28 @@ impl TagTree<'_> {
         ensures { let count = length (leaves_of (shapes nodes.now)) in SomeIff result (count < 2 ^ 64) count }
     {
         walks::leaf_count(nodes)
+    }
+
+    /// The place of the first leaf that is the tag, counted from the left, and `None` where none is.
+    #[tactic(auto, using(crate::proofs::Positions::places))]
+    pub fn leaf_position(tag: &Tag, nodes: &[TagTree<'_>]) -> Option<usize>
+        requires { length (leaves_of (shapes nodes.now)) < 2 ^ 64 }
+        ensures first { result ≡ position_of tag.now (leaves_of (shapes nodes.now)) }
+        ensures back { IfSome result (λ place. slice_get (leaves_of (shapes nodes.now)) place ≡ Some tag.now) }
+    {
+        places::first_place(nodes, tag).ok()
+    }
+
+    /// The leaf at a place, counted from the left, and `None` past the last leaf.
+    #[tactic(auto, using(crate::proofs::Positions::places))]
+    pub fn leaf_at(nodes: &[TagTree<'_>], place: usize) -> Option<Tag>
+        requires { length (leaves_of (shapes nodes.now)) < 2 ^ 64 }
+        ensures leaf { result ≡ slice_get (leaves_of (shapes nodes.now)) place }
+
+        // Where each tag stands once, the place of the leaf is the place that was asked for.
+        ensures back { let tags = leaves_of (shapes nodes.now) in AllPairs (λ s t. s ≢ t) tags → IfSome result (λ tag. position_of tag tags ≡ Some place) }
+    {
+        places::leaf_behind(nodes, place).ok()
     }
 }
 

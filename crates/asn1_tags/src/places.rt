@@ -1,0 +1,64 @@
+// The walks that number the leaves of trees from left to right.
+#![tactic(auto, using(crate::proofs::Leaves::tree_shapes, crate::proofs::Positions::steps))]
+
+ghost use Rattle.std.specs.Prelude.{◌<◌, ◌^◌, length};
+ghost use Rattle.asn1_tags.specs.Tags.{IsFirstPlaceOf, IsTagBehind};
+ghost use Rattle.asn1_tags.specs.Trees.{leaves, leaves_of, shape, shapes};
+
+use crate::tags::Tag;
+use crate::trees::TagTree;
+
+// The place of the first leaf of the tree that is the tag, or how many leaves there are.
+#[cycle(find)]
+fn first_in(tree: &TagTree<'_>, tag: &Tag) -> Result<usize, usize>
+    ensures { length (leaves (shape tree.now)) < 2 ^ 64 → IsFirstPlaceOf tag.now (leaves (shape tree.now)) result }
+{
+    match tree {
+        TagTree::Leaf(leaf) => { if leaf.const_eq(tag) { Ok(0) } else { Err(1) } }
+        TagTree::Choice(nodes) => first_place(nodes, tag),
+    }
+}
+
+// The place of the first leaf of the trees that is the tag, or how many leaves there are.
+#[cycle(find)]
+pub fn first_place(nodes: &[TagTree<'_>], tag: &Tag) -> Result<usize, usize>
+    ensures { length (leaves_of (shapes nodes.now)) < 2 ^ 64 → IsFirstPlaceOf tag.now (leaves_of (shapes nodes.now)) result }
+{
+    let mut passed: usize = 0;
+    for node in nodes {
+        match first_in(node, tag) {
+            Ok(place) => return Ok(passed.saturating_add(place)),
+            Err(count) => passed = passed.saturating_add(count),
+        }
+    }
+    Err(passed)
+}
+
+// The leaf of the tree behind `skipped` others, or how many more there would have to be.
+#[cycle(behind)]
+fn leaf_in(tree: &TagTree<'_>, skipped: usize) -> Result<Tag, usize>
+    ensures { IsTagBehind (leaves (shape tree.now)) skipped result }
+{
+    match tree {
+        TagTree::Leaf(leaf) => match skipped.checked_sub(1) {
+            None => Ok(*leaf),
+            Some(left) => Err(left),
+        },
+        TagTree::Choice(nodes) => leaf_behind(nodes, skipped),
+    }
+}
+
+// The leaf of the trees behind `skipped` others, or how many more there would have to be.
+#[cycle(behind)]
+pub fn leaf_behind(nodes: &[TagTree<'_>], skipped: usize) -> Result<Tag, usize>
+    ensures { IsTagBehind (leaves_of (shapes nodes.now)) skipped result }
+{
+    let mut left = skipped;
+    for node in nodes {
+        match leaf_in(node, left) {
+            Ok(tag) => return Ok(tag),
+            Err(more) => left = more,
+        }
+    }
+    Err(left)
+}
