@@ -34,10 +34,10 @@ module _ {T : Type 0} (number : T → ℤ) where
   member-ends (bounded.Range start end) n = (λ h. h, λ h. h)
 
   -- where the bound between two ends is to be a single, both are there, and the end is not above the start
-  abbrev IsTight : Bool → Option T → Option T → Type 0
+  abbrev pub IsTight : Bool → Option T → Option T → Type 0
   IsTight single s e = single ≡ true → IsSomeAnd s (λ x. IsSomeAnd e (λ y. number y ≤ℤ number x))
 
-  tight-ends : (b : Bounded T) → IsTight (is_single b) (start_of b) (end_of b)
+  pub tight-ends : (b : Bounded T) → IsTight (is_single b) (start_of b) (end_of b)
   tight-ends bounded.None k = cc
   tight-ends (bounded.Single v) k = omega (arith, ints)
   tight-ends (bounded.Range start end) k = cc
@@ -58,7 +58,7 @@ module _ {T : Type 0} (number : T → ℤ) where
   tight-right (Some x') (Some x) None (Some y) h = grind (arith, ints)
   tight-right (Some x') (Some x) (Some y') (Some y) h = grind (arith, ints)
 
-  tight-both : (k k' : Bool) (s s' e e' : Option T) → IsTight k s e → IsTight k' s' e' → IsTight (k || k') (greater_start number s s') (lesser_end number e e')
+  pub tight-both : (k k' : Bool) (s s' e e' : Option T) → IsTight k s e → IsTight k' s' e' → IsTight (k || k') (greater_start number s s') (lesser_end number e e')
   tight-both true k' s s' e e' p q single = tight-left s s' e e' (p refl)
   tight-both false k' s s' e e' p q single = tight-right s s' e e' (q single)
 

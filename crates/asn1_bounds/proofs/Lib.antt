@@ -1,2 +1,4 @@
 pub mod Counting
 pub mod Intersecting
+pub mod IntersectionLaws
+pub mod KindLaws

@@ -1,6 +1,6 @@
 -- The intersection of two bounds, in its exact shape.
 -- `number` says which whole number a value of the bounds' type is.
-use Rattle.std.specs.Prelude.{ℤ, int_lt, Bool, true, false, ◌||◌, Option, None, Some, if◌then◌else◌}
+use Rattle.std.specs.Prelude.{ℤ, int_lt, Bool, true, false, ◌||◌, Option, None, Some, unwrap_or, if◌then◌else◌}
 use Rattle.asn1_bounds.specs.declared.bounded.Bounded.{Bounded}
 use Rattle.asn1_bounds.specs.declared.bounded.Bounded.TheVariants as bounded
 use Rattle.asn1_bounds.specs.Ends.{start_of, end_of, is_single}
@@ -34,3 +34,7 @@ module _ {T : Type 0} (number : T → ℤ) where
   intersection bounded.None b = Some b
   intersection a bounded.None = Some a
   intersection a b = common a b
+
+  -- the intersection, and in place of none a bound without members
+  abbrev pub intersection_or : Bounded T → Bounded T → Bounded T → Bounded T
+  intersection_or empty a b = unwrap_or (intersection a b) empty

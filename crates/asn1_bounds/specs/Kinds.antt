@@ -5,7 +5,7 @@ use Rattle.asn1_bounds.specs.declared.bounded.Bounded.{Bounded}
 use Rattle.asn1_bounds.specs.declared.bounded.Bounded.TheVariants as bounded
 use Rattle.asn1_bounds.specs.declared.alphabet.PermittedAlphabet.{PermittedAlphabet}
 use Rattle.asn1_bounds.specs.Ends.{start_of, end_of}
-use Rattle.asn1_bounds.specs.Intersection.{intersection}
+use Rattle.asn1_bounds.specs.Intersection.{intersection_or}
 use Rattle.asn1_bounds.specs.Members.{IsMember}
 
 -- the number is a member of a value constraint's bound
@@ -22,11 +22,11 @@ characters alphabet = alphabet.0.now
 
 -- the intersection of two bounds of values; where they have no value in common, a bound without members
 abbrev pub value_intersection : Bounded ℤ → Bounded ℤ → Bounded ℤ
-value_intersection a b = unwrap_or (intersection (λ z. z) a b) (bounded.Range (Some (pos 1)) (Some (negsuc 0)))
+value_intersection a b = intersection_or (λ z. z) (bounded.Range (Some (pos 1)) (Some (negsuc 0))) a b
 
 -- the intersection of two bounds of sizes; where they have no length in common, a bound without members
 abbrev pub size_intersection : Bounded ℕ → Bounded ℕ → Bounded ℕ
-size_intersection a b = unwrap_or (intersection pos a b) (bounded.Range (Some 1) (Some 0))
+size_intersection a b = intersection_or pos (bounded.Range (Some 1) (Some 0)) a b
 
 -- the bound with each value as the whole number that it is
 module _ {T : Type 0} (number : T → ℤ) where
