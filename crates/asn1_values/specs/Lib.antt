@@ -1,0 +1,3 @@
+pub mod Alphabets
+pub mod Integer
+pub mod Numbers

@@ -1,0 +1,138 @@
+//! Whole numbers within limits.
+ghost use Rattle.std.specs.Prelude.{◌≡◌, ◌↔◌, ℤ, ◌≤ℤ◌, IsSome, IfSome};
+
+use crate::integer::Integer;
+use std::marker::{Model, PhantomData};
+
+/// The least and the greatest number of a [`LimitedInteger`].
+pub trait Limits {
+    ghost start: { ℤ };
+
+    ghost end: { ℤ };
+
+    /// The least number.
+    fn start() -> i128
+        ensures { result ≡ start };
+
+    /// The greatest number.
+    fn end() -> i128
+        ensures { result ≡ end };
+}
+
+/// The limits `S` and `E`. A type of one's own can have limits beyond 64 bits.
+#[derive(Drop)]
+pub enum Between<const S: i64, const E: i64> {}
+
+impl<const S: i64, const E: i64> Limits for Between<S, E> {
+    ghost start = { S };
+
+    ghost end = { E };
+
+    fn start() -> i128 {
+        i128::from(S)
+    }
+
+    fn end() -> i128 {
+        i128::from(E)
+    }
+}
+
+/// A whole number from the start to the end of its limits.
+///
+/// Contracts see it as its number.
+#[derive(Drop)]
+#[derive_where(Debug, PartialEq, Eq, PartialOrd, Ord, Hash)]
+pub struct LimitedInteger<L: Limits> {
+    number: Integer,
+    limits: PhantomData<L>,
+}
+
+/// A whole number from `S` to `E`.
+pub type ConstrainedInteger<const S: i64, const E: i64> = LimitedInteger<Between<S, E>>;
+
+impl<L: Limits> Model for LimitedInteger<L> {
+    ghost Value = { ℤ };
+
+    ghost view = { λ i. i.number };
+
+    ghost invariant = { λ i. (L.start ≤ℤ i.number) × (i.number ≤ℤ L.end) };
+
+    ghost inverse = { λ number. record { number = number; limits = record {} } };
+}
+
+impl<L: Limits> LimitedInteger<L> {
+    /// The number, if it is within the limits.
+    pub fn new(number: Integer) -> Option<Self>
+        ensures within { IsSome result ↔ ((L.start ≤ℤ number) × (number ≤ℤ L.end)) }
+        ensures same { IfSome result (λ limited. limited ≡ number) }
+    {
+        if Integer::from_i128(L::start()) <= number && number <= Integer::from_i128(L::end()) {
+            Some(LimitedInteger {
+                number,
+                limits: PhantomData,
+            })
+        } else {
+            None
+        }
+    }
+
+    /// The number.
+    pub fn get(&self) -> &Integer
+        ensures same { result.now ≡ self.now }
+        ensures from_start { L.start ≤ℤ self.now }
+        ensures to_end { self.now ≤ℤ L.end }
+    {
+        &self.number
+    }
+}
+
+#[cfg(test)]
+mod tests {
+    use super::*;
+    use std::test::Fail;
+
+    /// The numbers of a `u64`.
+    #[derive(Drop)]
+    enum OfU64 {}
+
+    impl Limits for OfU64 {
+        ghost use Rattle.std.specs.Prelude.{pos};
+
+        ghost start = { pos 0 };
+
+        ghost end = { pos 18446744073709551615 };
+
+        fn start() -> i128 {
+            0
+        }
+
+        fn end() -> i128 {
+            18446744073709551615
+        }
+    }
+
+    #[test]
+    fn numbers_are_within_the_limits(rt: HostRuntime) -> Result<(), Fail> {
+        for (number, is_within) in [(0, false), (1, true), (10, true), (11, false)] {
+            let limited = ConstrainedInteger::<1, 10>::new(Integer::from_i128(number));
+            assert_eq!(rt; limited.is_some(), is_within, "at {number}");
+        }
+        let Some(limited) = ConstrainedInteger::<1, 10>::new(Integer::from_i128(7)) else {
+            return Ok(assert!(rt; false));
+        };
+        assert_eq!(rt; limited.get().to_i128(), Some(7));
+        Ok(())
+    }
+
+    #[test]
+    fn limits_may_need_more_than_64_bits(rt: HostRuntime) {
+        for (number, is_within) in [
+            (-1, false),
+            (18446744073709551615, true),
+            (18446744073709551616, false),
+        ] {
+            let limited = LimitedInteger::<OfU64>::new(Integer::from_i128(number));
+            assert_eq!(rt; limited.is_some(), is_within, "at {number}");
+        }
+    }
+}

@@ -1,0 +1,5 @@
+//! The kinds of string. Each is a name for one of two types, whose last argument tells the kinds apart.
+pub(crate) mod alphabet_string;
+pub(crate) mod binary;
+pub(crate) mod character;
+pub(crate) mod unit_string;

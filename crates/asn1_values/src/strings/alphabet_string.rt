@@ -1,0 +1,73 @@
+//! Strings whose units come from an alphabet.
+ghost use Rattle.std.specs.Prelude.{◌≡◌, ◌↔◌, Bool, not, IsNone, IsOk, IfOk, IfErr, position};
+ghost use Rattle.std.specs.List.{AllPass};
+
+use crate::error::AlphabetError;
+use crate::strings::unit_string::UnitString;
+use std::marker::Model;
+
+/// The units that a kind of string may hold.
+pub trait Alphabet<U> {
+    ghost allows: { U → Bool };
+
+    /// Whether strings of this kind may hold the unit.
+    fn allows(unit: &U) -> bool
+        ensures { result ≡ allows unit.now };
+}
+
+/// A string of units of type `U`, each of them in the alphabet `A`. The alphabet also names the kind.
+///
+/// Contracts see it as the list of its units. Strings are equal if their units are, and go
+/// lexicographically.
+#[derive(Drop)]
+#[derive_where(Debug, PartialEq, Eq, PartialOrd, Ord, Hash; U)]
+pub struct AlphabetString<U, A: Alphabet<U>> {
+    units: UnitString<U, A>,
+}
+
+impl<U, A: Alphabet<U>> Model for AlphabetString<U, A> {
+    ghost use Rattle.std.specs.Prelude.{List};
+    ghost use Rattle.std.specs.List.{AllPass};
+
+    ghost Value = { List U };
+
+    ghost view = { λ s. s.units };
+
+    ghost invariant = { λ s. AllPass A.allows s.units };
+
+    ghost inverse = { λ units. record { units = units } };
+}
+
+impl<U, A: Alphabet<U>> AlphabetString<U, A> {
+    /// The string of these units, or the index of the first one that the alphabet lacks.
+    pub fn new(units: Vec<U>) -> Result<Self, AlphabetError>
+    where
+        U: Drop,
+        ensures allowed { IsOk result ↔ AllPass A.allows units.items }
+        ensures units { IfOk result (λ s. s ≡ units.items) }
+        ensures first { IfErr result (λ e. position (λ u. not (A.allows u)) units.items ≡ Some e.0) }
+    {
+        match first_refused::<U, A>(&units) {
+            Some(index) => Err(AlphabetError(index)),
+            None => Ok(AlphabetString {
+                units: UnitString::new(units),
+            }),
+        }
+    }
+
+    /// The units, in their order.
+    pub fn as_slice(&self) -> &[U]
+        ensures units { result.now ≡ self.now }
+        ensures allowed { AllPass A.allows self.now }
+    {
+        self.units.as_slice()
+    }
+}
+
+/// The index of the first unit that the alphabet lacks.
+fn first_refused<U, A: Alphabet<U>>(units: &[U]) -> Option<usize>
+    ensures first { result ≡ position (λ u. not (A.allows u)) units.now }
+    ensures none { IsNone result ↔ AllPass A.allows units.now }
+{
+    units.iter().position(|unit| !A::allows(unit))
+}
