@@ -2,3 +2,4 @@ pub mod Counting
 pub mod Intersecting
 pub mod IntersectionLaws
 pub mod KindLaws
+pub mod SetLaws

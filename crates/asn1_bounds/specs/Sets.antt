@@ -1,10 +1,24 @@
 -- Constraint sets: what a list of constraints comes to, and what its root admits (X.680, 50).
 use Rattle.std.specs.Prelude.{ℕ, ℤ, ⊤, Bool, true, false, ◌&&◌, ◌||◌, is_some, List, [], ◌∷◌, Option, None, Some, MatchOption, if◌then◌else◌}
+use Rattle.asn1_bounds.specs.declared.alphabet.PermittedAlphabet.{PermittedAlphabet}
+use Rattle.asn1_bounds.specs.declared.value.Value.{Value}
+use Rattle.asn1_bounds.specs.declared.size.Size.{Size}
 use Rattle.asn1_bounds.specs.declared.extensible.Extensible.{Extensible}
 use Rattle.asn1_bounds.specs.declared.constraint.Constraint.{Constraint}
 use Rattle.asn1_bounds.specs.declared.constraint.Constraint.TheVariants as constraint
 use Rattle.asn1_bounds.specs.declared.constraints.Constraints.{Constraints}
 use Rattle.asn1_bounds.specs.Kinds.{HasValue, HasLength, value_intersection, size_intersection}
+
+-- of two value constraints, and of two size constraints: the members of both bounds
+abbrev pub both_values : Value → Value → Value
+both_values a b = record { bound = value_intersection a.bound b.bound }
+
+abbrev pub both_sizes : Size → Size → Size
+both_sizes a b = record { bound = size_intersection a.bound b.bound }
+
+-- of two permitted alphabets: the second, which takes the place of the first
+abbrev pub second_alphabet : PermittedAlphabet → PermittedAlphabet → PermittedAlphabet
+second_alphabet a b = b
 
 module _ {T : Type 0} (both : T → T → T) where
   -- two parts of one kind: extensible where both are, with the additions of the first
@@ -23,9 +37,9 @@ module _ {T : Type 0} (both : T → T → T) where
 -- two sets: part by part, extensible where either is
 abbrev pub set_intersection : Constraints → Constraints → Constraints
 set_intersection a b = record {
-  value = parts_intersection (λ p q. record { bound = value_intersection p.bound q.bound }) a.value b.value;
-  size = parts_intersection (λ p q. record { bound = size_intersection p.bound q.bound }) a.size b.size;
-  permitted_alphabet = parts_intersection (λ _ alphabet. alphabet) a.permitted_alphabet b.permitted_alphabet;
+  value = parts_intersection both_values a.value b.value;
+  size = parts_intersection both_sizes a.size b.size;
+  permitted_alphabet = parts_intersection second_alphabet a.permitted_alphabet b.permitted_alphabet;
   extensible = a.extensible || b.extensible;
 }
 

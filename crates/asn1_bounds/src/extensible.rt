@@ -26,9 +26,9 @@ pub trait Intersect: Copy {
 }
 
 impl Intersect for Value {
-    ghost use Rattle.asn1_bounds.specs.Kinds.{value_intersection};
+    ghost use Rattle.asn1_bounds.specs.Sets.{both_values};
 
-    ghost intersection = { λ a b. record { bound = value_intersection a.bound b.bound } };
+    ghost intersection = { both_values };
 
     fn intersect(&self, other: &Self) -> Self {
         Value::intersect(self, other)
@@ -36,9 +36,9 @@ impl Intersect for Value {
 }
 
 impl Intersect for Size {
-    ghost use Rattle.asn1_bounds.specs.Kinds.{size_intersection};
+    ghost use Rattle.asn1_bounds.specs.Sets.{both_sizes};
 
-    ghost intersection = { λ a b. record { bound = size_intersection a.bound b.bound } };
+    ghost intersection = { both_sizes };
 
     fn intersect(&self, other: &Self) -> Self {
         Size::intersect(self, other)
@@ -46,7 +46,9 @@ impl Intersect for Size {
 }
 
 impl Intersect for PermittedAlphabet<'_> {
-    ghost intersection = { λ _ other. other };
+    ghost use Rattle.asn1_bounds.specs.Sets.{second_alphabet};
+
+    ghost intersection = { second_alphabet };
 
     fn intersect(&self, other: &Self) -> Self {
         PermittedAlphabet::intersect(self, other)
