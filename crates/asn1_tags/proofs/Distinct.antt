@@ -1,36 +1,11 @@
 -- Tests of lists of tags, and what they decide.
-use Rattle.std.proofs.Common.{◌≡◌, ◌≢◌, ℕ, zero, suc, Bool, true, false, List, [], ◌∷◌, ◌<◌, ◌↔◌, ◌||◌, ◌&&◌, not, AllPairs, Contains, IsTrue, length, get_or, refl, sym, ap, ◌∙◌, subst, arith}
-use Rattle.std.specs.List.{list_any}
+use Rattle.std.proofs.Common.{◌≡◌, ◌≢◌, zero, suc, Bool, true, false, List, [], ◌∷◌, ◌<◌, ◌&&◌, not, AllPairs, Contains, length, get_or, refl, sym, ◌∙◌, subst, arith}
 use Rattle.std.proofs.lemmas.Bool.{false≢true}
 use Rattle.std.proofs.lemmas.Grind.{common_steps}
 use Rattle.std.proofs.lemmas.List.Folds.{list_any_at, Any-from_list_any}
 use Rattle.asn1_tags.specs.Tags.{class_number, tag_eq, has, distinct}
-use Rattle.asn1_tags.specs.declared.classes.Class.{Class}
-use Rattle.asn1_tags.specs.declared.classes.Class.TheVariants.{Universal, Application, Context, Private}
+use Rattle.asn1_tags.specs.OrderLaws.{same_tag}
 use Rattle.asn1_tags.specs.declared.tags.Tag.{Tag}
-
-class_of : ℕ → Class
-class_of zero = Universal
-class_of (suc zero) = Application
-class_of (suc (suc zero)) = Context
-class_of _ = Private
-
-class_back : (k : Class) → class_of (class_number k) ≡ k
-unfolding class_of
-class_back Universal = refl
-class_back Application = refl
-class_back Context = refl
-class_back Private = refl
-
--- classes with one number are one class
-pub class_number-injective : (j k : Class) → class_number j ≡ class_number k → j ≡ k
-class_number-injective j k e = sym (class_back j) ∙ (ap class_of e ∙ class_back k)
-
--- tags with one class and one number are one tag
-pub same_tag : (s t : Tag) → class_number s.class ≡ class_number t.class → s.value ≡ t.value → s ≡ t
-same_tag s t e f =
-    let same = class_number-injective s.class t.class e in
-    λ i. record { class = same i; value = f i }
 
 pub tag_eq-true : (s t : Tag) → tag_eq s t ≡ true → s ≡ t
 tag_eq-true s t h =

@@ -2,3 +2,4 @@ pub mod Leaves
 pub mod Distinct
 pub mod Smallest
 pub mod Positions
+pub mod Structures

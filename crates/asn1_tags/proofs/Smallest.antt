@@ -1,14 +1,12 @@
 -- The order of tags, and the smallest of them.
-use Rattle.std.proofs.Common.{◌≡◌, ◌≢◌, ◌⊎◌, inl, inr, ℕ, zero, suc, Bool, true, false, List, [], ◌∷◌, ◌++◌, append_assoc, ◌==◌, nat_lt, ◌<◌, ◌≤◌, All, Contains, Option, Some, None, fold, length, get_or, take, ◌+◌, cond, refl, sym, ap, ◌∙◌, subst, arith}
-use Rattle.std.specs.declared.cmp.Ordering.{Ordering}
-use Rattle.std.specs.declared.cmp.Ordering.TheVariants.{Less, Equal, Greater}
-use Rattle.std.specs.Ordering.{nat_cmp, is_lt, ordering_then}
+use Rattle.std.proofs.Common.{◌≡◌, ◌≢◌, ◌⊎◌, inl, inr, ℕ, zero, suc, Bool, true, false, List, [], ◌∷◌, ◌++◌, append_assoc, nat_lt, ◌<◌, All, Contains, Option, Some, None, fold, length, get_or, take, ◌+◌, cond, refl, sym, ap, ◌∙◌, subst, arith}
+use Rattle.std.specs.Ordering.{is_lt}
 use Rattle.std.proofs.lemmas.Bool.Decides.{nat_tests}
 use Rattle.std.proofs.lemmas.Grind.{common_steps}
 use Rattle.std.proofs.lemmas.List.Elements.{All-append, Contains-append_left, Contains-append_right}
 use Rattle.asn1_tags.specs.Tags.{class_number, tag_cmp, IsAtMost, greatest, lesser, lesser_of, smallest, IsSmallest, IsSmallestIfAny}
 use Rattle.asn1_tags.specs.declared.tags.Tag.{Tag}
-use Rattle.asn1_tags.proofs.Distinct.{same_tag}
+use Rattle.asn1_tags.specs.OrderLaws.{same_tag}
 use Rattle.asn1_tags.proofs.Leaves.{leaves_of-take}
 use Rattle.asn1_tags.specs.Trees.{shape, shapes, leaves, leaves_of}
 use Rattle.asn1_tags.specs.declared.trees.TagTree.{TagTree}
@@ -140,3 +138,7 @@ smallest-is (t ∷ ts) = IsSmallest-from_some (t ∷ ts) (fold lesser t ts) (sma
 -- and nothing else is
 pub smallest-from_is : (ts : List Tag) (t : Tag) → IsSmallest ts t → t ≡ smallest ts
 smallest-from_is ts t h = IsSmallest-alone ts t (smallest ts) h (smallest-is ts)
+
+-- the smallest tags of two lists compare as `smallest` does
+pub smallest_cmp : (ts us : List Tag) (s t : Tag) → IsSmallest ts s → IsSmallest us t → tag_cmp s t ≡ tag_cmp (smallest ts) (smallest us)
+smallest_cmp ts us s t h k = ap (λ x. tag_cmp x t) (smallest-from_is ts s h) ∙ ap (tag_cmp (smallest ts)) (smallest-from_is us t k)

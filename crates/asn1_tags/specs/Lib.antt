@@ -1,2 +1,4 @@
 pub mod Tags
 pub mod Trees
+pub mod Order
+pub mod OrderLaws

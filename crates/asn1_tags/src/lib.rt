@@ -25,6 +25,7 @@
 #![tactic(auto)]
 
 mod classes;
+mod order;
 mod places;
 mod tags;
 #[cfg(test)]

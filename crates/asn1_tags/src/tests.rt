@@ -214,6 +214,33 @@ fn the_smallest_tag_is_of_the_lowest_class(rt: HostRuntime) {
 }
 
 #[test]
+fn trees_go_by_smallest_tag_then_structure(rt: HostRuntime) {
+    let ascending = [
+        leaf!(Universal 0),
+        leaf!(Application 0),
+        TagTree::Choice(JUST_A0),
+        TagTree::Choice(APPLICATIONS),
+        TagTree::Choice(A0_TWICE),
+        TagTree::Choice(JUST_A1),
+        TagTree::Choice(CONTEXTS),
+        TagTree::Choice(C1_AND_NOTHING),
+        leaf!(Private 4294967295),
+        TagTree::empty(),
+    ];
+    for (i, left) in ascending.iter().enumerate() {
+        for (j, right) in ascending.iter().enumerate() {
+            assert_eq!(rt; left.cmp(right), i.cmp(&j), "{left:?} and {right:?}");
+            assert_eq!(rt;
+                left.partial_cmp(right),
+                Some(i.cmp(&j)),
+                "{left:?} and {right:?}"
+            );
+            assert_eq!(rt; left == right, i == j, "{left:?} and {right:?}");
+        }
+    }
+}
+
+#[test]
 fn a_tree_prints_as_its_tags(rt: HostRuntime) -> Result<(), Fail> {
     let nodes = [TagTree::Leaf(Tag::INTEGER), TagTree::Choice(C1_AND_NOTHING)];
     let tree = TagTree::Choice(&nodes);

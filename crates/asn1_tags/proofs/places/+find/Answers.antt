@@ -1,8 +1,7 @@
-use Rattle.std.proofs.Common.{◌≡◌, ◌<◌, ◌≤◌, length, ℕ, ◌+◌, ◌^◌, true, false, take, get_or, arith, ap, sym, subst, ◌∙◌}
-use Rattle.std.proofs.lemmas.Grind.{common_steps}
+use Rattle.std.proofs.Common.{◌≡◌, ◌<◌, length, true, false, arith, sym, subst, ◌∙◌}
 use Rattle.std.specs.List.{position_or_len}
 use Rattle.asn1_tags.specs.Tags.{has, tag_eq}
-use Rattle.asn1_tags.specs.Trees.{leaves, leaves_of, shape, shapes}
+use Rattle.asn1_tags.specs.Trees.{leaves, shape}
 use Rattle.asn1_tags.proofs.Leaves.{count_upto}
 use Rattle.asn1_tags.proofs.Positions.{found_at, passed_at}
 use Rattle.asn1_tags.proofs.places.+find.Goals as goal
