@@ -4,7 +4,7 @@ use Rattle.std.specs.Prelude.{⊤, IsSomeAnd, IfSome, IfNone, int_lt}
 use Rattle.std.proofs.lemmas.Int.{ints}
 use Rattle.asn1_bounds.specs.Ends.{start_of, end_of, is_single}
 use Rattle.asn1_bounds.specs.Intersection.{greater_start, lesser_end, bound_between, common, intersection}
-use Rattle.asn1_bounds.specs.Members.{IsFrom, IsUpTo, IsMember, IsUpright}
+use Rattle.asn1_bounds.specs.Members.{IsFrom, IsUpTo, IsMember, IsOrdered}
 use Rattle.asn1_bounds.specs.declared.bounded.Bounded.{Bounded}
 use Rattle.asn1_bounds.specs.declared.bounded.Bounded.TheVariants as bounded
 
@@ -97,13 +97,13 @@ module _ {T : Type 0} (number : T → ℤ) where
   between-inhabited single (Some x) (Some y) = chosen-inhabited x y (int_lt (number y) (number x)) single refl
 
   -- a bound that is not inverted has a member
-  pub upright-inhabited : (b : Bounded T) → IsUpright number b → (n : ℤ) × IsMember number b n
-  upright-inhabited bounded.None h = (pos 0, tt)
-  upright-inhabited (bounded.Single v) h = (number v, refl)
-  upright-inhabited (bounded.Range None None) h = (pos 0, (tt, tt))
-  upright-inhabited (bounded.Range None (Some y)) h = (number y, (tt, omega (arith, ints)))
-  upright-inhabited (bounded.Range (Some x) None) h = (number x, (omega (arith, ints), tt))
-  upright-inhabited (bounded.Range (Some x) (Some y)) h = (number x, (omega (arith, ints), h))
+  pub ordered-inhabited : (b : Bounded T) → IsOrdered number b → (n : ℤ) × IsMember number b n
+  ordered-inhabited bounded.None h = (pos 0, tt)
+  ordered-inhabited (bounded.Single v) h = (number v, refl)
+  ordered-inhabited (bounded.Range None None) h = (pos 0, (tt, tt))
+  ordered-inhabited (bounded.Range None (Some y)) h = (number y, (tt, omega (arith, ints)))
+  ordered-inhabited (bounded.Range (Some x) None) h = (number x, (omega (arith, ints), tt))
+  ordered-inhabited (bounded.Range (Some x) (Some y)) h = (number x, (omega (arith, ints), h))
 
   module _ (a b : Bounded T) where
     ends-of-both : (n : ℤ) → (IsFrom number (greater_start number (start_of a) (start_of b)) n × IsUpTo number (lesser_end number (end_of a) (end_of b)) n) ↔ (IsMember number a n × IsMember number b n)
@@ -150,12 +150,12 @@ module _ {T : Type 0} (number : T → ℤ) where
   intersection-disjoint (bounded.Range s e) (bounded.Range s' e') = common-disjoint (bounded.Range s e) (bounded.Range s' e')
 
   -- where neither side is inverted, an intersection has a member
-  pub intersection-inhabited : (a b : Bounded T) → IsUpright number a → IsUpright number b → IfSome (intersection number a b) (λ both. (n : ℤ) × IsMember number both n)
-  intersection-inhabited bounded.None b p q = upright-inhabited b q
-  intersection-inhabited (bounded.Single v) bounded.None p q = upright-inhabited (bounded.Single v) p
+  pub intersection-inhabited : (a b : Bounded T) → IsOrdered number a → IsOrdered number b → IfSome (intersection number a b) (λ both. (n : ℤ) × IsMember number both n)
+  intersection-inhabited bounded.None b p q = ordered-inhabited b q
+  intersection-inhabited (bounded.Single v) bounded.None p q = ordered-inhabited (bounded.Single v) p
   intersection-inhabited (bounded.Single v) (bounded.Single w) p q = common-inhabited (bounded.Single v) (bounded.Single w)
   intersection-inhabited (bounded.Single v) (bounded.Range s e) p q = common-inhabited (bounded.Single v) (bounded.Range s e)
-  intersection-inhabited (bounded.Range s e) bounded.None p q = upright-inhabited (bounded.Range s e) p
+  intersection-inhabited (bounded.Range s e) bounded.None p q = ordered-inhabited (bounded.Range s e) p
   intersection-inhabited (bounded.Range s e) (bounded.Single w) p q = common-inhabited (bounded.Range s e) (bounded.Single w)
   intersection-inhabited (bounded.Range s e) (bounded.Range s' e') p q = common-inhabited (bounded.Range s e) (bounded.Range s' e')
 
@@ -163,7 +163,7 @@ module _ {T : Type 0} (number : T → ℤ) where
   pub record IsCommon (a b : Bounded T) (answer : Option (Bounded T)) : Type 0 where
     pub members : IfSome answer (λ both. (n : ℤ) → IsMember number both n ↔ (IsMember number a n × IsMember number b n))
     pub disjoint : IfNone answer ((n : ℤ) → IsMember number a n → IsMember number b n → ⊥)
-    pub inhabited : IsUpright number a → IsUpright number b → IfSome answer (λ both. (n : ℤ) × IsMember number both n)
+    pub inhabited : IsOrdered number a → IsOrdered number b → IfSome answer (λ both. (n : ℤ) × IsMember number both n)
 
   pub intersection-IsCommon : (a b : Bounded T) (answer : Option (Bounded T)) → answer ≡ intersection number a b → IsCommon a b answer
   intersection-IsCommon a b answer shape =

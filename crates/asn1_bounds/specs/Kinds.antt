@@ -1,5 +1,6 @@
 -- The three kinds of constraint that a set can hold: of values, of sizes and of permitted alphabets.
-use Rattle.std.specs.Prelude.{ℕ, ℤ, pos, negsuc, ◌≤◌, ◌^◌, ◌-◌, ◌≤ℤ◌, ⊤, List, Some, MatchOption, unwrap_or}
+use Rattle.std.specs.Prelude.{ℕ, ℤ, pos, negsuc, FitsSigned, List, Some, IfSome}
+use Rattle.std.specs.Int.{w128}
 use Rattle.std.specs.Option.{option_map}
 use Rattle.asn1_bounds.specs.declared.bounded.Bounded.{Bounded}
 use Rattle.asn1_bounds.specs.declared.bounded.Bounded.TheVariants as bounded
@@ -34,3 +35,7 @@ module _ {T : Type 0} (number : T → ℤ) where
   numbers bounded.None = bounded.None
   numbers (bounded.Single v) = bounded.Single (number v)
   numbers (bounded.Range start end) = bounded.Range (option_map number start) (option_map number end)
+
+-- an `i128` can hold each end of a bound of lengths
+abbrev pub HasNarrowEnds : Bounded ℕ → Type 0
+HasNarrowEnds b = IfSome (start_of b) (λ s. FitsSigned w128 (pos s)) × IfSome (end_of b) (λ e. FitsSigned w128 (pos e))

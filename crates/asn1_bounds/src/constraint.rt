@@ -1,5 +1,6 @@
 ghost use Rattle.std.specs.Prelude.{◌≡◌, ℤ, pos, Bool, IsTrue, Some, None};
 ghost use Rattle.std.specs.Option.{option_copied};
+ghost use Rattle.asn1_bounds.specs.declared.constraint.Constraint.TheVariants as constraint;
 
 use crate::alphabet::PermittedAlphabet;
 use crate::extensible::Extensible;
@@ -101,5 +102,53 @@ impl<'a> Constraint<'a> {
             Constraint::PermittedAlphabet(part) => part.extensible.is_some(),
             Constraint::Extensible => true,
         }
+    }
+}
+
+impl<'a> From<Extensible<'a, Value>> for Constraint<'a> {
+    ghost from_gives = { λ part result. result ≡ constraint.Value part };
+
+    fn from(part: Extensible<'a, Value>) -> Self {
+        Constraint::Value(part)
+    }
+}
+
+impl<'a> From<Value> for Constraint<'a> {
+    ghost from_gives = { λ kind result. result ≡ constraint.Value (record { constraint = kind; extensible = None }) };
+
+    fn from(kind: Value) -> Self {
+        Constraint::Value(Extensible::new(kind))
+    }
+}
+
+impl<'a> From<Extensible<'a, Size>> for Constraint<'a> {
+    ghost from_gives = { λ part result. result ≡ constraint.Size part };
+
+    fn from(part: Extensible<'a, Size>) -> Self {
+        Constraint::Size(part)
+    }
+}
+
+impl<'a> From<Size> for Constraint<'a> {
+    ghost from_gives = { λ kind result. result ≡ constraint.Size (record { constraint = kind; extensible = None }) };
+
+    fn from(kind: Size) -> Self {
+        Constraint::Size(Extensible::new(kind))
+    }
+}
+
+impl<'a> From<Extensible<'a, PermittedAlphabet<'a>>> for Constraint<'a> {
+    ghost from_gives = { λ part result. result ≡ constraint.PermittedAlphabet part };
+
+    fn from(part: Extensible<'a, PermittedAlphabet<'a>>) -> Self {
+        Constraint::PermittedAlphabet(part)
+    }
+}
+
+impl<'a> From<PermittedAlphabet<'a>> for Constraint<'a> {
+    ghost from_gives = { λ kind result. result ≡ constraint.PermittedAlphabet (record { constraint = kind; extensible = None }) };
+
+    fn from(kind: PermittedAlphabet<'a>) -> Self {
+        Constraint::PermittedAlphabet(Extensible::new(kind))
     }
 }

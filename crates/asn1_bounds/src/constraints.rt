@@ -43,9 +43,33 @@ impl<'a> Constraints<'a> {
     {
         let mut set = Self::NONE;
         for constraint in constraints {
-            set = set.intersect(Self::from(*constraint));
+            set = set.intersect(Self::of(*constraint));
         }
         set
+    }
+
+    // The set of the one constraint.
+    fn of(constraint: Constraint<'a>) -> Self
+        ensures { result ≡ set_of constraint.entry }
+    {
+        match constraint {
+            Constraint::Value(part) => Constraints {
+                value: Some(part),
+                ..Self::NONE
+            },
+            Constraint::Size(part) => Constraints {
+                size: Some(part),
+                ..Self::NONE
+            },
+            Constraint::PermittedAlphabet(part) => Constraints {
+                permitted_alphabet: Some(part),
+                ..Self::NONE
+            },
+            Constraint::Extensible => Constraints {
+                extensible: true,
+                ..Self::NONE
+            },
+        }
     }
 
     /// What both sets leave.
@@ -112,24 +136,6 @@ fn intersect_parts<'a, T: Intersect>(a: Option<Extensible<'a, T>>, b: Option<Ext
     match (a, b) {
         (Some(a), Some(b)) => Some(a.intersect(&b)),
         (a, b) => a.or(b),
-    }
-}
-
-impl<'a> From<Constraint<'a>> for Constraints<'a> {
-    ghost use Rattle.std.specs.Prelude.{◌≡◌};
-    ghost use Rattle.asn1_bounds.specs.Sets.{set_of};
-
-    ghost from_gives = { λ constraint set. set ≡ set_of constraint };
-
-    fn from(constraint: Constraint<'a>) -> Self {
-        let mut set = Constraints::NONE;
-        match constraint {
-            Constraint::Value(part) => set.value = Some(part),
-            Constraint::Size(part) => set.size = Some(part),
-            Constraint::PermittedAlphabet(part) => set.permitted_alphabet = Some(part),
-            Constraint::Extensible => set.extensible = true,
-        }
-        set
     }
 }
 

@@ -7,7 +7,7 @@ pub use constraint::{Constraint, ConstraintDiscriminant};
 pub use constraints::Constraints;
 pub use error::TooWide;
 pub use extensible::{Extensible, Intersect};
-pub use number::WholeNumber;
+pub use number::{FitsI128, WholeNumber};
 pub use size::Size;
 pub use value::Value;
 
@@ -17,6 +17,8 @@ mod constraint;
 mod constraints;
 mod error;
 mod extensible;
+mod intersection;
 mod number;
+mod octets;
 mod size;
 mod value;

@@ -261,3 +261,64 @@ impl WholeNumber for isize {
         self - start
     }
 }
+
+/// A type of whole numbers that an `i128` can hold, each of them.
+pub trait FitsI128: WholeNumber {
+    /// The number as an `i128`.
+    fn to_i128(self) -> i128
+        ensures { result ≡ Self.number self };
+}
+
+impl FitsI128 for u8 {
+    fn to_i128(self) -> i128 {
+        i128::from(self)
+    }
+}
+
+impl FitsI128 for u16 {
+    fn to_i128(self) -> i128 {
+        i128::from(self)
+    }
+}
+
+impl FitsI128 for u32 {
+    fn to_i128(self) -> i128 {
+        i128::from(self)
+    }
+}
+
+impl FitsI128 for u64 {
+    fn to_i128(self) -> i128 {
+        i128::from(self)
+    }
+}
+
+impl FitsI128 for i8 {
+    fn to_i128(self) -> i128 {
+        i128::from(self)
+    }
+}
+
+impl FitsI128 for i16 {
+    fn to_i128(self) -> i128 {
+        i128::from(self)
+    }
+}
+
+impl FitsI128 for i32 {
+    fn to_i128(self) -> i128 {
+        i128::from(self)
+    }
+}
+
+impl FitsI128 for i64 {
+    fn to_i128(self) -> i128 {
+        i128::from(self)
+    }
+}
+
+impl FitsI128 for i128 {
+    fn to_i128(self) -> i128 {
+        self
+    }
+}

@@ -1,8 +1,13 @@
-ghost use Rattle.std.specs.Prelude.{◌≡◌, ◌↔◌, ℤ};
+ghost use Rattle.std.specs.Prelude.{◌≡◌, ◌↔◌, ℤ, pos, FitsSigned, IfSome};
+ghost use Rattle.std.specs.Int.{w128};
+ghost use Rattle.std.specs.Option.{option_map};
+ghost use Rattle.std.specs.Result.{OkIff};
 ghost use Rattle.asn1_bounds.specs.Kinds.{HasValue, value_intersection};
 ghost use Rattle.asn1_bounds.specs.Octets.{is_signed, octets_of};
 
 use crate::bounded::Bounded;
+use crate::error::TooWide;
+use crate::number::FitsI128;
 
 /// A constraint of the values of an INTEGER (X.680, 51.2 and 51.4).
 #[derive(Clone, Copy, Debug, Default, PartialEq, Eq, PartialOrd, Ord, Hash)]
@@ -51,5 +56,61 @@ impl Value {
         ensures right_identity { other.now.bound ≡ Bounded.None → result ≡ self.now }
     {
         Value::new(self.bound.intersect(&other.bound).unwrap_or(Bounded::const_new(1, -1)))
+    }
+}
+
+impl<T: FitsI128> From<Bounded<T>> for Value {
+    ghost use Rattle.std.specs.Prelude.{◌≡◌};
+    ghost use Rattle.asn1_bounds.specs.Kinds.{numbers};
+
+    ghost from_gives = { λ bound value. value.bound ≡ numbers T.number bound };
+
+    fn from(bound: Bounded<T>) -> Self {
+        Value::new(match bound {
+            Bounded::None => Bounded::None,
+            Bounded::Single(value) => Bounded::Single(value.to_i128()),
+            Bounded::Range { start, end } => Bounded::Range {
+                start: start.map(|start| start.to_i128()),
+                end: end.map(|end| end.to_i128()),
+            },
+        })
+    }
+}
+
+impl TryFrom<Bounded<usize>> for Value {
+    type Error = TooWide;
+
+    ghost use Rattle.std.specs.Prelude.{pos};
+    ghost use Rattle.std.specs.Result.{OkIff};
+    ghost use Rattle.asn1_bounds.specs.Kinds.{numbers, HasNarrowEnds};
+
+    ghost try_from_gives = { λ bound result. OkIff result (HasNarrowEnds bound) (record { bound = numbers pos bound }) };
+
+    fn try_from(bound: Bounded<usize>) -> Result<Self, TooWide> {
+        Ok(Value::new(match bound {
+            Bounded::None => Bounded::None,
+            Bounded::Single(value) => Bounded::Single(narrowed(value)?),
+            Bounded::Range { start, end } => Bounded::Range {
+                start: narrowed_end(start)?,
+                end: narrowed_end(end)?,
+            },
+        }))
+    }
+}
+
+// The number as an `i128`, where it is one.
+fn narrowed(number: usize) -> Result<i128, TooWide>
+    ensures { OkIff result (FitsSigned w128 (pos number)) (pos number) }
+{
+    i128::try_from(number).map_err(|_| TooWide)
+}
+
+// The end as an `i128`, where it is missing or one.
+fn narrowed_end(end: Option<usize>) -> Result<Option<i128>, TooWide>
+    ensures { OkIff result (IfSome end (λ n. FitsSigned w128 (pos n))) (option_map pos end) }
+{
+    match end {
+        Some(end) => Ok(Some(narrowed(end)?)),
+        None => Ok(None),
     }
 }

@@ -1,10 +1,10 @@
 use Rattle.std.proofs.Common.{◌≡◌, ◌∙◌, Some}
 use Rattle.asn1_bounds.specs.Intersection.{intersection}
-use Rattle.asn1_bounds.proofs.Intersecting.{upright-inhabited, IsCommon, intersection-IsCommon, intersection-None, intersection-common}
+use Rattle.asn1_bounds.proofs.Intersecting.{ordered-inhabited, IsCommon, intersection-IsCommon, intersection-None, intersection-common}
 use Rattle.asn1_bounds.proofs.bounded.Bounded.intersect.Goals as goal
 
 pub returns-in-None-default-clause-inhabited : goal.returns-in-None-default-clause-inhabited
-returns-in-None-default-clause-inhabited g c = λ p q. upright-inhabited _ _ q
+returns-in-None-default-clause-inhabited g c = λ p q. ordered-inhabited _ _ q
 
 pub returns-in_default-None : goal.returns-in_default-None
 returns-in_default-None g c =

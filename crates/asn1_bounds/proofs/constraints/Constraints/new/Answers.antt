@@ -6,8 +6,8 @@ use Rattle.asn1_bounds.proofs.constraints.Constraints.new.Goals as goal
 
 pub loop-constraint-preserved : goal.loop-constraint-preserved
 loop-constraint-preserved c =
-    set_of_all-step c.args.constraints.now c.loop-constraint.constraint-index _ c.loop-constraint.set c.from.result c.intersect-set.result
-    c.loop-constraint-test.true c.from.ensures c.intersect-set.ensures.parts c.loop-constraint.invariant
+    set_of_all-step c.args.constraints.now c.loop-constraint.constraint-index _ c.loop-constraint.set c.of.result c.intersect-set.result
+    c.loop-constraint-test.true c.of.ensures c.intersect-set.ensures.parts c.loop-constraint.invariant
 
 pub returns-clause-values : goal.returns-clause-values
 returns-clause-values c =
