@@ -183,3 +183,6 @@ impl<T: fmt::Display> fmt::Display for Bounded<T> {
         }
     }
 }
+
+#[cfg(test)]
+mod tests;

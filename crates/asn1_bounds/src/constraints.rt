@@ -149,3 +149,6 @@ impl Default for Constraints<'_> {
         Constraints::NONE
     }
 }
+
+#[cfg(test)]
+mod tests;
