@@ -157,6 +157,14 @@ distinct_more ts i d lt e h apart =
     let k : meet (leaves (shape (get_or ts i d))) (leaves_of (shapes (drop (i + 1) ts))) ≡ false = rw (take_rest ts (i + 1)) at apart in
     grind (arith, common_steps)
 
+-- a walk that keeps each leaf
+pub flat_more : (ts : List TagTree) (i : ℕ) (d : TagTree) (xs : List Tag) → i < length ts →
+    xs ++ leaves_of (shapes (take (i + 1) ts)) ≡ (xs ++ leaves_of (shapes (take i ts))) ++ leaves (shape (get_or ts i d))
+flat_more ts i d xs lt =
+    ap (λ ls. xs ++ ls) (leaves_of-take ts i d lt) ∙ sym (append_assoc xs (leaves_of (shapes (take i ts))) (leaves (shape (get_or ts i d))))
+
+pub ruleset flat_steps = (flat_more, append-nil)
+
 -- what a tree is, by its cases
 pub ruleset tree_shapes = (shape-Leaf, shape-Choice)
 

@@ -2,3 +2,4 @@ pub mod Tags
 pub mod Trees
 pub mod Order
 pub mod OrderLaws
+pub mod Names

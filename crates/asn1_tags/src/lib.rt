@@ -9,22 +9,39 @@
 //! | [`Class`] | one of the four classes of tags |
 //! | [`Tag`] | a class and a number, with a constant for each type of X.680 |
 //! | [`TagTree`] | the tags with which a type's encoding can begin: a tag, or the trees of a CHOICE |
+//! | [`Variants`] | the tags of trees in one list |
+//! | [`Identifier`] | the name of a type, with a constant for each type of X.680, or no name |
 //!
 //! What the contracts promise, and the words that they use:
 //!
 //! - `Tag::const_cmp` and `Ord` are the canonical order, `tag_cmp` (clauses `canonical` and `as_ord`);
-//!   `specs/Tags.antt` defines it, and what the smallest of some tags is (`IsSmallest`).
+//!   `Tag::const_eq` is true exactly for the same tag. `specs/Tags.antt` defines the order, what the
+//!   smallest of some tags is (`IsSmallest`), the first place of a tag (`position_of`), and the texts
+//!   of `Class` and `Tag` (`class_text`, `tag_text`).
 //! - A tree is seen as its `shape`, a tree of tags apart from where it lies in memory, and is asked
 //!   about its `leaves`, the tags from left to right; `specs/Trees.antt` defines both.
 //! - `TagTree::smallest_tag` is the smallest of the leaves; `is_unique` and `is_unique_set` are true
 //!   exactly where no tag stands at two leaves; `tag_contains` is true exactly for a leaf;
 //!   `leaf_count` is the number of leaves wherever it fits.
-//! - The texts of `Class` and `Tag` are `class_text` and `tag_text`.
+//! - `TagTree::leaf_position` is the first place of a tag among the leaves, and `leaf_at` the leaf at
+//!   a place. Each gives back what the other was asked (the clauses `back`), `leaf_at` where no tag
+//!   stands at two leaves. Both require that the number of leaves fits, which `leaf_count` tests.
+//! - `Ord` of trees is `tree_cmp` of `specs/Order.antt`, a total order by smallest tag and then by
+//!   structure, which answers `Equal` for trees of one shape alone (the clauses `same` and `equal`).
+//! - A `Variants` is the list of the leaves. An `Identifier` is its text, `name_of` in
+//!   `specs/Names.antt`: `or` keeps a name and takes the other in place of none.
 //!
-//! No call of these types takes memory.
+//! Only the constructors of `Variants` and its `try_clone` take memory. Each answers an error only
+//! where the allocator refused.
+//!
+//! For proofs in other crates, `proofs/` has the leaves of trees that stand behind one another
+//! (`Leaves`), the laws of the order of tags (`Smallest`), the tests of lists of tags (`Distinct`),
+//! and places among leaves (`Positions`).
 #![tactic(auto)]
 
 mod classes;
+mod flattened;
+mod names;
 mod order;
 mod places;
 mod tags;
@@ -35,5 +52,7 @@ mod universal;
 mod walks;
 
 pub use classes::Class;
+pub use flattened::Variants;
+pub use names::Identifier;
 pub use tags::Tag;
 pub use trees::TagTree;

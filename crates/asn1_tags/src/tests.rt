@@ -1,4 +1,4 @@
-use crate::{Class, Tag, TagTree};
+use crate::{Class, Identifier, Tag, TagTree, Variants};
 use std::test::Fail;
 
 #[test]
@@ -246,5 +246,83 @@ fn a_tree_prints_as_its_tags(rt: HostRuntime) -> Result<(), Fail> {
     let tree = TagTree::Choice(&nodes);
     let shown = format!(in rt.alloc(); "{tree:?}")?;
     assert_eq!(rt; shown.as_str(), "(Universal 2, (Context 1, ()))");
+    Ok(())
+}
+
+#[test]
+fn names_of_types_have_their_texts(rt: HostRuntime) {
+    for (name, text) in [
+        (Identifier::BOOL, "BOOLEAN"),
+        (Identifier::INTEGER, "INTEGER"),
+        (Identifier::ENUMERATED, "ENUMERATED"),
+        (Identifier::REAL, "REAL"),
+        (Identifier::NULL, "NULL"),
+        (Identifier::BIT_STRING, "BIT_STRING"),
+        (Identifier::OCTET_STRING, "OCTET_STRING"),
+        (Identifier::OBJECT_IDENTIFIER, "OBJECT_IDENTIFIER"),
+        (Identifier::RELATIVE_OID, "RELATIVE_OID"),
+        (Identifier::IRI, "OID_IRI"),
+        (Identifier::RELATIVE_IRI, "RELATIVE_OID_IRI"),
+        (Identifier::SEQUENCE, "SEQUENCE"),
+        (Identifier::SEQUENCE_OF, "SEQUENCE_OF"),
+        (Identifier::SET, "SET"),
+        (Identifier::SET_OF, "SET_OF"),
+        (Identifier::CHOICE, "CHOICE"),
+        (Identifier::EXTERNAL, "SEQUENCE"),
+        (Identifier::EMBEDDED_PDV, "SEQUENCE"),
+        (Identifier::INSTANCE_OF, "SEQUENCE"),
+        (Identifier::UNRESTRICTED_CHARACTER_STRING, "SEQUENCE"),
+        (Identifier::BMP_STRING, "BMPString"),
+        (Identifier::GENERAL_STRING, "GeneralString"),
+        (Identifier::GRAPHIC_STRING, "GraphicString"),
+        (Identifier::IA5_STRING, "IA5String"),
+        (Identifier::NUMERIC_STRING, "NumericString"),
+        (Identifier::PRINTABLE_STRING, "PrintableString"),
+        (Identifier::TELETEX_STRING, "TeletexString"),
+        (Identifier::UTF8_STRING, "UTF8String"),
+        (Identifier::VISIBLE_STRING, "VisibleString"),
+        (Identifier::DATE, "DATE"),
+        (Identifier::DATE_TIME, "DATE_TIME"),
+        (Identifier::DURATION, "DURATION"),
+        (Identifier::GENERALIZED_TIME, "GeneralizedTime"),
+        (Identifier::TIME, "TIME"),
+        (Identifier::TIME_OF_DAY, "TIME_OF_DAY"),
+        (Identifier::UTC_TIME, "UTCTime"),
+    ] {
+        assert_eq!(rt; name.0, Some(text));
+        assert_eq!(rt; name.or(Identifier::EMPTY), name);
+        assert_eq!(rt; Identifier::EMPTY.or(name), name);
+    }
+    assert_eq!(rt; Identifier::EMPTY.0, None);
+    assert_eq!(rt;
+        Identifier::INTEGER.or(Identifier::BOOL).unwrap(),
+        "INTEGER"
+    );
+    assert!(rt; Identifier::EMPTY < Identifier::BIT_STRING);
+    assert!(rt; Identifier::BIT_STRING < Identifier::BOOL);
+}
+
+#[test]
+fn variants_are_the_leaves_from_the_left(rt: HostRuntime) -> Result<(), Fail> {
+    let alloc = rt.alloc();
+    let nodes = [leaf!(Universal 2), TagTree::Choice(A0_TWICE)];
+    let tags = [
+        Tag::INTEGER,
+        Tag::new_application(0),
+        Tag::new_application(0),
+        Tag::new_context(2),
+    ];
+    let variants = Variants::new(alloc, &nodes)?;
+    assert_eq!(rt; variants.as_slice(), tags.as_slice());
+    assert_eq!(rt; variants.try_clone(alloc)?.as_slice(), tags.as_slice());
+    assert_eq!(rt;
+        Variants::from_slice(alloc, &nodes)?.as_slice(),
+        tags.as_slice()
+    );
+    assert_eq!(rt;
+        Variants::from_static(alloc, A0_TWICE)?.as_slice(),
+        &tags[1..]
+    );
+    assert!(rt; Variants::empty(alloc).as_slice().is_empty());
     Ok(())
 }
