@@ -1,5 +1,5 @@
 -- What the intersection of two bounds has for members.
-use Rattle.std.proofs.Common.{◌≡◌, ◌↔◌, ℤ, pos, ◌≤ℤ◌, ◌<ℤ◌, Bool, true, false, cond, ◌||◌, ◌⊎◌, inl, inr, Option, Some, None, refl, arith, rules}
+use Rattle.std.proofs.Common.{◌≡◌, ◌↔◌, ℤ, pos, ◌≤ℤ◌, ◌<ℤ◌, Bool, true, false, cond, ◌||◌, ◌⊎◌, inl, inr, Option, Some, None, refl, ap, arith, rules}
 use Rattle.std.specs.Prelude.{⊤, IsSomeAnd, IfSome, IfNone, int_lt}
 use Rattle.std.proofs.lemmas.Int.{ints}
 use Rattle.asn1_bounds.specs.Ends.{start_of, end_of, is_single}
@@ -64,18 +64,18 @@ module _ {T : Type 0} (number : T → ℤ) where
 
   module _ (x y : T) where
     chosen-members : (none single : Bool) → int_lt (number y) (number x) ≡ none → (single ≡ true → number y ≤ℤ number x) →
-      IfSome (cond none None (Some (cond single (bounded.Single x) (bounded.Range (Some x) (Some y))))) (λ both. (n : ℤ) → IsMember number both n ↔ ((number x ≤ℤ n) × (n ≤ℤ number y)))
+        IfSome (cond none None (Some (cond single (bounded.Single x) (bounded.Range (Some x) (Some y))))) (λ both. (n : ℤ) → IsMember number both n ↔ ((number x ≤ℤ n) × (n ≤ℤ number y)))
     chosen-members true single e h = tt
     chosen-members false true e h = λ n. let le = h refl in grind (arith, ints)
     chosen-members false false e h = λ n. (λ m. m, λ m. m)
 
     chosen-disjoint : (none : Bool) (b : Bounded T) → int_lt (number y) (number x) ≡ none →
-      IfNone (cond none None (Some b)) ((n : ℤ) → number x ≤ℤ n → n ≤ℤ number y → ⊥)
+        IfNone (cond none None (Some b)) ((n : ℤ) → number x ≤ℤ n → n ≤ℤ number y → ⊥)
     chosen-disjoint true b h = λ n p q. grind (arith, ints)
     chosen-disjoint false b h = tt
 
     chosen-inhabited : (none single : Bool) → int_lt (number y) (number x) ≡ none →
-      IfSome (cond none None (Some (cond single (bounded.Single x) (bounded.Range (Some x) (Some y))))) (λ both. (n : ℤ) × IsMember number both n)
+        IfSome (cond none None (Some (cond single (bounded.Single x) (bounded.Range (Some x) (Some y))))) (λ both. (n : ℤ) × IsMember number both n)
     chosen-inhabited true single h = tt
     chosen-inhabited false true h = (number x, refl)
     chosen-inhabited false false h = (number x, (grind (arith, ints), grind (arith, ints)))
@@ -159,15 +159,52 @@ module _ {T : Type 0} (number : T → ℤ) where
   intersection-inhabited (bounded.Range s e) (bounded.Single w) p q = common-inhabited (bounded.Range s e) (bounded.Single w)
   intersection-inhabited (bounded.Range s e) (bounded.Range s' e') p q = common-inhabited (bounded.Range s e) (bounded.Range s' e')
 
+  module _ (distinct : (a b : T) → number a ≡ number b → a ≡ b) where
+    chosen-start : (v x : T) (test : Bool) → int_lt (number x) (number v) ≡ test → number x ≤ℤ number v → cond test v x ≡ v
+    chosen-start v x true e h = refl
+    chosen-start v x false e h = distinct x v (grind (arith, ints))
+
+    chosen-end : (v y : T) (test : Bool) → int_lt (number y) (number v) ≡ test → number v ≤ℤ number y → cond test y v ≡ v
+    chosen-end v y true e h = absurd (grind (arith, ints))
+    chosen-end v y false e h = refl
+
+    start-held : (v : T) (s : Option T) → IsFrom number s (number v) → greater_start number (Some v) s ≡ Some v
+    start-held v None h = refl
+    start-held v (Some x) h = ap Some (chosen-start v x (int_lt (number x) (number v)) refl h)
+
+    end-held : (v : T) (e : Option T) → IsUpTo number e (number v) → lesser_end number (Some v) e ≡ Some v
+    end-held v None h = refl
+    end-held v (Some y) h = ap Some (chosen-end v y (int_lt (number y) (number v)) refl h)
+
+    single-between : (v : T) → bound_between number true (Some v) (Some v) ≡ Some (bounded.Single v)
+    single-between v = grind (arith, ints)
+
+    single-common : (v : T) (b : Bounded T) → IsMember number b (number v) → common number (bounded.Single v) b ≡ Some (bounded.Single v)
+    single-common v b h =
+        let ends = (member-ends b (number v)).0 h in
+        rw (start-held v (start_of b) ends.0, end-held v (end_of b) ends.1) (single-between v)
+
+    -- a single with a bound that holds it
+    pub single-intersection : (v : T) (b : Bounded T) → IsMember number b (number v) → intersection number (bounded.Single v) b ≡ Some (bounded.Single v)
+    single-intersection v bounded.None h = refl
+    single-intersection v (bounded.Single w) h = single-common v (bounded.Single w) h
+    single-intersection v (bounded.Range s e) h = single-common v (bounded.Range s e) h
+
   -- what follows of an answer that is the intersection
   pub record IsCommon (a b : Bounded T) (answer : Option (Bounded T)) : Type 0 where
     pub members : IfSome answer (λ both. (n : ℤ) → IsMember number both n ↔ (IsMember number a n × IsMember number b n))
     pub disjoint : IfNone answer ((n : ℤ) → IsMember number a n → IsMember number b n → ⊥)
     pub inhabited : IsOrdered number a → IsOrdered number b → IfSome answer (λ both. (n : ℤ) × IsMember number both n)
+    pub single : (v : T) → a ≡ bounded.Single v → IsMember number b (number v) → answer ≡ Some a
 
-  pub intersection-IsCommon : (a b : Bounded T) (answer : Option (Bounded T)) → answer ≡ intersection number a b → IsCommon a b answer
-  intersection-IsCommon a b answer shape =
-      rw shape (record { members = intersection-members a b; disjoint = intersection-disjoint a b; inhabited = intersection-inhabited a b })
+  pub intersection-IsCommon : (distinct : (a b : T) → number a ≡ number b → a ≡ b) (a b : Bounded T) (answer : Option (Bounded T)) → answer ≡ intersection number a b → IsCommon a b answer
+  intersection-IsCommon distinct a b answer shape =
+      rw shape (record {
+        members = intersection-members a b;
+        disjoint = intersection-disjoint a b;
+        inhabited = intersection-inhabited a b;
+        single = λ v is held. rw is (single-intersection distinct v b held);
+      })
 
   -- what no bound on the right leaves
   pub intersection-None : (a b : Bounded T) → b ≡ bounded.None → Some a ≡ intersection number a b

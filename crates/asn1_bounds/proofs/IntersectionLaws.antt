@@ -94,7 +94,7 @@ module _ {T : Type 0} (number : T → ℤ) where
       common_or a b = unwrap_or (common number a b) empty
 
       chosen-common : (none single : Bool) (p q : T) (b : Bounded T) → int_lt (number q) (number p) ≡ none → IsTight number single (Some p) (Some q) →
-        common_or (unwrap_or (cond none None (Some (cond single (bounded.Single p) (bounded.Range (Some p) (Some q))))) empty) b
+          common_or (unwrap_or (cond none None (Some (cond single (bounded.Single p) (bounded.Range (Some p) (Some q))))) empty) b
           ≡ between_or (single || is_single b) (greater_start number (Some p) (start_of b)) (lesser_end number (Some q) (end_of b))
       chosen-common true single p q b test tight =
           let below : number q <ℤ number p = grind (arith, ints) in
@@ -108,7 +108,7 @@ module _ {T : Type 0} (number : T → ℤ) where
 
       -- a bound between two ends, restricted further
       between-common : (single : Bool) (s e : Option T) (b : Bounded T) → IsTight number single s e →
-        common_or (between_or single s e) b ≡ between_or (single || is_single b) (greater_start number s (start_of b)) (lesser_end number e (end_of b))
+          common_or (between_or single s e) b ≡ between_or (single || is_single b) (greater_start number s (start_of b)) (lesser_end number e (end_of b))
       between-common true None e b tight = absurd (tight refl)
       between-common false None e b tight = refl
       between-common true (Some p) None b tight = absurd (tight refl)
@@ -133,19 +133,19 @@ module _ {T : Type 0} (number : T → ℤ) where
         common-restricts p q = between-restricts (is_single p || is_single q) (greater_start number (start_of p) (start_of q)) (lesser_end number (end_of p) (end_of q))
 
         three : (p q r : Bounded T) → (p ≡ bounded.None → ⊥) → (q ≡ bounded.None → ⊥) → (r ≡ bounded.None → ⊥) → intersection_or number empty (intersection_or number empty p q) r
-          ≡ between_or ((is_single p || is_single q) || is_single r) (greater_start number (greater_start number (start_of p) (start_of q)) (start_of r)) (lesser_end number (lesser_end number (end_of p) (end_of q)) (end_of r))
+            ≡ between_or ((is_single p || is_single q) || is_single r) (greater_start number (greater_start number (start_of p) (start_of q)) (start_of r)) (lesser_end number (lesser_end number (end_of p) (end_of q)) (end_of r))
         three p q r h k m =
             ap (λ b. intersection_or number empty b r) (at-common p q h k)
             ∙ at-common (common_or p q) r (common-restricts p q) m
             ∙ between-common (is_single p || is_single q) (greater_start number (start_of p) (start_of q)) (lesser_end number (end_of p) (end_of q)) r
-              (tight-both number (is_single p) (is_single q) (start_of p) (start_of q) (end_of p) (end_of q) (tight-ends number p) (tight-ends number q))
+            (tight-both number (is_single p) (is_single q) (start_of p) (start_of q) (end_of p) (end_of q) (tight-ends number p) (tight-ends number q))
 
         restricting-assoc : intersection_or number empty (intersection_or number empty a b) c ≡ intersection_or number empty a (intersection_or number empty b c)
         restricting-assoc =
             three a b c given given' given''
             ∙ rw (or_assoc (is_single a) (is_single b) (is_single c), greater_start-assoc (start_of a) (start_of b) (start_of c), lesser_end-assoc (end_of a) (end_of b) (end_of c))
-              (rw (or_comm (is_single a) (is_single b || is_single c), greater_start-comm (start_of a) (greater_start number (start_of b) (start_of c)), lesser_end-comm (end_of a) (lesser_end number (end_of b) (end_of c)))
-                (sym (three b c a given' given'' given)))
+            (rw (or_comm (is_single a) (is_single b || is_single c), greater_start-comm (start_of a) (greater_start number (start_of b) (start_of c)), lesser_end-comm (end_of a) (lesser_end number (end_of b) (end_of c)))
+            (sym (three b c a given' given'' given)))
             ∙ ap (λ o. unwrap_or o empty) (intersection-comm (intersection_or number empty b c) a)
 
       none-right : (a : Bounded T) → intersection_or number empty a bounded.None ≡ a
@@ -164,22 +164,22 @@ module _ {T : Type 0} (number : T → ℤ) where
       pub intersection_or-assoc : (a b c : Bounded T) → intersection_or number empty (intersection_or number empty a b) c ≡ intersection_or number empty a (intersection_or number empty b c)
       intersection_or-assoc a b c =
           elim (restricts_or_not a) [
-            inl e ↦ rw e refl
-          | inr restricts ↦
-              elim (restricts_or_not b) [
-                inl e ↦ rw e (ap (λ p. intersection_or number empty p c) (none-right a))
-              | inr restricts' ↦
-                  elim (restricts_or_not c) [
-                    inl e ↦ rw e (none-right (intersection_or number empty a b) ∙ sym (ap (intersection_or number empty a) (none-right b)))
-                  | inr restricts'' ↦ restricting-assoc a b c restricts restricts' restricts''
-                  ]
-              ]
+            | inl e ↦ rw e refl
+            | inr restricts ↦
+                elim (restricts_or_not b) [
+                  | inl e ↦ rw e (ap (λ p. intersection_or number empty p c) (none-right a))
+                  | inr restricts' ↦
+                      elim (restricts_or_not c) [
+                        | inl e ↦ rw e (none-right (intersection_or number empty a b) ∙ sym (ap (intersection_or number empty a) (none-right b)))
+                        | inr restricts'' ↦ restricting-assoc a b c restricts restricts' restricts''
+                      ]
+                ]
           ]
 
       chosen-members : (a b : Bounded T) (answer : Option (Bounded T)) (n : ℤ) →
-        IfSome answer (λ both. (n : ℤ) → IsMember number both n ↔ (IsMember number a n × IsMember number b n)) →
-        IfNone answer ((n : ℤ) → IsMember number a n → IsMember number b n → ⊥) →
-        IsMember number (unwrap_or answer empty) n ↔ (IsMember number a n × IsMember number b n)
+          IfSome answer (λ both. (n : ℤ) → IsMember number both n ↔ (IsMember number a n × IsMember number b n)) →
+          IfNone answer ((n : ℤ) → IsMember number a n → IsMember number b n → ⊥) →
+          IsMember number (unwrap_or answer empty) n ↔ (IsMember number a n × IsMember number b n)
       chosen-members a b None n some none = (λ h. absurd (let l = h.0 in let r = h.1 in omega (arith, ints)), λ h. absurd (none n h.0 h.1))
       chosen-members a b (Some both) n some none = some n
 

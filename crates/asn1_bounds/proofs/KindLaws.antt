@@ -5,7 +5,6 @@ use Rattle.asn1_bounds.specs.Kinds.{HasValue, HasLength, value_intersection, siz
 use Rattle.asn1_bounds.specs.declared.bounded.Bounded.{Bounded}
 use Rattle.asn1_bounds.proofs.IntersectionLaws.{intersection_or-comm, intersection_or-assoc, intersection_or-members}
 
-
 same-natural : (a b : ℕ) → pos a ≡ pos b → a ≡ b
 same-natural a b h = cc
 

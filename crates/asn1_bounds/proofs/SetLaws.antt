@@ -48,10 +48,12 @@ both_sizes-assoc a b c = rw (size_intersection-assoc a.bound b.bound c.bound) re
 
 pub set_intersection-assoc : (a b c : Constraints) → set_intersection (set_intersection a b) c ≡ set_intersection a (set_intersection b c)
 set_intersection-assoc a b c =
-    rw (parts_intersection-assoc both_values both_values-assoc a.value b.value c.value,
+    rw (
+      parts_intersection-assoc both_values both_values-assoc a.value b.value c.value,
       parts_intersection-assoc both_sizes both_sizes-assoc a.size b.size c.size,
       parts_intersection-assoc second_alphabet (λ a b c. refl) a.permitted_alphabet b.permitted_alphabet c.permitted_alphabet,
-      or_assoc a.extensible b.extensible c.extensible) refl
+      or_assoc a.extensible b.extensible c.extensible,
+    ) refl
 
 pub set_intersection-none : (a : Constraints) → set_intersection a no_constraints ≡ a
 set_intersection-none a =
@@ -65,25 +67,25 @@ set_of_all-append (x ∷ xs) ys =
 
 -- one more constraint of a list
 set_of_all-take : (xs : List Constraint) (i : ℕ) (d : Constraint) → i < length xs →
-  set_intersection (set_of_all (take i xs)) (set_of (get_or xs i d)) ≡ set_of_all (take (i + 1) xs)
+    set_intersection (set_of_all (take i xs)) (set_of (get_or xs i d)) ≡ set_of_all (take (i + 1) xs)
 set_of_all-take xs i d h =
     rw (take_more xs i d h)
-      (sym (set_of_all-append (take i xs) (get_or xs i d ∷ []) ∙ ap (set_intersection (set_of_all (take i xs))) (set_intersection-none (set_of (get_or xs i d)))))
+    (sym (set_of_all-append (take i xs) (get_or xs i d ∷ []) ∙ ap (set_intersection (set_of_all (take i xs))) (set_intersection-none (set_of (get_or xs i d)))))
 
 -- the step of a loop over the list
 pub set_of_all-step : (xs : List Constraint) (i : ℕ) (d : Constraint) (set one new : Constraints) → i < length xs →
-  one ≡ set_of (get_or xs i d) → new ≡ set_intersection set one → set ≡ set_of_all (take i xs) → new ≡ set_of_all (take (i + 1) xs)
+    one ≡ set_of (get_or xs i d) → new ≡ set_intersection set one → set ≡ set_of_all (take i xs) → new ≡ set_of_all (take (i + 1) xs)
 set_of_all-step xs i d set one new h p q r = rw (q, p, r) (set_of_all-take xs i d h)
 
 -- the parts of one kind of two sets
 parts-values : (a b : Option (Extensible Value)) (n : ℤ) → MatchOption (parts_intersection both_values a b) ⊤ (λ part. HasValue part.constraint.bound n)
-  ↔ (MatchOption a ⊤ (λ part. HasValue part.constraint.bound n) × MatchOption b ⊤ (λ part. HasValue part.constraint.bound n))
+    ↔ (MatchOption a ⊤ (λ part. HasValue part.constraint.bound n) × MatchOption b ⊤ (λ part. HasValue part.constraint.bound n))
 parts-values None b n = (λ h. (tt, h), λ h. h.1)
 parts-values (Some a) None n = (λ h. (h, tt), λ h. h.0)
 parts-values (Some a) (Some b) n = value_intersection-members a.constraint.bound b.constraint.bound n
 
 parts-lengths : (a b : Option (Extensible Size)) (n : ℕ) → MatchOption (parts_intersection both_sizes a b) ⊤ (λ part. HasLength part.constraint.bound n)
-  ↔ (MatchOption a ⊤ (λ part. HasLength part.constraint.bound n) × MatchOption b ⊤ (λ part. HasLength part.constraint.bound n))
+    ↔ (MatchOption a ⊤ (λ part. HasLength part.constraint.bound n) × MatchOption b ⊤ (λ part. HasLength part.constraint.bound n))
 parts-lengths None b n = (λ h. (tt, h), λ h. h.1)
 parts-lengths (Some a) None n = (λ h. (h, tt), λ h. h.0)
 parts-lengths (Some a) (Some b) n = size_intersection-members a.constraint.bound b.constraint.bound n
@@ -100,9 +102,10 @@ module _ (Admits : Constraints → Type 0) (none : Admits no_constraints) (both 
   all-admit [] = (λ _. All-nil (λ c. Admits (set_of c)), λ _. none)
   all-admit (c ∷ cs) =
       let first = both (set_of c) (set_of_all cs) in
-      let others = all-admit cs in
-      (λ h. All-cons (λ c. Admits (set_of c)) c cs (first.0 h).0 (others.0 (first.0 h).1),
-        λ h. first.1 (All-head (λ c. Admits (set_of c)) c cs h, others.1 (All-tail (λ c. Admits (set_of c)) c cs h)))
+      let others = all-admit cs in (
+        λ h. All-cons (λ c. Admits (set_of c)) c cs (first.0 h).0 (others.0 (first.0 h).1),
+        λ h. first.1 (All-head (λ c. Admits (set_of c)) c cs h, others.1 (All-tail (λ c. Admits (set_of c)) c cs h)),
+      )
 
 pub set_of_all-values : (cs : List Constraint) (n : ℤ) → AdmitsValue (set_of_all cs) n ↔ All (λ c. AdmitsValue (set_of c) n) cs
 set_of_all-values cs n = all-admit (λ set. AdmitsValue set n) tt (λ a b. set_intersection-values a b n) cs

@@ -10,6 +10,10 @@ or_zero (negsuc n) = 0
 abbrev pub numbers_between : ℤ → ℤ → ℕ
 numbers_between first last = or_zero (last -ℤ first +ℤ pos 1)
 
+-- how far the value is above the start
+abbrev pub distance : {T : Type 0} → (T → ℤ) → T → T → ℤ
+distance number start value = number value -ℤ number start
+
 -- a set of whole numbers has this many: its members can be told off, from the one at 0 to the one before the count
 pub record HasCount (Member : ℤ → Type 0) (count : ℕ) : Type 0 where
   pub nth : ℕ → ℤ

@@ -1,7 +1,8 @@
-ghost use Rattle.std.specs.Prelude.{◌≡◌, ◌↔◌, IsTrue, ◌-ℤ◌, ◌≤ℤ◌, IsSome, IfSome, IfNone, IsOk, IfErr};
+ghost use Rattle.std.specs.Prelude.{◌≡◌, ◌↔◌, IsTrue, ◌≤ℤ◌, IsSome, IfSome, IfNone, IsOk, IfErr};
 ghost use Rattle.std.specs.Option.{ForSome, option_copied};
 ghost use Rattle.either.specs.Either.{IsLeftAnd};
 ghost use Rattle.either.specs.declared.Either.TheVariants.{Right};
+ghost use Rattle.asn1_bounds.specs.Count.{distance};
 ghost use Rattle.asn1_bounds.specs.Ends.{start_of, end_of, range_start};
 ghost use Rattle.asn1_bounds.specs.Members.{Holds, CountsMembers};
 ghost use Rattle.asn1_bounds.specs.Text.{bound_text};
@@ -49,7 +50,7 @@ impl<T> Bounded<T> {
     pub fn single_value(value: T) -> Self
         ensures { result ≡ Bounded.Single value }
     {
-        Bounded::Single(value)
+        Self::Single(value)
     }
 
     /// The range from `start` to `end`, which are taken as they come: with the start above the end it has no member.
@@ -110,8 +111,7 @@ impl<T: WholeNumber> Bounded<T> {
             Bounded::None => true,
             Bounded::Single(value) => element == value,
             Bounded::Range { start, end } => {
-                start.is_none_or(|start| start <= *element)
-                    && end.is_none_or(|end| *element <= end)
+                start.is_none_or(|start| start <= *element) && end.is_none_or(|end| *element <= end)
             }
         }
     }
@@ -130,7 +130,11 @@ impl<T: WholeNumber> Bounded<T> {
 
     /// `Ok` where the number is a member of the bound, and else the error that the closure makes, which is called
     /// only then.
-    pub fn contains_or_else<E, F: FnOnce() -> E + Drop>(&self, element: &T, error: F) -> Result<(), E>
+    pub fn contains_or_else<E, F: FnOnce() -> E + Drop>(
+        &self,
+        element: &T,
+        error: F,
+    ) -> Result<(), E>
         requires { ¬ Holds T.number self.now element.now → F.pre error }
         ensures inside { IsOk result ↔ Holds T.number self.now element.now }
         ensures outside { IfErr result (F.post error) }
@@ -146,7 +150,8 @@ impl<T: WholeNumber> Bounded<T> {
     /// a bound that is open on a side.
     pub fn range(&self) -> Option<T>
         ensures closed { IsSome result ↔ (IsSome (start_of self.now) × IsSome (end_of self.now)) }
-        ensures counted { IfSome result (λ members. CountsMembers T.number T.greatest self.now (T.number members)) }
+        ensures counted { IfSome result
+            (λ members. CountsMembers T.number T.greatest self.now (T.number members)) }
     {
         let start = self.as_start()?;
         let end = self.as_end()?;
@@ -157,15 +162,19 @@ impl<T: WholeNumber> Bounded<T> {
     /// value itself (`Right`).
     pub fn effective_value(&self, value: T) -> Either<T, T>
         requires above { ForSome (range_start self.now) (λ start. T.number start ≤ℤ T.number value) }
-        requires fits { ForSome (range_start self.now) (λ start. (T.number value -ℤ T.number start) ≤ℤ T.greatest) }
-        ensures offset { IfSome (range_start self.now) (λ start. IsLeftAnd result (λ offset. T.number offset ≡ T.number value -ℤ T.number start)) }
+        requires fits { ForSome (range_start self.now)
+            (λ start. distance T.number start value ≤ℤ T.greatest) }
+        ensures offset { IfSome (range_start self.now)
+            (λ start. IsLeftAnd result (λ offset. T.number offset ≡ distance T.number start value)) }
         ensures value { IfNone (range_start self.now) (result ≡ Right value) }
     {
-        match self {
-            Bounded::Range {
-                start: Some(start), ..
-            } => Left(value.offset_from(*start)),
-            _ => Right(value),
+        let start = match self {
+            Bounded::Range { start, .. } => *start,
+            _ => None,
+        };
+        match start {
+            Some(start) => Left(value.offset_from(start)),
+            None => Right(value),
         }
     }
 }
@@ -175,11 +184,14 @@ impl<T: fmt::Display> fmt::Display for Bounded<T> {
 
     fn fmt<W: fmt::Write>(&self, f: &mut fmt::Formatter<W>) -> fmt::Result {
         match self {
+            Bounded::None => write!(f, ".."),
             Bounded::Single(value) => write!(f, "{value}"),
-            Bounded::Range { start: Some(start), end: Some(end) } => write!(f, "{start}..{end}"),
-            Bounded::Range { start: Some(start), end: None } => write!(f, "{start}.."),
-            Bounded::Range { start: None, end: Some(end) } => write!(f, "..{end}"),
-            Bounded::None | Bounded::Range { start: None, end: None } => write!(f, ".."),
+            Bounded::Range { start, end } => match (start, end) {
+                (Some(start), Some(end)) => write!(f, "{start}..{end}"),
+                (Some(start), None) => write!(f, "{start}.."),
+                (None, Some(end)) => write!(f, "..{end}"),
+                (None, None) => write!(f, ".."),
+            },
         }
     }
 }

@@ -109,7 +109,7 @@ impl<'a> From<Extensible<'a, Value>> for Constraint<'a> {
     ghost from_gives = { λ part result. result ≡ constraint.Value part };
 
     fn from(part: Extensible<'a, Value>) -> Self {
-        Constraint::Value(part)
+        Self::Value(part)
     }
 }
 
@@ -125,7 +125,7 @@ impl<'a> From<Extensible<'a, Size>> for Constraint<'a> {
     ghost from_gives = { λ part result. result ≡ constraint.Size part };
 
     fn from(part: Extensible<'a, Size>) -> Self {
-        Constraint::Size(part)
+        Self::Size(part)
     }
 }
 
@@ -141,7 +141,7 @@ impl<'a> From<Extensible<'a, PermittedAlphabet<'a>>> for Constraint<'a> {
     ghost from_gives = { λ part result. result ≡ constraint.PermittedAlphabet part };
 
     fn from(part: Extensible<'a, PermittedAlphabet<'a>>) -> Self {
-        Constraint::PermittedAlphabet(part)
+        Self::PermittedAlphabet(part)
     }
 }
 

@@ -38,8 +38,10 @@ impl<'a> Constraints<'a> {
         ensures parts { result ≡ set_of_all constraints.now }
 
         // The root admits what the root of every constraint admits.
-        ensures values { (n : ℤ) → AdmitsValue result n ↔ All (λ c. AdmitsValue (set_of c) n) constraints.now }
-        ensures lengths { (n : ℕ) → AdmitsLength result n ↔ All (λ c. AdmitsLength (set_of c) n) constraints.now }
+        ensures values { (n : ℤ) → AdmitsValue result n ↔
+            All (λ c. AdmitsValue (set_of c) n) constraints.now }
+        ensures lengths { (n : ℕ) → AdmitsLength result n ↔
+            All (λ c. AdmitsLength (set_of c) n) constraints.now }
     {
         let mut set = Self::NONE;
         for constraint in constraints {
@@ -75,11 +77,14 @@ impl<'a> Constraints<'a> {
     /// What both sets leave.
     pub fn intersect(&self, other: Self) -> Self
         ensures parts { result ≡ set_intersection self.now other.entry }
-        ensures values { (n : ℤ) → AdmitsValue result n ↔ (AdmitsValue self.now n × AdmitsValue other.entry n) }
-        ensures lengths { (n : ℕ) → AdmitsLength result n ↔ (AdmitsLength self.now n × AdmitsLength other.entry n) }
+        ensures values { (n : ℤ) → AdmitsValue result n ↔
+            (AdmitsValue self.now n × AdmitsValue other.entry n) }
+        ensures lengths { (n : ℕ) → AdmitsLength result n ↔
+            (AdmitsLength self.now n × AdmitsLength other.entry n) }
 
         // The sets of two lists of constraints come to the set of the one list followed by the other.
-        ensures composes { (a b : List Constraint) → self.now ≡ set_of_all a → other.entry ≡ set_of_all b → result ≡ set_of_all (a ++ b) }
+        ensures composes { (a b : List Constraint) → self.now ≡ set_of_all a →
+            other.entry ≡ set_of_all b → result ≡ set_of_all (a ++ b) }
     {
         Constraints {
             value: intersect_parts(self.value, other.value),
@@ -115,7 +120,9 @@ impl<'a> Constraints<'a> {
         ensures { result ≡ is_extensible self.now }
     {
         self.per_visibly_extensible()
-            || self.permitted_alphabet.is_some_and(|part| part.extensible.is_some())
+            || self
+                .permitted_alphabet
+                .is_some_and(|part| part.extensible.is_some())
     }
 
     /// Whether the set is extensible but for its permitted alphabet, whose extensibility the packed encoding rules
@@ -130,7 +137,10 @@ impl<'a> Constraints<'a> {
 }
 
 // What two parts of one kind leave, either of which may be missing.
-fn intersect_parts<'a, T: Intersect>(a: Option<Extensible<'a, T>>, b: Option<Extensible<'a, T>>) -> Option<Extensible<'a, T>>
+fn intersect_parts<'a, T: Intersect>(
+    a: Option<Extensible<'a, T>>,
+    b: Option<Extensible<'a, T>>,
+) -> Option<Extensible<'a, T>>
     ensures { result ≡ parts_intersection T.intersection a.entry b.entry }
 {
     match (a, b) {

@@ -2,7 +2,7 @@ ghost use Rattle.std.specs.Prelude.{◌≡◌, IfSome, IfNone};
 ghost use Rattle.std.specs.Option.{option_copied};
 ghost use Rattle.asn1_bounds.specs.Ends.{is_single};
 ghost use Rattle.asn1_bounds.specs.Intersection.{greater_start, lesser_end, bound_between, common, intersection};
-ghost use Rattle.asn1_bounds.specs.Members.{HasMember, HasCommonMembers, AreDisjoint, IsOrdered};
+ghost use Rattle.asn1_bounds.specs.Members.{Holds, HasMember, HasCommonMembers, AreDisjoint, IsOrdered};
 
 use crate::bounded::Bounded;
 use crate::number::WholeNumber;
@@ -18,7 +18,12 @@ impl<T: WholeNumber> Bounded<T> {
         ensures disjoint { IfNone result (AreDisjoint T.number self.now other.now) }
 
         // Where neither side is inverted, `None` comes only if nothing is in common.
-        ensures inhabited { IsOrdered T.number self.now → IsOrdered T.number other.now → IfSome result (HasMember T.number) }
+        ensures inhabited { IsOrdered T.number self.now → IsOrdered T.number other.now →
+            IfSome result (HasMember T.number) }
+
+        // A single with anything that holds it is that single.
+        ensures single { (v : _) → self.now ≡ Bounded.Single v → Holds T.number other.now v →
+            result ≡ Some self.now }
     {
         match (self, other) {
             (Bounded::None, _) => Some(*other),
@@ -58,7 +63,11 @@ fn lesser_end<T: WholeNumber>(a: Option<&T>, b: Option<&T>) -> Option<T>
 }
 
 // The bound between two ends, a single or a range, or `None` where the start is above the end.
-fn bound_between<T: WholeNumber>(single: bool, start: Option<T>, end: Option<T>) -> Option<Bounded<T>>
+fn bound_between<T: WholeNumber>(
+    single: bool,
+    start: Option<T>,
+    end: Option<T>,
+) -> Option<Bounded<T>>
     ensures { result ≡ bound_between T.number single start end }
 {
     if let (Some(start), Some(end)) = (start, end) {

@@ -1,15 +1,17 @@
-ghost use Rattle.std.specs.Prelude.{◌≡◌, ℤ, pos, ◌-ℤ◌, ◌≤ℤ◌, ◌^◌, ◌-◌};
+ghost use Rattle.std.specs.Prelude.{◌≡◌, ℤ, pos, ◌≤ℤ◌, ◌^◌, ◌-◌};
 ghost use Rattle.std.specs.Int.{int_min};
 ghost use Rattle.std.specs.Ordering.{int_cmp};
 ghost use Rattle.std.proofs.Common.{rules, refl};
-ghost use Rattle.asn1_bounds.specs.Count.{numbers_between};
+ghost use Rattle.asn1_bounds.specs.Count.{numbers_between, distance};
 
 /// A type of whole numbers, as each built-in integer is: what a bound needs of the type of its ends.
 ///
 /// In contracts `number` is the whole number that a value is, and `greatest` the greatest one of the type.
 pub trait WholeNumber: Copy + Ord {
+    // The whole number that a value is.
     ghost number: { Self → ℤ };
 
+    // The greatest number of the type.
     ghost greatest: { ℤ };
 
     /// How many whole numbers there are from this one to `last`: none where `last` is below this one, and the
@@ -20,11 +22,13 @@ pub trait WholeNumber: Copy + Ord {
     /// How far this number is above `start`.
     fn offset_from(self, start: Self) -> Self
         requires above { number start ≤ℤ number self }
-        requires fits { (number self -ℤ number start) ≤ℤ greatest }
-        ensures { number result ≡ number self -ℤ number start };
+        requires fits { distance number start self ≤ℤ greatest }
+        ensures { number result ≡ distance number start self };
 
+    // Values go in the order of their numbers.
     ghost ordered: { (a b : Self) → Self.cmp a b ≡ int_cmp (number a) (number b) };
 
+    // No two values are the same number.
     ghost distinct: { (a b : Self) → number a ≡ number b → a ≡ b };
 }
 
@@ -38,7 +42,8 @@ impl WholeNumber for u8 {
     ghost distinct = { Prim.search rules };
 
     fn count_to(self, last: u8) -> u8 {
-        last.checked_sub(self).map_or(0, |distance| distance.saturating_add(1))
+        last.checked_sub(self)
+            .map_or(0, |distance| distance.saturating_add(1))
     }
 
     fn offset_from(self, start: u8) -> u8 {
@@ -56,7 +61,8 @@ impl WholeNumber for u16 {
     ghost distinct = { Prim.search rules };
 
     fn count_to(self, last: u16) -> u16 {
-        last.checked_sub(self).map_or(0, |distance| distance.saturating_add(1))
+        last.checked_sub(self)
+            .map_or(0, |distance| distance.saturating_add(1))
     }
 
     fn offset_from(self, start: u16) -> u16 {
@@ -74,7 +80,8 @@ impl WholeNumber for u32 {
     ghost distinct = { Prim.search rules };
 
     fn count_to(self, last: u32) -> u32 {
-        last.checked_sub(self).map_or(0, |distance| distance.saturating_add(1))
+        last.checked_sub(self)
+            .map_or(0, |distance| distance.saturating_add(1))
     }
 
     fn offset_from(self, start: u32) -> u32 {
@@ -92,7 +99,8 @@ impl WholeNumber for u64 {
     ghost distinct = { Prim.search rules };
 
     fn count_to(self, last: u64) -> u64 {
-        last.checked_sub(self).map_or(0, |distance| distance.saturating_add(1))
+        last.checked_sub(self)
+            .map_or(0, |distance| distance.saturating_add(1))
     }
 
     fn offset_from(self, start: u64) -> u64 {
@@ -110,7 +118,8 @@ impl WholeNumber for u128 {
     ghost distinct = { Prim.search rules };
 
     fn count_to(self, last: u128) -> u128 {
-        last.checked_sub(self).map_or(0, |distance| distance.saturating_add(1))
+        last.checked_sub(self)
+            .map_or(0, |distance| distance.saturating_add(1))
     }
 
     fn offset_from(self, start: u128) -> u128 {
@@ -128,7 +137,8 @@ impl WholeNumber for usize {
     ghost distinct = { Prim.search rules };
 
     fn count_to(self, last: usize) -> usize {
-        last.checked_sub(self).map_or(0, |distance| distance.saturating_add(1))
+        last.checked_sub(self)
+            .map_or(0, |distance| distance.saturating_add(1))
     }
 
     fn offset_from(self, start: usize) -> usize {
@@ -149,7 +159,8 @@ impl WholeNumber for i8 {
         if last < self {
             return 0;
         }
-        last.checked_sub(self).map_or(i8::MAX, |distance| distance.saturating_add(1))
+        last.checked_sub(self)
+            .map_or(i8::MAX, |distance| distance.saturating_add(1))
     }
 
     fn offset_from(self, start: i8) -> i8 {
@@ -170,7 +181,8 @@ impl WholeNumber for i16 {
         if last < self {
             return 0;
         }
-        last.checked_sub(self).map_or(i16::MAX, |distance| distance.saturating_add(1))
+        last.checked_sub(self)
+            .map_or(i16::MAX, |distance| distance.saturating_add(1))
     }
 
     fn offset_from(self, start: i16) -> i16 {
@@ -191,7 +203,8 @@ impl WholeNumber for i32 {
         if last < self {
             return 0;
         }
-        last.checked_sub(self).map_or(i32::MAX, |distance| distance.saturating_add(1))
+        last.checked_sub(self)
+            .map_or(i32::MAX, |distance| distance.saturating_add(1))
     }
 
     fn offset_from(self, start: i32) -> i32 {
@@ -212,7 +225,8 @@ impl WholeNumber for i64 {
         if last < self {
             return 0;
         }
-        last.checked_sub(self).map_or(i64::MAX, |distance| distance.saturating_add(1))
+        last.checked_sub(self)
+            .map_or(i64::MAX, |distance| distance.saturating_add(1))
     }
 
     fn offset_from(self, start: i64) -> i64 {
@@ -233,7 +247,8 @@ impl WholeNumber for i128 {
         if last < self {
             return 0;
         }
-        last.checked_sub(self).map_or(i128::MAX, |distance| distance.saturating_add(1))
+        last.checked_sub(self)
+            .map_or(i128::MAX, |distance| distance.saturating_add(1))
     }
 
     fn offset_from(self, start: i128) -> i128 {
@@ -254,7 +269,8 @@ impl WholeNumber for isize {
         if last < self {
             return 0;
         }
-        last.checked_sub(self).map_or(isize::MAX, |distance| distance.saturating_add(1))
+        last.checked_sub(self)
+            .map_or(isize::MAX, |distance| distance.saturating_add(1))
     }
 
     fn offset_from(self, start: isize) -> isize {

@@ -24,12 +24,11 @@ impl Bounded<i128> {
 
 // The first of some numbers of octets that holds both numbers.
 fn first_width(widths: &[u8], signed: bool, start: i128, end: i128) -> Option<u8>
-    ensures { result ≡ find (λ octets. fits_octets signed octets start && fits_octets signed octets end) widths.now }
+    ensures { result ≡ find
+        (λ octets. fits_octets signed octets start && fits_octets signed octets end) widths.now }
 {
-    widths
-        .iter()
-        .copied()
-        .find(|octets| fits_octets(signed, *octets, start) && fits_octets(signed, *octets, end))
+    widths.iter().copied().find(|octets| fits_octets(signed, *octets, start)
+        && fits_octets(signed, *octets, end))
 }
 
 // Whether so many octets hold the number, in two's complement where there is a sign.

@@ -62,13 +62,19 @@ impl Size {
     /// which has no members.
     pub fn intersect(&self, other: &Self) -> Self
         ensures shape { result.bound ≡ size_intersection self.now.bound other.now.bound }
-        ensures members { (n : ℕ) → HasLength result.bound n ↔ (HasLength self.now.bound n × HasLength other.now.bound n) }
+        ensures members { (n : ℕ) → HasLength result.bound n ↔
+            (HasLength self.now.bound n × HasLength other.now.bound n) }
         ensures commutative { result.bound ≡ size_intersection other.now.bound self.now.bound }
-        ensures associative { (third : _) → size_intersection result.bound third ≡ size_intersection self.now.bound (size_intersection other.now.bound third) }
+        ensures associative { (third : _) → size_intersection result.bound third ≡
+            size_intersection self.now.bound (size_intersection other.now.bound third) }
         ensures left_identity { self.now.bound ≡ Bounded.None → result ≡ other.now }
         ensures right_identity { other.now.bound ≡ Bounded.None → result ≡ self.now }
     {
-        Size::new(self.bound.intersect(&other.bound).unwrap_or(Bounded::const_new(1, 0)))
+        Size::new(
+            self.bound
+                .intersect(&other.bound)
+                .unwrap_or(Bounded::const_new(1, 0)),
+        )
     }
 }
 

@@ -49,13 +49,19 @@ impl Value {
     /// which has no members.
     pub fn intersect(&self, other: &Self) -> Self
         ensures shape { result.bound ≡ value_intersection self.now.bound other.now.bound }
-        ensures members { (n : ℤ) → HasValue result.bound n ↔ (HasValue self.now.bound n × HasValue other.now.bound n) }
+        ensures members { (n : ℤ) → HasValue result.bound n ↔
+            (HasValue self.now.bound n × HasValue other.now.bound n) }
         ensures commutative { result.bound ≡ value_intersection other.now.bound self.now.bound }
-        ensures associative { (third : _) → value_intersection result.bound third ≡ value_intersection self.now.bound (value_intersection other.now.bound third) }
+        ensures associative { (third : _) → value_intersection result.bound third ≡
+            value_intersection self.now.bound (value_intersection other.now.bound third) }
         ensures left_identity { self.now.bound ≡ Bounded.None → result ≡ other.now }
         ensures right_identity { other.now.bound ≡ Bounded.None → result ≡ self.now }
     {
-        Value::new(self.bound.intersect(&other.bound).unwrap_or(Bounded::const_new(1, -1)))
+        Value::new(
+            self.bound
+                .intersect(&other.bound)
+                .unwrap_or(Bounded::const_new(1, -1)),
+        )
     }
 }
 
@@ -84,7 +90,8 @@ impl TryFrom<Bounded<usize>> for Value {
     ghost use Rattle.std.specs.Result.{OkIff};
     ghost use Rattle.asn1_bounds.specs.Kinds.{numbers, HasNarrowEnds};
 
-    ghost try_from_gives = { λ bound result. OkIff result (HasNarrowEnds bound) (record { bound = numbers pos bound }) };
+    ghost try_from_gives = { λ bound result.
+        OkIff result (HasNarrowEnds bound) (record { bound = numbers pos bound }) };
 
     fn try_from(bound: Bounded<usize>) -> Result<Self, TooWide> {
         Ok(Value::new(match bound {
@@ -139,7 +146,10 @@ mod tests {
 
     fn keeps_ends<T: FitsI128 + Debug>(rt: &impl Abort, least: T, greatest: T) {
         let value = Value::from(Bounded::const_new(least, greatest));
-        assert_eq!(rt; value.bound, Bounded::const_new(least.to_i128(), greatest.to_i128()));
+        assert_eq!(rt;
+            value.bound,
+            Bounded::const_new(least.to_i128(), greatest.to_i128())
+        );
     }
 
     #[test]

@@ -16,7 +16,11 @@ fn range(start: i128, end: i128) -> Bounded<i128> {
 fn intersects_ranges(rt: HostRuntime) {
     let cases = [
         (range(1, 10), range(5, 15), Some(range(5, 10))),
-        (Bounded::start_from(1), Bounded::up_to(10), Some(range(1, 10))),
+        (
+            Bounded::start_from(1),
+            Bounded::up_to(10),
+            Some(range(1, 10)),
+        ),
         (Bounded::None, range(5, 3), Some(range(5, 3))),
         (OPEN, Bounded::single_value(5), Some(Bounded::Single(5))),
         (range(1, 5), range(6, 10), None),
@@ -24,7 +28,11 @@ fn intersects_ranges(rt: HostRuntime) {
         (range(5, 3), Bounded::Single(4), None),
         (Bounded::Single(4), Bounded::Single(5), None),
         (Bounded::Single(11), range(1, 10), None),
-        (range(i128::MIN, i128::MAX), OPEN, Some(range(i128::MIN, i128::MAX))),
+        (
+            range(i128::MIN, i128::MAX),
+            OPEN,
+            Some(range(i128::MIN, i128::MAX)),
+        ),
     ];
     for (left, right, both) in cases {
         assert_eq!(rt; left.intersect(&right), both);
@@ -96,7 +104,10 @@ fn counts<T: WholeNumber + Debug>(rt: &impl Abort, least: T, greatest: T) {
     let all = Bounded::const_new(least, greatest);
     assert_eq!(rt; all.range(), Some(greatest));
     assert!(rt; all.contains(&least) && all.contains(&greatest));
-    assert_eq!(rt; all.intersect(&Bounded::Single(least)), Some(Bounded::Single(least)));
+    assert_eq!(rt;
+        all.intersect(&Bounded::Single(least)),
+        Some(Bounded::Single(least))
+    );
     assert_eq!(rt; Bounded::start_from(least).range(), None);
 }
 
@@ -135,8 +146,14 @@ fn gives_effective_values(rt: HostRuntime) {
     assert_eq!(rt; Bounded::up_to(10i128).effective_value(7), Right(7));
     assert_eq!(rt; Bounded::Single(5i128).effective_value(5), Right(5));
     assert_eq!(rt; Bounded::None.effective_value(i128::MIN), Right(i128::MIN));
-    assert_eq!(rt; Bounded::start_from(i128::MIN).effective_value(-1), Left(i128::MAX));
-    assert_eq!(rt; Bounded::start_from(1usize).effective_value(usize::MAX), Left(usize::MAX - 1));
+    assert_eq!(rt;
+        Bounded::start_from(i128::MIN).effective_value(-1),
+        Left(i128::MAX)
+    );
+    assert_eq!(rt;
+        Bounded::start_from(1usize).effective_value(usize::MAX),
+        Left(usize::MAX - 1)
+    );
 }
 
 #[test]
@@ -167,7 +184,12 @@ fn gives_octets_of_the_integer_types(rt: HostRuntime) {
         (-128, 127, Some(1), Some(2)),
         (-32_768, 32_767, Some(2), Some(4)),
         (-2_147_483_648, 2_147_483_647, Some(4), Some(8)),
-        (-9_223_372_036_854_775_808, 9_223_372_036_854_775_807, Some(8), None),
+        (
+            -9_223_372_036_854_775_808,
+            9_223_372_036_854_775_807,
+            Some(8),
+            None,
+        ),
     ];
     for (least, greatest, octets, more) in signed {
         assert_eq!(rt; range(least, greatest).range_in_bytes(), (true, octets));

@@ -64,10 +64,26 @@ fn keeps_extensibility_of_both(rt: HostRuntime) {
 fn tells_kinds(rt: HostRuntime) {
     let alphabet = PermittedAlphabet::default();
     let cases = [
-        (Constraint::from(value(1, 2)), ConstraintDiscriminant::Value, 0),
-        (Constraint::from(Size::default()), ConstraintDiscriminant::Size, 1),
-        (Constraint::from(alphabet), ConstraintDiscriminant::PermittedAlphabet, 2),
-        (Constraint::Extensible, ConstraintDiscriminant::Extensible, 3),
+        (
+            Constraint::from(value(1, 2)),
+            ConstraintDiscriminant::Value,
+            0,
+        ),
+        (
+            Constraint::from(Size::default()),
+            ConstraintDiscriminant::Size,
+            1,
+        ),
+        (
+            Constraint::from(alphabet),
+            ConstraintDiscriminant::PermittedAlphabet,
+            2,
+        ),
+        (
+            Constraint::Extensible,
+            ConstraintDiscriminant::Extensible,
+            3,
+        ),
     ];
     for (constraint, kind, index) in cases {
         assert!(rt; constraint.kind().eq(&kind));
