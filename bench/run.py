@@ -1,0 +1,47 @@
+#!/usr/bin/env python3
+"""Times asn1_check on inputs of 1, 10 and 100 MB, and measures its peak memory.
+
+    python3 bench/run.py
+
+proves and builds the program first. It prints a line for each kind of input and size: the rate in MB (10^6 bytes) a second,
+the best of three runs, and the peak memory of the process in MB.
+"""
+import os
+import subprocess
+import tempfile
+import time
+
+ROOT = os.path.dirname(os.path.dirname(os.path.abspath(__file__)))
+CRATE = os.path.join(ROOT, "crates", "asn1_check")
+PROGRAM = os.path.join(CRATE, "out", "asn1_check")
+
+KINDS = {
+    "trees of 8 leaves": b"tree t (U0 U3 (A0 A1) (C0 C2) P0 P1)\n",
+    "lines that are not understood": b"tree t (U0 U3 (A0 A1) (C0 C2) P0 P1]\n",
+}
+
+
+def run(path):
+    """Runs the program on a file, and gives its seconds and its peak memory in MB."""
+    with open(path, "rb") as source, open(os.devnull, "wb") as sink:
+        began = time.monotonic()
+        child = subprocess.Popen([PROGRAM], stdin=source, stdout=sink)
+        _, _, used = os.wait4(child.pid, 0)
+        return time.monotonic() - began, used.ru_maxrss / 1024
+
+
+def main():
+    subprocess.run(["rt", "run"], cwd=CRATE, stdin=subprocess.DEVNULL, check=True)
+    print(f"cores: {os.cpu_count()}")
+    for kind, line in KINDS.items():
+        for megabytes in (1, 10, 100):
+            with tempfile.NamedTemporaryFile() as source:
+                source.write(line * (megabytes * 10**6 // len(line)))
+                source.flush()
+                runs = [run(source.name) for _ in range(3)]
+            seconds = min(seconds for seconds, _ in runs)
+            memory = max(memory for _, memory in runs)
+            print(f"{kind}, {megabytes} MB: {megabytes / seconds:.0f} MB/s, peak memory {memory:.1f} MB")
+
+
+main()

@@ -1,0 +1,86 @@
+-- How the bytes of an input are gone through, one after another.
+use Rattle.std.proofs.Common.{◌≡◌, ℕ, ◌+◌, ◌<◌, Option, List, [], ◌∷◌, ◌++◌, length, get_or, take, drop, refl, sym, ap, subst, ◌∙◌, append_assoc}
+use Rattle.std.specs.Io.KnownBytes.{Appends, Consumes, Keeps, IsAtEnd}
+use Rattle.std.proofs.KnownBytes.{Appends-nil, Appends-trans, Consumes-nil, Consumes-trans, Consumes-kept}
+use Rattle.std.proofs.lemmas.List.{take_more, append-nil, take-append-drop}
+use Rattle.asn1_check.specs.Report.{text_of}
+use Rattle.asn1_check.specs.Reading.{State, behind, behind_byte, behind_line, text_at, text_at_byte, Went, Ended, Broke}
+
+-- the bytes of two lists, one after the other
+behind-append : (s : State) (xs ys : List ℕ) → behind s (xs ++ ys) ≡ behind (behind s xs) ys
+behind-append s [] ys = refl
+behind-append s (x ∷ xs) ys = behind-append (behind_byte s x) xs ys
+
+text_at-append : (s : State) (xs ys : List ℕ) → text_at s (xs ++ ys) ≡ text_at s xs ++ text_at (behind s xs) ys
+text_at-append s [] ys = refl
+text_at-append s (x ∷ xs) ys =
+    ap (λ text. text_at_byte s x ++ text) (text_at-append (behind_byte s x) xs ys)
+    ∙ sym (append_assoc (text_at_byte s x) (text_at (behind_byte s x) xs) (text_at (behind (behind_byte s x) xs) ys))
+
+-- one byte more
+pub behind-take_more : (s : State) (bytes : List ℕ) (i : ℕ) → i < length bytes →
+    behind s (take (i + 1) bytes) ≡ behind_byte (behind s (take i bytes)) (get_or bytes i 0)
+behind-take_more s bytes i lt = ap (behind s) (take_more bytes i 0 lt) ∙ behind-append s (take i bytes) (get_or bytes i 0 ∷ [])
+
+pub text_at-take_more : (s : State) (bytes : List ℕ) (i : ℕ) → i < length bytes →
+    text_at s (take (i + 1) bytes) ≡ text_at s (take i bytes) ++ text_at_byte (behind s (take i bytes)) (get_or bytes i 0)
+text_at-take_more s bytes i lt =
+    ap (text_at s) (take_more bytes i 0 lt)
+    ∙ (text_at-append s (take i bytes) (get_or bytes i 0 ∷ [])
+    ∙ ap (λ text. text_at s (take i bytes) ++ text) (append-nil (text_at_byte (behind s (take i bytes)) (get_or bytes i 0))))
+
+-- no byte was taken yet
+pub went_nothing : (r w : Option (List ℕ)) (s : State) → Went r r w w s s
+went_nothing r w s = record { given = []; took = Consumes-nil r; wrote = Appends-nil w; stands = refl }
+
+-- some more bytes were taken
+pub went_on : (r mid_r new_r w mid_w new_w : Option (List ℕ)) (s mid_s new_s : State) (bytes : List ℕ) →
+    Went r mid_r w mid_w s mid_s → Consumes mid_r new_r bytes → Appends mid_w new_w (text_at mid_s bytes) → new_s ≡ behind mid_s bytes →
+    Went r new_r w new_w s new_s
+went_on r mid_r new_r w mid_w new_w s mid_s new_s bytes before took wrote stands = record {
+  given = before.given ++ bytes;
+  took = Consumes-trans r mid_r new_r before.given bytes before.took took;
+  wrote =
+      subst (Appends w new_w) (sym (text_at-append s before.given bytes))
+      (Appends-trans w mid_w new_w (text_at s before.given) (text_at (behind s before.given) bytes) before.wrote
+      (subst (λ at. Appends mid_w new_w (text_at at bytes)) before.stands wrote));
+  stands = stands ∙ (ap (λ at. behind at bytes) before.stands ∙ sym (behind-append s before.given bytes));
+}
+
+-- a read gave nothing
+pub went_kept : (r mid_r new_r w new_w : Option (List ℕ)) (s new_s : State) → Went r mid_r w new_w s new_s → Keeps mid_r new_r → Went r new_r w new_w s new_s
+went_kept r mid_r new_r w new_w s new_s before kept = record {
+  given = before.given;
+  took = Consumes-kept r mid_r new_r before.given before.took kept;
+  wrote = before.wrote;
+  stands = before.stands;
+}
+
+-- the reader is at its end, and the last line's text was written
+pub went_to_end : (r mid_r new_r w mid_w new_w : Option (List ℕ)) (s mid_s new_s : State) →
+    Went r mid_r w mid_w s mid_s → Consumes mid_r new_r [] → IsAtEnd new_r → Appends mid_w new_w (text_of mid_s.place mid_s.line) → new_s ≡ behind_line mid_s →
+    Ended r new_r w new_w s new_s.understood
+went_to_end r mid_r new_r w mid_w new_w s mid_s new_s before took no_more wrote stands = record {
+  given = before.given;
+  took = subst (Consumes r new_r) (append-nil before.given) (Consumes-trans r mid_r new_r before.given [] before.took took);
+  no_more = no_more;
+  wrote =
+      Appends-trans w mid_w new_w (text_at s before.given) (text_of (behind s before.given).place (behind s before.given).line) before.wrote
+      (subst (λ at. Appends mid_w new_w (text_of at.place at.line)) before.stands wrote);
+  answer = ap (λ at. at.understood) stands ∙ ap (λ at. (behind_line at).understood) before.stands;
+}
+
+-- memory was wanted among the bytes that a read gave
+pub went_to_want : (r mid_r new_r w mid_w new_w : Option (List ℕ)) (s mid_s : State) (bytes : List ℕ) (k : ℕ) →
+    Went r mid_r w mid_w s mid_s → Consumes mid_r new_r bytes → Appends mid_w new_w (text_at mid_s (take k bytes)) → Broke r new_r w new_w s
+went_to_want r mid_r new_r w mid_w new_w s mid_s bytes k before took wrote = record {
+  given = before.given ++ take k bytes;
+  more = drop k bytes;
+  took =
+      subst (Consumes r new_r) (ap (λ all. before.given ++ all) (sym (take-append-drop k bytes)) ∙ sym (append_assoc before.given (take k bytes) (drop k bytes)))
+      (Consumes-trans r mid_r new_r before.given bytes before.took took);
+  wrote =
+      subst (Appends w new_w) (sym (text_at-append s before.given (take k bytes)))
+      (Appends-trans w mid_w new_w (text_at s before.given) (text_at (behind s before.given) (take k bytes)) before.wrote
+      (subst (λ at. Appends mid_w new_w (text_at at (take k bytes))) before.stands wrote));
+}

@@ -1,0 +1,217 @@
+-- What is gone through byte by byte is the report of the lines.
+use Rattle.std.proofs.Common.{◌≡◌, ℕ, Bool, true, false, cond, ◌&&◌, ◌==◌, Option, Some, None, option_and_then, List, [], ◌∷◌, ◌++◌, length, refl, sym, ap, subst, ◌∙◌, append_assoc, arith, length-append}
+use Rattle.std.specs.Prelude.{nat_le, IfSome}
+use Rattle.std.specs.Io.KnownBytes.{Appends, Consumes, Keeps}
+use Rattle.std.proofs.KnownBytes.{Appends-kept, Consumes-whole}
+use Rattle.std.specs.List.{onto_first, list_all}
+use Rattle.std.proofs.lemmas.List.{append-nil}
+use Rattle.std.proofs.lemmas.Bool.{eqb-true}
+use Rattle.std.proofs.lemmas.Bool.Decides.{nat_tests}
+use Rattle.asn1_check.specs.Lines.{pieces, but_last, last, whole_lines, unended, last_line, kept}
+use Rattle.asn1_check.specs.Report.{Place, first_place, next_place, text_of, is_understood, text_from, text_for, report, all_understood}
+use Rattle.asn1_check.specs.Reading.{State, start, with_byte, behind_line, behind_byte, behind, text_at, Went, Ended, Broke}
+use Rattle.asn1_check.proofs.PartsLemmas.{before_first, before_first-onto_first, no_bytes_before}
+
+-- the place behind several lines
+abbrev place_behind : Place → List (List ℕ) → Place
+place_behind place [] = place
+place_behind place (line ∷ lines) = place_behind (next_place place) lines
+
+-- whether each of the lines is understood
+abbrev understands : List (List ℕ) → Bool
+understands lines = list_all (λ line. is_understood (kept line)) lines
+
+-- the state in a line whose bytes so far are these
+abbrev in_line : List ℕ → Place → Bool → State
+in_line bytes place understood = record { line = kept bytes; place = place; understood = understood }
+
+-- the pieces of the bytes that follow these, of which the first goes on the line
+abbrev pieces_on : List ℕ → List ℕ → List (List ℕ)
+pieces_on line bytes = before_first line (pieces bytes)
+
+kept_more : (line : List ℕ) (byte : ℕ) → with_byte (kept line) byte ≡ kept (line ++ byte ∷ [])
+kept_more line byte = by_test (nat_le (length line) 4096) refl
+  where
+    by_test : (b : Bool) → nat_le (length line) 4096 ≡ b →
+        option_and_then (λ bytes. kept (bytes ++ byte ∷ [])) (cond b (Some line) None) ≡ kept (line ++ byte ∷ [])
+    by_test true is = refl
+    by_test false is =
+        let longer = length-append line (byte ∷ []) in
+        let too_long : nat_le (length (line ++ byte ∷ [])) 4096 ≡ false = grind (arith, nat_tests) in
+        sym (ap (λ b. cond b (Some (line ++ byte ∷ [])) None) too_long)
+
+and_assoc : (a b c : Bool) → ((a && b) && c) ≡ (a && (b && c))
+and_assoc true b c = refl
+and_assoc false b c = refl
+
+and_true : (b : Bool) → (b && true) ≡ b
+and_true true = refl
+and_true false = refl
+
+-- the pieces of what follows begin with a new line
+pieces_anew : (bytes : List ℕ) → before_first [] (pieces bytes) ≡ pieces bytes
+pieces_anew [] = refl
+pieces_anew (byte ∷ bytes) = by_test (byte == 10)
+  where
+    by_test : (b : Bool) → before_first [] (cond b ([] ∷ pieces bytes) (onto_first byte (pieces bytes))) ≡ cond b ([] ∷ pieces bytes) (onto_first byte (pieces bytes))
+    by_test true = refl
+    by_test false = no_bytes_before (pieces bytes) byte
+
+but_last-cons : (piece more : List ℕ) (ps : List (List ℕ)) → but_last (piece ∷ before_first more ps) ≡ piece ∷ but_last (before_first more ps)
+but_last-cons piece more [] = refl
+but_last-cons piece more (p ∷ ps) = refl
+
+last-cons : (piece more : List ℕ) (ps : List (List ℕ)) → last (piece ∷ before_first more ps) ≡ last (before_first more ps)
+last-cons piece more [] = refl
+last-cons piece more (p ∷ ps) = refl
+
+-- a line feed ends the line, and begins the next
+lines_at_feed : (line bytes : List ℕ) → pieces_on line (10 ∷ bytes) ≡ line ∷ pieces_on [] bytes
+lines_at_feed line bytes = ap (λ front. front ∷ pieces bytes) (append-nil line) ∙ ap (λ ps. line ∷ ps) (sym (pieces_anew bytes))
+
+-- any other byte goes on the line
+lines_at_byte : (line : List ℕ) (byte : ℕ) (bytes : List ℕ) → (byte == 10) ≡ false → pieces_on line (byte ∷ bytes) ≡ pieces_on (line ++ byte ∷ []) bytes
+lines_at_byte line byte bytes other =
+    ap (λ b. before_first line (cond b ([] ∷ pieces bytes) (onto_first byte (pieces bytes)))) other
+    ∙ before_first-onto_first line byte (pieces bytes)
+
+state_at_byte : (line : List ℕ) (place : Place) (understood : Bool) (byte : ℕ) → (byte == 10) ≡ false →
+    behind_byte (in_line line place understood) byte ≡ in_line (line ++ byte ∷ []) place understood
+state_at_byte line place understood byte other =
+    ap (λ b. cond b (behind_line (in_line line place understood)) (record { line = with_byte (kept line) byte; place = place; understood = understood })) other
+    ∙ ap (λ held. record { line = held; place = place; understood = understood }) (kept_more line byte)
+
+-- from a line that is begun on, what is written is the text for the lines that are ended
+text_at_is : (bytes line : List ℕ) (place : Place) (understood : Bool) →
+    text_at (in_line line place understood) bytes ≡ text_from place (but_last (pieces_on line bytes))
+text_at_is [] line place understood = refl
+text_at_is (byte ∷ bytes) line place understood =
+    by_test (byte == 10) refl
+    (text_at_is bytes [] (next_place place) (understood && is_understood (kept line)))
+    (text_at_is bytes (line ++ byte ∷ []) place understood)
+  where
+    by_test : (b : Bool) → (byte == 10) ≡ b →
+        text_at (in_line [] (next_place place) (understood && is_understood (kept line))) bytes ≡ text_from (next_place place) (but_last (pieces_on [] bytes)) →
+        text_at (in_line (line ++ byte ∷ []) place understood) bytes ≡ text_from place (but_last (pieces_on (line ++ byte ∷ []) bytes)) →
+        text_at (in_line line place understood) (byte ∷ bytes) ≡ text_from place (but_last (pieces_on line (byte ∷ bytes)))
+    by_test true is anew on =
+        let P : ℕ → Type 0 = λ x. text_at (in_line line place understood) (x ∷ bytes) ≡ text_from place (but_last (pieces_on line (x ∷ bytes))) in
+        subst P (sym (eqb-true byte 10 is))
+        (ap (λ text. text_of place (kept line) ++ text) anew
+        ∙ sym (ap (λ ps. text_from place (but_last ps)) (lines_at_feed line bytes) ∙ ap (text_from place) (but_last-cons line [] (pieces bytes))))
+    by_test false is anew on =
+        ap (λ b. cond b (text_of place (kept line)) [] ++ text_at (behind_byte (in_line line place understood) byte) bytes) is
+        ∙ (ap (λ s. text_at s bytes) (state_at_byte line place understood byte is)
+        ∙ (on ∙ sym (ap (λ ps. text_from place (but_last ps)) (lines_at_byte line byte bytes is))))
+
+-- the state behind all the pieces but the last, in the last
+abbrev now : List (List ℕ) → Place → Bool → State
+now ps place understood = in_line (last ps) (place_behind place (but_last ps)) (understood && understands (but_last ps))
+
+-- and the state is in what is not ended
+behind_is : (bytes line : List ℕ) (place : Place) (understood : Bool) →
+    behind (in_line line place understood) bytes ≡ now (pieces_on line bytes) place understood
+behind_is [] line place understood =
+    ap (λ l. in_line l place understood) (sym (append-nil line)) ∙ ap (in_line (line ++ []) place) (sym (and_true understood))
+behind_is (byte ∷ bytes) line place understood =
+    by_test (byte == 10) refl
+    (behind_is bytes [] (next_place place) (understood && is_understood (kept line)))
+    (behind_is bytes (line ++ byte ∷ []) place understood)
+  where
+    by_test : (b : Bool) → (byte == 10) ≡ b →
+        behind (in_line [] (next_place place) (understood && is_understood (kept line))) bytes
+        ≡ now (pieces_on [] bytes) (next_place place) (understood && is_understood (kept line)) →
+        behind (in_line (line ++ byte ∷ []) place understood) bytes ≡ now (pieces_on (line ++ byte ∷ []) bytes) place understood →
+        behind (in_line line place understood) (byte ∷ bytes) ≡ now (pieces_on line (byte ∷ bytes)) place understood
+    by_test true is anew on =
+        let P : ℕ → Type 0 = λ x. behind (in_line line place understood) (x ∷ bytes) ≡ now (pieces_on line (x ∷ bytes)) place understood in
+        let rest = pieces_on [] bytes in
+        subst P (sym (eqb-true byte 10 is))
+        (anew
+        ∙ (ap (in_line (last rest) (place_behind (next_place place) (but_last rest))) (and_assoc understood (is_understood (kept line)) (understands (but_last rest)))
+        ∙ sym
+        (ap (λ ps. now ps place understood) (lines_at_feed line bytes)
+        ∙ λ i. in_line (last-cons line [] (pieces bytes) i) (place_behind place (but_last-cons line [] (pieces bytes) i))
+        (understood && understands (but_last-cons line [] (pieces bytes) i)))))
+    by_test false is anew on =
+        ap (λ s. behind s bytes) (state_at_byte line place understood byte is) ∙ (on ∙ sym (ap (λ ps. now ps place understood) (lines_at_byte line byte bytes is)))
+
+-- what is written for the bytes given is the text for the lines among them that are ended
+pub text_at_start : (given : List ℕ) → text_at start given ≡ text_for (whole_lines given)
+text_at_start given = text_at_is given [] first_place true ∙ ap (λ ps. text_for (but_last ps)) (pieces_anew given)
+
+behind_start : (given : List ℕ) → behind start given ≡ now (pieces given) first_place true
+behind_start given = behind_is given [] first_place true ∙ ap (λ ps. now ps first_place true) (pieces_anew given)
+
+text_from-append : (place : Place) (xs ys : List (List ℕ)) → text_from place (xs ++ ys) ≡ text_from place xs ++ text_from (place_behind place xs) ys
+text_from-append place [] ys = refl
+text_from-append place (x ∷ xs) ys =
+    ap (λ text. text_of place (kept x) ++ text) (text_from-append (next_place place) xs ys)
+    ∙ sym (append_assoc (text_of place (kept x)) (text_from (next_place place) xs) (text_from (place_behind (next_place place) xs) ys))
+
+text_from-last_line : (place : Place) (line : List ℕ) → text_from place (last_line line) ≡ text_of place (kept line)
+text_from-last_line place [] = refl
+text_from-last_line place (byte ∷ bytes) = append-nil (text_of place (kept (byte ∷ bytes)))
+
+understands-append : (xs ys : List (List ℕ)) → understands (xs ++ ys) ≡ (understands xs && understands ys)
+understands-append [] ys = refl
+understands-append (x ∷ xs) ys =
+    ap (λ b. is_understood (kept x) && b) (understands-append xs ys) ∙ sym (and_assoc (is_understood (kept x)) (understands xs) (understands ys))
+
+understands-last_line : (line : List ℕ) → understands (last_line line) ≡ is_understood (kept line)
+understands-last_line [] = refl
+understands-last_line (byte ∷ bytes) = and_true (is_understood (kept (byte ∷ bytes)))
+
+-- with the text for what is not ended it is the report
+pub report_at_end : (given : List ℕ) → text_at start given ++ text_of (behind start given).place (behind start given).line ≡ report given
+report_at_end given =
+    let lines = whole_lines given in
+    ap (λ s. text_at start given ++ text_of s.place s.line) (behind_start given)
+    ∙ (ap (λ text. text ++ text_of (place_behind first_place lines) (kept (unended given))) (text_at_start given)
+    ∙ sym (text_from-append first_place lines (last_line (unended given))
+    ∙ ap (λ text. text_for lines ++ text) (text_from-last_line (place_behind first_place lines) (unended given))))
+
+-- and each line was understood exactly if the state says so behind the last
+pub understood_at_end : (given : List ℕ) → (behind_line (behind start given)).understood ≡ all_understood given
+understood_at_end given =
+    let lines = whole_lines given in
+    ap (λ s. (behind_line s).understood) (behind_start given)
+    ∙ sym (understands-append lines (last_line (unended given)) ∙ ap (λ b. understands lines && b) (understands-last_line (unended given)))
+
+-- At the end of the input the report is written, and the answer says whether each line was understood.
+pub report_written : (r new_r w mid_w new_w : Option (List ℕ)) (s : State) (understood : Bool) → s ≡ start → Ended r new_r w mid_w s understood → Keeps mid_w new_w →
+    IfSome r (λ input. Appends w new_w (report input))
+report_written r new_r w mid_w new_w s understood begun ended kept =
+    Consumes-whole r new_r ended.given (λ input. Appends w new_w (report input)) ended.took ended.no_more
+    (Appends-kept w mid_w new_w (report ended.given)
+    (subst (Appends w mid_w) (ap (λ at. text_at at ended.given ++ text_of (behind at ended.given).place (behind at ended.given).line) begun ∙ report_at_end ended.given) ended.wrote)
+    kept)
+
+pub understood_said : (r new_r w new_w : Option (List ℕ)) (s : State) (understood : Bool) → s ≡ start → Ended r new_r w new_w s understood →
+    IfSome r (λ input. understood ≡ all_understood input)
+understood_said r new_r w new_w s understood begun ended =
+    Consumes-whole r new_r ended.given (λ input. understood ≡ all_understood input) ended.took ended.no_more
+    (ended.answer ∙ (ap (λ at. (behind_line (behind at ended.given)).understood) begun ∙ understood_at_end ended.given))
+
+-- Where a read failed the text for the lines that were ended is written.
+pub earlier_written : (r new_r w mid_w new_w : Option (List ℕ)) (s new_s : State) → s ≡ start → Went r new_r w mid_w s new_s → Keeps mid_w new_w →
+    (given : List ℕ) × Consumes r new_r given × Appends w new_w (text_for (whole_lines given))
+earlier_written r new_r w mid_w new_w s new_s begun went kept = (
+  went.given,
+  went.took,
+  Appends-kept w mid_w new_w (text_for (whole_lines went.given))
+      (subst (Appends w mid_w) (ap (λ at. text_at at went.given) begun ∙ text_at_start went.given) went.wrote)
+      kept,
+)
+
+-- and where memory was wanted.
+pub some_written : (r new_r w mid_w new_w : Option (List ℕ)) (s : State) → s ≡ start → Broke r new_r w mid_w s → Keeps mid_w new_w →
+    (given : List ℕ) × (more : List ℕ) × Consumes r new_r (given ++ more) × Appends w new_w (text_for (whole_lines given))
+some_written r new_r w mid_w new_w s begun broke kept = (
+  broke.given,
+  broke.more,
+  broke.took,
+  Appends-kept w mid_w new_w (text_for (whole_lines broke.given))
+      (subst (Appends w mid_w) (ap (λ at. text_at at broke.given) begun ∙ text_at_start broke.given) broke.wrote)
+      kept,
+)

@@ -1,0 +1,68 @@
+-- What the lines of an input may say.
+use Rattle.std.specs.Prelude.{ℕ, ◌-◌, ◌&&◌, ◌==◌, zero, suc, if◌then◌else◌, codes, List, [], ◌∷◌, Option, Some, None, length, take, option_map, option_and_then}
+use Rattle.std.specs.Option.{option_map_or}
+use Rattle.std.specs.Str.{bytes_eq}
+use Rattle.std.specs.Io.BufRead.{ends_with_byte}
+use Rattle.asn1_tags.specs.Trees.{Tree, Trees, leaf, choice, none, more}
+use Rattle.asn1_tags.specs.declared.classes.Class.{Class}
+use Rattle.asn1_tags.specs.declared.classes.Class.TheVariants.{Universal, Application, Context, Private}
+use Rattle.asn1_tags.specs.declared.tags.Tag.{Tag}
+use Rattle.asn1_check.specs.Names.{is_name, number_of}
+use Rattle.asn1_check.specs.Parts.{parts_of}
+
+-- the class that a letter names
+abbrev pub class_of : ℕ → Option Class
+class_of letter =
+    if letter == 85 then Some Universal
+    else (if letter == 65 then Some Application
+    else (if letter == 67 then Some Context
+    else (if letter == 80 then Some Private
+    else None)))
+
+-- a tag: the letter of its class, and its number
+abbrev pub tag_of : List ℕ → Option Tag
+tag_of [] = None
+tag_of (letter ∷ digits) =
+    option_and_then (λ class. option_map (λ value. record { class = class; value = value }) (number_of digits)) (class_of letter)
+
+-- what stands between a text's first byte and its last, where these are a bracket that opens and one that closes
+abbrev pub between_brackets : List ℕ → Option (List ℕ)
+between_brackets [] = None
+between_brackets (byte ∷ bytes) = if (byte == 40) && ends_with_byte 41 bytes then Some (take (length bytes - 1) bytes) else None
+
+-- the texts of the trees between two brackets: none, or parts
+abbrev pub elements_of : List ℕ → List (List ℕ)
+elements_of [] = []
+elements_of (byte ∷ bytes) = parts_of (byte ∷ bytes)
+
+-- the trees that each of the texts is, if each is one
+abbrev pub all_trees : (List ℕ → Option Tree) → List (List ℕ) → Option Trees
+all_trees tree_in [] = Some none
+all_trees tree_in (text ∷ texts) = option_and_then (λ tree. option_map (more tree) (all_trees tree_in texts)) (tree_in text)
+
+-- a tree with at most so many brackets open at once: a tag, or trees between brackets, separated by one space
+unfoldable pub tree_of : ℕ → List ℕ → Option Tree
+tree_of zero text = option_map leaf (tag_of text)
+tree_of (suc depth) text =
+    option_map_or
+    (λ inside. option_map choice (all_trees (tree_of depth) (elements_of inside)))
+    (between_brackets text)
+    (option_map leaf (tag_of text))
+
+-- how many brackets may be open at once
+abbrev pub deepest : ℕ
+deepest = 16
+
+-- what a line says
+pub data Statement : Type 0 where
+  -- that a name stands for a tree
+  names_tree : List ℕ → Tree → Statement
+
+-- the name and the text of the tree, where the parts of a line are `tree`, a name and one more
+abbrev pub tree_line : List (List ℕ) → Option (List ℕ × List ℕ)
+tree_line (keyword ∷ name ∷ text ∷ []) = if bytes_eq keyword (codes "tree") && is_name name then Some (name, text) else None
+tree_line _ = None
+
+-- what a line says, if it is understood
+abbrev pub statement_of : List ℕ → Option Statement
+statement_of line = option_and_then (λ (name, text). option_map (names_tree name) (tree_of deepest text)) (tree_line (parts_of line))

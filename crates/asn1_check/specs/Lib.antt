@@ -1,0 +1,9 @@
+pub mod Parts
+pub mod PartsLeft
+pub mod Names
+pub mod Lines
+pub mod Grammar
+pub mod Report
+pub mod Reading
+pub mod Held
+pub mod Verdict

@@ -1,0 +1,126 @@
+// A check under way.
+ghost use Rattle.std.specs.Prelude.{◌≡◌, ◌<◌, ℕ, length, take, IfOk, OnOk, IsErrOf};
+ghost use Rattle.std.specs.Io.KnownBytes.{Appends, Keeps};
+ghost use Rattle.asn1_check.specs.Reading.{start, behind, behind_byte, behind_line, text_at, text_at_byte, Went, Ended, Broke};
+ghost use Rattle.asn1_check.specs.Report.{text_of};
+
+use crate::answer::answer;
+use crate::error::CheckError;
+use crate::line::Line;
+use asn1_tags::TagTree;
+use std::alloc::{AllocError, Global};
+use std::io::{ErrorKind, Read, Write};
+
+/// What a check remembers of the bytes that came, and room for its work on a line.
+#[derive(Drop)]
+pub(crate) struct Checker {
+    line: Line,
+    number: u64,
+    pub(crate) all_understood: bool,
+    nodes: Vec<TagTree<'static>>,
+    text: Vec<u8>,
+}
+
+impl Checker {
+    ghost use Rattle.asn1_check.specs.Held.{state_held};
+
+    /// A check that no byte has come to.
+    pub(crate) fn new(alloc: Global) -> Result<Checker, AllocError>
+        ensures { IfOk result (λ checker. state_held checker ≡ start) }
+    {
+        Ok(Checker {
+            line: Line::new(alloc)?,
+            number: 1,
+            all_understood: true,
+            nodes: Vec::new(alloc),
+            text: Vec::new(alloc),
+        })
+    }
+
+    // Writes the text for the line, and begins the next. Where memory is wanted, nothing is written.
+    fn end_line<W: Write>(&mut self, writer: &mut W) -> Result<(), CheckError>
+        ensures state { OnOk result (state_held self.new ≡ behind_line (state_held self.old)) }
+        ensures text { OnOk result (Appends (W.contents writer.old) (W.contents writer.new)
+            (text_of (state_held self.old).place (state_held self.old).line)) }
+        ensures memory { IsErrOf result CheckError.Memory → Keeps (W.contents writer.old) (W.contents writer.new) }
+        ensures no_read { ¬ IsErrOf result CheckError.Reading }
+    {
+        let is_understood = answer(
+            self.line.as_slice(),
+            self.number,
+            &mut self.nodes,
+            &mut self.text,
+        )
+        .map_err(|_| CheckError::Memory)?;
+        writer
+            .write_all(self.text.as_slice())
+            .map_err(|_| CheckError::Writing)?;
+        self.line.clear();
+        self.number = self.number.saturating_add(1);
+        self.all_understood = self.all_understood && is_understood;
+        Ok(())
+    }
+
+    // Takes the next byte, and writes the text for the line that it ends, if it ends one.
+    fn take_byte<W: Write>(&mut self, byte: u8, writer: &mut W) -> Result<(), CheckError>
+        ensures state { OnOk result (state_held self.new ≡ behind_byte (state_held self.old) byte) }
+        ensures text { OnOk result (Appends (W.contents writer.old) (W.contents writer.new)
+            (text_at_byte (state_held self.old) byte)) }
+        ensures memory { IsErrOf result CheckError.Memory → Keeps (W.contents writer.old) (W.contents writer.new) }
+        ensures no_read { ¬ IsErrOf result CheckError.Reading }
+    {
+        if byte == b'\n' {
+            return self.end_line(writer);
+        }
+        match self.line.push(byte) {
+            Ok(()) => Ok(()),
+            Err(_) => Err(CheckError::Memory),
+        }
+    }
+
+    // Takes the next bytes, and writes the text for each line that ends among them.
+    fn feed<W: Write>(&mut self, bytes: &[u8], writer: &mut W) -> Result<(), CheckError>
+        ensures state { OnOk result (state_held self.new ≡ behind (state_held self.old) bytes.now) }
+        ensures text { OnOk result (Appends (W.contents writer.old) (W.contents writer.new)
+            (text_at (state_held self.old) bytes.now)) }
+        ensures memory { IsErrOf result CheckError.Memory → (k : ℕ) × Appends (W.contents writer.old) (W.contents writer.new)
+            (text_at (state_held self.old) (take k bytes.now)) }
+        ensures no_read { ¬ IsErrOf result CheckError.Reading }
+    {
+        for byte in bytes {
+            self.take_byte(*byte, writer)?;
+        }
+        Ok(())
+    }
+
+    /// Reads to the end of the input, and writes the text for each line.
+    ///
+    /// An interrupted read is tried again. After an error some of the input may be read.
+    pub(crate) fn read_to_end<R: Read, W: Write>(
+        &mut self,
+        reader: &mut R,
+        buffer: &mut [u8],
+        writer: &mut W,
+    ) -> Result<(), CheckError>
+        requires { 0 < length buffer.old }
+        ensures done { OnOk result (Ended (R.remaining reader.old) (R.remaining reader.new)
+            (W.contents writer.old) (W.contents writer.new) (state_held self.old) (state_held self.new).understood) }
+        ensures reading { IsErrOf result CheckError.Reading → Went (R.remaining reader.old) (R.remaining reader.new)
+            (W.contents writer.old) (W.contents writer.new) (state_held self.old) (state_held self.new) }
+        ensures memory { IsErrOf result CheckError.Memory → Broke (R.remaining reader.old) (R.remaining reader.new)
+            (W.contents writer.old) (W.contents writer.new) (state_held self.old) }
+    {
+        for _ in 0..u64::MAX {
+            match reader.read(buffer) {
+                Ok(0) => return self.end_line(writer),
+                Ok(count) => self.feed(&buffer[..count], writer)?,
+                Err(error) => {
+                    if error.kind() != ErrorKind::Interrupted {
+                        return Err(CheckError::Reading);
+                    }
+                }
+            }
+        }
+        Err(CheckError::Reading)
+    }
+}

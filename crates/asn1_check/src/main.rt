@@ -1,0 +1,51 @@
+//! Checks schema tables: reads lines that name trees of tags, and writes a verdict on each.
+//!
+//! `tree NAME TREE` asks of a tree of tags whether a tag stands twice, which tag is the smallest, and how many leaves there are.
+//! Any other line is answered by `line N: not understood`, and the check goes on.
+//!
+//! The program is [`check::check`] on standard input and output, whose contract is the theorem:
+//!
+//! * `report`: what is written is `report` of what was read, the one definition in `specs/Report.antt`;
+//! * `understood`: the answer is true exactly if each line was understood;
+//! * `reading`, `memory`: what stands written where a read failed or memory was wanted.
+//!
+//! The words of the definition: `specs/Lines.antt` has the lines of an input, `specs/Parts.antt` the parts of a line,
+//! `specs/Names.antt` names and numbers, `specs/Grammar.antt` tags, trees and what a line may say.
+#![tactic(auto)]
+
+mod answer;
+mod check;
+mod checker;
+mod error;
+mod line;
+mod names;
+mod parts;
+#[cfg(test)]
+mod tests;
+mod tree;
+mod verdict;
+
+use check::check;
+use error::CheckError;
+use std::io;
+use std::io::BufWriter;
+use std::process::ExitCode;
+
+fn main(rt: HostRuntime) -> ExitCode {
+    match run(&rt) {
+        Ok(true) => ExitCode::SUCCESS,
+        Ok(false) => ExitCode::from(1),
+        Err(error) => {
+            let _ = eprintln!(rt; "{error}");
+            ExitCode::from(2)
+        }
+    }
+}
+
+// Checks standard input, and writes to standard output.
+fn run<R: Input + Print + AllocGlobal>(rt: &R) -> Result<bool, CheckError> {
+    match BufWriter::new(rt.alloc(), io::writer(rt)) {
+        Ok(mut writer) => check(rt.alloc(), &mut rt.reader(), &mut writer),
+        Err(_) => Err(CheckError::Memory),
+    }
+}

@@ -1,0 +1,99 @@
+// Trees of tags, as they are written.
+ghost use Rattle.std.specs.Prelude.{◌≡◌, ◌++◌, None, option_map, IfOk, MatchBool, IsSomeAnd};
+ghost use Rattle.asn1_tags.specs.Trees.{leaves, leaves_of, shapes};
+ghost use Rattle.asn1_check.specs.Grammar.{class_of, tag_of, between_brackets, elements_of, all_trees, tree_of};
+
+use crate::names::read_number;
+use crate::parts::Parts;
+use asn1_tags::{Class, Tag, TagTree};
+use std::alloc::AllocError;
+
+fn read_class(letter: u8) -> Option<Class>
+    ensures { result ≡ class_of letter }
+{
+    match letter {
+        b'U' => Some(Class::Universal),
+        b'A' => Some(Class::Application),
+        b'C' => Some(Class::Context),
+        b'P' => Some(Class::Private),
+        _ => None,
+    }
+}
+
+/// The tag that the text spells: the letter of its class, and its number.
+pub(crate) fn read_tag(text: &[u8]) -> Option<Tag>
+    ensures { result ≡ tag_of text.now }
+{
+    match text {
+        [] => None,
+        [letter, digits @ ..] => {
+            let class = read_class(*letter)?;
+            let value = read_number(digits)?;
+            Some(Tag::new(class, value))
+        }
+    }
+}
+
+// What stands between a bracket that opens the text and one that closes it.
+fn between_brackets(text: &[u8]) -> Option<&[u8]>
+    ensures { option_map (λ inside. inside.now) result ≡ between_brackets text.now }
+{
+    match text {
+        [b'(', inside @ .., b')'] => Some(inside),
+        _ => None,
+    }
+}
+
+/// Whether the text is a tree with at most `depth` brackets open at once.
+///
+/// Puts the leaves of the tree behind the nodes, and an empty choice for each that the tree has. So the nodes
+/// stand for the tree: they have its leaves in its order. Where the text is no tree, some may stand there too.
+#[cycle(tree)]
+pub(crate) fn read_tree(
+    text: &[u8],
+    depth: u8,
+    nodes: &mut Vec<TagTree<'static>>,
+) -> Result<bool, AllocError>
+    ensures { IfOk result (λ is_tree. MatchBool is_tree
+        (IsSomeAnd (tree_of depth text.now)
+        (λ tree. leaves_of (shapes nodes.new.items) ≡ leaves_of (shapes nodes.old.items) ++ leaves tree))
+        (tree_of depth text.now ≡ None)) }
+{
+    match between_brackets(text) {
+        Some(inside) => match depth.checked_sub(1) {
+            Some(depth) => read_elements(inside, depth, nodes),
+            None => Ok(false),
+        },
+        None => match read_tag(text) {
+            Some(tag) => {
+                nodes.push(TagTree::Leaf(tag))?;
+                Ok(true)
+            }
+            None => Ok(false),
+        },
+    }
+}
+
+// Whether the text is trees, as they stand between two brackets.
+#[cycle(tree)]
+fn read_elements(
+    inside: &[u8],
+    depth: u8,
+    nodes: &mut Vec<TagTree<'static>>,
+) -> Result<bool, AllocError>
+    ensures { IfOk result (λ are_trees. MatchBool are_trees
+        (IsSomeAnd (all_trees (tree_of depth) (elements_of inside.now))
+        (λ trees. leaves_of (shapes nodes.new.items) ≡ leaves_of (shapes nodes.old.items) ++ leaves_of trees))
+        (all_trees (tree_of depth) (elements_of inside.now) ≡ None)) }
+{
+    if inside.is_empty() {
+        nodes.push(TagTree::empty())?;
+        return Ok(true);
+    }
+    for text in Parts::of(inside) {
+        if !read_tree(text, depth, nodes)? {
+            return Ok(false);
+        }
+    }
+    Ok(true)
+}

@@ -1,0 +1,45 @@
+// The verdict on a tree.
+ghost use Rattle.std.specs.Prelude.{◌≡◌, ◌<◌, ◌^◌, Some, length};
+ghost use Rattle.asn1_tags.specs.Trees.{leaves_of, shapes};
+ghost use Rattle.asn1_check.specs.Report.{tree_verdict};
+
+use asn1_tags::{Tag, TagTree};
+use std::fmt;
+
+/// What is said of a tree: whether a tag stands twice, the smallest tag, and how many leaves there are.
+#[derive(Clone, Copy)]
+pub(crate) struct TreeVerdict {
+    is_unique: bool,
+    smallest: Tag,
+    leaf_count: usize,
+}
+
+impl TreeVerdict {
+    ghost use Rattle.asn1_check.specs.Verdict.{verdict_text};
+
+    /// The verdict on the tree whose leaves these nodes have.
+    pub(crate) fn on(nodes: &[TagTree<'_>]) -> TreeVerdict
+        requires { length (leaves_of (shapes nodes.now)) < 2 ^ 64 }
+        ensures { verdict_text result ≡ tree_verdict (leaves_of (shapes nodes.now)) }
+    {
+        TreeVerdict {
+            is_unique: TagTree::is_unique_set(nodes),
+            smallest: TagTree::Choice(nodes).smallest_tag(),
+            leaf_count: TagTree::leaf_count(nodes).unwrap(),
+        }
+    }
+}
+
+impl fmt::Display for TreeVerdict {
+    ghost use Rattle.std.specs.Prelude.{Some};
+    ghost use Rattle.asn1_check.specs.Verdict.{verdict_text};
+
+    ghost output = { λ verdict. Some (verdict_text verdict) };
+
+    fn fmt<W: fmt::Write>(&self, f: &mut fmt::Formatter<W>) -> fmt::Result {
+        let uniqueness = if self.is_unique { "unique" } else { "repeated" };
+        let smallest = self.smallest;
+        let count = self.leaf_count;
+        write!(f, "{uniqueness}, smallest {smallest}, {count} leaves")
+    }
+}
