@@ -5,7 +5,8 @@ use Rattle.std.specs.Borrow.{Bor}
 use Rattle.std.proofs.lemmas.List.{take_more, take_rest, drop_more, append-nil, take-append-drop}
 use Rattle.std.proofs.lemmas.List.Folds.{list_any-append}
 use Rattle.std.proofs.lemmas.Grind.{common_steps}
-use Rattle.asn1_tags.specs.Tags.{has, tag_eq, meet, distinct}
+use Rattle.asn1_tags.specs.Tags.{has, tag_eq, distinct}
+use Rattle.asn1_tags.specs.Walks.{meet}
 use Rattle.asn1_tags.specs.declared.tags.Tag.{Tag}
 use Rattle.asn1_tags.specs.declared.trees.TagTree.{TagTree, Leaf, Choice, Choice', Row_of-TagTree, end_of-TagTree, more_of-TagTree, items-the_row-TagTree, items_hidden-the_row-TagTree-0}
 use Rattle.asn1_tags.specs.Trees.{leaf, choice, more, shape, row_shapes, shapes, leaves, leaves_of}

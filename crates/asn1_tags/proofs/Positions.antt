@@ -8,7 +8,8 @@ use Rattle.std.proofs.lemmas.Grind.{common_steps}
 use Rattle.std.proofs.lemmas.List.{get_or-append-add, get_or_append_left}
 use Rattle.std.proofs.lemmas.List.Sums.{prefix_len-le-length, passes_at_first, position_or_len_is}
 use Rattle.std.proofs.lemmas.Option.{slice_get-get_or, slice_get_past, slice_get_within, get_or_from_slice_get}
-use Rattle.asn1_tags.specs.Tags.{has, tag_eq, position_of, IsTagBehind}
+use Rattle.asn1_tags.specs.Tags.{has, tag_eq, position_of}
+use Rattle.asn1_tags.specs.Walks.{IsTagBehind}
 use Rattle.asn1_tags.specs.Trees.{shape, shapes, leaves, leaves_of}
 use Rattle.asn1_tags.specs.declared.tags.Tag.{Tag}
 use Rattle.asn1_tags.specs.declared.trees.TagTree.{TagTree}

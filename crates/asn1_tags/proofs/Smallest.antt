@@ -4,7 +4,8 @@ use Rattle.std.specs.Ordering.{is_lt}
 use Rattle.std.proofs.lemmas.Bool.Decides.{nat_tests}
 use Rattle.std.proofs.lemmas.Grind.{common_steps}
 use Rattle.std.proofs.lemmas.List.Elements.{All-append, Contains-append_left, Contains-append_right}
-use Rattle.asn1_tags.specs.Tags.{class_number, tag_cmp, IsAtMost, greatest, lesser, lesser_of, smallest, IsSmallest, IsSmallestIfAny}
+use Rattle.asn1_tags.specs.Tags.{class_number, tag_cmp, IsAtMost, greatest, lesser, smallest, IsSmallest}
+use Rattle.asn1_tags.specs.Walks.{lesser_of, IsSmallestIfAny}
 use Rattle.asn1_tags.specs.declared.tags.Tag.{Tag}
 use Rattle.asn1_tags.specs.OrderLaws.{same_tag}
 use Rattle.asn1_tags.proofs.Leaves.{leaves_of-take}

@@ -1,5 +1,6 @@
 pub mod Tags
 pub mod Trees
+pub mod Walks
 pub mod Order
 pub mod OrderLaws
 pub mod Names

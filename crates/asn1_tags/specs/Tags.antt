@@ -1,6 +1,6 @@
 -- Classes and tags: their numbers, their order, their texts, and lists of them.
-use Rattle.std.specs.Prelude.{◌≡◌, ◌≢◌, ◌⊎◌, ◌<◌, ◌≤◌, ℕ, Bool, true, false, ◌&&◌, ◌==◌, not, if◌then◌else◌, fold, position, length, slice_index_or, ◌+◌, Result, MatchResult, Option, Some, None, MatchOption, List, [], ◌∷◌, ◌++◌, codes, All, Contains}
-use Rattle.std.specs.List.{list_any, position_or_len}
+use Rattle.std.specs.Prelude.{◌≡◌, ◌≢◌, ◌⊎◌, ◌<◌, ◌≤◌, ℕ, Bool, true, ◌&&◌, ◌==◌, not, if◌then◌else◌, fold, position, Option, List, [], ◌∷◌, ◌++◌, codes, All, Contains}
+use Rattle.std.specs.List.{list_any}
 use Rattle.std.specs.Fmt.{decimal}
 use Rattle.std.specs.declared.cmp.Ordering.{Ordering}
 use Rattle.std.specs.Ordering.{nat_cmp, on, then_cmp, is_lt}
@@ -35,26 +35,6 @@ has t ts = list_any (λ s. tag_eq s t) ts
 abbrev pub position_of : Tag → List Tag → Option ℕ
 position_of t ts = position (λ s. tag_eq s t) ts
 
--- the same, where the answer without a place says how many tags there are
-abbrev pub IsFirstPlaceOf : Tag → List Tag → Result ℕ ℕ → Type 0
-IsFirstPlaceOf t ts r =
-    MatchResult
-    r
-    (λ place. (has t ts ≡ true) × (place ≡ position_or_len (λ s. tag_eq s t) ts))
-    (λ count. (has t ts ≡ false) × (count ≡ length ts))
-
--- the tag behind so many others, or how many more there would have to be
-abbrev pub IsTagBehind : List Tag → ℕ → Result Tag ℕ → Type 0
-IsTagBehind ts skipped r =
-    MatchResult
-    r
-    (λ t. (skipped < length ts) × (t ≡ slice_index_or ts skipped t))
-    (λ left. length ts + left ≡ skipped)
-
--- whether a tag stands in both lists
-abbrev pub meet : List Tag → List Tag → Bool
-meet ts us = list_any (λ t. has t us) ts
-
 -- whether no tag stands twice among these
 abbrev pub distinct : List Tag → Bool
 distinct [] = true
@@ -78,16 +58,6 @@ pub record IsSmallest (ts : List Tag) (t : Tag) : Type 0 where
   pub among : ts ≢ [] → Contains ts t
   pub least : All (IsAtMost t) ts
   pub none : ts ≡ [] → t ≡ greatest
-
--- the same, where the answer says whether there is any tag
-abbrev pub IsSmallestIfAny : List Tag → Option Tag → Type 0
-IsSmallestIfAny ts r = MatchOption r (ts ≡ []) (λ t. Contains ts t × All (IsAtMost t) ts)
-
--- the lesser of two tags, or the one that is there
-abbrev pub lesser_of : Option Tag → Option Tag → Option Tag
-lesser_of None r = r
-lesser_of (Some s) None = Some s
-lesser_of (Some s) (Some t) = Some (lesser s t)
 
 -- what `{}` writes of a class
 abbrev pub class_text : Class → List ℕ

@@ -2,7 +2,7 @@
 #![tactic(auto, using(crate::proofs::Leaves::tree_shapes, crate::proofs::Positions::steps))]
 
 ghost use Rattle.std.specs.Prelude.{◌<◌, ◌^◌, length};
-ghost use Rattle.asn1_tags.specs.Tags.{IsFirstPlaceOf, IsTagBehind};
+ghost use Rattle.asn1_tags.specs.Walks.{IsFirstPlaceOf, IsTagBehind};
 ghost use Rattle.asn1_tags.specs.Trees.{leaves, leaves_of, shape, shapes};
 
 use crate::tags::Tag;
@@ -21,7 +21,7 @@ fn first_in(tree: &TagTree<'_>, tag: &Tag) -> Result<usize, usize>
 
 // The place of the first leaf of the trees that is the tag, or how many leaves there are.
 #[cycle(find)]
-pub fn first_place(nodes: &[TagTree<'_>], tag: &Tag) -> Result<usize, usize>
+pub(crate) fn first_place(nodes: &[TagTree<'_>], tag: &Tag) -> Result<usize, usize>
     ensures { length (leaves_of (shapes nodes.now)) < 2 ^ 64 → IsFirstPlaceOf tag.now (leaves_of (shapes nodes.now)) result }
 {
     let mut passed: usize = 0;
@@ -50,7 +50,7 @@ fn leaf_in(tree: &TagTree<'_>, skipped: usize) -> Result<Tag, usize>
 
 // The leaf of the trees behind `skipped` others, or how many more there would have to be.
 #[cycle(behind)]
-pub fn leaf_behind(nodes: &[TagTree<'_>], skipped: usize) -> Result<Tag, usize>
+pub(crate) fn leaf_behind(nodes: &[TagTree<'_>], skipped: usize) -> Result<Tag, usize>
     ensures { IsTagBehind (leaves_of (shapes nodes.now)) skipped result }
 {
     let mut left = skipped;

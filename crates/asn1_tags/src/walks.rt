@@ -3,7 +3,8 @@
 
 ghost use Rattle.std.specs.Prelude.{◌≡◌, ◌<◌, ◌^◌, length};
 ghost use Rattle.std.specs.Option.{SomeIff};
-ghost use Rattle.asn1_tags.specs.Tags.{IsSmallestIfAny, distinct, has, lesser_of, meet};
+ghost use Rattle.asn1_tags.specs.Tags.{distinct, has};
+ghost use Rattle.asn1_tags.specs.Walks.{IsSmallestIfAny, lesser_of, meet};
 ghost use Rattle.asn1_tags.specs.Trees.{leaves, leaves_of, shape, shapes};
 
 use crate::tags::Tag;
@@ -22,7 +23,7 @@ fn has_leaf(tree: &TagTree<'_>, tag: &Tag) -> bool
 
 // Whether the tag is a leaf of one of the trees.
 #[cycle(contains)]
-pub fn have_leaf(nodes: &[TagTree<'_>], tag: &Tag) -> bool
+pub(crate) fn have_leaf(nodes: &[TagTree<'_>], tag: &Tag) -> bool
     ensures { result ≡ has tag.now (leaves_of (shapes nodes.now)) }
 {
     for node in nodes {
@@ -46,7 +47,7 @@ fn leaf_number(tree: &TagTree<'_>) -> Option<usize>
 
 // How many leaves the trees have together, if the number fits.
 #[cycle(count)]
-pub fn leaf_count(nodes: &[TagTree<'_>]) -> Option<usize>
+pub(crate) fn leaf_count(nodes: &[TagTree<'_>]) -> Option<usize>
     ensures { let number = length (leaves_of (shapes nodes.now)) in SomeIff result (number < 2 ^ 64) number }
 {
     let mut count: usize = 0;
@@ -58,7 +59,7 @@ pub fn leaf_count(nodes: &[TagTree<'_>]) -> Option<usize>
 
 // The smallest leaf of the tree, if it has any.
 #[cycle(smallest)]
-pub fn smallest_leaf(tree: &TagTree<'_>) -> Option<Tag>
+pub(crate) fn smallest_leaf(tree: &TagTree<'_>) -> Option<Tag>
     ensures { IsSmallestIfAny (leaves (shape tree.now)) result }
 {
     match tree {
@@ -117,7 +118,7 @@ fn share_leaf(nodes: &[TagTree<'_>], others: &[TagTree<'_>]) -> bool
 // Whether no tag stands at two leaves of the tree.
 #[cycle(distinct)]
 #[tactic(auto, using(crate::proofs::Leaves::repeats))]
-pub fn has_distinct_leaves(tree: &TagTree<'_>) -> bool
+pub(crate) fn has_distinct_leaves(tree: &TagTree<'_>) -> bool
     ensures { result ≡ distinct (leaves (shape tree.now)) }
 {
     match tree {
@@ -129,7 +130,7 @@ pub fn has_distinct_leaves(tree: &TagTree<'_>) -> bool
 // Whether no tag stands at two leaves of the trees together.
 #[cycle(distinct)]
 #[tactic(auto, using(crate::proofs::Leaves::repeats))]
-pub fn have_distinct_leaves(nodes: &[TagTree<'_>]) -> bool
+pub(crate) fn have_distinct_leaves(nodes: &[TagTree<'_>]) -> bool
     ensures { result ≡ distinct (leaves_of (shapes nodes.now)) }
 {
     for i in 0..nodes.len() {

@@ -1,5 +1,5 @@
 use Rattle.std.proofs.Common.{◌≡◌, false, take}
-use Rattle.asn1_tags.specs.Tags.{meet}
+use Rattle.asn1_tags.specs.Walks.{meet}
 use Rattle.asn1_tags.specs.Trees.{leaves_of, shapes}
 use Rattle.asn1_tags.proofs.walks.+share.Given as goal
 

@@ -1,5 +1,5 @@
 use Rattle.std.proofs.Common.{sym, subst}
-use Rattle.asn1_tags.specs.Tags.{IsSmallestIfAny}
+use Rattle.asn1_tags.specs.Walks.{IsSmallestIfAny}
 use Rattle.asn1_tags.specs.Trees.{leaves, leaves_of, shape, shapes}
 use Rattle.std.proofs.Common.{take, ◌+◌}
 use Rattle.asn1_tags.proofs.Smallest.{smallest_more}

@@ -1,5 +1,5 @@
 use Rattle.std.proofs.Common.{take}
-use Rattle.asn1_tags.specs.Tags.{IsSmallestIfAny}
+use Rattle.asn1_tags.specs.Walks.{IsSmallestIfAny}
 use Rattle.asn1_tags.specs.Trees.{leaves_of, shapes}
 use Rattle.asn1_tags.proofs.walks.+smallest.Given as goal
 

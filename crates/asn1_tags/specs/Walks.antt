@@ -1,0 +1,35 @@
+-- What the walks over trees answer on their way.
+use Rattle.std.specs.Prelude.{◌≡◌, ◌<◌, ℕ, Bool, true, false, ◌+◌, length, slice_index_or, Result, MatchResult, Option, Some, None, MatchOption, List, [], All, Contains}
+use Rattle.std.specs.List.{list_any, position_or_len}
+use Rattle.asn1_tags.specs.Tags.{IsAtMost, has, lesser, tag_eq}
+use Rattle.asn1_tags.specs.declared.tags.Tag.{Tag}
+
+-- whether a tag stands in both lists
+abbrev pub meet : List Tag → List Tag → Bool
+meet ts us = list_any (λ t. has t us) ts
+
+-- the first place of the tag among these, or how many tags there are
+abbrev pub IsFirstPlaceOf : Tag → List Tag → Result ℕ ℕ → Type 0
+IsFirstPlaceOf t ts r =
+    MatchResult
+    r
+    (λ place. (has t ts ≡ true) × (place ≡ position_or_len (λ s. tag_eq s t) ts))
+    (λ count. (has t ts ≡ false) × (count ≡ length ts))
+
+-- the tag behind so many others, or how many more there would have to be
+abbrev pub IsTagBehind : List Tag → ℕ → Result Tag ℕ → Type 0
+IsTagBehind ts skipped r =
+    MatchResult
+    r
+    (λ t. (skipped < length ts) × (t ≡ slice_index_or ts skipped t))
+    (λ left. length ts + left ≡ skipped)
+
+-- the smallest of the tags, if there is any
+abbrev pub IsSmallestIfAny : List Tag → Option Tag → Type 0
+IsSmallestIfAny ts r = MatchOption r (ts ≡ []) (λ t. Contains ts t × All (IsAtMost t) ts)
+
+-- the lesser of two tags, or the one that is there
+abbrev pub lesser_of : Option Tag → Option Tag → Option Tag
+lesser_of None r = r
+lesser_of (Some s) None = Some s
+lesser_of (Some s) (Some t) = Some (lesser s t)
