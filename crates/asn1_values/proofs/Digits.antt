@@ -7,21 +7,15 @@ use Rattle.std.specs.Int.{byte_at, bytes_high_first}
 use Rattle.std.specs.Int.Digits.{AllBelowBase, digits_of, number_from_digits_after}
 use Rattle.std.specs.Ordering.{MatchOrdering, nat_cmp, ordering_then}
 use Rattle.std.proofs.lemmas.List.{take-append-drop}
-use Rattle.std.proofs.lemmas.Int.Digits.{number_more, number_after_append, number_after_ge, number_after_lt, number_lt, all_below_base_digits_of, first_digits_of, number_digits_of}
+use Rattle.std.proofs.lemmas.Int.Digits.{number_after_append, number_after_ge, number_after_lt, number_lt, all_below_base_digits_of, first_digits_of, number_digits_of}
 use Rattle.std.proofs.lemmas.Option.{get_or_from_slice_get}
 use Rattle.std.proofs.Math.Arith.{mod-mul}
 use Rattle.std.proofs.Math.Nat.{mod-eq_of_lt, mul-le-mul_right, one-le-pow, pow-le-pow_right, pow-suc, pow-succ'}
 use Rattle.asn1_values.specs.Numbers.{magnitude, IsMagnitude, IsShortest}
 
--- ---- parts from the front
-
--- one more byte
-pub magnitude_more : (bytes : List ℕ) (i : ℕ) → i < length bytes → magnitude (take (i + 1) bytes) ≡ magnitude (take i bytes) * 256 + get_or bytes i 0
-magnitude_more = number_more 256
-
 -- a part from the front stands for no greater number
-pub magnitude_of_front : (bytes : List ℕ) (i : ℕ) → magnitude (take i bytes) ≤ magnitude bytes
-magnitude_of_front bytes i =
+pub magnitude-take_le : (bytes : List ℕ) (i : ℕ) → magnitude (take i bytes) ≤ magnitude bytes
+magnitude-take_le bytes i =
     let split : magnitude bytes ≡ number_from_digits_after 256 (magnitude (take i bytes)) (drop i bytes) = ap magnitude (sym (take-append-drop i bytes)) ∙ number_after_append 256 0 (take i bytes) (drop i bytes) in
     let low = number_after_ge 256 (magnitude (take i bytes)) (drop i bytes) (omega arith) in
     omega arith
@@ -78,8 +72,8 @@ magnitude_longer xs (y ∷ ys) below shortest longer =
     omega arith
 
 -- the order of magnitudes: the longer is the greater, else the first byte that differs decides
-ranked_magnitudes : (xs ys : List ℕ) → IsMagnitude xs → IsMagnitude ys → Ranks (ordering_then (nat_cmp (length xs) (length ys)) (slice_cmp nat_cmp xs ys)) 0 xs 0 ys
-ranked_magnitudes xs ys p q = by (nat_cmp (length xs) (length ys)) (ranks (length xs) (length ys))
+Ranks-magnitudes : (xs ys : List ℕ) → IsMagnitude xs → IsMagnitude ys → Ranks (ordering_then (nat_cmp (length xs) (length ys)) (slice_cmp nat_cmp xs ys)) 0 xs 0 ys
+Ranks-magnitudes xs ys p q = by (nat_cmp (length xs) (length ys)) (ranks (length xs) (length ys))
   where
     by : (o : Ordering) → MatchOrdering o (length xs < length ys) (length xs ≡ length ys) (length ys < length xs) → Ranks (ordering_then o (slice_cmp nat_cmp xs ys)) 0 xs 0 ys
     by Less less = magnitude_longer xs ys p.are_bytes q.shortest less
@@ -90,7 +84,7 @@ ranked_magnitudes xs ys p q = by (nat_cmp (length xs) (length ys)) (ranks (lengt
 nat_cmp-magnitude : (xs ys : List ℕ) → IsMagnitude xs → IsMagnitude ys → ordering_then (nat_cmp (length xs) (length ys)) (slice_cmp nat_cmp xs ys) ≡ nat_cmp (magnitude xs) (magnitude ys)
 nat_cmp-magnitude xs ys p q =
     let o = ordering_then (nat_cmp (length xs) (length ys)) (slice_cmp nat_cmp xs ys) in
-    nat_cmp_is (magnitude xs) (magnitude ys) o (by o (ranked_magnitudes xs ys p q))
+    nat_cmp_is (magnitude xs) (magnitude ys) o (by o (Ranks-magnitudes xs ys p q))
   where
     by : (o : Ordering) → Ranks o 0 xs 0 ys → MatchOrdering o (magnitude xs < magnitude ys) (magnitude xs ≡ magnitude ys) (magnitude ys < magnitude xs)
     by Less less = less
@@ -111,8 +105,8 @@ nat_cmp-by_length xs ys p q o is unequal = decided o unequal ∙ ap (λ r. order
     decided Greater n = refl
 
 -- a number has one magnitude
-pub same_from_magnitude : (xs ys : List ℕ) → IsMagnitude xs → IsMagnitude ys → magnitude xs ≡ magnitude ys → xs ≡ ys
-same_from_magnitude xs ys p q same = by (ordering_then (nat_cmp (length xs) (length ys)) (slice_cmp nat_cmp xs ys)) (ranked_magnitudes xs ys p q)
+same_from_magnitude : (xs ys : List ℕ) → IsMagnitude xs → IsMagnitude ys → magnitude xs ≡ magnitude ys → xs ≡ ys
+same_from_magnitude xs ys p q same = by (ordering_then (nat_cmp (length xs) (length ys)) (slice_cmp nat_cmp xs ys)) (Ranks-magnitudes xs ys p q)
   where
     by : (o : Ordering) → Ranks o 0 xs 0 ys → xs ≡ ys
     by Less less = absurd (omega arith)
@@ -128,13 +122,13 @@ IsShortest-digits_of (suc n) e =
     let none : get_or (digits_of 256 (suc n)) 0 0 ≡ 0 = get_or_from_slice_get (digits_of 256 (suc n)) 0 0 0 e in
     omega arith
 
-pub IsMagnitude-digits_of : (n : ℕ) → IsMagnitude (digits_of 256 n)
+IsMagnitude-digits_of : (n : ℕ) → IsMagnitude (digits_of 256 n)
 IsMagnitude-digits_of n = record { are_bytes = all_below_base_digits_of 256 n (omega arith); shortest = IsShortest-digits_of n }
 
 -- a magnitude is the digits of its number
-pub digits_of-magnitude : (bytes : List ℕ) → IsMagnitude bytes → digits_of 256 (magnitude bytes) ≡ bytes
-digits_of-magnitude bytes p =
-    same_from_magnitude (digits_of 256 (magnitude bytes)) bytes (IsMagnitude-digits_of (magnitude bytes)) p (number_digits_of 256 (magnitude bytes) (omega arith))
+pub digits_of-magnitude : (bytes : List ℕ) (n : ℕ) → IsMagnitude bytes → n ≡ magnitude bytes → digits_of 256 n ≡ bytes
+digits_of-magnitude bytes n p is =
+    same_from_magnitude (digits_of 256 n) bytes (IsMagnitude-digits_of n) p (number_digits_of 256 n (omega arith) ∙ is)
 
 -- ---- the bytes of an integer of the machine
 

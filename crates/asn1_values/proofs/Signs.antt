@@ -23,17 +23,21 @@ unsigned_abs-signed false n = refl
 unsigned_abs-signed true zero = refl
 unsigned_abs-signed true (suc n) = refl
 
--- a number that fits is on the other side of 0 from no number that does not
+-- what does not fit lies beyond what does
+beyond : (z : ℤ) (m : ℕ) → (m < 2 ^ 127 → FitsSigned w128 z) → ¬ FitsSigned w128 z → 2 ^ 127 ≤ m
+beyond z m near wide = ⊎_elim (λ small. absurd (wide (near small))) (λ far. far) (cases_lt m (2 ^ 127))
+
+-- a number that does not fit compares to one that does as its sign does to 0
 pub int_cmp-wide : (negative : Bool) (m : ℕ) (n : ℤ) → FitsSigned w128 n → ¬ FitsSigned w128 (signed negative m) → int_cmp (pos 0) (signed negative 1) ≡ int_cmp n (signed negative m)
 int_cmp-wide false m (pos k) fits wide =
-    let far : 2 ^ 127 ≤ m = ⊎_elim (λ small. absurd (wide (record { sfits = small }))) (λ far. far) (cases_lt m (2 ^ 127)) in
+    let far = beyond (pos m) m (λ small. record { sfits = small }) wide in
     let near : k < 2 ^ 127 = fits.sfits in
     int_cmp_is (pos k) (pos m) Less (omega (arith, ints))
 int_cmp-wide false m (negsuc k) fits wide = int_cmp_is (negsuc k) (pos m) Less (omega (arith, ints))
 int_cmp-wide true zero n fits wide = absurd (wide (record { sfits = lit< tt }))
 int_cmp-wide true (suc m) (pos k) fits wide = int_cmp_is (pos k) (negsuc m) Greater (omega (arith, ints))
 int_cmp-wide true (suc m) (negsuc k) fits wide =
-    let far : 2 ^ 127 ≤ m = ⊎_elim (λ small. absurd (wide (record { sfits = small }))) (λ far. far) (cases_lt m (2 ^ 127)) in
+    let far = beyond (negsuc m) m (λ small. record { sfits = small }) wide in
     let near : k < 2 ^ 127 = fits.sfits in
     int_cmp_is (negsuc k) (negsuc m) Greater (omega (arith, ints))
 

@@ -1,4 +1,4 @@
--- The characters of the character string types, as X.680's tables list them. A unit is a character's code in ASCII.
+-- The characters of the character string types, as the tables of X.680, 41, list them. A unit is a character's code in ASCII.
 use Rattle.std.specs.Prelude.{ℕ, Bool, List, ◌||◌, ◌==◌, codes}
 use Rattle.std.specs.List.{list_any}
 use Rattle.std.specs.Char.{is_ascii, is_ascii_digit, is_ascii_graphic, is_ascii_lowercase, is_ascii_uppercase}

@@ -6,6 +6,7 @@ use std::marker::{Model, PhantomData};
 
 /// The least and the greatest number of a [`LimitedInteger`].
 pub trait Limits {
+    // Both ends are within.
     ghost start: { ℤ };
 
     ghost end: { ℤ };
@@ -19,7 +20,7 @@ pub trait Limits {
         ensures { result ≡ end };
 }
 
-/// The limits `S` and `E`. A type of one's own can have limits beyond 64 bits.
+/// The limits `S` and `E`, for limits of at most 64 bits. For wider ones implement [`Limits`].
 #[derive(Drop)]
 pub enum Between<const S: i64, const E: i64> {}
 

@@ -1,4 +1,4 @@
-//! What the types of whole numbers have in common.
+//! What the types of whole numbers have in common (X.680, 19: the values of INTEGER are all whole numbers).
 ghost use Rattle.std.specs.Prelude.{◌≡◌, ◌↔◌, ℤ, pos, ◌<ℤ◌, FitsSigned, IsTrue, IsSome, IfSome, IfOk};
 ghost use Rattle.std.specs.Int.{w128};
 ghost use Rattle.std.specs.Option.{SomeIff};
@@ -11,6 +11,7 @@ use std::alloc::{AllocError, Global};
 
 /// A type of whole numbers: each built-in integer, and [`Integer`].
 pub trait IntegerType: Sized {
+    // The number of a value, and the numbers that values have.
     ghost number: { Self → ℤ };
 
     ghost fits: { ℤ → Type 0 };
@@ -37,6 +38,7 @@ pub trait IntegerType: Sized {
         ensures fitting { IsSome result ↔ fits integer }
         ensures same_number { IfSome result (λ value. number value ≡ integer) };
 
+    // A value is known by its number.
     ghost injective: { (a b : Self) → number a ≡ number b → a ≡ b };
 }
 
@@ -69,3 +71,6 @@ impl IntegerType for Integer {
         Some(integer)
     }
 }
+
+#[cfg(test)]
+mod tests;

@@ -1,4 +1,36 @@
-//! The values below ASN.1's types.
+//! The values below ASN.1's types: whole numbers of any size, strings of each kind, and names of objects.
+//!
+//! The crate stands below the tags, bounds, types and codecs of the schema layer. A codec gives and
+//! takes numbers and strings of these types, and each type guards what its values are: the alphabet of
+//! a character string, the limits of a constrained number.
+//!
+//! | Type | What it is | Contracts see |
+//! |---|---|---|
+//! | [`Integer`] | a whole number of any size | its number |
+//! | [`IntegerType`] | what the built-in integers and `Integer` have in common | `number`, and the numbers that fit |
+//! | [`ConstrainedInteger`], [`LimitedInteger`] | a whole number from a least to a greatest one | its number |
+//! | [`VisibleString`], [`Ia5String`], [`NumericString`], [`PrintableString`] | units of an alphabet, an [`AlphabetString`] | the list of its units |
+//! | [`BitString`], [`OctetString`], [`GeneralString`], [`GraphicString`], [`TeletexString`], [`BmpString`] | any units, a [`UnitString`] | the list of its units |
+//! | [`ObjectIdentifier`] | any arcs, a `UnitString` too | the list of its arcs |
+//! | [`Utf8String`], [`BitStr`] | names for `String` and for borrowed bits | |
+//!
+//! What the contracts promise, and the words that they use:
+//!
+//! - A number goes into an `Integer` and comes back: `Integer::from_sign_magnitude` gives the number of
+//!   the sign and the bytes, `signed` and `magnitude` of `specs/Numbers.antt`, and `sign_magnitude` gives
+//!   them back (`number`) with no leading zero (`shortest`). `to_i128` answers exactly where the number
+//!   fits. Equality, order and hash are those of the number.
+//! - `IntegerType::try_from_integer` answers exactly where the number fits the type (`fitting`), and with
+//!   the value of that number (`same_number`). Two values with one number are equal (`injective`).
+//! - `AlphabetString::new` succeeds exactly where the alphabet has all units (`allowed`), and then gives
+//!   the string of these units (`units`); else the error names the first unit that the alphabet lacks
+//!   (`first`). The alphabets stand in `specs/Alphabets.antt`, character by character.
+//! - `as_slice` gives a string's units back. Strings of one kind are equal if their units are, go
+//!   lexicographically, and feed a hasher alike if they are equal.
+//! - `LimitedInteger::new` succeeds exactly within the limits (`within`).
+//!
+//! Calls that take memory take the allocator, and fail only where there is none: `from_sign_magnitude`,
+//! `sign_magnitude` and `to_integer`.
 #![tactic(auto)]
 
 mod constrained;

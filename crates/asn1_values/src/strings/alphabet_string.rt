@@ -8,6 +8,7 @@ use std::marker::Model;
 
 /// The units that a kind of string may hold.
 pub trait Alphabet<U> {
+    // The units of the alphabet.
     ghost allows: { U → Bool };
 
     /// Whether strings of this kind may hold the unit.

@@ -1,6 +1,13 @@
-//! Character strings, by X.680's tables of their characters.
+//! Character strings (X.680, 41). Those with a table of characters hold no others; a unit of theirs is a
+//! character's code in ASCII.
 use crate::strings::alphabet_string::{Alphabet, AlphabetString};
 use crate::strings::unit_string::UnitString;
+
+/// A UTF8String: any text.
+pub type Utf8String = String;
+
+/// A VisibleString: spaces and the graphic characters of ASCII.
+pub type VisibleString = AlphabetString<u8, Visible>;
 
 /// The alphabet of VisibleString.
 #[derive(Drop)]
@@ -12,9 +19,12 @@ impl Alphabet<u8> for Visible {
     ghost allows = { is_visible };
 
     fn allows(unit: &u8) -> bool {
-        matches!(*unit, b' '..=b'~')
+        *unit == b' ' || unit.is_ascii_graphic()
     }
 }
+
+/// An IA5String: the characters of ASCII, control characters among them.
+pub type Ia5String = AlphabetString<u8, Ia5>;
 
 /// The alphabet of IA5String.
 #[derive(Drop)]
@@ -30,6 +40,9 @@ impl Alphabet<u8> for Ia5 {
     }
 }
 
+/// A NumericString: spaces and digits.
+pub type NumericString = AlphabetString<u8, Numeric>;
+
 /// The alphabet of NumericString.
 #[derive(Drop)]
 pub enum Numeric {}
@@ -40,9 +53,12 @@ impl Alphabet<u8> for Numeric {
     ghost allows = { is_numeric };
 
     fn allows(unit: &u8) -> bool {
-        matches!(*unit, b'0'..=b'9' | b' ')
+        *unit == b' ' || unit.is_ascii_digit()
     }
 }
+
+/// A PrintableString: ASCII letters, digits, spaces and `'()+,-./:=?`.
+pub type PrintableString = AlphabetString<u8, Printable>;
 
 /// The alphabet of PrintableString.
 #[derive(Drop)]
@@ -58,48 +74,33 @@ impl Alphabet<u8> for Printable {
     }
 }
 
+/// A GeneralString: any octets.
+pub type GeneralString = UnitString<u8, General>;
+
 /// The kind of GeneralString.
 #[derive(Drop)]
 pub enum General {}
+
+/// A GraphicString: any octets.
+pub type GraphicString = UnitString<u8, Graphic>;
 
 /// The kind of GraphicString.
 #[derive(Drop)]
 pub enum Graphic {}
 
+/// A TeletexString: any units of 32 bits.
+pub type TeletexString = UnitString<u32, Teletex>;
+
 /// The kind of TeletexString.
 #[derive(Drop)]
 pub enum Teletex {}
 
-/// The kind of BMPString.
-#[derive(Drop)]
-pub enum Bmp {}
-
-/// A VisibleString: graphic characters of ASCII and spaces.
-pub type VisibleString = AlphabetString<u8, Visible>;
-
-/// An IA5String: characters of ASCII.
-pub type Ia5String = AlphabetString<u8, Ia5>;
-
-/// A NumericString: digits and spaces.
-pub type NumericString = AlphabetString<u8, Numeric>;
-
-/// A PrintableString: ASCII letters, digits, spaces and `'()+,-./:=?`.
-pub type PrintableString = AlphabetString<u8, Printable>;
-
-/// A GeneralString: any octets.
-pub type GeneralString = UnitString<u8, General>;
-
-/// A GraphicString: any octets.
-pub type GraphicString = UnitString<u8, Graphic>;
-
-/// A TeletexString: any units of 32 bits.
-pub type TeletexString = UnitString<u32, Teletex>;
-
 /// A BMPString: any units of 16 bits.
 pub type BmpString = UnitString<u16, Bmp>;
 
-/// A UTF8String: any text.
-pub type Utf8String = String;
+/// The kind of BMPString.
+#[derive(Drop)]
+pub enum Bmp {}
 
 #[cfg(test)]
 mod tests {
