@@ -1,13 +1,15 @@
 -- What the lines of an input may say.
-use Rattle.std.specs.Prelude.{ℕ, ◌-◌, ◌&&◌, ◌==◌, zero, suc, if◌then◌else◌, codes, List, [], ◌∷◌, Option, Some, None, length, take, option_map, option_and_then}
-use Rattle.std.specs.Option.{option_map_or}
+use Rattle.std.specs.Prelude.{ℕ, ℤ, ◌+◌, ◌-◌, ◌&&◌, ◌==◌, zero, suc, if◌then◌else◌, codes, List, [], ◌∷◌, Option, Some, None, length, take, drop, position, option_map, option_and_then}
+use Rattle.std.specs.Option.{option_or, option_map_or}
 use Rattle.std.specs.Str.{bytes_eq}
 use Rattle.std.specs.Io.BufRead.{ends_with_byte}
 use Rattle.asn1_tags.specs.Trees.{Tree, Trees, leaf, choice, none, more}
 use Rattle.asn1_tags.specs.declared.classes.Class.{Class}
 use Rattle.asn1_tags.specs.declared.classes.Class.TheVariants.{Universal, Application, Context, Private}
 use Rattle.asn1_tags.specs.declared.tags.Tag.{Tag}
-use Rattle.asn1_check.specs.Names.{is_name, number_of}
+use Rattle.asn1_bounds.specs.declared.bounded.Bounded.{Bounded}
+use Rattle.asn1_bounds.specs.declared.bounded.Bounded.TheVariants as bounded
+use Rattle.asn1_check.specs.Names.{is_name, number_of, integer_of}
 use Rattle.asn1_check.specs.Parts.{parts_of}
 
 -- the class that a letter names
@@ -53,16 +55,45 @@ tree_of (suc depth) text =
 abbrev pub deepest : ℕ
 deepest = 16
 
+-- an end of a range, which may be missing
+abbrev pub end_of : List ℕ → Option (Option ℤ)
+end_of [] = Some None
+end_of (byte ∷ bytes) = option_map (λ number. Some number) (integer_of (byte ∷ bytes))
+
+-- a range: the text of its start, a dot, and what stands behind that, another dot and the text of its end
+abbrev pub range_of : List ℕ → List ℕ → Option (Bounded ℤ)
+range_of start [] = None
+range_of start (byte ∷ bytes) =
+    if byte == 46 then option_and_then (λ first. option_map (λ last. bounded.Range first last) (end_of bytes)) (end_of start) else None
+
+-- a bound: `none`, a number, or two dots with an optional number on each side
+abbrev pub bound_of : List ℕ → Option (Bounded ℤ)
+bound_of text =
+    if bytes_eq text (codes "none") then Some bounded.None
+    else option_map_or (λ dot. range_of (take dot text) (drop (dot + 1) text)) (position (λ byte. byte == 46) text) (option_map (λ number. bounded.Single number) (integer_of text))
+
 -- what a line says
 pub data Statement : Type 0 where
   -- that a name stands for a tree
   names_tree : List ℕ → Tree → Statement
+  -- that a name stands for what two bounds have in common
+  names_bounds : List ℕ → Bounded ℤ → Bounded ℤ → Statement
 
 -- the name and the text of the tree, where the parts of a line are `tree`, a name and one more
 abbrev pub tree_line : List (List ℕ) → Option (List ℕ × List ℕ)
 tree_line (keyword ∷ name ∷ text ∷ []) = if bytes_eq keyword (codes "tree") && is_name name then Some (name, text) else None
 tree_line _ = None
 
+-- the name and the bounds, where the parts of a line are `bound`, a name, a bound, `&` and a bound
+abbrev pub bound_line : List (List ℕ) → Option (List ℕ × Bounded ℤ × Bounded ℤ)
+bound_line (keyword ∷ name ∷ first ∷ ampersand ∷ second ∷ []) =
+    if bytes_eq keyword (codes "bound") && (is_name name && bytes_eq ampersand (codes "&"))
+    then option_and_then (λ a. option_map (λ b. (name, a, b)) (bound_of second)) (bound_of first) else None
+bound_line _ = None
+
 -- what a line says, if it is understood
 abbrev pub statement_of : List ℕ → Option Statement
-statement_of line = option_and_then (λ (name, text). option_map (names_tree name) (tree_of deepest text)) (tree_line (parts_of line))
+statement_of line =
+    option_or
+    (option_and_then (λ (name, text). option_map (names_tree name) (tree_of deepest text)) (tree_line (parts_of line)))
+    (option_map (λ (name, a, b). names_bounds name a b) (bound_line (parts_of line)))

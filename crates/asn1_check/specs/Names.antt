@@ -1,8 +1,9 @@
 -- Names and numbers, as they are written.
-use Rattle.std.specs.Prelude.{ℕ, Bool, false, not, ◌&&◌, ◌||◌, ◌==◌, ◌^◌, nat_le, nat_lt, if◌then◌else◌, List, [], ◌∷◌, Option, Some, None, length}
+use Rattle.std.specs.Prelude.{ℕ, ℤ, pos, negsuc, codes, Bool, false, not, ◌&&◌, ◌||◌, ◌==◌, ◌^◌, nat_le, nat_lt, if◌then◌else◌, List, [], ◌∷◌, Option, Some, None, length}
 use Rattle.std.specs.List.{list_all}
 use Rattle.std.specs.Char.{is_ascii_alphanumeric, is_ascii_digit}
-use Rattle.std.specs.Str.Parse.{digits_value}
+use Rattle.std.specs.Str.{bytes_eq}
+use Rattle.std.specs.Str.Parse.{digits_value, signed_digits_value}
 
 -- a letter, a digit, `-` or `_`
 abbrev pub is_name_byte : ℕ → Bool
@@ -22,3 +23,19 @@ is_plain_number (digit ∷ digits) = not (digit == 48) && list_all is_ascii_digi
 abbrev pub number_of : List ℕ → Option ℕ
 number_of digits =
     if is_plain_number digits && nat_lt (digits_value 10 digits) (2 ^ 32) then Some (digits_value 10 digits) else None
+
+-- such digits, or a minus and such digits of another number than 0
+abbrev pub is_plain_integer : List ℕ → Bool
+is_plain_integer [] = false
+is_plain_integer (first ∷ rest) =
+    if first == 45 then is_plain_number rest && not (bytes_eq rest (codes "0")) else is_plain_number (first ∷ rest)
+
+-- whether 128 bits hold the number with its sign
+abbrev pub fits_i128 : ℤ → Bool
+fits_i128 (pos n) = nat_lt n (2 ^ 127)
+fits_i128 (negsuc n) = nat_lt n (2 ^ 127)
+
+-- the number of 128 bits that is written so
+abbrev pub integer_of : List ℕ → Option ℤ
+integer_of text =
+    let number = signed_digits_value 10 text in if is_plain_integer text && fits_i128 number then Some number else None

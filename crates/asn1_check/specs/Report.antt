@@ -1,12 +1,15 @@
 -- The report of an input: what the program writes, as a function of the bytes that it reads.
-use Rattle.std.specs.Prelude.{ℕ, ◌+◌, ◌-◌, ◌^◌, Bool, true, ◌++◌, min, if◌then◌else◌, codes, List, [], ◌∷◌, Option, Some, length, is_some, option_and_then}
+use Rattle.std.specs.Prelude.{ℕ, ℤ, ◌+◌, ◌-◌, ◌^◌, Bool, true, ◌++◌, min, if◌then◌else◌, codes, List, [], ◌∷◌, Option, Some, length, is_some, unwrap_or, option_and_then}
 use Rattle.std.specs.List.{list_all}
 use Rattle.std.specs.Option.{option_map_or}
-use Rattle.std.specs.Fmt.{decimal}
+use Rattle.std.specs.Fmt.{decimal, signed_decimal}
+use Rattle.asn1_bounds.specs.Intersection.{intersection}
+use Rattle.asn1_bounds.specs.Text.{bound_text}
+use Rattle.asn1_bounds.specs.declared.bounded.Bounded.{Bounded}
 use Rattle.asn1_tags.specs.Tags.{distinct, smallest, tag_text}
 use Rattle.asn1_tags.specs.Trees.{leaves}
 use Rattle.asn1_tags.specs.declared.tags.Tag.{Tag}
-use Rattle.asn1_check.specs.Grammar.{Statement, names_tree, statement_of}
+use Rattle.asn1_check.specs.Grammar.{Statement, names_tree, names_bounds, statement_of}
 use Rattle.asn1_check.specs.Lines.{kept, lines_of}
 
 -- the text of a verdict on a tree: whether no tag stands twice, the smallest tag, and the number of leaves
@@ -19,9 +22,14 @@ verdict_of unique tag count =
 abbrev pub tree_verdict : List Tag → List ℕ
 tree_verdict tags = verdict_of (distinct tags) (smallest tags) (length tags)
 
+-- the text of what two bounds have in common
+abbrev pub common_text : Option (Bounded ℤ) → List ℕ
+common_text both = option_map_or (λ bound. unwrap_or (bound_text (λ number. Some (signed_decimal number)) bound) []) both (codes "nothing in common")
+
 -- the verdict on what a line says
 abbrev pub verdict : Statement → List ℕ
 verdict (names_tree name tree) = codes "tree " ++ name ++ codes ": " ++ tree_verdict (leaves tree)
+verdict (names_bounds name a b) = codes "bound " ++ name ++ codes ": " ++ common_text (intersection (λ number. number) a b)
 
 -- where a line stands: what its text depends on beside the line itself
 pub record Place : Type 0 where

@@ -1,7 +1,16 @@
--- The text of a verdict on a tree.
-use Rattle.std.specs.Prelude.{ℕ, List}
+-- The texts of verdicts.
+use Rattle.std.specs.Prelude.{ℕ, List, Option, Some, codes}
+use Rattle.std.specs.Fmt.{signed_decimal}
+use Rattle.std.specs.Option.{option_map_or}
+use Rattle.asn1_bounds.specs.Text.{bound_text}
 use Rattle.asn1_check.specs.Report.{verdict_of}
+use Rattle.asn1_check.specs.declared.verdict.Common.{Common}
 use Rattle.asn1_check.specs.declared.verdict.TreeVerdict.{TreeVerdict}
 
+-- of a verdict on a tree
 abbrev pub verdict_text : TreeVerdict → List ℕ
 verdict_text verdict = verdict_of verdict.is_unique verdict.smallest verdict.leaf_count
+
+-- of what two bounds have in common
+abbrev pub text_of_common : Common → Option (List ℕ)
+text_of_common common = option_map_or (bound_text (λ number. Some (signed_decimal number))) common.0 (Some (codes "nothing in common"))

@@ -1,5 +1,5 @@
 // The answer to a line.
-ghost use Rattle.std.specs.Prelude.{◌≡◌, ◌<◌, ◌^◌, ◌++◌, ◌∷◌, [], codes, length, IfOk, OnOk, option_map};
+ghost use Rattle.std.specs.Prelude.{◌≡◌, ◌<◌, ◌^◌, ◌++◌, ◌∷◌, [], codes, length, IfOk, IfSome, OnOk, option_map};
 ghost use Rattle.std.specs.Fmt.{decimal};
 ghost use Rattle.asn1_tags.specs.Trees.{leaves};
 ghost use Rattle.asn1_check.specs.Parts.{parts_of};
@@ -7,12 +7,14 @@ ghost use Rattle.asn1_check.specs.Grammar.{deepest, tree_line, tree_of};
 ghost use Rattle.asn1_check.specs.Verdict.{verdict_text};
 ghost use Rattle.asn1_check.specs.Report.{tree_verdict, text_of, is_understood};
 
+use crate::bound::bound_line;
 use crate::names::is_name;
 use crate::parts::Parts;
 use crate::tree::read_tree;
-use crate::verdict::TreeVerdict;
+use crate::verdict::{Common, TreeVerdict};
 use asn1_tags::TagTree;
 use std::alloc::AllocError;
+use std::fmt::Display;
 use std::io::Write;
 
 // How many brackets of a tree may be open at once.
@@ -33,12 +35,18 @@ fn tree_line(line: &[u8]) -> Option<(&[u8], &[u8])>
     }
 }
 
-// Writes the answer to a line on a name that stands for a tree.
-fn write_verdict(name: &[u8], verdict: TreeVerdict, text: &mut Vec<u8>) -> Result<(), AllocError>
-    ensures { OnOk result (text.new.items ≡ text.old.items
-        ++ (codes "tree " ++ name.now ++ codes ": " ++ verdict_text verdict ++ 10 ∷ [])) }
+// Writes the answer to a line of that kind on a name.
+fn write_answer<V: Display + Drop>(
+    kind: &str,
+    name: &[u8],
+    verdict: V,
+    text: &mut Vec<u8>,
+) -> Result<(), AllocError>
+    ensures { OnOk result (IfSome (V.output verdict) (λ said. text.new.items ≡ text.old.items
+        ++ (kind.now ++ codes " " ++ name.now ++ codes ": " ++ said ++ 10 ∷ []))) }
 {
-    text.extend_from_slice(b"tree ")?;
+    text.extend_from_slice(kind.as_bytes())?;
+    text.extend_from_slice(b" ")?;
     text.extend_from_slice(name)?;
     match writeln!(text, ": {verdict}") {
         Ok(()) => Ok(()),
@@ -93,9 +101,13 @@ pub(crate) fn answer(
     }
     if let Some((name, tree)) = line.and_then(tree_line) {
         if let Some(verdict) = tree_verdict(tree, nodes)? {
-            write_verdict(name, verdict, text)?;
+            write_answer("tree", name, verdict, text)?;
             return Ok(true);
         }
+    }
+    if let Some((name, first, second)) = line.and_then(bound_line) {
+        write_answer("bound", name, Common::of(&first, &second), text)?;
+        return Ok(true);
     }
     write_refusal(number, text)?;
     Ok(false)

@@ -14,6 +14,7 @@
 #![tactic(auto)]
 
 mod answer;
+mod bound;
 mod check;
 mod checker;
 mod error;

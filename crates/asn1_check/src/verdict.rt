@@ -1,8 +1,9 @@
-// The verdict on a tree.
+// Verdicts.
 ghost use Rattle.std.specs.Prelude.{◌≡◌, ◌<◌, ◌^◌, Some, length};
 ghost use Rattle.asn1_tags.specs.Trees.{leaves_of, shapes};
 ghost use Rattle.asn1_check.specs.Report.{tree_verdict};
 
+use asn1_bounds::Bounded;
 use asn1_tags::{Tag, TagTree};
 use std::fmt;
 
@@ -41,5 +42,35 @@ impl fmt::Display for TreeVerdict {
         let smallest = self.smallest;
         let count = self.leaf_count;
         write!(f, "{uniqueness}, smallest {smallest}, {count} leaves")
+    }
+}
+
+/// What two bounds have in common.
+#[derive(Clone, Copy)]
+pub(crate) struct Common(Option<Bounded<i128>>);
+
+impl Common {
+    ghost use Rattle.std.specs.Prelude.{Some};
+    ghost use Rattle.asn1_bounds.specs.Intersection.{intersection};
+    ghost use Rattle.asn1_check.specs.Report.{common_text};
+    ghost use Rattle.asn1_check.specs.Verdict.{text_of_common};
+
+    pub(crate) fn of(first: &Bounded<i128>, second: &Bounded<i128>) -> Common
+        ensures { text_of_common result ≡ Some (common_text (intersection (λ number. number) first.now second.now)) }
+    {
+        Common(first.intersect(second))
+    }
+}
+
+impl fmt::Display for Common {
+    ghost use Rattle.asn1_check.specs.Verdict.{text_of_common};
+
+    ghost output = { text_of_common };
+
+    fn fmt<W: fmt::Write>(&self, f: &mut fmt::Formatter<W>) -> fmt::Result {
+        match self.0 {
+            Some(bound) => write!(f, "{bound}"),
+            None => write!(f, "nothing in common"),
+        }
     }
 }
