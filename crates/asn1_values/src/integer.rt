@@ -1,5 +1,5 @@
 //! Whole numbers of any size.
-ghost use Rattle.std.specs.Prelude.{◌≡◌, ◌↔◌, pos, ◌<ℤ◌, FitsSigned, IsTrue, IfOk, unsigned_abs};
+ghost use Rattle.std.specs.Prelude.{◌≡◌, ◌↔◌, pos, ◌<ℤ◌, FitsSigned, IsTrue, IsOk, IfOk, unsigned_abs};
 ghost use Rattle.std.specs.Int.{FitsUnsigned, w128};
 ghost use Rattle.std.specs.Option.{SomeIff};
 ghost use Rattle.asn1_values.specs.Numbers.{magnitude, signed, IsShortest, IsMagnitude};
@@ -48,13 +48,15 @@ impl Integer {
     }
 
     /// The number of a sign and a magnitude, whose bytes go from the most significant to the least.
-    /// Leading zeros count for nothing, and a negative zero is 0.
+    /// Leading zeros count for nothing, and a negative zero is 0. Memory is taken only where the number
+    /// is no `i128`.
     pub fn from_sign_magnitude(
         alloc: Global,
         negative: bool,
         bytes: &[u8],
     ) -> Result<Self, AllocError>
-        ensures { IfOk result (λ number. number ≡ signed negative (magnitude bytes.now)) }
+        ensures number { IfOk result (λ number. number ≡ signed negative (magnitude bytes.now)) }
+        ensures succeeds { FitsSigned w128 (signed negative (magnitude bytes.now)) → IsOk result }
     {
         match magnitude::to_i128(negative, bytes) {
             Some(number) => Ok(Self::from_i128(number)),
@@ -113,7 +115,8 @@ impl Integer {
 
     /// The same number again.
     pub(crate) fn try_clone(&self, alloc: Global) -> Result<Self, AllocError>
-        ensures { IfOk result (λ copy. copy ≡ self.now) }
+        ensures number { IfOk result (λ copy. copy ≡ self.now) }
+        ensures succeeds { FitsSigned w128 self.now → IsOk result }
     {
         match &self.form {
             Form::Narrow(number) => Ok(Self::from_i128(*number)),

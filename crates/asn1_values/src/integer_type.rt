@@ -1,5 +1,5 @@
 //! What the types of whole numbers have in common (X.680, 19: the values of INTEGER are all whole numbers).
-ghost use Rattle.std.specs.Prelude.{◌≡◌, ◌↔◌, ℤ, pos, ◌<ℤ◌, FitsSigned, IsTrue, IsSome, IfSome, IfOk};
+ghost use Rattle.std.specs.Prelude.{◌≡◌, ◌↔◌, ℤ, pos, ◌<ℤ◌, FitsSigned, IsTrue, IsOk, IsSome, IfSome, IfOk};
 ghost use Rattle.std.specs.Int.{w128};
 ghost use Rattle.std.specs.Option.{SomeIff};
 
@@ -28,10 +28,11 @@ pub trait IntegerType: Sized {
     fn is_negative(&self) -> bool
         ensures { IsTrue result ↔ (number self.now <ℤ pos 0) };
 
-    /// The number as an [`Integer`].
+    /// The number as an [`Integer`], which takes memory only where the number is no `i128`.
     fn to_integer(&self, alloc: Global) -> Result<Integer, AllocError>
         ensures same_number { IfOk result (λ integer. integer ≡ number self.now) }
-        ensures fitting { fits (number self.now) };
+        ensures fitting { fits (number self.now) }
+        ensures succeeds { FitsSigned w128 (number self.now) → IsOk result };
 
     /// The value of this type with that number, if the type has one.
     fn try_from_integer(integer: Integer) -> Option<Self>

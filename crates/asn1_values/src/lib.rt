@@ -30,7 +30,8 @@
 //! - `LimitedInteger::new` succeeds exactly within the limits (`within`).
 //!
 //! Calls that take memory take the allocator, and fail only where there is none: `from_sign_magnitude`,
-//! `sign_magnitude` and `to_integer`.
+//! `sign_magnitude` and `to_integer`. The first and the last take none for a number of 128 bits
+//! (`succeeds`).
 #![tactic(auto)]
 
 mod constrained;
