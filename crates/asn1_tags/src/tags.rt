@@ -11,7 +11,9 @@ use std::fmt;
 /// Tags are ordered by class and then by number, which is the canonical order of X.680, 8.6.
 #[derive(Clone, Copy, PartialEq, Eq, PartialOrd, Ord, Hash, Debug)]
 pub struct Tag {
+    /// The class.
     pub class: Class,
+    /// The number within the class.
     pub value: u32,
 }
 
