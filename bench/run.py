@@ -18,16 +18,37 @@ PROGRAM = os.path.join(CRATE, "out", "asn1_check")
 KINDS = {
     "trees of 8 leaves": b"tree t (U0 U3 (A0 A1) (C0 C2) P0 P1)\n",
     "lines that are not understood": b"tree t (U0 U3 (A0 A1) (C0 C2) P0 P1]\n",
+    "bounds": b"bound b -5..1000000 & 17..\n",
 }
+
+
+def peak_memory(process):
+    """The peak memory of a running program so far in MB, as the system counts it since the program began."""
+    with open(f"/proc/{process.pid}/status") as status:
+        for line in status:
+            if line.startswith("VmHWM:"):
+                return int(line.split()[1]) / 1000
+    return 0.0
 
 
 def run(path):
     """Runs the program on a file, and gives its seconds and its peak memory in MB."""
+    memory = 0.0
     with open(path, "rb") as source, open(os.devnull, "wb") as sink:
         began = time.monotonic()
-        child = subprocess.Popen([PROGRAM], stdin=source, stdout=sink)
-        _, _, used = os.wait4(child.pid, 0)
-        return time.monotonic() - began, used.ru_maxrss / 1024
+        process = subprocess.Popen([PROGRAM], stdin=source, stdout=sink)
+        while process.poll() is None:
+            memory = max(memory, peak_memory(process))
+            time.sleep(0.001)
+        return time.monotonic() - began, memory
+
+
+def write_lines(source, line, megabytes):
+    """Fills the file with the line, over and over."""
+    lines = line * 1000
+    for _ in range(megabytes * 10**6 // len(lines)):
+        source.write(lines)
+    source.flush()
 
 
 def main():
@@ -36,8 +57,7 @@ def main():
     for kind, line in KINDS.items():
         for megabytes in (1, 10, 100):
             with tempfile.NamedTemporaryFile() as source:
-                source.write(line * (megabytes * 10**6 // len(line)))
-                source.flush()
+                write_lines(source, line, megabytes)
                 runs = [run(source.name) for _ in range(3)]
             seconds = min(seconds for seconds, _ in runs)
             memory = max(memory for _, memory in runs)

@@ -13,108 +13,112 @@ fn checked(alloc: Global, input: &[u8]) -> (Result<bool, CheckError>, Vec<u8>) {
     (answer, written)
 }
 
+// Lines that are understood, and what is written for them.
+const UNDERSTOOD: &[(&str, &str)] = &[
+    (
+        "tree t (U0 U3 (A0 A1) ((A0) A0 C2) P1 P1)\n",
+        "tree t: repeated, smallest Universal 0, 9 leaves\n",
+    ),
+    (
+        "tree t (U0 (A0 A1) (U1 (A1)))\n",
+        "tree t: repeated, smallest Universal 0, 5 leaves\n",
+    ),
+    (
+        "tree t (C0 U3)\n",
+        "tree t: unique, smallest Universal 3, 2 leaves\n",
+    ),
+    (
+        "tree e ()\n",
+        "tree e: unique, smallest Private 4294967295, 0 leaves\n",
+    ),
+    (
+        "tree t U5\n",
+        "tree t: unique, smallest Universal 5, 1 leaves\n",
+    ),
+    (
+        "tree t (P4294967295 ())\n",
+        "tree t: unique, smallest Private 4294967295, 1 leaves\n",
+    ),
+    (
+        "tree a-Z_9 ((((A7))))\n",
+        "tree a-Z_9: unique, smallest Application 7, 1 leaves\n",
+    ),
+    ("bound b 1..10 & 5..15", "bound b: 5..10\n"),
+    ("bound b 1.. & ..10", "bound b: 1..10\n"),
+    ("bound b none & 5..3", "bound b: 5..3\n"),
+    ("bound b .. & 5", "bound b: 5\n"),
+    ("bound b 1..5 & 6..10", "bound b: nothing in common\n"),
+    ("bound b 5..3 & 1..10", "bound b: nothing in common\n"),
+    ("bound b none & none", "bound b: ..\n"),
+    ("bound b -7 & -7..0", "bound b: -7\n"),
+    (
+        "bound b -170141183460469231731687303715884105728.. & ..170141183460469231731687303715884105727",
+        "bound b: -170141183460469231731687303715884105728..170141183460469231731687303715884105727\n",
+    ),
+    ("", ""),
+    ("\n\n\n", ""),
+    (
+        "tree t U5",
+        "tree t: unique, smallest Universal 5, 1 leaves\n",
+    ),
+];
+
 #[test]
 fn verdicts(rt: HostRuntime) {
-    let cases = [
-        (
-            "tree t (U0 U3 (A0 A1) ((A0) A0 C2) P1 P1)\n",
-            "tree t: repeated, smallest Universal 0, 9 leaves\n",
-        ),
-        (
-            "tree t (U0 (A0 A1) (U1 (A1)))\n",
-            "tree t: repeated, smallest Universal 0, 5 leaves\n",
-        ),
-        (
-            "tree t (C0 U3)\n",
-            "tree t: unique, smallest Universal 3, 2 leaves\n",
-        ),
-        (
-            "tree e ()\n",
-            "tree e: unique, smallest Private 4294967295, 0 leaves\n",
-        ),
-        (
-            "tree t U5\n",
-            "tree t: unique, smallest Universal 5, 1 leaves\n",
-        ),
-        (
-            "tree t (P4294967295 ())\n",
-            "tree t: unique, smallest Private 4294967295, 1 leaves\n",
-        ),
-        (
-            "tree a-Z_9 ((((A7))))\n",
-            "tree a-Z_9: unique, smallest Application 7, 1 leaves\n",
-        ),
-        ("bound b 1..10 & 5..15", "bound b: 5..10\n"),
-        ("bound b 1.. & ..10", "bound b: 1..10\n"),
-        ("bound b none & 5..3", "bound b: 5..3\n"),
-        ("bound b .. & 5", "bound b: 5\n"),
-        ("bound b 1..5 & 6..10", "bound b: nothing in common\n"),
-        ("bound b 5..3 & 1..10", "bound b: nothing in common\n"),
-        ("bound b none & none", "bound b: ..\n"),
-        ("bound b -7 & -7..0", "bound b: -7\n"),
-        (
-            "bound b -170141183460469231731687303715884105728.. & ..170141183460469231731687303715884105727",
-            "bound b: -170141183460469231731687303715884105728..170141183460469231731687303715884105727\n",
-        ),
-        ("", ""),
-        ("\n\n\n", ""),
-        (
-            "tree t U5",
-            "tree t: unique, smallest Universal 5, 1 leaves\n",
-        ),
-    ];
-    for (input, wanted) in cases {
+    for (input, wanted) in UNDERSTOOD {
         let (answer, written) = checked(rt.alloc(), input.as_bytes());
         assert_eq!(rt; answer, Ok(true), "{input}");
         assert_eq!(rt; written.as_slice(), wanted.as_bytes(), "{input}");
     }
 }
 
+// Lines that are not.
+const REFUSED: &[&str] = &[
+    "tree t (U0",
+    "tree t U0)",
+    "tree t (U0))",
+    "tree t (U0)(U1)",
+    "tree t U05",
+    "tree t U4294967296",
+    "tree t U",
+    "tree t U+1",
+    "tree t X1",
+    "tree t u1",
+    "tree t (U0  U1)",
+    "tree t ( U0)",
+    "tree t (U0 )",
+    "tree t  U0",
+    " tree t U0",
+    "tree t U0 ",
+    "tree t U0\r",
+    "\r",
+    "tree t",
+    "tree  U0",
+    "tree a.b U0",
+    "tree t U0 U1",
+    "trees t U0",
+    "Tree t U0",
+    "tree t U\u{661}",
+    "tree \u{e9} U0",
+    "bound b 1",
+    "bound b 1 & 2 & 3",
+    "bound b 1 + 2",
+    "bound b 1& 2",
+    "bound b 01 & 2",
+    "bound b -0 & 2",
+    "bound b +1 & 2",
+    "bound b 1.2 & 2",
+    "bound b 1... & 2",
+    "bound b 1..2..3 & 2",
+    "bound b -170141183460469231731687303715884105729 & 1",
+    "bound b 170141183460469231731687303715884105728 & 1",
+    "bounds b 1 & 2",
+    "end",
+];
+
 #[test]
 fn refused_lines(rt: HostRuntime) {
-    let cases = [
-        "tree t (U0",
-        "tree t U0)",
-        "tree t (U0))",
-        "tree t (U0)(U1)",
-        "tree t U05",
-        "tree t U4294967296",
-        "tree t U",
-        "tree t U+1",
-        "tree t X1",
-        "tree t u1",
-        "tree t (U0  U1)",
-        "tree t ( U0)",
-        "tree t (U0 )",
-        "tree t  U0",
-        " tree t U0",
-        "tree t U0 ",
-        "tree t U0\r",
-        "\r",
-        "tree t",
-        "tree  U0",
-        "tree a.b U0",
-        "tree t U0 U1",
-        "trees t U0",
-        "Tree t U0",
-        "tree t U\u{661}",
-        "tree \u{e9} U0",
-        "bound b 1",
-        "bound b 1 & 2 & 3",
-        "bound b 1 + 2",
-        "bound b 1& 2",
-        "bound b 01 & 2",
-        "bound b -0 & 2",
-        "bound b +1 & 2",
-        "bound b 1.2 & 2",
-        "bound b 1... & 2",
-        "bound b 1..2..3 & 2",
-        "bound b -170141183460469231731687303715884105729 & 1",
-        "bound b 170141183460469231731687303715884105728 & 1",
-        "bounds b 1 & 2",
-        "end",
-    ];
-    for line in cases {
+    for line in REFUSED {
         let (answer, written) = checked(rt.alloc(), line.as_bytes());
         assert_eq!(rt; answer, Ok(false), "{line}");
         assert_eq!(rt;
