@@ -1,6 +1,6 @@
 -- What the intersection of two bounds has for members.
-use Rattle.std.proofs.Common.{◌≡◌, ◌↔◌, ℤ, pos, ◌≤ℤ◌, ◌<ℤ◌, Bool, true, false, cond, ◌||◌, ◌⊎◌, inl, inr, Option, Some, None, refl, ap, arith, rules}
-use Rattle.std.specs.Prelude.{⊤, IsSomeAnd, IfSome, IfNone, int_lt}
+use Rattle.std.proofs.Common.{◌≡◌, ◌↔◌, ℤ, pos, ◌≤ℤ◌, Bool, true, false, cond, ◌||◌, Option, Some, None, refl, ap, arith, rules}
+use Rattle.std.specs.Prelude.{IsSomeAnd, IfSome, IfNone, int_lt}
 use Rattle.std.proofs.lemmas.Int.{ints}
 use Rattle.asn1_bounds.specs.Ends.{start_of, end_of, is_single}
 use Rattle.asn1_bounds.specs.Intersection.{greater_start, lesser_end, bound_between, common, intersection}

@@ -1,7 +1,7 @@
 -- The laws of intersection, with a bound without members in place of none: it commutes, it associates, and its members
 -- are the common ones.
-use Rattle.std.proofs.Common.{◌≡◌, ◌↔◌, ◌∙◌, sym, ap, ℤ, pos, negsuc, ◌≤ℤ◌, ◌<ℤ◌, Bool, true, false, cond, ◌||◌, ◌⊎◌, inl, inr, Option, Some, None, refl, arith, rules}
-use Rattle.std.specs.Prelude.{⊤, IsSomeAnd, IfSome, IfNone, int_lt, unwrap_or}
+use Rattle.std.proofs.Common.{◌≡◌, ◌↔◌, ◌∙◌, sym, ap, ℤ, ◌<ℤ◌, Bool, true, false, cond, ◌||◌, ◌⊎◌, inl, inr, Option, Some, None, refl, arith}
+use Rattle.std.specs.Prelude.{IfSome, IfNone, int_lt, unwrap_or}
 use Rattle.std.proofs.lemmas.Int.{ints}
 use Rattle.asn1_bounds.specs.Ends.{start_of, end_of, is_single}
 use Rattle.asn1_bounds.specs.Intersection.{greater_start, lesser_end, bound_between, common, intersection, intersection_or}

@@ -1,5 +1,5 @@
 -- The laws of intersection at the two kinds of constraint that have bounds.
-use Rattle.std.proofs.Common.{◌≡◌, ◌↔◌, ℕ, ℤ, pos, negsuc, ◌<ℤ◌, refl, arith, rules}
+use Rattle.std.proofs.Common.{◌≡◌, ◌↔◌, ℕ, ℤ, pos, negsuc, ◌<ℤ◌, arith}
 use Rattle.std.proofs.lemmas.Int.{ints}
 use Rattle.asn1_bounds.specs.Kinds.{HasValue, HasLength, value_intersection, size_intersection}
 use Rattle.asn1_bounds.specs.declared.bounded.Bounded.{Bounded}

@@ -1,9 +1,9 @@
 -- The laws of constraint sets: intersection associates, and the set of a list is the intersection of its constraints'.
-use Rattle.std.proofs.Common.{◌≡◌, ◌↔◌, ◌∙◌, sym, ap, ℕ, ◌+◌, ◌<◌, ℤ, Bool, true, false, cond, ◌||◌, List, [], ◌∷◌, ◌++◌, length, take, get_or, Option, Some, None, refl, arith, rules}
+use Rattle.std.proofs.Common.{◌≡◌, ◌↔◌, ◌∙◌, sym, ap, ℕ, ◌+◌, ◌<◌, ℤ, Bool, true, false, cond, ◌||◌, List, [], ◌∷◌, ◌++◌, length, take, get_or, Option, Some, None, refl}
 use Rattle.std.specs.Prelude.{⊤, All, MatchOption, is_some}
 use Rattle.std.proofs.lemmas.List.{take_more}
 use Rattle.std.proofs.lemmas.List.Elements.{All-nil, All-cons, All-head, All-tail}
-use Rattle.asn1_bounds.specs.Kinds.{HasValue, HasLength, value_intersection, size_intersection}
+use Rattle.asn1_bounds.specs.Kinds.{HasValue, HasLength}
 use Rattle.asn1_bounds.specs.Sets.{both_values, both_sizes, second_alphabet, part_intersection, parts_intersection, set_intersection, no_constraints, set_of, set_of_all, AdmitsValue, AdmitsLength}
 use Rattle.asn1_bounds.specs.declared.constraint.Constraint.{Constraint}
 use Rattle.asn1_bounds.specs.declared.constraints.Constraints.{Constraints}

@@ -1,6 +1,6 @@
 -- The intersection of two bounds, in its exact shape.
 -- `number` says which whole number a value of the bounds' type is.
-use Rattle.std.specs.Prelude.{ℤ, int_lt, Bool, true, false, ◌||◌, Option, None, Some, unwrap_or, if◌then◌else◌}
+use Rattle.std.specs.Prelude.{ℤ, int_lt, Bool, ◌||◌, Option, None, Some, unwrap_or, if◌then◌else◌}
 use Rattle.asn1_bounds.specs.declared.bounded.Bounded.{Bounded}
 use Rattle.asn1_bounds.specs.declared.bounded.Bounded.TheVariants as bounded
 use Rattle.asn1_bounds.specs.Ends.{start_of, end_of, is_single}

@@ -1,5 +1,5 @@
 -- Constraint sets: what a list of constraints comes to, and what its root admits (X.680, 50).
-use Rattle.std.specs.Prelude.{ℕ, ℤ, ⊤, Bool, true, false, ◌&&◌, ◌||◌, is_some, List, [], ◌∷◌, Option, None, Some, MatchOption, if◌then◌else◌}
+use Rattle.std.specs.Prelude.{ℕ, ℤ, ⊤, Bool, true, false, ◌||◌, is_some, List, [], ◌∷◌, Option, None, Some, MatchOption, if◌then◌else◌}
 use Rattle.asn1_bounds.specs.declared.alphabet.PermittedAlphabet.{PermittedAlphabet}
 use Rattle.asn1_bounds.specs.declared.value.Value.{Value}
 use Rattle.asn1_bounds.specs.declared.size.Size.{Size}

@@ -1,6 +1,5 @@
-use Rattle.std.proofs.Common.{◌≡◌, ◌∙◌, Some}
-use Rattle.asn1_bounds.specs.Intersection.{intersection}
-use Rattle.asn1_bounds.proofs.Intersecting.{ordered-inhabited, IsCommon, intersection-IsCommon, intersection-None, intersection-common}
+use Rattle.std.proofs.Common.{◌∙◌}
+use Rattle.asn1_bounds.proofs.Intersecting.{ordered-inhabited, intersection-IsCommon, intersection-None, intersection-common}
 use Rattle.asn1_bounds.proofs.bounded.Bounded.intersect.Goals as goal
 
 pub returns-in-None-default-clause-inhabited : goal.returns-in-None-default-clause-inhabited

@@ -1,6 +1,6 @@
 use Rattle.std.proofs.Common.{◌≡◌, rules}
 use Rattle.asn1_bounds.specs.Sets.{set_intersection}
-use Rattle.asn1_bounds.proofs.SetLaws.{IsIntersection, is-intersection}
+use Rattle.asn1_bounds.proofs.SetLaws.{is-intersection}
 use Rattle.asn1_bounds.proofs.constraints.Constraints.intersect.Goals as goal
 
 pub returns : goal.returns
