@@ -3,3 +3,4 @@ pub mod Intersecting
 pub mod IntersectionLaws
 pub mod KindLaws
 pub mod SetLaws
+pub mod Outside

@@ -16,6 +16,7 @@
 //! - `Bounded::intersect` has the common members (`members`), and answers `None` only where there are none
 //!   (`disjoint`), and where neither side is inverted exactly then (`inhabited`). `shape` says which bound it is, and
 //!   `single` that a single stays one.
+//! - `Bounded::in_bound` is membership for a number of any size, and `Bounded::minimum` is the start or 0 (`start`, `zero`).
 //! - `Bounded::range` counts the members (`counted`), `Bounded::effective_value` gives offsets (`offset`), and
 //!   `Bounded::range_in_bytes` a sign and a width (`signed`, `octets`): each at every bound, and no sum wraps.
 //! - `Value::intersect` and `Size::intersect` have the common members (`members`), are `commutative` and
@@ -45,6 +46,7 @@ mod constraint;
 mod constraints;
 mod error;
 mod extensible;
+mod integers;
 mod intersection;
 mod number;
 mod octets;
