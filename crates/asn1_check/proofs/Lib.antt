@@ -5,3 +5,4 @@ pub mod VerdictLemmas
 pub mod LeafCounts
 pub mod Progress
 pub mod Reports
+pub mod Spellings

@@ -1,5 +1,5 @@
 -- What `parse` reads of decimal digits without a leading zero.
-use Rattle.std.proofs.Common.{◌≡◌, ℕ, ◌<◌, ◌^◌, Bool, true, false, cond, not, ◌&&◌, ◌==◌, List, [], ◌∷◌, length, Ok, Err, Some, None, Result, drop, refl, sym, ap, subst, ◌∙◌, arith, rules, ltb}
+use Rattle.std.proofs.Common.{◌≡◌, ℕ, ◌<◌, ◌^◌, Bool, true, false, cond, not, ◌&&◌, ◌==◌, List, [], ◌∷◌, length, get_or, Ok, Err, Some, None, Result, drop, refl, sym, ap, subst, ◌∙◌, arith, rules, ltb}
 use Rattle.std.specs.List.{list_all}
 use Rattle.std.specs.Char.{is_ascii_digit}
 use Rattle.std.specs.Str.{IsUtf8, bytes_eq}
@@ -12,7 +12,8 @@ use Rattle.std.proofs.lemmas.Bool.{eqb-true, ltb-true, lt-ltb}
 use Rattle.std.proofs.lemmas.Bool.Decides.{nat_tests}
 use Rattle.std.proofs.lemmas.Str.{IsUtf8-from_ascii}
 use Rattle.std.proofs.lemmas.Str.Ascii.{IsAscii-cons}
-use Rattle.std.proofs.lemmas.Fmt.{IsAscii-from_digits}
+use Rattle.std.specs.Fmt.{decimal}
+use Rattle.std.proofs.lemmas.Fmt.{IsAscii-from_digits, decimal-digits_value}
 use Rattle.std.proofs.lemmas.Str.Parse.{IsNumeralModel, numerals_by_value, parse_digits}
 use Rattle.asn1_check.specs.Names.{is_plain_number, is_plain_integer, fits_i128, number_of, integer_of}
 
@@ -96,3 +97,22 @@ integer_read text (Err e) h parsed = by_test (fits_i128 (signed_digits_value 10 
     by_test false is =
         sym (ap (λ b. cond (b && fits_i128 (signed_digits_value 10 text)) (Some (signed_digits_value 10 text)) None) h
         ∙ ap (λ b. cond b (Some (signed_digits_value 10 text)) None) is)
+
+-- a digit 0 in front stands alone
+lone_zero : (ds : List ℕ) → is_plain_number ds ≡ true → get_or ds 0 0 ≡ 48 → length ds ≡ 1
+lone_zero [] h zero_first = cc
+lone_zero (d ∷ []) h zero_first = refl
+lone_zero (d ∷ e ∷ ds) h zero_first = grind (arith, common_steps, nat_tests)
+
+-- a number is written as its decimal text
+pub number_decimal : (digits : List ℕ) (n : ℕ) → number_of digits ≡ Some n → digits ≡ decimal n
+number_decimal digits n h = by_tests (is_plain_number digits) (ltb (digits_value 10 digits) (2 ^ 32)) refl refl h
+  where
+    by_tests : (p q : Bool) → is_plain_number digits ≡ p → ltb (digits_value 10 digits) (2 ^ 32) ≡ q →
+        cond (p && q) (Some (digits_value 10 digits)) None ≡ Some n → digits ≡ decimal n
+    by_tests true true plain small is =
+        let value : digits_value 10 digits ≡ n = cc in
+        let few = ltb-true (digits_value 10 digits) (2 ^ 32) small in
+        sym (decimal-digits_value own digits (plain_digits digits plain).0 (plain_digits digits plain).1 (lone_zero digits plain) (omega arith)) ∙ ap decimal value
+    by_tests true false plain small is = cc
+    by_tests false q plain small is = cc

@@ -7,3 +7,4 @@ pub mod Report
 pub mod Reading
 pub mod Held
 pub mod Verdict
+pub mod Spelling

@@ -1,7 +1,8 @@
-//! Checks schema tables: reads lines that name trees of tags, and writes a verdict on each.
+//! Checks schema tables: reads lines on trees of tags and on bounds, and writes a verdict on each.
 //!
 //! `tree NAME TREE` asks of a tree of tags whether a tag stands twice, which tag is the smallest, and how many leaves there are.
-//! Any other line is answered by `line N: not understood`, and the check goes on.
+//! `bound NAME B & B` asks what two bounds have in common. Any other line is answered by `line N: not understood`, and the check
+//! goes on.
 //!
 //! The program is [`check::check`] on standard input and output, whose contract is the theorem:
 //!
@@ -10,7 +11,8 @@
 //! * `reading`, `memory`: what stands written where a read failed or memory was wanted.
 //!
 //! The words of the definition: `specs/Lines.antt` has the lines of an input, `specs/Parts.antt` the parts of a line,
-//! `specs/Names.antt` names and numbers, `specs/Grammar.antt` tags, trees and what a line may say.
+//! `specs/Names.antt` names and numbers, `specs/Grammar.antt` tags, trees, bounds and what a line may say. A law of the definition
+//! is [`tree::trees_are_read_of_their_texts`]: what is read as a tree is that tree's text, as `specs/Spelling.antt` writes it.
 #![tactic(auto)]
 
 mod answer;

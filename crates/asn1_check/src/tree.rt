@@ -1,7 +1,8 @@
 // Trees of tags, as they are written.
-ghost use Rattle.std.specs.Prelude.{◌≡◌, ◌++◌, None, option_map, IfOk, MatchBool, IsSomeAnd};
-ghost use Rattle.asn1_tags.specs.Trees.{leaves, leaves_of, shapes};
+ghost use Rattle.std.specs.Prelude.{◌≡◌, ◌++◌, ℕ, List, None, Some, option_map, IfOk, MatchBool, IsSomeAnd};
+ghost use Rattle.asn1_tags.specs.Trees.{Tree, leaves, leaves_of, shapes};
 ghost use Rattle.asn1_check.specs.Grammar.{class_of, tag_of, between_brackets, elements_of, all_trees, tree_of};
+ghost use Rattle.asn1_check.specs.Spelling.{spelling};
 
 use crate::names::read_number;
 use crate::parts::Parts;
@@ -97,3 +98,9 @@ fn read_elements(
     }
     Ok(true)
 }
+
+/// A law of the definition that [`read_tree`] meets: what is read as a tree is the text of that tree, so no two
+/// trees are read of one text, and no byte of it is passed over.
+pub fn trees_are_read_of_their_texts()
+    ensures { (depth : ℕ) (text : List ℕ) (tree : Tree) → tree_of depth text ≡ Some tree → text ≡ spelling tree }
+{}
