@@ -1,5 +1,7 @@
 // Verdicts.
-ghost use Rattle.std.specs.Prelude.{◌≡◌, ◌<◌, ◌^◌, Some, length};
+ghost use Rattle.std.specs.Prelude.{◌≡◌, ◌≢◌, ◌<◌, ◌^◌, ◌↔◌, List, Some, length, AllPairs, IsTrue};
+ghost use Rattle.asn1_tags.specs.Tags.{IsSmallest, smallest, distinct};
+ghost use Rattle.asn1_tags.specs.declared.tags.Tag.{Tag};
 ghost use Rattle.asn1_tags.specs.Trees.{leaves_of, shapes};
 ghost use Rattle.asn1_check.specs.Report.{tree_verdict};
 
@@ -44,6 +46,13 @@ impl fmt::Display for TreeVerdict {
         write!(f, "{uniqueness}, smallest {smallest}, {count} leaves")
     }
 }
+
+/// Laws of the definition of a verdict: its smallest tag is one of the tags and at most each of them, and it says
+/// `unique` exactly where no tag stands twice.
+pub fn verdicts_mean_what_they_say()
+    ensures smallest { (tags : List Tag) → IsSmallest tags (smallest tags) }
+    ensures unique { (tags : List Tag) → IsTrue (distinct tags) ↔ AllPairs (λ s t. s ≢ t) tags }
+{}
 
 /// What two bounds have in common.
 #[derive(Clone, Copy)]

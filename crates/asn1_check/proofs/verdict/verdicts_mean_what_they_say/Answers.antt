@@ -1,0 +1,9 @@
+use Rattle.asn1_tags.proofs.Smallest.{smallest-is}
+use Rattle.asn1_tags.proofs.Distinct.{AllPairs-from_distinct, distinct-from_AllPairs}
+use Rattle.asn1_check.proofs.verdict.verdicts_mean_what_they_say.Goals as goal
+
+pub returns : goal.returns
+returns c = record {
+  smallest = smallest-is;
+  unique = λ tags. (AllPairs-from_distinct tags, distinct-from_AllPairs tags);
+}
