@@ -11,8 +11,9 @@
 //! * `reading`, `memory`: what stands written where a read failed or memory was wanted.
 //!
 //! The words of the definition: `specs/Lines.antt` has the lines of an input, `specs/Parts.antt` the parts of a line,
-//! `specs/Names.antt` names and numbers, `specs/Grammar.antt` tags, trees, bounds and what a line may say. A law of the definition
-//! is [`tree::trees_are_read_of_their_texts`]: what is read as a tree is that tree's text, as `specs/Spelling.antt` writes it.
+//! `specs/Names.antt` names and numbers, `specs/Grammar.antt` tags, trees, bounds and what a line may say. Laws of the
+//! definition: [`tree::trees_are_read_of_their_texts`] (what is read as a tree is that tree's text, as `specs/Spelling.antt` writes
+//! it) and [`verdict::verdicts_mean_what_they_say`].
 #![tactic(auto)]
 
 mod answer;
