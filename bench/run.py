@@ -15,9 +15,34 @@ ROOT = os.path.dirname(os.path.dirname(os.path.abspath(__file__)))
 CRATE = os.path.join(ROOT, "crates", "asn1_check")
 PROGRAM = os.path.join(CRATE, "out", "asn1_check")
 
+
+def wide_tree(step):
+    """A line with a tree of 700 leaves, all different, which ascend if the step is 1."""
+    leaves = (divmod(place * step % 700, 175) for place in range(700))
+    return ("tree t (" + " ".join(f"{'UACP'[number]}{value}" for number, value in leaves) + ")\n").encode()
+
+
+def table(kind, fields):
+    """A table of that kind with these fields, whose trees are given."""
+    lines = [f"f{place} {presence} {tree}" for place, (presence, tree) in enumerate(fields)]
+    return "\n".join([f"{kind} t", *lines, "end\n"]).encode()
+
+
+def wide_field(place):
+    """The tree of 100 leaves of the field at a place, in no order; no two such fields share a leaf."""
+    return "(" + " ".join(f"C{100 * place + leaf * 37 % 100}" for leaf in range(100)) + ")"
+
+
 KINDS = {
     "trees of 8 leaves": b"tree t (U0 U3 (A0 A1) (C0 C2) P0 P1)\n",
+    "trees of 700 leaves that ascend": wide_tree(1),
+    "trees of 700 leaves in no order": wide_tree(321),
     "lines that are not understood": b"tree t (U0 U3 (A0 A1) (C0 C2) P0 P1]\n",
+    "sequences of 30 fields": table("sequence", (("optional", f"C{place}") for place in range(30))),
+    "sets of 30 fields": table("set", (("required", f"C{place}") for place in range(30))),
+    "sequences of 256 fields": table("sequence", (("optional", f"C{place}") for place in range(256))),
+    "sets of 256 fields": table("set", (("required", f"C{place}") for place in range(256))),
+    "sets of 256 fields of 100 leaves": table("set", (("required", wide_field(place)) for place in range(256))),
     "bounds": b"bound b -5..1000000 & 17..\n",
 }
 
@@ -45,8 +70,8 @@ def run(path):
 
 def write_lines(source, line, megabytes):
     """Fills the file with the line, over and over."""
-    lines = line * 1000
-    for _ in range(megabytes * 10**6 // len(lines)):
+    lines = line * max(1, 10**6 // len(line))
+    for _ in range(megabytes):
         source.write(lines)
     source.flush()
 

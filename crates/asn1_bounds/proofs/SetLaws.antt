@@ -1,6 +1,7 @@
 -- The laws of constraint sets: intersection associates, and the set of a list is the intersection of its constraints'.
-use Rattle.std.proofs.Common.{◌≡◌, ◌↔◌, ◌∙◌, sym, ap, ℕ, ◌+◌, ◌<◌, ℤ, Bool, true, false, cond, ◌||◌, List, [], ◌∷◌, ◌++◌, length, take, get_or, Option, Some, None, refl}
+use Rattle.std.proofs.Common.{◌≡◌, ◌↔◌, ◌∙◌, sym, ap, ℕ, ◌+◌, ◌<◌, ℤ, cond, List, [], ◌∷◌, ◌++◌, length, take, get_or, Option, Some, None, refl}
 use Rattle.std.specs.Prelude.{⊤, All, MatchOption, is_some}
+use Rattle.std.proofs.Math.Bool.{or_assoc, or-false}
 use Rattle.std.proofs.lemmas.List.{take_more}
 use Rattle.std.proofs.lemmas.List.Elements.{All-nil, All-cons, All-head, All-tail}
 use Rattle.asn1_bounds.specs.Kinds.{HasValue, HasLength}
@@ -11,14 +12,6 @@ use Rattle.asn1_bounds.specs.declared.extensible.Extensible.{Extensible}
 use Rattle.asn1_bounds.specs.declared.size.Size.{Size}
 use Rattle.asn1_bounds.specs.declared.value.Value.{Value}
 use Rattle.asn1_bounds.proofs.KindLaws.{value_intersection-assoc, value_intersection-members, size_intersection-assoc, size_intersection-members}
-
-or_assoc : (p q r : Bool) → (p || q) || r ≡ p || (q || r)
-or_assoc true q r = refl
-or_assoc false q r = refl
-
-or_false : (p : Bool) → p || false ≡ p
-or_false true = refl
-or_false false = refl
 
 -- what is extensible of three is so of all three
 kept_assoc : {X : Type 0} (a b c : Option X) → cond (is_some c) (cond (is_some b) a None) None ≡ cond (is_some (cond (is_some c) b None)) a None
@@ -57,7 +50,7 @@ set_intersection-assoc a b c =
 
 pub set_intersection-none : (a : Constraints) → set_intersection a no_constraints ≡ a
 set_intersection-none a =
-    rw (parts_intersection-none both_values a.value, parts_intersection-none both_sizes a.size, parts_intersection-none second_alphabet a.permitted_alphabet, or_false a.extensible) refl
+    rw (parts_intersection-none both_values a.value, parts_intersection-none both_sizes a.size, parts_intersection-none second_alphabet a.permitted_alphabet, or-false a.extensible) refl
 
 -- the set of one list followed by another
 pub set_of_all-append : (xs ys : List Constraint) → set_of_all (xs ++ ys) ≡ set_intersection (set_of_all xs) (set_of_all ys)

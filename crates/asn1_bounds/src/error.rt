@@ -4,3 +4,50 @@ use thiserror::Error;
 #[derive(Clone, Copy, Debug, Drop, PartialEq, Eq, Error)]
 #[error("bound does not fit")]
 pub struct TooWide;
+
+/// Why an inner type constraint (X.680, 51.8) refuses a value, with the name of the component at fault.
+#[derive(Debug, Drop, PartialEq, Eq, Error)]
+pub enum InnerSubtypeConstraintError {
+    /// A component that must be there is not.
+    #[error("missing {0}")]
+    Missing(&'static str),
+    /// A component that must not be there is.
+    #[error("unexpected {0}")]
+    Unexpected(&'static str),
+    /// A component has a value that it may not have.
+    #[error("wrong value of {0}")]
+    Value(&'static str),
+    /// What a component contains, in the bytes of a codec, could not be read or is not as it must be.
+    #[error("wrong content of {0}")]
+    Contained(&'static str),
+    /// There was no memory to find out.
+    #[error("no memory")]
+    Memory,
+}
+
+#[cfg(test)]
+mod tests {
+    use super::*;
+    use std::test::Fail;
+
+    #[test]
+    fn says_what_is_wrong(rt: HostRuntime) -> Result<(), Fail> {
+        let texts = [
+            (InnerSubtypeConstraintError::Missing("a"), "missing a"),
+            (InnerSubtypeConstraintError::Unexpected("b"), "unexpected b"),
+            (
+                InnerSubtypeConstraintError::Value("version"),
+                "wrong value of version",
+            ),
+            (
+                InnerSubtypeConstraintError::Contained("content"),
+                "wrong content of content",
+            ),
+            (InnerSubtypeConstraintError::Memory, "no memory"),
+        ];
+        for (error, text) in texts {
+            assert_eq!(rt; error.to_string(rt.alloc())?.as_str(), text);
+        }
+        Ok(())
+    }
+}

@@ -1,9 +1,9 @@
 ghost use Rattle.std.specs.Prelude.{◌≡◌, ◌↔◌, ℕ, IsTrue};
 ghost use Rattle.std.specs.Borrow.{sem};
-ghost use Rattle.asn1_bounds.specs.Ends.{is_single, is_range};
+ghost use Rattle.asn1_bounded.specs.Ends.{is_single, is_range};
 ghost use Rattle.asn1_bounds.specs.Kinds.{HasLength, size_intersection};
 
-use crate::bounded::Bounded;
+use asn1_bounded::Bounded;
 
 /// A constraint of the length of a string or a list (X.680, 51.5).
 #[derive(Clone, Copy, Debug, Default, PartialEq, Eq, PartialOrd, Ord, Hash)]

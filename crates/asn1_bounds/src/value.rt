@@ -3,11 +3,10 @@ ghost use Rattle.std.specs.Int.{w128};
 ghost use Rattle.std.specs.Option.{option_map};
 ghost use Rattle.std.specs.Result.{OkIff};
 ghost use Rattle.asn1_bounds.specs.Kinds.{HasValue, value_intersection};
-ghost use Rattle.asn1_bounds.specs.Octets.{is_signed, octets_of};
+ghost use Rattle.asn1_bounded.specs.Octets.{is_signed, octets_of};
 
-use crate::bounded::Bounded;
 use crate::error::TooWide;
-use crate::number::FitsI128;
+use asn1_bounded::{Bounded, FitsI128};
 
 /// A constraint of the values of an INTEGER (X.680, 51.2 and 51.4).
 #[derive(Clone, Copy, Debug, Default, PartialEq, Eq, PartialOrd, Ord, Hash)]

@@ -2,7 +2,10 @@ pub mod PartsLemmas
 pub mod Numbers
 pub mod TreeLemmas
 pub mod VerdictLemmas
-pub mod LeafCounts
+pub mod KeptLemmas
+pub mod ClashLemmas
+pub mod AnswerLemmas
+pub mod Runs
 pub mod Progress
 pub mod Reports
 pub mod Spellings

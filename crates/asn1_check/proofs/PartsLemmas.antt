@@ -40,3 +40,21 @@ parts_start (byte ∷ bytes) depth = by_test ((depth == 0) && (byte == 32))
         ≡ cond b ([] ∷ parts_at 0 bytes) (onto_first byte (parts_at (depth_behind depth byte) bytes))
     by_test true = refl
     by_test false = no_bytes_before (parts_at (depth_behind depth byte) bytes) byte
+
+-- some part, and parts behind it
+abbrev pub IsSome : List (List ℕ) → Type 0
+IsSome [] = ⊥
+IsSome (part ∷ parts) = Unit {0}
+
+some-onto_first : (byte : ℕ) (parts : List (List ℕ)) → IsSome (onto_first byte parts)
+some-onto_first byte [] = tt
+some-onto_first byte (part ∷ parts) = tt
+
+-- a text has some parts
+pub some-parts_at : (depth : ℕ) (text : List ℕ) → IsSome (parts_at depth text)
+some-parts_at depth [] = tt
+some-parts_at depth (byte ∷ bytes) = by_test ((depth == 0) && (byte == 32))
+  where
+    by_test : (b : Bool) → IsSome (cond b ([] ∷ parts_at 0 bytes) (onto_first byte (parts_at (depth_behind depth byte) bytes)))
+    by_test true = tt
+    by_test false = some-onto_first byte (parts_at (depth_behind depth byte) bytes)

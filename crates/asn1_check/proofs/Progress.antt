@@ -1,10 +1,10 @@
 -- How the bytes of an input are gone through, one after another.
-use Rattle.std.proofs.Common.{◌≡◌, ℕ, ◌+◌, ◌<◌, Option, List, [], ◌∷◌, ◌++◌, length, get_or, take, drop, refl, sym, ap, subst, ◌∙◌, append_assoc}
+use Rattle.std.proofs.Common.{◌≡◌, ℕ, Bool, ◌+◌, ◌<◌, Option, Result, Ok, Err, List, [], ◌∷◌, ◌++◌, length, get_or, take, drop, refl, sym, ap, subst, ◌∙◌, append_assoc}
+use Rattle.std.specs.Prelude.{OnOk}
 use Rattle.std.specs.Io.KnownBytes.{Appends, Consumes, Keeps, IsAtEnd}
 use Rattle.std.proofs.KnownBytes.{Appends-nil, Appends-trans, Consumes-nil, Consumes-trans, Consumes-kept}
 use Rattle.std.proofs.lemmas.List.{take_more, append-nil, take-append-drop}
-use Rattle.asn1_check.specs.Report.{text_of}
-use Rattle.asn1_check.specs.Reading.{State, behind, behind_byte, behind_line, text_at, text_at_byte, Went, Ended, Broke}
+use Rattle.asn1_check.specs.Reading.{State, behind, behind_byte, text_at, text_at_byte, last_text, all_was_understood, Went, Ended, Broke}
 
 -- the bytes of two lists, one after the other
 behind-append : (s : State) (xs ys : List ℕ) → behind s (xs ++ ys) ≡ behind (behind s xs) ys
@@ -56,19 +56,27 @@ went_kept r mid_r new_r w new_w s new_s before kept = record {
   stands = before.stands;
 }
 
--- the reader is at its end, and the last line's text was written
-pub went_to_end : (r mid_r new_r w mid_w new_w : Option (List ℕ)) (s mid_s new_s : State) →
-    Went r mid_r w mid_w s mid_s → Consumes mid_r new_r [] → IsAtEnd new_r → Appends mid_w new_w (text_of mid_s.place mid_s.line) → new_s ≡ behind_line mid_s →
-    Ended r new_r w new_w s new_s.understood
-went_to_end r mid_r new_r w mid_w new_w s mid_s new_s before took no_more wrote stands = record {
+-- the reader is at its end, and the last text was written
+pub went_to_end : (r mid_r new_r w mid_w new_w : Option (List ℕ)) (s mid_s : State) (understood : Bool) →
+    Went r mid_r w mid_w s mid_s → Consumes mid_r new_r [] → IsAtEnd new_r → Appends mid_w new_w (last_text mid_s) → understood ≡ all_was_understood mid_s →
+    Ended r new_r w new_w s understood
+went_to_end r mid_r new_r w mid_w new_w s mid_s understood before took no_more wrote answer = record {
   given = before.given;
   took = subst (Consumes r new_r) (append-nil before.given) (Consumes-trans r mid_r new_r before.given [] before.took took);
   no_more = no_more;
   wrote =
-      Appends-trans w mid_w new_w (text_at s before.given) (text_of (behind s before.given).place (behind s before.given).line) before.wrote
-      (subst (λ at. Appends mid_w new_w (text_of at.place at.line)) before.stands wrote);
-  answer = ap (λ at. at.understood) stands ∙ ap (λ at. (behind_line at).understood) before.stands;
+      Appends-trans w mid_w new_w (text_at s before.given) (last_text (behind s before.given)) before.wrote
+      (subst (λ at. Appends mid_w new_w (last_text at)) before.stands wrote);
+  answer = answer ∙ ap all_was_understood before.stands;
 }
+
+-- the same where writing it answered `Ok`
+pub went_to_end_if_ok : {T E : Type 0} (result : Result T E) (r mid_r new_r w mid_w new_w : Option (List ℕ)) (s mid_s : State) (understood : Bool) (bytes : List ℕ) (count : ℕ) →
+    Went r mid_r w mid_w s mid_s → Consumes mid_r new_r (take count bytes) → count ≡ 0 → IsAtEnd new_r →
+    OnOk result (Appends mid_w new_w (last_text mid_s)) → OnOk result (understood ≡ all_was_understood mid_s) → OnOk result (Ended r new_r w new_w s understood)
+went_to_end_if_ok (Err e) r mid_r new_r w mid_w new_w s mid_s understood bytes count before took none no_more wrote answer = tt
+went_to_end_if_ok (Ok x) r mid_r new_r w mid_w new_w s mid_s understood bytes count before took none no_more wrote answer =
+    went_to_end r mid_r new_r w mid_w new_w s mid_s understood before (subst (λ n. Consumes mid_r new_r (take n bytes)) none took) no_more wrote answer
 
 -- memory was wanted among the bytes that a read gave
 pub went_to_want : (r mid_r new_r w mid_w new_w : Option (List ℕ)) (s mid_s : State) (bytes : List ℕ) (k : ℕ) →

@@ -1,29 +1,23 @@
 -- What is gone through byte by byte is the report of the lines.
-use Rattle.std.proofs.Common.{◌≡◌, ℕ, Bool, true, false, cond, ◌&&◌, ◌==◌, Option, Some, None, option_and_then, List, [], ◌∷◌, ◌++◌, length, refl, sym, ap, subst, ◌∙◌, append_assoc, arith, length-append}
-use Rattle.std.specs.Prelude.{nat_le, IfSome}
+use Rattle.std.proofs.Common.{◌≡◌, ℕ, Bool, true, false, cond, ◌&&◌, ◌==◌, Option, Some, None, option_map, option_and_then, List, [], ◌∷◌, ◌++◌, length, refl, sym, ap, subst, ◌∙◌, append_assoc, arith, length-append}
+use Rattle.std.specs.Prelude.{nat_le, is_none, IfSome}
 use Rattle.std.specs.Io.KnownBytes.{Appends, Consumes, Keeps}
 use Rattle.std.proofs.KnownBytes.{Appends-kept, Consumes-whole}
-use Rattle.std.specs.List.{onto_first, list_all}
+use Rattle.std.specs.List.{onto_first}
 use Rattle.std.proofs.lemmas.List.{append-nil}
 use Rattle.std.proofs.lemmas.Bool.{eqb-true}
 use Rattle.std.proofs.lemmas.Bool.Decides.{nat_tests}
 use Rattle.asn1_check.specs.Lines.{pieces, but_last, last, whole_lines, unended, last_line, kept}
-use Rattle.asn1_check.specs.Report.{Place, first_place, next_place, text_of, is_understood, text_from, text_for, report, all_understood}
-use Rattle.asn1_check.specs.Reading.{State, start, with_byte, behind_line, behind_byte, behind, text_at, Went, Ended, Broke}
+use Rattle.asn1_check.specs.Tables.{Table, text_at_end}
+use Rattle.asn1_check.specs.Report.{Place, first_place, next_place, place_behind, answer_to, is_understood, text_from, text_for, report, understood_from, all_understood}
+use Rattle.asn1_check.specs.Kept.{plain_table}
+use Rattle.asn1_check.specs.Reading.{State, start, with_byte, plain_place, behind_line, behind_byte, behind, text_at, last_text, all_was_understood, Went, Ended, Broke}
+use Rattle.asn1_check.proofs.KeptLemmas.{text-plain, next-plain, understood-plain, text_at_end-plain}
 use Rattle.asn1_check.proofs.PartsLemmas.{before_first, before_first-onto_first, no_bytes_before}
-
--- the place behind several lines
-abbrev place_behind : Place → List (List ℕ) → Place
-place_behind place [] = place
-place_behind place (line ∷ lines) = place_behind (next_place place) lines
-
--- whether each of the lines is understood
-abbrev understands : List (List ℕ) → Bool
-understands lines = list_all (λ line. is_understood (kept line)) lines
 
 -- the state in a line whose bytes so far are these
 abbrev in_line : List ℕ → Place → Bool → State
-in_line bytes place understood = record { line = kept bytes; place = place; understood = understood }
+in_line bytes place understood = record { line = kept bytes; place = plain_place place; understood = understood }
 
 -- the pieces of the bytes that follow these, of which the first goes on the line
 abbrev pieces_on : List ℕ → List ℕ → List (List ℕ)
@@ -78,8 +72,14 @@ lines_at_byte line byte bytes other =
 state_at_byte : (line : List ℕ) (place : Place) (understood : Bool) (byte : ℕ) → (byte == 10) ≡ false →
     behind_byte (in_line line place understood) byte ≡ in_line (line ++ byte ∷ []) place understood
 state_at_byte line place understood byte other =
-    ap (λ b. cond b (behind_line (in_line line place understood)) (record { line = with_byte (kept line) byte; place = place; understood = understood })) other
-    ∙ ap (λ held. record { line = held; place = place; understood = understood }) (kept_more line byte)
+    ap (λ b. cond b (behind_line (in_line line place understood)) (record { line = with_byte (kept line) byte; place = plain_place place; understood = understood })) other
+    ∙ ap (λ held. record { line = held; place = plain_place place; understood = understood }) (kept_more line byte)
+
+-- behind the line
+state_at_feed : (line : List ℕ) (place : Place) (understood : Bool) →
+    behind_line (in_line line place understood) ≡ in_line [] (next_place place (kept line)) (understood && is_understood place (kept line))
+state_at_feed line place understood =
+    λ i. record { line = Some []; place = next-plain place (kept line) i; understood = understood && understood-plain place (kept line) i }
 
 -- from a line that is begun on, what is written is the text for the lines that are ended
 text_at_is : (bytes line : List ℕ) (place : Place) (understood : Bool) →
@@ -87,26 +87,28 @@ text_at_is : (bytes line : List ℕ) (place : Place) (understood : Bool) →
 text_at_is [] line place understood = refl
 text_at_is (byte ∷ bytes) line place understood =
     by_test (byte == 10) refl
-    (text_at_is bytes [] (next_place place) (understood && is_understood (kept line)))
+    (text_at_is bytes [] (next_place place (kept line)) (understood && is_understood place (kept line)))
     (text_at_is bytes (line ++ byte ∷ []) place understood)
   where
     by_test : (b : Bool) → (byte == 10) ≡ b →
-        text_at (in_line [] (next_place place) (understood && is_understood (kept line))) bytes ≡ text_from (next_place place) (but_last (pieces_on [] bytes)) →
+        text_at (in_line [] (next_place place (kept line)) (understood && is_understood place (kept line))) bytes
+        ≡ text_from (next_place place (kept line)) (but_last (pieces_on [] bytes)) →
         text_at (in_line (line ++ byte ∷ []) place understood) bytes ≡ text_from place (but_last (pieces_on (line ++ byte ∷ []) bytes)) →
         text_at (in_line line place understood) (byte ∷ bytes) ≡ text_from place (but_last (pieces_on line (byte ∷ bytes)))
     by_test true is anew on =
         let P : ℕ → Type 0 = λ x. text_at (in_line line place understood) (x ∷ bytes) ≡ text_from place (but_last (pieces_on line (x ∷ bytes))) in
         subst P (sym (eqb-true byte 10 is))
-        (ap (λ text. text_of place (kept line) ++ text) anew
-        ∙ sym (ap (λ ps. text_from place (but_last ps)) (lines_at_feed line bytes) ∙ ap (text_from place) (but_last-cons line [] (pieces bytes))))
+        ((λ i. text-plain place (kept line) i ++ text_at (state_at_feed line place understood i) bytes)
+        ∙ (ap (λ text. (answer_to place (kept line)).text ++ text) anew
+        ∙ sym (ap (λ ps. text_from place (but_last ps)) (lines_at_feed line bytes) ∙ ap (text_from place) (but_last-cons line [] (pieces bytes)))))
     by_test false is anew on =
-        ap (λ b. cond b (text_of place (kept line)) [] ++ text_at (behind_byte (in_line line place understood) byte) bytes) is
+        ap (λ b. cond b (answer_to (plain_place place) (kept line)).text [] ++ text_at (behind_byte (in_line line place understood) byte) bytes) is
         ∙ (ap (λ s. text_at s bytes) (state_at_byte line place understood byte is)
         ∙ (on ∙ sym (ap (λ ps. text_from place (but_last ps)) (lines_at_byte line byte bytes is))))
 
 -- the state behind all the pieces but the last, in the last
 abbrev now : List (List ℕ) → Place → Bool → State
-now ps place understood = in_line (last ps) (place_behind place (but_last ps)) (understood && understands (but_last ps))
+now ps place understood = in_line (last ps) (place_behind place (but_last ps)) (understood && understood_from place (but_last ps))
 
 -- and the state is in what is not ended
 behind_is : (bytes line : List ℕ) (place : Place) (understood : Bool) →
@@ -115,24 +117,26 @@ behind_is [] line place understood =
     ap (λ l. in_line l place understood) (sym (append-nil line)) ∙ ap (in_line (line ++ []) place) (sym (and_true understood))
 behind_is (byte ∷ bytes) line place understood =
     by_test (byte == 10) refl
-    (behind_is bytes [] (next_place place) (understood && is_understood (kept line)))
+    (behind_is bytes [] (next_place place (kept line)) (understood && is_understood place (kept line)))
     (behind_is bytes (line ++ byte ∷ []) place understood)
   where
     by_test : (b : Bool) → (byte == 10) ≡ b →
-        behind (in_line [] (next_place place) (understood && is_understood (kept line))) bytes
-        ≡ now (pieces_on [] bytes) (next_place place) (understood && is_understood (kept line)) →
+        behind (in_line [] (next_place place (kept line)) (understood && is_understood place (kept line))) bytes
+        ≡ now (pieces_on [] bytes) (next_place place (kept line)) (understood && is_understood place (kept line)) →
         behind (in_line (line ++ byte ∷ []) place understood) bytes ≡ now (pieces_on (line ++ byte ∷ []) bytes) place understood →
         behind (in_line line place understood) (byte ∷ bytes) ≡ now (pieces_on line (byte ∷ bytes)) place understood
     by_test true is anew on =
         let P : ℕ → Type 0 = λ x. behind (in_line line place understood) (x ∷ bytes) ≡ now (pieces_on line (x ∷ bytes)) place understood in
         let rest = pieces_on [] bytes in
+        let next = next_place place (kept line) in
         subst P (sym (eqb-true byte 10 is))
-        (anew
-        ∙ (ap (in_line (last rest) (place_behind (next_place place) (but_last rest))) (and_assoc understood (is_understood (kept line)) (understands (but_last rest)))
+        (ap (λ s. behind s bytes) (state_at_feed line place understood)
+        ∙ (anew
+        ∙ (ap (in_line (last rest) (place_behind next (but_last rest))) (and_assoc understood (is_understood place (kept line)) (understood_from next (but_last rest)))
         ∙ sym
         (ap (λ ps. now ps place understood) (lines_at_feed line bytes)
         ∙ λ i. in_line (last-cons line [] (pieces bytes) i) (place_behind place (but_last-cons line [] (pieces bytes) i))
-        (understood && understands (but_last-cons line [] (pieces bytes) i)))))
+        (understood && understood_from place (but_last-cons line [] (pieces bytes) i))))))
     by_test false is anew on =
         ap (λ s. behind s bytes) (state_at_byte line place understood byte is) ∙ (on ∙ sym (ap (λ ps. now ps place understood) (lines_at_byte line byte bytes is)))
 
@@ -146,37 +150,74 @@ behind_start given = behind_is given [] first_place true ∙ ap (λ ps. now ps f
 text_from-append : (place : Place) (xs ys : List (List ℕ)) → text_from place (xs ++ ys) ≡ text_from place xs ++ text_from (place_behind place xs) ys
 text_from-append place [] ys = refl
 text_from-append place (x ∷ xs) ys =
-    ap (λ text. text_of place (kept x) ++ text) (text_from-append (next_place place) xs ys)
-    ∙ sym (append_assoc (text_of place (kept x)) (text_from (next_place place) xs) (text_from (place_behind (next_place place) xs) ys))
+    ap (λ text. (answer_to place (kept x)).text ++ text) (text_from-append (next_place place (kept x)) xs ys)
+    ∙ sym (append_assoc (answer_to place (kept x)).text (text_from (next_place place (kept x)) xs) (text_from (place_behind (next_place place (kept x)) xs) ys))
 
-text_from-last_line : (place : Place) (line : List ℕ) → text_from place (last_line line) ≡ text_of place (kept line)
-text_from-last_line place [] = refl
-text_from-last_line place (byte ∷ bytes) = append-nil (text_of place (kept (byte ∷ bytes)))
+place_behind-append : (place : Place) (xs ys : List (List ℕ)) → place_behind place (xs ++ ys) ≡ place_behind (place_behind place xs) ys
+place_behind-append place [] ys = refl
+place_behind-append place (x ∷ xs) ys = place_behind-append (next_place place (kept x)) xs ys
 
-understands-append : (xs ys : List (List ℕ)) → understands (xs ++ ys) ≡ (understands xs && understands ys)
-understands-append [] ys = refl
-understands-append (x ∷ xs) ys =
-    ap (λ b. is_understood (kept x) && b) (understands-append xs ys) ∙ sym (and_assoc (is_understood (kept x)) (understands xs) (understands ys))
+understood_from-append : (place : Place) (xs ys : List (List ℕ)) →
+    understood_from place (xs ++ ys) ≡ (understood_from place xs && understood_from (place_behind place xs) ys)
+understood_from-append place [] ys = refl
+understood_from-append place (x ∷ xs) ys =
+    ap (λ b. is_understood place (kept x) && b) (understood_from-append (next_place place (kept x)) xs ys)
+    ∙ sym (and_assoc (is_understood place (kept x)) (understood_from (next_place place (kept x)) xs) (understood_from (place_behind (next_place place (kept x)) xs) ys))
 
-understands-last_line : (line : List ℕ) → understands (last_line line) ≡ is_understood (kept line)
-understands-last_line [] = refl
-understands-last_line (byte ∷ bytes) = and_true (is_understood (kept (byte ∷ bytes)))
+-- what is written at the end is the text for a last line, if there is one, and that for the end
+text_of_last : (place : Place) (line : List ℕ) (understood : Bool) →
+    last_text (in_line line place understood) ≡ text_from place (last_line line) ++ text_at_end (place_behind place (last_line line)).table
+text_of_last place line understood =
+    (λ i. text-plain place (kept line) i ++ text_at_end (next-plain place (kept line) i).table)
+    ∙ (ap (λ text. (answer_to place (kept line)).text ++ text) (text_at_end-plain (next_place place (kept line)).table) ∙ by_line line)
+  where
+    by_line : (line : List ℕ) →
+        (answer_to place (kept line)).text ++ text_at_end (next_place place (kept line)).table
+        ≡ text_from place (last_line line) ++ text_at_end (place_behind place (last_line line)).table
+    by_line [] = refl
+    by_line (byte ∷ bytes) =
+        ap (λ text. text ++ text_at_end (next_place place (kept (byte ∷ bytes))).table) (sym (append-nil (answer_to place (kept (byte ∷ bytes))).text))
 
--- with the text for what is not ended it is the report
-pub report_at_end : (given : List ℕ) → text_at start given ++ text_of (behind start given).place (behind start given).line ≡ report given
+none-plain : (t : Option Table) → is_none (option_map plain_table t) ≡ is_none t
+none-plain None = refl
+none-plain (Some t) = refl
+
+-- and whether all was understood
+understood_of_last : (place : Place) (line : List ℕ) (understood : Bool) →
+    all_was_understood (in_line line place understood)
+    ≡ ((understood && understood_from place (last_line line)) && is_none (place_behind place (last_line line)).table)
+understood_of_last place line understood =
+    (λ i. (understood && understood-plain place (kept line) i) && is_none (next-plain place (kept line) i).table)
+    ∙ (ap (λ b. (understood && is_understood place (kept line)) && b) (none-plain (next_place place (kept line)).table) ∙ by_line line)
+  where
+    by_line : (line : List ℕ) →
+        ((understood && is_understood place (kept line)) && is_none (next_place place (kept line)).table)
+        ≡ ((understood && understood_from place (last_line line)) && is_none (place_behind place (last_line line)).table)
+    by_line [] = refl
+    by_line (byte ∷ bytes) =
+        ap (λ b. (understood && b) && is_none (next_place place (kept (byte ∷ bytes))).table) (sym (and_true (is_understood place (kept (byte ∷ bytes)))))
+
+-- with that it is the report
+pub report_at_end : (given : List ℕ) → text_at start given ++ last_text (behind start given) ≡ report given
 report_at_end given =
     let lines = whole_lines given in
-    ap (λ s. text_at start given ++ text_of s.place s.line) (behind_start given)
-    ∙ (ap (λ text. text ++ text_of (place_behind first_place lines) (kept (unended given))) (text_at_start given)
-    ∙ sym (text_from-append first_place lines (last_line (unended given))
-    ∙ ap (λ text. text_for lines ++ text) (text_from-last_line (place_behind first_place lines) (unended given))))
+    let place = place_behind first_place lines in
+    let end = last_line (unended given) in
+    let rest = text_from place end in
+    ap (λ s. text_at start given ++ last_text s) (behind_start given)
+    ∙ (ap (λ text. text ++ last_text (now (pieces given) first_place true)) (text_at_start given)
+    ∙ (ap (λ text. text_for lines ++ text) (text_of_last place (unended given) (understood_from first_place lines))
+    ∙ (sym (append_assoc (text_for lines) rest (text_at_end (place_behind place end).table))
+    ∙ λ i. sym (text_from-append first_place lines end) i ++ text_at_end (sym (place_behind-append first_place lines end) i).table)))
 
--- and each line was understood exactly if the state says so behind the last
-pub understood_at_end : (given : List ℕ) → (behind_line (behind start given)).understood ≡ all_understood given
+-- and all was understood exactly if the state says so
+pub understood_at_end : (given : List ℕ) → all_was_understood (behind start given) ≡ all_understood given
 understood_at_end given =
     let lines = whole_lines given in
-    ap (λ s. (behind_line s).understood) (behind_start given)
-    ∙ sym (understands-append lines (last_line (unended given)) ∙ ap (λ b. understands lines && b) (understands-last_line (unended given)))
+    let end = last_line (unended given) in
+    ap all_was_understood (behind_start given)
+    ∙ (understood_of_last (place_behind first_place lines) (unended given) (understood_from first_place lines)
+    ∙ λ i. sym (understood_from-append first_place lines end) i && is_none (sym (place_behind-append first_place lines end) i).table)
 
 -- At the end of the input the report is written, and the answer says whether each line was understood.
 pub report_written : (r new_r w mid_w new_w : Option (List ℕ)) (s : State) (understood : Bool) → s ≡ start → Ended r new_r w mid_w s understood → Keeps mid_w new_w →
@@ -184,14 +225,14 @@ pub report_written : (r new_r w mid_w new_w : Option (List ℕ)) (s : State) (un
 report_written r new_r w mid_w new_w s understood begun ended kept =
     Consumes-whole r new_r ended.given (λ input. Appends w new_w (report input)) ended.took ended.no_more
     (Appends-kept w mid_w new_w (report ended.given)
-    (subst (Appends w mid_w) (ap (λ at. text_at at ended.given ++ text_of (behind at ended.given).place (behind at ended.given).line) begun ∙ report_at_end ended.given) ended.wrote)
+    (subst (Appends w mid_w) (ap (λ at. text_at at ended.given ++ last_text (behind at ended.given)) begun ∙ report_at_end ended.given) ended.wrote)
     kept)
 
 pub understood_said : (r new_r w new_w : Option (List ℕ)) (s : State) (understood : Bool) → s ≡ start → Ended r new_r w new_w s understood →
     IfSome r (λ input. understood ≡ all_understood input)
 understood_said r new_r w new_w s understood begun ended =
     Consumes-whole r new_r ended.given (λ input. understood ≡ all_understood input) ended.took ended.no_more
-    (ended.answer ∙ (ap (λ at. (behind_line (behind at ended.given)).understood) begun ∙ understood_at_end ended.given))
+    (ended.answer ∙ (ap (λ at. all_was_understood (behind at ended.given)) begun ∙ understood_at_end ended.given))
 
 -- Where a read failed the text for the lines that were ended is written.
 pub earlier_written : (r new_r w mid_w new_w : Option (List ℕ)) (s new_s : State) → s ≡ start → Went r new_r w mid_w s new_s → Keeps mid_w new_w →

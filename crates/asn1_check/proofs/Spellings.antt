@@ -16,6 +16,8 @@ use Rattle.asn1_check.specs.Names.{number_of}
 use Rattle.asn1_check.specs.Parts.{depth_behind, parts_at}
 use Rattle.asn1_check.specs.Grammar.{class_of, tag_of, between_brackets, elements_of, all_trees, tree_of}
 use Rattle.asn1_check.proofs.Numbers.{number_decimal}
+use Rattle.asn1_check.proofs.PartsLemmas.{IsSome, some-parts_at}
+use Rattle.asn1_check.proofs.TreeLemmas.{no_tree_less}
 use Rattle.asn1_check.specs.Spelling.{letter_of, spelling, spelling_of, spelling_behind}
 
 -- parts with a space between each two
@@ -27,11 +29,6 @@ abbrev joined : List (List ℕ) → List ℕ
 joined [] = []
 joined (part ∷ parts) = part ++ joined_behind parts
 
--- some part, and parts behind it
-abbrev IsSome : List (List ℕ) → Type 0
-IsSome [] = ⊥
-IsSome (part ∷ parts) = Unit {0}
-
 joined-onto_first : (byte : ℕ) (parts : List (List ℕ)) → joined (onto_first byte parts) ≡ byte ∷ joined parts
 joined-onto_first byte [] = refl
 joined-onto_first byte (part ∷ parts) = refl
@@ -39,18 +36,6 @@ joined-onto_first byte (part ∷ parts) = refl
 joined-cons : (parts : List (List ℕ)) → IsSome parts → joined_behind parts ≡ 32 ∷ joined parts
 joined-cons [] some = absurd some
 joined-cons (part ∷ parts) some = refl
-
-some-onto_first : (byte : ℕ) (parts : List (List ℕ)) → IsSome (onto_first byte parts)
-some-onto_first byte [] = tt
-some-onto_first byte (part ∷ parts) = tt
-
-some-parts_at : (depth : ℕ) (text : List ℕ) → IsSome (parts_at depth text)
-some-parts_at depth [] = tt
-some-parts_at depth (byte ∷ bytes) = by_test ((depth == 0) && (byte == 32))
-  where
-    by_test : (b : Bool) → IsSome (cond b ([] ∷ parts_at 0 bytes) (onto_first byte (parts_at (depth_behind depth byte) bytes)))
-    by_test true = tt
-    by_test false = some-onto_first byte (parts_at (depth_behind depth byte) bytes)
 
 -- the parts of a text give it back
 joined-parts_at : (depth : ℕ) (text : List ℕ) → joined (parts_at depth text) ≡ text
@@ -151,12 +136,7 @@ without_space xs ys h = cc
 trees_spelled : (tree_in : List ℕ → Option Tree) → FindsSpelled tree_in → (texts : List (List ℕ)) (trees : Trees) → all_trees tree_in texts ≡ Some trees →
     joined texts ≡ spelling_of trees
 trees_spelled tree_in spelled [] trees is = ap spelling_of (some_same is)
-trees_spelled tree_in spelled (text ∷ texts) none is = absurd (no_nothing (tree_in text) (all_trees tree_in texts) is)
-  where
-    no_nothing : (r : Option Tree) (q : Option Trees) → option_and_then (λ tree. option_map (more tree) q) r ≡ Some none → ⊥
-    no_nothing None q h = cc
-    no_nothing (Some t) None h = cc
-    no_nothing (Some t) (Some ts) h = cc
+trees_spelled tree_in spelled (text ∷ texts) none is = absurd (no_tree_less (tree_in text) (all_trees tree_in texts) is)
 trees_spelled tree_in spelled (text ∷ texts) (more t ts) is =
     without_space _ _ (behind_spelled tree_in spelled (text ∷ texts) (more t ts) is)
 

@@ -7,8 +7,13 @@ use Rattle.asn1_tags.specs.Trees.{Tree, Trees, leaf, choice, none, more}
 use Rattle.asn1_tags.specs.declared.classes.Class.{Class}
 use Rattle.asn1_tags.specs.declared.classes.Class.TheVariants.{Universal, Application, Context, Private}
 use Rattle.asn1_tags.specs.declared.tags.Tag.{Tag}
-use Rattle.asn1_bounds.specs.declared.bounded.Bounded.{Bounded}
-use Rattle.asn1_bounds.specs.declared.bounded.Bounded.TheVariants as bounded
+use Rattle.asn1_bounded.specs.declared.bounded.Bounded.{Bounded}
+use Rattle.asn1_bounded.specs.declared.bounded.Bounded.TheVariants as bounded
+use Rattle.asn1_fields.specs.Components.{Component}
+use Rattle.asn1_fields.specs.declared.presence.FieldPresence.{FieldPresence}
+use Rattle.asn1_fields.specs.declared.presence.FieldPresence.TheVariants.{Required, Optional, Default}
+use Rattle.asn1_check.specs.declared.kind.Kind.{Kind}
+use Rattle.asn1_check.specs.declared.kind.Kind.TheVariants.{Sequence, Set}
 use Rattle.asn1_check.specs.Names.{is_name, number_of, integer_of}
 use Rattle.asn1_check.specs.Parts.{parts_of}
 
@@ -72,12 +77,21 @@ bound_of text =
     if bytes_eq text (codes "none") then Some bounded.None
     else option_map_or (λ dot. range_of (take dot text) (drop (dot + 1) text)) (position (λ byte. byte == 46) text) (option_map (λ number. bounded.Single number) (integer_of text))
 
--- what a line says
+-- what a line outside of tables says
 pub data Statement : Type 0 where
   -- that a name stands for a tree
   names_tree : List ℕ → Tree → Statement
   -- that a name stands for what two bounds have in common
   names_bounds : List ℕ → Bounded ℤ → Bounded ℤ → Statement
+  -- that a table of that kind and name begins
+  begins_table : Kind → List ℕ → Statement
+
+-- what a line inside a table says
+pub data Entry : Type 0 where
+  -- that the table has this component behind the others
+  adds_component : Component → Entry
+  -- that the table ends
+  ends_table : Entry
 
 -- the name and the text of the tree, where the parts of a line are `tree`, a name and one more
 abbrev pub tree_line : List (List ℕ) → Option (List ℕ × List ℕ)
@@ -91,9 +105,47 @@ bound_line (keyword ∷ name ∷ first ∷ ampersand ∷ second ∷ []) =
     then option_and_then (λ a. option_map (λ b. (name, a, b)) (bound_of second)) (bound_of first) else None
 bound_line _ = None
 
--- what a line says, if it is understood
+-- the kind of table that a word names
+abbrev pub kind_of : List ℕ → Option Kind
+kind_of word =
+    if bytes_eq word (codes "sequence") then Some Sequence
+    else (if bytes_eq word (codes "set") then Some Set
+    else None)
+
+-- the kind and the name, where the parts of a line are a kind's word and a name
+abbrev pub head_line : List (List ℕ) → Option (Kind × List ℕ)
+head_line (word ∷ name ∷ []) = if is_name name then option_map (λ kind. (kind, name)) (kind_of word) else None
+head_line _ = None
+
+-- the presence that a word names
+abbrev pub presence_of : List ℕ → Option FieldPresence
+presence_of word =
+    if bytes_eq word (codes "required") then Some Required
+    else (if bytes_eq word (codes "optional") then Some Optional
+    else (if bytes_eq word (codes "default") then Some Default
+    else None))
+
+-- the presence and the text of the tree, where the parts of a line are a name, a presence's word and one more
+abbrev pub field_line : List (List ℕ) → Option (FieldPresence × List ℕ)
+field_line (name ∷ word ∷ text ∷ []) = if is_name name then option_map (λ presence. (presence, text)) (presence_of word) else None
+field_line _ = None
+
+-- what a line outside of tables says, if it is understood
 abbrev pub statement_of : List ℕ → Option Statement
 statement_of line =
     option_or
     (option_and_then (λ (name, text). option_map (names_tree name) (tree_of deepest text)) (tree_line (parts_of line)))
+    (option_or
     (option_map (λ (name, a, b). names_bounds name a b) (bound_line (parts_of line)))
+    (option_map (λ (kind, name). begins_table kind name) (head_line (parts_of line))))
+
+-- the component that a line inside a table adds, if it adds one
+abbrev pub component_of : List ℕ → Option Component
+component_of line =
+    option_and_then
+    (λ (presence, text). option_map (λ tree. record { presence = presence; tree = tree }) (tree_of deepest text))
+    (field_line (parts_of line))
+
+-- what a line inside a table says, if it is understood
+abbrev pub entry_of : List ℕ → Option Entry
+entry_of line = if bytes_eq line (codes "end") then Some ends_table else option_map adds_component (component_of line)

@@ -3,8 +3,12 @@ pub mod PartsLeft
 pub mod Names
 pub mod Lines
 pub mod Grammar
+pub mod Tables
 pub mod Report
 pub mod Reading
 pub mod Held
+pub mod HeldFields
+pub mod Kept
+pub mod Occurrences
 pub mod Verdict
 pub mod Spelling

@@ -1,10 +1,12 @@
 -- The texts of verdicts.
-use Rattle.std.specs.Prelude.{ℕ, List, Option, Some, codes}
+use Rattle.std.specs.Prelude.{ℕ, ◌++◌, List, Option, Some, codes}
 use Rattle.std.specs.Fmt.{signed_decimal}
 use Rattle.std.specs.Option.{option_map_or}
-use Rattle.asn1_bounds.specs.Text.{bound_text}
+use Rattle.asn1_bounded.specs.Text.{bound_text}
 use Rattle.asn1_check.specs.Report.{verdict_of}
+use Rattle.asn1_check.specs.Tables.{clash_text, order_text}
 use Rattle.asn1_check.specs.declared.verdict.Common.{Common}
+use Rattle.asn1_check.specs.declared.verdict.TableVerdict.{TableVerdict}
 use Rattle.asn1_check.specs.declared.verdict.TreeVerdict.{TreeVerdict}
 
 -- of a verdict on a tree
@@ -14,3 +16,7 @@ verdict_text verdict = verdict_of verdict.is_unique verdict.smallest verdict.lea
 -- of what two bounds have in common
 abbrev pub text_of_common : Common → Option (List ℕ)
 text_of_common common = option_map_or (bound_text (λ number. Some (signed_decimal number))) common.0 (Some (codes "nothing in common"))
+
+-- of a verdict on a table
+abbrev pub text_of_table_verdict : TableVerdict → List ℕ
+text_of_table_verdict verdict = clash_text verdict.clash.0 ++ codes ", " ++ order_text verdict.is_canonical

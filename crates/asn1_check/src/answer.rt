@@ -1,24 +1,25 @@
 // The answer to a line.
-ghost use Rattle.std.specs.Prelude.{◌≡◌, ◌<◌, ◌^◌, ◌++◌, ◌∷◌, [], codes, length, IfOk, IfSome, OnOk, option_map};
-ghost use Rattle.std.specs.Fmt.{decimal};
+ghost use Rattle.std.specs.Prelude.{◌≡◌, [], Some, None, IfOk, OnOk, option_map, option_and_then};
 ghost use Rattle.asn1_tags.specs.Trees.{leaves};
 ghost use Rattle.asn1_check.specs.Parts.{parts_of};
-ghost use Rattle.asn1_check.specs.Grammar.{deepest, tree_line, tree_of};
+ghost use Rattle.asn1_check.specs.Grammar.{adds_component, component_of, deepest, statement_of, tree_line, tree_of};
+ghost use Rattle.asn1_check.specs.Held.{place_held, table_held};
+ghost use Rattle.asn1_check.specs.Kept.{GivesIfAny, plain_table};
 ghost use Rattle.asn1_check.specs.Verdict.{verdict_text};
-ghost use Rattle.asn1_check.specs.Report.{tree_verdict, text_of, is_understood};
+ghost use Rattle.asn1_check.specs.Report.{tree_verdict, answer_outside, answer_inside, answer_if_said, answer_if_understood, answer_to, is_understood};
+ghost use Rattle.asn1_check.specs.Tables.{unchecked};
 
 use crate::bound::bound_line;
+use crate::field::Field;
+use crate::kind::head_line;
+use crate::leaves::Leaves;
 use crate::names::is_name;
 use crate::parts::Parts;
-use crate::tree::read_tree;
+use crate::table::Table;
+use crate::texts::{write_refusal, write_verdict};
+use crate::tree::{DEEPEST, read_tree};
 use crate::verdict::{Common, TreeVerdict};
-use asn1_tags::TagTree;
-use std::alloc::AllocError;
-use std::fmt::Display;
-use std::io::Write;
-
-// How many brackets of a tree may be open at once.
-const DEEPEST: u8 = 16;
+use std::alloc::{AllocError, Global};
 
 // The name and the text of the tree, where the line has three parts and `tree` is the first.
 fn tree_line(line: &[u8]) -> Option<(&[u8], &[u8])>
@@ -35,80 +36,140 @@ fn tree_line(line: &[u8]) -> Option<(&[u8], &[u8])>
     }
 }
 
-// Writes the answer to a line of that kind on a name.
-fn write_answer<V: Display + Drop>(
-    kind: &str,
-    name: &[u8],
-    verdict: V,
-    text: &mut Vec<u8>,
-) -> Result<(), AllocError>
-    ensures { OnOk result (IfSome (V.output verdict) (λ said. text.new.items ≡ text.old.items
-        ++ (kind.now ++ codes " " ++ name.now ++ codes ": " ++ said ++ 10 ∷ []))) }
-{
-    text.extend_from_slice(kind.as_bytes())?;
-    text.extend_from_slice(b" ")?;
-    text.extend_from_slice(name)?;
-    match writeln!(text, ": {verdict}") {
-        Ok(()) => Ok(()),
-        Err(_) => Err(AllocError),
-    }
-}
-
-// Writes that the line of that number is not understood.
-fn write_refusal(number: u64, text: &mut Vec<u8>) -> Result<(), AllocError>
-    ensures { OnOk result (text.new.items ≡ text.old.items
-        ++ (codes "line " ++ decimal number ++ codes ": not understood" ++ 10 ∷ [])) }
-{
-    match writeln!(text, "line {number}: not understood") {
-        Ok(()) => Ok(()),
-        Err(_) => Err(AllocError),
-    }
-}
-
-// The verdict on the tree that the text is, if it is one. `nodes` is room for its leaves.
-fn tree_verdict(
-    text: &[u8],
-    nodes: &mut Vec<TagTree<'static>>,
-) -> Result<Option<TreeVerdict>, AllocError>
+// The verdict on the tree that the text is, if it is one. `kept` is room for its leaves.
+fn tree_verdict(text: &[u8], kept: &mut Leaves) -> Result<Option<TreeVerdict>, AllocError>
     ensures { IfOk result (λ verdict. option_map verdict_text verdict
         ≡ option_map (λ tree. tree_verdict (leaves tree)) (tree_of deepest text.now)) }
 {
-    nodes.clear();
-    if read_tree(text, DEEPEST, nodes)? {
-        Ok(Some(TreeVerdict::on(nodes)))
+    kept.clear();
+    if read_tree(text, DEEPEST, kept)? {
+        Ok(Some(kept.verdict()))
     } else {
         Ok(None)
     }
 }
 
-/// Makes the text for a line, as far as it is looked at, and says whether the line is empty or understood.
-///
-/// The text replaces what `text` held. `nodes` is room for the leaves of a tree.
-pub(crate) fn answer(
-    line: Option<&[u8]>,
-    number: u64,
-    nodes: &mut Vec<TagTree<'static>>,
+// Makes the text for a line outside of tables, and says whether the line is understood.
+fn answer_outside(
+    alloc: Global,
+    line: &[u8],
+    table: &mut Option<Table>,
+    kept: &mut Leaves,
     text: &mut Vec<u8>,
 ) -> Result<bool, AllocError>
-    ensures text { OnOk result (text.new.items
-        ≡ text_of (record { number = number }) (option_map (λ bytes. bytes.now) line.entry)) }
-    ensures understood { IfOk result (λ understood.
-        understood ≡ is_understood (option_map (λ bytes. bytes.now) line.entry)) }
+    requires { table.old ≡ None }
+    ensures { IfOk result (λ understood. GivesIfAny understood (option_map answer_outside (statement_of line.now))
+        text.old.items text.new.items None (option_map table_held table.new)) }
 {
-    text.clear();
-    if line.is_some_and(|bytes| bytes.is_empty()) {
-        return Ok(true);
-    }
-    if let Some((name, tree)) = line.and_then(tree_line) {
-        if let Some(verdict) = tree_verdict(tree, nodes)? {
-            write_answer("tree", name, verdict, text)?;
+    if let Some((name, tree)) = tree_line(line) {
+        if let Some(verdict) = tree_verdict(tree, kept)? {
+            write_verdict("tree", name, verdict, text)?;
             return Ok(true);
         }
     }
-    if let Some((name, first, second)) = line.and_then(bound_line) {
-        write_answer("bound", name, Common::of(&first, &second), text)?;
+    if let Some((name, first, second)) = bound_line(line) {
+        write_verdict("bound", name, Common::of(&first, &second), text)?;
         return Ok(true);
     }
+    if let Some((kind, name)) = head_line(line) {
+        *table = Some(Table::new(alloc, kind, name)?);
+        return Ok(true);
+    }
+    Ok(false)
+}
+
+// Takes a line that is not `end` into the table, and says whether the line is understood.
+fn answer_inside(alloc: Global, line: &[u8], table: &mut Table) -> Result<bool, AllocError>
+    ensures { IfOk result (λ understood. GivesIfAny understood
+        (option_and_then (answer_inside (table_held table.old)) (option_map adds_component (component_of line.now)))
+        [] [] (Some (table_held table.old)) (Some (table_held table.new))) }
+{
+    match Field::read(alloc, line)? {
+        Some(field) if !table.is_full() => {
+            table.push(field)?;
+            Ok(true)
+        }
+        _ => Ok(false),
+    }
+}
+
+// Makes the text for a line where it stands, and says whether the line is understood.
+fn answer_if_said(
+    alloc: Global,
+    line: &[u8],
+    table: &mut Option<Table>,
+    kept: &mut Leaves,
+    text: &mut Vec<u8>,
+) -> Result<bool, AllocError>
+    ensures { IfOk result (λ understood. GivesIfAny understood (answer_if_said (option_map table_held table.old) line.now)
+        text.old.items text.new.items (option_map table_held table.old) (option_map table_held table.new)) }
+{
+    match table {
+        None => answer_outside(alloc, line, table, kept, text),
+        Some(begun) => {
+            if line == b"end".as_slice() {
+                begun.write_end(alloc, text)?;
+                *table = None;
+                Ok(true)
+            } else {
+                answer_inside(alloc, line, begun)
+            }
+        }
+    }
+}
+
+// Makes the text for a line, as far as it is looked at, and says whether the line is empty or understood.
+fn answer_if_understood(
+    alloc: Global,
+    line: Option<&[u8]>,
+    table: &mut Option<Table>,
+    kept: &mut Leaves,
+    text: &mut Vec<u8>,
+) -> Result<bool, AllocError>
+    ensures { IfOk result (λ understood. GivesIfAny understood
+        (answer_if_understood (option_map table_held table.old) (option_map (λ bytes. bytes.now) line.entry))
+        text.old.items text.new.items (option_map table_held table.old) (option_map table_held table.new)) }
+{
+    match line {
+        None => Ok(false),
+        Some([]) => Ok(true),
+        Some(bytes) => answer_if_said(alloc, bytes, table, kept, text),
+    }
+}
+
+// Keeps in mind that a line was not understood, where it stands in a table.
+fn refuse_line(table: &mut Option<Table>)
+    ensures { option_map table_held table.new ≡ option_map unchecked (option_map table_held table.old) }
+{
+    if let Some(begun) = table {
+        begun.refuse_line();
+    }
+}
+
+/// Makes the text for a line, as far as it is looked at, and says whether the line is empty or understood.
+///
+/// The text replaces what `text` held. `table` is the table that the line stands in, and becomes the one that the next
+/// line stands in. `kept` is room for the leaves of a tree.
+pub(crate) fn answer(
+    alloc: Global,
+    line: Option<&[u8]>,
+    number: u64,
+    table: &mut Option<Table>,
+    kept: &mut Leaves,
+    text: &mut Vec<u8>,
+) -> Result<bool, AllocError>
+    ensures text { OnOk result (text.new.items
+        ≡ (answer_to (place_held number table.old) (option_map (λ bytes. bytes.now) line.entry)).text) }
+    ensures table { OnOk result (option_map table_held table.new
+        ≡ option_map plain_table (answer_to (place_held number table.old) (option_map (λ bytes. bytes.now) line.entry)).table) }
+    ensures understood { IfOk result (λ understood.
+        understood ≡ is_understood (place_held number table.old) (option_map (λ bytes. bytes.now) line.entry)) }
+{
+    text.clear();
+    if answer_if_understood(alloc, line, table, kept, text)? {
+        return Ok(true);
+    }
+    refuse_line(table);
     write_refusal(number, text)?;
     Ok(false)
 }

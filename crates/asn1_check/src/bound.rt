@@ -5,7 +5,7 @@ ghost use Rattle.asn1_check.specs.Grammar.{end_of, range_of, bound_of, bound_lin
 
 use crate::names::{is_name, read_integer};
 use crate::parts::Parts;
-use asn1_bounds::Bounded;
+use asn1_bounded::Bounded;
 
 // The end of a range, which may be missing.
 fn read_end(text: &[u8]) -> Option<Option<i128>>

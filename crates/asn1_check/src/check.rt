@@ -12,14 +12,17 @@ use std::io::{Read, Write};
 // How many bytes a read may give.
 const BUFFER_LENGTH: usize = 32 * 1024;
 
-/// Reads a schema table line by line, writes the verdict on each line, and says whether every line was understood.
+/// Reads schema tables line by line, writes the verdicts, and says whether every line was understood and every table had
+/// its `end`.
 ///
-/// Of the input no more than a line is kept, and of a line no more than 4096 bytes. A line is written by one call, so a writer
-/// with a buffer serves best; it is flushed before the check ends, unless a write failed.
+/// Of the input no more is kept than a line, of which no more than 4096 bytes, and the leaves of the table that is open. A
+/// line is written by one call, so a writer with a buffer serves best; it is flushed before the check ends, unless a write
+/// failed.
 ///
 /// An interrupted read is tried again. A read that fails, or 2^64 - 1 reads that meet no end of the input, answer
 /// [`CheckError::Reading`], want of memory answers [`CheckError::Memory`], and after either the text for all earlier lines
-/// is written. After [`CheckError::Writing`] nothing is known of what is written.
+/// is written; a table that is open then has neither its verdict nor `not checked`. After [`CheckError::Writing`] nothing is
+/// known of what is written.
 pub fn check<R: Read, W: Write>(
     alloc: Global,
     reader: &mut R,

@@ -1,23 +1,26 @@
 // A check under way.
 ghost use Rattle.std.specs.Prelude.{◌≡◌, ◌<◌, ℕ, length, take, IfOk, OnOk, IsErrOf};
 ghost use Rattle.std.specs.Io.KnownBytes.{Appends, Keeps};
-ghost use Rattle.asn1_check.specs.Reading.{start, behind, behind_byte, behind_line, text_at, text_at_byte, Went, Ended, Broke};
-ghost use Rattle.asn1_check.specs.Report.{text_of};
+ghost use Rattle.asn1_check.specs.Reading.{start, behind, behind_byte, behind_line, text_at, text_at_byte, last_text, all_was_understood, Went, Ended, Broke};
+ghost use Rattle.asn1_check.specs.Report.{answer_to};
 
 use crate::answer::answer;
 use crate::error::CheckError;
+use crate::leaves::Leaves;
 use crate::line::Line;
-use asn1_tags::TagTree;
+use crate::table::Table;
 use std::alloc::{AllocError, Global};
 use std::io::{ErrorKind, Read, Write};
 
 /// What a check remembers of the bytes that came, and room for its work on a line.
 #[derive(Drop)]
 pub(crate) struct Checker {
+    alloc: Global,
     line: Line,
     number: u64,
+    table: Option<Table>,
     pub(crate) all_understood: bool,
-    nodes: Vec<TagTree<'static>>,
+    kept: Leaves,
     text: Vec<u8>,
 }
 
@@ -29,36 +32,74 @@ impl Checker {
         ensures { IfOk result (λ checker. state_held checker ≡ start) }
     {
         Ok(Checker {
+            alloc,
             line: Line::new(alloc)?,
             number: 1,
+            table: None,
             all_understood: true,
-            nodes: Vec::new(alloc),
+            kept: Leaves::new(alloc),
             text: Vec::new(alloc),
         })
+    }
+
+    // Makes the text for the line, and begins the next.
+    fn answer_line(&mut self) -> Result<(), AllocError>
+        ensures state { OnOk result (state_held self.new ≡ behind_line (state_held self.old)) }
+        ensures text { OnOk result (self.new.text.items
+            ≡ (answer_to (state_held self.old).place (state_held self.old).line).text) }
+    {
+        let is_understood = answer(
+            self.alloc,
+            self.line.as_slice(),
+            self.number,
+            &mut self.table,
+            &mut self.kept,
+            &mut self.text,
+        )?;
+        self.line.clear();
+        self.number = self.number.saturating_add(1);
+        self.all_understood = self.all_understood && is_understood;
+        Ok(())
     }
 
     // Writes the text for the line, and begins the next. Where memory is wanted, nothing is written.
     fn end_line<W: Write>(&mut self, writer: &mut W) -> Result<(), CheckError>
         ensures state { OnOk result (state_held self.new ≡ behind_line (state_held self.old)) }
         ensures text { OnOk result (Appends (W.contents writer.old) (W.contents writer.new)
-            (text_of (state_held self.old).place (state_held self.old).line)) }
+            (answer_to (state_held self.old).place (state_held self.old).line).text) }
         ensures memory { IsErrOf result CheckError.Memory → Keeps (W.contents writer.old) (W.contents writer.new) }
         ensures no_read { ¬ IsErrOf result CheckError.Reading }
     {
-        let is_understood = answer(
-            self.line.as_slice(),
-            self.number,
-            &mut self.nodes,
-            &mut self.text,
-        )
-        .map_err(|_| CheckError::Memory)?;
+        self.answer_line().map_err(|_| CheckError::Memory)?;
         writer
             .write_all(self.text.as_slice())
-            .map_err(|_| CheckError::Writing)?;
-        self.line.clear();
-        self.number = self.number.saturating_add(1);
-        self.all_understood = self.all_understood && is_understood;
+            .map_err(|_| CheckError::Writing)
+    }
+
+    // Makes the text for the line, and behind it that of a table without `end`, which is not understood then.
+    fn answer_last_line(&mut self) -> Result<(), AllocError>
+        ensures text { OnOk result (self.new.text.items ≡ last_text (state_held self.old)) }
+        ensures understood { OnOk result (self.new.all_understood ≡ all_was_understood (state_held self.old)) }
+    {
+        self.answer_line()?;
+        if let Some(table) = &self.table {
+            table.write_not_checked(&mut self.text)?;
+            self.all_understood = false;
+        }
         Ok(())
+    }
+
+    // Writes the text for the line, and for the end of the input. Where memory is wanted, nothing is written.
+    fn end_input<W: Write>(&mut self, writer: &mut W) -> Result<(), CheckError>
+        ensures understood { OnOk result (self.new.all_understood ≡ all_was_understood (state_held self.old)) }
+        ensures text { OnOk result (Appends (W.contents writer.old) (W.contents writer.new) (last_text (state_held self.old))) }
+        ensures memory { IsErrOf result CheckError.Memory → Keeps (W.contents writer.old) (W.contents writer.new) }
+        ensures no_read { ¬ IsErrOf result CheckError.Reading }
+    {
+        self.answer_last_line().map_err(|_| CheckError::Memory)?;
+        writer
+            .write_all(self.text.as_slice())
+            .map_err(|_| CheckError::Writing)
     }
 
     // Takes the next byte, and writes the text for the line that it ends, if it ends one.
@@ -104,7 +145,7 @@ impl Checker {
     ) -> Result<(), CheckError>
         requires { 0 < length buffer.old }
         ensures done { OnOk result (Ended (R.remaining reader.old) (R.remaining reader.new)
-            (W.contents writer.old) (W.contents writer.new) (state_held self.old) (state_held self.new).understood) }
+            (W.contents writer.old) (W.contents writer.new) (state_held self.old) self.new.all_understood) }
         ensures reading { IsErrOf result CheckError.Reading → Went (R.remaining reader.old) (R.remaining reader.new)
             (W.contents writer.old) (W.contents writer.new) (state_held self.old) (state_held self.new) }
         ensures memory { IsErrOf result CheckError.Memory → Broke (R.remaining reader.old) (R.remaining reader.new)
@@ -112,7 +153,7 @@ impl Checker {
     {
         for _ in 0..u64::MAX {
             match reader.read(buffer) {
-                Ok(0) => return self.end_line(writer),
+                Ok(0) => return self.end_input(writer),
                 Ok(count) => self.feed(&buffer[..count], writer)?,
                 Err(error) => {
                     if error.kind() != ErrorKind::Interrupted {

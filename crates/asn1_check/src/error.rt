@@ -10,7 +10,7 @@ pub enum CheckError {
     /// A write failed.
     #[error("check: writing failed")]
     Writing,
-    /// There was no memory for a buffer, for the leaves of a tree or for a line's text.
+    /// There was no memory for a buffer, for the leaves of a tree, for a table or for a line's text.
     #[error("check: no memory")]
     Memory,
 }

@@ -1,5 +1,5 @@
 // The line that is being read.
-ghost use Rattle.std.specs.Prelude.{◌≡◌, [], Some, IfOk, OnOk, OnErr, option_map};
+ghost use Rattle.std.specs.Prelude.{◌≡◌, [], Some, IfOk, OnOk, option_map};
 ghost use Rattle.asn1_check.specs.Reading.{with_byte};
 
 use std::alloc::{AllocError, Global};

@@ -1,31 +1,40 @@
-//! Checks schema tables: reads lines on trees of tags and on bounds, and writes a verdict on each.
+//! Checks schema tables: reads lines on trees of tags, on bounds and on the components of types, and writes a verdict on each.
 //!
 //! `tree NAME TREE` asks of a tree of tags whether a tag stands twice, which tag is the smallest, and how many leaves there are.
-//! `bound NAME B & B` asks what two bounds have in common. Any other line is answered by `line N: not understood`, and the check
-//! goes on.
+//! `bound NAME B & B` asks what two bounds have in common. `sequence NAME` or `set NAME`, then a line `NAME PRESENCE TREE` for each
+//! component (`required`, `optional` or `default`), then `end`, asks which two components must have distinct tags and have not, and
+//! whether the components stand in canonical order. Any other line is answered by `line N: not understood`, and the check goes on;
+//! a table with such a line, or without `end`, is answered by `not checked`.
 //!
 //! The program is [`check::check`] on standard input and output, whose contract is the theorem:
 //!
 //! * `report`: what is written is `report` of what was read, the one definition in `specs/Report.antt`;
-//! * `understood`: the answer is true exactly if each line was understood;
+//! * `understood`: the answer is true exactly if each line was understood, and each table had its `end`;
 //! * `reading`, `memory`: what stands written where a read failed or memory was wanted.
 //!
 //! The words of the definition: `specs/Lines.antt` has the lines of an input, `specs/Parts.antt` the parts of a line,
-//! `specs/Names.antt` names and numbers, `specs/Grammar.antt` tags, trees, bounds and what a line may say. Laws of the
-//! definition: [`tree::trees_are_read_of_their_texts`] (what is read as a tree is that tree's text, as `specs/Spelling.antt` writes
-//! it) and [`verdict::verdicts_mean_what_they_say`].
+//! `specs/Names.antt` names and numbers, `specs/Grammar.antt` tags, trees, bounds and what a line may say, `specs/Tables.antt` tables
+//! and what is said of them; clashes and the canonical order are words of asn1_fields. Laws of the definition:
+//! [`tree::trees_are_read_of_their_texts`] (what is read as a tree is that tree's text, as `specs/Spelling.antt` writes it) and
+//! [`verdict::verdicts_mean_what_they_say`].
 #![tactic(auto)]
 
 mod answer;
 mod bound;
 mod check;
 mod checker;
+mod clash;
 mod error;
+mod field;
+mod kind;
+mod leaves;
 mod line;
 mod names;
 mod parts;
+mod table;
 #[cfg(test)]
 mod tests;
+mod texts;
 mod tree;
 mod verdict;
 

@@ -1,3 +1,5 @@
+mod protocols;
+
 use crate::check::check;
 use crate::error::CheckError;
 use std::alloc::{AllocError, Global};
@@ -140,6 +142,126 @@ fn numbers_count_empty_lines(rt: HostRuntime) {
     assert_eq!(rt; written.as_slice(), wanted.as_slice());
 }
 
+// Tables, whether all was understood, and what is written.
+const TABLES: &[(&str, bool, &str)] = &[
+    (
+        "sequence s\na optional C0\nb required C0\nend\n",
+        true,
+        "sequence s: clash 0 1, canonical\n",
+    ),
+    (
+        "sequence s\na optional C0\nx required C1\nb required C0\nend\n",
+        true,
+        "sequence s: no clash, not canonical\n",
+    ),
+    (
+        "sequence s\na optional C0\nb required C0\n",
+        false,
+        "sequence s: not checked\n",
+    ),
+    (
+        "set q\na required U2\nb required (U1 U2)\nend\n",
+        true,
+        "set q: clash 0 1, not canonical\n",
+    ),
+    (
+        "sequence s\na default U1\nb optional U2\nc required U1\nend",
+        true,
+        "sequence s: clash 0 2, not canonical\n",
+    ),
+    (
+        "sequence s\na optional ()\nb required U2\nend\n",
+        true,
+        "sequence s: clash 0 1, not canonical\n",
+    ),
+    (
+        "sequence s\na required ()\nb required U2\nend\n",
+        true,
+        "sequence s: no clash, not canonical\n",
+    ),
+    (
+        "sequence s\ng optional (C3 C4)\nb required C4\nend\n",
+        true,
+        "sequence s: clash 0 1, canonical\n",
+    ),
+    ("set q\nend\n", true, "set q: no clash, canonical\n"),
+    (
+        "set q\ntree t U0\nend\n",
+        false,
+        "line 2: not understood\nset q: not checked\n",
+    ),
+    (
+        "set q\n\ntree required U0\nend optional U1\nend\ntree t U0\n",
+        true,
+        "set q: no clash, canonical\ntree t: unique, smallest Universal 0, 1 leaves\n",
+    ),
+    (
+        "set q\nsequence s\na required U0\nend\nend\n",
+        false,
+        "line 2: not understood\nset q: not checked\nline 5: not understood\n",
+    ),
+    (
+        "set q.\na required U0\nset q\na needed U0\na required\na. required U0\nend \nset r",
+        false,
+        "line 1: not understood\nline 2: not understood\nline 4: not understood\nline 5: not understood\n\
+        line 6: not understood\nline 7: not understood\nline 8: not understood\nset q: not checked\n",
+    ),
+    (
+        "set q\na required U1\nb required (U0 U0)\na required (U2 (U1 ()))\nend\n",
+        true,
+        "set q: clash 0 2, not canonical\n",
+    ),
+    (
+        "set q\na required ()\nb required U0\nend\nset r\na required ()\nend\n",
+        true,
+        "set q: clash 0 1, not canonical\nset r: no clash, canonical\n",
+    ),
+    (
+        "sequence s\na required U0\nb required U1\nc optional U2\nd required U3\ne optional U4\nf optional U5\ng optional U4\nend\n",
+        true,
+        "sequence s: clash 4 6, not canonical\n",
+    ),
+];
+
+#[test]
+fn tables(rt: HostRuntime) {
+    for (input, understood, wanted) in TABLES {
+        let (answer, written) = checked(rt.alloc(), input.as_bytes());
+        assert_eq!(rt; answer, Ok(*understood), "{input}");
+        assert_eq!(rt; written.as_slice(), wanted.as_bytes(), "{input}");
+    }
+}
+
+// A SET with a field for each of the tags from Universal 0 up.
+fn set_of_fields(alloc: Global, count: usize) -> Result<String, AllocError> {
+    let mut table = String::from_str(alloc, "set q\n")?;
+    for i in 0..count {
+        table.push_str(format!(in alloc; "a required U{i}\n")?.as_str())?;
+    }
+    table.push_str("end\n")?;
+    Ok(table)
+}
+
+#[test]
+fn one_field_too_many(rt: HostRuntime) -> Result<(), Fail> {
+    let alloc = rt.alloc();
+    let full = set_of_fields(alloc, 256)?;
+    let (answer, written) = checked(alloc, full.as_bytes());
+    assert_eq!(rt; answer, Ok(true));
+    assert_eq!(rt;
+        written.as_slice(),
+        b"set q: no clash, canonical\n".as_slice()
+    );
+    let more = set_of_fields(alloc, 257)?;
+    let (answer, written) = checked(alloc, more.as_bytes());
+    assert_eq!(rt; answer, Ok(false));
+    assert_eq!(rt;
+        written.as_slice(),
+        b"line 258: not understood\nset q: not checked\n".as_slice()
+    );
+    Ok(())
+}
+
 // `count` times the text.
 fn repeated(alloc: Global, text: &str, count: usize) -> Result<String, AllocError> {
     let mut all = String::new(alloc);
@@ -179,13 +301,14 @@ fn limits(rt: HostRuntime) -> Result<(), Fail> {
     Ok(())
 }
 
-const INPUT: &[u8] = b"tree a U1\n\nx\ntree b (A0 A0 A1 A2 A3 A4 A5 A6 A7)\ntree c ()";
+const INPUT: &[u8] =
+    b"tree a U1\n\nx\ntree b (A0 A0 A1 A2 A3 A4 A5 A6 A7)\nset q\na required U1\nend\nset r\nb default U2";
 
 const REPORT: &[u8] = b"tree a: unique, smallest Universal 1, 1 leaves\nline 3: not understood\n\
-    tree b: repeated, smallest Application 0, 9 leaves\ntree c: unique, smallest Private 4294967295, 0 leaves\n";
+    tree b: repeated, smallest Application 0, 9 leaves\nset q: no clash, canonical\nset r: not checked\n";
 
 // Of each line that a line feed ends and that has a text, where it ends in the input, and where its text ends in the report.
-const LINES: [(usize, usize); 4] = [(0, 0), (10, 47), (13, 70), (49, 121)];
+const LINES: [(usize, usize); 5] = [(0, 0), (10, 47), (13, 70), (49, 121), (73, 148)];
 
 // A reader that gives a few bytes a call, is interrupted before each, and fails where so many bytes are left.
 #[derive(Drop)]
@@ -307,7 +430,7 @@ fn reads_that_fail(rt: HostRuntime) {
 
 #[test]
 fn writes_that_fail(rt: HostRuntime) {
-    for fails_at in 0..=121 {
+    for fails_at in 0..=148 {
         let mut reader = INPUT;
         let mut page = Page::new(fails_at, false);
         let answer = check(rt.alloc(), &mut reader, &mut page);

@@ -1,13 +1,18 @@
 // Trees of tags, as they are written.
-ghost use Rattle.std.specs.Prelude.{◌≡◌, ◌++◌, ℕ, List, None, Some, option_map, IfOk, MatchBool, IsSomeAnd};
-ghost use Rattle.asn1_tags.specs.Trees.{Tree, leaves, leaves_of, shapes};
+ghost use Rattle.std.specs.Prelude.{◌≡◌, ℕ, List, None, Some, option_map, IfOk, MatchBool, IsSomeAnd};
+ghost use Rattle.asn1_tags.specs.Trees.{Tree, choice};
 ghost use Rattle.asn1_check.specs.Grammar.{class_of, tag_of, between_brackets, elements_of, all_trees, tree_of};
+ghost use Rattle.asn1_check.specs.Kept.{Adds};
 ghost use Rattle.asn1_check.specs.Spelling.{spelling};
 
+use crate::leaves::Leaves;
 use crate::names::read_number;
 use crate::parts::Parts;
-use asn1_tags::{Class, Tag, TagTree};
+use asn1_tags::{Class, Tag};
 use std::alloc::AllocError;
+
+/// How many brackets of a tree may be open at once.
+pub(crate) const DEEPEST: u8 = 16;
 
 fn read_class(letter: u8) -> Option<Class>
     ensures { result ≡ class_of letter }
@@ -47,27 +52,22 @@ fn between_brackets(text: &[u8]) -> Option<&[u8]>
 
 /// Whether the text is a tree with at most `depth` brackets open at once.
 ///
-/// Puts the leaves of the tree behind the nodes, and an empty choice for each that the tree has. So the nodes
-/// stand for the tree: they have its leaves in its order. Where the text is no tree, some may stand there too.
+/// Keeps of the tree what is to be kept: its leaves, behind those that are there, and whether a choice of nothing
+/// stands in it. Where the text is no tree, something of it may be kept too.
 #[cycle(tree)]
-pub(crate) fn read_tree(
-    text: &[u8],
-    depth: u8,
-    nodes: &mut Vec<TagTree<'static>>,
-) -> Result<bool, AllocError>
+pub(crate) fn read_tree(text: &[u8], depth: u8, kept: &mut Leaves) -> Result<bool, AllocError>
     ensures { IfOk result (λ is_tree. MatchBool is_tree
-        (IsSomeAnd (tree_of depth text.now)
-        (λ tree. leaves_of (shapes nodes.new.items) ≡ leaves_of (shapes nodes.old.items) ++ leaves tree))
+        (IsSomeAnd (tree_of depth text.now) (Adds kept.old kept.new))
         (tree_of depth text.now ≡ None)) }
 {
     match between_brackets(text) {
         Some(inside) => match depth.checked_sub(1) {
-            Some(depth) => read_elements(inside, depth, nodes),
+            Some(depth) => read_elements(inside, depth, kept),
             None => Ok(false),
         },
         None => match read_tag(text) {
             Some(tag) => {
-                nodes.push(TagTree::Leaf(tag))?;
+                kept.push(tag)?;
                 Ok(true)
             }
             None => Ok(false),
@@ -77,22 +77,17 @@ pub(crate) fn read_tree(
 
 // Whether the text is trees, as they stand between two brackets.
 #[cycle(tree)]
-fn read_elements(
-    inside: &[u8],
-    depth: u8,
-    nodes: &mut Vec<TagTree<'static>>,
-) -> Result<bool, AllocError>
+fn read_elements(inside: &[u8], depth: u8, kept: &mut Leaves) -> Result<bool, AllocError>
     ensures { IfOk result (λ are_trees. MatchBool are_trees
-        (IsSomeAnd (all_trees (tree_of depth) (elements_of inside.now))
-        (λ trees. leaves_of (shapes nodes.new.items) ≡ leaves_of (shapes nodes.old.items) ++ leaves_of trees))
+        (IsSomeAnd (all_trees (tree_of depth) (elements_of inside.now)) (λ trees. Adds kept.old kept.new (choice trees)))
         (all_trees (tree_of depth) (elements_of inside.now) ≡ None)) }
 {
     if inside.is_empty() {
-        nodes.push(TagTree::empty())?;
+        kept.add_empty_choice();
         return Ok(true);
     }
     for text in Parts::of(inside) {
-        if !read_tree(text, depth, nodes)? {
+        if !read_tree(text, depth, kept)? {
             return Ok(false);
         }
     }

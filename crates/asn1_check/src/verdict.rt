@@ -1,12 +1,17 @@
 // Verdicts.
-ghost use Rattle.std.specs.Prelude.{◌≡◌, ◌≢◌, ◌<◌, ◌^◌, ◌↔◌, List, Some, length, AllPairs, IsTrue};
+ghost use Rattle.std.specs.Prelude.{◌≡◌, ◌≢◌, ◌↔◌, List, AllPairs, IsTrue};
 ghost use Rattle.asn1_tags.specs.Tags.{IsSmallest, smallest, distinct};
 ghost use Rattle.asn1_tags.specs.declared.tags.Tag.{Tag};
-ghost use Rattle.asn1_tags.specs.Trees.{leaves_of, shapes};
+ghost use Rattle.asn1_fields.specs.Canonical.{IsCanonical, canonical};
+ghost use Rattle.asn1_fields.specs.Clash.{IsLeast, IsSequenceClash, IsSetClash};
+ghost use Rattle.asn1_fields.specs.Components.{Component};
 ghost use Rattle.asn1_check.specs.Report.{tree_verdict};
+ghost use Rattle.asn1_check.specs.Tables.{clash_of};
 
-use asn1_bounds::Bounded;
-use asn1_tags::{Tag, TagTree};
+use crate::field::Field;
+use crate::kind::Kind;
+use asn1_bounded::Bounded;
+use asn1_tags::{Class, Tag};
 use std::fmt;
 
 /// What is said of a tree: whether a tag stands twice, the smallest tag, and how many leaves there are.
@@ -20,18 +25,24 @@ pub(crate) struct TreeVerdict {
 impl TreeVerdict {
     ghost use Rattle.asn1_check.specs.Verdict.{verdict_text};
 
-    /// The verdict on the tree whose leaves these nodes have.
-    pub(crate) fn on(nodes: &[TagTree<'_>]) -> TreeVerdict
-        requires { length (leaves_of (shapes nodes.now)) < 2 ^ 64 }
-        ensures { verdict_text result ≡ tree_verdict (leaves_of (shapes nodes.now)) }
+    /// The verdict on a tree of these leaves, which are sorted for it.
+    pub(crate) fn on(tags: &mut [Tag]) -> TreeVerdict
+        ensures { verdict_text result ≡ tree_verdict tags.old }
     {
+        tags.sort_unstable_by(Tag::const_cmp);
         TreeVerdict {
-            is_unique: TagTree::is_unique_set(nodes),
-            smallest: TagTree::Choice(nodes).smallest_tag(),
-            leaf_count: TagTree::leaf_count(nodes).unwrap(),
+            is_unique: tags.is_sorted_by(Tag::const_less_than),
+            smallest: tags.first().copied().unwrap_or(GREATEST),
+            leaf_count: tags.len(),
         }
     }
 }
+
+/// The greatest tag of all, which stands for the smallest of no tags.
+pub(crate) const GREATEST: Tag = Tag {
+    class: Class::Private,
+    value: u32::MAX,
+};
 
 impl fmt::Display for TreeVerdict {
     ghost use Rattle.std.specs.Prelude.{Some};
@@ -47,11 +58,16 @@ impl fmt::Display for TreeVerdict {
     }
 }
 
-/// Laws of the definition of a verdict: its smallest tag is one of the tags and at most each of them, and it says
-/// `unique` exactly where no tag stands twice.
+/// Laws of the definition of a verdict. On a tree: its smallest tag is one of the tags and at most each of them, and it
+/// says `unique` exactly where no tag stands twice. On a table: the clash is the least pair of places whose components
+/// must have distinct tags and have not, and none exactly where there is no such pair; and it says `canonical` exactly
+/// where no component's smallest tag is above the next one's.
 pub fn verdicts_mean_what_they_say()
     ensures smallest { (tags : List Tag) → IsSmallest tags (smallest tags) }
     ensures unique { (tags : List Tag) → IsTrue (distinct tags) ↔ AllPairs (λ s t. s ≢ t) tags }
+    ensures sequence { (components : List Component) → IsLeast (IsSequenceClash components) (clash_of Kind.Sequence components) }
+    ensures set { (components : List Component) → IsLeast (IsSetClash components) (clash_of Kind.Set components) }
+    ensures order { (components : List Component) → IsTrue (canonical components) ↔ IsCanonical components }
 {}
 
 /// What two bounds have in common.
@@ -60,7 +76,7 @@ pub(crate) struct Common(Option<Bounded<i128>>);
 
 impl Common {
     ghost use Rattle.std.specs.Prelude.{Some};
-    ghost use Rattle.asn1_bounds.specs.Intersection.{intersection};
+    ghost use Rattle.asn1_bounded.specs.Intersection.{intersection};
     ghost use Rattle.asn1_check.specs.Report.{common_text};
     ghost use Rattle.asn1_check.specs.Verdict.{text_of_common};
 
@@ -81,5 +97,65 @@ impl fmt::Display for Common {
             Some(bound) => write!(f, "{bound}"),
             None => write!(f, "nothing in common"),
         }
+    }
+}
+
+/// The first clash of a table's fields: the least pair of places whose fields must have distinct tags, and have not.
+#[derive(Clone, Copy)]
+struct Clash(Option<(usize, usize)>);
+
+impl fmt::Display for Clash {
+    ghost use Rattle.std.specs.Prelude.{Some};
+    ghost use Rattle.asn1_check.specs.Tables.{clash_text};
+
+    ghost output = { λ clash. Some (clash_text clash.0) };
+
+    fn fmt<W: fmt::Write>(&self, f: &mut fmt::Formatter<W>) -> fmt::Result {
+        match self.0 {
+            Some((i, j)) => write!(f, "clash {i} {j}"),
+            None => write!(f, "no clash"),
+        }
+    }
+}
+
+/// What is said of a table: its first clash, and whether its fields stand in canonical order.
+#[derive(Clone, Copy)]
+pub(crate) struct TableVerdict {
+    clash: Clash,
+    is_canonical: bool,
+}
+
+impl TableVerdict {
+    ghost use Rattle.std.specs.Prelude.{◌++◌, codes};
+    ghost use Rattle.asn1_fields.specs.Canonical.{canonical};
+    ghost use Rattle.asn1_check.specs.HeldFields.{components_held};
+    ghost use Rattle.asn1_check.specs.Tables.{clash_text, order_text};
+    ghost use Rattle.asn1_check.specs.Verdict.{text_of_table_verdict};
+
+    /// The verdict on a table of these fields, whose first clash is known.
+    pub(crate) fn on(clash: Option<(usize, usize)>, fields: &[Field]) -> TableVerdict
+        ensures { text_of_table_verdict result ≡ clash_text clash ++ codes ", " ++ order_text (canonical (components_held fields.now)) }
+    {
+        TableVerdict {
+            clash: Clash(clash),
+            is_canonical: fields.is_sorted_by(Field::stands_in_order),
+        }
+    }
+}
+
+impl fmt::Display for TableVerdict {
+    ghost use Rattle.std.specs.Prelude.{Some};
+    ghost use Rattle.asn1_check.specs.Verdict.{text_of_table_verdict};
+
+    ghost output = { λ verdict. Some (text_of_table_verdict verdict) };
+
+    fn fmt<W: fmt::Write>(&self, f: &mut fmt::Formatter<W>) -> fmt::Result {
+        let clash = self.clash;
+        let order = if self.is_canonical {
+            "canonical"
+        } else {
+            "not canonical"
+        };
+        write!(f, "{clash}, {order}")
     }
 }

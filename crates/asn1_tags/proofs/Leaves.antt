@@ -1,15 +1,18 @@
 -- What walks over trees use of their leaves.
 use mathlib.Core.Former.{Count}
-use Rattle.std.proofs.Common.{◌≡◌, ℕ, Bool, true, false, ◌||◌, ◌&&◌, not, List, [], ◌∷◌, ◌++◌, ◌+◌, ◌-◌, ◌<◌, ◌≤◌, length, get_or, take, drop, length-append, append_assoc, refl, sym, ap, ◌∙◌, arith}
+use Rattle.std.proofs.Common.{◌≡◌, ℕ, Bool, true, false, ◌||◌, ◌&&◌, not, List, [], ◌∷◌, ◌++◌, ◌+◌, ◌-◌, ◌<◌, ◌≤◌, ◌==◌, Contains, length, get_or, take, drop, length-append, append_assoc, refl, sym, ap, ◌∙◌, arith}
 use Rattle.std.specs.Borrow.{Bor}
 use Rattle.std.proofs.lemmas.List.{take_more, take_rest, drop_more, append-nil, take-append-drop}
 use Rattle.std.proofs.lemmas.List.Folds.{list_any-append}
+use Rattle.std.proofs.lemmas.Bool.{false≢true}
+use Rattle.std.proofs.lemmas.List.Elements.{Contains-append_left}
+use Rattle.std.proofs.lemmas.Bool.Decides.{nat_tests}
 use Rattle.std.proofs.lemmas.Grind.{common_steps}
 use Rattle.asn1_tags.specs.Tags.{has, tag_eq, distinct}
 use Rattle.asn1_tags.specs.Walks.{meet}
 use Rattle.asn1_tags.specs.declared.tags.Tag.{Tag}
 use Rattle.asn1_tags.specs.declared.trees.TagTree.{TagTree, Leaf, Choice, Choice', Row_of-TagTree, end_of-TagTree, more_of-TagTree, items-the_row-TagTree, items_hidden-the_row-TagTree-0}
-use Rattle.asn1_tags.specs.Trees.{leaf, choice, more, shape, row_shapes, shapes, leaves, leaves_of}
+use Rattle.asn1_tags.specs.Trees.{Tree, Trees, leaf, choice, none, more, shape, row_shapes, shapes, leaves, leaves_of, is_open, is_any_open, is_nothing}
 
 row_shapes_is : (n : _) (row : Row_of-TagTree n) → row_shapes row ≡ shapes (items-the_row-TagTree n row)
 unfolding shape row_shapes
@@ -158,6 +161,63 @@ distinct_more ts i d lt e h apart =
     let k : meet (leaves (shape (get_or ts i d))) (leaves_of (shapes (drop (i + 1) ts))) ≡ false = rw (take_rest ts (i + 1)) at apart in
     grind (arith, common_steps)
 
+-- the leaves of one tree alone
+pub leaves_of-one : (t : TagTree) → leaves_of (shapes (t ∷ [])) ≡ leaves (shape t)
+leaves_of-one t = append-nil (leaves (shape t))
+
+-- no trees
+pub is_nothing-shapes : (ts : List TagTree) → is_nothing (shapes ts) ≡ (length ts == 0)
+is_nothing-shapes [] = refl
+is_nothing-shapes (t ∷ ts) = grind (arith, nat_tests)
+
+is_any_open-append : (ts us : List TagTree) → is_any_open (shapes (ts ++ us)) ≡ (is_any_open (shapes ts) || is_any_open (shapes us))
+is_any_open-append [] us = refl
+is_any_open-append (t ∷ ts) us =
+    ap (λ b. is_open (shape t) || b) (is_any_open-append ts us) ∙ or_assoc (is_open (shape t)) (is_any_open (shapes ts)) (is_any_open (shapes us))
+  where
+    or_assoc : (a b c : Bool) → (a || (b || c)) ≡ ((a || b) || c)
+    or_assoc true b c = refl
+    or_assoc false b c = refl
+
+-- a walk that looks for a choice of nothing
+pub is_any_open_more : (ts : List TagTree) (i : ℕ) (d : TagTree) → i < length ts →
+    is_any_open (shapes (take (i + 1) ts)) ≡ (is_any_open (shapes (take i ts)) || is_open (shape (get_or ts i d)))
+is_any_open_more ts i d lt =
+    ap (λ us. is_any_open (shapes us)) (take_more ts i d lt)
+    ∙ (is_any_open-append (take i ts) (get_or ts i d ∷ []) ∙ ap (λ b. is_any_open (shapes (take i ts)) || b) (or_false (is_open (shape (get_or ts i d)))))
+  where
+    or_false : (b : Bool) → (b || false) ≡ b
+    or_false true = refl
+    or_false false = refl
+
+-- a tree that has one settles it
+pub is_any_open_at : (ts : List TagTree) (i : ℕ) (d : TagTree) → i < length ts → is_open (shape (get_or ts i d)) ≡ true → is_any_open (shapes ts) ≡ true
+is_any_open_at ts i d lt h =
+    let e1 = ap (λ us. is_any_open (shapes us)) (sym (take-append-drop i ts)) in
+    let e2 = is_any_open-append (take i ts) (drop i ts) in
+    let e3 = ap (λ us. is_any_open (shapes us)) (drop_more ts i d lt) in
+    grind (arith, common_steps)
+
+first_false : (a b : Bool) → (a || b) ≡ false → a ≡ false
+first_false false b h = refl
+first_false true b h = h
+
+second_false : (a b : Bool) → (a || b) ≡ false → b ≡ false
+second_false false b h = h
+second_false true b h = cc
+
+mutual
+  -- a tree in which no choice of nothing stands has a leaf
+  pub leaf_of : (t : Tree) → is_open t ≡ false → (tag : Tag) × Contains (leaves t) tag
+  leaf_of (leaf t) shut = (t, (0, omega arith, refl))
+  leaf_of (choice ts) shut = leaf_of_some ts (first_false (is_nothing ts) (is_any_open ts) shut) (second_false (is_nothing ts) (is_any_open ts) shut)
+
+  leaf_of_some : (ts : Trees) → is_nothing ts ≡ false → is_any_open ts ≡ false → (tag : Tag) × Contains (leaves_of ts) tag
+  leaf_of_some none some shut = absurd (false≢true (sym some))
+  leaf_of_some (more t ts) some shut =
+      let first = leaf_of t (first_false (is_open t) (is_any_open ts) shut) in
+      (first.0, Contains-append_left (leaves t) (leaves_of ts) first.0 first.1)
+
 -- a walk that keeps each leaf
 pub flat_more : (ts : List TagTree) (i : ℕ) (d : TagTree) (xs : List Tag) → i < length ts →
     xs ++ leaves_of (shapes (take (i + 1) ts)) ≡ (xs ++ leaves_of (shapes (take i ts))) ++ leaves (shape (get_or ts i d))
@@ -165,6 +225,12 @@ flat_more ts i d xs lt =
     ap (λ ls. xs ++ ls) (leaves_of-take ts i d lt) ∙ sym (append_assoc xs (leaves_of (shapes (take i ts))) (leaves (shape (get_or ts i d))))
 
 pub ruleset flat_steps = (flat_more, append-nil)
+
+-- one tree as several
+pub ruleset alone = (leaves_of-one)
+
+-- steps of the walk that looks for a choice of nothing
+pub ruleset openings = (shape-Leaf, shape-Choice, is_nothing-shapes, is_any_open_more, is_any_open_at)
 
 -- what a tree is, by its cases
 pub ruleset tree_shapes = (shape-Leaf, shape-Choice)

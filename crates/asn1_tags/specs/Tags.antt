@@ -40,6 +40,12 @@ abbrev pub distinct : List Tag → Bool
 distinct [] = true
 distinct (t ∷ ts) = not (has t ts) && distinct ts
 
+-- Some tag stands in both lists.
+pub record HaveCommonTag (ts us : List Tag) : Type 0 where
+  pub tag : Tag
+  pub in_first : Contains ts tag
+  pub in_second : Contains us tag
+
 -- the greatest tag of all, which stands for the smallest of no tags
 abbrev pub greatest : Tag
 greatest = record { class = Private; value = 4294967295 }

@@ -22,7 +22,8 @@
 //!   about its `leaves`, the tags from left to right; `specs/Trees.antt` defines both.
 //! - `TagTree::smallest_tag` is the smallest of the leaves; `is_unique` and `is_unique_set` are true
 //!   exactly where no tag stands at two leaves; `tag_contains` is true exactly for a leaf;
-//!   `leaf_count` is the number of leaves wherever it fits.
+//!   `leaf_count` is the number of leaves wherever it fits. `has_empty_choice` says whether a choice of
+//!   nothing stands anywhere (`is_open`), and `shares_leaf` whether two trees have a leaf in common.
 //! - `TagTree::leaf_position` is the first place of a tag among the leaves, and `leaf_at` the leaf at
 //!   a place. Each gives back what the other was asked (the clauses `back`), `leaf_at` where no tag
 //!   stands at two leaves. Both require that the number of leaves fits, which `leaf_count` tests.

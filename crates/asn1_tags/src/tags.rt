@@ -86,7 +86,8 @@ impl Tag {
 
     /// Whether this is the tag that stands for an untagged CHOICE.
     pub fn is_choice(&self) -> bool
-        ensures { IsTrue result ↔ (self.now ≡ Tag.CHOICE) }
+        ensures same { IsTrue result ↔ (self.now ≡ Tag.CHOICE) }
+        ensures parts { result ≡ tag_eq self.now Tag.CHOICE }
     {
         self.const_eq(&Tag::CHOICE)
     }

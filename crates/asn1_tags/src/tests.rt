@@ -214,6 +214,25 @@ fn the_smallest_tag_is_of_the_lowest_class(rt: HostRuntime) {
 }
 
 #[test]
+fn a_choice_of_nothing_is_found_at_any_depth(rt: HostRuntime) {
+    let nodes = [leaf!(Universal 3), TagTree::Choice(C1_AND_NOTHING)];
+    assert!(rt; TagTree::empty().has_empty_choice());
+    assert!(rt; TagTree::Choice(&nodes).has_empty_choice());
+    assert!(rt; !TagTree::Choice(A0_TWICE).has_empty_choice());
+    assert!(rt; !leaf!(Universal 3).has_empty_choice());
+}
+
+#[test]
+fn trees_share_a_leaf_at_any_depth(rt: HostRuntime) {
+    let nested = TagTree::Choice(A0_TWICE);
+    assert!(rt; nested.shares_leaf(&TagTree::Choice(APPLICATIONS)));
+    assert!(rt; nested.shares_leaf(&TagTree::Choice(CONTEXTS)));
+    assert!(rt; leaf!(Context 2).shares_leaf(&nested));
+    assert!(rt; !nested.shares_leaf(&TagTree::Choice(JUST_A1)));
+    assert!(rt; !TagTree::empty().shares_leaf(&TagTree::empty()));
+}
+
+#[test]
 fn trees_go_by_smallest_tag_then_structure(rt: HostRuntime) {
     let ascending = [
         leaf!(Universal 0),

@@ -1,12 +1,12 @@
 ghost use Rattle.std.specs.Prelude.{◌≡◌, ◌≢◌, ◌↔◌, ◌<◌, ◌^◌, IsTrue, length, AllPairs, Contains, IfSome, Some, slice_get};
 ghost use Rattle.std.specs.Option.{SomeIff};
-ghost use Rattle.asn1_tags.specs.Tags.{IsSmallest, position_of};
-ghost use Rattle.asn1_tags.specs.Trees.{choice, leaves, leaves_of, none, shape, shapes};
+ghost use Rattle.asn1_tags.specs.Tags.{HaveCommonTag, IsSmallest, position_of};
+ghost use Rattle.asn1_tags.specs.Trees.{choice, is_open, leaves, leaves_of, none, shape, shapes};
 
 use crate::classes::Class;
 use crate::tags::Tag;
 use crate::{places, walks};
-use std::fmt;
+use std::{fmt, slice};
 
 /// The tags with which an encoding of a type can begin.
 ///
@@ -57,6 +57,21 @@ impl TagTree<'_> {
         ensures { IsTrue result ↔ Contains (leaves_of (shapes nodes.now)) tag.now }
     {
         walks::have_leaf(nodes, tag)
+    }
+
+    /// Whether a choice of nothing stands anywhere in the tree. A type of such a tree can begin with any tag.
+    pub fn has_empty_choice(&self) -> bool
+        ensures { result ≡ is_open (shape self.now) }
+    {
+        walks::has_empty_choice(self)
+    }
+
+    /// Whether some tag is a leaf of both trees.
+    #[tactic(auto, using(crate::proofs::Distinct::common_tags, crate::proofs::Leaves::alone))]
+    pub fn shares_leaf(&self, other: &TagTree<'_>) -> bool
+        ensures { IsTrue result ↔ HaveCommonTag (leaves (shape self.now)) (leaves (shape other.now)) }
+    {
+        walks::shares_leaf(self, slice::from_ref(other))
     }
 
     /// How many leaves the trees have together, and `None` where the number does not fit.

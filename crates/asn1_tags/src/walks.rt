@@ -5,7 +5,7 @@ ghost use Rattle.std.specs.Prelude.{◌≡◌, ◌<◌, ◌^◌, length};
 ghost use Rattle.std.specs.Option.{SomeIff};
 ghost use Rattle.asn1_tags.specs.Tags.{distinct, has};
 ghost use Rattle.asn1_tags.specs.Walks.{IsSmallestIfAny, lesser_of, meet};
-ghost use Rattle.asn1_tags.specs.Trees.{leaves, leaves_of, shape, shapes};
+ghost use Rattle.asn1_tags.specs.Trees.{is_any_open, is_open, leaves, leaves_of, shape, shapes};
 
 use crate::tags::Tag;
 use crate::trees::TagTree;
@@ -91,9 +91,35 @@ fn lesser(first: Option<Tag>, second: Option<Tag>) -> Option<Tag>
     }
 }
 
+// Whether a choice of nothing stands anywhere in the tree.
+#[cycle(open)]
+#[tactic(auto, using(crate::proofs::Leaves::openings))]
+pub(crate) fn has_empty_choice(tree: &TagTree<'_>) -> bool
+    ensures { result ≡ is_open (shape tree.now) }
+{
+    match tree {
+        TagTree::Leaf(_) => false,
+        TagTree::Choice(nodes) => nodes.is_empty() || have_empty_choice(nodes),
+    }
+}
+
+// Whether a choice of nothing stands anywhere in one of the trees.
+#[cycle(open)]
+#[tactic(auto, using(crate::proofs::Leaves::openings))]
+fn have_empty_choice(nodes: &[TagTree<'_>]) -> bool
+    ensures { result ≡ is_any_open (shapes nodes.now) }
+{
+    for node in nodes {
+        if has_empty_choice(node) {
+            return true;
+        }
+    }
+    false
+}
+
 // Whether a leaf of the tree is also a leaf of one of the others.
 #[cycle(share)]
-fn shares_leaf(tree: &TagTree<'_>, others: &[TagTree<'_>]) -> bool
+pub(crate) fn shares_leaf(tree: &TagTree<'_>, others: &[TagTree<'_>]) -> bool
     ensures { result ≡ meet (leaves (shape tree.now)) (leaves_of (shapes others.now)) }
 {
     match tree {

@@ -1,6 +1,6 @@
 use super::*;
-use crate::bounded::Bounded;
 use crate::constraint::ConstraintDiscriminant;
+use asn1_bounded::Bounded;
 
 fn value(start: i128, end: i128) -> Value {
     Value::new(Bounded::const_new(start, end))

@@ -1,14 +1,14 @@
 use Rattle.std.proofs.Common.{◌≡◌, option_map, sym, ap, ◌∙◌, arith}
 use Rattle.std.proofs.lemmas.Bool.{eqb-true}
 use Rattle.asn1_tags.specs.Trees.{leaf, choice}
-use Rattle.asn1_check.proofs.TreeLemmas.{read_nothing, read_one, read_all, tree_of-inside, tree_of-tag, tree_of-too_deep, tag_read, nothing_read, inside_read, elements_are_parts}
+use Rattle.asn1_check.proofs.TreeLemmas.{read_nothing, read_one, read_all, tree_of-inside, tree_of-tag, tree_of-too_deep, tag_read, nothing_read, inside_read, elements_are_parts, some-elements}
 use Rattle.asn1_check.specs.PartsLeft.{parts_left}
 use Rattle.asn1_check.specs.Grammar.{tree_of, elements_of, all_trees}
 use Rattle.asn1_check.proofs.tree.+tree.Goals as goal
 
 pub read_elements-returns-then-is_empty : goal.read_elements-returns-then-is_empty
 read_elements-returns-then-is_empty t c =
-    nothing_read (tree_of c.args.depth) c.args.inside.now c.empty.result c.args.nodes.now.items c.push.new.self.items (eqb-true _ 0 (sym c.if-is_empty.ensures)) c.empty.ensures c.in_ok-push.ensures.items
+    nothing_read (tree_of c.args.depth) c.args.inside.now _ _ (eqb-true _ 0 (sym c.if-is_empty.ensures)) c.add_empty_choice.ensures
 
 pub read_elements-loop-text-init : goal.read_elements-loop-text-init
 read_elements-loop-text-init t c =
@@ -20,7 +20,7 @@ read_elements-loop-text-preserved t c =
     read_one _ _ _ c.in-Some.text.now _ _ _ _ c.loop-text.invariant c.in-Some.ensures.steps is_tree
 
 pub read_elements-returns : goal.read_elements-returns
-read_elements-returns t c = read_all _ _ _ _ _ c.loop-text.invariant c.in-None.ensures.steps.0
+read_elements-returns t c = read_all _ _ _ _ _ c.loop-text.invariant c.in-None.ensures.steps.0 (some-elements _ c.if-is_empty.ensures)
 
 pub read_tree-returns-in-Some-checked_sub : goal.read_tree-returns-in-Some-checked_sub
 read_tree-returns-in-Some-checked_sub t c =
@@ -36,7 +36,7 @@ read_tree-returns-in-None-checked_sub t c =
 pub read_tree-returns-in_ok-push-in-Some-read_tag : goal.read_tree-returns-in_ok-push-in-Some-read_tag
 read_tree-returns-in_ok-push-in-Some-read_tag t c =
     tag_read c.args.depth c.args.text.now c.in-Some-read_tag.tag _ _ (sym c.in-None.ensures) (sym c.in-Some-read_tag.ensures)
-    c.in_ok-push-in-Some-read_tag.ensures.items
+    c.in_ok-push-in-Some-read_tag.ensures
 
 pub read_tree-returns-in-None-read_tag : goal.read_tree-returns-in-None-read_tag
 read_tree-returns-in-None-read_tag t c =

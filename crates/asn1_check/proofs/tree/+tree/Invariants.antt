@@ -12,4 +12,4 @@ decreases-read_tree l = 2 * l.depth
 
 abbrev pub invariant-read_elements-loop-text : goal.invariant-read_elements-loop-text
 invariant-read_elements-loop-text l =
-    ReadSoFar (tree_of l.depth) (elements_of l.inside) (parts_left l.text-iterator) l.initial.nodes.items l.nodes.items
+    ReadSoFar (tree_of l.depth) (elements_of l.inside) (parts_left l.text-iterator) l.initial.kept l.kept

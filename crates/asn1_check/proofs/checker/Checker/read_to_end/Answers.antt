@@ -1,5 +1,6 @@
+use Rattle.std.proofs.Common.{◌≡◌, arith}
 use Rattle.std.proofs.lemmas.Result.{err_from_is_err_and}
-use Rattle.asn1_check.proofs.Progress.{went_on, went_kept, went_to_want}
+use Rattle.asn1_check.proofs.Progress.{went_on, went_kept, went_to_end_if_ok, went_to_want}
 use Rattle.asn1_check.proofs.checker.Checker.read_to_end.Goals as goal
 use Rattle.asn1_check.proofs.checker.Checker.read_to_end.Goals.{in-Ok+in_ok-feed-in-Ok, in-Err+else-ne}
 
@@ -17,3 +18,9 @@ loop-preserved g c =
           rw (w.self-is, w.writer-is) (went_on _ _ _ _ _ _ _ _ _ _ c.loop.invariant w.in-Ok.ensures.bytes.0 fed.text fed.state)
       | in-Err+else-ne w ↦ rw (w.self-is, w.writer-is) (went_kept _ _ _ _ _ _ _ c.loop.invariant w.in-Err.ensures.bytes)
     ]
+
+pub returns-in-Ok-eq0-clause-done : goal.returns-in-Ok-eq0-clause-done
+returns-in-Ok-eq0-clause-done g c =
+    let bytes = c.in-Ok-eq0.ensures.bytes in
+    let none : c.in-Ok-eq0.field-0 ≡ 0 = c.in-Ok-eq0.field-0-test in
+    went_to_end_if_ok c.end_input.result _ _ _ _ _ _ _ _ _ _ _ c.loop.invariant bytes.0 none (bytes.1 none (omega arith)) c.end_input.ensures.text c.end_input.ensures.understood

@@ -1,12 +1,19 @@
-use Rattle.std.proofs.Common.{◌≡◌, length}
-use Rattle.asn1_tags.specs.Trees.{leaves_of, shapes}
+use Rattle.std.proofs.Common.{◌≡◌, length, ap, ◌∙◌}
+use Rattle.std.specs.Prelude.{unwrap_or, slice_get}
+use Rattle.std.specs.Ordering.{is_lt}
+use Rattle.std.proofs.lemmas.List.Sorted.{answers_always}
+use Rattle.asn1_tags.specs.Tags.{greatest, tag_cmp}
 use Rattle.asn1_check.specs.Report.{verdict_of}
-use Rattle.asn1_check.proofs.VerdictLemmas.{tells_distinct, smallest_of_choice}
+use Rattle.asn1_check.proofs.VerdictLemmas.{tags_ranked, tells_less, distinct-in_order, smallest-in_order, verdict-permutation}
 use Rattle.asn1_check.proofs.verdict.TreeVerdict.on.Goals as goal
 
 pub returns : goal.returns
 returns c =
-    let unique = tells_distinct c.is_unique_set.result _ c.is_unique_set.ensures in
-    let least = smallest_of_choice c.args.nodes c.smallest_tag.result c.smallest_tag.ensures in
-    let count : c.unwrap.result ≡ length (leaves_of (shapes c.args.nodes.now)) = let h = rw c.unwrap.ensures at c.leaf_count.ensures in h.1 in
-    λ i. verdict_of (unique i) (least i) (count i)
+    let tags = c.sort_unstable_by.new.self in
+    let moved = c.sort_unstable_by.ensures.permutation in
+    let up = c.sort_unstable_by.ensures.sorted (λ s t. is_lt (tag_cmp s t)) tags_ranked (answers_always _ _ _ (λ f a r g called. ap is_lt called.met.0)) in
+    let unique = distinct-in_order tags c.is_sorted_by.result up (c.is_sorted_by.ensures.cases (λ s t. is_lt (tag_cmp s t)) (answers_always _ _ _ (λ f a r g called. tells_less r _ called.met))) in
+    let first : c.unwrap_or.result ≡ unwrap_or (slice_get tags 0) greatest =
+    c.unwrap_or.ensures ∙ ap (λ r. unwrap_or r greatest) (c.copied.ensures ∙ c.first.ensures.value) in
+    let least = first ∙ smallest-in_order tags up in
+    (λ i. verdict_of (unique i) (least i) (length tags)) ∙ verdict-permutation c.args.tags.now tags moved

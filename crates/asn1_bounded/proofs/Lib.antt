@@ -1,0 +1,4 @@
+pub mod Counting
+pub mod Intersecting
+pub mod IntersectionLaws
+pub mod Outside

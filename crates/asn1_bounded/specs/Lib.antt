@@ -1,0 +1,6 @@
+pub mod Count
+pub mod Ends
+pub mod Intersection
+pub mod Members
+pub mod Octets
+pub mod Text

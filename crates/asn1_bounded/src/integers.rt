@@ -1,0 +1,90 @@
+ghost use Rattle.std.specs.Prelude.{◌≡◌, ◌↔◌, ◌≤ℤ◌, IsTrue, pos, IfSome, IfNone};
+ghost use Rattle.asn1_bounded.specs.Ends.{start_of};
+ghost use Rattle.asn1_bounded.specs.Members.{IsMember};
+
+use crate::bounded::Bounded;
+use asn1_values::IntegerType;
+
+impl<T: IntegerType + Copy> Bounded<T> {
+    /// The start, where there is one, and else 0. A single is its own start.
+    pub fn minimum(&self) -> T
+        ensures start { IfSome (start_of self.now) (λ start. result ≡ start) }
+        ensures zero { IfNone (start_of self.now) (T.number result ≡ pos 0) }
+    {
+        match self.as_start() {
+            Some(start) => *start,
+            None => T::zero(),
+        }
+    }
+}
+
+impl Bounded<i128> {
+    /// Whether the number is a member of the bound, also where it is no `i128`.
+    pub fn in_bound<I: IntegerType>(&self, element: &I) -> bool
+        ensures { IsTrue result ↔ IsMember (λ n. n) self.now (I.number element.now) }
+    {
+        match *self {
+            Bounded::None => true,
+            Bounded::Single(value) => is_at_least(element, value) && is_at_most(element, value),
+            Bounded::Range { start, end } => {
+                start.is_none_or(|start| is_at_least(element, start))
+                    && end.is_none_or(|end| is_at_most(element, end))
+            }
+        }
+    }
+}
+
+#[tactic(auto, using(crate::proofs::Outside::outside))]
+fn is_at_least<I: IntegerType>(element: &I, start: i128) -> bool
+    ensures { IsTrue result ↔ (start ≤ℤ I.number element.now) }
+{
+    match element.to_i128() {
+        Some(number) => start <= number,
+        None => !element.is_negative(),
+    }
+}
+
+#[tactic(auto, using(crate::proofs::Outside::outside))]
+fn is_at_most<I: IntegerType>(element: &I, end: i128) -> bool
+    ensures { IsTrue result ↔ (I.number element.now ≤ℤ end) }
+{
+    match element.to_i128() {
+        Some(number) => number <= end,
+        None => element.is_negative(),
+    }
+}
+
+#[cfg(test)]
+mod tests {
+    use super::*;
+    use asn1_values::Integer;
+    use std::test::Fail;
+
+    #[test]
+    fn minimums(rt: HostRuntime) {
+        assert_eq!(rt; Bounded::<i128>::up_to(10).minimum(), 0);
+        assert_eq!(rt; Bounded::<u8>::start_from(5).minimum(), 5);
+        assert_eq!(rt; Bounded::<i64>::single_value(-3).minimum(), -3);
+        assert_eq!(rt; Bounded::<usize>::None.minimum(), 0);
+    }
+
+    #[test]
+    fn numbers_beyond_128_bits(rt: HostRuntime) -> Result<(), Fail> {
+        let natural = Bounded::<i128>::start_from(0);
+        let not_positive = Bounded::<i128>::up_to(0);
+        assert!(rt; natural.in_bound(&u128::MAX));
+        assert!(rt; !not_positive.in_bound(&u128::MAX));
+        assert!(rt; !Bounded::const_new(i128::MIN, i128::MAX).in_bound(&u128::MAX));
+
+        // One less than the least i128: the magnitude 2^127 + 1.
+        let mut magnitude = [0u8; 16];
+        magnitude[0] = 0x80;
+        magnitude[15] = 1;
+        let below = Integer::from_sign_magnitude(rt.alloc(), true, &magnitude)?;
+        assert!(rt; not_positive.in_bound(&below));
+        assert!(rt; !natural.in_bound(&below));
+        assert!(rt; !Bounded::single_value(i128::MIN).in_bound(&below));
+        assert!(rt; Bounded::<i128>::None.in_bound(&below));
+        Ok(())
+    }
+}

@@ -1,0 +1,33 @@
+//! Bounds of ASN.1 (X.680, 51.2 and 51.4): which whole numbers a constraint leaves.
+//!
+//! The types:
+//!
+//! - [`Bounded`] is no bound, a single value, or a range with or without each of its ends. Its **members** are whole
+//!   numbers.
+//! - [`WholeNumber`] is what it asks of the type of its ends, which every built-in integer has. [`FitsI128`] is one whose
+//!   numbers an `i128` can hold, each of them.
+//!
+//! What is promised, by the names of the clauses:
+//!
+//! - `Bounded::contains` and its forms (`inside`) decide membership.
+//! - `Bounded::intersect` has the common members (`members`), and answers `None` only where there are none
+//!   (`disjoint`), and where neither side is inverted exactly then (`inhabited`). `shape` says which bound it is, and
+//!   `single` that a single stays one.
+//! - `Bounded::in_bound` is membership for a number of any size, and `Bounded::minimum` is the start or 0 (`start`, `zero`).
+//! - `Bounded::range` counts the members (`counted`), `Bounded::effective_value` gives offsets (`offset`), and
+//!   `Bounded::range_in_bytes` a sign and a width (`signed`, `octets`): each at every bound, and no sum wraps.
+//! - The text of a bound is said byte for byte, by the `output` of its `Display`.
+//!
+//! No call takes memory. The words of the clauses are defined in `specs`: `Ends`, `Members` and `Count` for a bound,
+//! `Intersection` for two of them, `Octets` and `Text`. That intersection commutes and associates, where a bound
+//! without members stands in place of none, is in `proofs/IntersectionLaws`, for the crates above.
+#![tactic(auto)]
+
+pub use bounded::Bounded;
+pub use number::{FitsI128, WholeNumber};
+
+mod bounded;
+mod integers;
+mod intersection;
+mod number;
+mod octets;

@@ -1,0 +1,9 @@
+pub mod SharedTags
+pub mod Searches
+pub mod Clashes
+pub mod Orders
+pub mod Required
+pub mod Rearranged
+pub mod Numbering
+pub mod Places
+pub mod Alike

@@ -1,0 +1,94 @@
+-- The test of the canonical order, and what it decides.
+use Rattle.std.proofs.Common.{◌≡◌, inl, inr, ℕ, zero, suc, ◌+◌, ◌<◌, nat_lt, Bool, true, false, ◌&&◌, List, [], ◌∷◌, length, get_or, add-one, refl, sym, ap, ◌∙◌, subst, arith}
+use Rattle.std.specs.List.{AllAdjacentBelow, IsAllAdjacentAnswer, slice_get}
+use Rattle.std.specs.Ordering.{is_le}
+use Rattle.std.proofs.lemmas.Bool.{false≢true}
+use Rattle.std.proofs.lemmas.Bool.Decides.{nat_tests}
+use Rattle.std.proofs.lemmas.Grind.{common_steps}
+use Rattle.std.proofs.lemmas.Option.{none-some, same_Some}
+use Rattle.asn1_tags.specs.Tags.{IsAtMost, class_number, tag_cmp}
+use Rattle.asn1_tags.specs.declared.tags.Tag.{Tag}
+use Rattle.asn1_fields.specs.Canonical.{IsCanonical, canonical, in_order, smallest_tag}
+use Rattle.asn1_fields.specs.Components.{Component, component_of, components, entry_of}
+use Rattle.asn1_fields.specs.declared.components.Field.{Field}
+
+and_first : (a b : Bool) → (a && b) ≡ true → a ≡ true
+and_first true b h = refl
+and_first false b h = h
+
+and_second : (a b : Bool) → (a && b) ≡ true → b ≡ true
+and_second true b h = h
+and_second false b h = absurd (false≢true h)
+
+and_both : (a b : Bool) → a ≡ true → b ≡ true → (a && b) ≡ true
+and_both true b e f = f
+and_both false b e f = e
+
+and_false_second : (a b : Bool) → b ≡ false → (a && b) ≡ false
+and_false_second true b e = e
+and_false_second false b e = refl
+
+-- the order of tags, and what is at most what
+IsAtMost-from_le : (s t : Tag) → is_le (tag_cmp s t) ≡ true → IsAtMost s t
+IsAtMost-from_le s t h = by_class (nat_lt (class_number s.class) (class_number t.class)) refl
+  where
+    by_class : (b : Bool) → nat_lt (class_number s.class) (class_number t.class) ≡ b → IsAtMost s t
+    by_class true e = inl (grind (arith, nat_tests, common_steps))
+    by_class false e = inr (grind (arith, nat_tests, common_steps), grind (arith, nat_tests, common_steps))
+
+le-from_IsAtMost : (s t : Tag) → IsAtMost s t → is_le (tag_cmp s t) ≡ true
+le-from_IsAtMost s t (inl lt) = grind (arith, nat_tests, common_steps)
+le-from_IsAtMost s t (inr le) = grind (arith, nat_tests, common_steps)
+
+-- the test answers true for what is canonical
+pub IsCanonical-from_test : (cs : List Component) → canonical cs ≡ true → IsCanonical cs
+IsCanonical-from_test [] h k c d e f = absurd (none-some c e)
+IsCanonical-from_test (a ∷ []) h k c d e f = absurd (none-some d (sym (ap (slice_get (a ∷ [])) (add-one k)) ∙ f))
+IsCanonical-from_test (a ∷ (b ∷ cs)) h zero c d e f =
+    subst (λ x. IsAtMost (smallest_tag x) (smallest_tag d)) (same_Some a c e)
+    (subst (λ x. IsAtMost (smallest_tag a) (smallest_tag x)) (same_Some b d f)
+    (IsAtMost-from_le (smallest_tag a) (smallest_tag b) (and_first (in_order a b) (canonical (b ∷ cs)) h)))
+IsCanonical-from_test (a ∷ (b ∷ cs)) h (suc k) c d e f =
+    IsCanonical-from_test (b ∷ cs) (and_second (in_order a b) (canonical (b ∷ cs)) h) k c d e
+    (ap (slice_get (b ∷ cs)) (add-one k) ∙ (sym (ap (slice_get (a ∷ (b ∷ cs))) (add-one (suc k))) ∙ f))
+
+-- and for nothing else
+pub test-from_IsCanonical : (cs : List Component) → IsCanonical cs → canonical cs ≡ true
+test-from_IsCanonical [] h = refl
+test-from_IsCanonical (a ∷ []) h = refl
+test-from_IsCanonical (a ∷ (b ∷ cs)) h =
+    and_both (in_order a b) (canonical (b ∷ cs)) (le-from_IsAtMost (smallest_tag a) (smallest_tag b) (h 0 a b refl refl))
+    (test-from_IsCanonical (b ∷ cs)
+    (λ k c d e f. h (suc k) c d e (ap (slice_get (a ∷ (b ∷ cs))) (add-one (suc k)) ∙ (sym (ap (slice_get (b ∷ cs)) (add-one k)) ∙ f))))
+
+pub ruleset canonical_tests = (IsCanonical-from_test, test-from_IsCanonical)
+
+-- whether two fields stand in order
+abbrev pub fields_in_order : Field → Field → Bool
+fields_in_order f g = in_order (component_of (entry_of f)) (component_of (entry_of g))
+
+-- neighbours that are all in order
+all_in_order : (fs : List Field) → AllAdjacentBelow (λ f g. true ≡ fields_in_order f g) fs (length fs) → canonical (components fs) ≡ true
+all_in_order [] h = refl
+all_in_order (f ∷ []) h = refl
+all_in_order (f ∷ (g ∷ fs)) h =
+    and_both (fields_in_order f g) (canonical (components (g ∷ fs))) (sym (h 0 f (omega arith)))
+    (all_in_order (g ∷ fs)
+    (λ k d lt. subst (λ x. true ≡ fields_in_order (get_or (g ∷ fs) k d) x) (ap (λ n. get_or (f ∷ (g ∷ fs)) n d) (add-one (suc k)) ∙ sym (ap (λ n. get_or (g ∷ fs) n d) (add-one k)))
+    (h (suc k) d (omega arith))))
+
+-- neighbours of which some are not
+some_not_in_order : (fs : List Field) (k : ℕ) → k + 1 < length fs → ((d : Field) → false ≡ fields_in_order (get_or fs k d) (get_or fs (k + 1) d)) →
+    canonical (components fs) ≡ false
+some_not_in_order [] k lt h = absurd (omega arith)
+some_not_in_order (f ∷ []) k lt h = absurd (omega arith)
+some_not_in_order (f ∷ (g ∷ fs)) zero lt h = ap (λ b. b && canonical (components (g ∷ fs))) (sym (h f))
+some_not_in_order (f ∷ (g ∷ fs)) (suc k) lt h =
+    and_false_second (fields_in_order f g) (canonical (components (g ∷ fs)))
+    (some_not_in_order (g ∷ fs) k (omega arith)
+    (λ d. subst (λ x. false ≡ fields_in_order (get_or (g ∷ fs) k d) x) (ap (λ n. get_or (f ∷ (g ∷ fs)) n d) (add-one (suc k)) ∙ sym (ap (λ n. get_or (g ∷ fs) n d) (add-one k))) (h d)))
+
+-- what all neighbours answer is what the test answers
+pub canonical-is : (fs : List Field) (answer : Bool) → IsAllAdjacentAnswer (λ f g b. b ≡ fields_in_order f g) fs answer → answer ≡ canonical (components fs)
+canonical-is fs true h = sym (all_in_order fs h)
+canonical-is fs false h = sym (some_not_in_order fs h.0 h.1 h.2)

@@ -1,0 +1,77 @@
+-- The tags that two trees share, and the test of it.
+use Rattle.std.proofs.Common.{◌≡◌, ◌⊎◌, inl, inr, Contains, if◌then◌else◌, Bool, true, false, ◌||◌, IsTrue, List, refl, sym}
+use Rattle.std.proofs.lemmas.Bool.{false≢true}
+use Rattle.asn1_tags.specs.Tags.{HaveCommonTag, greatest}
+use Rattle.asn1_tags.specs.Trees.{Tree, is_open, leaves}
+use Rattle.asn1_tags.specs.Walks.{meet}
+use Rattle.asn1_tags.specs.declared.tags.Tag.{Tag}
+use Rattle.asn1_tags.proofs.Leaves.{leaf_of}
+use Rattle.asn1_tags.proofs.Distinct.{HaveCommonTag-from_meet, meet-from_HaveCommonTag}
+use Rattle.asn1_model.specs.Tags.{Has, among, every, tree_tags}
+use Rattle.asn1_fields.specs.Clash.{HasTag, ShareTag, share_tag}
+
+-- what is said here of a tree's tags is what a type's tags are where it has that tree
+pub type_has : (t : Tree) (tag : Tag) → HasTag t tag → Has (tree_tags t) tag
+type_has t tag h = by_open (is_open t) h
+  where
+    by_open : (b : Bool) → IsTrue b ⊎ Contains (leaves t) tag → Has (if b then every else among (leaves t)) tag
+    by_open true h = tt
+    by_open false (inl e) = absurd (false≢true e)
+    by_open false (inr l) = l
+
+pub tree_has : (t : Tree) (tag : Tag) → Has (tree_tags t) tag → HasTag t tag
+tree_has t tag h = by_open (is_open t) h
+  where
+    by_open : (b : Bool) → Has (if b then every else among (leaves t)) tag → IsTrue b ⊎ Contains (leaves t) tag
+    by_open true h = inl refl
+    by_open false l = inr l
+
+-- each type has a tag
+some_tag : (t : Tree) (b : Bool) → is_open t ≡ b → (tag : Tag) × HasTag t tag
+some_tag t true e = (greatest, inl e)
+some_tag t false e = let l = leaf_of t e in (l.0, inr l.1)
+
+-- trees that the test answers true for share a tag
+pub ShareTag-from_test : (s t : Tree) → share_tag s t ≡ true → ShareTag s t
+ShareTag-from_test s t h = by_first (is_open s) refl (is_open t) refl h
+  where
+    by_first : (b : Bool) → is_open s ≡ b → (d : Bool) → is_open t ≡ d → (b || d || meet (leaves s) (leaves t)) ≡ true → ShareTag s t
+    by_first true e d f h = let other = some_tag t d f in record { tag = other.0; of_first = inl e; of_second = other.1 }
+    by_first false e true f h = let other = leaf_of s e in record { tag = other.0; of_first = inr other.1; of_second = inl f }
+    by_first false e false f h =
+        let common = HaveCommonTag-from_meet (leaves s) (leaves t) h in
+        record { tag = common.tag; of_first = inr common.in_first; of_second = inr common.in_second }
+
+-- and it answers true for all that do
+pub test-from_ShareTag : (s t : Tree) → ShareTag s t → share_tag s t ≡ true
+test-from_ShareTag s t h = by_cases h.of_first h.of_second
+  where
+    open_first : (a b : Bool) → a ≡ true → (a || b || meet (leaves s) (leaves t)) ≡ true
+    open_first true b e = refl
+    open_first false b e = absurd (false≢true e)
+
+    open_second : (a b : Bool) → b ≡ true → (a || b || meet (leaves s) (leaves t)) ≡ true
+    open_second true b e = refl
+    open_second false true e = refl
+    open_second false false e = absurd (false≢true e)
+
+    common : (a b m : Bool) → m ≡ true → (a || b || m) ≡ true
+    common true b m e = refl
+    common false true m e = refl
+    common false false m e = e
+
+    by_cases : HasTag s h.tag → HasTag t h.tag → share_tag s t ≡ true
+    by_cases (inl e) f = open_first (is_open s) (is_open t) e
+    by_cases (inr e) (inl f) = open_second (is_open s) (is_open t) f
+    by_cases (inr e) (inr f) =
+        common (is_open s) (is_open t) (meet (leaves s) (leaves t))
+        (meet-from_HaveCommonTag (leaves s) (leaves t) (record { tag = h.tag; in_first = e; in_second = f }))
+
+-- what tells whether two lists have a tag in common is `meet`
+pub meet-is : (ts us : List Tag) (b : Bool) → (IsTrue b → HaveCommonTag ts us) → (HaveCommonTag ts us → IsTrue b) → b ≡ meet ts us
+meet-is ts us true f g = sym (meet-from_HaveCommonTag ts us (f refl))
+meet-is ts us false f g = by_test (meet ts us) refl
+  where
+    by_test : (m : Bool) → meet ts us ≡ m → false ≡ meet ts us
+    by_test false e = sym e
+    by_test true e = absurd (false≢true (g (HaveCommonTag-from_meet ts us e)))

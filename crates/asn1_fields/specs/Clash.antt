@@ -1,0 +1,72 @@
+-- Which components of a SEQUENCE or a SET must have distinct tags, and which of them have not (X.680, 25.6, 25.6.1 and 27.3).
+use Rattle.std.specs.Prelude.{◌≡◌, ◌⊎◌, ◌<◌, ◌≤◌, ℕ, ◌+◌, Bool, ◌||◌, if◌then◌else◌, IsTrue, List, [], ◌∷◌, Contains, Option, None, Some, MatchOption, IfSome, option_map, position, slice_get}
+use Rattle.std.specs.Option.{option_or}
+use Rattle.asn1_tags.specs.Trees.{Tree, is_open, leaves}
+use Rattle.asn1_tags.specs.Walks.{meet}
+use Rattle.asn1_tags.specs.declared.tags.Tag.{Tag}
+use Rattle.asn1_fields.specs.Components.{Component, may_be_absent}
+
+-- A type's tags are the leaves of its tree, or every tag where a choice of nothing stands anywhere in the tree.
+abbrev pub HasTag : Tree → Tag → Type 0
+HasTag tree tag = IsTrue (is_open tree) ⊎ Contains (leaves tree) tag
+
+-- Two types do not have distinct tags: some tag is a tag of both.
+pub record ShareTag (s t : Tree) : Type 0 where
+  pub tag : Tag
+  pub of_first : HasTag s tag
+  pub of_second : HasTag t tag
+
+-- The same as a test: a choice of nothing stands anywhere in either tree, or they have a leaf in common.
+abbrev pub share_tag : Tree → Tree → Bool
+share_tag s t = is_open s || is_open t || meet (leaves s) (leaves t)
+
+-- All components of a SET must have distinct tags (X.680, 27.3). Two of them, the first before the second, have not.
+pub record IsSetClash (cs : List Component) (i j : ℕ) : Type 0 where
+  pub first : Component
+  pub second : Component
+  pub first_at : slice_get cs i ≡ Some first
+  pub second_at : slice_get cs j ≡ Some second
+  pub behind : i < j
+  pub shared : ShareTag first.tree second.tree
+
+-- In a SEQUENCE each run of components that may be absent, together with the component right behind the run, must have
+-- distinct tags (X.680, 25.6 and 25.6.1). Two of them have not: from the first on, all before the second may be absent.
+pub record IsSequenceClash (cs : List Component) (i j : ℕ) : Type 0 where
+  pub pair : IsSetClash cs i j
+  pub run : (k : ℕ) → i ≤ k → k < j → IfSome (slice_get cs k) (λ c. IsTrue (may_be_absent c.presence))
+
+-- The pairs go by their first places, and where these are the same, by their second ones.
+abbrev pub IsUpTo : ℕ × ℕ → ℕ × ℕ → Type 0
+IsUpTo p q = (p.0 < q.0) ⊎ ((p.0 ≡ q.0) × (p.1 ≤ q.1))
+
+-- the least pair that is such a clash, and `None` exactly where there is none
+abbrev pub IsLeast : (ℕ → ℕ → Type 0) → Option (ℕ × ℕ) → Type 0
+IsLeast IsClash found =
+    MatchOption found ((i j : ℕ) → ¬ IsClash i j) (λ p. IsClash p.0 p.1 × ((i j : ℕ) → IsClash i j → IsUpTo p (i, j)))
+
+-- The same as functions, for a report.
+
+-- the components up to and including the first that must be there
+abbrev pub up_to_required : List Component → List Component
+up_to_required [] = []
+up_to_required (c ∷ cs) = c ∷ (if may_be_absent c.presence then up_to_required cs else [])
+
+-- the components behind this one that must have other tags, in a SEQUENCE
+abbrev pub rivals : Component → List Component → List Component
+rivals c cs = if may_be_absent c.presence then up_to_required cs else []
+
+-- the first pair of a component and one of those that must have other tags, where the two share one
+abbrev pub first_clash : (Component → List Component → List Component) → List Component → Option (ℕ × ℕ)
+first_clash others [] = None
+first_clash others (c ∷ cs) =
+    option_or
+    (option_map (λ j. (0, j + 1)) (position (λ d. share_tag c.tree d.tree) (others c cs)))
+    (option_map (λ p. (p.0 + 1, p.1 + 1)) (first_clash others cs))
+
+-- the least pair of places that clash in a SEQUENCE of these components
+abbrev pub sequence_clash : List Component → Option (ℕ × ℕ)
+sequence_clash cs = first_clash rivals cs
+
+-- the least pair of places that clash in a SET of these components
+abbrev pub set_clash : List Component → Option (ℕ × ℕ)
+set_clash cs = first_clash (λ c behind. behind) cs

@@ -1,0 +1,101 @@
+ghost use Rattle.std.specs.Prelude.{◌≡◌, ◌↔◌, IsTrue, not};
+ghost use Rattle.asn1_tags.specs.Trees.{shape};
+ghost use Rattle.asn1_fields.specs.Components.{entry_of, may_be_absent, typed_entry};
+
+use crate::presence::FieldPresence;
+use asn1_model::AsnType;
+use asn1_tags::{Tag, TagTree};
+
+/// A line of a field table: what is known of a component of a SEQUENCE or a SET before any value is.
+///
+/// Fields are ordered by their parts, as these stand here.
+#[derive(Clone, Copy, PartialEq, Eq, PartialOrd, Ord, Debug)]
+pub struct Field<'a> {
+    /// The place of the component in the definition of its type.
+    pub index: usize,
+    /// The tag under which the component is written.
+    pub tag: Tag,
+    /// The tags with which the component can begin. For a group of additions, a choice of its components' trees.
+    pub tag_tree: TagTree<'a>,
+    /// Whether the component may be absent.
+    pub presence: FieldPresence,
+    /// The name of the component.
+    pub name: &'a str,
+}
+
+impl<'a> Field<'a> {
+    /// A component that is always there.
+    pub fn new_required(index: usize, tag: Tag, tag_tree: TagTree<'a>, name: &'a str) -> Self
+        ensures { entry_of result ≡ record { index = index; tag = tag; tree = shape tag_tree.entry; presence = FieldPresence.Required; name = name.now } }
+    {
+        Field {
+            index,
+            tag,
+            tag_tree,
+            presence: FieldPresence::Required,
+            name,
+        }
+    }
+
+    /// A component that is marked OPTIONAL.
+    pub fn new_optional(index: usize, tag: Tag, tag_tree: TagTree<'a>, name: &'a str) -> Self
+        ensures { entry_of result ≡ record { index = index; tag = tag; tree = shape tag_tree.entry; presence = FieldPresence.Optional; name = name.now } }
+    {
+        Field {
+            index,
+            tag,
+            tag_tree,
+            presence: FieldPresence::Optional,
+            name,
+        }
+    }
+
+    /// A component that is marked DEFAULT.
+    pub fn new_default(index: usize, tag: Tag, tag_tree: TagTree<'a>, name: &'a str) -> Self
+        ensures { entry_of result ≡ record { index = index; tag = tag; tree = shape tag_tree.entry; presence = FieldPresence.Default; name = name.now } }
+    {
+        Field {
+            index,
+            tag,
+            tag_tree,
+            presence: FieldPresence::Default,
+            name,
+        }
+    }
+
+    /// A component that is always there, under its type's own tag.
+    pub fn new_required_type<T: AsnType>(index: usize, name: &'a str) -> Self
+        ensures { entry_of result ≡ typed_entry index T.meaning FieldPresence.Required name.now }
+    {
+        Field::new_required(index, T::tag(), T::tag_tree(), name)
+    }
+
+    /// A component that is marked OPTIONAL, under its type's own tag.
+    pub fn new_optional_type<T: AsnType>(index: usize, name: &'a str) -> Self
+        ensures { entry_of result ≡ typed_entry index T.meaning FieldPresence.Optional name.now }
+    {
+        Field::new_optional(index, T::tag(), T::tag_tree(), name)
+    }
+
+    /// A component that is marked DEFAULT, under its type's own tag.
+    pub fn new_default_type<T: AsnType>(index: usize, name: &'a str) -> Self
+        ensures { entry_of result ≡ typed_entry index T.meaning FieldPresence.Default name.now }
+    {
+        Field::new_default(index, T::tag(), T::tag_tree(), name)
+    }
+
+    /// Whether the component may be absent.
+    pub fn is_optional_or_default(&self) -> bool
+        ensures { result ≡ may_be_absent self.now.presence }
+    {
+        self.presence.is_optional_or_default()
+    }
+
+    /// Whether the component is always there.
+    pub fn is_not_optional_or_default(&self) -> bool
+        ensures required { IsTrue result ↔ (self.now.presence ≡ FieldPresence.Required) }
+        ensures negation { result ≡ not (may_be_absent self.now.presence) }
+    {
+        !self.is_optional_or_default()
+    }
+}

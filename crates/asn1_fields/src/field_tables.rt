@@ -1,0 +1,78 @@
+ghost use Rattle.std.specs.Prelude.{◌≡◌, ◌++◌, List, length, slice_get, MatchOption, Bool, true, false, []};
+ghost use Rattle.std.specs.Option.{option_map};
+ghost use Rattle.asn1_fields.specs.Components.{Entry, entries, entry_of};
+ghost use Rattle.asn1_fields.specs.Tables.{fields_of};
+
+use crate::components::Field;
+use crate::tables::Fields;
+
+/// The fields of a SEQUENCE or a SET type: those of its root in the order of its table, and then its additions.
+pub trait FieldTable {
+    ghost root: { List Entry };
+
+    ghost additions: { List Entry };
+
+    /// The fields of the root.
+    fn root_fields() -> &'static [Field<'static>]
+        ensures { entries result.now ≡ root };
+
+    /// The additions, with presence `Optional`.
+    fn added_fields() -> &'static [Field<'static>]
+        ensures { entries result.now ≡ additions };
+
+    /// The number of fields, additions among them.
+    final fn field_count() -> usize
+        ensures { result ≡ length (root ++ additions) }
+    {
+        Self::root_fields().len() + Self::added_fields().len()
+    }
+
+    /// The field at a place; `None` where there is none.
+    final fn field_at(place: usize) -> Option<Field<'static>>
+        ensures { option_map entry_of result ≡ slice_get (root ++ additions) place }
+    {
+        let root = Self::root_fields();
+        match place.checked_sub(root.len()) {
+            Some(added) => Self::added_fields().get(added).copied(),
+            None => root.get(place).copied(),
+        }
+    }
+}
+
+/// A type with a table of `RL` fields of the root and `EL` additions.
+pub trait Constructed<const RL: usize, const EL: usize>: FieldTable {
+    ghost extensible: { Bool };
+
+    /// Whether the type has an extension marker.
+    fn is_extensible() -> bool
+        ensures { result ≡ extensible };
+
+    /// The fields of the root.
+    final fn fields() -> Fields<'static, RL>
+        ensures { entries (fields_of result) ≡ Self.root }
+    {
+        Fields::from_static(Self::root_fields())
+    }
+
+    /// The additions; `None` where there is no extension marker.
+    final fn extended_fields() -> Option<Fields<'static, EL>>
+        ensures { MatchOption result (extensible ≡ false) (λ table. (extensible ≡ true) × (entries (fields_of table) ≡ Self.additions)) }
+    {
+        if Self::is_extensible() {
+            Some(Fields::from_static(Self::added_fields()))
+        } else {
+            None
+        }
+    }
+
+    // the counts are those of the tables
+    ghost root_length: { length Self.root ≡ RL };
+
+    ghost additions_length: { length Self.additions ≡ EL };
+
+    // without an extension marker there are no additions
+    ghost no_additions: { extensible ≡ false → Self.additions ≡ [] };
+}
+
+#[cfg(test)]
+mod tests;

@@ -1,0 +1,91 @@
+#![tactic(auto, using(asn1_tags::proofs::Leaves::tree_shapes))]
+
+ghost use Rattle.std.specs.Prelude.{[], ◌∷◌, codes, refl, true};
+ghost use Rattle.asn1_tags.specs.Trees.{leaf};
+ghost use Rattle.asn1_model.specs.Tags.{universal, context};
+ghost use Rattle.asn1_fields.specs.declared.presence.FieldPresence.TheVariants as presence;
+
+use super::*;
+use crate::presence::FieldPresence;
+use asn1_tags::{Tag, TagTree};
+
+/// A name, and behind the extension marker a number [0].
+struct Person;
+
+const ROOT: &[Field<'static>] = &[Field {
+    index: 0,
+    tag: Tag::UTF8_STRING,
+    tag_tree: TagTree::Leaf(Tag::UTF8_STRING),
+    presence: FieldPresence::Required,
+    name: "name",
+}];
+
+const NUMBER: Tag = Tag {
+    class: asn1_tags::Class::Context,
+    value: 0,
+};
+
+const ADDED: &[Field<'static>] = &[Field {
+    index: 1,
+    tag: NUMBER,
+    tag_tree: TagTree::Leaf(NUMBER),
+    presence: FieldPresence::Optional,
+    name: "number",
+}];
+
+impl FieldTable for Person {
+    ghost root = { record { index = 0; tag = universal 12; tree = leaf (universal 12); presence = presence.Required; name = codes "name" } ∷ [] };
+
+    ghost additions = { record { index = 1; tag = context 0; tree = leaf (context 0); presence = presence.Optional; name = codes "number" } ∷ [] };
+
+    fn root_fields() -> &'static [Field<'static>] {
+        ROOT
+    }
+
+    fn added_fields() -> &'static [Field<'static>] {
+        ADDED
+    }
+}
+
+impl Constructed<1, 1> for Person {
+    ghost extensible = { true };
+
+    fn is_extensible() -> bool {
+        true
+    }
+
+    ghost root_length = { refl };
+
+    ghost additions_length = { refl };
+
+    ghost no_additions = { λ never. cc };
+}
+
+#[test]
+fn tables_go_on_with_the_additions(rt: HostRuntime) {
+    assert_eq!(rt; Person::field_count(), 2);
+    let names = [0, 1, 2].map(|place| Person::field_at(place).map(|field| field.name));
+    assert_eq!(rt; names, [Some("name"), Some("number"), None]);
+    assert_eq!(rt; Person::fields().len(), 1);
+    assert_eq!(rt;
+        Person::extended_fields().map(|fields| fields.len()),
+        Some(1)
+    );
+}
+
+#[test]
+fn fields_of_types_have_the_types_own_tags(rt: HostRuntime) {
+    let fields = [
+        Field::new_required_type::<u8>(0, "age"),
+        Field::new_optional_type::<Vec<bool>>(1, "answers"),
+        Field::new_default_type::<&str>(2, "name"),
+    ];
+    assert_eq!(rt;
+        fields.map(|field| field.tag),
+        [Tag::INTEGER, Tag::SEQUENCE, Tag::UTF8_STRING]
+    );
+    let [first, second, third] = fields.map(|field| field.presence);
+    assert_eq!(rt; first, FieldPresence::Required);
+    assert_eq!(rt; second, FieldPresence::Optional);
+    assert_eq!(rt; third, FieldPresence::Default);
+}

@@ -1,0 +1,57 @@
+-- The records of what is put together of parts, by the records of the parts.
+use Rattle.std.specs.Prelude.{ℕ, Bool, List, [], ◌∷◌, ◌++◌, Option, None, Some, if◌then◌else◌}
+use Rattle.asn1_tags.specs.declared.tags.Tag.{Tag}
+use Rattle.asn1_tags.specs.Tags.{tag_eq}
+use Rattle.asn1_model.specs.ConstraintSets.{ConstraintSet}
+use Rattle.asn1_model.specs.Records.{Name, name_or, Record, raw, mark, holding, marks_alone, sequence, set, sequence_of, set_of, prefix, alternative, present, absent, group_start, group_absent, group_end}
+use Rattle.asn1_model.specs.Tags.{CHOICE}
+
+-- A SEQUENCE or a SET of components, in the order of their definition (X.680, 25 and 27).
+abbrev pub sequence_records : Tag → Name → List Record → List Record
+sequence_records t n components = holding (sequence t n) components ∷ []
+
+abbrev pub set_records : Tag → Name → List Record → List Record
+set_records t n components = holding (set t n) components ∷ []
+
+-- A SEQUENCE OF or a SET OF elements (X.680, 26 and 28).
+abbrev pub list_records : Tag → ConstraintSet → Name → List Record → List Record
+list_records t c n elements = holding (sequence_of t c n) elements ∷ []
+
+abbrev pub set_of_records : Tag → ConstraintSet → Name → List Record → List Record
+set_of_records t c n elements = holding (set_of t c n) elements ∷ []
+
+-- What stands under an explicit tag (X.680, 31.2.7).
+abbrev pub prefix_records : Tag → Name → List Record → List Record
+prefix_records t n rs = holding (prefix t n) rs ∷ []
+
+-- The alternative of a CHOICE that was chosen, whose tag is the first of its record (X.680, 29).
+abbrev pub alternative_records : Tag → ConstraintSet → Name → List Record → List Record
+alternative_records chosen c n rs = holding (alternative chosen c n) rs ∷ []
+
+-- A CHOICE has no tag. Under the tag that stands for none it is its alternative. Under any other it is that under an
+-- explicit tag, with its own constraints and name inside (X.680, 31.2.7 c).
+abbrev pub choice_records : Tag → List Record → ConstraintSet → Name → Tag → ConstraintSet → Name → List Record
+choice_records chosen rs own_constraints own_name t c n =
+    if tag_eq t CHOICE
+    then alternative_records chosen c (name_or n own_name) rs
+    else prefix_records t (name_or n own_name) (alternative_records chosen own_constraints own_name rs)
+
+-- An open type is its bytes, under whatever tag.
+abbrev pub raw_records : Name → List ℕ → List Record
+raw_records n bytes = raw n bytes ∷ []
+
+-- A component that may be absent is a mark that says so, or one that says that it is there, and its records.
+abbrev pub option_records : Tag → Option (List Record) → List Record
+option_records t None = mark (absent t) ∷ []
+option_records t (Some rs) = mark (present t) ∷ rs
+
+-- A component with a default is absent where it equals that.
+abbrev pub default_records : Bool → Tag → List Record → List Record
+default_records is_default t rs = option_records t (if is_default then None else Some rs)
+
+-- An extension addition group stands between two marks. It is absent where there is none, and where its components are
+-- marks alone (X.680, 25.4 and 25.5).
+abbrev pub group_records : Option (List Record) → List Record
+group_records None = mark group_absent ∷ []
+group_records (Some components) =
+    if marks_alone components then mark group_absent ∷ [] else mark group_start ∷ components ++ mark group_end ∷ []

@@ -1,0 +1,111 @@
+-- What a value means to a codec: a list of records and marks.
+use Rattle.std.specs.Prelude.{ℕ, suc, max, ℤ, Bool, true, false, ◌&&◌, List, [], ◌∷◌, Option, None, Some}
+use Rattle.asn1_tags.specs.declared.tags.Tag.{Tag}
+use Rattle.asn1_model.specs.ConstraintSets.{ConstraintSet}
+
+-- the name of a type, as the list of its characters, or no name
+abbrev pub Name : Type 0
+Name = Option (List ℕ)
+
+-- the name, or the type's own where there is none
+abbrev pub name_or : Name → Name → Name
+name_or None own = own
+name_or (Some text) own = Some text
+
+-- The kinds of string that are lists of numbers (X.680, 23 and 41).
+pub data StringKind : Type 0 where
+  octet : StringKind
+  utf8 : StringKind
+  visible : StringKind
+  general : StringKind
+  graphic : StringKind
+  ia5 : StringKind
+  printable : StringKind
+  numeric : StringKind
+  teletex : StringKind
+  bmp : StringKind
+
+-- What stands in a record that holds no others. Each kind of type has contents of its own: an INTEGER and an
+-- ENUMERATED of one number differ, and so do two strings of the same units and different kinds.
+pub data Content : Type 0 where
+  null : Content
+  truth : Bool → Content
+  number : ℤ → Content
+  discriminant : ℤ → Content
+  arcs : List ℕ → Content
+  bits : List Bool → Content
+  units : StringKind → List ℕ → Content
+
+-- What a record is that holds others, apart from these: the components of a SEQUENCE or a SET in the order of their
+-- definition, the elements of a SEQUENCE OF or a SET OF, what an explicit tag stands before, or the chosen alternative
+-- of a CHOICE, whose tag is that of the alternative.
+pub data Head : Type 0 where
+  sequence : Tag → Name → Head
+  set : Tag → Name → Head
+  sequence_of : Tag → ConstraintSet → Name → Head
+  set_of : Tag → ConstraintSet → Name → Head
+  prefix : Tag → Name → Head
+  alternative : Tag → ConstraintSet → Name → Head
+
+-- Whether a component is there, and where the components of a group begin and end.
+pub data Mark : Type 0 where
+  present : Tag → Mark
+  absent : Tag → Mark
+  group_start : Mark
+  group_absent : Mark
+  group_end : Mark
+
+-- A record is a content, or holds other records and marks, or is a value that stands as its bytes (an open type). Marks
+-- stand between the records.
+mutual
+  pub data Record : Type 0 where
+    scalar : Tag → ConstraintSet → Name → Content → Record
+    scope : Head → Records → Record
+    raw : Name → List ℕ → Record
+    mark : Mark → Record
+
+  pub data Records : Type 0 where
+    none : Records
+    more : Record → Records → Records
+
+-- the records of a list, as a record holds them
+abbrev pub held : List Record → Records
+held [] = none
+held (r ∷ rs) = more r (held rs)
+
+-- and as a list again
+abbrev pub listed : Records → List Record
+listed none = []
+listed (more r rs) = r ∷ listed rs
+
+-- the record of this head that holds the list
+abbrev pub holding : Head → List Record → Record
+holding h rs = scope h (held rs)
+
+-- How many records stand in one another: none in a content, and one more than in the highest of those that it holds.
+abbrev mutual
+  pub height : Record → ℕ
+  height (scalar t c n x) = 0
+  height (scope h rs) = suc (inner_height rs)
+  height (raw n bytes) = 0
+  height (mark m) = 0
+
+  pub inner_height : Records → ℕ
+  inner_height none = 0
+  inner_height (more r rs) = max (height r) (inner_height rs)
+
+-- the height of a list is that of its highest record
+abbrev pub highest : List Record → ℕ
+highest [] = 0
+highest (r ∷ rs) = max (height r) (highest rs)
+
+abbrev pub is_mark : Record → Bool
+is_mark (scalar t c n x) = false
+is_mark (scope h rs) = false
+is_mark (raw n bytes) = false
+is_mark (mark m) = true
+
+-- no record but marks
+abbrev pub marks_alone : List Record → Bool
+marks_alone [] = true
+marks_alone (r ∷ rs) = is_mark r && marks_alone rs

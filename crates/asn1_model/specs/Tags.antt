@@ -1,0 +1,77 @@
+-- Which tags a list of records can begin with.
+use Rattle.std.specs.Prelude.{◌≡◌, ℕ, ⊤, false, List, [], ◌∷◌, Contains, if◌then◌else◌}
+use Rattle.asn1_tags.specs.declared.tags.Tag.{Tag}
+use Rattle.asn1_tags.specs.declared.classes.Class.TheVariants.{Universal, Context}
+use Rattle.asn1_tags.specs.Tags.{tag_eq}
+use Rattle.asn1_tags.specs.Trees.{Tree, leaves, is_open}
+use Rattle.asn1_model.specs.Records.{Record, scalar, scope, raw, mark, is_mark, Head, sequence, set, sequence_of, set_of, prefix, alternative}
+
+-- a tag that X.680 assigns to a type of its own (8.4, table 1)
+abbrev pub universal : ℕ → Tag
+universal n = record { class = Universal; value = n }
+
+abbrev pub context : ℕ → Tag
+context n = record { class = Context; value = n }
+
+-- the tag that stands for none: a CHOICE under it is untagged
+abbrev pub CHOICE : Tag
+CHOICE = universal 0
+
+-- the tag is one that a type can have, and not the one that stands for none
+abbrev pub IsATag : Tag → Type 0
+IsATag t = tag_eq t CHOICE ≡ false
+
+-- every tag, or those of a list
+pub data Tags : Type 0 where
+  every : Tags
+  among : List Tag → Tags
+
+abbrev pub only : Tag → Tags
+only t = among (t ∷ [])
+
+-- The tags of a tree are its leaves. Where a choice of nothing stands in it, they are every tag: an open type can begin
+-- with any (X.680, 25.6.2).
+abbrev pub tree_tags : Tree → Tags
+tree_tags tree = if is_open tree then every else among (leaves tree)
+
+abbrev pub Has : Tags → Tag → Type 0
+Has every t = ⊤
+Has (among ts) t = Contains ts t
+
+-- no tag stands in both
+abbrev pub SharesNone : Tags → Tags → Type 0
+SharesNone a b = (t : Tag) → Has a t → Has b t → ⊥
+
+-- each tag of the first stands in the second; every tag lies in every tag alone
+abbrev pub LiesIn : Tags → Tags → Type 0
+LiesIn every every = ⊤
+LiesIn every (among us) = ⊥
+LiesIn (among ts) b = (t : Tag) → Contains ts t → Has b t
+
+-- the tag of a record that holds others: an alternative has that of what was chosen
+abbrev pub head_tag : Head → Tag
+head_tag (sequence t n) = t
+head_tag (set t n) = t
+head_tag (sequence_of t c n) = t
+head_tag (set_of t c n) = t
+head_tag (prefix t n) = t
+head_tag (alternative t c n) = t
+
+-- the tags with which a record can begin: its own, for a value that stands as its bytes every tag, for a mark none
+abbrev pub record_tags : Record → Tags
+record_tags (scalar t c n x) = only t
+record_tags (scope h rs) = only (head_tag h)
+record_tags (raw n bytes) = every
+record_tags (mark m) = among []
+
+-- the first tags of a list are those of its first record; marks are passed over
+abbrev pub first_tags : List Record → Tags
+first_tags [] = among []
+first_tags (r ∷ rs) = if is_mark r then first_tags rs else record_tags r
+
+-- The list is one record, which is no mark, and its first tags lie in these.
+pub record IsOne (tags : Tags) (rs : List Record) : Type 0 where
+  pub item : Record
+  pub alone : rs ≡ item ∷ []
+  pub no_mark : is_mark item ≡ false
+  pub within : LiesIn (first_tags rs) tags

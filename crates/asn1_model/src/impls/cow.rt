@@ -1,0 +1,44 @@
+//! A borrowed or owned value, which means what the value means, under its name where no other is given.
+ghost use Rattle.std.specs.Cow.{cow_value};
+ghost use Rattle.asn1_model.specs.Kinds.{through, under_own_name};
+ghost use Rattle.asn1_model.specs.Laws.{through_tagged, own_name_tagged};
+
+use crate::asn_type::{AsnType, Tagged};
+use asn1_bounds::Constraints;
+use asn1_tags::{Identifier, Tag, TagTree};
+use std::borrow::Cow;
+
+impl<T: AsnType> AsnType for Cow<'_, T> {
+    ghost meaning = { under_own_name (through cow_value T.meaning) };
+
+    fn tag() -> Tag {
+        T::tag()
+    }
+
+    fn tag_tree_under(tag: Tag) -> TagTree<'static> {
+        T::tag_tree_under(tag)
+    }
+
+    fn identifier() -> Identifier {
+        T::identifier()
+    }
+
+    fn constraints() -> Constraints<'static> {
+        T::constraints()
+    }
+
+    fn is_choice() -> bool {
+        T::is_choice()
+    }
+
+    fn is_present(&self) -> bool {
+        match self {
+            Cow::Borrowed(target) => (*target).is_present(),
+            Cow::Owned(value) => value.is_present(),
+        }
+    }
+}
+
+impl<T: Tagged> Tagged for Cow<'_, T> {
+    ghost tagged = { own_name_tagged (through_tagged T.tagged) };
+}

@@ -1,0 +1,43 @@
+//! NULL (X.680, 24).
+ghost use Rattle.std.specs.Prelude.{Some, codes};
+ghost use Rattle.asn1_model.specs.ConstraintSets.{unconstrained};
+ghost use Rattle.asn1_model.specs.Kinds.{scalar_type, without_constraints};
+ghost use Rattle.asn1_model.specs.Laws.{scalar_tagged, unconstrained_tagged};
+ghost use Rattle.asn1_model.specs.Records.{null};
+ghost use Rattle.asn1_model.specs.Tags.{universal};
+
+use crate::asn_type::{AsnType, Tagged};
+use asn1_bounds::Constraints;
+use asn1_tags::{Identifier, Tag, TagTree};
+
+impl AsnType for () {
+    ghost meaning = { without_constraints (scalar_type (universal 5) unconstrained (Some (codes "NULL")) (λ _. null)) };
+
+    fn tag() -> Tag {
+        Tag::NULL
+    }
+
+    fn tag_tree_under(tag: Tag) -> TagTree<'static> {
+        TagTree::Leaf(tag)
+    }
+
+    fn identifier() -> Identifier {
+        Identifier::NULL
+    }
+
+    fn constraints() -> Constraints<'static> {
+        Constraints::NONE
+    }
+
+    fn is_choice() -> bool {
+        false
+    }
+
+    fn is_present(&self) -> bool {
+        true
+    }
+}
+
+impl Tagged for () {
+    ghost tagged = { unconstrained_tagged scalar_tagged };
+}

@@ -1,0 +1,49 @@
+//! What a type of ASN.1 means to every codec: the tables that a schema has of it, and the records of its values.
+//!
+//! A codec never sees a type. It sees records: a content under a tag, a scope with others inside, the bytes of an open
+//! type, and marks that say whether a component is there. So a type is written once, by saying which records its values
+//! are, and every codec that writes and reads records has it. `docs/MODEL.md` explains this with a worked value.
+//!
+//! | Item | What it is |
+//! |---|---|
+//! | [`AsnType`] | a type: its tag, tree of tags, name and constraints, and by `meaning` what its values are |
+//! | [`Tagged`] | the law of types: a value of a solid and well-tagged type is one record, which begins with one of its tags |
+//! | [`StringType`] | what a kind of string is: its tag, its name, and what its units are to a codec |
+//! | [`choice_tree_under`] | the tree of tags of a CHOICE under a tag, for the CHOICE types of callers |
+//! | [`tag`] | markers of the tags that X.680 assigns |
+//!
+//! The types of the lower layers and of the language are types of ASN.1 here: `()`, `bool`, the built-in integers,
+//! `Integer`, `ConstrainedInteger`, every kind of string, `&str`, `ObjectIdentifier`, `Option`, references, `Box`, `Cow`,
+//! `Vec`, arrays, `&[T]` and `PhantomData`.
+//!
+//! What the contracts promise, and the words that they use:
+//!
+//! - Each function of `AsnType` answers what `meaning` says: `tag`, `tag_tree_under`, `identifier`, `constraints`,
+//!   `is_choice`, `is_present` and `tag_tree`. So the tables of a type and its records cannot disagree.
+//! - Records that are the same up to the order inside sets begin with the same tags and are as high
+//!   (`order_inside_sets_is_not_seen`).
+//! - `Tagged` is proved for each type here (`IsTagged` in `specs/Meaning.antt`).
+//! - `specs/Records.antt` has the records, marks and heights; `specs/Tags.antt` the first tags of a list of records and
+//!   the tags of a tree; `specs/Orders.antt` what it is to be the same up to order; `specs/ConstraintSets.antt` a set of
+//!   constraints apart from where it lies in memory.
+//! - `specs/Composites.antt` has the records of what is put together of parts, a word for each: `sequence_records`,
+//!   `option_records`, `group_records` and their kin. `specs/Meaning.antt` says what a meaning is, and `specs/Kinds.antt`
+//!   has that of each kind of type: `scalar_type`, `list_type`, `option_type` and so on. `specs/Laws.antt` has the proofs
+//!   of the law of types for each kind.
+//!
+//! No call takes memory.
+#![tactic(auto, using(asn1_tags::proofs::Leaves::tree_shapes))]
+
+mod asn_type;
+mod choice_tree;
+mod impls;
+mod orders;
+mod strings;
+pub mod tag;
+#[cfg(test)]
+mod tests;
+
+pub use asn_type::{AsnType, Tagged};
+pub use choice_tree::choice_tree_under;
+pub use orders::order_inside_sets_is_not_seen;
+pub use strings::StringType;

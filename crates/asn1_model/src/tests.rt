@@ -1,0 +1,212 @@
+//! What the definitions give for values of a few types, each written out by hand, and the tables of a type of each kind.
+//!
+//! The clauses of the functions without a body are worked examples: the prover computes the definitions on them.
+ghost use Rattle.std.specs.Prelude.{◌≡◌, pos, true, false, [], ◌∷◌, ◌++◌, None, Some, codes};
+ghost use Rattle.std.specs.String.{string_bytes};
+ghost use Rattle.asn1_bounded.specs.declared.bounded.Bounded.TheVariants.{Range};
+ghost use Rattle.asn1_model.specs.Composites.{sequence_records, default_records, group_records, option_records, choice_records, prefix_records};
+ghost use Rattle.asn1_model.specs.ConstraintSets.{unconstrained, values_of, size_of};
+ghost use Rattle.asn1_model.specs.Meaning.{own_records};
+ghost use Rattle.asn1_model.specs.Records.{scalar, raw, mark, holding, sequence, sequence_of, prefix, alternative, present, absent, group_start, group_absent, group_end, null, number, discriminant, units, utf8, ia5, highest};
+ghost use Rattle.asn1_model.specs.Tags.{universal, context, CHOICE, every, among, only, first_tags};
+
+use crate::asn_type::AsnType;
+use crate::tag;
+use asn1_bounds::{Bounded, Size};
+use asn1_tags::{Tag, TagTree};
+use asn1_values::{
+    ConstrainedInteger, Ia5String, Integer, NumericString, ObjectIdentifier, OctetString,
+};
+use std::borrow::Cow;
+use std::marker::PhantomData;
+use std::process::Abort;
+
+/// `Person { age: 30, name: "Ann" }`, a SEQUENCE of an INTEGER and a UTF8String.
+fn person(age: &Integer, name: &String)
+    ensures { age.now ≡ pos 30 → string_bytes name.now ≡ codes "Ann" →
+        sequence_records (universal 16) (Some (codes "Person")) (
+        own_records ⟦<Integer as AsnType>⟧.meaning age.now ++
+        own_records ⟦<String as AsnType>⟧.meaning name.now) ≡
+        holding (sequence (universal 16) (Some (codes "Person"))) (
+        scalar (universal 2) unconstrained (Some (codes "INTEGER")) (number (pos 30)) ∷
+        scalar (universal 12) unconstrained (Some (codes "UTF8String")) (units utf8 (codes "Ann")) ∷ []) ∷ [] }
+{}
+
+/// `Profile { nick: None, level: 7, color: Red, contact: None }`, a SEQUENCE of an optional UTF8String [0], an INTEGER [1]
+/// from 0 to 255, an ENUMERATED [2] that is its default, and a group.
+fn profile_without_options()
+    ensures { sequence_records (universal 16) (Some (codes "Profile")) (
+        ⟦<Option<String> as AsnType>⟧.meaning.records None (context 0) unconstrained ⟦<String as AsnType>⟧.meaning.name ++
+        ⟦<u8 as AsnType>⟧.meaning.records 7 (context 1) ⟦<u8 as AsnType>⟧.meaning.constraints ⟦<u8 as AsnType>⟧.meaning.name ++
+        default_records true (context 2) (scalar (context 2) unconstrained (Some (codes "Color")) (discriminant (pos 0)) ∷ []) ++
+        group_records None) ≡
+        holding (sequence (universal 16) (Some (codes "Profile"))) (
+        mark (absent (context 0)) ∷
+        scalar (context 1) (values_of (Range (Some (pos 0)) (Some (pos 255)))) (Some (codes "INTEGER")) (number (pos 7)) ∷
+        mark (absent (context 2)) ∷
+        mark group_absent ∷ []) ∷ [] }
+{}
+
+/// `Profile { nick: Some("Al"), level: 255, color: Blue, contact: Some(Contact { phone: None, mail: Some("a@b") }) }`.
+fn profile_with_options(nick: &String, mail: &Ia5String)
+    ensures { string_bytes nick.now ≡ codes "Al" → mail.now ≡ codes "a@b" →
+        sequence_records (universal 16) (Some (codes "Profile")) (
+        ⟦<Option<String> as AsnType>⟧.meaning.records (Some nick.now) (context 0) unconstrained ⟦<String as AsnType>⟧.meaning.name ++
+        ⟦<u8 as AsnType>⟧.meaning.records 255 (context 1) ⟦<u8 as AsnType>⟧.meaning.constraints ⟦<u8 as AsnType>⟧.meaning.name ++
+        default_records false (context 2) (scalar (context 2) unconstrained (Some (codes "Color")) (discriminant (pos 5)) ∷ []) ++
+        group_records (Some (
+        ⟦<Option<NumericString> as AsnType>⟧.meaning.records None (context 3) unconstrained ⟦<NumericString as AsnType>⟧.meaning.name ++
+        ⟦<Option<Ia5String> as AsnType>⟧.meaning.records (Some mail.now) (context 4) unconstrained ⟦<Ia5String as AsnType>⟧.meaning.name))) ≡
+        holding (sequence (universal 16) (Some (codes "Profile"))) (
+        mark (present (context 0)) ∷
+        scalar (context 0) unconstrained (Some (codes "UTF8String")) (units utf8 (codes "Al")) ∷
+        scalar (context 1) (values_of (Range (Some (pos 0)) (Some (pos 255)))) (Some (codes "INTEGER")) (number (pos 255)) ∷
+        mark (present (context 2)) ∷
+        scalar (context 2) unconstrained (Some (codes "Color")) (discriminant (pos 5)) ∷
+        mark group_start ∷
+        mark (absent (context 3)) ∷
+        mark (present (context 4)) ∷
+        scalar (context 4) unconstrained (Some (codes "IA5String")) (units ia5 (codes "a@b")) ∷
+        mark group_end ∷ []) ∷ [] }
+{}
+
+/// `Settings { entry }` where the entry equals its default.
+fn settings(key: u8, note: u8)
+    ensures { sequence_records (universal 16) (Some (codes "Settings")) (
+        default_records true (context 0) (sequence_records (context 0) (Some (codes "Labelled")) (
+        ⟦<u8 as AsnType>⟧.meaning.records key (context 0) unconstrained None ++
+        ⟦<u8 as AsnType>⟧.meaning.records note (context 1) unconstrained None))) ≡
+        holding (sequence (universal 16) (Some (codes "Settings"))) (mark (absent (context 0)) ∷ []) ∷ [] }
+{}
+
+/// A group whose components are marks alone is absent.
+fn empty_group()
+    ensures { group_records (Some (option_records (context 3) None ++ option_records (context 4) None)) ≡
+        mark group_absent ∷ [] }
+{}
+
+/// A `Box<u8>` of 9 under Context 3 and the name `n`, and under no name.
+fn boxed(nine: Box<u8>)
+    ensures named { nine.value ≡ 9 →
+        ⟦<Box<u8> as AsnType>⟧.meaning.records nine (context 3) ⟦<u8 as AsnType>⟧.meaning.constraints (Some (codes "n")) ≡
+        scalar (context 3) (values_of (Range (Some (pos 0)) (Some (pos 255)))) (Some (codes "n")) (number (pos 9)) ∷ [] }
+    ensures unnamed { nine.value ≡ 9 →
+        ⟦<Box<u8> as AsnType>⟧.meaning.records nine (context 3) unconstrained None ≡
+        scalar (context 3) unconstrained (Some (codes "INTEGER")) (number (pos 9)) ∷ [] }
+{}
+
+/// Two octets as a SEQUENCE OF INTEGER of size 2.
+fn pair(octets: [u8; 2])
+    ensures { octets ≡ 3 ∷ 1 ∷ [] → own_records ⟦<[u8; 2] as AsnType>⟧.meaning octets ≡
+        holding (sequence_of (universal 16) (size_of 2) (Some (codes "SEQUENCE_OF"))) (
+        own_records ⟦<u8 as AsnType>⟧.meaning 3 ++ own_records ⟦<u8 as AsnType>⟧.meaning 1) ∷ [] }
+{}
+
+/// A CHOICE of a BOOLEAN, untagged and under Context 1.
+fn choice()
+    ensures untagged { choice_records (universal 1) (scalar (universal 1) unconstrained None null ∷ []) unconstrained (Some (codes "C")) CHOICE unconstrained None ≡
+        holding (alternative (universal 1) unconstrained (Some (codes "C"))) (scalar (universal 1) unconstrained None null ∷ []) ∷ [] }
+    ensures tagged { choice_records (universal 1) (scalar (universal 1) unconstrained None null ∷ []) unconstrained (Some (codes "C")) (context 1) unconstrained None ≡
+        holding (prefix (context 1) (Some (codes "C"))) (
+        holding (alternative (universal 1) unconstrained (Some (codes "C"))) (scalar (universal 1) unconstrained None null ∷ []) ∷ []) ∷ [] }
+{}
+
+/// Heights: of contents and marks 0, of a scope one more than what stands in it, and 1 where nothing does.
+fn heights()
+    ensures nothing { highest [] ≡ 0 }
+    ensures flat { highest (mark group_start ∷ raw None [] ∷ mark group_end ∷ []) ≡ 0 }
+    ensures empty { highest (sequence_records (universal 16) None []) ≡ 1 }
+    ensures inner { highest (mark (present (context 0)) ∷
+        prefix_records (context 0) None (sequence_records (universal 16) None (mark (absent (context 1)) ∷ []))) ≡ 2 }
+{}
+
+/// First tags: marks are passed over, and a value that stands as its bytes may begin with every tag.
+fn firsts()
+    ensures nothing { first_tags (mark (absent (context 0)) ∷ mark group_absent ∷ []) ≡ among [] }
+    ensures one { first_tags (mark group_start ∷ mark (present (context 3)) ∷
+        scalar (context 3) unconstrained None null ∷ raw None [] ∷ []) ≡ only (context 3) }
+    ensures any { first_tags (mark (present CHOICE) ∷ raw None [] ∷ []) ≡ every }
+    ensures chosen { first_tags (holding (alternative (context 2) unconstrained None) [] ∷ []) ≡ only (context 2) }
+{}
+
+/// Asserts what the tables of a type say: its tag, its name, and the text of its constraints.
+fn assert_tables<T: AsnType>(
+    rt: &impl Abort,
+    tag: Tag,
+    name: Option<&str>,
+    value: Option<(i128, i128)>,
+) {
+    assert_eq!(rt; T::tag(), tag);
+    assert_eq!(rt; T::tag_tree().smallest_tag(), tag);
+    assert_eq!(rt; T::identifier().0, name);
+    assert!(rt; !T::is_choice());
+    let bound = T::constraints().value().map(|part| part.constraint.bound);
+    assert_eq!(rt;
+        bound,
+        value.map(|(start, end)| Bounded::const_new(start, end))
+    );
+}
+
+#[test]
+fn tables_of_numbers(rt: HostRuntime) {
+    assert_tables::<()>(&rt, Tag::NULL, Some("NULL"), None);
+    assert_tables::<bool>(&rt, Tag::BOOL, Some("BOOLEAN"), None);
+    assert_tables::<i8>(&rt, Tag::INTEGER, Some("INTEGER"), Some((-128, 127)));
+    assert_tables::<u64>(
+        &rt,
+        Tag::INTEGER,
+        Some("INTEGER"),
+        Some((0, 18446744073709551615)),
+    );
+    assert_tables::<Integer>(&rt, Tag::INTEGER, Some("INTEGER"), None);
+    assert_tables::<ConstrainedInteger<1, 10>>(&rt, Tag::INTEGER, Some("INTEGER"), Some((1, 10)));
+    let whole = u128::constraints()
+        .value()
+        .map(|part| part.constraint.bound);
+    assert_eq!(rt; whole, Some(Bounded::start_from(0)));
+}
+
+#[test]
+fn tables_of_strings(rt: HostRuntime) {
+    assert_tables::<OctetString>(&rt, Tag::OCTET_STRING, Some("OCTET_STRING"), None);
+    assert_tables::<Ia5String>(&rt, Tag::IA5_STRING, Some("IA5String"), None);
+    assert_tables::<String>(&rt, Tag::UTF8_STRING, Some("UTF8String"), None);
+    assert_tables::<&str>(&rt, Tag::UTF8_STRING, Some("UTF8String"), None);
+    assert_tables::<ObjectIdentifier>(&rt, Tag::OBJECT_IDENTIFIER, Some("OBJECT_IDENTIFIER"), None);
+}
+
+#[test]
+fn holders_forward_the_tables(rt: HostRuntime) {
+    assert_tables::<Option<Box<u8>>>(&rt, Tag::INTEGER, Some("INTEGER"), Some((0, 255)));
+    assert_tables::<Cow<u8>>(&rt, Tag::INTEGER, Some("INTEGER"), Some((0, 255)));
+    assert_tables::<&u8>(&rt, Tag::INTEGER, Some("INTEGER"), Some((0, 255)));
+    assert_tables::<PhantomData<u8>>(&rt, Tag::NULL, None, None);
+    assert_tables::<tag::SET>(&rt, Tag::SET, None, None);
+    assert_tables::<tag::DATE>(&rt, Tag::DATE, None, None);
+}
+
+#[test]
+fn lists_are_sequences(rt: HostRuntime) {
+    assert_tables::<Vec<bool>>(&rt, Tag::SEQUENCE, Some("SEQUENCE_OF"), None);
+    assert_tables::<&[bool]>(&rt, Tag::SEQUENCE, Some("SEQUENCE_OF"), None);
+    assert_tables::<[bool; 3]>(&rt, Tag::SEQUENCE, Some("SEQUENCE_OF"), None);
+    let size = <[bool; 3]>::constraints()
+        .size()
+        .map(|part| part.constraint);
+    assert_eq!(rt; size, Some(Size::fixed(3)));
+}
+
+#[test]
+fn options_may_be_absent(rt: HostRuntime) {
+    assert!(rt; !None::<u8>.is_present());
+    assert!(rt; Some(1u8).is_present());
+    assert!(rt; !(&None::<u8>).is_present());
+    assert!(rt; 0u8.is_present());
+}
+
+#[test]
+fn trees_under_a_tag(rt: HostRuntime) {
+    let tag = Tag::new_context(3);
+    assert_eq!(rt; <Vec<u8>>::tag_tree_under(tag), TagTree::Leaf(tag));
+    assert_eq!(rt; <Option<&bool>>::tag_tree_under(tag), TagTree::Leaf(tag));
+}

@@ -1,0 +1,20 @@
+-- Lists apart from their order: the same elements, each as often.
+use Rattle.std.specs.Prelude.{◌≡◌, ℕ, Bool, true, ◌&&◌, ◌==◌, List, length}
+use Rattle.std.specs.List.{list_all, count_by}
+use Rattle.std.specs.Cmp.Lexicographic.{pointwise}
+use Rattle.asn1_model.specs.Orders.{Rearranged}
+
+-- Some rearrangement of the second list is place by place equal to the first, by this equality.
+pub record SameElements {T : Type 0} (eq : T → T → Bool) (xs ys : List T) : Type 0 where
+  pub order : List T
+  pub rearranged : Rearranged order ys
+  pub equal : pointwise eq xs order ≡ true
+
+-- to how many elements of the list x is equal
+abbrev pub count_of : {T : Type 0} → (T → T → Bool) → T → List T → ℕ
+count_of eq x ys = count_by (λ y. eq x y) ys
+
+-- Whether the lists are as long, and each element of the first stands as often in the second. For a lawful equality that
+-- is whether they have the same elements (specs/MultisetLaws).
+abbrev pub same_counts : {T : Type 0} → (T → T → Bool) → List T → List T → Bool
+same_counts eq xs ys = (length xs == length ys) && list_all (λ x. count_of eq x xs == count_of eq x ys) xs

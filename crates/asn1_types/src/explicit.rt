@@ -1,0 +1,90 @@
+//! Types under another tag, which stands before their own (X.680, 31).
+ghost use Rattle.std.specs.Prelude.{◌≡◌};
+ghost use Rattle.std.specs.Borrow.{Lends, sem};
+ghost use Rattle.asn1_types.specs.Kinds.{explicit_type};
+ghost use Rattle.asn1_types.specs.Laws.{explicit_tagged};
+
+use asn1_bounds::Constraints;
+use asn1_model::{AsnType, Tagged};
+use asn1_tags::{Identifier, Tag, TagTree};
+use std::marker::PhantomData;
+
+/// A value of type `V` under the tag of `T`, which stands before the tag of `V`.
+#[derive(Drop)]
+#[derive_where(Clone, Copy, Debug, PartialEq, Eq, PartialOrd, Ord, Hash; V)]
+pub struct Explicit<T, V> {
+    /// The value.
+    pub value: V,
+    #[derive_where(skip)]
+    tag: PhantomData<T>,
+}
+
+impl<T, V> Explicit<T, V> {
+    ghost use Rattle.asn1_types.specs.contracts.explicit.Explicit.{the_row};
+
+    /// The value under the tag.
+    pub fn new(value: V) -> Self
+        ensures { result.value ≡ value }
+    {
+        Explicit {
+            value,
+            tag: PhantomData,
+        }
+    }
+
+    /// The value.
+    pub fn get(&self) -> &V
+        ensures { result.now ≡ self.now.value }
+    {
+        &self.value
+    }
+
+    /// The value, to be written.
+    pub fn get_mut(&mut self) -> &mut V
+        ensures* writes_back { sem 𝓛 (Lends (the_row T.row V.row) V.row self.entry result
+            (λ value. record self.old { value = value })) }
+        ensures value { result.now ≡ self.old.value }
+    {
+        &mut self.value
+    }
+}
+
+impl<T, V> From<V> for Explicit<T, V> {
+    ghost from_gives = { λ value explicit. explicit.value ≡ value };
+
+    fn from(value: V) -> Self {
+        Explicit::new(value)
+    }
+}
+
+impl<T: AsnType, V: AsnType> AsnType for Explicit<T, V> {
+    ghost meaning = { explicit_type T.meaning.tag (λ explicit. explicit.value) V.meaning };
+
+    fn tag() -> Tag {
+        T::tag()
+    }
+
+    fn tag_tree_under(tag: Tag) -> TagTree<'static> {
+        TagTree::Leaf(tag)
+    }
+
+    fn identifier() -> Identifier {
+        Identifier::EMPTY
+    }
+
+    fn constraints() -> Constraints<'static> {
+        Constraints::NONE
+    }
+
+    fn is_choice() -> bool {
+        false
+    }
+
+    fn is_present(&self) -> bool {
+        true
+    }
+}
+
+impl<T: AsnType, V: AsnType> Tagged for Explicit<T, V> {
+    ghost tagged = { explicit_tagged T.meaning.tag (λ explicit. explicit.value) V.meaning };
+}

@@ -1,0 +1,51 @@
+//! INSTANCE OF (X.681, annex C).
+ghost use Rattle.asn1_types.specs.Kinds.{instance_of_type};
+ghost use Rattle.asn1_types.specs.Laws.{instance_of_tagged};
+
+mod fields;
+
+use asn1_bounds::Constraints;
+use asn1_model::{AsnType, Tagged};
+use asn1_tags::{Identifier, Tag, TagTree};
+use asn1_values::ObjectIdentifier;
+
+/// A value beside the name of its type.
+#[derive(Debug, PartialEq, Eq, PartialOrd, Ord, Hash, Drop)]
+pub struct InstanceOf<T> {
+    /// The name of the value's type.
+    pub type_id: ObjectIdentifier,
+    /// The value.
+    pub value: T,
+}
+
+impl<T: AsnType> AsnType for InstanceOf<T> {
+    ghost meaning = { instance_of_type (λ instance. instance.type_id) (λ instance. instance.value) T.meaning };
+
+    fn tag() -> Tag {
+        Tag::EXTERNAL
+    }
+
+    fn tag_tree_under(tag: Tag) -> TagTree<'static> {
+        TagTree::Leaf(tag)
+    }
+
+    fn identifier() -> Identifier {
+        Identifier::INSTANCE_OF
+    }
+
+    fn constraints() -> Constraints<'static> {
+        Constraints::NONE
+    }
+
+    fn is_choice() -> bool {
+        false
+    }
+
+    fn is_present(&self) -> bool {
+        true
+    }
+}
+
+impl<T: AsnType> Tagged for InstanceOf<T> {
+    ghost tagged = { instance_of_tagged (λ instance. instance.type_id) (λ instance. instance.value) T.meaning };
+}

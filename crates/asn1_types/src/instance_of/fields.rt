@@ -1,0 +1,80 @@
+//! The fields of INSTANCE OF: the name of the type, and the value [0] (X.681, annex C).
+ghost use Rattle.std.specs.Prelude.{[], ◌∷◌, codes, refl, false};
+ghost use Rattle.asn1_fields.specs.declared.presence.FieldPresence.TheVariants.{Required};
+ghost use Rattle.asn1_model.specs.Tags.{context, universal};
+ghost use Rattle.asn1_tags.specs.Trees.{leaf};
+
+use crate::instance_of::InstanceOf;
+use asn1_fields::{Constructed, Field, FieldPresence, FieldTable};
+use asn1_model::AsnType;
+use asn1_tags::{Class, Tag, TagTree};
+
+const VALUE: Tag = Tag {
+    class: Class::Context,
+    value: 0,
+};
+
+const FIELDS: &[Field<'static>] = &[
+    Field {
+        index: 0,
+        tag: Tag::OBJECT_IDENTIFIER,
+        tag_tree: TagTree::Leaf(Tag::OBJECT_IDENTIFIER),
+        presence: FieldPresence::Required,
+        name: "type_id",
+    },
+    Field {
+        index: 1,
+        tag: VALUE,
+        tag_tree: TagTree::Leaf(VALUE),
+        presence: FieldPresence::Required,
+        name: "value",
+    },
+];
+
+impl<T: AsnType> FieldTable for InstanceOf<T> {
+    ghost root = { record { index = 0; tag = universal 6; tree = leaf (universal 6); presence = Required; name = codes "type_id" } ∷
+        record { index = 1; tag = context 0; tree = leaf (context 0); presence = Required; name = codes "value" } ∷ [] };
+
+    ghost additions = { [] };
+
+    fn root_fields() -> &'static [Field<'static>] {
+        FIELDS
+    }
+
+    fn added_fields() -> &'static [Field<'static>] {
+        &[]
+    }
+}
+
+impl<T: AsnType> Constructed<2, 0> for InstanceOf<T> {
+    ghost extensible = { false };
+
+    fn is_extensible() -> bool {
+        false
+    }
+
+    ghost root_length = { refl };
+
+    ghost additions_length = { refl };
+
+    ghost no_additions = { λ _. refl };
+}
+
+#[cfg(test)]
+mod tests {
+    use super::*;
+
+    #[test]
+    fn an_instance_has_two_fields(rt: HostRuntime) {
+        let fields = <InstanceOf<bool>>::fields();
+        for (field, (tag, name)) in fields.iter().zip([
+            (Tag::OBJECT_IDENTIFIER, "type_id"),
+            (Tag::new_context(0), "value"),
+        ]) {
+            assert_eq!(rt; (field.tag, field.name), (tag, name));
+        }
+        assert_eq!(rt; fields.len(), 2);
+        assert!(rt; !<InstanceOf<bool>>::is_extensible());
+        assert_eq!(rt; <InstanceOf<bool>>::field_count(), 2);
+    }
+}

@@ -1,0 +1,52 @@
+//! The types of ASN.1 that stand on others: sets of values, open types, tagged types and INSTANCE OF.
+//!
+//! A type means the same here as in the crate `asn1_model`, whose names this one hands on: its tables say what a schema
+//! knows of it, and its values are records, which every codec writes and reads.
+//!
+//! | Type | What it is | Contracts see |
+//! |---|---|---|
+//! | [`SetOf`] | a SET OF: elements, each as often as it stands there, in no order | the list of its elements |
+//! | [`Any`] | a value of an open type, as the bytes that a codec makes of it | the list of its bytes |
+//! | [`Implicit`] | a value under another tag, which replaces its own | its fields |
+//! | [`Explicit`] | a value under another tag, which stands before its own | its fields |
+//! | [`InstanceOf`] | the name of a type, and a value of that type | its fields |
+//! | [`AsnType`], [`Tagged`], [`StringType`], [`tag`] | what a type means, and the law of types: of `asn1_model` | |
+//! | [`Field`], [`Fields`], [`FieldTable`], [`Constructed`], [`Choice`], [`Enumerated`] | field tables and their kin: of `asn1_fields` | |
+//!
+//! What the contracts promise, and the words that they use:
+//!
+//! - Two sets are equal exactly if some rearrangement of the second is place by place equal to the first, by the
+//!   elements' own equality: `SetOf::eq_slice` says so in `SameElements` of `specs/Multisets.antt`. `Eq` is
+//!   `same_counts`, which counts; that the two agree, and that this is an equality, is proved in
+//!   `specs/MultisetLaws.antt` (`same_counts-SameElements`, `same_counts-equiv`). Equal sets feed a hasher alike.
+//! - `SetOf::insert` puts the element last (`inserted`), or gives it back (`given_back`) and changes nothing
+//!   (`unchanged`). `SetOf::remove` answers whether there was an equal one (`found`), takes the first such and moves the
+//!   last into its place (`taken`). `iter`, `to_vec` and `into_vec` have the elements in one order.
+//! - `SetOf::from_slice`, `from_array` and `try_clone` hold clones of the elements in their order (`clones`), which are
+//!   the elements themselves where a clone is (`same`).
+//! - `Any`, `Implicit` and `Explicit` give back what went in.
+//! - What each type means is a word of `specs/Kinds.antt`: `set_of_type`, `any_type`, `implicit_type`, `explicit_type`
+//!   and `instance_of_type`. `specs/Laws.antt` has the proofs of the law of types for each.
+//!
+//! `SetOf::with_capacity`, `insert`, `to_vec`, `from_slice`, `from_array` and `try_clone`, and `Any::try_clone` may want
+//! memory, and fail only where there is none. No other call takes any.
+#![tactic(auto, using(asn1_tags::proofs::Leaves::tree_shapes))]
+
+mod any;
+mod explicit;
+mod implicit;
+mod instance_of;
+mod set_of;
+#[cfg(test)]
+mod tests;
+
+pub use any::Any;
+pub use asn1_fields::{
+    Choice, Constructed, Enumerated, Field, FieldIter, FieldPresence, FieldTable, Fields,
+    IdentifierIter, OptionalFieldIter, first_sequence_clash, first_set_clash, is_canonical,
+};
+pub use asn1_model::{AsnType, StringType, Tagged, choice_tree_under, tag};
+pub use explicit::Explicit;
+pub use implicit::Implicit;
+pub use instance_of::InstanceOf;
+pub use set_of::SetOf;

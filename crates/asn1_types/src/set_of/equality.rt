@@ -1,0 +1,64 @@
+//! Equality of sets, by counting, and the hash that goes with it.
+ghost use Rattle.std.specs.Prelude.{◌≡◌, ◌==◌, length, position};
+ghost use Rattle.std.specs.Cmp.{partial_equiv_from_equiv};
+ghost use Rattle.std.specs.Hash as fed;
+ghost use Rattle.std.specs.List.{list_all};
+ghost use Rattle.std.proofs.Common.{ap};
+ghost use Rattle.asn1_types.specs.Multisets.{count_of, same_counts};
+ghost use Rattle.asn1_types.specs.MultisetLaws.{same_length, same_counts-equiv};
+
+use super::SetOf;
+use std::hash::{Hash, Hasher};
+
+/// The place of the first of the others that is equal to the element.
+pub(super) fn first_equal<T: Eq>(element: &T, others: &[T]) -> Option<usize>
+    ensures { result ≡ position (λ other. T.eq other element.now) others.now }
+{
+    others.iter().position(|other| *other == *element)
+}
+
+/// How many of the others the element is equal to.
+fn count<T: Eq>(element: &T, others: &[T]) -> usize
+    ensures { result ≡ count_of T.eq element.now others.now }
+{
+    others.iter().filter(|other| *element == **other).count()
+}
+
+/// Whether each of the elements stands as often among the others.
+fn stand_as_often<T: Eq>(elements: &[T], others: &[T]) -> bool
+    ensures { result ≡ list_all (λ element. count_of T.eq element elements.now == count_of T.eq element others.now) elements.now }
+{
+    elements.iter().all(|element| count(element, elements) == count(element, others))
+}
+
+/// Whether both are as long, and each of the elements stands as often among the others.
+pub(super) fn have_same_counts<T: Eq>(elements: &[T], others: &[T]) -> bool
+    ensures { result ≡ same_counts T.eq elements.now others.now }
+{
+    elements.len() == others.len() && stand_as_often(elements, others)
+}
+
+impl<T: Eq> PartialEq for SetOf<T> {
+    ghost eq = { same_counts T.eq };
+
+    ghost laws = { partial_equiv_from_equiv (same_counts-equiv T.Eq.laws) };
+
+    fn eq(&self, other: &Self) -> bool {
+        have_same_counts(&self.elements, &other.elements)
+    }
+}
+
+impl<T: Eq> Eq for SetOf<T> {
+    ghost laws = { same_counts-equiv T.Eq.laws };
+}
+
+impl<T: Eq> Hash for SetOf<T> {
+    ghost hash_input = { λ set. fed.usize (length set) };
+
+    ghost respects_eq = { λ a b equal. ap fed.usize (same_length T.eq a b equal) };
+
+    // The length alone, since equal sets have their elements in any order, and equal elements need no hash.
+    fn hash<H: Hasher>(&self, state: &mut H) {
+        state.write_usize(self.len());
+    }
+}

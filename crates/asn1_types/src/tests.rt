@@ -1,0 +1,256 @@
+//! Worked sets, and what the definitions give for a value of each type, written out by hand.
+//!
+//! The clauses of the functions without a body are worked examples: the prover computes the definitions on them.
+ghost use Rattle.std.specs.Prelude.{◌≡◌, true, false, [], ◌∷◌, None, Some, nat_eq, codes};
+ghost use Rattle.std.specs.String.{string_bytes};
+ghost use Rattle.asn1_tags.specs.declared.tags.Tag.{Tag};
+ghost use Rattle.asn1_model.specs.ConstraintSets.{unconstrained};
+ghost use Rattle.asn1_model.specs.Meaning.{own_records, tags};
+ghost use Rattle.asn1_model.specs.Records.{scalar, raw, holding, sequence, set_of, prefix, truth as truth_of, arcs, units, utf8};
+ghost use Rattle.asn1_model.specs.Tags.{universal, context, CHOICE, every};
+ghost use Rattle.asn1_types.specs.Multisets.{same_counts};
+
+use crate::{Any, AsnType, Explicit, Implicit, InstanceOf, SetOf, tag};
+use asn1_tags::{Tag, TagTree};
+use asn1_values::ObjectIdentifier;
+use std::alloc::Global;
+use std::hash::{DefaultHasher, Hash, Hasher};
+use std::process::Abort;
+use std::test::Fail;
+
+/// How often an element stands in a set counts, and its place does not.
+fn sets_by_definition()
+    ensures turned { same_counts nat_eq (1 ∷ 2 ∷ 3 ∷ 4 ∷ 5 ∷ []) (5 ∷ 4 ∷ 3 ∷ 2 ∷ 1 ∷ []) ≡ true }
+    ensures another { same_counts nat_eq (1 ∷ 2 ∷ 3 ∷ 4 ∷ 5 ∷ []) (1 ∷ 2 ∷ 3 ∷ 4 ∷ 6 ∷ []) ≡ false }
+    ensures as_often { same_counts nat_eq (1 ∷ 1 ∷ 2 ∷ []) (1 ∷ 2 ∷ 2 ∷ []) ≡ false }
+    ensures twice { same_counts nat_eq (1 ∷ 2 ∷ 3 ∷ []) (1 ∷ 1 ∷ 2 ∷ 2 ∷ 3 ∷ 3 ∷ []) ≡ false }
+{}
+
+/// The set of `true` and `false`, and of nothing under another tag and name.
+fn set_of_booleans(set: &SetOf<bool>)
+    ensures own { set.now ≡ true ∷ false ∷ [] → own_records ⟦<SetOf<bool> as AsnType>⟧.meaning set.now ≡
+        holding (set_of (universal 17) unconstrained (Some (codes "SET_OF"))) (
+        scalar (universal 1) unconstrained (Some (codes "BOOLEAN")) (truth_of true) ∷
+        scalar (universal 1) unconstrained (Some (codes "BOOLEAN")) (truth_of false) ∷ []) ∷ [] }
+    ensures named { set.now ≡ [] → ⟦<SetOf<bool> as AsnType>⟧.meaning.records set.now (context 3) unconstrained (Some (codes "s")) ≡
+        holding (set_of (context 3) unconstrained (Some (codes "s"))) [] ∷ [] }
+{}
+
+/// An open type is its bytes under whatever tag, and can begin with every tag.
+fn open_type(null: &Any)
+    ensures own { null.now ≡ 5 ∷ 0 ∷ [] → own_records ⟦<Any as AsnType>⟧.meaning null.now ≡ raw None (5 ∷ 0 ∷ []) ∷ [] }
+    ensures named { null.now ≡ 5 ∷ 0 ∷ [] →
+        ⟦<Any as AsnType>⟧.meaning.records null.now (context 3) unconstrained (Some (codes "n")) ≡ raw (Some (codes "n")) (5 ∷ 0 ∷ []) ∷ [] }
+    ensures begins { (t : Tag) → tags ⟦<Any as AsnType>⟧.meaning t ≡ every }
+{}
+
+/// The text `Ann` under the tag of UniversalString.
+fn implicit_text(text: &Implicit<tag::UNIVERSAL_STRING, String>)
+    ensures own { string_bytes text.now.value ≡ codes "Ann" →
+        own_records ⟦<Implicit<tag::UNIVERSAL_STRING, String> as AsnType>⟧.meaning text.now ≡
+        scalar (universal 28) unconstrained (Some (codes "UTF8String")) (units utf8 (codes "Ann")) ∷ [] }
+    ensures named { string_bytes text.now.value ≡ codes "Ann" →
+        ⟦<Implicit<tag::UNIVERSAL_STRING, String> as AsnType>⟧.meaning.records text.now (context 3) unconstrained (Some (codes "n")) ≡
+        scalar (context 3) unconstrained (Some (codes "n")) (units utf8 (codes "Ann")) ∷ [] }
+{}
+
+/// `true` under an explicit tag, and under another in its place.
+fn explicit_truth(truth: &Explicit<tag::SET, bool>)
+    ensures own { truth.now.value ≡ true → own_records ⟦<Explicit<tag::SET, bool> as AsnType>⟧.meaning truth.now ≡
+        holding (prefix (universal 17) None) (scalar (universal 1) unconstrained (Some (codes "BOOLEAN")) (truth_of true) ∷ []) ∷ [] }
+    ensures named { truth.now.value ≡ true →
+        ⟦<Explicit<tag::SET, bool> as AsnType>⟧.meaning.records truth.now (context 3) unconstrained (Some (codes "n")) ≡
+        holding (prefix (context 3) (Some (codes "n"))) (scalar (universal 1) unconstrained (Some (codes "BOOLEAN")) (truth_of true) ∷ []) ∷ [] }
+{}
+
+/// `true` beside the name 1.2 of its type.
+fn instance_of_truth(instance: &InstanceOf<bool>)
+    ensures { instance.now.type_id ≡ 1 ∷ 2 ∷ [] → instance.now.value ≡ true →
+        own_records ⟦<InstanceOf<bool> as AsnType>⟧.meaning instance.now ≡
+        holding (sequence (universal 8) (Some (codes "SEQUENCE"))) (
+        scalar (universal 6) unconstrained (Some (codes "OBJECT_IDENTIFIER")) (arcs (1 ∷ 2 ∷ [])) ∷
+        holding (prefix (context 0) (Some (codes "SEQUENCE"))) (
+        scalar (universal 1) unconstrained (Some (codes "BOOLEAN")) (truth_of true) ∷ []) ∷ []) ∷ [] }
+{}
+
+/// Which tags a wrapper may have: none that stands for no tag, and an implicit one no open type.
+fn wrappers_under_tags()
+    ensures tagged { ⟦<Implicit<tag::SET, bool> as AsnType>⟧.meaning.IsWellTagged (context 1) }
+    ensures untagged { ⟦<Implicit<tag::SET, bool> as AsnType>⟧.meaning.IsWellTagged CHOICE → ⊥ }
+    ensures open { (t : Tag) → ⟦<Implicit<tag::SET, Any> as AsnType>⟧.meaning.IsWellTagged t → ⊥ }
+    ensures explicit_open { ⟦<Explicit<tag::SET, Any> as AsnType>⟧.meaning.IsWellTagged (context 1) }
+    ensures explicit_untagged { ⟦<Explicit<tag::SET, bool> as AsnType>⟧.meaning.IsWellTagged CHOICE → ⊥ }
+{}
+
+/// A key with a note that equality ignores.
+#[derive(Clone, Copy, Debug)]
+#[derive_where(PartialEq, Eq)]
+struct Labelled {
+    key: u8,
+    #[derive_where(skip(EqHashOrd))]
+    note: u8,
+}
+
+fn set(alloc: Global, numbers: &[u8]) -> Result<SetOf<u8>, Fail> {
+    Ok(SetOf::from_slice(alloc, numbers)?)
+}
+
+fn hash_of<T: Hash>(value: &T) -> u64 {
+    let mut state = DefaultHasher::new();
+    value.hash(&mut state);
+    state.finish()
+}
+
+#[test]
+fn sets_are_equal_in_any_order(rt: HostRuntime) -> Result<(), Fail> {
+    let alloc = rt.alloc();
+    let rows: [(&[u8], &[u8], bool); 5] = [
+        (&[1, 2, 3, 4, 5], &[5, 4, 3, 2, 1], true),
+        (&[1, 2, 3, 4, 5], &[1, 2, 3, 4, 6], false),
+        (&[1, 1, 2], &[1, 2, 2], false),
+        (&[1, 2, 3], &[1, 1, 2, 2, 3, 3], false),
+        (&[], &[], true),
+    ];
+    for (left, right, are_equal) in rows {
+        let one = set(alloc, left)?;
+        let other = set(alloc, right)?;
+        assert_eq!(rt; one == other, are_equal, "{left:?} and {right:?}");
+        assert_eq!(rt; one.eq_slice(right), are_equal, "{left:?} and {right:?}");
+        let alike = hash_of(&one) == hash_of(&other);
+        assert_eq!(rt; alike, left.len() == right.len(), "{left:?} and {right:?}");
+    }
+    Ok(())
+}
+
+#[test]
+fn remove_takes_the_first(rt: HostRuntime) -> Result<(), Fail> {
+    let mut numbers = set(rt.alloc(), &[1, 1, 2])?;
+    assert!(rt; numbers.remove(&1));
+    assert_eq!(rt; numbers.len(), 2);
+    assert!(rt; numbers.contains(&1));
+    assert!(rt; !numbers.remove(&3));
+    assert_eq!(rt; numbers.into_vec().as_slice(), [2, 1].as_slice());
+    Ok(())
+}
+
+#[test]
+fn equality_may_ignore_a_part(rt: HostRuntime) -> Result<(), Fail> {
+    let labelled = |key, note| Labelled { key, note };
+    let mut set = SetOf::from_array(rt.alloc(), &[labelled(1, 0), labelled(1, 9)])?;
+    assert!(rt; set.eq_slice(&[labelled(1, 5), labelled(1, 6)]));
+    assert!(rt; !set.eq_slice(&[labelled(1, 5), labelled(2, 6)]));
+    assert!(rt; set.remove(&labelled(1, 100)));
+    assert_eq!(rt; set.len(), 1);
+    assert!(rt; set.iter().all(|left| left.note == 9));
+    Ok(())
+}
+
+#[test]
+fn elements_go_in_and_come_out(rt: HostRuntime) -> Result<(), Fail> {
+    let alloc = rt.alloc();
+    let mut numbers = SetOf::with_capacity(alloc, 1)?;
+    assert!(rt; numbers.is_empty());
+    for number in [3u8, 1, 2] {
+        numbers.insert(number).map_err(|_| Fail::from("no memory"))?;
+    }
+    let all = [&3, &1, &2];
+    assert_eq!(rt; numbers.to_vec(alloc)?.as_slice(), all.as_slice());
+    let same = numbers.try_clone(alloc)?;
+    assert_eq!(rt; SetOf::from(numbers.into_vec()).iter().count(), 3);
+    assert!(rt; SetOf::from_vec(same.into_vec()).eq_slice(&[1, 2, 3]));
+    assert_eq!(rt; SetOf::<u8>::new(alloc).len(), 0);
+    Ok(())
+}
+
+/// Also where an allocation fails.
+#[test]
+fn a_refused_element_comes_back(rt: HostRuntime) {
+    let mut numbers = SetOf::new(rt.alloc());
+    for number in 0..9u8 {
+        let before = numbers.len();
+        let answer = numbers.insert(number);
+        assert_eq!(rt; numbers.contains(&number), answer.is_ok());
+        assert_eq!(rt; numbers.len() > before, answer.is_ok());
+        if let Err(back) = answer {
+            assert_eq!(rt; back, number);
+            assert_eq!(rt; numbers.len(), before);
+        }
+    }
+}
+
+#[test]
+fn open_types_are_their_bytes(rt: HostRuntime) -> Result<(), Fail> {
+    let alloc = rt.alloc();
+    let null = Any::new([5u8, 0].to_vec(alloc)?);
+    let same = null.try_clone(alloc)?;
+    assert_eq!(rt; null, same);
+    assert_eq!(rt; hash_of(&null), hash_of(&same));
+    assert!(rt; Any::from([4u8, 9, 9].to_vec(alloc)?) < null);
+    assert_eq!(rt; null.as_bytes(), [5, 0].as_slice());
+    assert_eq!(rt; same.into_bytes().as_slice(), [5, 0].as_slice());
+    Ok(())
+}
+
+#[test]
+fn wrappers_hold_their_value(rt: HostRuntime) {
+    let mut level = Implicit::<tag::SET, u8>::new(7);
+    *level.get_mut() = 8;
+    assert_eq!(rt; *level.get(), 8);
+    assert!(rt; Implicit::from(7) < level);
+    let copy = level;
+    assert_eq!(rt; hash_of(&copy), hash_of(&level));
+
+    let mut level = Explicit::<tag::SET, u8>::new(7);
+    *level.get_mut() = 8;
+    assert_eq!(rt; *level.get(), 8);
+    assert!(rt; Explicit::from(7) < level);
+    let copy = level;
+    assert_eq!(rt; hash_of(&copy), hash_of(&level));
+}
+
+#[test]
+fn instances_are_compared_by_type_and_value(rt: HostRuntime) -> Result<(), Fail> {
+    let alloc = rt.alloc();
+    let instance = |arcs: &[u32], value: u8| -> Result<InstanceOf<u8>, Fail> {
+        Ok(InstanceOf {
+            type_id: ObjectIdentifier::new(arcs.to_vec(alloc)?),
+            value,
+        })
+    };
+    assert_eq!(rt; instance(&[1, 2], 3)?, instance(&[1, 2], 3)?);
+    assert!(rt; instance(&[1, 2], 9)? < instance(&[1, 3], 0)?);
+    assert!(rt; instance(&[1, 2], 3)? < instance(&[1, 2], 4)?);
+    Ok(())
+}
+
+/// Asserts what the tables of a type say.
+fn assert_tables<T: AsnType>(rt: &impl Abort, tag: Tag, name: Option<&str>) {
+    assert_eq!(rt; T::tag(), tag);
+    assert_eq!(rt; T::identifier().0, name);
+    assert!(rt; T::constraints().value().is_none() && T::constraints().size().is_none());
+    assert!(rt; !T::is_choice());
+}
+
+#[test]
+fn tables(rt: HostRuntime) {
+    assert_tables::<SetOf<u8>>(&rt, Tag::SET, Some("SET_OF"));
+    assert_tables::<Any>(&rt, Tag::EOC, None);
+    assert_tables::<Implicit<tag::UNIVERSAL_STRING, String>>(&rt, Tag::UNIVERSAL_STRING, None);
+    assert_tables::<Explicit<tag::SET, u8>>(&rt, Tag::SET, None);
+    assert_tables::<InstanceOf<u8>>(&rt, Tag::EXTERNAL, Some("SEQUENCE"));
+    let tag = Tag::new_context(3);
+    assert_eq!(rt; SetOf::<u8>::tag_tree_under(tag), TagTree::Leaf(tag));
+    assert_eq!(rt;
+        Implicit::<tag::SET, Any>::tag_tree_under(tag),
+        TagTree::Leaf(tag)
+    );
+    assert_eq!(rt;
+        Explicit::<tag::SET, Any>::tag_tree_under(tag),
+        TagTree::Leaf(tag)
+    );
+    assert_eq!(rt; InstanceOf::<Any>::tag_tree_under(tag), TagTree::Leaf(tag));
+    assert_eq!(rt; Any::tag_tree_under(tag), TagTree::empty());
+    assert!(rt; SetOf::<u8>::new(rt.alloc()).is_present());
+    assert!(rt; Implicit::<tag::SET, Option<u8>>::new(None).is_present());
+    assert!(rt; Explicit::<tag::SET, Option<u8>>::new(None).is_present());
+}
