@@ -5,4 +5,5 @@ pub mod Orders
 pub mod Composites
 pub mod Meaning
 pub mod Kinds
+pub mod TypeTables
 pub mod Laws

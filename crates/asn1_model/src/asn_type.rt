@@ -1,48 +1,76 @@
 //! The tables of a type, and what its values mean.
 ghost use Rattle.std.specs.Prelude.{◌≡◌};
+ghost use Rattle.asn1_tags.specs.declared.tags.Tag.{Tag};
 ghost use Rattle.asn1_tags.specs.Names.{name_of};
 ghost use Rattle.asn1_tags.specs.Trees.{shape};
 ghost use Rattle.asn1_model.specs.ConstraintSets.{constraint_set};
 ghost use Rattle.asn1_model.specs.Meaning.{Meaning, IsTagged};
+ghost use Rattle.asn1_model.specs.TypeTables.{tree_under, is_of_choice};
 
+use crate::type_table::TypeTable;
 use asn1_bounds::Constraints;
 use asn1_tags::{Identifier, Tag, TagTree};
 
 /// A type of ASN.1: what a schema says of it, and what its values mean.
+///
+/// An implementation states the meaning, the table and whether a value is there; the other functions read the table.
 pub trait AsnType {
     // What the type means to every codec.
     ghost meaning: { Meaning Self };
 
-    /// The type's own tag.
-    fn tag() -> Tag
-        ensures { result ≡ meaning.tag };
-
-    /// The tags with which a value can begin, where the type is written under this tag: the tag alone, but for
-    /// an untagged CHOICE and an open type.
-    fn tag_tree_under(tag: Tag) -> TagTree<'static>
-        ensures { shape result ≡ meaning.tree tag };
-
-    /// The type's name.
-    fn identifier() -> Identifier
-        ensures { name_of result ≡ meaning.name };
-
-    /// The type's constraints.
-    fn constraints() -> Constraints<'static>
-        ensures { constraint_set result ≡ meaning.constraints };
-
-    /// Whether the type is a CHOICE.
-    fn is_choice() -> bool
-        ensures { result ≡ meaning.is_choice };
+    /// What a schema says of the type.
+    fn table() -> TypeTable
+        ensures tag { result.tag ≡ meaning.tag }
+        ensures tree { (tag : Tag) → tree_under result.tree tag ≡ meaning.tree tag }
+        ensures choice { is_of_choice result.tree ≡ meaning.is_choice }
+        ensures identifier { name_of result.identifier ≡ meaning.name }
+        ensures constraints { constraint_set result.constraints ≡ meaning.constraints };
 
     /// Whether the value is there, as each is but an option without one.
     fn is_present(&self) -> bool
         ensures { result ≡ meaning.is_present self.now };
+
+    /// The type's own tag.
+    final fn tag() -> Tag
+        ensures { result ≡ meaning.tag }
+    {
+        Self::table().tag
+    }
 
     /// The tags with which a value can begin under the type's own tag.
     final fn tag_tree() -> TagTree<'static>
         ensures { shape result ≡ meaning.tree meaning.tag }
     {
         Self::tag_tree_under(Self::tag())
+    }
+
+    /// The tags with which a value can begin, where the type is written under this tag: the tag alone, but for
+    /// an untagged CHOICE and an open type.
+    final fn tag_tree_under(tag: Tag) -> TagTree<'static>
+        ensures { shape result ≡ meaning.tree tag }
+    {
+        Self::table().tree.under(tag)
+    }
+
+    /// Whether the type is a CHOICE.
+    final fn is_choice() -> bool
+        ensures { result ≡ meaning.is_choice }
+    {
+        Self::table().tree.is_choice()
+    }
+
+    /// The type's name.
+    final fn identifier() -> Identifier
+        ensures { name_of result ≡ meaning.name }
+    {
+        Self::table().identifier
+    }
+
+    /// The type's constraints.
+    final fn constraints() -> Constraints<'static>
+        ensures { constraint_set result ≡ meaning.constraints }
+    {
+        Self::table().constraints
     }
 }
 

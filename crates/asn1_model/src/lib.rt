@@ -6,10 +6,10 @@
 //!
 //! | Item | What it is |
 //! |---|---|
-//! | [`AsnType`] | a type: its tag, tree of tags, name and constraints, and by `meaning` what its values are |
+//! | [`AsnType`] | a type: its table, and by `meaning` what its values are |
 //! | [`Tagged`] | the law of types: a value of a solid and well-tagged type is one record, which begins with one of its tags |
 //! | [`StringType`] | what a kind of string is: its tag, its name, and what its units are to a codec |
-//! | [`choice_tree_under`] | the tree of tags of a CHOICE under a tag, for the CHOICE types of callers |
+//! | [`TypeTable`], [`TreeForm`] | what a schema says of a type; how its tree of tags follows from the tag that it is written under |
 //! | [`tag`] | markers of the tags that X.680 assigns |
 //!
 //! The types of the lower layers and of the language are types of ASN.1 here: `()`, `bool`, the built-in integers,
@@ -35,15 +35,15 @@
 #![tactic(auto, using(asn1_tags::proofs::Leaves::tree_shapes))]
 
 mod asn_type;
-mod choice_tree;
 mod impls;
 mod orders;
 mod strings;
 pub mod tag;
 #[cfg(test)]
 mod tests;
+mod type_table;
 
 pub use asn_type::{AsnType, Tagged};
-pub use choice_tree::choice_tree_under;
 pub use orders::order_inside_sets_is_not_seen;
 pub use strings::StringType;
+pub use type_table::{TreeForm, TypeTable};

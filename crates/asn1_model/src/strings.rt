@@ -2,9 +2,12 @@
 ghost use Rattle.std.specs.Prelude.{◌≡◌, ℕ, List, Some, codes};
 ghost use Rattle.asn1_tags.specs.Names.{name_of};
 ghost use Rattle.asn1_tags.specs.declared.tags.Tag.{Tag};
+ghost use Rattle.asn1_model.specs.ConstraintSets.{constraint_set, unconstrained};
+ghost use Rattle.asn1_model.specs.declared.type_table.TreeForm.TheVariants.{Leaf};
 ghost use Rattle.asn1_model.specs.Records.{Content, bits, units, octet, visible, general, graphic, ia5, printable, numeric, teletex, bmp};
 ghost use Rattle.asn1_model.specs.Tags.{universal};
 
+use crate::type_table::TypeTable;
 use asn1_tags::{Identifier, Tag};
 use asn1_values::{Bits, Bmp, General, Graphic, Ia5, Numeric, Octets, Printable, Teletex, Visible};
 
@@ -17,13 +20,12 @@ pub trait StringType<U> {
     // What the units are to a codec.
     ghost content: { List U → Content };
 
-    /// The kind's tag.
-    fn tag() -> Tag
-        ensures { result ≡ own_tag };
-
-    /// The kind's name.
-    fn identifier() -> Identifier
-        ensures { name_of result ≡ Some own_name };
+    /// What a schema says of the kind.
+    fn table() -> TypeTable
+        ensures tag { result.tag ≡ own_tag }
+        ensures tree { result.tree ≡ Leaf }
+        ensures identifier { name_of result.identifier ≡ Some own_name }
+        ensures constraints { constraint_set result.constraints ≡ unconstrained };
 }
 
 impl StringType<bool> for Bits {
@@ -33,12 +35,8 @@ impl StringType<bool> for Bits {
 
     ghost content = { bits };
 
-    fn tag() -> Tag {
-        Tag::BIT_STRING
-    }
-
-    fn identifier() -> Identifier {
-        Identifier::BIT_STRING
+    fn table() -> TypeTable {
+        TypeTable::new(Tag::BIT_STRING, Identifier::BIT_STRING)
     }
 }
 
@@ -49,12 +47,8 @@ impl StringType<u8> for Octets {
 
     ghost content = { units octet };
 
-    fn tag() -> Tag {
-        Tag::OCTET_STRING
-    }
-
-    fn identifier() -> Identifier {
-        Identifier::OCTET_STRING
+    fn table() -> TypeTable {
+        TypeTable::new(Tag::OCTET_STRING, Identifier::OCTET_STRING)
     }
 }
 
@@ -65,12 +59,8 @@ impl StringType<u8> for General {
 
     ghost content = { units general };
 
-    fn tag() -> Tag {
-        Tag::GENERAL_STRING
-    }
-
-    fn identifier() -> Identifier {
-        Identifier::GENERAL_STRING
+    fn table() -> TypeTable {
+        TypeTable::new(Tag::GENERAL_STRING, Identifier::GENERAL_STRING)
     }
 }
 
@@ -81,12 +71,8 @@ impl StringType<u8> for Graphic {
 
     ghost content = { units graphic };
 
-    fn tag() -> Tag {
-        Tag::GRAPHIC_STRING
-    }
-
-    fn identifier() -> Identifier {
-        Identifier::GRAPHIC_STRING
+    fn table() -> TypeTable {
+        TypeTable::new(Tag::GRAPHIC_STRING, Identifier::GRAPHIC_STRING)
     }
 }
 
@@ -97,12 +83,8 @@ impl StringType<u32> for Teletex {
 
     ghost content = { units teletex };
 
-    fn tag() -> Tag {
-        Tag::TELETEX_STRING
-    }
-
-    fn identifier() -> Identifier {
-        Identifier::TELETEX_STRING
+    fn table() -> TypeTable {
+        TypeTable::new(Tag::TELETEX_STRING, Identifier::TELETEX_STRING)
     }
 }
 
@@ -113,12 +95,8 @@ impl StringType<u16> for Bmp {
 
     ghost content = { units bmp };
 
-    fn tag() -> Tag {
-        Tag::BMP_STRING
-    }
-
-    fn identifier() -> Identifier {
-        Identifier::BMP_STRING
+    fn table() -> TypeTable {
+        TypeTable::new(Tag::BMP_STRING, Identifier::BMP_STRING)
     }
 }
 
@@ -129,12 +107,8 @@ impl StringType<u8> for Visible {
 
     ghost content = { units visible };
 
-    fn tag() -> Tag {
-        Tag::VISIBLE_STRING
-    }
-
-    fn identifier() -> Identifier {
-        Identifier::VISIBLE_STRING
+    fn table() -> TypeTable {
+        TypeTable::new(Tag::VISIBLE_STRING, Identifier::VISIBLE_STRING)
     }
 }
 
@@ -145,12 +119,8 @@ impl StringType<u8> for Ia5 {
 
     ghost content = { units ia5 };
 
-    fn tag() -> Tag {
-        Tag::IA5_STRING
-    }
-
-    fn identifier() -> Identifier {
-        Identifier::IA5_STRING
+    fn table() -> TypeTable {
+        TypeTable::new(Tag::IA5_STRING, Identifier::IA5_STRING)
     }
 }
 
@@ -161,12 +131,8 @@ impl StringType<u8> for Numeric {
 
     ghost content = { units numeric };
 
-    fn tag() -> Tag {
-        Tag::NUMERIC_STRING
-    }
-
-    fn identifier() -> Identifier {
-        Identifier::NUMERIC_STRING
+    fn table() -> TypeTable {
+        TypeTable::new(Tag::NUMERIC_STRING, Identifier::NUMERIC_STRING)
     }
 }
 
@@ -177,11 +143,7 @@ impl StringType<u8> for Printable {
 
     ghost content = { units printable };
 
-    fn tag() -> Tag {
-        Tag::PRINTABLE_STRING
-    }
-
-    fn identifier() -> Identifier {
-        Identifier::PRINTABLE_STRING
+    fn table() -> TypeTable {
+        TypeTable::new(Tag::PRINTABLE_STRING, Identifier::PRINTABLE_STRING)
     }
 }

@@ -4,8 +4,8 @@ ghost use Rattle.asn1_model.specs.Laws.{scalar_tagged, unconstrained_tagged};
 ghost use Rattle.asn1_model.specs.Tags.{universal};
 
 use crate::asn_type::{AsnType, Tagged};
-use asn1_bounds::Constraints;
-use asn1_tags::{Class, Identifier, Tag, TagTree};
+use crate::type_table::TypeTable;
+use asn1_tags::{Class, Identifier, Tag};
 
 /// The marker of a tag of the class `Universal`, by its number. It has this tag, no constraints and no name.
 #[derive(Clone, Copy, Debug, PartialEq, Eq, PartialOrd, Ord, Hash)]
@@ -14,24 +14,8 @@ pub struct Marker<const NUMBER: u32>;
 impl<const NUMBER: u32> AsnType for Marker<NUMBER> {
     ghost meaning = { marker_type (universal NUMBER) };
 
-    fn tag() -> Tag {
-        Tag::new(Class::Universal, NUMBER)
-    }
-
-    fn tag_tree_under(tag: Tag) -> TagTree<'static> {
-        TagTree::Leaf(tag)
-    }
-
-    fn identifier() -> Identifier {
-        Identifier::EMPTY
-    }
-
-    fn constraints() -> Constraints<'static> {
-        Constraints::NONE
-    }
-
-    fn is_choice() -> bool {
-        false
+    fn table() -> TypeTable {
+        TypeTable::new(Tag::new(Class::Universal, NUMBER), Identifier::EMPTY)
     }
 
     fn is_present(&self) -> bool {

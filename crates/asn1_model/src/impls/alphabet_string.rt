@@ -4,31 +4,14 @@ ghost use Rattle.asn1_model.specs.Laws.{scalar_tagged, own_name_tagged};
 
 use crate::asn_type::{AsnType, Tagged};
 use crate::strings::StringType;
-use asn1_bounds::Constraints;
-use asn1_tags::{Identifier, Tag, TagTree};
+use crate::type_table::TypeTable;
 use asn1_values::{Alphabet, AlphabetString};
 
 impl<U, A: Alphabet<U> + StringType<U>> AsnType for AlphabetString<U, A> {
     ghost meaning = { string_type A.own_tag A.own_name A.content };
 
-    fn tag() -> Tag {
-        A::tag()
-    }
-
-    fn tag_tree_under(tag: Tag) -> TagTree<'static> {
-        TagTree::Leaf(tag)
-    }
-
-    fn identifier() -> Identifier {
-        A::identifier()
-    }
-
-    fn constraints() -> Constraints<'static> {
-        Constraints::NONE
-    }
-
-    fn is_choice() -> bool {
-        false
+    fn table() -> TypeTable {
+        A::table()
     }
 
     fn is_present(&self) -> bool {

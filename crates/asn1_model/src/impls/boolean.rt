@@ -7,30 +7,14 @@ ghost use Rattle.asn1_model.specs.Records.{truth};
 ghost use Rattle.asn1_model.specs.Tags.{universal};
 
 use crate::asn_type::{AsnType, Tagged};
-use asn1_bounds::Constraints;
-use asn1_tags::{Identifier, Tag, TagTree};
+use crate::type_table::TypeTable;
+use asn1_tags::{Identifier, Tag};
 
 impl AsnType for bool {
     ghost meaning = { without_constraints (scalar_type (universal 1) unconstrained (Some (codes "BOOLEAN")) truth) };
 
-    fn tag() -> Tag {
-        Tag::BOOL
-    }
-
-    fn tag_tree_under(tag: Tag) -> TagTree<'static> {
-        TagTree::Leaf(tag)
-    }
-
-    fn identifier() -> Identifier {
-        Identifier::BOOL
-    }
-
-    fn constraints() -> Constraints<'static> {
-        Constraints::NONE
-    }
-
-    fn is_choice() -> bool {
-        false
+    fn table() -> TypeTable {
+        TypeTable::new(Tag::BOOL, Identifier::BOOL)
     }
 
     fn is_present(&self) -> bool {

@@ -1,42 +1,34 @@
 //! The built-in integers: an INTEGER (X.680, 19) within the bound of the type.
-ghost use Rattle.std.specs.Prelude.{◌≡◌, pos, negsuc, None, Some};
+ghost use Rattle.std.specs.Prelude.{◌≡◌, pos, negsuc, None, Some, codes};
 ghost use Rattle.asn1_bounded.specs.declared.bounded.Bounded.TheVariants as bounded;
+ghost use Rattle.asn1_tags.specs.Names.{name_of};
+ghost use Rattle.asn1_model.specs.declared.type_table.TreeForm.TheVariants.{Leaf};
 ghost use Rattle.asn1_model.specs.ConstraintSets.{constraint_set, values_of};
 ghost use Rattle.asn1_model.specs.Kinds.{integer_type};
 ghost use Rattle.asn1_model.specs.Laws.{scalar_tagged};
+ghost use Rattle.asn1_model.specs.Tags.{universal};
 
 use crate::asn_type::{AsnType, Tagged};
+use crate::type_table::TypeTable;
 use asn1_bounds::{Bounded, Constraint, Constraints, Value};
-use asn1_tags::{Identifier, Tag, TagTree};
+use asn1_tags::{Identifier, Tag};
 
-/// The constraints to the values of a bound.
-pub(super) fn values_in(bound: Bounded<i128>) -> Constraints<'static>
-    ensures { constraint_set result ≡ values_of bound }
+/// The table of an INTEGER within a bound.
+pub(super) fn integer_within(bound: Bounded<i128>) -> TypeTable
+    ensures tag { result.tag ≡ universal 2 }
+    ensures tree { result.tree ≡ Leaf }
+    ensures identifier { name_of result.identifier ≡ Some (codes "INTEGER") }
+    ensures constraints { constraint_set result.constraints ≡ values_of bound }
 {
-    Constraints::new(&[Constraint::from(Value::new(bound))])
+    let constraints = Constraints::new(&[Constraint::from(Value::new(bound))]);
+    TypeTable::new(Tag::INTEGER, Identifier::INTEGER).with_constraints(constraints)
 }
 
 impl AsnType for u8 {
     ghost meaning = { integer_type pos (bounded.Range (Some (pos 0)) (Some (pos 255))) };
 
-    fn tag() -> Tag {
-        Tag::INTEGER
-    }
-
-    fn tag_tree_under(tag: Tag) -> TagTree<'static> {
-        TagTree::Leaf(tag)
-    }
-
-    fn identifier() -> Identifier {
-        Identifier::INTEGER
-    }
-
-    fn constraints() -> Constraints<'static> {
-        values_in(Bounded::const_new(u8::MIN as i128, u8::MAX as i128))
-    }
-
-    fn is_choice() -> bool {
-        false
+    fn table() -> TypeTable {
+        integer_within(Bounded::const_new(u8::MIN as i128, u8::MAX as i128))
     }
 
     fn is_present(&self) -> bool {
@@ -51,24 +43,8 @@ impl Tagged for u8 {
 impl AsnType for u16 {
     ghost meaning = { integer_type pos (bounded.Range (Some (pos 0)) (Some (pos 65535))) };
 
-    fn tag() -> Tag {
-        Tag::INTEGER
-    }
-
-    fn tag_tree_under(tag: Tag) -> TagTree<'static> {
-        TagTree::Leaf(tag)
-    }
-
-    fn identifier() -> Identifier {
-        Identifier::INTEGER
-    }
-
-    fn constraints() -> Constraints<'static> {
-        values_in(Bounded::const_new(u16::MIN as i128, u16::MAX as i128))
-    }
-
-    fn is_choice() -> bool {
-        false
+    fn table() -> TypeTable {
+        integer_within(Bounded::const_new(u16::MIN as i128, u16::MAX as i128))
     }
 
     fn is_present(&self) -> bool {
@@ -83,24 +59,8 @@ impl Tagged for u16 {
 impl AsnType for u32 {
     ghost meaning = { integer_type pos (bounded.Range (Some (pos 0)) (Some (pos 4294967295))) };
 
-    fn tag() -> Tag {
-        Tag::INTEGER
-    }
-
-    fn tag_tree_under(tag: Tag) -> TagTree<'static> {
-        TagTree::Leaf(tag)
-    }
-
-    fn identifier() -> Identifier {
-        Identifier::INTEGER
-    }
-
-    fn constraints() -> Constraints<'static> {
-        values_in(Bounded::const_new(u32::MIN as i128, u32::MAX as i128))
-    }
-
-    fn is_choice() -> bool {
-        false
+    fn table() -> TypeTable {
+        integer_within(Bounded::const_new(u32::MIN as i128, u32::MAX as i128))
     }
 
     fn is_present(&self) -> bool {
@@ -115,24 +75,8 @@ impl Tagged for u32 {
 impl AsnType for u64 {
     ghost meaning = { integer_type pos (bounded.Range (Some (pos 0)) (Some (pos 18446744073709551615))) };
 
-    fn tag() -> Tag {
-        Tag::INTEGER
-    }
-
-    fn tag_tree_under(tag: Tag) -> TagTree<'static> {
-        TagTree::Leaf(tag)
-    }
-
-    fn identifier() -> Identifier {
-        Identifier::INTEGER
-    }
-
-    fn constraints() -> Constraints<'static> {
-        values_in(Bounded::const_new(u64::MIN as i128, u64::MAX as i128))
-    }
-
-    fn is_choice() -> bool {
-        false
+    fn table() -> TypeTable {
+        integer_within(Bounded::const_new(u64::MIN as i128, u64::MAX as i128))
     }
 
     fn is_present(&self) -> bool {
@@ -147,24 +91,8 @@ impl Tagged for u64 {
 impl AsnType for usize {
     ghost meaning = { integer_type pos (bounded.Range (Some (pos 0)) (Some (pos 18446744073709551615))) };
 
-    fn tag() -> Tag {
-        Tag::INTEGER
-    }
-
-    fn tag_tree_under(tag: Tag) -> TagTree<'static> {
-        TagTree::Leaf(tag)
-    }
-
-    fn identifier() -> Identifier {
-        Identifier::INTEGER
-    }
-
-    fn constraints() -> Constraints<'static> {
-        values_in(Bounded::const_new(usize::MIN as i128, usize::MAX as i128))
-    }
-
-    fn is_choice() -> bool {
-        false
+    fn table() -> TypeTable {
+        integer_within(Bounded::const_new(usize::MIN as i128, usize::MAX as i128))
     }
 
     fn is_present(&self) -> bool {
@@ -179,24 +107,8 @@ impl Tagged for usize {
 impl AsnType for i8 {
     ghost meaning = { integer_type (λ n. n) (bounded.Range (Some (negsuc 127)) (Some (pos 127))) };
 
-    fn tag() -> Tag {
-        Tag::INTEGER
-    }
-
-    fn tag_tree_under(tag: Tag) -> TagTree<'static> {
-        TagTree::Leaf(tag)
-    }
-
-    fn identifier() -> Identifier {
-        Identifier::INTEGER
-    }
-
-    fn constraints() -> Constraints<'static> {
-        values_in(Bounded::const_new(i8::MIN as i128, i8::MAX as i128))
-    }
-
-    fn is_choice() -> bool {
-        false
+    fn table() -> TypeTable {
+        integer_within(Bounded::const_new(i8::MIN as i128, i8::MAX as i128))
     }
 
     fn is_present(&self) -> bool {
@@ -211,24 +123,8 @@ impl Tagged for i8 {
 impl AsnType for i16 {
     ghost meaning = { integer_type (λ n. n) (bounded.Range (Some (negsuc 32767)) (Some (pos 32767))) };
 
-    fn tag() -> Tag {
-        Tag::INTEGER
-    }
-
-    fn tag_tree_under(tag: Tag) -> TagTree<'static> {
-        TagTree::Leaf(tag)
-    }
-
-    fn identifier() -> Identifier {
-        Identifier::INTEGER
-    }
-
-    fn constraints() -> Constraints<'static> {
-        values_in(Bounded::const_new(i16::MIN as i128, i16::MAX as i128))
-    }
-
-    fn is_choice() -> bool {
-        false
+    fn table() -> TypeTable {
+        integer_within(Bounded::const_new(i16::MIN as i128, i16::MAX as i128))
     }
 
     fn is_present(&self) -> bool {
@@ -243,24 +139,8 @@ impl Tagged for i16 {
 impl AsnType for i32 {
     ghost meaning = { integer_type (λ n. n) (bounded.Range (Some (negsuc 2147483647)) (Some (pos 2147483647))) };
 
-    fn tag() -> Tag {
-        Tag::INTEGER
-    }
-
-    fn tag_tree_under(tag: Tag) -> TagTree<'static> {
-        TagTree::Leaf(tag)
-    }
-
-    fn identifier() -> Identifier {
-        Identifier::INTEGER
-    }
-
-    fn constraints() -> Constraints<'static> {
-        values_in(Bounded::const_new(i32::MIN as i128, i32::MAX as i128))
-    }
-
-    fn is_choice() -> bool {
-        false
+    fn table() -> TypeTable {
+        integer_within(Bounded::const_new(i32::MIN as i128, i32::MAX as i128))
     }
 
     fn is_present(&self) -> bool {
@@ -275,24 +155,8 @@ impl Tagged for i32 {
 impl AsnType for i64 {
     ghost meaning = { integer_type (λ n. n) (bounded.Range (Some (negsuc 9223372036854775807)) (Some (pos 9223372036854775807))) };
 
-    fn tag() -> Tag {
-        Tag::INTEGER
-    }
-
-    fn tag_tree_under(tag: Tag) -> TagTree<'static> {
-        TagTree::Leaf(tag)
-    }
-
-    fn identifier() -> Identifier {
-        Identifier::INTEGER
-    }
-
-    fn constraints() -> Constraints<'static> {
-        values_in(Bounded::const_new(i64::MIN as i128, i64::MAX as i128))
-    }
-
-    fn is_choice() -> bool {
-        false
+    fn table() -> TypeTable {
+        integer_within(Bounded::const_new(i64::MIN as i128, i64::MAX as i128))
     }
 
     fn is_present(&self) -> bool {
@@ -307,24 +171,8 @@ impl Tagged for i64 {
 impl AsnType for isize {
     ghost meaning = { integer_type (λ n. n) (bounded.Range (Some (negsuc 9223372036854775807)) (Some (pos 9223372036854775807))) };
 
-    fn tag() -> Tag {
-        Tag::INTEGER
-    }
-
-    fn tag_tree_under(tag: Tag) -> TagTree<'static> {
-        TagTree::Leaf(tag)
-    }
-
-    fn identifier() -> Identifier {
-        Identifier::INTEGER
-    }
-
-    fn constraints() -> Constraints<'static> {
-        values_in(Bounded::const_new(isize::MIN as i128, isize::MAX as i128))
-    }
-
-    fn is_choice() -> bool {
-        false
+    fn table() -> TypeTable {
+        integer_within(Bounded::const_new(isize::MIN as i128, isize::MAX as i128))
     }
 
     fn is_present(&self) -> bool {
@@ -339,24 +187,8 @@ impl Tagged for isize {
 impl AsnType for i128 {
     ghost meaning = { integer_type (λ n. n) (bounded.Range (Some (negsuc 170141183460469231731687303715884105727)) (Some (pos 170141183460469231731687303715884105727))) };
 
-    fn tag() -> Tag {
-        Tag::INTEGER
-    }
-
-    fn tag_tree_under(tag: Tag) -> TagTree<'static> {
-        TagTree::Leaf(tag)
-    }
-
-    fn identifier() -> Identifier {
-        Identifier::INTEGER
-    }
-
-    fn constraints() -> Constraints<'static> {
-        values_in(Bounded::const_new(i128::MIN, i128::MAX))
-    }
-
-    fn is_choice() -> bool {
-        false
+    fn table() -> TypeTable {
+        integer_within(Bounded::const_new(i128::MIN, i128::MAX))
     }
 
     fn is_present(&self) -> bool {
@@ -371,24 +203,8 @@ impl Tagged for i128 {
 impl AsnType for u128 {
     ghost meaning = { integer_type pos (bounded.Range (Some (pos 0)) None) };
 
-    fn tag() -> Tag {
-        Tag::INTEGER
-    }
-
-    fn tag_tree_under(tag: Tag) -> TagTree<'static> {
-        TagTree::Leaf(tag)
-    }
-
-    fn identifier() -> Identifier {
-        Identifier::INTEGER
-    }
-
-    fn constraints() -> Constraints<'static> {
-        values_in(Bounded::start_from(0))
-    }
-
-    fn is_choice() -> bool {
-        false
+    fn table() -> TypeTable {
+        integer_within(Bounded::start_from(0))
     }
 
     fn is_present(&self) -> bool {

@@ -7,30 +7,14 @@ ghost use Rattle.asn1_model.specs.Records.{null};
 ghost use Rattle.asn1_model.specs.Tags.{universal};
 
 use crate::asn_type::{AsnType, Tagged};
-use asn1_bounds::Constraints;
-use asn1_tags::{Identifier, Tag, TagTree};
+use crate::type_table::TypeTable;
+use asn1_tags::{Identifier, Tag};
 
 impl AsnType for () {
     ghost meaning = { without_constraints (scalar_type (universal 5) unconstrained (Some (codes "NULL")) (λ _. null)) };
 
-    fn tag() -> Tag {
-        Tag::NULL
-    }
-
-    fn tag_tree_under(tag: Tag) -> TagTree<'static> {
-        TagTree::Leaf(tag)
-    }
-
-    fn identifier() -> Identifier {
-        Identifier::NULL
-    }
-
-    fn constraints() -> Constraints<'static> {
-        Constraints::NONE
-    }
-
-    fn is_choice() -> bool {
-        false
+    fn table() -> TypeTable {
+        TypeTable::new(Tag::NULL, Identifier::NULL)
     }
 
     fn is_present(&self) -> bool {

@@ -3,31 +3,15 @@ ghost use Rattle.asn1_model.specs.Kinds.{object_identifier};
 ghost use Rattle.asn1_model.specs.Laws.{scalar_tagged, unconstrained_tagged, own_name_tagged};
 
 use crate::asn_type::{AsnType, Tagged};
-use asn1_bounds::Constraints;
-use asn1_tags::{Identifier, Tag, TagTree};
+use crate::type_table::TypeTable;
+use asn1_tags::{Identifier, Tag};
 use asn1_values::ObjectIdentifier;
 
 impl AsnType for ObjectIdentifier {
     ghost meaning = { object_identifier };
 
-    fn tag() -> Tag {
-        Tag::OBJECT_IDENTIFIER
-    }
-
-    fn tag_tree_under(tag: Tag) -> TagTree<'static> {
-        TagTree::Leaf(tag)
-    }
-
-    fn identifier() -> Identifier {
-        Identifier::OBJECT_IDENTIFIER
-    }
-
-    fn constraints() -> Constraints<'static> {
-        Constraints::NONE
-    }
-
-    fn is_choice() -> bool {
-        false
+    fn table() -> TypeTable {
+        TypeTable::new(Tag::OBJECT_IDENTIFIER, Identifier::OBJECT_IDENTIFIER)
     }
 
     fn is_present(&self) -> bool {

@@ -3,31 +3,15 @@ ghost use Rattle.asn1_model.specs.Kinds.{empty_type};
 ghost use Rattle.asn1_model.specs.Laws.{empty_tagged};
 
 use crate::asn_type::{AsnType, Tagged};
-use asn1_bounds::Constraints;
-use asn1_tags::{Identifier, Tag, TagTree};
+use crate::type_table::TypeTable;
+use asn1_tags::{Identifier, Tag};
 use std::marker::PhantomData;
 
 impl<T: AsnType> AsnType for PhantomData<T> {
     ghost meaning = { empty_type };
 
-    fn tag() -> Tag {
-        Tag::NULL
-    }
-
-    fn tag_tree_under(tag: Tag) -> TagTree<'static> {
-        TagTree::Leaf(tag)
-    }
-
-    fn identifier() -> Identifier {
-        Identifier::EMPTY
-    }
-
-    fn constraints() -> Constraints<'static> {
-        Constraints::NONE
-    }
-
-    fn is_choice() -> bool {
-        false
+    fn table() -> TypeTable {
+        TypeTable::new(Tag::NULL, Identifier::EMPTY)
     }
 
     fn is_present(&self) -> bool {

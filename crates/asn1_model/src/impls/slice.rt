@@ -4,30 +4,14 @@ ghost use Rattle.asn1_model.specs.Kinds.{list_type};
 ghost use Rattle.asn1_model.specs.Laws.{list_tagged};
 
 use crate::asn_type::{AsnType, Tagged};
-use asn1_bounds::Constraints;
-use asn1_tags::{Identifier, Tag, TagTree};
+use crate::type_table::TypeTable;
+use asn1_tags::{Identifier, Tag};
 
 impl<T: AsnType> AsnType for &[T] {
     ghost meaning = { list_type (λ s. s.now) unconstrained T.meaning };
 
-    fn tag() -> Tag {
-        Tag::SEQUENCE
-    }
-
-    fn tag_tree_under(tag: Tag) -> TagTree<'static> {
-        TagTree::Leaf(tag)
-    }
-
-    fn identifier() -> Identifier {
-        Identifier::SEQUENCE_OF
-    }
-
-    fn constraints() -> Constraints<'static> {
-        Constraints::NONE
-    }
-
-    fn is_choice() -> bool {
-        false
+    fn table() -> TypeTable {
+        TypeTable::new(Tag::SEQUENCE, Identifier::SEQUENCE_OF)
     }
 
     fn is_present(&self) -> bool {
