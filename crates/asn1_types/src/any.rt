@@ -8,9 +8,8 @@ ghost use Rattle.std.specs.Ordering.{nat_cmp};
 ghost use Rattle.asn1_types.specs.Kinds.{any_type};
 ghost use Rattle.asn1_types.specs.Laws.{any_tagged};
 
-use asn1_bounds::Constraints;
-use asn1_model::{AsnType, Tagged};
-use asn1_tags::{Identifier, Tag, TagTree};
+use asn1_model::{AsnType, Tagged, TreeForm, TypeTable};
+use asn1_tags::{Identifier, Tag};
 use std::alloc::{AllocError, Global};
 use std::cmp::Ordering;
 use std::hash::{Hash, Hasher};
@@ -124,24 +123,11 @@ impl Hash for Any {
 impl AsnType for Any {
     ghost meaning = { any_type (λ any. any) };
 
-    fn tag() -> Tag {
-        Tag::EOC
-    }
-
-    fn tag_tree_under(_tag: Tag) -> TagTree<'static> {
-        TagTree::empty()
-    }
-
-    fn identifier() -> Identifier {
-        Identifier::EMPTY
-    }
-
-    fn constraints() -> Constraints<'static> {
-        Constraints::NONE
-    }
-
-    fn is_choice() -> bool {
-        false
+    fn table() -> TypeTable {
+        TypeTable {
+            tree: TreeForm::Open,
+            ..TypeTable::new(Tag::EOC, Identifier::EMPTY)
+        }
     }
 
     fn is_present(&self) -> bool {

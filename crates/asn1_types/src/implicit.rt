@@ -4,9 +4,8 @@ ghost use Rattle.std.specs.Borrow.{Lends, sem};
 ghost use Rattle.asn1_types.specs.Kinds.{implicit_type};
 ghost use Rattle.asn1_types.specs.Laws.{implicit_tagged};
 
-use asn1_bounds::Constraints;
-use asn1_model::{AsnType, Tagged};
-use asn1_tags::{Identifier, Tag, TagTree};
+use asn1_model::{AsnType, Tagged, TypeTable};
+use asn1_tags::{Identifier, Tag};
 use std::marker::PhantomData;
 
 /// A value of type `V` under the tag of `T`, which replaces the tag of `V`.
@@ -60,24 +59,8 @@ impl<T, V> From<V> for Implicit<T, V> {
 impl<T: AsnType, V: AsnType> AsnType for Implicit<T, V> {
     ghost meaning = { implicit_type T.meaning.tag (λ implicit. implicit.value) V.meaning };
 
-    fn tag() -> Tag {
-        T::tag()
-    }
-
-    fn tag_tree_under(tag: Tag) -> TagTree<'static> {
-        TagTree::Leaf(tag)
-    }
-
-    fn identifier() -> Identifier {
-        Identifier::EMPTY
-    }
-
-    fn constraints() -> Constraints<'static> {
-        Constraints::NONE
-    }
-
-    fn is_choice() -> bool {
-        false
+    fn table() -> TypeTable {
+        TypeTable::new(T::tag(), Identifier::EMPTY)
     }
 
     fn is_present(&self) -> bool {

@@ -4,9 +4,8 @@ ghost use Rattle.asn1_types.specs.Laws.{instance_of_tagged};
 
 mod fields;
 
-use asn1_bounds::Constraints;
-use asn1_model::{AsnType, Tagged};
-use asn1_tags::{Identifier, Tag, TagTree};
+use asn1_model::{AsnType, Tagged, TypeTable};
+use asn1_tags::{Identifier, Tag};
 use asn1_values::ObjectIdentifier;
 
 /// A value beside the name of its type.
@@ -21,24 +20,8 @@ pub struct InstanceOf<T> {
 impl<T: AsnType> AsnType for InstanceOf<T> {
     ghost meaning = { instance_of_type (λ instance. instance.type_id) (λ instance. instance.value) T.meaning };
 
-    fn tag() -> Tag {
-        Tag::EXTERNAL
-    }
-
-    fn tag_tree_under(tag: Tag) -> TagTree<'static> {
-        TagTree::Leaf(tag)
-    }
-
-    fn identifier() -> Identifier {
-        Identifier::INSTANCE_OF
-    }
-
-    fn constraints() -> Constraints<'static> {
-        Constraints::NONE
-    }
-
-    fn is_choice() -> bool {
-        false
+    fn table() -> TypeTable {
+        TypeTable::new(Tag::EXTERNAL, Identifier::INSTANCE_OF)
     }
 
     fn is_present(&self) -> bool {

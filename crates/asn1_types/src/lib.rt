@@ -10,7 +10,7 @@
 //! | [`Implicit`] | a value under another tag, which replaces its own | its fields |
 //! | [`Explicit`] | a value under another tag, which stands before its own | its fields |
 //! | [`InstanceOf`] | the name of a type, and a value of that type | its fields |
-//! | [`AsnType`], [`Tagged`], [`StringType`], [`tag`] | what a type means, and the law of types: of `asn1_model` | |
+//! | [`AsnType`], [`Tagged`], [`TypeTable`], [`TreeForm`], [`StringType`], [`tag`] | what a type means, and the law of types: of `asn1_model` | |
 //! | [`Field`], [`Fields`], [`FieldTable`], [`Constructed`], [`Choice`], [`Enumerated`] | field tables and their kin: of `asn1_fields` | |
 //!
 //! What the contracts promise, and the words that they use:
@@ -45,7 +45,7 @@ pub use asn1_fields::{
     Choice, Constructed, Enumerated, Field, FieldIter, FieldPresence, FieldTable, Fields,
     IdentifierIter, OptionalFieldIter, first_sequence_clash, first_set_clash, is_canonical,
 };
-pub use asn1_model::{AsnType, StringType, Tagged, choice_tree_under, tag};
+pub use asn1_model::{AsnType, StringType, Tagged, TreeForm, TypeTable, tag};
 pub use explicit::Explicit;
 pub use implicit::Implicit;
 pub use instance_of::InstanceOf;

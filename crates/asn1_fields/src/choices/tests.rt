@@ -11,7 +11,7 @@ ghost use Rattle.asn1_model.specs.Tags.{universal};
 
 use super::*;
 use asn1_bounds::{Bounded, Constraint, Value};
-use asn1_model::{Tagged, choice_tree_under};
+use asn1_model::{Tagged, TypeTable};
 use asn1_tags::{Identifier, Tag};
 
 /// A CHOICE of a BOOLEAN alone.
@@ -24,24 +24,8 @@ impl AsnType for Answer {
     ghost meaning = { choice_type (Some (codes "Answer")) unconstrained (choice (more (leaf (universal 1)) none)) (λ _. universal 1)
         (λ answer. own_records ⟦<bool as AsnType>⟧.meaning answer.0) ⊤ (λ _ _. ⊤) };
 
-    fn tag() -> Tag {
-        Tag::CHOICE
-    }
-
-    fn tag_tree_under(tag: Tag) -> TagTree<'static> {
-        choice_tree_under(tag, ALTERNATIVES)
-    }
-
-    fn identifier() -> Identifier {
-        Identifier(Some("Answer"))
-    }
-
-    fn constraints() -> Constraints<'static> {
-        Constraints::NONE
-    }
-
-    fn is_choice() -> bool {
-        true
+    fn table() -> TypeTable {
+        TypeTable::choice(Identifier(Some("Answer")), ALTERNATIVES)
     }
 
     fn is_present(&self) -> bool {
