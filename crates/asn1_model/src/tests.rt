@@ -10,6 +10,10 @@ ghost use Rattle.asn1_model.specs.Meaning.{own_records};
 ghost use Rattle.asn1_model.specs.Records.{scalar, raw, mark, holding, sequence, sequence_of, prefix, alternative, present, absent, group_start, group_absent, group_end, null, number, discriminant, units, utf8, ia5, highest};
 ghost use Rattle.asn1_model.specs.Tags.{universal, context, CHOICE, every, among, only, first_tags};
 
+mod program;
+mod records;
+mod samples;
+
 use crate::asn_type::AsnType;
 use crate::tag;
 use asn1_bounds::{Bounded, Size};
