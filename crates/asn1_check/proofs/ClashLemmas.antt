@@ -1,6 +1,6 @@
 -- The first clash of components, from their leaves in order.
 use Rattle.std.proofs.Common.{◌≡◌, ◌≢◌, ◌⊎◌, inl, inr, ℕ, zero, suc, ◌+◌, ◌-◌, ◌<◌, ◌≤◌, Bool, true, false, cond, ◌||◌, ◌&&◌, ◌==◌, not, Option, Some, None, List, [], ◌∷◌, ◌++◌, length, get_or, take, max, add-zero, append_assoc, length-take, eq-eqb, refl, sym, ap, ◌∙◌, subst, arith}
-use Rattle.std.specs.Prelude.{Contains, slice_get, position}
+use Rattle.std.specs.Prelude.{Contains, IsTrue, slice_get, position}
 use Rattle.std.specs.List.{position_or_len}
 use Rattle.std.specs.List.Sorted.{IsPermutation, IsSorted}
 use Rattle.std.specs.Ordering.{is_lt, nat_cmp, ordering_then}
@@ -26,9 +26,9 @@ use Rattle.asn1_tags.specs.Walks.{meet}
 use Rattle.asn1_tags.proofs.Smallest.{IsAtMost-from_not_less, IsAtMost-antisym}
 use Rattle.asn1_tags.proofs.Distinct.{tag_eq-true, tag_eq-refl}
 use Rattle.asn1_fields.specs.Components.{Component}
-use Rattle.asn1_fields.specs.Clash.{HasTag, IsLeast, IsSetClash, IsUpTo, set_clash}
+use Rattle.asn1_fields.specs.Clash.{IsLeast, IsSetClash, IsUpTo, set_clash}
 use Rattle.asn1_fields.proofs.Clashes.{set_clash-is}
-use Rattle.asn1_fields.proofs.SharedTags.{ShareTag-from_test}
+use Rattle.asn1_fields.proofs.SharedTags.{open_or_leaf, tag-from_open_or_leaf, ShareTag-from_test}
 use Rattle.asn1_check.specs.declared.clash.Occurrence.{Occurrence}
 use Rattle.asn1_check.specs.declared.field.Field.{Field}
 use Rattle.asn1_check.specs.HeldFields.{component_held, components_held}
@@ -408,7 +408,8 @@ or_second false b h = h
 
 -- components clash in a SET where a tag occurs twice, or one of them can begin with any tag
 clash_which : (cs : List Component) (all : List Occurrence) → IsPermutation (occurrences 0 cs) all → (i j : ℕ) → IsSetClash cs i j → HasOpen cs i j ⊎ OccursTwice all i j
-clash_which cs all moved i j h = by_tags h.shared.of_first h.shared.of_second
+clash_which cs all moved i j h =
+    by_tags (open_or_leaf h.first.tree h.shared.tag h.shared.of_first) (open_or_leaf h.second.tree h.shared.tag h.shared.of_second)
   where
     any : (is_open h.first.tree || is_open h.second.tree) ≡ true → HasOpen cs i j
     any open_one = record { first = h.first; second = h.second; first_at = h.first_at; second_at = h.second_at; behind = h.behind; open_one = open_one }
@@ -416,7 +417,9 @@ clash_which cs all moved i j h = by_tags h.shared.of_first h.shared.of_second
     at : (k : ℕ) (c : Component) → slice_get cs k ≡ Some c → Contains (leaves c.tree) h.shared.tag → Contains all (record { tag = h.shared.tag; place = k })
     at k c is has = Contains-permutation (occurrences 0 cs) all _ moved (subst (λ n. Contains (occurrences 0 cs) (record { tag = h.shared.tag; place = n })) (omega arith) (to_occurrence 0 cs h.shared.tag k c is has))
 
-    by_tags : HasTag h.first.tree h.shared.tag → HasTag h.second.tree h.shared.tag → HasOpen cs i j ⊎ OccursTwice all i j
+    by_tags : IsTrue (is_open h.first.tree) ⊎ Contains (leaves h.first.tree) h.shared.tag →
+        IsTrue (is_open h.second.tree) ⊎ Contains (leaves h.second.tree) h.shared.tag →
+        HasOpen cs i j ⊎ OccursTwice all i j
     by_tags (inl e) f = inl (any (or_first (is_open h.first.tree) (is_open h.second.tree) e))
     by_tags (inr e) (inl f) = inl (any (or_second (is_open h.first.tree) (is_open h.second.tree) f))
     by_tags (inr e) (inr f) =
@@ -445,7 +448,11 @@ clash_from_twice cs all moved i j h =
       first_at = subst (λ k. slice_get cs k ≡ Some first.1) first_place first.3;
       second_at = subst (λ k. slice_get cs k ≡ Some second.1) second_place second.3;
       behind = h.behind;
-      shared = record { tag = h.tag; of_first = inr first.4; of_second = inr second.4 };
+      shared = record {
+        tag = h.tag;
+        of_first = tag-from_open_or_leaf first.1.tree h.tag (inr first.4);
+        of_second = tag-from_open_or_leaf second.1.tree h.tag (inr second.4);
+      };
     }
 
 -- so the lesser of the two pairs is the first clash

@@ -1,20 +1,18 @@
 -- Which components of a SEQUENCE or a SET must have distinct tags, and which of them have not (X.680, 25.6, 25.6.1 and 27.3).
-use Rattle.std.specs.Prelude.{◌≡◌, ◌⊎◌, ◌<◌, ◌≤◌, ℕ, ◌+◌, Bool, ◌||◌, if◌then◌else◌, IsTrue, List, [], ◌∷◌, Contains, Option, None, Some, MatchOption, IfSome, option_map, position, slice_get}
+use Rattle.std.specs.Prelude.{◌≡◌, ◌⊎◌, ◌<◌, ◌≤◌, ℕ, ◌+◌, Bool, ◌||◌, if◌then◌else◌, IsTrue, List, [], ◌∷◌, Option, None, Some, MatchOption, IfSome, option_map, position, slice_get}
 use Rattle.std.specs.Option.{option_or}
 use Rattle.asn1_tags.specs.Trees.{Tree, is_open, leaves}
 use Rattle.asn1_tags.specs.Walks.{meet}
 use Rattle.asn1_tags.specs.declared.tags.Tag.{Tag}
+use Rattle.asn1_model.specs.Tags.{Has, tree_tags}
 use Rattle.asn1_fields.specs.Components.{Component, may_be_absent}
 
--- A type's tags are the leaves of its tree, or every tag where a choice of nothing stands anywhere in the tree.
-abbrev pub HasTag : Tree → Tag → Type 0
-HasTag tree tag = IsTrue (is_open tree) ⊎ Contains (leaves tree) tag
-
--- Two types do not have distinct tags: some tag is a tag of both.
+-- Two types do not have distinct tags: some tag is a tag of both. A type's tags are the leaves of its tree, or every tag
+-- where a choice of nothing stands anywhere in the tree.
 pub record ShareTag (s t : Tree) : Type 0 where
   pub tag : Tag
-  pub of_first : HasTag s tag
-  pub of_second : HasTag t tag
+  pub of_first : Has (tree_tags s) tag
+  pub of_second : Has (tree_tags t) tag
 
 -- The same as a test: a choice of nothing stands anywhere in either tree, or they have a leaf in common.
 abbrev pub share_tag : Tree → Tree → Bool

@@ -19,9 +19,9 @@
 //! - A field is seen as its `Entry`, the same apart from where its tree and its name lie in memory, and the rules on
 //!   tags look at its `Component`, a presence and a tree; `specs/Components.antt` defines both.
 //! - `first_sequence_clash` and `first_set_clash` answer the least pair of places that breaks X.680's rule, and `None`
-//!   exactly where there is none (`least`). `specs/Clash.antt` says what the rules are: which tags a tree has
-//!   (`HasTag`), that two trees share one (`ShareTag`), and which two places must not (`IsSequenceClash`,
-//!   `IsSetClash`). It also has the answers as functions of the components (`report`).
+//!   exactly where there is none (`least`). `specs/Clash.antt` says what the rules are: that two trees share a tag
+//!   (`ShareTag`), and which two places must not (`IsSequenceClash`, `IsSetClash`); which tags a tree has is said by
+//!   `asn1_model` (`tree_tags`). It also has the answers as functions of the components (`report`).
 //! - `is_canonical` is true exactly where no field's smallest tag is above the next one's (`ordered`, and `report` as
 //!   a function; `specs/Canonical.antt`). Of all rearrangements of a table whose smallest tags differ, at most one is
 //!   canonical (`at_most_one_rearrangement_is_canonical`).
