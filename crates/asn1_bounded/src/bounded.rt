@@ -105,7 +105,7 @@ impl<T: WholeNumber> Bounded<T> {
 
     /// Whether the number is a member of the bound.
     pub fn contains(&self, element: &T) -> bool
-        ensures { IsTrue result ↔ Holds T.number self.now element.now }
+        ensures inside { IsTrue result ↔ Holds T.number self.now element.now }
     {
         match self {
             Bounded::None => true,

@@ -1,7 +1,8 @@
-ghost use Rattle.std.specs.Prelude.{◌≡◌, ◌++◌, List, length, slice_get, MatchOption, Bool, true, false, []};
+ghost use Rattle.std.specs.Prelude.{◌≡◌, ◌++◌, List, length, slice_get, MatchOption, Bool, true, false, All, []};
 ghost use Rattle.std.specs.Option.{option_map};
 ghost use Rattle.asn1_fields.specs.Components.{Entry, entries, entry_of};
 ghost use Rattle.asn1_fields.specs.Tables.{fields_of};
+ghost use Rattle.asn1_fields.specs.declared.presence.FieldPresence.TheVariants.{Optional};
 
 use crate::components::Field;
 use crate::tables::Fields;
@@ -16,7 +17,7 @@ pub trait FieldTable {
     fn root_fields() -> &'static [Field<'static>]
         ensures { entries result.now ≡ root };
 
-    /// The additions, with presence `Optional`.
+    /// The additions, each with presence `Optional`, since the sender may know an earlier version of the type.
     fn added_fields() -> &'static [Field<'static>]
         ensures { entries result.now ≡ additions };
 
@@ -37,6 +38,8 @@ pub trait FieldTable {
             None => root.get(place).copied(),
         }
     }
+
+    ghost additions_optional: { All (λ entry. entry.presence ≡ Optional) additions };
 }
 
 /// A type with a table of `RL` fields of the root and `EL` additions.

@@ -40,7 +40,10 @@ fn fields_go_by_their_smallest_tags(rt: HostRuntime) {
     assert!(rt; !is_canonical(&[u3, c2, a0]));
     assert!(rt; !is_canonical(&[c2, u3, c2]));
     assert!(rt; is_canonical(&[]));
-    assert!(rt; is_canonical(&[c2, c2]));
+    let first = Field::new_required(0, Tag::new_context(0), leaf!(Context 0), "first");
+    let second = Field::new_required(1, Tag::new_context(0), leaf!(Context 0), "second");
+    assert!(rt; is_canonical(&[first, second]));
+    assert!(rt; is_canonical(&[second, first]));
 }
 
 #[test]

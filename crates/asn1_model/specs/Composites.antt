@@ -36,16 +36,17 @@ choice_records chosen rs own_constraints own_name t c n =
     then alternative_records chosen c (name_or n own_name) rs
     else prefix_records t (name_or n own_name) (alternative_records chosen own_constraints own_name rs)
 
--- An open type is its bytes, under whatever tag.
+-- An open type (X.681, 14) is its bytes, under whatever tag.
 abbrev pub raw_records : Name → List ℕ → List Record
 raw_records n bytes = raw n bytes ∷ []
 
--- A component that may be absent is a mark that says so, or one that says that it is there, and its records.
+-- A component that may be absent (X.680, 25.4) is a mark that says so, or one that says that it is there, and its
+-- records.
 abbrev pub option_records : Tag → Option (List Record) → List Record
 option_records t None = mark (absent t) ∷ []
 option_records t (Some rs) = mark (present t) ∷ rs
 
--- A component with a default is absent where it equals that.
+-- A component with a default (X.680, 25.4) is absent where it equals that.
 abbrev pub default_records : Bool → Tag → List Record → List Record
 default_records is_default t rs = option_records t (if is_default then None else Some rs)
 

@@ -26,6 +26,7 @@ pub record ConstraintSet : Type 0 where
 abbrev pub part : {T : Type 0} → Extensible T → Part T
 part e = record { root = e.constraint; additions = option_copied e.extensible }
 
+-- the same of an alphabet, whose characters lie in memory themselves
 abbrev pub alphabet_part : Extensible PermittedAlphabet → Part (List ℕ)
 alphabet_part e = record { root = characters e.constraint; additions = option_map (λ alphabets. map characters alphabets) (option_copied e.extensible) }
 

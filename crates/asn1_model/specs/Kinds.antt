@@ -1,15 +1,16 @@
 -- The kinds of type, and what each of them means.
-use Rattle.std.specs.Prelude.{ℕ, ℤ, ⊤, true, false, is_some, List, [], ◌∷◌, Option, None, Some, IfSome, All, codes, if◌then◌else◌}
+use Rattle.std.specs.Prelude.{◌≡◌, ℕ, ℤ, ◌<◌, ◌^◌, ⊤, true, false, is_some, IsTrue, List, [], ◌∷◌, length, Option, None, Some, IfSome, All, codes, if◌then◌else◌}
 use Rattle.std.specs.List.{flat_map}
 use Rattle.std.specs.Option.{option_map}
 use Rattle.asn1_tags.specs.declared.tags.Tag.{Tag}
-use Rattle.asn1_tags.specs.Tags.{tag_eq}
-use Rattle.asn1_tags.specs.Trees.{Tree, leaf}
+use Rattle.asn1_tags.specs.Tags.{tag_eq, distinct}
+use Rattle.asn1_tags.specs.Trees.{Tree, Trees, leaf, choice, leaves}
+use Rattle.asn1_bounded.specs.Members.{IsMember}
 use Rattle.asn1_bounded.specs.declared.bounded.Bounded.{Bounded}
-use Rattle.asn1_model.specs.ConstraintSets.{ConstraintSet, unconstrained, values_of}
-use Rattle.asn1_model.specs.Records.{Name, Record, name_or, Content, arcs, number, null, units, utf8, scalar, discriminant}
-use Rattle.asn1_model.specs.Tags.{universal, CHOICE, IsATag}
-use Rattle.asn1_model.specs.Composites.{option_records, list_records, sequence_records, set_records, choice_records}
+use Rattle.asn1_model.specs.ConstraintSets.{ConstraintSet, unconstrained, values_of, size_of}
+use Rattle.asn1_model.specs.Records.{Name, Record, name_or, Content, Head, arcs, number, null, units, utf8, scalar, discriminant, holding, sequence, set}
+use Rattle.asn1_model.specs.Tags.{universal, CHOICE, IsATag, IsOne, only}
+use Rattle.asn1_model.specs.Composites.{option_records, list_records, choice_records}
 use Rattle.asn1_model.specs.Meaning.{Meaning, own_records, IsSound}
 
 -- A type whose values are contents, each of them one record.
@@ -35,22 +36,27 @@ without_constraints m = record m { records = λ v t c n. m.records v t unconstra
 abbrev pub under_own_name : {V : Type 0} → Meaning V → Meaning V
 under_own_name m = record m { records = λ v t c n. m.records v t c (name_or n m.name) }
 
--- A kind of string.
-abbrev pub string_type : {V : Type 0} → Tag → List ℕ → (V → Content) → Meaning V
-string_type tag name content = under_own_name (scalar_type tag unconstrained (Some name) content)
+-- A kind of string (X.680, 22, 23 and 41), by its tag, its name, the units that a string can hold, and what these are to
+-- a codec.
+abbrev pub string_type : {U : Type 0} → Tag → List ℕ → (U → Type 0) → (List U → Content) → Meaning (List U)
+string_type tag name IsUnit content =
+    under_own_name (record (scalar_type tag unconstrained (Some name) content) { IsWhole = λ _ units. All IsUnit units })
 
+-- A UTF8String (X.680, 41), by its bytes.
 abbrev pub utf8_string : {V : Type 0} → (V → List ℕ) → Meaning V
-utf8_string bytes = string_type (universal 12) (codes "UTF8String") (λ v. units utf8 (bytes v))
+utf8_string bytes = under_own_name (scalar_type (universal 12) unconstrained (Some (codes "UTF8String")) (λ v. units utf8 (bytes v)))
 
--- An OBJECT IDENTIFIER.
+-- An OBJECT IDENTIFIER (X.680, 32), whose arcs have 32 bits.
 abbrev pub object_identifier : Meaning (List ℕ)
-object_identifier = under_own_name (without_constraints (scalar_type (universal 6) unconstrained (Some (codes "OBJECT_IDENTIFIER")) arcs))
+object_identifier = without_constraints (string_type (universal 6) (codes "OBJECT_IDENTIFIER") (λ arc. arc < 2 ^ 32) arcs)
 
--- An INTEGER within a bound.
+-- An INTEGER (X.680, 19) within a bound: a value can be none but a member.
 abbrev pub integer_type : {V : Type 0} → (V → ℤ) → Bounded ℤ → Meaning V
-integer_type number_of bound = scalar_type (universal 2) (values_of bound) (Some (codes "INTEGER")) (λ v. number (number_of v))
+integer_type number_of bound = record (scalar_type (universal 2) (values_of bound) (Some (codes "INTEGER")) (λ v. number (number_of v))) {
+  IsWhole = λ _ v. IsMember (λ n. n) bound (number_of v);
+}
 
--- An INTEGER of any size.
+-- An INTEGER (X.680, 19) of any size.
 abbrev pub unbounded_integer_type : Meaning ℤ
 unbounded_integer_type = scalar_type (universal 2) unconstrained (Some (codes "INTEGER")) number
 
@@ -69,7 +75,8 @@ through target m = record {
   IsWhole = λ Takes w. m.IsWhole Takes (target w);
 }
 
--- A component that may be absent. It is no record of its own where it is absent, so it stands directly as a component.
+-- A component that may be absent (X.680, 25.4). It is no record of its own where it is absent, so it stands directly as
+-- a component.
 abbrev pub option_type : {V : Type 0} → Meaning V → Meaning (Option V)
 option_type m = record {
   tag = m.tag;
@@ -99,6 +106,12 @@ list_type elements constraints m = under_own_name (record {
   IsWhole = λ Takes w. All (m.IsWhole Takes) (elements w);
 })
 
+-- A SEQUENCE OF so many elements.
+abbrev pub array_type : {V : Type 0} → ℕ → Meaning V → Meaning (List V)
+array_type size m = record (list_type (λ elements. elements) (size_of size) m) {
+  IsWhole = λ Takes elements. (length elements ≡ size) × All (m.IsWhole Takes) elements;
+}
+
 -- A type without any content, which stands in no other.
 abbrev pub empty_type : {V : Type 0} → Meaning V
 empty_type = record {
@@ -114,56 +127,61 @@ empty_type = record {
   IsWhole = λ _ _. ⊤;
 }
 
--- The marker of a tag that X.680 assigns: a NULL under this tag.
+-- The marker of a tag that X.680 assigns (8.4, table 1): a NULL under this tag.
 abbrev pub marker_type : {V : Type 0} → Tag → Meaning V
 marker_type tag = without_constraints (scalar_type tag unconstrained None (λ _. null))
 
--- An ENUMERATED (X.680, 20) by the number of each value.
-abbrev pub enumerated_type : {V : Type 0} → ConstraintSet → Name → (V → ℤ) → Meaning V
-enumerated_type constraints name number_of =
-    without_constraints (scalar_type (universal 10) constraints name (λ v. discriminant (number_of v)))
+-- An ENUMERATED (X.680, 20), by its tag, constraints and name, and by the number of each value.
+abbrev pub enumerated_type : {V : Type 0} → Tag → ConstraintSet → Name → (V → ℤ) → Meaning V
+enumerated_type tag constraints name number_of =
+    without_constraints (scalar_type tag constraints name (λ v. discriminant (number_of v)))
 
-module _ {V : Type 0} (name : Name) (components : V → List Record) (AreDistinct : Type 0) (AreWhole : (List ℕ → Type 0) → V → Type 0) where
-  -- A type of components, under its own tag and by what they become.
-  abbrev pub components_type : Tag → (Tag → Name → List Record → List Record) → Meaning V
-  components_type tag composed = record {
-    tag = tag;
-    name = name;
-    constraints = unconstrained;
-    tree = leaf;
-    is_choice = false;
-    is_present = λ _. true;
-    records = λ v t c n. composed t n (components v);
-    IsSolid = ⊤;
-    IsWellTagged = λ t. IsATag t × AreDistinct;
-    IsWhole = AreWhole;
-  }
+-- A type of components, by the head of its record, its tag, constraints and name, the records of a value's components,
+-- whether these have distinct tags and are sound, and whether they are whole.
+abbrev pub components_type : {V : Type 0} → (Tag → Name → Head) →
+    Tag → ConstraintSet → Name → (V → List Record) → Type 0 → ((List ℕ → Type 0) → V → Type 0) → Meaning V
+components_type head tag constraints name components AreDistinct AreWhole = record {
+  tag = tag;
+  name = name;
+  constraints = constraints;
+  tree = leaf;
+  is_choice = false;
+  is_present = λ _. true;
+  records = λ v t c n. holding (head t n) (components v) ∷ [];
+  IsSolid = ⊤;
+  IsWellTagged = λ t. IsATag t × AreDistinct;
+  IsWhole = AreWhole;
+}
 
-  -- A SEQUENCE, and a SET (X.680, 25 and 27): by the records of its components, whether these have distinct tags, and
-  -- whether they are whole.
-  abbrev pub sequence_type : Meaning V
-  sequence_type = components_type (universal 16) sequence_records
+-- A SEQUENCE (X.680, 25), whose components that may be absent have tags that those behind them have not, and a SET
+-- (X.680, 27), whose components all have distinct tags.
+abbrev pub sequence_type : {V : Type 0} →
+    Tag → ConstraintSet → Name → (V → List Record) → Type 0 → ((List ℕ → Type 0) → V → Type 0) → Meaning V
+sequence_type = components_type sequence
 
-  abbrev pub set_type : Meaning V
-  set_type = components_type (universal 17) set_records
+abbrev pub set_type : {V : Type 0} →
+    Tag → ConstraintSet → Name → (V → List Record) → Type 0 → ((List ℕ → Type 0) → V → Type 0) → Meaning V
+set_type = components_type set
 
--- the tags with which a CHOICE can begin: those of its alternatives where it is untagged, else the tag alone
+-- the tags with which a CHOICE can begin: those of its alternatives where it is untagged, else the tag alone (X.680, 29)
 abbrev pub choice_tree : Tree → Tag → Tree
 choice_tree alternatives t = if tag_eq t CHOICE then alternatives else leaf t
 
--- A CHOICE (X.680, 29): by the tree of its alternatives, the tag and the record of the chosen one, whether all have
--- distinct tags, and whether the chosen one is whole. Untagged it begins with the tag of the chosen one.
+-- A CHOICE (X.680, 29), by its name and constraints, the trees of its alternatives, the tag and the records of the chosen
+-- one, whether the types of all are sound, and whether the chosen one is whole. Untagged it begins with the tag of the
+-- chosen one. It is well tagged where no tag stands twice among its alternatives (29.3), and the chosen one is always
+-- one record that begins with its tag.
 abbrev pub choice_type : {V : Type 0} →
-    Name → ConstraintSet → Tree → (V → Tag) → (V → List Record) → Type 0 → ((List ℕ → Type 0) → V → Type 0) → Meaning V
-choice_type name constraints alternatives chosen alternative AreDistinct AreWhole = record {
+    Name → ConstraintSet → Trees → (V → Tag) → (V → List Record) → Type 0 → ((List ℕ → Type 0) → V → Type 0) → Meaning V
+choice_type {V = V} name constraints alternatives chosen alternative AreSound AreWhole = record {
   tag = CHOICE;
   name = name;
   constraints = constraints;
-  tree = choice_tree alternatives;
+  tree = choice_tree (choice alternatives);
   is_choice = true;
   is_present = λ _. true;
   records = λ v. choice_records (chosen v) (alternative v) constraints name;
   IsSolid = ⊤;
-  IsWellTagged = λ _. AreDistinct;
+  IsWellTagged = λ _. IsTrue (distinct (leaves (choice alternatives))) × ((v : V) → IsOne (only (chosen v)) (alternative v)) × AreSound;
   IsWhole = AreWhole;
 }

@@ -1,16 +1,16 @@
 -- The law of types, for each kind of type.
 use Rattle.std.specs.Prelude.{◌≡◌, ℕ, zero, suc, Bool, true, false, List, [], ◌∷◌, Contains, Some, codes, refl, if◌then◌else◌}
-use Rattle.std.proofs.Common.{arith, subst}
+use Rattle.std.proofs.Common.{arith, subst, sym}
 use Rattle.std.specs.List.{flat_map}
 use Rattle.asn1_tags.specs.declared.tags.Tag.{Tag}
 use Rattle.asn1_model.specs.ConstraintSets.{ConstraintSet, unconstrained}
-use Rattle.asn1_model.specs.Records.{Name, name_or, Content, scalar, holding, sequence_of, sequence, set, prefix, alternative as alternative_head, Record}
+use Rattle.asn1_model.specs.Records.{Name, name_or, Content, Head, scalar, holding, sequence_of, prefix, alternative as alternative_head, Record}
 use Rattle.asn1_model.specs.Meaning.{Meaning, IsTagged, own_records}
-use Rattle.asn1_model.specs.Kinds.{scalar_type, without_constraints, under_own_name, through, option_type, list_type, empty_type, sequence_type, set_type, choice_type}
+use Rattle.asn1_model.specs.Kinds.{scalar_type, without_constraints, under_own_name, through, option_type, list_type, empty_type, components_type, choice_type}
 use Rattle.asn1_model.specs.Composites.{alternative_records, prefix_records}
-use Rattle.asn1_model.specs.Tags.{CHOICE, Has, LiesIn, only, tree_tags, IsOne}
+use Rattle.asn1_model.specs.Tags.{CHOICE, Has, LiesIn, only, head_tag, tree_tags, IsOne}
 use Rattle.asn1_tags.specs.Tags.{tag_eq}
-use Rattle.asn1_tags.specs.Trees.{Tree, leaf}
+use Rattle.asn1_tags.specs.Trees.{Trees, leaf, choice}
 
 pub scalar_tagged : {V : Type 0} {tag : Tag} {constraints : ConstraintSet} {name : Name} {content : V → Content} →
     IsTagged (scalar_type tag constraints name content)
@@ -26,6 +26,10 @@ own_name_tagged {m = m} law = record { one = λ v t c n. law.one v t c (name_or 
 
 pub through_tagged : {V W : Type 0} {target : W → V} {m : Meaning V} → IsTagged m → IsTagged (through target m)
 through_tagged {target = target} law = record { one = λ w. law.one (target w) }
+
+-- which values are whole is nothing to the law
+pub whole_tagged : {V : Type 0} {m : Meaning V} {AreWhole : (List ℕ → Type 0) → V → Type 0} → IsTagged m → IsTagged (record m { IsWhole = AreWhole })
+whole_tagged law = record { one = law.one }
 
 -- an option and a type without content are not solid
 pub option_tagged : {V : Type 0} (m : Meaning V) → IsTagged (option_type m)
@@ -45,16 +49,17 @@ list_tagged elements m = record {
   };
 }
 
-pub sequence_tagged : {V : Type 0} {name : Name} {AreDistinct : Type 0} {AreWhole : (List ℕ → Type 0) → V → Type 0}
-    (components : V → List Record) → IsTagged (sequence_type name components AreDistinct AreWhole)
-sequence_tagged components = record {
-  one = λ v t c n _ _. record { item = holding (sequence t n) (components v); alone = refl; no_mark = refl; within = λ _ h. h };
-}
-
-pub set_tagged : {V : Type 0} {name : Name} {AreDistinct : Type 0} {AreWhole : (List ℕ → Type 0) → V → Type 0}
-    (components : V → List Record) → IsTagged (set_type name components AreDistinct AreWhole)
-set_tagged components = record {
-  one = λ v t c n _ _. record { item = holding (set t n) (components v); alone = refl; no_mark = refl; within = λ _ h. h };
+-- where the head has the tag that the type is written under
+pub components_tagged : {V : Type 0} {head : Tag → Name → Head} {tag : Tag} {constraints : ConstraintSet} {name : Name} {AreDistinct : Type 0}
+    {AreWhole : (List ℕ → Type 0) → V → Type 0} (components : V → List Record) →
+    ((t : Tag) (n : Name) → head_tag (head t n) ≡ t) → IsTagged (components_type head tag constraints name components AreDistinct AreWhole)
+components_tagged {head = head} components at = record {
+  one = λ v t c n _ _. record {
+    item = holding (head t n) (components v);
+    alone = refl;
+    no_mark = refl;
+    within = subst (λ u. LiesIn (only u) (only t)) (sym (at t n)) (λ _ h. h);
+  };
 }
 
 -- what stands in a list of one tag is that tag
@@ -67,24 +72,24 @@ pub first_in : (t : Tag) (ts : List Tag) → Contains (t ∷ ts) t
 first_in t ts = (0, omega arith, refl)
 
 -- a choice, where the tag of the chosen alternative is one of the tags of the tree
-pub choice_tagged : {V : Type 0} {name : Name} {constraints : ConstraintSet} {AreDistinct : Type 0} {AreWhole : (List ℕ → Type 0) → V → Type 0}
-    (alternatives : Tree) (chosen : V → Tag) (alternative : V → List Record) →
-    ((v : V) → AreDistinct → Has (tree_tags alternatives) (chosen v)) →
-    IsTagged (choice_type name constraints alternatives chosen alternative AreDistinct AreWhole)
-choice_tagged {V = V} {name = name} {constraints = constraints} {AreDistinct = AreDistinct} alternatives chosen alternative among_tags = record {
-  one = λ v t c n _ distinct. by_tag v t c n distinct (tag_eq t CHOICE);
+pub choice_tagged : {V : Type 0} {name : Name} {constraints : ConstraintSet} {AreSound : Type 0} {AreWhole : (List ℕ → Type 0) → V → Type 0}
+    (alternatives : Trees) (chosen : V → Tag) (alternative : V → List Record) →
+    ((v : V) → AreSound → Has (tree_tags (choice alternatives)) (chosen v)) →
+    IsTagged (choice_type name constraints alternatives chosen alternative AreSound AreWhole)
+choice_tagged {V = V} {name = name} {constraints = constraints} {AreSound = AreSound} alternatives chosen alternative among_tags = record {
+  one = λ v t c n _ well. by_tag v t c n well.2 (tag_eq t CHOICE);
 }
   where
-    inside : (v : V) (distinct : AreDistinct) → LiesIn (only (chosen v)) (tree_tags alternatives)
-    inside v distinct u h = subst (Has (tree_tags alternatives)) (alone_in (chosen v) u h) (among_tags v distinct)
+    inside : (v : V) → AreSound → LiesIn (only (chosen v)) (tree_tags (choice alternatives))
+    inside v sound u h = subst (Has (tree_tags (choice alternatives))) (alone_in (chosen v) u h) (among_tags v sound)
 
-    by_tag : (v : V) (t : Tag) (c : ConstraintSet) (n : Name) → AreDistinct → (untagged : Bool) →
+    by_tag : (v : V) (t : Tag) (c : ConstraintSet) (n : Name) → AreSound → (untagged : Bool) →
         IsOne
-        (tree_tags (if untagged then alternatives else leaf t))
+        (tree_tags (if untagged then choice alternatives else leaf t))
         (if untagged
         then alternative_records (chosen v) c (name_or n name) (alternative v)
         else prefix_records t (name_or n name) (alternative_records (chosen v) constraints name (alternative v)))
-    by_tag v t c n distinct true =
-        record { item = holding (alternative_head (chosen v) c (name_or n name)) (alternative v); alone = refl; no_mark = refl; within = inside v distinct }
-    by_tag v t c n distinct false =
+    by_tag v t c n sound true =
+        record { item = holding (alternative_head (chosen v) c (name_or n name)) (alternative v); alone = refl; no_mark = refl; within = inside v sound }
+    by_tag v t c n sound false =
         record { item = holding (prefix t (name_or n name)) (alternative_records (chosen v) constraints name (alternative v)); alone = refl; no_mark = refl; within = λ _ h. h }

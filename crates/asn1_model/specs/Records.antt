@@ -25,8 +25,8 @@ pub data StringKind : Type 0 where
   teletex : StringKind
   bmp : StringKind
 
--- What stands in a record that holds no others. Each kind of type has contents of its own: an INTEGER and an
--- ENUMERATED of one number differ, and so do two strings of the same units and different kinds.
+-- What stands in a record that holds no others (X.680, 18 to 24, 32 and 41). Each kind of type has contents of its own:
+-- an INTEGER and an ENUMERATED of one number differ, and so do two strings of the same units and different kinds.
 pub data Content : Type 0 where
   null : Content
   truth : Bool → Content
@@ -36,9 +36,9 @@ pub data Content : Type 0 where
   bits : List Bool → Content
   units : StringKind → List ℕ → Content
 
--- What a record is that holds others, apart from these: the components of a SEQUENCE or a SET in the order of their
--- definition, the elements of a SEQUENCE OF or a SET OF, what an explicit tag stands before, or the chosen alternative
--- of a CHOICE, whose tag is that of the alternative.
+-- What a record is that holds others, apart from these (X.680, 25 to 31): the components of a SEQUENCE or a SET in the
+-- order of their definition, the elements of a SEQUENCE OF or a SET OF, what an explicit tag stands before, or the
+-- chosen alternative of a CHOICE, whose tag is that of the alternative.
 pub data Head : Type 0 where
   sequence : Tag → Name → Head
   set : Tag → Name → Head
@@ -99,6 +99,7 @@ abbrev pub highest : List Record → ℕ
 highest [] = 0
 highest (r ∷ rs) = max (height r) (highest rs)
 
+-- the record is a mark
 abbrev pub is_mark : Record → Bool
 is_mark (scalar t c n x) = false
 is_mark (scope h rs) = false

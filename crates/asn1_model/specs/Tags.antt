@@ -10,6 +10,7 @@ use Rattle.asn1_model.specs.Records.{Record, scalar, scope, raw, mark, is_mark, 
 abbrev pub universal : ℕ → Tag
 universal n = record { class = Universal; value = n }
 
+-- a tag that a component gives its type by a number alone (31.1)
 abbrev pub context : ℕ → Tag
 context n = record { class = Context; value = n }
 
@@ -26,6 +27,7 @@ pub data Tags : Type 0 where
   every : Tags
   among : List Tag → Tags
 
+-- a tag alone
 abbrev pub only : Tag → Tags
 only t = among (t ∷ [])
 
@@ -34,13 +36,10 @@ only t = among (t ∷ [])
 abbrev pub tree_tags : Tree → Tags
 tree_tags tree = if is_open tree then every else among (leaves tree)
 
+-- the tag is one of these
 abbrev pub Has : Tags → Tag → Type 0
 Has every t = ⊤
 Has (among ts) t = Contains ts t
-
--- no tag stands in both
-abbrev pub SharesNone : Tags → Tags → Type 0
-SharesNone a b = (t : Tag) → Has a t → Has b t → ⊥
 
 -- each tag of the first stands in the second; every tag lies in every tag alone
 abbrev pub LiesIn : Tags → Tags → Type 0

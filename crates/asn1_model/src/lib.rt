@@ -25,7 +25,7 @@
 //! - `Tagged` is proved for each type here (`IsTagged` in `specs/Meaning.antt`).
 //! - `specs/Records.antt` has the records, marks and heights; `specs/Tags.antt` the first tags of a list of records and
 //!   the tags of a tree; `specs/Orders.antt` what it is to be the same up to order; `specs/ConstraintSets.antt` a set of
-//!   constraints apart from where it lies in memory.
+//!   constraints apart from where it lies in memory; `specs/TypeTables.antt` the tree of tags that a table stands for.
 //! - `specs/Composites.antt` has the records of what is put together of parts, a word for each: `sequence_records`,
 //!   `option_records`, `group_records` and their kin. `specs/Meaning.antt` says what a meaning is, and `specs/Kinds.antt`
 //!   has that of each kind of type: `scalar_type`, `list_type`, `option_type` and so on. `specs/Laws.antt` has the proofs

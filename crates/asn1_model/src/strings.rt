@@ -1,5 +1,6 @@
 //! The kinds of string (X.680, 22, 23 and 41).
-ghost use Rattle.std.specs.Prelude.{◌≡◌, ℕ, List, Some, codes};
+ghost use Rattle.std.specs.Prelude.{◌≡◌, ℕ, ◌<◌, ◌^◌, ⊤, IsTrue, List, Some, codes};
+ghost use Rattle.asn1_values.specs.Alphabets.{is_visible, is_ia5, is_numeric, is_printable};
 ghost use Rattle.asn1_tags.specs.Names.{name_of};
 ghost use Rattle.asn1_tags.specs.declared.tags.Tag.{Tag};
 ghost use Rattle.asn1_model.specs.ConstraintSets.{constraint_set, unconstrained};
@@ -17,6 +18,9 @@ pub trait StringType<U> {
 
     ghost own_name: { List ℕ };
 
+    // The units that a string of the kind can hold.
+    ghost IsUnit: { U → Type 0 };
+
     // What the units are to a codec.
     ghost content: { List U → Content };
 
@@ -33,6 +37,8 @@ impl StringType<bool> for Bits {
 
     ghost own_name = { codes "BIT_STRING" };
 
+    ghost IsUnit = { λ _. ⊤ };
+
     ghost content = { bits };
 
     fn table() -> TypeTable {
@@ -44,6 +50,8 @@ impl StringType<u8> for Octets {
     ghost own_tag = { universal 4 };
 
     ghost own_name = { codes "OCTET_STRING" };
+
+    ghost IsUnit = { λ unit. unit < 2 ^ 8 };
 
     ghost content = { units octet };
 
@@ -57,6 +65,8 @@ impl StringType<u8> for General {
 
     ghost own_name = { codes "GeneralString" };
 
+    ghost IsUnit = { λ unit. unit < 2 ^ 8 };
+
     ghost content = { units general };
 
     fn table() -> TypeTable {
@@ -68,6 +78,8 @@ impl StringType<u8> for Graphic {
     ghost own_tag = { universal 25 };
 
     ghost own_name = { codes "GraphicString" };
+
+    ghost IsUnit = { λ unit. unit < 2 ^ 8 };
 
     ghost content = { units graphic };
 
@@ -81,6 +93,8 @@ impl StringType<u32> for Teletex {
 
     ghost own_name = { codes "TeletexString" };
 
+    ghost IsUnit = { λ unit. unit < 2 ^ 32 };
+
     ghost content = { units teletex };
 
     fn table() -> TypeTable {
@@ -92,6 +106,8 @@ impl StringType<u16> for Bmp {
     ghost own_tag = { universal 30 };
 
     ghost own_name = { codes "BMPString" };
+
+    ghost IsUnit = { λ unit. unit < 2 ^ 16 };
 
     ghost content = { units bmp };
 
@@ -105,6 +121,8 @@ impl StringType<u8> for Visible {
 
     ghost own_name = { codes "VisibleString" };
 
+    ghost IsUnit = { λ unit. IsTrue (is_visible unit) };
+
     ghost content = { units visible };
 
     fn table() -> TypeTable {
@@ -116,6 +134,8 @@ impl StringType<u8> for Ia5 {
     ghost own_tag = { universal 22 };
 
     ghost own_name = { codes "IA5String" };
+
+    ghost IsUnit = { λ unit. IsTrue (is_ia5 unit) };
 
     ghost content = { units ia5 };
 
@@ -129,6 +149,8 @@ impl StringType<u8> for Numeric {
 
     ghost own_name = { codes "NumericString" };
 
+    ghost IsUnit = { λ unit. IsTrue (is_numeric unit) };
+
     ghost content = { units numeric };
 
     fn table() -> TypeTable {
@@ -140,6 +162,8 @@ impl StringType<u8> for Printable {
     ghost own_tag = { universal 19 };
 
     ghost own_name = { codes "PrintableString" };
+
+    ghost IsUnit = { λ unit. IsTrue (is_printable unit) };
 
     ghost content = { units printable };
 

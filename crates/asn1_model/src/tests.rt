@@ -1,13 +1,15 @@
 //! What the definitions give for values of a few types, each written out by hand, and the tables of a type of each kind.
 //!
 //! The clauses of the functions without a body are worked examples: the prover computes the definitions on them.
-ghost use Rattle.std.specs.Prelude.{◌≡◌, pos, true, false, [], ◌∷◌, ◌++◌, None, Some, codes};
+ghost use Rattle.std.specs.Prelude.{◌≡◌, ⊤, pos, true, false, List, [], ◌∷◌, ◌++◌, None, Some, codes};
 ghost use Rattle.std.specs.String.{string_bytes};
 ghost use Rattle.asn1_bounded.specs.declared.bounded.Bounded.TheVariants.{Range};
-ghost use Rattle.asn1_model.specs.Composites.{sequence_records, default_records, group_records, option_records, choice_records, prefix_records};
+ghost use Rattle.asn1_model.specs.Composites.{sequence_records, set_records, default_records, group_records, option_records, choice_records, prefix_records};
 ghost use Rattle.asn1_model.specs.ConstraintSets.{unconstrained, values_of, size_of};
+ghost use Rattle.asn1_model.specs.Kinds.{sequence_type, set_type, enumerated_type};
 ghost use Rattle.asn1_model.specs.Meaning.{own_records};
-ghost use Rattle.asn1_model.specs.Records.{scalar, raw, mark, holding, sequence, sequence_of, prefix, alternative, present, absent, group_start, group_absent, group_end, null, number, discriminant, units, utf8, ia5, highest};
+ghost use Rattle.asn1_model.specs.Orders.{Same};
+ghost use Rattle.asn1_model.specs.Records.{Record, scalar, raw, mark, holding, sequence, set as set_head, set_of, sequence_of, prefix, alternative, present, absent, group_start, group_absent, group_end, null, number, discriminant, units, utf8, ia5, highest};
 ghost use Rattle.asn1_model.specs.Tags.{universal, context, CHOICE, every, among, only, first_tags};
 
 mod program;
@@ -106,13 +108,57 @@ fn pair(octets: [u8; 2])
         own_records ⟦<u8 as AsnType>⟧.meaning 3 ++ own_records ⟦<u8 as AsnType>⟧.meaning 1) ∷ [] }
 {}
 
-/// A CHOICE of a BOOLEAN, untagged and under Context 1.
+/// A CHOICE of a NULL, untagged and under Context 1: untagged it has the constraints and the name that it is given, and
+/// under a tag its own within.
 fn choice()
-    ensures untagged { choice_records (universal 1) (scalar (universal 1) unconstrained None null ∷ []) unconstrained (Some (codes "C")) CHOICE unconstrained None ≡
-        holding (alternative (universal 1) unconstrained (Some (codes "C"))) (scalar (universal 1) unconstrained None null ∷ []) ∷ [] }
-    ensures tagged { choice_records (universal 1) (scalar (universal 1) unconstrained None null ∷ []) unconstrained (Some (codes "C")) (context 1) unconstrained None ≡
-        holding (prefix (context 1) (Some (codes "C"))) (
-        holding (alternative (universal 1) unconstrained (Some (codes "C"))) (scalar (universal 1) unconstrained None null ∷ []) ∷ []) ∷ [] }
+    ensures untagged { choice_records (universal 5) (scalar (universal 5) unconstrained None null ∷ []) (size_of 1) (Some (codes "C")) CHOICE (size_of 2) (Some (codes "n")) ≡
+        holding (alternative (universal 5) (size_of 2) (Some (codes "n"))) (scalar (universal 5) unconstrained None null ∷ []) ∷ [] }
+    ensures unnamed { choice_records (universal 5) [] (size_of 1) (Some (codes "C")) CHOICE (size_of 2) None ≡
+        holding (alternative (universal 5) (size_of 2) (Some (codes "C"))) [] ∷ [] }
+    ensures tagged { choice_records (universal 5) (scalar (universal 5) unconstrained None null ∷ []) (size_of 1) (Some (codes "C")) (context 1) (size_of 2) (Some (codes "n")) ≡
+        holding (prefix (context 1) (Some (codes "n"))) (
+        holding (alternative (universal 5) (size_of 1) (Some (codes "C"))) (scalar (universal 5) unconstrained None null ∷ []) ∷ []) ∷ [] }
+{}
+
+/// The words for types of components, and for enumerations.
+fn kinds()
+    ensures sequence { (rs : List Record) → own_records (sequence_type (universal 16) unconstrained None (λ components. components) ⊤ (λ _ _. ⊤)) rs ≡
+        sequence_records (universal 16) None rs }
+    ensures set { (rs : List Record) → own_records (set_type (universal 17) unconstrained None (λ components. components) ⊤ (λ _ _. ⊤)) rs ≡
+        set_records (universal 17) None rs }
+    ensures enumerated { own_records (enumerated_type (universal 10) (size_of 1) (Some (codes "E")) (λ number. number)) (pos 5) ≡
+        scalar (universal 10) unconstrained (Some (codes "E")) (discriminant (pos 5)) ∷ [] }
+{}
+
+/// Whole values have numbers within their bounds, elements as many as an array has, and units of their alphabets.
+fn whole_values()
+    ensures octet { ⟦<u8 as AsnType>⟧.meaning.IsWhole (λ _. ⊤) 255 }
+    ensures above_an_octet { ¬ ⟦<u8 as AsnType>⟧.meaning.IsWhole (λ _. ⊤) 256 }
+    ensures above_the_limit { ¬ ⟦<ConstrainedInteger<1, 10> as AsnType>⟧.meaning.IsWhole (λ _. ⊤) (pos 11) }
+    ensures a_pair { ⟦<[u8; 2] as AsnType>⟧.meaning.IsWhole (λ _. ⊤) (1 ∷ 2 ∷ []) }
+    ensures no_pair { ¬ ⟦<[u8; 2] as AsnType>⟧.meaning.IsWhole (λ _. ⊤) (1 ∷ 2 ∷ 3 ∷ []) }
+    ensures digits { ⟦<NumericString as AsnType>⟧.meaning.IsWhole (λ _. ⊤) (codes "12") }
+    ensures no_digits { ¬ ⟦<NumericString as AsnType>⟧.meaning.IsWhole (λ _. ⊤) (codes "1x") }
+{}
+
+/// A type that is no CHOICE has a tag, and an option stands in no list and in no option.
+fn well_tagged_types()
+    ensures under_a_tag { ⟦<Option<bool> as AsnType>⟧.meaning.IsWellTagged (context 0) }
+    ensures under_none { ¬ ⟦<bool as AsnType>⟧.meaning.IsWellTagged CHOICE }
+    ensures list_of_options { ¬ ⟦<Vec<Option<u8>> as AsnType>⟧.meaning.IsWellTagged (universal 16) }
+    ensures option_of_an_option { ¬ ⟦<Option<Option<u8>> as AsnType>⟧.meaning.IsWellTagged (context 0) }
+    ensures without_content { ¬ ⟦<PhantomData<u8> as AsnType>⟧.meaning.IsWellTagged (universal 5) }
+{}
+
+/// The order means nothing in a SET and in a SET OF, also within other records, and something in a SEQUENCE.
+fn sameness()
+    ensures set { (r s : Record) → Same (holding (set_head (universal 17) None) (r ∷ s ∷ [])) (holding (set_head (universal 17) None) (s ∷ r ∷ [])) }
+    ensures inside { (r s : Record) →
+        Same (holding (sequence (universal 16) None) (holding (set_of (universal 17) unconstrained None) (r ∷ s ∷ []) ∷ []))
+        (holding (sequence (universal 16) None) (holding (set_of (universal 17) unconstrained None) (s ∷ r ∷ []) ∷ [])) }
+    ensures sequence { ¬ Same (holding (sequence (universal 16) None) (raw None [] ∷ mark group_start ∷ []))
+        (holding (sequence (universal 16) None) (mark group_start ∷ raw None [] ∷ [])) }
+    ensures contents { ¬ Same (raw None []) (raw None (0 ∷ [])) }
 {}
 
 /// Heights: of contents and marks 0, of a scope one more than what stands in it, and 1 where nothing does.

@@ -24,7 +24,7 @@ set_of_type elements m = under_own_name (record {
   IsWhole = λ Takes w. All (m.IsWhole Takes) (elements w);
 })
 
--- An open type: a value of any type, as the bytes that a codec makes of it. It has no tag and can begin with every one.
+-- An open type (X.681, 14): a value of any type, as the bytes that a codec makes of it. It has no tag and can begin with every one.
 abbrev pub any_type : {V : Type 0} → (V → List ℕ) → Meaning V
 any_type bytes = record {
   tag = CHOICE;
@@ -85,5 +85,5 @@ instance_of_type type_id content m = record {
       prefix_records (context 0) (Some (codes "SEQUENCE")) (own_records m (content w)));
   IsSolid = ⊤;
   IsWellTagged = λ t. IsATag t × IsSound m;
-  IsWhole = λ Takes w. m.IsWhole Takes (content w);
+  IsWhole = λ Takes w. object_identifier.IsWhole Takes (type_id w) × m.IsWhole Takes (content w);
 }

@@ -5,7 +5,7 @@ ghost use Rattle.asn1_types.specs.Kinds.{explicit_type};
 ghost use Rattle.asn1_types.specs.Laws.{explicit_tagged};
 
 use asn1_model::{AsnType, Tagged, TypeTable};
-use asn1_tags::{Identifier, Tag};
+use asn1_tags::Identifier;
 use std::marker::PhantomData;
 
 /// A value of type `V` under the tag of `T`, which stands before the tag of `V`.

@@ -43,9 +43,12 @@ mod tests;
 pub use any::Any;
 pub use asn1_fields::{
     Choice, Constructed, Enumerated, Field, FieldIter, FieldPresence, FieldTable, Fields,
-    IdentifierIter, OptionalFieldIter, first_sequence_clash, first_set_clash, is_canonical,
+    IdentifierIter, OptionalFieldIter, at_most_one_rearrangement_is_canonical,
+    first_sequence_clash, first_set_clash, is_canonical,
 };
-pub use asn1_model::{AsnType, StringType, Tagged, TreeForm, TypeTable, tag};
+pub use asn1_model::{
+    AsnType, StringType, Tagged, TreeForm, TypeTable, order_inside_sets_is_not_seen, tag,
+};
 pub use explicit::Explicit;
 pub use implicit::Implicit;
 pub use instance_of::InstanceOf;

@@ -9,7 +9,7 @@ ghost use Rattle.asn1_types.specs.Multisets.{SameElements};
 mod asn_type;
 mod equality;
 
-use equality::{first_equal, have_same_counts};
+use equality::{first_equal, have_same_elements};
 use std::alloc::{AllocError, Global};
 use std::marker::Model;
 use std::slice::Iter;
@@ -18,7 +18,8 @@ use std::slice::Iter;
 ///
 /// Contracts see it as the list of its elements, in the order in which `from_vec` and `insert` put them. Two sets are
 /// equal if they have the same elements, each as often, in any order. To find that out each element is counted in both
-/// sets: for n elements that takes up to twice n times n comparisons.
+/// sets: for n elements that takes up to twice n times n comparisons. Nothing but `Eq` is asked of the elements: where
+/// they have an order or a hash, it is not used.
 #[derive(Drop)]
 #[derive_where(Debug; T)]
 pub struct SetOf<T> {
@@ -171,7 +172,7 @@ impl<T: Eq> SetOf<T> {
     pub fn eq_slice(&self, others: &[T]) -> bool
         ensures { IsTrue result ↔ SameElements T.eq self.now others.now }
     {
-        have_same_counts(&self.elements, others)
+        have_same_elements(&self.elements, others)
     }
 }
 

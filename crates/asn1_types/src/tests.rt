@@ -178,6 +178,37 @@ fn a_refused_element_comes_back(rt: HostRuntime) {
     }
 }
 
+/// Also where an allocation fails: what a call was asked of stays as it was.
+#[test]
+fn a_refused_copy_leaves_the_set(rt: HostRuntime) {
+    let alloc = rt.alloc();
+    assert!(rt; SetOf::<u8>::with_capacity(alloc, usize::MAX).is_err());
+    let elements = [3u8, 1, 3];
+    if let Ok(numbers) = SetOf::from_slice(alloc, &elements) {
+        let list = numbers.to_vec(alloc);
+        assert!(rt;
+            list.is_err() || list.is_ok_and(|list| list.as_slice() == [&3, &1, &3].as_slice())
+        );
+        let copy = numbers.try_clone(alloc);
+        assert!(rt; copy.is_err() || copy.is_ok_and(|copy| copy == numbers));
+        assert!(rt; numbers.eq_slice(&elements));
+    }
+    let same = SetOf::from_array(alloc, &elements);
+    assert!(rt; same.is_err() || same.is_ok_and(|same| same.eq_slice(&elements)));
+}
+
+/// Also where an allocation fails.
+#[test]
+fn a_refused_copy_leaves_the_bytes(rt: HostRuntime) {
+    let alloc = rt.alloc();
+    if let Ok(bytes) = [5u8, 0].to_vec(alloc) {
+        let null = Any::new(bytes);
+        let copy = null.try_clone(alloc);
+        assert!(rt; copy.is_err() || copy.is_ok_and(|copy| copy == null));
+        assert_eq!(rt; null.as_bytes(), [5, 0].as_slice());
+    }
+}
+
 #[test]
 fn open_types_are_their_bytes(rt: HostRuntime) -> Result<(), Fail> {
     let alloc = rt.alloc();

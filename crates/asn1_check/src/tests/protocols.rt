@@ -14,7 +14,7 @@ const X509: Example = Example {
     table: b"sequence Certificate\n\
         tbsCertificate required U16\n\
         signatureAlgorithm required U16\n\
-        signature required U3\n\
+        signatureValue required U3\n\
         end\n\
         sequence TBSCertificate\n\
         version default C0\n\

@@ -21,7 +21,7 @@ struct Answer(bool);
 const ALTERNATIVES: &[TagTree<'static>] = &[TagTree::Leaf(Tag::BOOL)];
 
 impl AsnType for Answer {
-    ghost meaning = { choice_type (Some (codes "Answer")) unconstrained (choice (more (leaf (universal 1)) none)) (λ _. universal 1)
+    ghost meaning = { choice_type (Some (codes "Answer")) unconstrained (more (leaf (universal 1)) none) (λ _. universal 1)
         (λ answer. own_records ⟦<bool as AsnType>⟧.meaning answer.0) ⊤ (λ _ _. ⊤) };
 
     fn table() -> TypeTable {
@@ -34,7 +34,7 @@ impl AsnType for Answer {
 }
 
 impl Tagged for Answer {
-    ghost tagged = { choice_tagged (choice (more (leaf (universal 1)) none)) (λ _. universal 1)
+    ghost tagged = { choice_tagged (more (leaf (universal 1)) none) (λ _. universal 1)
         (λ answer. own_records ⟦<bool as AsnType>⟧.meaning answer.0) (λ _ _. first_in (universal 1) []) };
 }
 

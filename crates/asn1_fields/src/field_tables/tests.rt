@@ -1,5 +1,6 @@
 #![tactic(auto, using(asn1_tags::proofs::Leaves::tree_shapes))]
 
+ghost use Rattle.std.proofs.Common.{rules};
 ghost use Rattle.std.specs.Prelude.{[], ◌∷◌, codes, refl, true};
 ghost use Rattle.asn1_tags.specs.Trees.{leaf};
 ghost use Rattle.asn1_model.specs.Tags.{universal, context};
@@ -45,6 +46,8 @@ impl FieldTable for Person {
     fn added_fields() -> &'static [Field<'static>] {
         ADDED
     }
+
+    ghost additions_optional = { Prim.search rules };
 }
 
 impl Constructed<1, 1> for Person {

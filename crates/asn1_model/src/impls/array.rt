@@ -1,7 +1,6 @@
 //! A SEQUENCE OF (X.680, 26) of a fixed size.
-ghost use Rattle.asn1_model.specs.ConstraintSets.{size_of};
-ghost use Rattle.asn1_model.specs.Kinds.{list_type};
-ghost use Rattle.asn1_model.specs.Laws.{list_tagged};
+ghost use Rattle.asn1_model.specs.Kinds.{array_type};
+ghost use Rattle.asn1_model.specs.Laws.{list_tagged, whole_tagged};
 
 use crate::asn_type::{AsnType, Tagged};
 use crate::type_table::TypeTable;
@@ -9,7 +8,7 @@ use asn1_bounds::{Constraint, Constraints, Size};
 use asn1_tags::{Identifier, Tag};
 
 impl<T: AsnType, const N: usize> AsnType for [T; N] {
-    ghost meaning = { list_type (λ a. a) (size_of N) T.meaning };
+    ghost meaning = { array_type N T.meaning };
 
     fn table() -> TypeTable {
         let constraints = Constraints::new(&[Constraint::from(Size::fixed(N))]);
@@ -22,5 +21,5 @@ impl<T: AsnType, const N: usize> AsnType for [T; N] {
 }
 
 impl<T: AsnType, const N: usize> Tagged for [T; N] {
-    ghost tagged = { list_tagged (λ a. a) T.meaning };
+    ghost tagged = { whole_tagged (list_tagged (λ a. a) T.meaning) };
 }

@@ -5,7 +5,7 @@ ghost use Rattle.asn1_tags.specs.Names.{name_of};
 ghost use Rattle.asn1_model.specs.declared.type_table.TreeForm.TheVariants.{Leaf};
 ghost use Rattle.asn1_model.specs.ConstraintSets.{constraint_set, values_of};
 ghost use Rattle.asn1_model.specs.Kinds.{integer_type};
-ghost use Rattle.asn1_model.specs.Laws.{scalar_tagged};
+ghost use Rattle.asn1_model.specs.Laws.{scalar_tagged, whole_tagged};
 ghost use Rattle.asn1_model.specs.Tags.{universal};
 
 use crate::asn_type::{AsnType, Tagged};
@@ -37,7 +37,7 @@ impl AsnType for u8 {
 }
 
 impl Tagged for u8 {
-    ghost tagged = { scalar_tagged };
+    ghost tagged = { whole_tagged scalar_tagged };
 }
 
 impl AsnType for u16 {
@@ -53,7 +53,7 @@ impl AsnType for u16 {
 }
 
 impl Tagged for u16 {
-    ghost tagged = { scalar_tagged };
+    ghost tagged = { whole_tagged scalar_tagged };
 }
 
 impl AsnType for u32 {
@@ -69,7 +69,7 @@ impl AsnType for u32 {
 }
 
 impl Tagged for u32 {
-    ghost tagged = { scalar_tagged };
+    ghost tagged = { whole_tagged scalar_tagged };
 }
 
 impl AsnType for u64 {
@@ -85,7 +85,7 @@ impl AsnType for u64 {
 }
 
 impl Tagged for u64 {
-    ghost tagged = { scalar_tagged };
+    ghost tagged = { whole_tagged scalar_tagged };
 }
 
 impl AsnType for usize {
@@ -101,7 +101,7 @@ impl AsnType for usize {
 }
 
 impl Tagged for usize {
-    ghost tagged = { scalar_tagged };
+    ghost tagged = { whole_tagged scalar_tagged };
 }
 
 impl AsnType for i8 {
@@ -117,7 +117,7 @@ impl AsnType for i8 {
 }
 
 impl Tagged for i8 {
-    ghost tagged = { scalar_tagged };
+    ghost tagged = { whole_tagged scalar_tagged };
 }
 
 impl AsnType for i16 {
@@ -133,7 +133,7 @@ impl AsnType for i16 {
 }
 
 impl Tagged for i16 {
-    ghost tagged = { scalar_tagged };
+    ghost tagged = { whole_tagged scalar_tagged };
 }
 
 impl AsnType for i32 {
@@ -149,7 +149,7 @@ impl AsnType for i32 {
 }
 
 impl Tagged for i32 {
-    ghost tagged = { scalar_tagged };
+    ghost tagged = { whole_tagged scalar_tagged };
 }
 
 impl AsnType for i64 {
@@ -165,7 +165,7 @@ impl AsnType for i64 {
 }
 
 impl Tagged for i64 {
-    ghost tagged = { scalar_tagged };
+    ghost tagged = { whole_tagged scalar_tagged };
 }
 
 impl AsnType for isize {
@@ -181,7 +181,7 @@ impl AsnType for isize {
 }
 
 impl Tagged for isize {
-    ghost tagged = { scalar_tagged };
+    ghost tagged = { whole_tagged scalar_tagged };
 }
 
 impl AsnType for i128 {
@@ -197,7 +197,7 @@ impl AsnType for i128 {
 }
 
 impl Tagged for i128 {
-    ghost tagged = { scalar_tagged };
+    ghost tagged = { whole_tagged scalar_tagged };
 }
 
 impl AsnType for u128 {
@@ -213,5 +213,5 @@ impl AsnType for u128 {
 }
 
 impl Tagged for u128 {
-    ghost tagged = { scalar_tagged };
+    ghost tagged = { whole_tagged scalar_tagged };
 }

@@ -2,7 +2,7 @@
 ghost use Rattle.std.specs.Prelude.{Some};
 ghost use Rattle.asn1_bounded.specs.declared.bounded.Bounded.TheVariants as bounded;
 ghost use Rattle.asn1_model.specs.Kinds.{integer_type, under_own_name};
-ghost use Rattle.asn1_model.specs.Laws.{scalar_tagged, own_name_tagged};
+ghost use Rattle.asn1_model.specs.Laws.{scalar_tagged, own_name_tagged, whole_tagged};
 
 use crate::asn_type::{AsnType, Tagged};
 use crate::impls::built_in_integers::integer_within;
@@ -24,5 +24,5 @@ impl<L: Limits> AsnType for LimitedInteger<L> {
 }
 
 impl<L: Limits> Tagged for LimitedInteger<L> {
-    ghost tagged = { own_name_tagged scalar_tagged };
+    ghost tagged = { own_name_tagged (whole_tagged scalar_tagged) };
 }

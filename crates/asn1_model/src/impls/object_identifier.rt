@@ -1,6 +1,6 @@
 //! OBJECT IDENTIFIER (X.680, 32).
 ghost use Rattle.asn1_model.specs.Kinds.{object_identifier};
-ghost use Rattle.asn1_model.specs.Laws.{scalar_tagged, unconstrained_tagged, own_name_tagged};
+ghost use Rattle.asn1_model.specs.Laws.{scalar_tagged, unconstrained_tagged, own_name_tagged, whole_tagged};
 
 use crate::asn_type::{AsnType, Tagged};
 use crate::type_table::TypeTable;
@@ -20,5 +20,5 @@ impl AsnType for ObjectIdentifier {
 }
 
 impl Tagged for ObjectIdentifier {
-    ghost tagged = { own_name_tagged (unconstrained_tagged scalar_tagged) };
+    ghost tagged = { unconstrained_tagged (own_name_tagged (whole_tagged scalar_tagged)) };
 }

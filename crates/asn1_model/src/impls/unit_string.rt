@@ -1,6 +1,6 @@
 //! Strings of any units, by their kind.
 ghost use Rattle.asn1_model.specs.Kinds.{string_type};
-ghost use Rattle.asn1_model.specs.Laws.{scalar_tagged, own_name_tagged};
+ghost use Rattle.asn1_model.specs.Laws.{scalar_tagged, own_name_tagged, whole_tagged};
 
 use crate::asn_type::{AsnType, Tagged};
 use crate::strings::StringType;
@@ -8,7 +8,7 @@ use crate::type_table::TypeTable;
 use asn1_values::UnitString;
 
 impl<U, K: StringType<U>> AsnType for UnitString<U, K> {
-    ghost meaning = { string_type K.own_tag K.own_name K.content };
+    ghost meaning = { string_type K.own_tag K.own_name K.IsUnit K.content };
 
     fn table() -> TypeTable {
         K::table()
@@ -20,5 +20,5 @@ impl<U, K: StringType<U>> AsnType for UnitString<U, K> {
 }
 
 impl<U, K: StringType<U>> Tagged for UnitString<U, K> {
-    ghost tagged = { own_name_tagged scalar_tagged };
+    ghost tagged = { own_name_tagged (whole_tagged scalar_tagged) };
 }

@@ -1,4 +1,5 @@
 //! The fields of INSTANCE OF: the name of the type, and the value [0] (X.681, annex C).
+ghost use Rattle.std.proofs.Common.{rules};
 ghost use Rattle.std.specs.Prelude.{[], ◌∷◌, codes, refl, false};
 ghost use Rattle.asn1_fields.specs.declared.presence.FieldPresence.TheVariants.{Required};
 ghost use Rattle.asn1_model.specs.Tags.{context, universal};
@@ -44,6 +45,8 @@ impl<T: AsnType> FieldTable for InstanceOf<T> {
     fn added_fields() -> &'static [Field<'static>] {
         &[]
     }
+
+    ghost additions_optional = { Prim.search rules };
 }
 
 impl<T: AsnType> Constructed<2, 0> for InstanceOf<T> {

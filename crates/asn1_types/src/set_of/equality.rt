@@ -1,10 +1,10 @@
 //! Equality of sets, by counting, and the hash that goes with it.
-ghost use Rattle.std.specs.Prelude.{◌≡◌, ◌==◌, length, position};
+ghost use Rattle.std.specs.Prelude.{◌≡◌, ◌==◌, ◌↔◌, IsTrue, length, position};
 ghost use Rattle.std.specs.Cmp.{partial_equiv_from_equiv};
 ghost use Rattle.std.specs.Hash as fed;
 ghost use Rattle.std.specs.List.{list_all};
 ghost use Rattle.std.proofs.Common.{ap};
-ghost use Rattle.asn1_types.specs.Multisets.{count_of, same_counts};
+ghost use Rattle.asn1_types.specs.Multisets.{count_of, same_counts, SameElements};
 ghost use Rattle.asn1_types.specs.MultisetLaws.{same_length, same_counts-equiv};
 
 use super::SetOf;
@@ -32,10 +32,18 @@ fn stand_as_often<T: Eq>(elements: &[T], others: &[T]) -> bool
 }
 
 /// Whether both are as long, and each of the elements stands as often among the others.
-pub(super) fn have_same_counts<T: Eq>(elements: &[T], others: &[T]) -> bool
+fn have_same_counts<T: Eq>(elements: &[T], others: &[T]) -> bool
     ensures { result ≡ same_counts T.eq elements.now others.now }
 {
     elements.len() == others.len() && stand_as_often(elements, others)
+}
+
+/// Whether both have the same elements, each as often, in any order.
+pub(super) fn have_same_elements<T: Eq>(elements: &[T], others: &[T]) -> bool
+    ensures counts { result ≡ same_counts T.eq elements.now others.now }
+    ensures same { IsTrue result ↔ SameElements T.eq elements.now others.now }
+{
+    have_same_counts(elements, others)
 }
 
 impl<T: Eq> PartialEq for SetOf<T> {
@@ -43,8 +51,11 @@ impl<T: Eq> PartialEq for SetOf<T> {
 
     ghost laws = { partial_equiv_from_equiv (same_counts-equiv T.Eq.laws) };
 
-    fn eq(&self, other: &Self) -> bool {
-        have_same_counts(&self.elements, &other.elements)
+    fn eq(&self, other: &Self) -> bool
+        ensures counts { result ≡ same_counts T.eq self.now other.now }
+        ensures same { IsTrue result ↔ SameElements T.eq self.now other.now }
+    {
+        have_same_elements(&self.elements, &other.elements)
     }
 }
 

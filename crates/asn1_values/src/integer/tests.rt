@@ -23,6 +23,12 @@ fn a_number_has_one_form(rt: HostRuntime) -> Result<(), Fail> {
     assert_eq!(rt; negative_zero, Integer::from_i128(0));
     let zero = Integer::from_sign_magnitude(rt.alloc(), false, &[])?;
     assert_eq!(rt; zero.to_i128(), Some(0));
+
+    let mut magnitude = [0xff; 16];
+    magnitude[0] = 0x7f;
+    let greatest = Integer::from_sign_magnitude(rt.alloc(), false, &magnitude)?;
+    assert_eq!(rt; greatest, Integer::from_i128(i128::MAX));
+    assert_eq!(rt; greatest.to_i128(), Some(i128::MAX));
     Ok(())
 }
 
@@ -57,6 +63,22 @@ fn gives_sign_and_magnitude_back(rt: HostRuntime) -> Result<(), Fail> {
     assert!(rt; !negative);
     assert!(rt; bytes.is_empty());
     Ok(())
+}
+
+/// Also where an allocation fails: a number of 128 bits takes no memory, and a wider one is there whole or not at all.
+#[test]
+fn a_refused_growth_leaves_the_number(rt: HostRuntime) {
+    let alloc = rt.alloc();
+    let narrow = Integer::from_sign_magnitude(alloc, true, &TWO_TO_127);
+    assert!(rt; narrow.is_ok_and(|number| number == Integer::from_i128(i128::MIN)));
+    if let Ok(wide) = Integer::from_sign_magnitude(alloc, true, &[1; 17]) {
+        if let Ok((negative, bytes)) = wide.sign_magnitude(alloc) {
+            assert!(rt; negative);
+            assert_eq!(rt; bytes.as_slice(), [1; 17].as_slice());
+        }
+        assert!(rt; wide.is_negative());
+        assert_eq!(rt; wide.to_i128(), None);
+    }
 }
 
 #[test]

@@ -68,6 +68,17 @@ fn unsigned_types_have_their_numbers(rt: HostRuntime) -> Result<(), Fail> {
     Ok(())
 }
 
+/// Also where an allocation fails.
+#[test]
+fn a_refused_growth_leaves_the_value(rt: HostRuntime) {
+    let alloc = rt.alloc();
+    let narrow = 7u8.to_integer(alloc);
+    assert!(rt; narrow.is_ok_and(|number| number == Integer::from_i128(7)));
+    if let Ok(wide) = u128::MAX.to_integer(alloc) {
+        assert_eq!(rt; u128::try_from_integer(wide), Some(u128::MAX));
+    }
+}
+
 #[test]
 fn signed_types_have_their_numbers(rt: HostRuntime) -> Result<(), Fail> {
     let alloc = rt.alloc();

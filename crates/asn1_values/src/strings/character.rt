@@ -159,6 +159,11 @@ mod tests {
         assert!(rt; empty.as_slice().is_empty());
         let smile = BmpString::new(vec![in alloc; 0xd83d, 0xde00]?);
         assert_eq!(rt; smile.as_slice(), [0xd83d, 0xde00].as_slice());
+        let text = TeletexString::new(vec![in alloc; u32::MAX]?);
+        assert_eq!(rt; text.as_slice(), [u32::MAX].as_slice());
+        let general = GeneralString::new(vec![in alloc; 0, 0xff]?);
+        let graphic = GraphicString::new(vec![in alloc; 0, 0xff]?);
+        assert_eq!(rt; general.as_slice(), graphic.as_slice());
         Ok(())
     }
 
