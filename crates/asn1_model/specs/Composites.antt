@@ -40,18 +40,18 @@ choice_records chosen rs own_constraints own_name t c n =
 abbrev pub raw_records : Name → List ℕ → List Record
 raw_records n bytes = raw n bytes ∷ []
 
--- A component that may be absent (X.680, 25.4) is a mark that says so, or one that says that it is there, and its
+-- A component that may be absent (X.680, 25.1) is a mark that says so, or one that says that it is there, and its
 -- records.
 abbrev pub option_records : Tag → Option (List Record) → List Record
 option_records t None = mark (absent t) ∷ []
 option_records t (Some rs) = mark (present t) ∷ rs
 
--- A component with a default (X.680, 25.4) is absent where it equals that.
+-- A component with a default (X.680, 25.1) is absent where it equals that, as canonical encodings ask (X.690, 11.5).
 abbrev pub default_records : Bool → Tag → List Record → List Record
 default_records is_default t rs = option_records t (if is_default then None else Some rs)
 
 -- An extension addition group stands between two marks. It is absent where there is none, and where its components are
--- marks alone (X.680, 25.4 and 25.5).
+-- marks alone, as PER has it (X.691, 19.9).
 abbrev pub group_records : Option (List Record) → List Record
 group_records None = mark group_absent ∷ []
 group_records (Some components) =

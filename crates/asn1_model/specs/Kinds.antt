@@ -1,6 +1,7 @@
 -- The kinds of type, and what each of them means.
 use Rattle.std.specs.Prelude.{◌≡◌, ℕ, ℤ, ◌<◌, ◌^◌, ⊤, true, false, is_some, IsTrue, List, [], ◌∷◌, length, Option, None, Some, IfSome, All, codes, if◌then◌else◌}
 use Rattle.std.specs.List.{flat_map}
+use Rattle.std.specs.Str.{IsUtf8}
 use Rattle.std.specs.Option.{option_map}
 use Rattle.asn1_tags.specs.declared.tags.Tag.{Tag}
 use Rattle.asn1_tags.specs.Tags.{tag_eq, distinct}
@@ -8,9 +9,9 @@ use Rattle.asn1_tags.specs.Trees.{Tree, Trees, leaf, choice, leaves}
 use Rattle.asn1_bounded.specs.Members.{IsMember}
 use Rattle.asn1_bounded.specs.declared.bounded.Bounded.{Bounded}
 use Rattle.asn1_model.specs.ConstraintSets.{ConstraintSet, unconstrained, values_of, size_of}
-use Rattle.asn1_model.specs.Records.{Name, Record, name_or, Content, Head, arcs, number, null, units, utf8, scalar, discriminant, holding, sequence, set}
+use Rattle.asn1_model.specs.Records.{Name, Record, name_or, Content, Head, arcs, number, null, units, utf8, scalar, discriminant, holding, sequence, set, sequence_of}
 use Rattle.asn1_model.specs.Tags.{universal, CHOICE, IsATag, IsOne, only}
-use Rattle.asn1_model.specs.Composites.{option_records, list_records, choice_records}
+use Rattle.asn1_model.specs.Composites.{option_records, choice_records}
 use Rattle.asn1_model.specs.Meaning.{Meaning, own_records, IsSound}
 
 -- A type whose values are contents, each of them one record.
@@ -42,9 +43,11 @@ abbrev pub string_type : {U : Type 0} → Tag → List ℕ → (U → Type 0) �
 string_type tag name IsUnit content =
     under_own_name (record (scalar_type tag unconstrained (Some name) content) { IsWhole = λ _ units. All IsUnit units })
 
--- A UTF8String (X.680, 41), by its bytes.
+-- A UTF8String (X.680, 41), by its bytes, which are those of a text.
 abbrev pub utf8_string : {V : Type 0} → (V → List ℕ) → Meaning V
-utf8_string bytes = under_own_name (scalar_type (universal 12) unconstrained (Some (codes "UTF8String")) (λ v. units utf8 (bytes v)))
+utf8_string bytes = under_own_name (record (scalar_type (universal 12) unconstrained (Some (codes "UTF8String")) (λ v. units utf8 (bytes v))) {
+  IsWhole = λ _ v. IsUtf8 (bytes v);
+})
 
 -- An OBJECT IDENTIFIER (X.680, 32), whose arcs have 32 bits.
 abbrev pub object_identifier : Meaning (List ℕ)
@@ -75,7 +78,7 @@ through target m = record {
   IsWhole = λ Takes w. m.IsWhole Takes (target w);
 }
 
--- A component that may be absent (X.680, 25.4). It is no record of its own where it is absent, so it stands directly as
+-- A component that may be absent (X.680, 25.1). It is no record of its own where it is absent, so it stands directly as
 -- a component.
 abbrev pub option_type : {V : Type 0} → Meaning V → Meaning (Option V)
 option_type m = record {
@@ -91,20 +94,40 @@ option_type m = record {
   IsWhole = λ Takes o. IfSome o (m.IsWhole Takes);
 }
 
--- A SEQUENCE OF (X.680, 26).
-abbrev pub list_type : {V W : Type 0} → (W → List V) → ConstraintSet → Meaning V → Meaning W
-list_type elements constraints m = under_own_name (record {
-  tag = universal 16;
-  name = Some (codes "SEQUENCE_OF");
+-- A type whose value is one record that holds others: by the head of that record, the type's tag, constraints and name,
+-- the records that stand inside, whether what stands there is sound, with distinct tags, and whether it is whole.
+abbrev pub scope_type : {V : Type 0} → (Tag → ConstraintSet → Name → Head) →
+    Tag → ConstraintSet → Name → (V → List Record) → Type 0 → ((List ℕ → Type 0) → V → Type 0) → Meaning V
+scope_type head tag constraints name inside AreSound AreWhole = record {
+  tag = tag;
+  name = name;
   constraints = constraints;
   tree = leaf;
   is_choice = false;
   is_present = λ _. true;
-  records = λ w t c n. list_records t c n (flat_map (own_records m) (elements w));
+  records = λ v t c n. holding (head t c n) (inside v) ∷ [];
   IsSolid = ⊤;
-  IsWellTagged = λ t. IsATag t × IsSound m;
-  IsWhole = λ Takes w. All (m.IsWhole Takes) (elements w);
-})
+  IsWellTagged = λ t. IsATag t × AreSound;
+  IsWhole = AreWhole;
+}
+
+-- A type of elements of one type, by the head of its record, its tag, name and constraints.
+abbrev pub elements_type : {V W : Type 0} → (Tag → ConstraintSet → Name → Head) →
+    Tag → List ℕ → ConstraintSet → (W → List V) → Meaning V → Meaning W
+elements_type head tag name constraints elements m =
+    under_own_name (
+    scope_type
+    head
+    tag
+    constraints
+    (Some name)
+    (λ w. flat_map (own_records m) (elements w))
+    (IsSound m)
+    (λ Takes w. All (m.IsWhole Takes) (elements w)))
+
+-- A SEQUENCE OF (X.680, 26).
+abbrev pub list_type : {V W : Type 0} → (W → List V) → ConstraintSet → Meaning V → Meaning W
+list_type elements constraints = elements_type sequence_of (universal 16) (codes "SEQUENCE_OF") constraints elements
 
 -- A SEQUENCE OF so many elements.
 abbrev pub array_type : {V : Type 0} → ℕ → Meaning V → Meaning (List V)
@@ -136,32 +159,16 @@ abbrev pub enumerated_type : {V : Type 0} → Tag → ConstraintSet → Name →
 enumerated_type tag constraints name number_of =
     without_constraints (scalar_type tag constraints name (λ v. discriminant (number_of v)))
 
--- A type of components, by the head of its record, its tag, constraints and name, the records of a value's components,
--- whether these have distinct tags and are sound, and whether they are whole.
-abbrev pub components_type : {V : Type 0} → (Tag → Name → Head) →
-    Tag → ConstraintSet → Name → (V → List Record) → Type 0 → ((List ℕ → Type 0) → V → Type 0) → Meaning V
-components_type head tag constraints name components AreDistinct AreWhole = record {
-  tag = tag;
-  name = name;
-  constraints = constraints;
-  tree = leaf;
-  is_choice = false;
-  is_present = λ _. true;
-  records = λ v t c n. holding (head t n) (components v) ∷ [];
-  IsSolid = ⊤;
-  IsWellTagged = λ t. IsATag t × AreDistinct;
-  IsWhole = AreWhole;
-}
-
 -- A SEQUENCE (X.680, 25), whose components that may be absent have tags that those behind them have not, and a SET
--- (X.680, 27), whose components all have distinct tags.
+-- (X.680, 27), whose components all have distinct tags: by its tag, constraints and name, the records of a value's
+-- components, whether these have distinct tags and are sound, and whether they are whole.
 abbrev pub sequence_type : {V : Type 0} →
     Tag → ConstraintSet → Name → (V → List Record) → Type 0 → ((List ℕ → Type 0) → V → Type 0) → Meaning V
-sequence_type = components_type sequence
+sequence_type = scope_type (λ t c n. sequence t n)
 
 abbrev pub set_type : {V : Type 0} →
     Tag → ConstraintSet → Name → (V → List Record) → Type 0 → ((List ℕ → Type 0) → V → Type 0) → Meaning V
-set_type = components_type set
+set_type = scope_type (λ t c n. set t n)
 
 -- the tags with which a CHOICE can begin: those of its alternatives where it is untagged, else the tag alone (X.680, 29)
 abbrev pub choice_tree : Tree → Tag → Tree

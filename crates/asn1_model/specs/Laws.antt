@@ -1,12 +1,12 @@
 -- The law of types, for each kind of type.
-use Rattle.std.specs.Prelude.{◌≡◌, ℕ, zero, suc, Bool, true, false, List, [], ◌∷◌, Contains, Some, codes, refl, if◌then◌else◌}
+use Rattle.std.specs.Prelude.{◌≡◌, ℕ, zero, suc, Bool, true, false, List, [], ◌∷◌, Contains, refl, if◌then◌else◌}
 use Rattle.std.proofs.Common.{arith, subst, sym}
 use Rattle.std.specs.List.{flat_map}
 use Rattle.asn1_tags.specs.declared.tags.Tag.{Tag}
 use Rattle.asn1_model.specs.ConstraintSets.{ConstraintSet, unconstrained}
 use Rattle.asn1_model.specs.Records.{Name, name_or, Content, Head, scalar, holding, sequence_of, prefix, alternative as alternative_head, Record}
 use Rattle.asn1_model.specs.Meaning.{Meaning, IsTagged, own_records}
-use Rattle.asn1_model.specs.Kinds.{scalar_type, without_constraints, under_own_name, through, option_type, list_type, empty_type, components_type, choice_type}
+use Rattle.asn1_model.specs.Kinds.{scalar_type, without_constraints, under_own_name, through, option_type, elements_type, list_type, empty_type, scope_type, choice_type}
 use Rattle.asn1_model.specs.Composites.{alternative_records, prefix_records}
 use Rattle.asn1_model.specs.Tags.{CHOICE, Has, LiesIn, only, head_tag, tree_tags, IsOne}
 use Rattle.asn1_tags.specs.Tags.{tag_eq}
@@ -38,29 +38,27 @@ option_tagged m = record { one = λ v t c n solid _. absurd solid }
 pub empty_tagged : {V : Type 0} → IsTagged {V = V} empty_type
 empty_tagged = record { one = λ v t c n solid _. absurd solid }
 
-pub list_tagged : {V W : Type 0} {constraints : ConstraintSet} (elements : W → List V) (m : Meaning V) →
-    IsTagged (list_type elements constraints m)
-list_tagged elements m = record {
-  one = λ w t c n _ _. record {
-    item = holding (sequence_of t c (name_or n (Some (codes "SEQUENCE_OF")))) (flat_map (own_records m) (elements w));
+-- a record that holds others, where its head has the tag that the type is written under
+pub scope_tagged : {V : Type 0} {head : Tag → ConstraintSet → Name → Head} {tag : Tag} {constraints : ConstraintSet} {name : Name}
+    {AreSound : Type 0} {AreWhole : (List ℕ → Type 0) → V → Type 0} (inside : V → List Record) →
+    ((t : Tag) (c : ConstraintSet) (n : Name) → head_tag (head t c n) ≡ t) → IsTagged (scope_type head tag constraints name inside AreSound AreWhole)
+scope_tagged {head = head} inside at = record {
+  one = λ v t c n _ _. record {
+    item = holding (head t c n) (inside v);
     alone = refl;
     no_mark = refl;
-    within = λ _ h. h;
+    within = subst (λ u. LiesIn (only u) (only t)) (sym (at t c n)) (λ _ h. h);
   };
 }
 
--- where the head has the tag that the type is written under
-pub components_tagged : {V : Type 0} {head : Tag → Name → Head} {tag : Tag} {constraints : ConstraintSet} {name : Name} {AreDistinct : Type 0}
-    {AreWhole : (List ℕ → Type 0) → V → Type 0} (components : V → List Record) →
-    ((t : Tag) (n : Name) → head_tag (head t n) ≡ t) → IsTagged (components_type head tag constraints name components AreDistinct AreWhole)
-components_tagged {head = head} components at = record {
-  one = λ v t c n _ _. record {
-    item = holding (head t n) (components v);
-    alone = refl;
-    no_mark = refl;
-    within = subst (λ u. LiesIn (only u) (only t)) (sym (at t n)) (λ _ h. h);
-  };
-}
+pub elements_tagged : {V W : Type 0} (head : Tag → ConstraintSet → Name → Head) {tag : Tag} {name : List ℕ} {constraints : ConstraintSet}
+    (elements : W → List V) (m : Meaning V) → ((t : Tag) (c : ConstraintSet) (n : Name) → head_tag (head t c n) ≡ t) →
+    IsTagged (elements_type head tag name constraints elements m)
+elements_tagged head elements m at = own_name_tagged (scope_tagged {head = head} (λ w. flat_map (own_records m) (elements w)) at)
+
+pub list_tagged : {V W : Type 0} {constraints : ConstraintSet} (elements : W → List V) (m : Meaning V) →
+    IsTagged (list_type elements constraints m)
+list_tagged elements m = elements_tagged sequence_of elements m (λ _ _ _. refl)
 
 -- what stands in a list of one tag is that tag
 alone_in : (t u : Tag) → Contains (t ∷ []) u → t ≡ u

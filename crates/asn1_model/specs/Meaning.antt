@@ -20,14 +20,15 @@ pub record Meaning (V : Type 0) : Type 1 where
   pub is_present : V → Bool
   -- what a value is under a tag, constraints and a name
   pub records : V → Tag → ConstraintSet → Name → List Record
-  -- each value is one record: so for every type but an option, which may be absent, and a type without any content
+  -- each value is one record: so for every type but an option, which may be absent, a type without any content, and what
+  -- holds one of these and means the same
   pub IsSolid : Type 0
   -- the type can be written under this tag; where it has components or alternatives, these have distinct tags (X.680,
   -- 25.6, 27.3 and 29.3); and what stands in it is sound
   pub IsWellTagged : Tag → Type 0
-  -- the value is one that a program can hold: its numbers are within the bounds of their types, its strings have units
-  -- of their kinds, its arrays are as long as they say; and each open type in it is one value of the codec, which takes
-  -- the byte strings of a set as one value each
+  -- the value is one that its types allow: its numbers are within the range of their types, its strings have the units
+  -- of their kinds (a UTF8String the bytes of a text), its arrays are as long as they say; and each open type in it is
+  -- one value of the codec, which takes the byte strings of a set as one value each
   pub IsWhole : (List ℕ → Type 0) → V → Type 0
 
 module _ {V : Type 0} (m : Meaning V) where

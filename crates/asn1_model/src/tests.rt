@@ -1,7 +1,7 @@
 //! What the definitions give for values of a few types, each written out by hand, and the tables of a type of each kind.
 //!
 //! The clauses of the functions without a body are worked examples: the prover computes the definitions on them.
-ghost use Rattle.std.specs.Prelude.{◌≡◌, ⊤, pos, true, false, List, [], ◌∷◌, ◌++◌, None, Some, codes};
+ghost use Rattle.std.specs.Prelude.{◌≡◌, ◌^◌, ⊤, pos, true, false, List, [], ◌∷◌, ◌++◌, None, Some, codes};
 ghost use Rattle.std.specs.String.{string_bytes};
 ghost use Rattle.asn1_bounded.specs.declared.bounded.Bounded.TheVariants.{Range};
 ghost use Rattle.asn1_model.specs.Composites.{sequence_records, set_records, default_records, group_records, option_records, choice_records, prefix_records};
@@ -134,6 +134,7 @@ fn kinds()
 fn whole_values()
     ensures octet { ⟦<u8 as AsnType>⟧.meaning.IsWhole (λ _. ⊤) 255 }
     ensures above_an_octet { ¬ ⟦<u8 as AsnType>⟧.meaning.IsWhole (λ _. ⊤) 256 }
+    ensures above_u128 { ¬ ⟦<u128 as AsnType>⟧.meaning.IsWhole (λ _. ⊤) (2 ^ 128) }
     ensures above_the_limit { ¬ ⟦<ConstrainedInteger<1, 10> as AsnType>⟧.meaning.IsWhole (λ _. ⊤) (pos 11) }
     ensures a_pair { ⟦<[u8; 2] as AsnType>⟧.meaning.IsWhole (λ _. ⊤) (1 ∷ 2 ∷ []) }
     ensures no_pair { ¬ ⟦<[u8; 2] as AsnType>⟧.meaning.IsWhole (λ _. ⊤) (1 ∷ 2 ∷ 3 ∷ []) }

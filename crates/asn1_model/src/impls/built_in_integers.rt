@@ -1,5 +1,5 @@
 //! The built-in integers: an INTEGER (X.680, 19) within the bound of the type.
-ghost use Rattle.std.specs.Prelude.{◌≡◌, pos, negsuc, None, Some, codes};
+ghost use Rattle.std.specs.Prelude.{◌≡◌, ◌<◌, ◌^◌, pos, negsuc, None, Some, codes};
 ghost use Rattle.asn1_bounded.specs.declared.bounded.Bounded.TheVariants as bounded;
 ghost use Rattle.asn1_tags.specs.Names.{name_of};
 ghost use Rattle.asn1_model.specs.declared.type_table.TreeForm.TheVariants.{Leaf};
@@ -201,7 +201,8 @@ impl Tagged for i128 {
 }
 
 impl AsnType for u128 {
-    ghost meaning = { integer_type pos (bounded.Range (Some (pos 0)) None) };
+    // Its numbers end with 128 bits, and its bound does not say so.
+    ghost meaning = { record (integer_type pos (bounded.Range (Some (pos 0)) None)) { IsWhole = λ _ n. n < 2 ^ 128 } };
 
     fn table() -> TypeTable {
         integer_within(Bounded::start_from(0))

@@ -5,7 +5,7 @@ ghost use Rattle.asn1_tags.specs.Trees.{leaf};
 ghost use Rattle.asn1_tags.specs.declared.tags.Tag.{Tag};
 ghost use Rattle.asn1_model.specs.ConstraintSets.{constraint_set, unconstrained};
 ghost use Rattle.asn1_model.specs.Kinds.{utf8_string};
-ghost use Rattle.asn1_model.specs.Laws.{scalar_tagged, own_name_tagged};
+ghost use Rattle.asn1_model.specs.Laws.{scalar_tagged, own_name_tagged, whole_tagged};
 ghost use Rattle.asn1_model.specs.Tags.{universal};
 ghost use Rattle.asn1_model.specs.TypeTables.{tree_under, is_of_choice};
 
@@ -34,5 +34,5 @@ impl AsnType for &str {
 }
 
 impl Tagged for &str {
-    ghost tagged = { own_name_tagged scalar_tagged };
+    ghost tagged = { own_name_tagged (whole_tagged scalar_tagged) };
 }

@@ -1,7 +1,7 @@
 //! UTF8String (X.680, 41).
 ghost use Rattle.std.specs.String.{string_bytes};
 ghost use Rattle.asn1_model.specs.Kinds.{utf8_string};
-ghost use Rattle.asn1_model.specs.Laws.{scalar_tagged, own_name_tagged};
+ghost use Rattle.asn1_model.specs.Laws.{scalar_tagged, own_name_tagged, whole_tagged};
 
 use crate::asn_type::{AsnType, Tagged};
 use crate::type_table::TypeTable;
@@ -20,5 +20,5 @@ impl AsnType for String {
 }
 
 impl Tagged for String {
-    ghost tagged = { own_name_tagged scalar_tagged };
+    ghost tagged = { own_name_tagged (whole_tagged scalar_tagged) };
 }
