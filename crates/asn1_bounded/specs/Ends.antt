@@ -22,11 +22,13 @@ module _ {T : Type 0} where
   range_start (bounded.Single v) = None
   range_start (bounded.Range start end) = start
 
+  -- the bound is a single
   abbrev pub is_single : Bounded T → Bool
   is_single bounded.None = false
   is_single (bounded.Single v) = true
   is_single (bounded.Range start end) = false
 
+  -- the bound is a range
   abbrev pub is_range : Bounded T → Bool
   is_range bounded.None = false
   is_range (bounded.Single v) = false

@@ -12,6 +12,7 @@ pub data Refusal : Type 0 where
   wrong_content : List ℕ → Refusal
   no_memory : Refusal
 
+-- an error, with the text of the name
 abbrev pub refusal_of : InnerSubtypeConstraintError → Refusal
 refusal_of (error.Missing name) = missing name.now
 refusal_of (error.Unexpected name) = unexpected name.now

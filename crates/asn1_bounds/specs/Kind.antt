@@ -9,6 +9,7 @@ use Rattle.asn1_bounds.specs.declared.constraint.Constraint.TheVariants as const
 use Rattle.asn1_bounds.specs.declared.constraint.ConstraintDiscriminant.{ConstraintDiscriminant}
 use Rattle.asn1_bounds.specs.declared.constraint.ConstraintDiscriminant.TheVariants as kind
 
+-- the kind of a constraint
 abbrev pub kind_of : Constraint → ConstraintDiscriminant
 kind_of (constraint.Value part) = kind.Value
 kind_of (constraint.Size part) = kind.Size
@@ -22,18 +23,21 @@ index_of (constraint.Size part) = 1
 index_of (constraint.PermittedAlphabet part) = 2
 index_of constraint.Extensible = 3
 
+-- its part on values, where it is of that kind
 abbrev pub value_of : Constraint → Option (Extensible Value)
 value_of (constraint.Value part) = Some part
 value_of (constraint.Size part) = None
 value_of (constraint.PermittedAlphabet part) = None
 value_of constraint.Extensible = None
 
+-- its part on lengths, where it is of that kind
 abbrev pub size_of : Constraint → Option (Extensible Size)
 size_of (constraint.Value part) = None
 size_of (constraint.Size part) = Some part
 size_of (constraint.PermittedAlphabet part) = None
 size_of constraint.Extensible = None
 
+-- its part on characters, where it is of that kind
 abbrev pub alphabet_of : Constraint → Option (Extensible PermittedAlphabet)
 alphabet_of (constraint.Value part) = None
 alphabet_of (constraint.Size part) = None

@@ -33,7 +33,8 @@ impl<'a> Constraints<'a> {
         extensible: false,
     };
 
-    /// The set of these constraints: those of one kind restrict together.
+    /// The set of these constraints. Those on values restrict together, and so do those on lengths; of several permitted
+    /// alphabets the last is kept.
     pub fn new(constraints: &[Constraint<'a>]) -> Self
         ensures parts { result ≡ set_of_all constraints.now }
 
@@ -74,7 +75,7 @@ impl<'a> Constraints<'a> {
         }
     }
 
-    /// What both sets leave.
+    /// What both sets leave of values and of lengths, with the other's permitted alphabet where it has one.
     pub fn intersect(&self, other: Self) -> Self
         ensures parts { result ≡ set_intersection self.now other.entry }
         ensures values { (n : ℤ) → AdmitsValue result n ↔

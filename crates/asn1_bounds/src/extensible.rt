@@ -16,11 +16,12 @@ pub struct Extensible<'a, T> {
     pub extensible: Option<&'a [T]>,
 }
 
-/// A kind of constraint, of which two restrict together.
+/// A kind of constraint, of which one can stand for two.
 pub trait Intersect: Copy {
+    // The constraint that stands for both.
     ghost intersection: { Self → Self → Self };
 
-    /// What both constraints leave.
+    /// The constraint that stands for both: for values and lengths what both leave, for permitted alphabets the other.
     fn intersect(&self, other: &Self) -> Self
         ensures { result ≡ intersection self.now other.now };
 }

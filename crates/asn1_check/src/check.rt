@@ -20,7 +20,7 @@ const BUFFER_LENGTH: usize = 32 * 1024;
 /// failed.
 ///
 /// An interrupted read is tried again. A read that fails, or 2^64 - 1 reads that meet no end of the input, answer
-/// [`CheckError::Reading`], want of memory answers [`CheckError::Memory`], and after either the text for all earlier lines
+/// [`CheckError::Reading`], where memory runs out it answers [`CheckError::Memory`], and after either the text for all earlier lines
 /// is written; a table that is open then has neither its verdict nor `not checked`. After [`CheckError::Writing`] nothing is
 /// known of what is written.
 pub fn check<R: Read, W: Write>(

@@ -62,7 +62,7 @@ impl Checker {
         Ok(())
     }
 
-    // Writes the text for the line, and begins the next. Where memory is wanted, nothing is written.
+    // Writes the text for the line, and begins the next. Where memory runs out, nothing is written.
     fn end_line<W: Write>(&mut self, writer: &mut W) -> Result<(), CheckError>
         ensures state { OnOk result (state_held self.new ≡ behind_line (state_held self.old)) }
         ensures text { OnOk result (Appends (W.contents writer.old) (W.contents writer.new)
@@ -89,7 +89,7 @@ impl Checker {
         Ok(())
     }
 
-    // Writes the text for the line, and for the end of the input. Where memory is wanted, nothing is written.
+    // Writes the text for the line, and for the end of the input. Where memory runs out, nothing is written.
     fn end_input<W: Write>(&mut self, writer: &mut W) -> Result<(), CheckError>
         ensures understood { OnOk result (self.new.all_understood ≡ all_was_understood (state_held self.old)) }
         ensures text { OnOk result (Appends (W.contents writer.old) (W.contents writer.new) (last_text (state_held self.old))) }

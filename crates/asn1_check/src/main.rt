@@ -10,7 +10,7 @@
 //!
 //! * `report`: what is written is `report` of what was read, the one definition in `specs/Report.antt`;
 //! * `understood`: the answer is true exactly if each line was understood, and each table had its `end`;
-//! * `reading`, `memory`: what stands written where a read failed or memory was wanted.
+//! * `reading`, `memory`: what stands written after a failed read, and after memory ran out.
 //!
 //! The words of the definition: `specs/Lines.antt` has the lines of an input, `specs/Parts.antt` the parts of a line,
 //! `specs/Names.antt` names and numbers, `specs/Grammar.antt` tags, trees, bounds and what a line may say, `specs/Tables.antt` tables

@@ -1,4 +1,4 @@
--- The canonical order of components (X.680, 8.6): by the smallest of each one's tags.
+-- The canonical order of components: by the smallest tag of each (X.690, 9.3), in the order of tags (X.680, 8.6).
 use Rattle.std.specs.Prelude.{◌≡◌, ◌≢◌, ℕ, ◌+◌, Bool, true, ◌&&◌, List, [], ◌∷◌, AllPairs, IsPermutation, Some, map, slice_get}
 use Rattle.std.specs.Ordering.{is_le}
 use Rattle.asn1_tags.specs.Tags.{IsAtMost, smallest, tag_cmp}

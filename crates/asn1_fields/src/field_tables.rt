@@ -9,8 +9,10 @@ use crate::tables::Fields;
 
 /// The fields of a SEQUENCE or a SET type: those of its root in the order of its table, and then its additions.
 pub trait FieldTable {
+    // The fields of the root, in order.
     ghost root: { List Entry };
 
+    // The additions, in order.
     ghost additions: { List Entry };
 
     /// The fields of the root.
@@ -39,11 +41,13 @@ pub trait FieldTable {
         }
     }
 
+    // Each addition may be absent.
     ghost additions_optional: { All (λ entry. entry.presence ≡ Optional) additions };
 }
 
 /// A type with a table of `RL` fields of the root and `EL` additions.
 pub trait Constructed<const RL: usize, const EL: usize>: FieldTable {
+    // Whether there is an extension marker.
     ghost extensible: { Bool };
 
     /// Whether the type has an extension marker.

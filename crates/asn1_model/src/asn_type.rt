@@ -77,5 +77,6 @@ pub trait AsnType {
 /// A type whose values are told apart by its tags: a value of a type that is no option, and whose contents are
 /// well tagged, is one record, and begins with one of the type's tags.
 pub trait Tagged: AsnType {
+    // The law.
     ghost tagged: { IsTagged Self.meaning };
 }

@@ -14,8 +14,10 @@ use asn1_values::{Bits, Bmp, General, Graphic, Ia5, Numeric, Octets, Printable, 
 
 /// What a kind of string is in a schema, as the kind's marker says it.
 pub trait StringType<U> {
+    // The tag that X.680 gives the kind (8.4, table 1).
     ghost own_tag: { Tag };
 
+    // Its name.
     ghost own_name: { List ℕ };
 
     // The units that a string of the kind can hold.
