@@ -10,22 +10,9 @@ use Rattle.std.proofs.lemmas.Option.{slice_get_within}
 use Rattle.asn1_fields.specs.Components.{Component, may_be_absent}
 use Rattle.asn1_fields.specs.Clash.{sequence_clash, set_clash, share_tag, up_to_required, IsLeast, IsSetClash}
 use Rattle.asn1_fields.proofs.Clashes.{set_clash-is}
+use Rattle.asn1_fields.proofs.Searches.{shifted, shifted-shifted}
 use Rattle.asn1_check.specs.declared.field.Field.{Field}
 use Rattle.asn1_check.specs.HeldFields.{component_held, components_held}
-
--- a pair of places that are counted from further on
-abbrev pub shifted : ℕ → Option (ℕ × ℕ) → Option (ℕ × ℕ)
-shifted n r = option_map (λ p. (p.0 + n, p.1 + n)) r
-
-shifted-suc : (n : ℕ) (r : Option (ℕ × ℕ)) → shifted 1 (shifted n r) ≡ shifted (suc n) r
-shifted-suc n None = refl
-shifted-suc n (Some p) = λ i. Some (first i, second i)
-  where
-    first : p.0 + n + 1 ≡ p.0 + suc n
-    first = omega arith
-
-    second : p.1 + n + 1 ≡ p.1 + suc n
-    second = omega arith
 
 or_assoc : (a b c : Option (ℕ × ℕ)) → option_or a (option_or b c) ≡ option_or (option_or a b) c
 or_assoc None b c = refl
@@ -53,10 +40,11 @@ clash_by_runs (c ∷ cs) = by_test (may_be_absent c.presence) refl (clash_by_run
         let run = up_to_required cs in
         let n = length run in
         let behind = sequence_clash (drop n cs) in
+        let longer : 1 + n ≡ suc n = omega arith in
         ap (λ r. option_or (here run) (shifted 1 r)) rest
         ∙ (ap (option_or (here run)) (shifted-or (set_clash run) (shifted n behind))
         ∙ (or_assoc (here run) (shifted 1 (set_clash run)) (shifted 1 (shifted n behind))
-        ∙ ap (option_or (set_clash (c ∷ run))) (shifted-suc n behind)))
+        ∙ ap (option_or (set_clash (c ∷ run))) (shifted-shifted 1 n behind ∙ ap (λ k. shifted k behind) longer)))
     by_test false there rest = refl
 
 -- the components up to the first that must be there stand first
@@ -154,16 +142,6 @@ found_in_run fs rest start n i j whole is found =
     second : j + start ≡ start + j
     second = omega arith
 
-shifted-shifted : (m n : ℕ) (r : Option (ℕ × ℕ)) → shifted m (shifted n r) ≡ shifted (m + n) r
-shifted-shifted m n None = refl
-shifted-shifted m n (Some p) = λ i. Some (first i, second i)
-  where
-    first : p.0 + n + m ≡ p.0 + (m + n)
-    first = omega arith
-
-    second : p.1 + n + m ≡ p.1 + (m + n)
-    second = omega arith
-
 -- and where there is none, the first is further on
 pub none_in_run : (fs rest : List Field) (start n : ℕ) → sequence_clash (components_held fs) ≡ shifted start (sequence_clash (components_held rest)) →
     n ≡ length (up_to_required (components_held rest)) → None ≡ set_clash (components_held (take n rest)) →
@@ -172,19 +150,6 @@ none_in_run fs rest start n whole is found =
     whole
     ∙ (ap (shifted start) (by_first_run rest n is ∙ ap (λ r. option_or r (shifted n (sequence_clash (components_held (drop n rest))))) (sym found))
     ∙ shifted-shifted start n (sequence_clash (components_held (drop n rest))))
-
-unshifted : (r : Option (ℕ × ℕ)) → shifted 0 r ≡ r
-unshifted None = refl
-unshifted (Some p) = λ i. Some (first i, second i)
-  where
-    first : p.0 + 0 ≡ p.0
-    first = omega arith
-
-    second : p.1 + 0 ≡ p.1
-    second = omega arith
-
-pub from_start : (fs : List Field) → sequence_clash (components_held fs) ≡ shifted 0 (sequence_clash (components_held fs))
-from_start fs = sym (unshifted (sequence_clash (components_held fs)))
 
 -- the places of a clash are places of components
 pub clash_within : (fs : List Field) (i j : ℕ) → Some (i, j) ≡ set_clash (components_held fs) → (i < length fs) × (j < length fs)

@@ -51,21 +51,18 @@ rivals-none f fs absent e =
 abbrev pub shifted : ℕ → Option (ℕ × ℕ) → Option (ℕ × ℕ)
 shifted n o = option_map (λ p. (p.0 + n, p.1 + n)) o
 
-shifted-none : (n : ℕ) → shifted n None ≡ None
-shifted-none n = refl
-
-shifted-zero : (o : Option (ℕ × ℕ)) → o ≡ shifted 0 o
+pub shifted-zero : (o : Option (ℕ × ℕ)) → o ≡ shifted 0 o
 shifted-zero None = refl
 shifted-zero (Some p) =
     let first : p.0 ≡ p.0 + 0 = omega arith in
     let second : p.1 ≡ p.1 + 0 = omega arith in
     λ i. Some (first i, second i)
 
-shifted-more : (n : ℕ) (o : Option (ℕ × ℕ)) → shifted n (shifted 1 o) ≡ shifted (n + 1) o
-shifted-more n None = refl
-shifted-more n (Some p) =
-    let first : p.0 + 1 + n ≡ p.0 + (n + 1) = omega arith in
-    let second : p.1 + 1 + n ≡ p.1 + (n + 1) = omega arith in
+pub shifted-shifted : (m n : ℕ) (o : Option (ℕ × ℕ)) → shifted m (shifted n o) ≡ shifted (m + n) o
+shifted-shifted m n None = refl
+shifted-shifted m n (Some p) =
+    let first : p.0 + n + m ≡ p.0 + (m + n) = omega arith in
+    let second : p.1 + n + m ≡ p.1 + (m + n) = omega arith in
     λ i. Some (first i, second i)
 
 -- what is found among all fields is what is found from a place on
@@ -114,4 +111,4 @@ module _ (others : Component → List Component → List Component) (fs : List F
       IsLeft others fs (i + 1)
   unfolding at_place
   search_goes_on i d rs lt left rest e =
-      left ∙ (ap (shifted i) (step i d rs None lt rest e) ∙ shifted-more i (first_clash others (components (drop (i + 1) fs))))
+      left ∙ (ap (shifted i) (step i d rs None lt rest e) ∙ shifted-shifted i 1 (first_clash others (components (drop (i + 1) fs))))

@@ -1,7 +1,8 @@
 use Rattle.std.proofs.Common.{◌≡◌, ◌+◌, Some, None, arith, length, subst, sym, ◌∙◌}
 use Rattle.asn1_fields.specs.Clash.{sequence_clash, set_clash}
+use Rattle.asn1_fields.proofs.Searches.{shifted}
 use Rattle.asn1_check.specs.HeldFields.{components_held}
-use Rattle.asn1_check.proofs.Runs.{shifted, run_fits, run_is_some, found_in_run, none_in_run, clash_within, some_length}
+use Rattle.asn1_check.proofs.Runs.{run_fits, run_is_some, found_in_run, none_in_run, clash_within, some_length}
 use Rattle.asn1_check.proofs.clash.first_sequence_clash.Goals as goal
 
 pub split_at-requires : goal.split_at-requires

@@ -1,7 +1,7 @@
 use Rattle.std.proofs.Common.{◌≡◌, ◌+◌, length}
 use Rattle.asn1_fields.specs.Clash.{sequence_clash}
+use Rattle.asn1_fields.proofs.Searches.{shifted}
 use Rattle.asn1_check.specs.HeldFields.{components_held}
-use Rattle.asn1_check.proofs.Runs.{shifted}
 use Rattle.asn1_check.proofs.clash.first_sequence_clash.Given as goal
 
 -- no run so far has a clash, so the first is that of the rest
