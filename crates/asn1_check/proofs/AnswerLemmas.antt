@@ -1,12 +1,10 @@
 -- How an answer is made.
-use Rattle.std.proofs.Common.{◌≡◌, ℕ, zero, suc, ◌+◌, ◌<◌, add-one, arith, get_or, Bool, true, false, ◌&&◌, not, cond, fold, take, nat_lt, List, [], ◌∷◌, ◌++◌, length, map, Option, Some, None, option_map, option_and_then, refl, sym, ap, subst, ◌∙◌}
+use Rattle.std.proofs.Common.{◌≡◌, ℕ, ◌+◌, ◌<◌, arith, get_or, Bool, true, false, not, cond, fold, take, nat_lt, List, [], ◌∷◌, ◌++◌, length, map, Option, Some, None, option_map, option_and_then, refl, sym, ap, subst, ◌∙◌}
 use Rattle.std.specs.Prelude.{IsSomeAnd, is_some, unwrap_or}
-use Rattle.std.specs.List.{AllAdjacentBelow, IsAllAdjacentAnswer}
 use Rattle.std.specs.Borrow.{Bor}
 use Rattle.std.proofs.lemmas.List.Sums.{fold_more}
 use Rattle.asn1_tags.specs.Tags.{lesser}
 use Rattle.asn1_tags.specs.declared.tags.Tag.{Tag}
-use Rattle.asn1_fields.specs.Canonical.{canonical, in_order}
 use Rattle.std.proofs.lemmas.List.{append-nil}
 use Rattle.asn1_fields.specs.Components.{Component}
 use Rattle.asn1_check.specs.declared.field.Field.{Field}
@@ -117,37 +115,3 @@ refused number t mid_table new_table line old mid new nothing given kept wrote =
       table_is = kept ∙ (ap (option_map unchecked) given.2 ∙ (sym (unchecked_plain t) ∙ ap (λ b. option_map plain_table b.table) (sym whole)));
       understood_is = sym (ap is_some given.0);
     }
-
--- whether two fields stand in order
-abbrev pub fields_in_order : Field → Field → Bool
-fields_in_order f g = in_order (component_held f) (component_held g)
-
--- neighbours that are all in order
-all_in_order : (fs : List Field) → AllAdjacentBelow (λ f g. true ≡ fields_in_order f g) fs (length fs) → canonical (components_held fs) ≡ true
-all_in_order [] h = refl
-all_in_order (f ∷ []) h = refl
-all_in_order (f ∷ (g ∷ fs)) h =
-    (λ i. sym (h 0 f (omega arith)) i && canonical (components_held (g ∷ fs)))
-    ∙ all_in_order (g ∷ fs)
-    (λ k d lt. subst (λ x. true ≡ fields_in_order (get_or (g ∷ fs) k d) x) (ap (λ n. get_or (f ∷ (g ∷ fs)) n d) (add-one (suc k)) ∙ sym (ap (λ n. get_or (g ∷ fs) n d) (add-one k)))
-    (h (suc k) d (omega arith)))
-
-and_false : (a b : Bool) → b ≡ false → (a && b) ≡ false
-and_false true b e = e
-and_false false b e = refl
-
--- neighbours of which some are not
-some_not_in_order : (fs : List Field) (k : ℕ) → k + 1 < length fs → ((d : Field) → false ≡ fields_in_order (get_or fs k d) (get_or fs (k + 1) d)) →
-    canonical (components_held fs) ≡ false
-some_not_in_order [] k lt h = absurd (omega arith)
-some_not_in_order (f ∷ []) k lt h = absurd (omega arith)
-some_not_in_order (f ∷ (g ∷ fs)) zero lt h = ap (λ b. b && canonical (components_held (g ∷ fs))) (sym (h f))
-some_not_in_order (f ∷ (g ∷ fs)) (suc k) lt h =
-    and_false (fields_in_order f g) (canonical (components_held (g ∷ fs)))
-    (some_not_in_order (g ∷ fs) k (omega arith)
-    (λ d. subst (λ x. false ≡ fields_in_order (get_or (g ∷ fs) k d) x) (ap (λ n. get_or (f ∷ (g ∷ fs)) n d) (add-one (suc k)) ∙ sym (ap (λ n. get_or (g ∷ fs) n d) (add-one k))) (h d)))
-
--- what all neighbours answer is what the definition says
-pub canonical-held : (fs : List Field) (answer : Bool) → IsAllAdjacentAnswer (λ f g b. b ≡ fields_in_order f g) fs answer → answer ≡ canonical (components_held fs)
-canonical-held fs true h = sym (all_in_order fs h)
-canonical-held fs false h = sym (some_not_in_order fs h.0 h.1 h.2)

@@ -1,11 +1,12 @@
 -- The test of the canonical order, and what it decides.
-use Rattle.std.proofs.Common.{◌≡◌, inl, inr, ℕ, zero, suc, ◌+◌, ◌<◌, nat_lt, Bool, true, false, ◌&&◌, List, [], ◌∷◌, length, get_or, add-one, refl, sym, ap, ◌∙◌, subst, arith}
+use Rattle.std.proofs.Common.{◌≡◌, inl, inr, ℕ, zero, suc, ◌+◌, ◌<◌, nat_lt, Bool, true, false, ◌&&◌, List, [], ◌∷◌, length, map, get_or, add-one, refl, sym, ap, ◌∙◌, subst, arith}
 use Rattle.std.specs.List.{AllAdjacentBelow, IsAllAdjacentAnswer, slice_get}
 use Rattle.std.specs.Ordering.{is_le}
 use Rattle.std.proofs.lemmas.Bool.{false≢true}
 use Rattle.std.proofs.lemmas.Bool.Decides.{nat_tests}
 use Rattle.std.proofs.lemmas.Grind.{common_steps}
 use Rattle.std.proofs.lemmas.Option.{none-some, same_Some}
+use Rattle.std.proofs.lemmas.Simd.{map-map}
 use Rattle.asn1_tags.specs.Tags.{IsAtMost, class_number, tag_cmp}
 use Rattle.asn1_tags.specs.declared.tags.Tag.{Tag}
 use Rattle.asn1_fields.specs.Canonical.{IsCanonical, canonical, in_order, smallest_tag}
@@ -63,32 +64,38 @@ test-from_IsCanonical (a ∷ (b ∷ cs)) h =
 
 pub ruleset canonical_tests = (IsCanonical-from_test, test-from_IsCanonical)
 
+-- Values of any kind, each seen as a component.
+module _ {X : Type 0} (seen : X → Component) where
+  -- neighbours that are all in order
+  all_in_order : (xs : List X) → AllAdjacentBelow (λ x y. true ≡ in_order (seen x) (seen y)) xs (length xs) → canonical (map seen xs) ≡ true
+  all_in_order [] h = refl
+  all_in_order (x ∷ []) h = refl
+  all_in_order (x ∷ (y ∷ xs)) h =
+      and_both (in_order (seen x) (seen y)) (canonical (map seen (y ∷ xs))) (sym (h 0 x (omega arith)))
+      (all_in_order (y ∷ xs)
+      (λ k d lt. subst (λ z. true ≡ in_order (seen (get_or (y ∷ xs) k d)) (seen z)) (ap (λ n. get_or (x ∷ (y ∷ xs)) n d) (add-one (suc k)) ∙ sym (ap (λ n. get_or (y ∷ xs) n d) (add-one k)))
+      (h (suc k) d (omega arith))))
+
+  -- neighbours of which some are not
+  some_not_in_order : (xs : List X) (k : ℕ) → k + 1 < length xs → ((d : X) → false ≡ in_order (seen (get_or xs k d)) (seen (get_or xs (k + 1) d))) →
+      canonical (map seen xs) ≡ false
+  some_not_in_order [] k lt h = absurd (omega arith)
+  some_not_in_order (x ∷ []) k lt h = absurd (omega arith)
+  some_not_in_order (x ∷ (y ∷ xs)) zero lt h = ap (λ b. b && canonical (map seen (y ∷ xs))) (sym (h x))
+  some_not_in_order (x ∷ (y ∷ xs)) (suc k) lt h =
+      and_false_second (in_order (seen x) (seen y)) (canonical (map seen (y ∷ xs)))
+      (some_not_in_order (y ∷ xs) k (omega arith)
+      (λ d. subst (λ z. false ≡ in_order (seen (get_or (y ∷ xs) k d)) (seen z)) (ap (λ n. get_or (x ∷ (y ∷ xs)) n d) (add-one (suc k)) ∙ sym (ap (λ n. get_or (y ∷ xs) n d) (add-one k))) (h d)))
+
+  -- what all neighbours answer is what the test answers
+  pub canonical-seen : (xs : List X) (answer : Bool) → IsAllAdjacentAnswer (λ x y b. b ≡ in_order (seen x) (seen y)) xs answer → answer ≡ canonical (map seen xs)
+  canonical-seen xs true h = sym (all_in_order xs h)
+  canonical-seen xs false h = sym (some_not_in_order xs h.0 h.1 h.2)
+
 -- whether two fields stand in order
 abbrev pub fields_in_order : Field → Field → Bool
 fields_in_order f g = in_order (component_of (entry_of f)) (component_of (entry_of g))
 
--- neighbours that are all in order
-all_in_order : (fs : List Field) → AllAdjacentBelow (λ f g. true ≡ fields_in_order f g) fs (length fs) → canonical (components fs) ≡ true
-all_in_order [] h = refl
-all_in_order (f ∷ []) h = refl
-all_in_order (f ∷ (g ∷ fs)) h =
-    and_both (fields_in_order f g) (canonical (components (g ∷ fs))) (sym (h 0 f (omega arith)))
-    (all_in_order (g ∷ fs)
-    (λ k d lt. subst (λ x. true ≡ fields_in_order (get_or (g ∷ fs) k d) x) (ap (λ n. get_or (f ∷ (g ∷ fs)) n d) (add-one (suc k)) ∙ sym (ap (λ n. get_or (g ∷ fs) n d) (add-one k)))
-    (h (suc k) d (omega arith))))
-
--- neighbours of which some are not
-some_not_in_order : (fs : List Field) (k : ℕ) → k + 1 < length fs → ((d : Field) → false ≡ fields_in_order (get_or fs k d) (get_or fs (k + 1) d)) →
-    canonical (components fs) ≡ false
-some_not_in_order [] k lt h = absurd (omega arith)
-some_not_in_order (f ∷ []) k lt h = absurd (omega arith)
-some_not_in_order (f ∷ (g ∷ fs)) zero lt h = ap (λ b. b && canonical (components (g ∷ fs))) (sym (h f))
-some_not_in_order (f ∷ (g ∷ fs)) (suc k) lt h =
-    and_false_second (fields_in_order f g) (canonical (components (g ∷ fs)))
-    (some_not_in_order (g ∷ fs) k (omega arith)
-    (λ d. subst (λ x. false ≡ fields_in_order (get_or (g ∷ fs) k d) x) (ap (λ n. get_or (f ∷ (g ∷ fs)) n d) (add-one (suc k)) ∙ sym (ap (λ n. get_or (g ∷ fs) n d) (add-one k))) (h d)))
-
--- what all neighbours answer is what the test answers
+-- and so for fields
 pub canonical-is : (fs : List Field) (answer : Bool) → IsAllAdjacentAnswer (λ f g b. b ≡ fields_in_order f g) fs answer → answer ≡ canonical (components fs)
-canonical-is fs true h = sym (all_in_order fs h)
-canonical-is fs false h = sym (some_not_in_order fs h.0 h.1 h.2)
+canonical-is fs answer h = canonical-seen (λ f. component_of (entry_of f)) fs answer h ∙ ap canonical (sym (map-map component_of entry_of fs))
