@@ -7,12 +7,12 @@ use Rattle.std.specs.Ordering.{is_lt, nat_cmp, ordering_then}
 use Rattle.std.specs.Cmp.{IsStrictWeakOrder, tied_itself}
 use Rattle.std.specs.declared.cmp.Ordering.{Ordering}
 use Rattle.std.specs.declared.cmp.Ordering.TheVariants.{Less, Equal, Greater}
-use Rattle.std.proofs.lemmas.Bool.{cases_lt, cases_eq, false≢true}
+use Rattle.std.proofs.lemmas.Bool.{cases_lt, cases_eq, false≢true, or_cases, or_left, or_right}
 use Rattle.std.proofs.lemmas.Bool.Decides.{nat_tests}
 use Rattle.std.proofs.lemmas.Cmp.{on_total, then_total, nat_cmp_total}
 use Rattle.std.proofs.lemmas.Grind.{common_steps}
 use Rattle.std.proofs.lemmas.Bool.{eqb-true}
-use Rattle.std.proofs.lemmas.List.{take_all, take_more, length-map, map-append, append-nil}
+use Rattle.std.proofs.lemmas.List.{get_or_default, take_all, take_more, length-map, map-append, append-nil}
 use Rattle.std.proofs.lemmas.List.Elements.{Contains-append_left, Contains-append_right, Contains-append_cases}
 use Rattle.std.proofs.lemmas.List.Quantifiers.{position-Some}
 use Rattle.std.proofs.lemmas.List.Sorted.{ranks_by, sorted_far, Contains-permutation, IsPermutation-sym}
@@ -131,17 +131,12 @@ pub record Neighbours (all : List Occurrence) (n i j : ℕ) : Type 0 where
 pub no_neighbours : (all : List Occurrence) → IsLeast (Neighbours all 1) None
 no_neighbours all i j h = let lt = h.within in omega arith
 
-get_or-any : (xs : List Occurrence) (k : ℕ) (c d : Occurrence) → k < length xs → get_or xs k c ≡ get_or xs k d
-get_or-any [] k c d h = absurd (omega arith)
-get_or-any (x ∷ xs) zero c d h = refl
-get_or-any (x ∷ xs) (suc k) c d h = get_or-any xs k c d (omega arith)
-
 -- what stands later in order is not less
 not_above : (all : List Occurrence) → IsSorted occurrence_cmp all → (x y : ℕ) (a b : Occurrence) → x ≤ y → y < length all → get_or all x a ≡ a → get_or all y b ≡ b →
     is_lt (occurrence_cmp b a) ≡ false
 not_above all up x y a b le lt at_x at_y =
     let far = sorted_far (λ c d. is_lt (occurrence_cmp c d)) occurrences_ranked all up x y a le lt in
-    let here : get_or all y a ≡ b = get_or-any all y a b lt ∙ at_y in
+    let here : get_or all y a ≡ b = get_or_default all y a b lt ∙ at_y in
     sym (λ i. is_lt (occurrence_cmp (here i) (at_x i))) ∙ far
 
 -- of two places of one tag, the first has a neighbour up to the second
@@ -152,7 +147,7 @@ neighbour_of : (all : List Occurrence) → IsSorted occurrence_cmp all → (gap 
 neighbour_of all up zero x y t p q is lt less at_x at_y =
     let same : x ≡ y = omega arith in
     let here : record { tag = t; place = q } ≡ record { tag = t; place = p } =
-    sym at_y ∙ (get_or-any all y _ _ lt ∙ (ap (λ k. get_or all k (record { tag = t; place = p })) (sym same) ∙ at_x)) in
+    sym at_y ∙ (get_or_default all y _ _ lt ∙ (ap (λ k. get_or all k (record { tag = t; place = p })) (sym same) ∙ at_x)) in
     absurd (let places : q ≡ p = ap (λ a. a.place) here in omega arith)
 neighbour_of all up (suc gap) x y t p q is lt less at_x at_y =
     by_place (cases_eq b.place p) (λ at_next. neighbour_of all up gap (x + 1) y t p q (omega arith) lt less at_next at_y)
@@ -167,7 +162,7 @@ neighbour_of all up (suc gap) x y t p q is lt less at_x at_y =
     b = get_or all (x + 1) a
 
     b_at : get_or all (x + 1) b ≡ b
-    b_at = get_or-any all (x + 1) b a (omega arith)
+    b_at = get_or_default all (x + 1) b a (omega arith)
 
     lower : is_lt (occurrence_cmp b a) ≡ false
     lower = not_above all up x (x + 1) a b (omega arith) (omega arith) at_x b_at
@@ -294,8 +289,8 @@ neighbours_more all n a b r some lt at_a at_b same differ h =
             let bound = u.within in
             let here : u.at ≡ n - 1 = omega arith in
             let next : u.at + 1 ≡ n = omega arith in
-            let first : a ≡ u.first = sym at_a ∙ (get_or-any all (n - 1) a u.first (omega arith) ∙ (ap (λ k. get_or all k u.first) (sym here) ∙ u.first_at)) in
-            let second : b ≡ u.second = sym at_b ∙ (get_or-any all n b u.second lt ∙ (ap (λ k. get_or all k u.second) (sym next) ∙ u.second_at)) in
+            let first : a ≡ u.first = sym at_a ∙ (get_or_default all (n - 1) a u.first (omega arith) ∙ (ap (λ k. get_or all k u.first) (sym here) ∙ u.first_at)) in
+            let second : b ≡ u.second = sym at_b ∙ (get_or_default all n b u.second lt ∙ (ap (λ k. get_or all k u.second) (sym next) ∙ u.second_at)) in
             inr (ap (λ o. o.place) first ∙ u.first_place, ap (λ o. o.place) second ∙ u.second_place)
 
     right : (i j : ℕ) → IsPair (a.place, b.place) i j → Neighbours all (n + 1) i j
@@ -348,8 +343,8 @@ neighbours_no_more all n a b r some lt at_a at_b none h =
             let bound = u.within in
             let here : u.at ≡ n - 1 = omega arith in
             let next : u.at + 1 ≡ n = omega arith in
-            let first : a ≡ u.first = sym at_a ∙ (get_or-any all (n - 1) a u.first (omega arith) ∙ (ap (λ k. get_or all k u.first) (sym here) ∙ u.first_at)) in
-            let second : b ≡ u.second = sym at_b ∙ (get_or-any all n b u.second lt ∙ (ap (λ k. get_or all k u.second) (sym next) ∙ u.second_at)) in
+            let first : a ≡ u.first = sym at_a ∙ (get_or_default all (n - 1) a u.first (omega arith) ∙ (ap (λ k. get_or all k u.first) (sym here) ∙ u.first_at)) in
+            let second : b ≡ u.second = sym at_b ∙ (get_or_default all n b u.second lt ∙ (ap (λ k. get_or all k u.second) (sym next) ∙ u.second_at)) in
             absurd
             (none (ap (λ o. o.tag) first ∙ (u.same ∙ ap (λ o. o.tag) (sym second)))
             (λ level. u.differ (sym u.first_place ∙ (ap (λ o. o.place) (sym first) ∙ (level ∙ (ap (λ o. o.place) second ∙ u.second_place))))))
@@ -394,18 +389,6 @@ to_occurrence n (d ∷ cs) t (suc m) c at has =
     Contains-append_right (occurrences_at n (leaves d.tree)) (occurrences (n + 1) cs) (record { tag = t; place = n + suc m })
     (subst (λ k. Contains (occurrences (n + 1) cs) (record { tag = t; place = k })) place (to_occurrence (n + 1) cs t m c at has))
 
-or_cases : (a b : Bool) → (a || b) ≡ true → (a ≡ true) ⊎ (b ≡ true)
-or_cases true b h = inl refl
-or_cases false b h = inr h
-
-or_first : (a b : Bool) → a ≡ true → (a || b) ≡ true
-or_first true b h = refl
-or_first false b h = absurd (false≢true h)
-
-or_second : (a b : Bool) → b ≡ true → (a || b) ≡ true
-or_second true b h = refl
-or_second false b h = h
-
 -- components clash in a SET where a tag occurs twice, or one of them can begin with any tag
 clash_which : (cs : List Component) (all : List Occurrence) → IsPermutation (occurrences 0 cs) all → (i j : ℕ) → IsSetClash cs i j → HasOpen cs i j ⊎ OccursTwice all i j
 clash_which cs all moved i j h =
@@ -420,8 +403,8 @@ clash_which cs all moved i j h =
     by_tags : IsTrue (is_open h.first.tree) ⊎ Contains (leaves h.first.tree) h.shared.tag →
         IsTrue (is_open h.second.tree) ⊎ Contains (leaves h.second.tree) h.shared.tag →
         HasOpen cs i j ⊎ OccursTwice all i j
-    by_tags (inl e) f = inl (any (or_first (is_open h.first.tree) (is_open h.second.tree) e))
-    by_tags (inr e) (inl f) = inl (any (or_second (is_open h.first.tree) (is_open h.second.tree) f))
+    by_tags (inl e) f = inl (any (or_left (is_open h.first.tree) (is_open h.second.tree) e))
+    by_tags (inr e) (inl f) = inl (any (or_right (is_open h.first.tree) (is_open h.second.tree) f))
     by_tags (inr e) (inr f) =
         inr (record { tag = h.shared.tag; behind = h.behind; at_first = at i h.first h.first_at e; at_second = at j h.second h.second_at f })
 
@@ -432,7 +415,7 @@ clash_from_open cs i j h = record {
   first_at = h.first_at;
   second_at = h.second_at;
   behind = h.behind;
-  shared = ShareTag-from_test h.first.tree h.second.tree (or_first (is_open h.first.tree || is_open h.second.tree) (meet (leaves h.first.tree) (leaves h.second.tree)) h.open_one);
+  shared = ShareTag-from_test h.first.tree h.second.tree (or_left (is_open h.first.tree || is_open h.second.tree) (meet (leaves h.first.tree) (leaves h.second.tree)) h.open_one);
 }
 
 clash_from_twice : (cs : List Component) (all : List Occurrence) → IsPermutation (occurrences 0 cs) all → (i j : ℕ) → OccursTwice all i j → IsSetClash cs i j
@@ -490,7 +473,7 @@ first_open cs k d is fits =
       first_at = slice_get-get_or cs 0 d (omega arith);
       second_at = slice_get-get_or cs 1 d (omega arith);
       behind = omega arith;
-      open_one = or_first (is_open (get_or cs 0 d).tree) (is_open (get_or cs 1 d).tree) here;
+      open_one = or_left (is_open (get_or cs 0 d).tree) (is_open (get_or cs 1 d).tree) here;
     }
     by_place (suc n) here lt =
         let same : suc n ≡ max (suc n) 1 = omega arith in
@@ -501,7 +484,7 @@ first_open cs k d is fits =
           first_at = slice_get-get_or cs 0 d (omega arith);
           second_at = slice_get-get_or cs (suc n) d (omega arith);
           behind = omega arith;
-          open_one = or_second (is_open (get_or cs 0 d).tree) (is_open (get_or cs (suc n) d).tree) here;
+          open_one = or_right (is_open (get_or cs 0 d).tree) (is_open (get_or cs (suc n) d).tree) here;
         })
 
     up_to : ((m : ℕ) → m < k → is_open (get_or cs m d).tree ≡ false) → (i j : ℕ) → HasOpen cs i j → IsUpTo (0, max k 1) (i, j)
@@ -620,4 +603,4 @@ neighbours_passed all n d e r s q some lt pair lesser h =
     let a = get_or all (n - 1) d in
     let b = get_or all n e in
     subst (IsLeast (Neighbours all (n + 1))) (sym (lesser ∙ ap (lesser_pair r) pair))
-    (neighbours_step all n (get_or all (n - 1) d) (get_or all n e) r some lt (get_or-any all (n - 1) _ d (omega arith)) (get_or-any all n _ e lt) h)
+    (neighbours_step all n (get_or all (n - 1) d) (get_or all n e) r some lt (get_or_default all (n - 1) _ d (omega arith)) (get_or_default all n _ e lt) h)

@@ -2,6 +2,7 @@
 use Rattle.std.proofs.Common.{◌≡◌, ℕ, Bool, true, false, cond, ◌&&◌, ◌==◌, Option, Some, None, option_map, option_and_then, List, [], ◌∷◌, ◌++◌, length, refl, sym, ap, subst, ◌∙◌, append_assoc, arith, length-append}
 use Rattle.std.specs.Prelude.{nat_le, is_none, IfSome}
 use Rattle.std.specs.Io.KnownBytes.{Appends, Consumes, Keeps}
+use Rattle.std.proofs.Math.Bool.{and_assoc, and-true}
 use Rattle.std.proofs.KnownBytes.{Appends-kept, Consumes-whole}
 use Rattle.std.specs.List.{onto_first}
 use Rattle.std.proofs.lemmas.List.{append-nil}
@@ -33,14 +34,6 @@ kept_more line byte = by_test (nat_le (length line) 4096) refl
         let longer = length-append line (byte ∷ []) in
         let too_long : nat_le (length (line ++ byte ∷ [])) 4096 ≡ false = grind (arith, nat_tests) in
         sym (ap (λ b. cond b (Some (line ++ byte ∷ [])) None) too_long)
-
-and_assoc : (a b c : Bool) → ((a && b) && c) ≡ (a && (b && c))
-and_assoc true b c = refl
-and_assoc false b c = refl
-
-and_true : (b : Bool) → (b && true) ≡ b
-and_true true = refl
-and_true false = refl
 
 -- the pieces of what follows begin with a new line
 pieces_anew : (bytes : List ℕ) → before_first [] (pieces bytes) ≡ pieces bytes
@@ -114,7 +107,7 @@ now ps place understood = in_line (last ps) (place_behind place (but_last ps)) (
 behind_is : (bytes line : List ℕ) (place : Place) (understood : Bool) →
     behind (in_line line place understood) bytes ≡ now (pieces_on line bytes) place understood
 behind_is [] line place understood =
-    ap (λ l. in_line l place understood) (sym (append-nil line)) ∙ ap (in_line (line ++ []) place) (sym (and_true understood))
+    ap (λ l. in_line l place understood) (sym (append-nil line)) ∙ ap (in_line (line ++ []) place) (sym (and-true understood))
 behind_is (byte ∷ bytes) line place understood =
     by_test (byte == 10) refl
     (behind_is bytes [] (next_place place (kept line)) (understood && is_understood place (kept line)))
@@ -195,7 +188,7 @@ understood_of_last place line understood =
         ≡ ((understood && understood_from place (last_line line)) && is_none (place_behind place (last_line line)).table)
     by_line [] = refl
     by_line (byte ∷ bytes) =
-        ap (λ b. (understood && b) && is_none (next_place place (kept (byte ∷ bytes))).table) (sym (and_true (is_understood place (kept (byte ∷ bytes)))))
+        ap (λ b. (understood && b) && is_none (next_place place (kept (byte ∷ bytes))).table) (sym (and-true (is_understood place (kept (byte ∷ bytes)))))
 
 -- with that it is the report
 pub report_at_end : (given : List ℕ) → text_at start given ++ last_text (behind start given) ≡ report given

@@ -8,6 +8,7 @@ use Rattle.std.proofs.lemmas.Bool.{eqb-true}
 use Rattle.std.proofs.lemmas.Grind.{common_steps}
 use Rattle.std.proofs.lemmas.Bool.Decides.{nat_tests}
 use Rattle.std.proofs.lemmas.List.{take_all, take_more}
+use Rattle.std.proofs.lemmas.Option.{same_Some}
 use Rattle.asn1_tags.specs.declared.classes.Class.{Class}
 use Rattle.asn1_tags.specs.declared.classes.Class.TheVariants.{Universal, Application, Context, Private}
 use Rattle.asn1_tags.specs.declared.tags.Tag.{Tag}
@@ -52,9 +53,6 @@ joined-parts_at depth (byte ∷ bytes) = by_test (byte == 32) refl (depth == 0) 
         ∙ (joined-onto_first byte (parts_at (depth_behind depth byte) bytes) ∙ ap (λ t. byte ∷ t) on)
     by_test space is false anew on = joined-onto_first byte (parts_at (depth_behind depth byte) bytes) ∙ ap (λ t. byte ∷ t) on
 
-some_same : {A : Type 0} {x y : A} → Some x ≡ Some y → x ≡ y
-some_same h = cc
-
 -- a letter that names a class is its letter
 class_letter : (letter : ℕ) (class : Class) → class_of letter ≡ Some class → letter ≡ letter_of class
 class_letter letter class h = by_tests (letter == 85) (letter == 65) (letter == 67) (letter == 80) refl refl refl refl h
@@ -76,7 +74,7 @@ tag_spelled (letter ∷ digits) tag h = with_class (class_of letter) refl h
     with_number class None named missing whole = cc
     with_number class (Some n) named some whole =
         let e : Some (record { class = class; value = n }) ≡ Some tag = whole in
-        let same = some_same e in
+        let same = same_Some _ _ e in
         (λ i. class_letter letter class named i ∷ number_decimal digits n some i) ∙ ap (λ t. letter_of t.class ∷ decimal t.value) same
 
     with_class : (r : Option Class) → class_of letter ≡ r →
@@ -101,7 +99,7 @@ brackets_spelled (byte ∷ bytes) inside h = by_tests (byte == 40) (ends_with_by
     by_tests : (p q : Bool) → (byte == 40) ≡ p → ends_with_byte 41 bytes ≡ q →
         cond (p && q) (Some (take (length bytes - 1) bytes)) None ≡ Some inside → byte ∷ bytes ≡ 40 ∷ (inside ++ 41 ∷ [])
     by_tests true true opens closes is =
-        let same = some_same is in
+        let same = same_Some _ _ is in
         (λ i. eqb-true byte 40 opens i ∷ last_byte 41 bytes closes i) ∙ ap (λ front. 40 ∷ (front ++ 41 ∷ [])) same
     by_tests true false opens closes is = cc
     by_tests false q opens closes is = cc
@@ -112,7 +110,7 @@ FindsSpelled tree_in = (text : List ℕ) (tree : Tree) → tree_in text ≡ Some
 
 behind_spelled : (tree_in : List ℕ → Option Tree) → FindsSpelled tree_in → (texts : List (List ℕ)) (trees : Trees) → all_trees tree_in texts ≡ Some trees →
     joined_behind texts ≡ spelling_behind trees
-behind_spelled tree_in spelled [] trees is = ap spelling_behind (some_same is)
+behind_spelled tree_in spelled [] trees is = ap spelling_behind (same_Some _ _ is)
 behind_spelled tree_in spelled (text ∷ texts) trees is =
     with_tree (λ ts found. behind_spelled tree_in spelled texts ts found) (tree_in text) refl is
   where
@@ -121,7 +119,7 @@ behind_spelled tree_in spelled (text ∷ texts) trees is =
         32 ∷ (text ++ joined_behind texts) ≡ spelling_behind trees
     with_rest others tree None rest first whole = cc
     with_rest others tree (Some ts) rest first whole =
-        (λ i. 32 ∷ (spelled text tree first i ++ others ts rest i)) ∙ ap spelling_behind (some_same whole)
+        (λ i. 32 ∷ (spelled text tree first i ++ others ts rest i)) ∙ ap spelling_behind (same_Some _ _ whole)
 
     with_tree : ((ts : Trees) → all_trees tree_in texts ≡ Some ts → joined_behind texts ≡ spelling_behind ts) →
         (r : Option Tree) → tree_in text ≡ r → option_and_then (λ tree. option_map (more tree) (all_trees tree_in texts)) r ≡ Some trees →
@@ -135,7 +133,7 @@ without_space xs ys h = cc
 
 trees_spelled : (tree_in : List ℕ → Option Tree) → FindsSpelled tree_in → (texts : List (List ℕ)) (trees : Trees) → all_trees tree_in texts ≡ Some trees →
     joined texts ≡ spelling_of trees
-trees_spelled tree_in spelled [] trees is = ap spelling_of (some_same is)
+trees_spelled tree_in spelled [] trees is = ap spelling_of (same_Some _ _ is)
 trees_spelled tree_in spelled (text ∷ texts) none is = absurd (no_tree_less (tree_in text) (all_trees tree_in texts) is)
 trees_spelled tree_in spelled (text ∷ texts) (more t ts) is =
     without_space _ _ (behind_spelled tree_in spelled (text ∷ texts) (more t ts) is)
@@ -149,7 +147,7 @@ leaf_spelled text tree is = with_tag (tag_of text) refl is
   where
     with_tag : (r : Option Tag) → tag_of text ≡ r → option_map leaf r ≡ Some tree → text ≡ spelling tree
     with_tag None found whole = cc
-    with_tag (Some tag) found whole = tag_spelled text tag found ∙ ap spelling (some_same whole)
+    with_tag (Some tag) found whole = tag_spelled text tag found ∙ ap spelling (same_Some _ _ whole)
 
 -- what is read as a tree is its text
 pub tree_spelled : (depth : ℕ) → FindsSpelled (tree_of depth)
@@ -163,7 +161,7 @@ tree_spelled (suc depth) text tree is = with_inside (tree_spelled depth) (betwee
     with_trees spelled inside (Some ts) has found whole =
         brackets_spelled text inside has
         ∙ (ap (λ bytes. 40 ∷ (bytes ++ 41 ∷ [])) (sym (elements_joined inside) ∙ trees_spelled (tree_of depth) spelled (elements_of inside) ts found)
-        ∙ ap spelling (some_same whole))
+        ∙ ap spelling (same_Some _ _ whole))
 
     with_inside : FindsSpelled (tree_of depth) → (r : Option (List ℕ)) → between_brackets text ≡ r →
         option_map_or (λ inside. option_map choice (all_trees (tree_of depth) (elements_of inside))) r (option_map leaf (tag_of text)) ≡ Some tree →

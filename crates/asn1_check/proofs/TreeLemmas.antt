@@ -3,6 +3,7 @@ use Rattle.std.proofs.Common.{◌≡◌, ℕ, zero, suc, ◌-◌, ◌<◌, arith
 use Rattle.std.specs.Prelude.{IsSomeAnd, IfOk, MatchBool}
 use Rattle.std.specs.Option.{option_map_or}
 use Rattle.std.proofs.lemmas.List.{append-nil}
+use Rattle.std.proofs.Math.Bool.{or_assoc, or-false}
 use Rattle.std.proofs.lemmas.Bool.{false≢true}
 use Rattle.std.proofs.lemmas.Grind.{common_steps}
 use Rattle.asn1_tags.specs.declared.tags.Tag.{Tag}
@@ -22,18 +23,10 @@ leaves_of-join : (ts us : Trees) → leaves_of (join ts us) ≡ leaves_of ts ++ 
 leaves_of-join none us = refl
 leaves_of-join (more t ts) us = ap (λ behind. leaves t ++ behind) (leaves_of-join ts us) ∙ sym (append_assoc (leaves t) (leaves_of ts) (leaves_of us))
 
-or_assoc : (a b c : Bool) → (a || (b || c)) ≡ ((a || b) || c)
-or_assoc true b c = refl
-or_assoc false b c = refl
-
-or_false : (b : Bool) → (b || false) ≡ b
-or_false true = refl
-or_false false = refl
-
 is_any_open-join : (ts us : Trees) → is_any_open (join ts us) ≡ (is_any_open ts || is_any_open us)
 is_any_open-join none us = refl
 is_any_open-join (more t ts) us =
-    ap (λ behind. is_open t || behind) (is_any_open-join ts us) ∙ or_assoc (is_open t) (is_any_open ts) (is_any_open us)
+    ap (λ behind. is_open t || behind) (is_any_open-join ts us) ∙ sym (or_assoc (is_open t) (is_any_open ts) (is_any_open us))
 
 join_assoc : (ts us vs : Trees) → join (join ts us) vs ≡ join ts (join us vs)
 join_assoc none us vs = refl
@@ -49,7 +42,7 @@ pub record AddsAll (old new : Leaves) (trees : Trees) : Type 0 where
   pub empty_choice : new.has_empty_choice ≡ (old.has_empty_choice || is_any_open trees)
 
 adds_nothing : (kept : Leaves) → AddsAll kept kept none
-adds_nothing kept = record { tags = sym (append-nil kept.tags.items); empty_choice = sym (or_false kept.has_empty_choice) }
+adds_nothing kept = record { tags = sym (append-nil kept.tags.items); empty_choice = sym (or-false kept.has_empty_choice) }
 
 -- one more tree
 adds_one : (old mid new : Leaves) (ts : Trees) (t : Tree) → AddsAll old mid ts → Adds mid new t → AddsAll old new (join ts (more t none))
@@ -63,9 +56,9 @@ adds_one old mid new ts t before one = record {
   empty_choice =
       one.empty_choice
       ∙ (ap (λ b. b || is_open t) before.empty_choice
-      ∙ (sym (or_assoc old.has_empty_choice (is_any_open ts) (is_open t))
+      ∙ (or_assoc old.has_empty_choice (is_any_open ts) (is_open t)
       ∙ ap (λ b. old.has_empty_choice || b)
-      (ap (λ b. is_any_open ts || b) (sym (or_false (is_open t))) ∙ sym (is_any_open-join ts (more t none)))));
+      (ap (λ b. is_any_open ts || b) (sym (or-false (is_open t))) ∙ sym (is_any_open-join ts (more t none)))));
 }
 
 -- some trees make a choice

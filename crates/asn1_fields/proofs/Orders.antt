@@ -2,7 +2,7 @@
 use Rattle.std.proofs.Common.{◌≡◌, inl, inr, ℕ, zero, suc, ◌+◌, ◌<◌, nat_lt, Bool, true, false, ◌&&◌, List, [], ◌∷◌, length, map, get_or, add-one, refl, sym, ap, ◌∙◌, subst, arith}
 use Rattle.std.specs.List.{AllAdjacentBelow, IsAllAdjacentAnswer, slice_get}
 use Rattle.std.specs.Ordering.{is_le}
-use Rattle.std.proofs.lemmas.Bool.{false≢true}
+use Rattle.std.proofs.lemmas.Bool.{and_from, and_parts, and_right}
 use Rattle.std.proofs.lemmas.Bool.Decides.{nat_tests}
 use Rattle.std.proofs.lemmas.Grind.{common_steps}
 use Rattle.std.proofs.lemmas.Option.{none-some, same_Some}
@@ -12,22 +12,6 @@ use Rattle.asn1_tags.specs.declared.tags.Tag.{Tag}
 use Rattle.asn1_fields.specs.Canonical.{IsCanonical, canonical, in_order, smallest_tag}
 use Rattle.asn1_fields.specs.Components.{Component, component_of, components, entry_of}
 use Rattle.asn1_fields.specs.declared.components.Field.{Field}
-
-and_first : (a b : Bool) → (a && b) ≡ true → a ≡ true
-and_first true b h = refl
-and_first false b h = h
-
-and_second : (a b : Bool) → (a && b) ≡ true → b ≡ true
-and_second true b h = h
-and_second false b h = absurd (false≢true h)
-
-and_both : (a b : Bool) → a ≡ true → b ≡ true → (a && b) ≡ true
-and_both true b e f = f
-and_both false b e f = e
-
-and_false_second : (a b : Bool) → b ≡ false → (a && b) ≡ false
-and_false_second true b e = e
-and_false_second false b e = refl
 
 -- the order of tags, and what is at most what
 IsAtMost-from_le : (s t : Tag) → is_le (tag_cmp s t) ≡ true → IsAtMost s t
@@ -48,9 +32,9 @@ IsCanonical-from_test (a ∷ []) h k c d e f = absurd (none-some d (sym (ap (sli
 IsCanonical-from_test (a ∷ (b ∷ cs)) h zero c d e f =
     subst (λ x. IsAtMost (smallest_tag x) (smallest_tag d)) (same_Some a c e)
     (subst (λ x. IsAtMost (smallest_tag a) (smallest_tag x)) (same_Some b d f)
-    (IsAtMost-from_le (smallest_tag a) (smallest_tag b) (and_first (in_order a b) (canonical (b ∷ cs)) h)))
+    (IsAtMost-from_le (smallest_tag a) (smallest_tag b) (and_parts (in_order a b) (canonical (b ∷ cs)) h).0))
 IsCanonical-from_test (a ∷ (b ∷ cs)) h (suc k) c d e f =
-    IsCanonical-from_test (b ∷ cs) (and_second (in_order a b) (canonical (b ∷ cs)) h) k c d e
+    IsCanonical-from_test (b ∷ cs) (and_parts (in_order a b) (canonical (b ∷ cs)) h).1 k c d e
     (ap (slice_get (b ∷ cs)) (add-one k) ∙ (sym (ap (slice_get (a ∷ (b ∷ cs))) (add-one (suc k))) ∙ f))
 
 -- and for nothing else
@@ -58,7 +42,7 @@ pub test-from_IsCanonical : (cs : List Component) → IsCanonical cs → canonic
 test-from_IsCanonical [] h = refl
 test-from_IsCanonical (a ∷ []) h = refl
 test-from_IsCanonical (a ∷ (b ∷ cs)) h =
-    and_both (in_order a b) (canonical (b ∷ cs)) (le-from_IsAtMost (smallest_tag a) (smallest_tag b) (h 0 a b refl refl))
+    and_from (in_order a b) (canonical (b ∷ cs)) (le-from_IsAtMost (smallest_tag a) (smallest_tag b) (h 0 a b refl refl))
     (test-from_IsCanonical (b ∷ cs)
     (λ k c d e f. h (suc k) c d e (ap (slice_get (a ∷ (b ∷ cs))) (add-one (suc k)) ∙ (sym (ap (slice_get (b ∷ cs)) (add-one k)) ∙ f))))
 
@@ -71,7 +55,7 @@ module _ {X : Type 0} (seen : X → Component) where
   all_in_order [] h = refl
   all_in_order (x ∷ []) h = refl
   all_in_order (x ∷ (y ∷ xs)) h =
-      and_both (in_order (seen x) (seen y)) (canonical (map seen (y ∷ xs))) (sym (h 0 x (omega arith)))
+      and_from (in_order (seen x) (seen y)) (canonical (map seen (y ∷ xs))) (sym (h 0 x (omega arith)))
       (all_in_order (y ∷ xs)
       (λ k d lt. subst (λ z. true ≡ in_order (seen (get_or (y ∷ xs) k d)) (seen z)) (ap (λ n. get_or (x ∷ (y ∷ xs)) n d) (add-one (suc k)) ∙ sym (ap (λ n. get_or (y ∷ xs) n d) (add-one k)))
       (h (suc k) d (omega arith))))
@@ -83,7 +67,7 @@ module _ {X : Type 0} (seen : X → Component) where
   some_not_in_order (x ∷ []) k lt h = absurd (omega arith)
   some_not_in_order (x ∷ (y ∷ xs)) zero lt h = ap (λ b. b && canonical (map seen (y ∷ xs))) (sym (h x))
   some_not_in_order (x ∷ (y ∷ xs)) (suc k) lt h =
-      and_false_second (in_order (seen x) (seen y)) (canonical (map seen (y ∷ xs)))
+      and_right (in_order (seen x) (seen y)) (canonical (map seen (y ∷ xs)))
       (some_not_in_order (y ∷ xs) k (omega arith)
       (λ d. subst (λ z. false ≡ in_order (seen (get_or (y ∷ xs) k d)) (seen z)) (ap (λ n. get_or (x ∷ (y ∷ xs)) n d) (add-one (suc k)) ∙ sym (ap (λ n. get_or (y ∷ xs) n d) (add-one k))) (h d)))
 

@@ -1,6 +1,6 @@
 -- The tags that two trees share, and the test of it.
 use Rattle.std.proofs.Common.{◌≡◌, ◌⊎◌, inl, inr, Contains, if◌then◌else◌, Bool, true, false, ◌||◌, IsTrue, List, refl, sym}
-use Rattle.std.proofs.lemmas.Bool.{false≢true}
+use Rattle.std.proofs.lemmas.Bool.{false≢true, or_left, or_right}
 use Rattle.asn1_tags.specs.Tags.{HaveCommonTag, greatest}
 use Rattle.asn1_tags.specs.Trees.{Tree, is_open, leaves}
 use Rattle.asn1_tags.specs.Walks.{meet}
@@ -50,26 +50,15 @@ ShareTag-from_test s t h = by_first (is_open s) refl (is_open t) refl h
 pub test-from_ShareTag : (s t : Tree) → ShareTag s t → share_tag s t ≡ true
 test-from_ShareTag s t h = by_cases (open_or_leaf s h.tag h.of_first) (open_or_leaf t h.tag h.of_second)
   where
-    open_first : (a b : Bool) → a ≡ true → (a || b || meet (leaves s) (leaves t)) ≡ true
-    open_first true b e = refl
-    open_first false b e = absurd (false≢true e)
-
-    open_second : (a b : Bool) → b ≡ true → (a || b || meet (leaves s) (leaves t)) ≡ true
-    open_second true b e = refl
-    open_second false true e = refl
-    open_second false false e = absurd (false≢true e)
-
-    common : (a b m : Bool) → m ≡ true → (a || b || m) ≡ true
-    common true b m e = refl
-    common false true m e = refl
-    common false false m e = e
+    common : Bool
+    common = meet (leaves s) (leaves t)
 
     by_cases : IsTrue (is_open s) ⊎ Contains (leaves s) h.tag → IsTrue (is_open t) ⊎ Contains (leaves t) h.tag →
         share_tag s t ≡ true
-    by_cases (inl e) f = open_first (is_open s) (is_open t) e
-    by_cases (inr e) (inl f) = open_second (is_open s) (is_open t) f
+    by_cases (inl e) f = or_left (is_open s || is_open t) common (or_left (is_open s) (is_open t) e)
+    by_cases (inr e) (inl f) = or_left (is_open s || is_open t) common (or_right (is_open s) (is_open t) f)
     by_cases (inr e) (inr f) =
-        common (is_open s) (is_open t) (meet (leaves s) (leaves t))
+        or_right (is_open s || is_open t) common
         (meet-from_HaveCommonTag (leaves s) (leaves t) (record { tag = h.tag; in_first = e; in_second = f }))
 
 -- what tells whether two lists have a tag in common is `meet`
