@@ -61,13 +61,12 @@ IsUpTo-from_not_less p q h = by_order (cases_lt q.0 p.0)
     by_order (inl lt) = inl lt
     by_order (inr le) = inr (grind (arith, nat_tests, common_steps), grind (arith, nat_tests, common_steps))
 
--- relations that hold of the same pairs have one least pair
-pub least_alone : (P Q : ℕ → ℕ → Type 0) → ((i j : ℕ) → P i j → Q i j) → ((i j : ℕ) → Q i j → P i j) →
-    (r s : Option (ℕ × ℕ)) → IsLeast P r → IsLeast Q s → r ≡ s
-least_alone P Q to from None None h k = refl
-least_alone P Q to from None (Some q) h k = absurd (h q.0 q.1 (from q.0 q.1 k.0))
-least_alone P Q to from (Some p) None h k = absurd (k p.0 p.1 (to p.0 p.1 h.0))
-least_alone P Q to from (Some p) (Some q) h k = ap Some (IsUpTo-antisym p q (h.1 q.0 q.1 (from q.0 q.1 k.0)) (k.1 p.0 p.1 (to p.0 p.1 h.0)))
+-- a relation has one least pair
+pub least_alone : (P : ℕ → ℕ → Type 0) (r s : Option (ℕ × ℕ)) → IsLeast P r → IsLeast P s → r ≡ s
+least_alone P None None h k = refl
+least_alone P None (Some q) h k = absurd (h q.0 q.1 k.0)
+least_alone P (Some p) None h k = absurd (k p.0 p.1 h.0)
+least_alone P (Some p) (Some q) h k = ap Some (IsUpTo-antisym p q (h.1 q.0 q.1 k.0) (k.1 p.0 p.1 h.0))
 
 -- the lesser of two least pairs is the least of both relations
 pub least_of_two : (P Q R : ℕ → ℕ → Type 0) → ((i j : ℕ) → R i j → P i j ⊎ Q i j) → ((i j : ℕ) → P i j → R i j) → ((i j : ℕ) → Q i j → R i j) →
@@ -247,20 +246,35 @@ IsPair p i j = (p.0 ≡ i) × (p.1 ≡ j)
 pair_alone : (p : ℕ × ℕ) → IsLeast (IsPair p) (Some p)
 pair_alone p = ((refl, refl), λ i j e. inr (e.0, let f = e.1 in omega arith))
 
-fewer : (all : List Occurrence) (n i j : ℕ) → Neighbours all n i j → Neighbours all (n + 1) i j
-fewer all n i j h = record {
-  at = h.at;
-  first = h.first;
-  second = h.second;
-  within = let lt = h.within in omega arith;
-  fits = h.fits;
-  first_at = h.first_at;
-  second_at = h.second_at;
-  same = h.same;
-  first_place = h.first_place;
-  second_place = h.second_place;
-  differ = h.differ;
+-- neighbours among the first n are neighbours among the first m, where both stand among these
+among : (all : List Occurrence) (n m i j : ℕ) (u : Neighbours all n i j) → u.at + 1 < m → Neighbours all m i j
+among all n m i j u lt = record {
+  at = u.at;
+  first = u.first;
+  second = u.second;
+  within = lt;
+  fits = u.fits;
+  first_at = u.first_at;
+  second_at = u.second_at;
+  same = u.same;
+  first_place = u.first_place;
+  second_place = u.second_place;
+  differ = u.differ;
 }
+
+fewer : (all : List Occurrence) (n i j : ℕ) → Neighbours all n i j → Neighbours all (n + 1) i j
+fewer all n i j u = among all n (n + 1) i j u (let lt = u.within in omega arith)
+
+-- the last neighbours are these two
+last_two : (all : List Occurrence) (n : ℕ) (a b : Occurrence) → 1 ≤ n → n < length all → get_or all (n - 1) a ≡ a → get_or all n b ≡ b →
+    (i j : ℕ) (u : Neighbours all (n + 1) i j) → n ≤ u.at + 1 → (a ≡ u.first) × (b ≡ u.second)
+last_two all n a b some lt at_a at_b i j u last =
+    let bound = u.within in
+    let here : u.at ≡ n - 1 = omega arith in
+    let next : u.at + 1 ≡ n = omega arith in (
+      sym at_a ∙ (get_or_default all (n - 1) a u.first (omega arith) ∙ (ap (λ k. get_or all k u.first) (sym here) ∙ u.first_at)),
+      sym at_b ∙ (get_or_default all n b u.second lt ∙ (ap (λ k. get_or all k u.second) (sym next) ∙ u.second_at)),
+    )
 
 pub neighbours_more : (all : List Occurrence) (n : ℕ) (a b : Occurrence) (r : Option (ℕ × ℕ)) → 1 ≤ n → n < length all →
     get_or all (n - 1) a ≡ a → get_or all n b ≡ b → a.tag ≡ b.tag → a.place ≢ b.place →
@@ -272,26 +286,10 @@ neighbours_more all n a b r some lt at_a at_b same differ h =
     which i j u = by_order (cases_lt (u.at + 1) n)
       where
         by_order : (u.at + 1 < n) ⊎ (n ≤ u.at + 1) → Neighbours all n i j ⊎ IsPair (a.place, b.place) i j
-        by_order (inl within) = inl (record {
-          at = u.at;
-          first = u.first;
-          second = u.second;
-          within = within;
-          fits = u.fits;
-          first_at = u.first_at;
-          second_at = u.second_at;
-          same = u.same;
-          first_place = u.first_place;
-          second_place = u.second_place;
-          differ = u.differ;
-        })
+        by_order (inl within) = inl (among all (n + 1) n i j u within)
         by_order (inr last) =
-            let bound = u.within in
-            let here : u.at ≡ n - 1 = omega arith in
-            let next : u.at + 1 ≡ n = omega arith in
-            let first : a ≡ u.first = sym at_a ∙ (get_or_default all (n - 1) a u.first (omega arith) ∙ (ap (λ k. get_or all k u.first) (sym here) ∙ u.first_at)) in
-            let second : b ≡ u.second = sym at_b ∙ (get_or_default all n b u.second lt ∙ (ap (λ k. get_or all k u.second) (sym next) ∙ u.second_at)) in
-            inr (ap (λ o. o.place) first ∙ u.first_place, ap (λ o. o.place) second ∙ u.second_place)
+            let these = last_two all n a b some lt at_a at_b i j u last in
+            inr (ap (λ o. o.place) these.0 ∙ u.first_place, ap (λ o. o.place) these.1 ∙ u.second_place)
 
     right : (i j : ℕ) → IsPair (a.place, b.place) i j → Neighbours all (n + 1) i j
     right i j e =
@@ -321,33 +319,12 @@ neighbours_no_more all n a b r some lt at_a at_b none h =
     ahead i j u = by_order (cases_lt (u.at + 1) n)
       where
         by_order : (u.at + 1 < n) ⊎ (n ≤ u.at + 1) → (k : ℕ) × (l : ℕ) × Neighbours all n k l × IsUpTo (k, l) (i, j)
-        by_order (inl within) = (
-          i,
-          j,
-          record {
-            at = u.at;
-            first = u.first;
-            second = u.second;
-            within = within;
-            fits = u.fits;
-            first_at = u.first_at;
-            second_at = u.second_at;
-            same = u.same;
-            first_place = u.first_place;
-            second_place = u.second_place;
-            differ = u.differ;
-          },
-          inr (refl, omega arith),
-        )
+        by_order (inl within) = (i, j, among all (n + 1) n i j u within, inr (refl, omega arith))
         by_order (inr last) =
-            let bound = u.within in
-            let here : u.at ≡ n - 1 = omega arith in
-            let next : u.at + 1 ≡ n = omega arith in
-            let first : a ≡ u.first = sym at_a ∙ (get_or_default all (n - 1) a u.first (omega arith) ∙ (ap (λ k. get_or all k u.first) (sym here) ∙ u.first_at)) in
-            let second : b ≡ u.second = sym at_b ∙ (get_or_default all n b u.second lt ∙ (ap (λ k. get_or all k u.second) (sym next) ∙ u.second_at)) in
+            let these = last_two all n a b some lt at_a at_b i j u last in
             absurd
-            (none (ap (λ o. o.tag) first ∙ (u.same ∙ ap (λ o. o.tag) (sym second)))
-            (λ level. u.differ (sym u.first_place ∙ (ap (λ o. o.place) (sym first) ∙ (level ∙ (ap (λ o. o.place) second ∙ u.second_place))))))
+            (none (ap (λ o. o.tag) these.0 ∙ (u.same ∙ ap (λ o. o.tag) (sym these.1)))
+            (λ level. u.differ (sym u.first_place ∙ (ap (λ o. o.place) (sym these.0) ∙ (level ∙ (ap (λ o. o.place) these.1 ∙ u.second_place))))))
 
 -- what is at a place in the leaves of components
 Contains-map : (n : ℕ) (ts : List Tag) (t : Tag) (k : ℕ) → Contains (occurrences_at n ts) (record { tag = t; place = k }) → (n ≡ k) × Contains ts t
@@ -442,7 +419,7 @@ clash_from_twice cs all moved i j h =
 pub set_clash_found : (cs : List Component) (all : List Occurrence) (r s : Option (ℕ × ℕ)) → IsPermutation (occurrences 0 cs) all →
     IsLeast (HasOpen cs) r → IsLeast (OccursTwice all) s → lesser_pair r s ≡ set_clash cs
 set_clash_found cs all r s moved h k =
-    least_alone (IsSetClash cs) (IsSetClash cs) (λ i j u. u) (λ i j u. u) (lesser_pair r s) (set_clash cs)
+    least_alone (IsSetClash cs) (lesser_pair r s) (set_clash cs)
     (least_of_two (HasOpen cs) (OccursTwice all) (IsSetClash cs) (clash_which cs all moved) (clash_from_open cs) (clash_from_twice cs all moved) r s h k)
     (set_clash-is cs)
 
@@ -504,22 +481,9 @@ first_open cs k d is fits =
 
 -- beyond the last there are no neighbours
 pub neighbours_end : (all : List Occurrence) (n : ℕ) (r : Option (ℕ × ℕ)) → length all ≤ n → IsLeast (Neighbours all n) r → IsLeast (Neighbours all (length all)) r
-neighbours_end all n r past h = least_before (Neighbours all n) (Neighbours all (length all)) (λ i j u. within (length all) i j u u.fits) (λ i j u. (i, j, within n i j u (let fits = u.fits in omega arith), inr (refl, omega arith))) r h
-  where
-    within : {m : ℕ} (k i j : ℕ) (u : Neighbours all m i j) → u.at + 1 < k → Neighbours all k i j
-    within k i j u lt = record {
-      at = u.at;
-      first = u.first;
-      second = u.second;
-      within = lt;
-      fits = u.fits;
-      first_at = u.first_at;
-      second_at = u.second_at;
-      same = u.same;
-      first_place = u.first_place;
-      second_place = u.second_place;
-      differ = u.differ;
-    }
+neighbours_end all n r past h =
+    least_before (Neighbours all n) (Neighbours all (length all)) (λ i j u. among all n (length all) i j u u.fits)
+    (λ i j u. (i, j, among all (length all) n i j u (let fits = u.fits in omega arith), inr (refl, omega arith))) r h
 
 -- the lesser of a pair and none is the pair
 lesser_pair-None : (r : Option (ℕ × ℕ)) → lesser_pair r None ≡ r
