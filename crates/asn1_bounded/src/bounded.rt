@@ -1,3 +1,4 @@
+//! A bound: no bound, a single value, or a range.
 ghost use Rattle.std.specs.Prelude.{◌≡◌, ◌↔◌, IsTrue, ◌≤ℤ◌, IsSome, IfSome, IfNone, IsOk, IfErr};
 ghost use Rattle.std.specs.Option.{ForSome, option_copied};
 ghost use Rattle.either.specs.Either.{IsLeftAnd};

@@ -1,3 +1,4 @@
+//! What two bounds have in common.
 ghost use Rattle.std.specs.Prelude.{◌≡◌, IfSome, IfNone};
 ghost use Rattle.std.specs.Option.{option_copied};
 ghost use Rattle.asn1_bounded.specs.Ends.{is_single};

@@ -1,3 +1,4 @@
+//! The types of whole numbers that the ends of a bound can have.
 ghost use Rattle.std.specs.Prelude.{◌≡◌, ℤ, pos, ◌≤ℤ◌, ◌^◌, ◌-◌};
 ghost use Rattle.std.specs.Int.{int_min};
 ghost use Rattle.std.specs.Ordering.{int_cmp};

@@ -1,3 +1,4 @@
+//! Constraints of characters (X.680, 51.7).
 ghost use Rattle.std.specs.Prelude.{◌≡◌};
 
 /// A constraint of the characters of a string to an alphabet (X.680, 51.7), which is given by the characters' codes.

@@ -1,3 +1,5 @@
+//! The names of codecs.
+
 /// The name of a codec: a set of rules by which values become bytes.
 #[derive(Clone, Copy, Debug, PartialEq, Eq)]
 pub enum Codec {

@@ -1,3 +1,4 @@
+//! One constraint.
 ghost use Rattle.std.specs.Prelude.{◌≡◌, ℤ, pos, Bool, IsTrue, Some, None};
 ghost use Rattle.std.specs.Option.{option_copied};
 ghost use Rattle.asn1_bounds.specs.declared.constraint.Constraint.TheVariants as constraint;

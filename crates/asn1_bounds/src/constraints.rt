@@ -1,3 +1,4 @@
+//! The set of a type's constraints.
 ghost use Rattle.std.specs.Prelude.{◌≡◌, ◌↔◌, ◌++◌, ◌||◌, ℕ, ℤ, All, List};
 ghost use Rattle.std.specs.Option.{option_copied};
 ghost use Rattle.asn1_bounds.specs.Sets.{parts_intersection};

@@ -1,3 +1,4 @@
+//! The errors of this crate.
 use thiserror::Error;
 
 /// A bound of lengths has an end that no value constraint can hold, being above the greatest `i128`.

@@ -1,3 +1,4 @@
+//! A constraint with the additions of later versions.
 ghost use Rattle.std.specs.Prelude.{◌≡◌, [], None, Some, IsSomeAnd};
 ghost use Rattle.std.specs.Bool.{OnTrue, OnFalse};
 

@@ -1,3 +1,4 @@
+//! Constraints of components (X.680, 51.8).
 ghost use Rattle.std.specs.Prelude.{Option, None, Result};
 
 use crate::codec::Codec;

@@ -1,3 +1,4 @@
+//! Constraints of length (X.680, 51.5).
 ghost use Rattle.std.specs.Prelude.{◌≡◌, ◌↔◌, ℕ, IsTrue};
 ghost use Rattle.std.specs.Borrow.{sem};
 ghost use Rattle.asn1_bounded.specs.Ends.{is_single, is_range};

@@ -1,3 +1,4 @@
+//! Constraints of value (X.680, 51.2 and 51.4).
 ghost use Rattle.std.specs.Prelude.{◌≡◌, ◌↔◌, ℤ, pos, FitsSigned, IfSome};
 ghost use Rattle.std.specs.Int.{w128};
 ghost use Rattle.std.specs.Option.{option_map};

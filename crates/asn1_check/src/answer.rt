@@ -1,4 +1,4 @@
-// The answer to a line.
+//! The answer to a line.
 ghost use Rattle.std.specs.Prelude.{◌≡◌, [], Some, None, IfOk, OnOk, option_map, option_and_then};
 ghost use Rattle.asn1_tags.specs.Trees.{leaves};
 ghost use Rattle.asn1_check.specs.Parts.{parts_of};

@@ -1,4 +1,4 @@
-// Bounds, as they are written.
+//! Bounds, as they are written.
 ghost use Rattle.std.specs.Prelude.{◌≡◌, ◌==◌, option_map, position};
 ghost use Rattle.asn1_check.specs.Parts.{parts_of};
 ghost use Rattle.asn1_check.specs.Grammar.{end_of, range_of, bound_of, bound_line};

@@ -1,4 +1,4 @@
-// The check of an input.
+//! The check of an input.
 ghost use Rattle.std.specs.Prelude.{◌≡◌, ◌++◌, ℕ, List, IfSome, IfOk, OnOk, IsErrOf};
 ghost use Rattle.std.specs.Io.KnownBytes.{Appends, Consumes, IsAtEnd};
 ghost use Rattle.asn1_check.specs.Lines.{whole_lines};

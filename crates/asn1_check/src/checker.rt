@@ -1,4 +1,4 @@
-// A check under way.
+//! A check under way.
 ghost use Rattle.std.specs.Prelude.{◌≡◌, ◌<◌, ℕ, length, take, IfOk, OnOk, IsErrOf};
 ghost use Rattle.std.specs.Io.KnownBytes.{Appends, Keeps};
 ghost use Rattle.asn1_check.specs.Reading.{start, behind, behind_byte, behind_line, text_at, text_at_byte, last_text, all_was_understood, Went, Ended, Broke};

@@ -1,4 +1,4 @@
-// The first clash of a table's fields.
+//! The first clash of a table's fields.
 ghost use Rattle.std.specs.Prelude.{◌≡◌, length, not, position, IfOk};
 ghost use Rattle.std.specs.List.Sorted.{IsSorted};
 ghost use Rattle.asn1_tags.specs.Trees.{is_open};

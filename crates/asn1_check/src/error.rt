@@ -1,4 +1,4 @@
-// The errors of a check.
+//! The errors of a check.
 use thiserror::Error;
 
 /// Why a check ended before the end of its input.

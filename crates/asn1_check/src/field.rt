@@ -1,4 +1,4 @@
-// The fields of a table.
+//! The fields of a table.
 ghost use Rattle.std.specs.Prelude.{◌≡◌, option_map, IfOk};
 ghost use Rattle.asn1_tags.specs.Trees.{is_open, leaves};
 ghost use Rattle.asn1_fields.specs.Canonical.{in_order, smallest_tag};

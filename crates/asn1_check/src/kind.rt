@@ -1,4 +1,4 @@
-// The kinds of table.
+//! The kinds of table.
 ghost use Rattle.std.specs.Prelude.{◌≡◌, option_map};
 ghost use Rattle.asn1_check.specs.Parts.{parts_of};
 ghost use Rattle.asn1_check.specs.Grammar.{kind_of, head_line};

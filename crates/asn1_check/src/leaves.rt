@@ -1,4 +1,4 @@
-// The leaves of a tree.
+//! The leaves of a tree.
 ghost use Rattle.std.specs.Prelude.{◌≡◌, [], false, fold, OnOk};
 ghost use Rattle.asn1_tags.specs.Tags.{lesser, smallest};
 ghost use Rattle.asn1_tags.specs.Trees.{leaf, choice, none, is_open};

@@ -1,4 +1,4 @@
-// The line that is being read.
+//! The line that is being read.
 ghost use Rattle.std.specs.Prelude.{◌≡◌, [], Some, IfOk, OnOk, option_map};
 ghost use Rattle.asn1_check.specs.Reading.{with_byte};
 

@@ -1,4 +1,4 @@
-// Names and numbers, as they are written.
+//! Names and numbers, as they are written.
 ghost use Rattle.std.specs.Prelude.{◌≡◌};
 ghost use Rattle.std.specs.List.{list_all};
 ghost use Rattle.std.specs.Char.{is_ascii_digit};

@@ -1,4 +1,4 @@
-// The parts of a text.
+//! The parts of a text.
 ghost use Rattle.std.specs.Prelude.{◌≡◌, ◌+◌, ◌≤◌, ◌==◌, length, take, drop, [], ◌∷◌, if◌then◌else◌};
 ghost use Rattle.asn1_check.specs.Parts.{parts_of};
 

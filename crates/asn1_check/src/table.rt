@@ -1,4 +1,4 @@
-// A table whose `end` has not come yet.
+//! A table whose `end` has not come yet.
 ghost use Rattle.std.specs.Prelude.{◌≡◌, ◌++◌, codes, length, not, nat_lt, IfOk, OnOk};
 ghost use Rattle.asn1_check.specs.Tables.{clash_of, most_components, new_table, said_of, table_verdict, unchecked, with_component};
 

@@ -1,4 +1,4 @@
-// The texts of answers.
+//! The texts of answers.
 ghost use Rattle.std.specs.Prelude.{◌≡◌, ◌++◌, ◌∷◌, [], codes, IfSome, OnOk};
 ghost use Rattle.std.specs.Fmt.{decimal};
 

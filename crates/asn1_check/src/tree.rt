@@ -1,4 +1,4 @@
-// Trees of tags, as they are written.
+//! Trees of tags, as they are written.
 ghost use Rattle.std.specs.Prelude.{◌≡◌, ℕ, List, None, Some, option_map, IfOk, MatchBool, IsSomeAnd};
 ghost use Rattle.asn1_tags.specs.Trees.{Tree, choice};
 ghost use Rattle.asn1_check.specs.Grammar.{class_of, tag_of, between_brackets, elements_of, all_trees, tree_of};

@@ -1,4 +1,4 @@
-// Verdicts.
+//! Verdicts.
 ghost use Rattle.std.specs.Prelude.{◌≡◌, ◌≢◌, ◌↔◌, List, AllPairs, IsTrue};
 ghost use Rattle.asn1_tags.specs.Tags.{IsSmallest, smallest, distinct};
 ghost use Rattle.asn1_tags.specs.declared.tags.Tag.{Tag};

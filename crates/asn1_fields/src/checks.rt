@@ -1,3 +1,4 @@
+//! The rules on components' tags.
 ghost use Rattle.std.specs.Prelude.{◌≡◌, ◌↔◌, IsTrue, not, position};
 ghost use Rattle.asn1_tags.specs.Trees.{shape};
 ghost use Rattle.asn1_fields.specs.Canonical.{IsCanonical, AtMostOneIsCanonical, canonical, in_order};

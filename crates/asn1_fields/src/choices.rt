@@ -1,3 +1,4 @@
+//! CHOICE types.
 ghost use Rattle.std.specs.Prelude.{◌≡◌, ℕ, List, Option, map};
 ghost use Rattle.std.specs.Option.{option_copied, option_map};
 ghost use Rattle.asn1_model.specs.ConstraintSets.{ConstraintSet, constraint_set};

@@ -1,3 +1,4 @@
+//! The fields of a table.
 ghost use Rattle.std.specs.Prelude.{◌≡◌, ◌↔◌, IsTrue, not};
 ghost use Rattle.asn1_tags.specs.Trees.{shape};
 ghost use Rattle.asn1_fields.specs.Components.{entry_of, may_be_absent, typed_entry};

@@ -1,3 +1,4 @@
+//! ENUMERATED types.
 ghost use Rattle.std.specs.Prelude.{◌≡◌, ◌≢◌, ◌↔◌, ◌<◌, ◌^◌, ℕ, ℤ, List, Option, Some, All, AllPairs, Contains, IfNone, IfSome, IsTrue, MatchOption, length, map, position, slice_get};
 ghost use Rattle.std.specs.Option.{option_copied};
 ghost use Rattle.std.specs.Str.{bytes_eq};

@@ -1,3 +1,4 @@
+//! Types with a table of fields.
 ghost use Rattle.std.specs.Prelude.{◌≡◌, ◌++◌, List, length, slice_get, MatchOption, Bool, true, false, All, []};
 ghost use Rattle.std.specs.Option.{option_map};
 ghost use Rattle.asn1_fields.specs.Components.{Entry, entries, entry_of};

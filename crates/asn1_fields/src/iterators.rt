@@ -1,3 +1,4 @@
+//! The iterators of a table.
 ghost use Rattle.std.specs.Prelude.{◌≡◌};
 ghost use Rattle.std.specs.Iterator.{YieldsFirst, YieldsFirstBy, item_count};
 ghost use Rattle.asn1_fields.specs.Tables.{fields_left, names_of, names_left, optional_fields, optional_left};

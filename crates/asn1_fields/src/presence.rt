@@ -1,3 +1,4 @@
+//! Whether a component may be absent.
 ghost use Rattle.std.specs.Prelude.{◌≡◌};
 
 /// Whether a component of a SEQUENCE or a SET may be absent (X.680, 25.1).

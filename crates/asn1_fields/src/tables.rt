@@ -1,3 +1,4 @@
+//! Tables of a known number of fields.
 ghost use Rattle.std.specs.Prelude.{◌≡◌, length, not};
 ghost use Rattle.std.specs.List.{list_any};
 ghost use Rattle.asn1_fields.specs.Components.{may_be_absent};

@@ -1,3 +1,4 @@
+//! What the order inside sets means.
 ghost use Rattle.std.specs.Prelude.{◌≡◌};
 ghost use Rattle.asn1_model.specs.Orders.{Same};
 ghost use Rattle.asn1_model.specs.Records.{Record, height, is_mark};

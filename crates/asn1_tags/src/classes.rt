@@ -1,3 +1,4 @@
+//! The classes of tags.
 ghost use Rattle.std.specs.Prelude.{◌≡◌, ◌↔◌, ◌<◌, IsTrue, IsSome, IfSome, Some};
 ghost use Rattle.asn1_tags.specs.Tags.{class_number, class_text};
 

@@ -1,3 +1,4 @@
+//! The leaves of trees, as a list.
 #![tactic(auto, using(crate::proofs::Leaves::tree_shapes, crate::proofs::Leaves::flat_steps))]
 
 ghost use Rattle.std.specs.Prelude.{◌≡◌, ◌++◌, [], IfOk, OnOk};

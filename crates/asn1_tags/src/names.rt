@@ -1,3 +1,4 @@
+//! The names of types.
 ghost use Rattle.std.specs.Prelude.{◌≡◌, IsSome, Some, None};
 ghost use Rattle.asn1_tags.specs.Names.{name_of};
 

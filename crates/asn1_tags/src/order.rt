@@ -1,4 +1,4 @@
-// The order of trees: by the smallest tag, and ties by structure.
+//! The order of trees: by the smallest tag, and ties by structure.
 #![tactic(auto, using(crate::proofs::Leaves::tree_shapes, crate::proofs::Structures::steps))]
 
 ghost use Rattle.std.specs.Prelude.{◌≡◌, ◌↔◌, IsTrue, Some, refl};

@@ -1,4 +1,4 @@
-// The walks that number the leaves of trees from left to right.
+//! The walks that number the leaves of trees from left to right.
 #![tactic(auto, using(crate::proofs::Leaves::tree_shapes, crate::proofs::Positions::steps))]
 
 ghost use Rattle.std.specs.Prelude.{◌<◌, ◌^◌, length};

@@ -1,3 +1,4 @@
+//! Tags.
 ghost use Rattle.std.specs.Prelude.{◌≡◌, ◌↔◌, IsTrue, Some};
 ghost use Rattle.std.specs.declared.cmp.Ordering.TheVariants.{Less};
 ghost use Rattle.asn1_tags.specs.Tags.{tag_cmp, tag_eq, tag_text};

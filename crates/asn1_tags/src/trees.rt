@@ -1,3 +1,4 @@
+//! Trees of tags.
 ghost use Rattle.std.specs.Prelude.{◌≡◌, ◌≢◌, ◌↔◌, ◌<◌, ◌^◌, IsTrue, length, AllPairs, Contains, IfSome, Some, slice_get};
 ghost use Rattle.std.specs.Option.{SomeIff};
 ghost use Rattle.asn1_tags.specs.Tags.{HaveCommonTag, IsSmallest, position_of};

@@ -1,4 +1,4 @@
-// The tags that X.680 assigns to its own types (8.4, table 1).
+//! The tags that X.680 assigns to its own types (8.4, table 1).
 
 use crate::classes::Class;
 use crate::tags::Tag;

@@ -1,4 +1,4 @@
-// The walks over the leaves of trees. Each is a pair of functions, for one tree and for several.
+//! The walks over the leaves of trees. Each is a pair of functions, for one tree and for several.
 #![tactic(auto, using(crate::proofs::Leaves::walks))]
 
 ghost use Rattle.std.specs.Prelude.{◌≡◌, ◌<◌, ◌^◌, length};

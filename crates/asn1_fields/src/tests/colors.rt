@@ -1,4 +1,4 @@
-// An ENUMERATED type with a variant behind the extension marker.
+//! An ENUMERATED type with a variant behind the extension marker.
 use crate::Enumerated;
 
 #[derive(Clone, Copy, PartialEq, Eq, Debug)]
