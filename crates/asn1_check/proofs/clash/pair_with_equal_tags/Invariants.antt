@@ -1,7 +1,0 @@
-use Rattle.asn1_fields.specs.Clash.{IsLeast}
-use Rattle.asn1_check.proofs.ClashLemmas.{Neighbours}
-use Rattle.asn1_check.proofs.clash.pair_with_equal_tags.Given as goal
-
--- the least pair of neighbours among the first
-abbrev pub invariant-loop-i : goal.invariant-loop-i
-invariant-loop-i l = IsLeast (Neighbours l.all l.i) l.least

@@ -1,5 +1,0 @@
-use Rattle.asn1_check.proofs.Spellings.{tree_spelled}
-use Rattle.asn1_check.proofs.tree.trees_are_read_of_their_texts.Goals as goal
-
-pub returns : goal.returns
-returns c = λ depth text tree is. tree_spelled depth text tree is

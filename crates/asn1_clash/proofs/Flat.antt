@@ -1,0 +1,88 @@
+-- The rules on distinct tags look at nothing of a tree but its leaves, and whether a choice of nothing stands in it.
+use Rattle.std.proofs.Common.{◌≡◌, ℕ, Bool, true, false, ◌==◌, List, [], ◌∷◌, length, map, Option, refl, sym, ap, subst, ◌∙◌, arith}
+use Rattle.std.proofs.lemmas.Bool.Decides.{nat_tests}
+use Rattle.asn1_tags.specs.Trees.{Tree, leaves, leaves_of, is_open, is_any_open}
+use Rattle.asn1_tags.specs.declared.tags.Tag.{Tag}
+use Rattle.asn1_tags.proofs.Leaves.{leaf_of}
+use Rattle.asn1_fields.specs.Canonical.{canonical}
+use Rattle.asn1_fields.specs.Clash.{IsLeast, IsSequenceClash, IsSetClash, sequence_clash, set_clash}
+use Rattle.asn1_fields.specs.Components.{Component}
+use Rattle.asn1_fields.proofs.Alike.{look_at, sequence_clash-alike, set_clash-alike, canonical-alike}
+use Rattle.asn1_fields.proofs.Clashes.{sequence_clash-is, set_clash-is}
+use Rattle.asn1_clash.specs.Flat.{side_by_side, flat_tree, flat, flat_component}
+
+leaves-side_by_side : (ts : List Tag) (e : Bool) → leaves_of (side_by_side ts e) ≡ ts
+leaves-side_by_side [] true = refl
+leaves-side_by_side [] false = refl
+leaves-side_by_side (t ∷ ts) e = ap (λ us. t ∷ us) (leaves-side_by_side ts e)
+
+open-side_by_side : (ts : List Tag) (e : Bool) → is_any_open (side_by_side ts e) ≡ e
+open-side_by_side [] true = refl
+open-side_by_side [] false = refl
+open-side_by_side (t ∷ ts) e = open-side_by_side ts e
+
+-- a flat tree has its leaves
+pub leaves-flat_tree : (ts : List Tag) (e : Bool) → leaves (flat_tree ts e) ≡ ts
+leaves-flat_tree [] e = refl
+leaves-flat_tree (t ∷ ts) e = leaves-side_by_side (t ∷ ts) e
+
+-- and is open as it is said
+pub open-flat_tree : (t : Tag) (ts : List Tag) (e : Bool) → is_open (flat_tree (t ∷ ts) e) ≡ e
+open-flat_tree t ts e = open-side_by_side (t ∷ ts) e
+
+pub open-flat : (t : Tree) → is_open (flat t) ≡ is_open t
+open-flat t = by_leaves (leaves t) refl (is_open t) refl
+  where
+    by_leaves : (ts : List Tag) → leaves t ≡ ts → (e : Bool) → is_open t ≡ e → is_open (flat_tree ts e) ≡ e
+    by_leaves (l ∷ ts) has e is = open-flat_tree l ts e
+    by_leaves [] has true is = refl
+    by_leaves [] has false is =
+        let some = leaf_of t is in
+        absurd (let within = some.1.0 in let short : length (leaves t) ≡ 0 = ap length has in let bound = some.1.1 in omega (arith, bound))
+
+-- an empty choice that is noted, and one that is not
+pub open_noted : (ts : List Tag) (e : Bool) → e ≡ true → e ≡ is_open (flat_tree ts e)
+open_noted [] e is = is
+open_noted (t ∷ ts) e is = sym (open-flat_tree t ts e)
+
+pub open_unnoted : (ts : List Tag) (e : Bool) → e ≡ false → (length ts == 0) ≡ is_open (flat_tree ts e)
+open_unnoted [] e is = refl
+open_unnoted (t ∷ ts) e is = let none : (length (t ∷ ts) == 0) ≡ false = grind (arith, nat_tests) in none ∙ (sym is ∙ sym (open-flat_tree t ts e))
+
+pub leaves-flat : (t : Tree) → leaves (flat t) ≡ leaves t
+leaves-flat t = leaves-flat_tree (leaves t) (is_open t)
+
+-- a flat tree is its own flat tree
+pub flat-flat_tree : (ts : List Tag) (e : Bool) → flat (flat_tree ts e) ≡ flat_tree ts e
+flat-flat_tree [] e = refl
+flat-flat_tree (t ∷ ts) e = λ i. flat_tree (leaves-flat_tree (t ∷ ts) e i) (open-flat_tree t ts e i)
+
+pub flat_twice : (c : Component) → flat_component (flat_component c) ≡ flat_component c
+flat_twice c = λ i. record { presence = c.presence; tree = flat-flat_tree (leaves c.tree) (is_open c.tree) i }
+
+pub flat_all_twice : (cs : List Component) → map flat_component (map flat_component cs) ≡ map flat_component cs
+flat_all_twice [] = refl
+flat_all_twice (c ∷ cs) = λ i. flat_twice c i ∷ flat_all_twice cs i
+
+-- a component and its flat one look alike to the rules on tags
+looks-flat : (cs : List Component) → map look_at (map flat_component cs) ≡ map look_at cs
+looks-flat [] = refl
+looks-flat (c ∷ cs) = λ i. record { presence = c.presence; leaves = leaves-flat c.tree i; is_open = open-flat c.tree i } ∷ looks-flat cs i
+
+pub sequence_clash-flat : (cs : List Component) → sequence_clash (map flat_component cs) ≡ sequence_clash cs
+sequence_clash-flat cs = sequence_clash-alike (map flat_component cs) cs (looks-flat cs)
+
+pub set_clash-flat : (cs : List Component) → set_clash (map flat_component cs) ≡ set_clash cs
+set_clash-flat cs = set_clash-alike (map flat_component cs) cs (looks-flat cs)
+
+pub canonical-flat : (cs : List Component) → canonical (map flat_component cs) ≡ canonical cs
+canonical-flat cs = canonical-alike (map flat_component cs) cs (looks-flat cs)
+
+-- what is found in flat components is the least clash of the components
+pub least_in_sequence : (seen table : List Component) (found : Option (ℕ × ℕ)) → found ≡ sequence_clash seen → seen ≡ map flat_component table → IsLeast (IsSequenceClash table) found
+least_in_sequence seen table found is flattened =
+    subst (IsLeast (IsSequenceClash table)) (sym (is ∙ (ap sequence_clash flattened ∙ sequence_clash-flat table))) (sequence_clash-is table)
+
+pub least_in_set : (seen table : List Component) (found : Option (ℕ × ℕ)) → found ≡ set_clash seen → seen ≡ map flat_component table → IsLeast (IsSetClash table) found
+least_in_set seen table found is flattened =
+    subst (IsLeast (IsSetClash table)) (sym (is ∙ (ap set_clash flattened ∙ set_clash-flat table))) (set_clash-is table)

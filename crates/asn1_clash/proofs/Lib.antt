@@ -1,0 +1,4 @@
+pub mod Flat
+pub mod Occurrences
+pub mod Runs
+pub mod Summaries

@@ -1,0 +1,24 @@
+-- What the types of this crate stand for.
+use Rattle.std.specs.Prelude.{◌≡◌, ◌++◌, ◌||◌, List, map}
+use Rattle.asn1_tags.specs.Trees.{Tree, leaves, is_open}
+use Rattle.asn1_fields.specs.Components.{Component}
+use Rattle.asn1_clash.specs.Flat.{flat_tree}
+use Rattle.asn1_clash.specs.declared.flat_component.FlatComponent.{FlatComponent}
+use Rattle.asn1_clash.specs.declared.flat_tree.FlatTree.{FlatTree}
+
+-- a tree
+abbrev pub tree_seen : FlatTree → Tree
+tree_seen tree = flat_tree tree.tags.items tree.has_empty_choice
+
+-- a component
+abbrev pub component_seen : FlatComponent → Component
+component_seen component = record { presence = component.presence; tree = tree_seen component.tree }
+
+-- several components
+abbrev pub components_seen : List FlatComponent → List Component
+components_seen components = map component_seen components
+
+-- A tree was added after what was there: its leaves, and whether a choice of nothing stands in it.
+pub record Adds (old new : FlatTree) (tree : Tree) : Type 0 where
+  pub tags : new.tags.items ≡ old.tags.items ++ leaves tree
+  pub empty_choice : new.has_empty_choice ≡ (old.has_empty_choice || is_open tree)

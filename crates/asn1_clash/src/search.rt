@@ -1,0 +1,173 @@
+//! The least pair of components that do not have distinct tags.
+ghost use Rattle.std.specs.Prelude.{◌≡◌, List, length, map, not, position, IfOk};
+ghost use Rattle.std.specs.List.Sorted.{IsSorted};
+ghost use Rattle.asn1_tags.specs.Trees.{is_open};
+ghost use Rattle.asn1_fields.specs.Clash.{IsLeast, IsSequenceClash, IsSetClash, sequence_clash, set_clash, up_to_required};
+ghost use Rattle.asn1_fields.specs.Components.{Component, may_be_absent};
+ghost use Rattle.asn1_clash.specs.Flat.{flat_component};
+ghost use Rattle.asn1_clash.specs.Seen.{component_seen, components_seen};
+ghost use Rattle.asn1_clash.specs.Occurrences.{HasOpen, OccursTwice, lesser_pair, occurrence_cmp, occurrences, pair_less, pair_of};
+
+use crate::flat_component::FlatComponent;
+use asn1_tags::Tag;
+use std::alloc::{AllocError, Global};
+use std::cmp::Ordering;
+
+/// The least pair of places whose components have a tag in common, which no two components of a SET may have; `None` where
+/// there is no such pair (X.680, 27.3).
+///
+/// The leaves of all components are sorted, so the cost is in line with their number times its logarithm.
+pub fn find_set_clash(
+    alloc: Global,
+    components: &[FlatComponent],
+) -> Result<Option<(usize, usize)>, AllocError>
+    ensures report { IfOk result (λ clash. clash ≡ set_clash (components_seen components.now)) }
+    ensures least { (table : List Component) → components_seen components.now ≡ map flat_component table →
+        IfOk result (IsLeast (IsSetClash table)) }
+{
+    let mut occurrences = occurrences_in(alloc, components)?;
+    occurrences.sort_unstable_by(Occurrence::compare);
+    Ok(lesser(
+        pair_with_open(components),
+        pair_with_equal_tags(&occurrences),
+    ))
+}
+
+/// The least pair of places whose components must have distinct tags in a SEQUENCE, and have not; `None` where there is no
+/// such pair (X.680, 25.6 and 25.6.1).
+///
+/// Each run of components that may be absent, together with the component right after the run, is checked as a SET.
+pub fn find_sequence_clash(
+    alloc: Global,
+    components: &[FlatComponent],
+) -> Result<Option<(usize, usize)>, AllocError>
+    ensures report { IfOk result (λ clash. clash ≡ sequence_clash (components_seen components.now)) }
+    ensures least { (table : List Component) → components_seen components.now ≡ map flat_component table →
+        IfOk result (IsLeast (IsSequenceClash table)) }
+{
+    let mut start = 0;
+    let mut rest = components;
+    while !rest.is_empty() {
+        let (run, after) = rest.split_at(run_length(rest));
+        if let Some((i, j)) = find_set_clash(alloc, run)? {
+            return Ok(Some((start + i, start + j)));
+        }
+        start += run.len();
+        rest = after;
+    }
+    Ok(None)
+}
+
+// How many components there are up to and including the first that is always there.
+fn run_length(components: &[FlatComponent]) -> usize
+    ensures { result ≡ length (up_to_required (components_seen components.now)) }
+{
+    match place_of_required(components) {
+        Some(required) => required + 1,
+        None => components.len(),
+    }
+}
+
+// How many components stand before the first that is always there.
+fn place_of_required(components: &[FlatComponent]) -> Option<usize>
+    ensures { result ≡ position (λ component. not (may_be_absent component.presence)) components.now }
+{
+    components
+        .iter()
+        .position(|component| !component.may_be_absent())
+}
+
+// A leaf of a component, and the component's place.
+#[derive(Clone, Copy)]
+struct Occurrence {
+    tag: Tag,
+    place: usize,
+}
+
+impl Occurrence {
+    // The order of the tags, and where these are equal, of the places.
+    fn compare(&self, other: &Occurrence) -> Ordering
+        ensures { result ≡ occurrence_cmp self.now other.now }
+    {
+        self.tag
+            .const_cmp(&other.tag)
+            .then(self.place.cmp(&other.place))
+    }
+}
+
+// The leaves of all components.
+fn occurrences_in(
+    alloc: Global,
+    components: &[FlatComponent],
+) -> Result<Vec<Occurrence>, AllocError>
+    ensures { IfOk result (λ all. all.items ≡ occurrences 0 (components_seen components.now)) }
+{
+    let mut occurrences = Vec::new(alloc);
+    for (place, component) in components.iter().enumerate() {
+        for tag in component.tags() {
+            occurrences.push(Occurrence { tag: *tag, place })?;
+        }
+    }
+    Ok(occurrences)
+}
+
+// The least pair of places that have a tag in common, from the leaves in order: an equal tag stands at neighbours.
+fn pair_with_equal_tags(all: &[Occurrence]) -> Option<(usize, usize)>
+    requires { IsSorted occurrence_cmp all.now }
+    ensures { IsLeast (OccursTwice all.now) result }
+{
+    let mut least = None;
+    for i in 1..all.len() {
+        least = lesser(least, pair_of(&all[i - 1], &all[i]));
+    }
+    least
+}
+
+// The places of two occurrences, where they have one tag and the places differ.
+fn pair_of(first: &Occurrence, second: &Occurrence) -> Option<(usize, usize)>
+    ensures { result ≡ pair_of first.now second.now }
+{
+    if first.tag.const_eq(&second.tag) && first.place != second.place {
+        Some((first.place, second.place))
+    } else {
+        None
+    }
+}
+
+// How many components stand before the first that can begin with any tag.
+fn place_of_open(components: &[FlatComponent]) -> Option<usize>
+    ensures { result ≡ position (λ component. is_open (component_seen component).tree) components.now }
+{
+    components.iter().position(|component| component.is_open())
+}
+
+// The least pair of places of which one has a component that can begin with any tag.
+fn pair_with_open(components: &[FlatComponent]) -> Option<(usize, usize)>
+    ensures { IsLeast (HasOpen (components_seen components.now)) result }
+{
+    let open = place_of_open(components)?;
+    let other = open.max(1);
+    if other < components.len() {
+        Some((0, other))
+    } else {
+        None
+    }
+}
+
+// The lesser of two pairs, or the one that is there.
+fn lesser(first: Option<(usize, usize)>, second: Option<(usize, usize)>) -> Option<(usize, usize)>
+    ensures { result ≡ lesser_pair first second }
+{
+    match (first, second) {
+        (Some(a), Some(b)) => Some(if is_less(b, a) { b } else { a }),
+        (Some(a), None) => Some(a),
+        (None, second) => second,
+    }
+}
+
+// Whether the first pair stands before the second.
+fn is_less(first: (usize, usize), second: (usize, usize)) -> bool
+    ensures { result ≡ pair_less first second }
+{
+    first.0 < second.0 || (first.0 == second.0 && first.1 < second.1)
+}

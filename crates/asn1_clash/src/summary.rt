@@ -1,0 +1,33 @@
+//! What there is to say of a tree of tags.
+ghost use Rattle.std.specs.Prelude.{◌≡◌, length};
+ghost use Rattle.asn1_tags.specs.Tags.{distinct, smallest};
+
+use crate::flat_tree::GREATEST;
+use asn1_tags::Tag;
+
+/// Whether a tag stands twice among the leaves of a tree, the smallest leaf, and how many leaves there are.
+#[derive(Clone, Copy)]
+pub struct TreeSummary {
+    /// Whether no tag stands at two leaves.
+    pub is_unique: bool,
+    /// The smallest leaf, and the greatest tag of all where there is none.
+    pub smallest_tag: Tag,
+    /// The number of leaves.
+    pub leaf_count: usize,
+}
+
+impl TreeSummary {
+    /// The summary of a tree of these leaves, which are sorted for it, so that their order is lost.
+    pub fn of(leaves: &mut [Tag]) -> TreeSummary
+        ensures unique { result.is_unique ≡ distinct leaves.old }
+        ensures smallest { result.smallest_tag ≡ smallest leaves.old }
+        ensures count { result.leaf_count ≡ length leaves.old }
+    {
+        leaves.sort_unstable_by(Tag::const_cmp);
+        TreeSummary {
+            is_unique: leaves.is_sorted_by(Tag::const_less_than),
+            smallest_tag: leaves.first().copied().unwrap_or(GREATEST),
+            leaf_count: leaves.len(),
+        }
+    }
+}

@@ -1,0 +1,12 @@
+pub mod Lines
+pub mod Parts
+pub mod PartsLeft
+pub mod Names
+pub mod Grammar
+pub mod Spelling
+pub mod Tables
+pub mod Report
+pub mod Reading
+pub mod Seen
+pub mod Flattened
+pub mod Verdict

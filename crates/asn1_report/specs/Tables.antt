@@ -1,0 +1,68 @@
+-- Tables: the components of a SEQUENCE or a SET, line by line, and what is said of them.
+use Rattle.std.specs.Prelude.{ℕ, Bool, true, false, ◌++◌, if◌then◌else◌, codes, List, [], ◌∷◌, Option, None, Some}
+use Rattle.std.specs.Option.{option_map_or}
+use Rattle.std.specs.Fmt.{decimal}
+use Rattle.asn1_fields.specs.Canonical.{canonical}
+use Rattle.asn1_fields.specs.Clash.{sequence_clash, set_clash}
+use Rattle.asn1_fields.specs.Components.{Component}
+use Rattle.asn1_report.specs.declared.kind.Kind.{Kind}
+use Rattle.asn1_report.specs.declared.kind.Kind.TheVariants.{Sequence, Set}
+
+-- the word that begins a table of that kind
+abbrev pub kind_word : Kind → List ℕ
+kind_word Sequence = codes "sequence"
+kind_word Set = codes "set"
+
+-- the least pair of places whose components must have distinct tags in a table of that kind, and have not
+abbrev pub clash_of : Kind → List Component → Option (ℕ × ℕ)
+clash_of Sequence components = sequence_clash components
+clash_of Set components = set_clash components
+
+-- the text of such a pair, or of none
+abbrev pub clash_text : Option (ℕ × ℕ) → List ℕ
+clash_text None = codes "no clash"
+clash_text (Some (i, j)) = codes "clash " ++ decimal i ++ codes " " ++ decimal j
+
+-- whether components stand in canonical order, in words
+abbrev pub order_text : Bool → List ℕ
+order_text in_order = if in_order then codes "canonical" else codes "not canonical"
+
+-- a table whose `end` has not come yet
+pub record Table : Type 0 where
+  pub kind : Kind
+  pub name : List ℕ
+  pub components : List Component
+  -- whether each of its lines so far was understood
+  pub understood : Bool
+
+-- how many components a table may have
+abbrev pub most_components : ℕ
+most_components = 256
+
+-- a table that begins
+abbrev pub new_table : Kind → List ℕ → Table
+new_table kind name = record { kind = kind; name = name; components = []; understood = true }
+
+-- a table with one more component
+abbrev pub with_component : Table → Component → Table
+with_component table component = record table { components = table.components ++ component ∷ [] }
+
+-- a table of which a line was not understood
+abbrev pub unchecked : Table → Table
+unchecked table = record table { understood = false }
+
+-- a table's line of text: its head line, and what is said of it
+abbrev pub table_line : Table → List ℕ → List ℕ
+table_line table text = kind_word table.kind ++ codes " " ++ table.name ++ codes ": " ++ text ++ 10 ∷ []
+
+-- the text for the `end` of a table
+abbrev pub table_verdict : Table → List ℕ
+table_verdict table =
+    table_line table
+    (if table.understood
+    then clash_text (clash_of table.kind table.components) ++ codes ", " ++ order_text (canonical table.components)
+    else codes "not checked")
+
+-- the text for the end of an input: a table without `end` is not checked
+abbrev pub text_at_end : Option Table → List ℕ
+text_at_end table = option_map_or (λ begun. table_line begun (codes "not checked")) table []

@@ -1,0 +1,22 @@
+-- The texts of verdicts.
+use Rattle.std.specs.Prelude.{ℕ, ◌++◌, List, Option, Some, codes}
+use Rattle.std.specs.Fmt.{signed_decimal}
+use Rattle.std.specs.Option.{option_map_or}
+use Rattle.asn1_bounded.specs.Text.{bound_text}
+use Rattle.asn1_report.specs.Report.{verdict_of}
+use Rattle.asn1_report.specs.Tables.{clash_text, order_text}
+use Rattle.asn1_report.specs.declared.verdict.Common.{Common}
+use Rattle.asn1_report.specs.declared.verdict.TableVerdict.{TableVerdict}
+use Rattle.asn1_report.specs.declared.verdict.TreeVerdict.{TreeVerdict}
+
+-- of a verdict on a tree
+abbrev pub verdict_text : TreeVerdict → List ℕ
+verdict_text verdict = verdict_of verdict.0.is_unique verdict.0.smallest_tag verdict.0.leaf_count
+
+-- of what two bounds have in common
+abbrev pub text_of_common : Common → Option (List ℕ)
+text_of_common common = option_map_or (bound_text (λ number. Some (signed_decimal number))) common.0 (Some (codes "nothing in common"))
+
+-- of a verdict on a table
+abbrev pub text_of_table_verdict : TableVerdict → List ℕ
+text_of_table_verdict verdict = clash_text verdict.clash.0 ++ codes ", " ++ order_text verdict.is_canonical

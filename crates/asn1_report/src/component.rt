@@ -1,0 +1,61 @@
+//! The components of a table.
+ghost use Rattle.std.specs.Prelude.{◌≡◌, option_map, IfOk};
+ghost use Rattle.asn1_clash.specs.Flat.{flat_component};
+ghost use Rattle.asn1_clash.specs.Seen.{component_seen};
+ghost use Rattle.asn1_report.specs.Parts.{parts_of};
+ghost use Rattle.asn1_report.specs.Grammar.{presence_of, component_line, component_of};
+
+use crate::names::is_name;
+use crate::parts::Parts;
+use crate::tree::{DEEPEST, read_tree};
+use asn1_clash::{FlatComponent, FlatTree};
+use asn1_fields::FieldPresence;
+use std::alloc::{AllocError, Global};
+
+/// The component that the line inside a table adds, if it adds one.
+pub(crate) fn read_component(
+    alloc: Global,
+    line: &[u8],
+) -> Result<Option<FlatComponent>, AllocError>
+    ensures { IfOk result (λ component. option_map component_seen component ≡ option_map flat_component (component_of line.now)) }
+{
+    let Some((presence, text)) = component_line(line) else {
+        return Ok(None);
+    };
+    let mut tree = FlatTree::new(alloc);
+    if read_tree(text, DEEPEST, &mut tree)? {
+        Ok(Some(FlatComponent { presence, tree }))
+    } else {
+        Ok(None)
+    }
+}
+
+// The presence that the word names.
+fn presence_of(word: &[u8]) -> Option<FieldPresence>
+    ensures { result ≡ presence_of word.now }
+{
+    if word == b"required".as_slice() {
+        Some(FieldPresence::Required)
+    } else if word == b"optional".as_slice() {
+        Some(FieldPresence::Optional)
+    } else if word == b"default".as_slice() {
+        Some(FieldPresence::Default)
+    } else {
+        None
+    }
+}
+
+// The presence and the text of the tree, where the line has three parts and the first two are a name and a presence.
+fn component_line(line: &[u8]) -> Option<(FieldPresence, &[u8])>
+    ensures { option_map (λ (presence, text). (presence, text.now)) result ≡ component_line (parts_of line.now) }
+{
+    let mut parts = Parts::of(line);
+    let name = parts.next()?;
+    let word = parts.next()?;
+    let text = parts.next()?;
+    if parts.next().is_none() && is_name(name) {
+        Some((presence_of(word)?, text))
+    } else {
+        None
+    }
+}

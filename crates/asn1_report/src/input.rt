@@ -1,0 +1,59 @@
+//! The check of an input.
+ghost use Rattle.std.specs.Prelude.{◌≡◌, ◌++◌, ℕ, List, IfSome, IfOk, OnOk, IsErrOf};
+ghost use Rattle.std.specs.Io.KnownBytes.{Appends, Consumes, IsAtEnd};
+ghost use Rattle.asn1_report.specs.Lines.{whole_lines};
+ghost use Rattle.asn1_report.specs.Report.{report, all_understood, text_for};
+
+use crate::checker::Checker;
+use crate::error::CheckError;
+use std::alloc::Global;
+use std::io::{Read, Write};
+
+// How many bytes a read may give.
+const BUFFER_LENGTH: usize = 32 * 1024;
+
+/// Reads schema tables line by line, writes the verdicts, and says whether every line was understood and every table had
+/// its `end`.
+///
+/// Of the input no more is kept than a line, of which no more than 4096 bytes, and the leaves of the table that is open. A
+/// line is written by one call, so a writer with a buffer serves best; it is flushed before the check ends, unless a write
+/// failed.
+///
+/// An interrupted read is tried again. A read that fails, or 2^64 - 1 reads that meet no end of the input, answer
+/// [`CheckError::Reading`], where memory runs out it answers [`CheckError::Memory`], and after either the text for all earlier lines
+/// is written; a table that is open then has neither its verdict nor `not checked`. After [`CheckError::Writing`] nothing is
+/// known of what is written.
+pub fn check<R: Read, W: Write>(
+    alloc: Global,
+    reader: &mut R,
+    writer: &mut W,
+) -> Result<bool, CheckError>
+    // What is written is the report of what was read, to the end.
+    ensures report { OnOk result (IfSome (R.remaining reader.old) (λ input.
+        Appends (W.contents writer.old) (W.contents writer.new) (report input))) }
+    ensures understood { IfOk result (λ answer. IfSome (R.remaining reader.old) (λ input. answer ≡ all_understood input)) }
+    ensures read { OnOk result (IsAtEnd (R.remaining reader.new)) }
+
+    // After an error it is the text for the lines that were ended among the bytes given so far.
+    ensures reading { IsErrOf result CheckError.Reading → (given : List ℕ)
+        × Consumes (R.remaining reader.old) (R.remaining reader.new) given
+        × Appends (W.contents writer.old) (W.contents writer.new) (text_for (whole_lines given)) }
+    ensures memory { IsErrOf result CheckError.Memory → (given : List ℕ) × (more : List ℕ)
+        × Consumes (R.remaining reader.old) (R.remaining reader.new) (given ++ more)
+        × Appends (W.contents writer.old) (W.contents writer.new) (text_for (whole_lines given)) }
+{
+    let Ok(mut checker) = Checker::new(alloc) else {
+        return Err(CheckError::Memory);
+    };
+    let Ok(mut buffer) = vec![in alloc; 0; BUFFER_LENGTH] else {
+        return Err(CheckError::Memory);
+    };
+    let outcome = checker.read_to_end(reader, &mut buffer, writer);
+    if outcome == Err(CheckError::Writing) || writer.flush().is_err() {
+        return Err(CheckError::Writing);
+    }
+    match outcome {
+        Ok(()) => Ok(checker.all_understood),
+        Err(error) => Err(error),
+    }
+}
