@@ -12,42 +12,12 @@ ghost use Rattle.asn1_report.specs.Tables.{unchecked};
 use crate::bound::bound_line;
 use crate::component::read_component;
 use crate::kind::head_line;
-use crate::names::is_name;
-use crate::parts::Parts;
 use crate::table::Table;
 use crate::texts::{write_refusal, write_verdict};
-use crate::tree::{DEEPEST, read_tree};
-use crate::verdict::{Common, TreeVerdict};
-use asn1_clash::{FlatTree, TreeSummary};
+use crate::tree_line::read_tree_line;
+use crate::verdict::Common;
+use asn1_clash::FlatTree;
 use std::alloc::{AllocError, Global};
-
-// The name and the text of the tree, where the line has three parts and `tree` is the first.
-fn tree_line(line: &[u8]) -> Option<(&[u8], &[u8])>
-    ensures { option_map (λ (name, text). (name.now, text.now)) result ≡ tree_line (parts_of line.now) }
-{
-    let mut parts = Parts::of(line);
-    let keyword = parts.next()?;
-    let name = parts.next()?;
-    let text = parts.next()?;
-    if parts.next().is_none() && keyword == b"tree".as_slice() && is_name(name) {
-        Some((name, text))
-    } else {
-        None
-    }
-}
-
-// The verdict on the tree that the text is, if it is one. `flat` is room for its leaves.
-fn tree_verdict(text: &[u8], flat: &mut FlatTree) -> Result<Option<TreeVerdict>, AllocError>
-    ensures { IfOk result (λ verdict. option_map verdict_text verdict
-        ≡ option_map (λ tree. tree_verdict (leaves tree)) (tree_of deepest text.now)) }
-{
-    flat.clear();
-    if read_tree(text, DEEPEST, flat)? {
-        Ok(Some(TreeVerdict(TreeSummary::of(&mut flat.tags))))
-    } else {
-        Ok(None)
-    }
-}
 
 // Makes the text for a line outside of tables, and says whether the line is understood.
 fn answer_outside(
@@ -61,11 +31,9 @@ fn answer_outside(
     ensures { IfOk result (λ understood. GivesIfAny understood (option_map answer_outside (statement_of line.now))
         text.old.items text.new.items None (option_map table_seen table.new)) }
 {
-    if let Some((name, tree)) = tree_line(line) {
-        if let Some(verdict) = tree_verdict(tree, flat)? {
-            write_verdict("tree", name, verdict, text)?;
-            return Ok(true);
-        }
+    if let Some((name, verdict)) = read_tree_line(line, flat)? {
+        write_verdict("tree", name, verdict, text)?;
+        return Ok(true);
     }
     if let Some((name, first, second)) = bound_line(line) {
         write_verdict("bound", name, Common::of(&first, &second), text)?;

@@ -34,6 +34,7 @@ mod table;
 mod tests;
 mod texts;
 mod tree;
+mod tree_line;
 mod verdict;
 
 pub use error::CheckError;
