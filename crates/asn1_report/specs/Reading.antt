@@ -20,9 +20,22 @@ flat_place place = record place { table = option_map flat_table place.table }
 abbrev pub start : State
 start = record { line = Some []; place = first_place; understood = true }
 
--- a line within the limit, with one more byte
+-- a line within the limit, with one more byte, as far as it is looked at
 abbrev pub with_byte : Option (List ℕ) → ℕ → Option (List ℕ)
 with_byte line byte = option_and_then (λ bytes. within_limit (bytes ++ byte ∷ [])) line
+
+-- with more bytes
+abbrev pub with_bytes : Option (List ℕ) → List ℕ → Option (List ℕ)
+with_bytes line [] = line
+with_bytes line (byte ∷ bytes) = with_bytes (with_byte line byte) bytes
+
+-- with more bytes, of which none is a line feed
+abbrev pub on_line : State → List ℕ → State
+on_line s bytes = record s { line = with_bytes s.line bytes }
+
+-- what is written for the line
+abbrev pub text_for_line : State → List ℕ
+text_for_line s = (answer_to s.place s.line).text
 
 -- after the line; of the trees of a table's components only what verdicts depend on is kept
 abbrev pub after_line : State → State
@@ -33,7 +46,7 @@ abbrev pub after_byte : State → ℕ → State
 after_byte s byte = if byte == 10 then after_line s else record s { line = with_byte s.line byte }
 
 abbrev pub text_at_byte : State → ℕ → List ℕ
-text_at_byte s byte = if byte == 10 then (answer_to s.place s.line).text else []
+text_at_byte s byte = if byte == 10 then text_for_line s else []
 
 -- after several bytes, and what is written for them
 abbrev pub after : State → List ℕ → State
@@ -46,7 +59,7 @@ text_at s (byte ∷ bytes) = text_at_byte s byte ++ text_at (after_byte s byte) 
 
 -- what is written for the end of the input, where it is met there: the text for the line that it ends, and for a table without `end`
 abbrev pub last_text : State → List ℕ
-last_text s = (answer_to s.place s.line).text ++ text_at_end (after_line s).place.table
+last_text s = text_for_line s ++ text_at_end (after_line s).place.table
 
 -- whether each line was understood where the input ends there, and each table had its `end`
 abbrev pub all_was_understood : State → Bool

@@ -23,4 +23,4 @@ place_seen number table = record { number = number; table = option_map table_see
 
 -- what a checker remembers of the bytes that came
 abbrev pub state_seen : Checker → State
-state_seen checker = record { line = line_seen checker.line; place = place_seen checker.number checker.table; understood = checker.all_understood }
+state_seen checker = record { line = line_seen checker.line; place = place_seen checker.number checker.reporter.table; understood = checker.all_understood }

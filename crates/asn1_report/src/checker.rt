@@ -1,27 +1,21 @@
 //! A check under way.
-ghost use Rattle.std.specs.Prelude.{◌≡◌, ◌<◌, ℕ, length, take, IfOk, OnOk, IsErrOf};
+ghost use Rattle.std.specs.Prelude.{◌≡◌, ◌==◌, ◌<◌, ℕ, length, position, take, IfOk, OnOk, IsErrOf};
 ghost use Rattle.std.specs.Io.KnownBytes.{Appends, Keeps};
-ghost use Rattle.asn1_report.specs.Reading.{start, after, after_byte, after_line, text_at, text_at_byte, last_text, all_was_understood, ReadSoFar, ReadToEnd, StoppedByMemory};
-ghost use Rattle.asn1_report.specs.Report.{answer_to};
+ghost use Rattle.asn1_report.specs.Reading.{start, after, after_line, on_line, text_for_line, text_at, last_text, all_was_understood, ReadSoFar, ReadToEnd, StoppedByMemory};
 
-use crate::answer::answer;
 use crate::error::CheckError;
 use crate::line::Line;
-use crate::table::Table;
-use asn1_clash::FlatTree;
+use crate::reporter::Reporter;
 use std::alloc::{AllocError, Global};
 use std::io::{ErrorKind, Read, Write};
 
-/// What a check remembers of the bytes that came, and room for its work on a line.
+/// What a check remembers of the bytes that came.
 #[derive(Drop)]
 pub(crate) struct Checker {
-    alloc: Global,
     line: Line,
     number: u64,
-    table: Option<Table>,
+    reporter: Reporter,
     pub(crate) all_understood: bool,
-    tree: FlatTree,
-    text: Vec<u8>,
 }
 
 impl Checker {
@@ -32,30 +26,20 @@ impl Checker {
         ensures { IfOk result (λ checker. state_seen checker ≡ start) }
     {
         Ok(Checker {
-            alloc,
             line: Line::new(alloc)?,
             number: 1,
-            table: None,
+            reporter: Reporter::new(alloc),
             all_understood: true,
-            tree: FlatTree::new(alloc),
-            text: Vec::new(alloc),
         })
     }
 
     // Makes the text for the line, and begins the next.
     fn answer_line(&mut self) -> Result<(), AllocError>
         ensures state { OnOk result (state_seen self.new ≡ after_line (state_seen self.old)) }
-        ensures text { OnOk result (self.new.text.items
-            ≡ (answer_to (state_seen self.old).place (state_seen self.old).line).text) }
+        ensures text { OnOk result (self.new.reporter.text.items
+            ≡ text_for_line (state_seen self.old)) }
     {
-        let is_understood = answer(
-            self.alloc,
-            self.line.as_slice(),
-            self.number,
-            &mut self.table,
-            &mut self.tree,
-            &mut self.text,
-        )?;
+        let is_understood = self.reporter.answer(self.line.as_slice(), self.number)?;
         self.line.clear();
         self.number = self.number.saturating_add(1);
         self.all_understood = self.all_understood && is_understood;
@@ -66,26 +50,24 @@ impl Checker {
     fn end_line<W: Write>(&mut self, writer: &mut W) -> Result<(), CheckError>
         ensures state { OnOk result (state_seen self.new ≡ after_line (state_seen self.old)) }
         ensures text { OnOk result (Appends (W.contents writer.old) (W.contents writer.new)
-            (answer_to (state_seen self.old).place (state_seen self.old).line).text) }
+            (text_for_line (state_seen self.old))) }
         ensures memory { IsErrOf result CheckError.Memory → Keeps (W.contents writer.old) (W.contents writer.new) }
         ensures no_read { ¬ IsErrOf result CheckError.Reading }
     {
         self.answer_line().map_err(|_| CheckError::Memory)?;
         writer
-            .write_all(self.text.as_slice())
+            .write_all(self.reporter.text())
             .map_err(|_| CheckError::Writing)
     }
 
     // Makes the text for the line, and after it that of a table without `end`, which is not understood then.
     fn answer_last_line(&mut self) -> Result<(), AllocError>
-        ensures text { OnOk result (self.new.text.items ≡ last_text (state_seen self.old)) }
+        ensures text { OnOk result (self.new.reporter.text.items ≡ last_text (state_seen self.old)) }
         ensures understood { OnOk result (self.new.all_understood ≡ all_was_understood (state_seen self.old)) }
     {
         self.answer_line()?;
-        if let Some(table) = &self.table {
-            table.write_not_checked(&mut self.text)?;
-            self.all_understood = false;
-        }
+        let has_end = self.reporter.answer_end()?;
+        self.all_understood = self.all_understood && has_end;
         Ok(())
     }
 
@@ -98,25 +80,32 @@ impl Checker {
     {
         self.answer_last_line().map_err(|_| CheckError::Memory)?;
         writer
-            .write_all(self.text.as_slice())
+            .write_all(self.reporter.text())
             .map_err(|_| CheckError::Writing)
     }
 
-    // Takes the next byte, and writes the text for the line that it ends, if it ends one.
-    fn take_byte<W: Write>(&mut self, byte: u8, writer: &mut W) -> Result<(), CheckError>
-        ensures state { OnOk result (state_seen self.new ≡ after_byte (state_seen self.old) byte) }
-        ensures text { OnOk result (Appends (W.contents writer.old) (W.contents writer.new)
-            (text_at_byte (state_seen self.old) byte)) }
-        ensures memory { IsErrOf result CheckError.Memory → Keeps (W.contents writer.old) (W.contents writer.new) }
+    // Puts bytes without a line feed on the line.
+    fn extend_line(&mut self, bytes: &[u8]) -> Result<(), CheckError>
+        ensures state { OnOk result (state_seen self.new ≡ on_line (state_seen self.old) bytes.now) }
         ensures no_read { ¬ IsErrOf result CheckError.Reading }
     {
-        if byte == b'\n' {
-            return self.end_line(writer);
-        }
-        match self.line.push(byte) {
+        match self.line.extend(bytes) {
             Ok(()) => Ok(()),
             Err(_) => Err(CheckError::Memory),
         }
+    }
+
+    // Puts the last bytes on the line, writes the text for it, and begins the next. Where memory runs out, nothing is
+    // written.
+    fn take_line<W: Write>(&mut self, bytes: &[u8], writer: &mut W) -> Result<(), CheckError>
+        ensures state { OnOk result (state_seen self.new ≡ after_line (on_line (state_seen self.old) bytes.now)) }
+        ensures text { OnOk result (Appends (W.contents writer.old) (W.contents writer.new)
+            (text_for_line (on_line (state_seen self.old) bytes.now))) }
+        ensures memory { IsErrOf result CheckError.Memory → Keeps (W.contents writer.old) (W.contents writer.new) }
+        ensures no_read { ¬ IsErrOf result CheckError.Reading }
+    {
+        self.extend_line(bytes)?;
+        self.end_line(writer)
     }
 
     // Takes the next bytes, and writes the text for each line that ends among them.
@@ -128,13 +117,39 @@ impl Checker {
             (text_at (state_seen self.old) (take k bytes.now)) }
         ensures no_read { ¬ IsErrOf result CheckError.Reading }
     {
-        for byte in bytes {
-            self.take_byte(*byte, writer)?;
+        let mut rest = bytes;
+        while let Some(end) = place_of_line_feed(rest) {
+            self.take_line(&rest[..end], writer)?;
+            rest = &rest[end + 1..];
         }
-        Ok(())
+        self.extend_line(rest)
     }
 
-    /// Reads to the end of the input, and writes the text for each line.
+    // Takes what a read gave, and writes the text for each line that ends there. Where no more bytes are there at once,
+    // the text is handed on, so that whoever waits for it sees it.
+    fn take_read<W: Write>(
+        &mut self,
+        bytes: &[u8],
+        more_may_follow: bool,
+        writer: &mut W,
+    ) -> Result<(), CheckError>
+        ensures state { OnOk result (state_seen self.new ≡ after (state_seen self.old) bytes.now) }
+        ensures text { OnOk result (Appends (W.contents writer.old) (W.contents writer.new)
+            (text_at (state_seen self.old) bytes.now)) }
+        ensures memory { IsErrOf result CheckError.Memory → (k : ℕ) × Appends (W.contents writer.old) (W.contents writer.new)
+            (text_at (state_seen self.old) (take k bytes.now)) }
+        ensures no_read { ¬ IsErrOf result CheckError.Reading }
+    {
+        self.feed(bytes, writer)?;
+        if more_may_follow || writer.flush().is_ok() {
+            Ok(())
+        } else {
+            Err(CheckError::Writing)
+        }
+    }
+
+    /// Reads to the end of the input, and writes the text for each line. Where a read gave less than there was room for,
+    /// the text for all lines that have ended is handed on at once.
     ///
     /// An interrupted read is tried again. After an error some of the input may be read.
     pub(crate) fn read_to_end<R: Read, W: Write>(
@@ -154,7 +169,10 @@ impl Checker {
         for _ in 0..u64::MAX {
             match reader.read(buffer) {
                 Ok(0) => return self.end_input(writer),
-                Ok(count) => self.feed(&buffer[..count], writer)?,
+                Ok(count) => {
+                    let is_full = count == buffer.len();
+                    self.take_read(&buffer[..count], is_full, writer)?;
+                }
                 Err(error) => {
                     if error.kind() != ErrorKind::Interrupted {
                         return Err(CheckError::Reading);
@@ -164,4 +182,11 @@ impl Checker {
         }
         Err(CheckError::Reading)
     }
+}
+
+// Where the first line feed stands.
+fn place_of_line_feed(bytes: &[u8]) -> Option<usize>
+    ensures { result ≡ position (λ byte. byte == 10) bytes.now }
+{
+    bytes.iter().position(|byte| *byte == b'\n')
 }

@@ -19,7 +19,6 @@
 //! [`verdict::verdicts_mean_what_they_say`].
 #![tactic(auto)]
 
-mod answer;
 mod bound;
 mod checker;
 mod component;
@@ -29,6 +28,7 @@ mod kind;
 mod line;
 mod names;
 mod parts;
+mod reporter;
 mod table;
 #[cfg(test)]
 mod tests;

@@ -1,17 +1,18 @@
 //! The line that is being read.
-ghost use Rattle.std.specs.Prelude.{◌≡◌, [], Some, IfOk, OnOk, option_map};
-ghost use Rattle.asn1_report.specs.Reading.{with_byte};
+ghost use Rattle.std.specs.Prelude.{◌≡◌, ◌≤◌, [], Some, length, IfOk, OnOk, option_map};
+ghost use Rattle.asn1_report.specs.Reading.{with_bytes};
 
 use std::alloc::{AllocError, Global};
 
 // The greatest number of bytes of a line that is looked at.
 const LONGEST: usize = 4096;
 
-/// The bytes of a line as they come. Of a line that is too long none are kept.
+/// The bytes of a line as they come. Of a line that is too long no more are kept.
 #[derive(Drop)]
 pub(crate) struct Line {
     bytes: Vec<u8>,
     is_too_long: bool,
+    ghost within: { length bytes.items ≤ 4096 },
 }
 
 impl Line {
@@ -39,12 +40,12 @@ impl Line {
         }
     }
 
-    /// Adds a byte.
-    pub(crate) fn push(&mut self, byte: u8) -> Result<(), AllocError>
-        ensures ok { OnOk result (line_seen self.new ≡ with_byte (line_seen self.old) byte) }
+    /// Adds bytes after the others.
+    pub(crate) fn extend(&mut self, bytes: &[u8]) -> Result<(), AllocError>
+        ensures ok { OnOk result (line_seen self.new ≡ with_bytes (line_seen self.old) bytes.now) }
     {
-        if self.bytes.len() < LONGEST {
-            self.bytes.push(byte)?;
+        if self.bytes.len() + bytes.len() <= LONGEST {
+            self.bytes.extend_from_slice(bytes)?;
         } else {
             self.is_too_long = true;
         }

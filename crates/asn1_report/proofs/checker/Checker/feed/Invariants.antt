@@ -1,11 +1,10 @@
-use Rattle.std.proofs.Common.{◌≡◌, take}
-use Rattle.std.specs.Io.KnownBytes.{Appends}
+use Rattle.std.proofs.Common.{length}
 use Rattle.asn1_report.specs.Seen.{state_seen}
-use Rattle.asn1_report.specs.Reading.{after, text_at}
+use Rattle.asn1_report.proofs.Progress.{FedSoFar}
 use Rattle.asn1_report.proofs.checker.Checker.feed.Given as goal
 
-abbrev pub invariant-loop-byte : goal.invariant-loop-byte
-invariant-loop-byte g l = record {
-  state : state_seen l.self ≡ after (state_seen l.initial.self) (take l.byte-index l.bytes);
-  text : Appends (g.W.Write.contents l.initial.writer) (g.W.Write.contents l.writer) (text_at (state_seen l.initial.self) (take l.byte-index l.bytes));
-}
+abbrev pub invariant-loop-end : goal.invariant-loop-end
+invariant-loop-end g l = FedSoFar l.bytes l.rest (g.W.Write.contents l.initial.writer) (g.W.Write.contents l.writer) (state_seen l.initial.self) (state_seen l.self)
+
+abbrev pub decreases-loop-end : goal.decreases-loop-end
+decreases-loop-end g l = length l.rest

@@ -2,19 +2,19 @@ use Rattle.std.proofs.Common.{◌≡◌, arith}
 use Rattle.std.proofs.lemmas.Result.{err_from_is_err_and}
 use Rattle.asn1_report.proofs.Progress.{went_on, went_kept, went_to_end_if_ok, went_to_want}
 use Rattle.asn1_report.proofs.checker.Checker.read_to_end.Goals as goal
-use Rattle.asn1_report.proofs.checker.Checker.read_to_end.Goals.{in-Ok+in_ok-feed-in-Ok, in-Err+else-ne}
+use Rattle.asn1_report.proofs.checker.Checker.read_to_end.Goals.{in-Ok+in_ok-take_read-in-Ok, in-Err+else-ne}
 
-pub returns-in_err-feed-in-Ok-clause-memory : goal.returns-in_err-feed-in-Ok-clause-memory
-returns-in_err-feed-in-Ok-clause-memory g c =
+pub returns-in_err-take_read-in-Ok-clause-memory : goal.returns-in_err-take_read-in-Ok-clause-memory
+returns-in_err-take_read-in-Ok-clause-memory g c =
     let p = err_from_is_err_and c.from_residual.result c.from_residual.ensures.1 in
     rw (p.1, p.2) (λ is_memory.
-    let wrote = c.in_err-feed-in-Ok.ensures.memory is_memory in
+    let wrote = c.in_err-take_read-in-Ok.ensures.memory is_memory in
     went_to_want _ _ _ _ _ _ _ _ _ wrote.0 c.loop.invariant c.in-Ok.ensures.bytes.0 wrote.1)
 
 pub loop-preserved : goal.loop-preserved
 loop-preserved g c =
     elim c.match-read.branch [
-      | in-Ok+in_ok-feed-in-Ok w ↦ let fed = w.in_ok-feed-in-Ok.ensures in
+      | in-Ok+in_ok-take_read-in-Ok w ↦ let fed = w.in_ok-take_read-in-Ok.ensures in
           rw (w.self-is, w.writer-is) (went_on _ _ _ _ _ _ _ _ _ _ c.loop.invariant w.in-Ok.ensures.bytes.0 fed.text fed.state)
       | in-Err+else-ne w ↦ rw (w.self-is, w.writer-is) (went_kept _ _ _ _ _ _ _ c.loop.invariant w.in-Err.ensures.bytes)
     ]

@@ -1,6 +1,6 @@
 use Rattle.asn1_report.specs.Grammar.{component_of}
 use Rattle.asn1_report.proofs.Answering.{component_added, has_room}
-use Rattle.asn1_report.proofs.answer.answer_inside.Goals as goal
+use Rattle.asn1_report.proofs.reporter.add_component.Goals as goal
 
 pub returns-in_ok-push-in-Some : goal.returns-in_ok-push-in-Some
 returns-in_ok-push-in-Some c =
