@@ -14,7 +14,7 @@ use Rattle.std.proofs.lemmas.Bool.{eq-eqb, ne_eqb, eqb-true, ltb-true, lt-ltb}
 use Rattle.std.proofs.lemmas.Bool.Decides.{nat_tests}
 use Rattle.std.proofs.lemmas.Fmt.{decimal_is_IsNumeral, decimal_digit, first_decimal, digits_decimal, digits_value-decimal, decimal_nonempty}
 use Rattle.std.proofs.lemmas.Grind.{common_steps}
-use Rattle.std.proofs.lemmas.List.{append-nil, length_push, get_or_push}
+use Rattle.std.proofs.lemmas.List.{append-nil, length-append, length_push, get_or_push, get_or_append_left, get_or-append-add}
 use Rattle.std.proofs.lemmas.List.Elements.{All-nil, All-cons, All-append, All-head}
 use Rattle.std.proofs.lemmas.Option.{same_Some}
 use Rattle.std.proofs.lemmas.Str.Parse.{IsNumeralModel, numerals_by_value}
@@ -220,11 +220,15 @@ no_brackets Private bytes = refl
 abbrev HasSmallNumber : Tag → Type 0
 HasSmallNumber tag = tag.value < 2 ^ 32
 
-small_left : (tree : Tree) (trees : Trees) → All HasSmallNumber (leaves_of (more tree trees)) → All HasSmallNumber (leaves tree)
-small_left tree trees small = ?
+small_front : (front back : List Tag) → All HasSmallNumber (front ++ back) → All HasSmallNumber front
+small_front front back small k d lt =
+    let long = length-append front back in
+    subst HasSmallNumber (get_or_append_left front back d k lt) (small k d (omega arith))
 
-small_right : (tree : Tree) (trees : Trees) → All HasSmallNumber (leaves_of (more tree trees)) → All HasSmallNumber (leaves_of trees)
-small_right tree trees small = ?
+small_back : (front back : List Tag) → All HasSmallNumber (front ++ back) → All HasSmallNumber back
+small_back front back small k d lt =
+    let long = length-append front back in
+    subst HasSmallNumber (get_or-append-add front back k d) (small (length front + k) d (omega arith))
 
 mutual
   -- a tree's text is read as that tree
@@ -239,8 +243,8 @@ mutual
   trees_respelled : (depth : ℕ) (trees : Trees) → brackets_of trees ≤ depth → All (λ tag. tag.value < 2 ^ 32) (leaves_of trees) → all_trees (tree_of depth) (spelling_each trees) ≡ Some trees
   trees_respelled depth none deep small = refl
   trees_respelled depth (more tree trees) deep small =
-      ap (option_and_then (λ t. option_map (more t) (all_trees (tree_of depth) (spelling_each trees)))) (tree_respelled depth tree (omega arith) (small_left tree trees small))
-      ∙ ap (option_map (more tree)) (trees_respelled depth trees (omega arith) (small_right tree trees small))
+      ap (option_and_then (λ t. option_map (more t) (all_trees (tree_of depth) (spelling_each trees)))) (tree_respelled depth tree (omega arith) (small_front (leaves tree) (leaves_of trees) small))
+      ∙ ap (option_map (more tree)) (trees_respelled depth trees (omega arith) (small_back (leaves tree) (leaves_of trees) small))
 
 -- the tree's brackets are at most so many, and its tags' numbers small
 abbrev Fits : ℕ → Tree → Type 0
@@ -250,7 +254,72 @@ abbrev FindsFitting : ℕ → (List ℕ → Option Tree) → Type 0
 FindsFitting depth tree_in = (text : List ℕ) (tree : Tree) → tree_in text ≡ Some tree → Fits depth tree
 
 number_small : (digits : List ℕ) (n : ℕ) → number_of digits ≡ Some n → n < 2 ^ 32
-number_small digits n is = ?
+number_small digits n is = by_tests (is_plain_number digits) (ltb (digits_value 10 digits) (2 ^ 32)) refl is
+  where
+    by_tests : (p q : Bool) → ltb (digits_value 10 digits) (2 ^ 32) ≡ q → cond (p && q) (Some (digits_value 10 digits)) None ≡ Some n → n < 2 ^ 32
+    by_tests true true small same = omega (arith, ltb-true (digits_value 10 digits) (2 ^ 32) small, same_Some _ _ same)
+    by_tests true false small same = cc
+    by_tests false q small same = cc
 
+tag_small : (text : List ℕ) (tag : Tag) → tag_of text ≡ Some tag → HasSmallNumber tag
+tag_small [] tag is = cc
+tag_small (letter ∷ digits) tag is = with_class (class_of letter) is
+  where
+    with_number : (class : Class) (r : Option ℕ) → number_of digits ≡ r → option_map (λ value. record { class = class; value = value }) r ≡ Some tag → HasSmallNumber tag
+    with_number class None read whole = cc
+    with_number class (Some n) read whole =
+        let e : Some (record { class = class; value = n }) ≡ Some tag = whole in
+        subst HasSmallNumber (same_Some _ _ e) (number_small digits n read)
+
+    with_class : (r : Option Class) → option_and_then (λ class. option_map (λ value. record { class = class; value = value }) (number_of digits)) r ≡ Some tag →
+        HasSmallNumber tag
+    with_class None whole = cc
+    with_class (Some class) whole = with_number class (number_of digits) refl whole
+
+leaf_fits : (depth : ℕ) (text : List ℕ) (tree : Tree) → option_map leaf (tag_of text) ≡ Some tree → Fits depth tree
+leaf_fits depth text tree is = with_tag (tag_of text) refl is
+  where
+    with_tag : (r : Option Tag) → tag_of text ≡ r → option_map leaf r ≡ Some tree → Fits depth tree
+    with_tag None found whole = cc
+    with_tag (Some tag) found whole =
+        subst (Fits depth) (same_Some _ _ whole) (omega arith, All-cons HasSmallNumber tag [] (tag_small text tag found) (All-nil HasSmallNumber))
+
+-- the trees' brackets are at most so many, and their tags' numbers small
+abbrev AllFit : ℕ → Trees → Type 0
+AllFit depth trees = (brackets_of trees ≤ depth) × All HasSmallNumber (leaves_of trees)
+
+trees_fit : (depth : ℕ) (tree_in : List ℕ → Option Tree) → FindsFitting depth tree_in → (texts : List (List ℕ)) (trees : Trees) →
+    all_trees tree_in texts ≡ Some trees → AllFit depth trees
+trees_fit depth tree_in fits [] trees is = subst (AllFit depth) (same_Some _ _ is) (omega arith, All-nil HasSmallNumber)
+trees_fit depth tree_in fits (text ∷ texts) trees is = with_tree (λ ts found. trees_fit depth tree_in fits texts ts found) (tree_in text) refl is
+  where
+    with_rest : ((ts : Trees) → all_trees tree_in texts ≡ Some ts → AllFit depth ts) → (tree : Tree) (r : Option Trees) → all_trees tree_in texts ≡ r →
+        tree_in text ≡ Some tree → option_map (more tree) r ≡ Some trees → AllFit depth trees
+    with_rest others tree None rest first whole = cc
+    with_rest others tree (Some ts) rest first whole =
+        let one = fits text tree first in
+        let all = others ts rest in
+        subst (AllFit depth) (same_Some _ _ whole) (omega (arith, one.0, all.0), All-append HasSmallNumber (leaves tree) (leaves_of ts) one.1 all.1)
+
+    with_tree : ((ts : Trees) → all_trees tree_in texts ≡ Some ts → AllFit depth ts) → (r : Option Tree) → tree_in text ≡ r →
+        option_and_then (λ tree. option_map (more tree) (all_trees tree_in texts)) r ≡ Some trees → AllFit depth trees
+    with_tree others None found whole = cc
+    with_tree others (Some tree) found whole = with_rest others tree (all_trees tree_in texts) refl found whole
+
+choice_fits : (depth : ℕ) (r : Option Trees) (tree : Tree) → ((trees : Trees) → r ≡ Some trees → AllFit depth trees) → option_map choice r ≡ Some tree →
+    Fits (suc depth) tree
+choice_fits depth None tree fit whole = cc
+choice_fits depth (Some trees) tree fit whole = let all = fit trees refl in subst (Fits (suc depth)) (same_Some _ _ whole) (omega (arith, all.0), all.1)
+
+-- a tree that is read has no more brackets open at once than may be, and its tags' numbers are below 2 ^ 32
 pub tree_fits : (depth : ℕ) (text : List ℕ) (tree : Tree) → tree_of depth text ≡ Some tree → (brackets tree ≤ depth) × All (λ tag. tag.value < 2 ^ 32) (leaves tree)
-tree_fits depth text tree is = ?
+unfolding tree_of
+tree_fits zero text tree is = leaf_fits zero text tree is
+tree_fits (suc depth) text tree is = with_inside (tree_fits depth) (between_brackets text) is
+  where
+    with_inside : FindsFitting depth (tree_of depth) → (r : Option (List ℕ)) →
+        option_map_or (λ inside. option_map choice (all_trees (tree_of depth) (elements_of inside))) r (option_map leaf (tag_of text)) ≡ Some tree →
+        Fits (suc depth) tree
+    with_inside fits None whole = leaf_fits (suc depth) text tree whole
+    with_inside fits (Some inside) whole =
+        choice_fits depth (all_trees (tree_of depth) (elements_of inside)) tree (trees_fit depth (tree_of depth) fits (elements_of inside)) whole
