@@ -1,5 +1,5 @@
 -- The text of a tree, as it is written: the one that is read as that tree.
-use Rattle.std.specs.Prelude.{ℕ, ◌++◌, List, [], ◌∷◌}
+use Rattle.std.specs.Prelude.{ℕ, ◌+◌, max, ◌++◌, List, [], ◌∷◌}
 use Rattle.std.specs.Fmt.{decimal}
 use Rattle.asn1_tags.specs.Trees.{Tree, Trees, leaf, choice, none, more}
 use Rattle.asn1_tags.specs.declared.classes.Class.{Class}
@@ -25,3 +25,14 @@ abbrev mutual
   pub spelling_after : Trees → List ℕ
   spelling_after none = []
   spelling_after (more tree trees) = 32 ∷ (spelling tree ++ spelling_after trees)
+
+-- how many brackets are open at once in a tree's text: none for a tag, and for a choice one more than the most of
+-- its trees
+abbrev mutual
+  pub brackets : Tree → ℕ
+  brackets (leaf tag) = 0
+  brackets (choice trees) = brackets_of trees + 1
+
+  pub brackets_of : Trees → ℕ
+  brackets_of none = 0
+  brackets_of (more tree trees) = max (brackets tree) (brackets_of trees)

@@ -1,9 +1,9 @@
 //! Trees of tags, as they are written.
-ghost use Rattle.std.specs.Prelude.{◌≡◌, ℕ, List, None, Some, option_map, IfOk, MatchBool, IsSomeAnd};
-ghost use Rattle.asn1_tags.specs.Trees.{Tree, choice};
+ghost use Rattle.std.specs.Prelude.{◌≡◌, ℕ, ◌^◌, ◌<◌, ◌≤◌, List, None, Some, option_map, All, IfOk, MatchBool, IsSomeAnd};
+ghost use Rattle.asn1_tags.specs.Trees.{Tree, choice, leaves};
 ghost use Rattle.asn1_report.specs.Grammar.{class_of, tag_of, between_brackets, elements_of, all_trees, tree_of};
 ghost use Rattle.asn1_clash.specs.Seen.{Adds};
-ghost use Rattle.asn1_report.specs.Spelling.{spelling};
+ghost use Rattle.asn1_report.specs.Spelling.{spelling, brackets};
 
 use crate::names::read_number;
 use crate::parts::Parts;
@@ -93,8 +93,11 @@ fn read_elements(inside: &[u8], depth: u8, flat: &mut FlatTree) -> Result<bool, 
     Ok(true)
 }
 
-/// A law of the definition that [`read_tree`] meets: what is read as a tree is the text of that tree, so no two
-/// trees are read of one text, and no byte of it is passed over.
+/// A law of the definition that [`read_tree`] meets: what is read as a tree is the text of that tree, so no byte of
+/// it is passed over, and no two texts are read as one tree. And each tree's text is read as that tree, where at most
+/// `depth` of its brackets are open at once and each tag's number is below 2 ^ 32.
 pub fn trees_are_read_of_their_texts()
-    ensures { (depth : ℕ) (text : List ℕ) (tree : Tree) → tree_of depth text ≡ Some tree → text ≡ spelling tree }
+    ensures text { (depth : ℕ) (text : List ℕ) (tree : Tree) → tree_of depth text ≡ Some tree → text ≡ spelling tree }
+    ensures read { (depth : ℕ) (tree : Tree) → brackets tree ≤ depth → All (λ tag. tag.value < 2 ^ 32) (leaves tree)
+        → tree_of depth (spelling tree) ≡ Some tree }
 {}
