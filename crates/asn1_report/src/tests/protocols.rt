@@ -1,6 +1,5 @@
 //! The tables of real protocols that stand in the folder examples, each with its verdicts.
-use super::checked;
-use std::test::Fail;
+use super::assert_report;
 
 /// A table and what is written for it.
 #[derive(Drop)]
@@ -166,12 +165,53 @@ const SNMP: Example = Example {
         bound non-repeaters: 0..2147483647\n",
 };
 
+// Lines of each kind from certificates: RFC 5280, 4.1 and 4.2.1, with a tree that repeats a tag, bounds with nothing in common,
+// a table with a clash, and a line that is not understood.
+const MIXED: Example = Example {
+    table: b"tree Time (U23 U24)\n\
+        tree DirectoryString (U20 U19 U28 U12 U30)\n\
+        tree GeneralName (C0 C1 C2 C3 C4 C5 C6 C7 C8)\n\
+        tree AlgorithmParameters ()\n\
+        tree TimeOrText ((U23 U24) (U12 U24))\n\
+        bound Version 0..2 & 0..\n\
+        bound SerialLength 1.. & ..20\n\
+        bound Pathlen 0..255 & -5..-1\n\
+        sequence TBSCertificate\n\
+        version default C0\n\
+        serialNumber required U2\n\
+        signature required U16\n\
+        issuer required U16\n\
+        validity required U16\n\
+        subject required U16\n\
+        subjectPublicKeyInfo required U16\n\
+        issuerUniqueID optional C1\n\
+        subjectUniqueID optional C2\n\
+        extensions optional C3\n\
+        end\n\
+        sequence Ambiguous\n\
+        first optional (U12 U2)\n\
+        second default U4\n\
+        third required U2\n\
+        end\n\
+        tree Time U23 U24\n",
+    verdicts: b"tree Time: unique, smallest Universal 23, 2 leaves\n\
+        tree DirectoryString: unique, smallest Universal 12, 5 leaves\n\
+        tree GeneralName: unique, smallest Context 0, 9 leaves\n\
+        tree AlgorithmParameters: unique, smallest Private 4294967295, 0 leaves\n\
+        tree TimeOrText: repeated, smallest Universal 12, 4 leaves\n\
+        bound Version: 0..2\n\
+        bound SerialLength: 1..20\n\
+        bound Pathlen: nothing in common\n\
+        sequence TBSCertificate: no clash, not canonical\n\
+        sequence Ambiguous: clash 0 2, not canonical\n\
+        line 26: not understood\n",
+};
+
 #[test]
-fn real_protocols(rt: HostRuntime) -> Result<(), Fail> {
-    for example in [X509, LDAP, SNMP] {
-        let (answer, written) = checked(rt.alloc(), example.table);
-        assert_eq!(rt; answer, Ok(true));
-        assert_eq!(rt; written.as_slice(), example.verdicts);
-    }
-    Ok(())
+fn real_protocols(rt: HostRuntime) {
+    let alloc = rt.alloc();
+    assert_report(&rt, alloc, X509.table, true, X509.verdicts);
+    assert_report(&rt, alloc, LDAP.table, true, LDAP.verdicts);
+    assert_report(&rt, alloc, SNMP.table, true, SNMP.verdicts);
+    assert_report(&rt, alloc, MIXED.table, false, MIXED.verdicts);
 }
