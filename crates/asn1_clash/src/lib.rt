@@ -32,6 +32,8 @@ mod flat_component;
 mod flat_tree;
 mod search;
 mod summary;
+#[cfg(test)]
+mod tests;
 
 pub use flat_component::FlatComponent;
 pub use flat_tree::FlatTree;
