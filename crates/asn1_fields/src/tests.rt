@@ -2,7 +2,8 @@ mod colors;
 
 use crate::{Field, FieldPresence, Fields, first_sequence_clash, first_set_clash, is_canonical};
 use asn1_tags::{Class, Tag, TagTree};
-use std::test::Fail;
+use std::alloc::Global;
+use std::process::Abort;
 
 // The tree of a type with that tag.
 macro_rules! leaf {
@@ -31,19 +32,39 @@ const C3_OR_C4: &[TagTree<'static>] = &[leaf!(Context 3), leaf!(Context 4)];
 
 const U1_OR_U2: &[TagTree<'static>] = &[leaf!(Universal 1), leaf!(Universal 2)];
 
+fn assert_order(rt: &impl Abort, fields: &[Field<'_>], canonical: bool) {
+    assert!(rt; is_canonical(fields) == canonical);
+}
+
 #[test]
 fn fields_go_by_their_smallest_tags(rt: HostRuntime) {
     let u3 = field!(Required leaf!(Universal 3));
     let a0 = field!(Required leaf!(Application 0));
     let c2 = field!(Required leaf!(Context 2));
-    assert!(rt; is_canonical(&[u3, a0, c2]));
-    assert!(rt; !is_canonical(&[u3, c2, a0]));
-    assert!(rt; !is_canonical(&[c2, u3, c2]));
-    assert!(rt; is_canonical(&[]));
+    assert_order(&rt, &[u3, a0, c2], true);
+    assert_order(&rt, &[u3, c2, a0], false);
+    assert_order(&rt, &[c2, u3, c2], false);
+    assert_order(&rt, &[], true);
     let first = Field::new_required(0, Tag::new_context(0), leaf!(Context 0), "first");
     let second = Field::new_required(1, Tag::new_context(0), leaf!(Context 0), "second");
-    assert!(rt; is_canonical(&[first, second]));
-    assert!(rt; is_canonical(&[second, first]));
+    assert_order(&rt, &[first, second], true);
+    assert_order(&rt, &[second, first], true);
+}
+
+// The fields as those of a SEQUENCE: their clash, and whether they are in canonical order.
+fn assert_sequence(
+    rt: &impl Abort,
+    fields: &[Field<'_>],
+    clash: Option<(usize, usize)>,
+    canonical: bool,
+) {
+    assert!(rt; first_sequence_clash(fields) == clash);
+    assert_order(rt, fields, canonical);
+}
+
+// The fields as those of a SET.
+fn assert_set(rt: &impl Abort, fields: &[Field<'_>], clash: Option<(usize, usize)>) {
+    assert!(rt; first_set_clash(fields) == clash);
 }
 
 #[test]
@@ -51,22 +72,20 @@ fn a_sequence_tells_its_components_apart_where_one_may_be_absent(rt: HostRuntime
     let a = field!(Optional leaf!(Context 0));
     let b = field!(Required leaf!(Context 0));
     let x = field!(Required leaf!(Context 1));
-    assert_eq!(rt; first_sequence_clash(&[a, b]), Some((0, 1)));
-    assert!(rt; is_canonical(&[a, b]));
-    assert_eq!(rt; first_sequence_clash(&[a, x, b]), None);
-    assert!(rt; !is_canonical(&[a, x, b]));
+    assert_sequence(&rt, &[a, b], Some((0, 1)), true);
+    assert_sequence(&rt, &[a, x, b], None, false);
+    assert_sequence(&rt, &[], None, true);
+}
 
+#[test]
+fn a_sequence_looks_past_components_that_may_be_absent(rt: HostRuntime) {
     let u1 = field!(Default leaf!(Universal 1));
     let u2 = field!(Optional leaf!(Universal 2));
     let u1_again = field!(Required leaf!(Universal 1));
-    assert_eq!(rt; first_sequence_clash(&[u1, u2, u1_again]), Some((0, 2)));
-    assert!(rt; !is_canonical(&[u1, u2, u1_again]));
-
+    assert_sequence(&rt, &[u1, u2, u1_again], Some((0, 2)), false);
     let group = field!(Optional TagTree::Choice(C3_OR_C4));
     let c4 = field!(Required leaf!(Context 4));
-    assert_eq!(rt; first_sequence_clash(&[group, c4]), Some((0, 1)));
-    assert!(rt; is_canonical(&[group, c4]));
-    assert_eq!(rt; first_sequence_clash(&[]), None);
+    assert_sequence(&rt, &[group, c4], Some((0, 1)), true);
 }
 
 #[test]
@@ -74,11 +93,9 @@ fn a_choice_of_nothing_has_every_tag(rt: HostRuntime) {
     let anything = field!(Optional TagTree::empty());
     let needed = field!(Required TagTree::empty());
     let u2 = field!(Required leaf!(Universal 2));
-    assert_eq!(rt; first_sequence_clash(&[anything, u2]), Some((0, 1)));
-    assert_eq!(rt; first_sequence_clash(&[needed, u2]), None);
-    assert!(rt; !is_canonical(&[anything, u2]));
-    assert!(rt; !is_canonical(&[needed, u2]));
-    assert_eq!(rt; first_set_clash(&[u2, needed]), Some((0, 1)));
+    assert_sequence(&rt, &[anything, u2], Some((0, 1)), false);
+    assert_sequence(&rt, &[needed, u2], None, false);
+    assert_set(&rt, &[u2, needed], Some((0, 1)));
 }
 
 #[test]
@@ -86,29 +103,28 @@ fn a_set_tells_all_its_components_apart(rt: HostRuntime) {
     let a = field!(Required leaf!(Universal 2));
     let b = field!(Required TagTree::Choice(U1_OR_U2));
     let c = field!(Required leaf!(Universal 3));
-    assert_eq!(rt; first_set_clash(&[a, b]), Some((0, 1)));
-    assert!(rt; !is_canonical(&[a, b]));
-    assert_eq!(rt; first_set_clash(&[c, a, b, b]), Some((1, 2)));
-    assert_eq!(rt; first_set_clash(&[a, c]), None);
-    assert_eq!(rt; first_set_clash(&[]), None);
-    assert!(rt; is_canonical(&[]));
+    assert_set(&rt, &[a, b], Some((0, 1)));
+    assert_order(&rt, &[a, b], false);
+    assert_set(&rt, &[c, a, b, b], Some((1, 2)));
+    assert_set(&rt, &[a, c], None);
+    assert_set(&rt, &[], None);
 }
 
 #[test]
-fn tables_may_be_long(rt: HostRuntime) -> Result<(), Fail> {
+fn tables_may_be_long(rt: HostRuntime) {
     let mut fields = Vec::new(rt.alloc());
     for number in 0..256u32 {
-        fields.push(field!(Optional TagTree::Leaf(Tag::new_context(number))))?;
+        let field = field!(Optional TagTree::Leaf(Tag::new_context(number)));
+        fields.push(field).expect(&rt, "memory");
     }
-    assert!(rt; is_canonical(&fields));
-    assert_eq!(rt; first_sequence_clash(&fields), None);
-    assert_eq!(rt; first_set_clash(&fields), None);
+    assert_sequence(&rt, &fields, None, true);
+    assert_set(&rt, &fields, None);
 
-    fields.push(field!(Required leaf!(Context 255)))?;
-    assert!(rt; is_canonical(&fields));
-    assert_eq!(rt; first_sequence_clash(&fields), Some((255, 256)));
-    assert_eq!(rt; first_set_clash(&fields), Some((255, 256)));
-    Ok(())
+    fields
+        .push(field!(Required leaf!(Context 255)))
+        .expect(&rt, "memory");
+    assert_sequence(&rt, &fields, Some((255, 256)), true);
+    assert_set(&rt, &fields, Some((255, 256)));
 }
 
 const PROFILE: &[Field<'static>] = &[
@@ -144,49 +160,83 @@ const PROFILE: &[Field<'static>] = &[
     },
 ];
 
+fn assert_field(rt: &impl Abort, field: &Field<'_>, wanted: &Field<'_>, may_be_absent: bool) {
+    assert!(rt; *field == *wanted);
+    assert!(rt; field.is_optional_or_default() == may_be_absent);
+    assert!(rt; field.is_not_optional_or_default() != may_be_absent);
+}
+
+fn assert_less<T: PartialOrd>(rt: &impl Abort, left: &T, right: &T) {
+    assert!(rt; *left < *right);
+}
+
 #[test]
 fn constructors_say_what_they_are_given(rt: HostRuntime) {
     let tag = Tag::new_context(0);
     let nick = Field::new_optional(0, tag, TagTree::Leaf(tag), "nick");
-    assert_eq!(rt; nick, PROFILE[0]);
+    assert_field(&rt, &nick, &PROFILE[0], true);
     let tag = Tag::new_context(1);
     let level = Field::new_required(1, tag, TagTree::Leaf(tag), "level");
-    assert_eq!(rt; level, PROFILE[1]);
+    assert_field(&rt, &level, &PROFILE[1], false);
     let tag = Tag::new_context(2);
     let color = Field::new_default(2, tag, TagTree::Leaf(tag), "color");
-    assert_eq!(rt; color, PROFILE[2]);
-    assert!(rt; nick.is_optional_or_default());
-    assert!(rt; color.is_optional_or_default());
-    assert!(rt; level.is_not_optional_or_default());
-    assert!(rt; nick < level);
-    assert!(rt; level < color);
-    assert!(rt; FieldPresence::Required < FieldPresence::Optional);
-    assert_eq!(rt; FieldPresence::default(), FieldPresence::Default);
+    assert_field(&rt, &color, &PROFILE[2], true);
+    assert_less(&rt, &nick, &level);
+    assert_less(&rt, &level, &color);
+    assert_less(&rt, &FieldPresence::Required, &FieldPresence::Optional);
+    assert!(rt; FieldPresence::default() == FieldPresence::Default);
+}
+
+// The table has `N` fields, and so many of them may be absent.
+fn assert_counts<const N: usize>(rt: &impl Abort, table: &Fields<'_, N>, optional: usize) {
+    assert!(rt; table.len() == N && table.is_empty() == (N == 0));
+    assert!(rt; table.is_not_empty() == (N > 0));
+    assert!(rt; table.has_required_field() == (optional < N));
+    assert!(rt; table.number_of_optional_and_default_fields() == optional);
+}
+
+fn assert_fields(rt: &impl Abort, fields: &[Field<'_>], wanted: &[Field<'_>]) {
+    assert!(rt; fields == wanted);
+}
+
+// What the iterators of the table give.
+fn assert_items<const N: usize>(
+    rt: &impl Abort,
+    alloc: Global,
+    table: &Fields<'_, N>,
+    optional: &[Field<'_>],
+    names: &[&str],
+) {
+    {
+        let all: Vec<Field<'_>> = table.iter().collect(alloc).expect(rt, "memory");
+        assert_fields(rt, all.as_slice(), table.as_slice());
+    }
+    {
+        let some: Vec<Field<'_>> = table
+            .optional_and_default_fields()
+            .collect(alloc)
+            .expect(rt, "memory");
+        assert_fields(rt, some.as_slice(), optional);
+    }
+    {
+        let texts: Vec<&str> = table.identifiers().collect(alloc).expect(rt, "memory");
+        assert!(rt; texts.as_slice() == names);
+    }
 }
 
 #[test]
-fn a_table_gives_its_fields_in_order(rt: HostRuntime) -> Result<(), Fail> {
-    let alloc = rt.alloc();
+fn a_table_gives_its_fields_in_order(rt: HostRuntime) {
     let table = Fields::<3>::from_static(PROFILE);
-    assert_eq!(rt; table.len(), 3);
-    assert!(rt; table.is_not_empty());
-    assert!(rt; !table.is_empty());
-    assert!(rt; table.has_required_field());
-    assert_eq!(rt; table.number_of_optional_and_default_fields(), 2);
-    assert_eq!(rt; table.as_slice(), PROFILE);
-    let all: Vec<Field<'_>> = table.iter().collect(alloc)?;
-    assert_eq!(rt; all.as_slice(), PROFILE);
-    let optional: Vec<Field<'_>> = table.optional_and_default_fields().collect(alloc)?;
-    assert_eq!(rt; optional.as_slice(), [PROFILE[0], PROFILE[2]].as_slice());
-    let names: Vec<&str> = table.identifiers().collect(alloc)?;
-    assert_eq!(rt; names.as_slice(), ["nick", "level", "color"].as_slice());
+    assert_counts(&rt, &table, 2);
+    assert_fields(&rt, table.as_slice(), PROFILE);
+    assert_items(
+        &rt,
+        rt.alloc(),
+        &table,
+        &[PROFILE[0], PROFILE[2]],
+        &["nick", "level", "color"],
+    );
     assert!(rt; table.is_canonical());
-    assert_eq!(rt; table.first_sequence_clash(), None);
-    assert_eq!(rt; table.first_set_clash(), None);
-
-    let nothing = Fields::<0>::from_static(&[]);
-    assert!(rt; nothing.is_empty());
-    assert!(rt; !nothing.has_required_field());
-    assert_eq!(rt; nothing.number_of_optional_and_default_fields(), 0);
-    Ok(())
+    assert!(rt; table.first_sequence_clash().is_none() && table.first_set_clash().is_none());
+    assert_counts(&rt, &Fields::<0>::from_static(&[]), 0);
 }

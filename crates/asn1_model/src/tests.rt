@@ -12,10 +12,6 @@ ghost use Rattle.asn1_model.specs.Orders.{Same};
 ghost use Rattle.asn1_model.specs.Records.{Record, scalar, raw, mark, holding, sequence, set as set_head, set_of, sequence_of, prefix, alternative, present, absent, group_start, group_absent, group_end, null, number, discriminant, units, utf8, ia5, highest};
 ghost use Rattle.asn1_model.specs.Tags.{universal, context, CHOICE, every, among, only, first_tags};
 
-mod program;
-mod records;
-mod samples;
-
 use crate::asn_type::AsnType;
 use crate::tag;
 use asn1_bounds::{Bounded, Size};
@@ -76,13 +72,22 @@ fn profile_with_options(nick: &String, mail: &Ia5String)
         mark group_end ∷ []) ∷ [] }
 {}
 
-/// `Settings { entry }` where the entry equals its default.
+/// `Settings { entry }` where the entry equals its default, and where it is another: of the key 2 and the note 9.
 fn settings(key: u8, note: u8)
-    ensures { sequence_records (universal 16) (Some (codes "Settings")) (
+    ensures by_default { sequence_records (universal 16) (Some (codes "Settings")) (
         default_records true (context 0) (sequence_records (context 0) (Some (codes "Labelled")) (
         ⟦<u8 as AsnType>⟧.meaning.records key (context 0) unconstrained None ++
         ⟦<u8 as AsnType>⟧.meaning.records note (context 1) unconstrained None))) ≡
         holding (sequence (universal 16) (Some (codes "Settings"))) (mark (absent (context 0)) ∷ []) ∷ [] }
+    ensures another { sequence_records (universal 16) (Some (codes "Settings")) (
+        default_records false (context 0) (sequence_records (context 0) (Some (codes "Labelled")) (
+        ⟦<u8 as AsnType>⟧.meaning.records 2 (context 0) ⟦<u8 as AsnType>⟧.meaning.constraints ⟦<u8 as AsnType>⟧.meaning.name ++
+        ⟦<u8 as AsnType>⟧.meaning.records 9 (context 1) ⟦<u8 as AsnType>⟧.meaning.constraints ⟦<u8 as AsnType>⟧.meaning.name))) ≡
+        holding (sequence (universal 16) (Some (codes "Settings"))) (
+        mark (present (context 0)) ∷
+        holding (sequence (context 0) (Some (codes "Labelled"))) (
+        scalar (context 0) (values_of (Range (Some (pos 0)) (Some (pos 255)))) (Some (codes "INTEGER")) (number (pos 2)) ∷
+        scalar (context 1) (values_of (Range (Some (pos 0)) (Some (pos 255)))) (Some (codes "INTEGER")) (number (pos 9)) ∷ []) ∷ []) ∷ [] }
 {}
 
 /// A group whose components are marks alone is absent.
@@ -177,6 +182,9 @@ fn firsts()
     ensures one { first_tags (mark group_start ∷ mark (present (context 3)) ∷
         scalar (context 3) unconstrained None null ∷ raw None [] ∷ []) ≡ only (context 3) }
     ensures any { first_tags (mark (present CHOICE) ∷ raw None [] ∷ []) ≡ every }
+    ensures scope { first_tags (mark (absent (context 0)) ∷ sequence_records (universal 16) None (mark group_absent ∷ [])) ≡ only (universal 16) }
+    ensures under_a_tag { first_tags (mark (present (context 0)) ∷
+        prefix_records (context 0) None (sequence_records (universal 16) None (mark group_absent ∷ []))) ≡ only (context 0) }
     ensures chosen { first_tags (holding (alternative (context 2) unconstrained None) [] ∷ []) ≡ only (context 2) }
 {}
 
@@ -187,15 +195,10 @@ fn assert_tables<T: AsnType>(
     name: Option<&str>,
     value: Option<(i128, i128)>,
 ) {
-    assert_eq!(rt; T::tag(), tag);
-    assert_eq!(rt; T::tag_tree().smallest_tag(), tag);
-    assert_eq!(rt; T::identifier().0, name);
-    assert!(rt; !T::is_choice());
+    assert!(rt; T::tag() == tag && T::identifier().0 == name && !T::is_choice());
+    assert!(rt; T::tag_tree().smallest_tag() == tag);
     let bound = T::constraints().value().map(|part| part.constraint.bound);
-    assert_eq!(rt;
-        bound,
-        value.map(|(start, end)| Bounded::const_new(start, end))
-    );
+    assert!(rt; bound == value.map(|(start, end)| Bounded::const_new(start, end)));
 }
 
 #[test]
@@ -214,7 +217,7 @@ fn tables_of_numbers(rt: HostRuntime) {
     let whole = u128::constraints()
         .value()
         .map(|part| part.constraint.bound);
-    assert_eq!(rt; whole, Some(Bounded::start_from(0)));
+    assert!(rt; whole == Some(Bounded::start_from(0)));
 }
 
 #[test]
@@ -244,7 +247,7 @@ fn lists_are_sequences(rt: HostRuntime) {
     let size = <[bool; 3]>::constraints()
         .size()
         .map(|part| part.constraint);
-    assert_eq!(rt; size, Some(Size::fixed(3)));
+    assert!(rt; size == Some(Size::fixed(3)));
 }
 
 #[test]
@@ -258,6 +261,6 @@ fn options_may_be_absent(rt: HostRuntime) {
 #[test]
 fn trees_under_a_tag(rt: HostRuntime) {
     let tag = Tag::new_context(3);
-    assert_eq!(rt; <Vec<u8>>::tag_tree_under(tag), TagTree::Leaf(tag));
-    assert_eq!(rt; <Option<&bool>>::tag_tree_under(tag), TagTree::Leaf(tag));
+    assert!(rt; <Vec<u8>>::tag_tree_under(tag) == TagTree::Leaf(tag));
+    assert!(rt; <Option<&bool>>::tag_tree_under(tag) == TagTree::Leaf(tag));
 }

@@ -1,76 +1,93 @@
 use crate::{Class, Identifier, Tag, TagTree, Variants};
-use std::test::Fail;
+use std::alloc::Global;
+use std::cmp::Ordering;
+use std::process::Abort;
+
+const UNIVERSAL: &[(Tag, u32)] = &[
+    (Tag::EOC, 0),
+    (Tag::BOOL, 1),
+    (Tag::INTEGER, 2),
+    (Tag::BIT_STRING, 3),
+    (Tag::OCTET_STRING, 4),
+    (Tag::NULL, 5),
+    (Tag::OBJECT_IDENTIFIER, 6),
+    (Tag::OBJECT_DESCRIPTOR, 7),
+    (Tag::EXTERNAL, 8),
+    (Tag::REAL, 9),
+    (Tag::ENUMERATED, 10),
+    (Tag::EMBEDDED_PDV, 11),
+    (Tag::UTF8_STRING, 12),
+    (Tag::RELATIVE_OID, 13),
+    (Tag::SEQUENCE, 16),
+    (Tag::SET, 17),
+    (Tag::NUMERIC_STRING, 18),
+    (Tag::PRINTABLE_STRING, 19),
+    (Tag::TELETEX_STRING, 20),
+    (Tag::VIDEOTEX_STRING, 21),
+    (Tag::IA5_STRING, 22),
+    (Tag::UTC_TIME, 23),
+    (Tag::GENERALIZED_TIME, 24),
+    (Tag::GRAPHIC_STRING, 25),
+    (Tag::VISIBLE_STRING, 26),
+    (Tag::GENERAL_STRING, 27),
+    (Tag::UNIVERSAL_STRING, 28),
+    (Tag::CHARACTER_STRING, 29),
+    (Tag::BMP_STRING, 30),
+    (Tag::DATE, 31),
+    (Tag::CHOICE, 0),
+];
+
+fn assert_universal(rt: &impl Abort, tag: Tag, number: u32) {
+    assert!(rt; tag == Tag::new(Class::Universal, number), "at {number}");
+}
 
 #[test]
 fn universal_tags_have_their_numbers(rt: HostRuntime) {
-    for (tag, number) in [
-        (Tag::EOC, 0),
-        (Tag::BOOL, 1),
-        (Tag::INTEGER, 2),
-        (Tag::BIT_STRING, 3),
-        (Tag::OCTET_STRING, 4),
-        (Tag::NULL, 5),
-        (Tag::OBJECT_IDENTIFIER, 6),
-        (Tag::OBJECT_DESCRIPTOR, 7),
-        (Tag::EXTERNAL, 8),
-        (Tag::REAL, 9),
-        (Tag::ENUMERATED, 10),
-        (Tag::EMBEDDED_PDV, 11),
-        (Tag::UTF8_STRING, 12),
-        (Tag::RELATIVE_OID, 13),
-        (Tag::SEQUENCE, 16),
-        (Tag::SET, 17),
-        (Tag::NUMERIC_STRING, 18),
-        (Tag::PRINTABLE_STRING, 19),
-        (Tag::TELETEX_STRING, 20),
-        (Tag::VIDEOTEX_STRING, 21),
-        (Tag::IA5_STRING, 22),
-        (Tag::UTC_TIME, 23),
-        (Tag::GENERALIZED_TIME, 24),
-        (Tag::GRAPHIC_STRING, 25),
-        (Tag::VISIBLE_STRING, 26),
-        (Tag::GENERAL_STRING, 27),
-        (Tag::UNIVERSAL_STRING, 28),
-        (Tag::CHARACTER_STRING, 29),
-        (Tag::BMP_STRING, 30),
-        (Tag::DATE, 31),
-        (Tag::CHOICE, 0),
-    ] {
-        assert_eq!(rt; tag, Tag::new(Class::Universal, number), "at {number}");
+    for (tag, number) in UNIVERSAL {
+        assert_universal(&rt, *tag, *number);
     }
 }
 
-#[test]
-fn classes_have_their_numbers_and_texts(rt: HostRuntime) -> Result<(), Fail> {
-    for (class, number, text) in [
-        (Class::Universal, 0, "universal"),
-        (Class::Application, 1, "application"),
-        (Class::Context, 2, "context"),
-        (Class::Private, 3, "private"),
-    ] {
-        assert_eq!(rt; class as u8, number);
-        assert_eq!(rt; Class::from_u8(number), Some(class));
-        assert_eq!(rt; class.is_universal(), number == 0);
-        let shown = class.to_string(rt.alloc())?;
-        assert_eq!(rt; shown.as_str(), text);
-    }
-    assert_eq!(rt; Class::from_u8(4), None);
-    assert_eq!(rt; Class::from_u8(255), None);
-    Ok(())
+// A class has that number and text.
+fn assert_class(rt: &impl Abort, alloc: Global, class: Class, number: u8, text: &str) {
+    assert!(rt; class as u8 == number && class.is_universal() == (number == 0));
+    assert!(rt; Class::from_u8(number) == Some(class));
+    assert!(rt; class.to_string(alloc).expect(rt, "memory").as_str() == text);
 }
 
 #[test]
-fn tags_have_their_texts(rt: HostRuntime) -> Result<(), Fail> {
-    for (tag, text) in [
-        (Tag::EOC, "Universal 0"),
-        (Tag::new_application(30), "Application 30"),
-        (Tag::new_context(0), "Context 0"),
-        (Tag::new_private(4294967295), "Private 4294967295"),
-    ] {
-        let shown = tag.to_string(rt.alloc())?;
-        assert_eq!(rt; shown.as_str(), text);
-    }
-    Ok(())
+fn classes_have_their_numbers_and_texts(rt: HostRuntime) {
+    let alloc = rt.alloc();
+    assert_class(&rt, alloc, Class::Universal, 0, "universal");
+    assert_class(&rt, alloc, Class::Application, 1, "application");
+    assert_class(&rt, alloc, Class::Context, 2, "context");
+    assert_class(&rt, alloc, Class::Private, 3, "private");
+    assert!(rt; Class::from_u8(4).is_none() && Class::from_u8(255).is_none());
+}
+
+fn assert_tag_text(rt: &impl Abort, alloc: Global, tag: Tag, text: &str) {
+    assert!(rt; tag.to_string(alloc).expect(rt, "memory").as_str() == text);
+}
+
+#[test]
+fn tags_have_their_texts(rt: HostRuntime) {
+    let alloc = rt.alloc();
+    assert_tag_text(&rt, alloc, Tag::EOC, "Universal 0");
+    assert_tag_text(&rt, alloc, Tag::new_application(30), "Application 30");
+    assert_tag_text(&rt, alloc, Tag::new_context(0), "Context 0");
+    assert_tag_text(
+        &rt,
+        alloc,
+        Tag::new_private(4294967295),
+        "Private 4294967295",
+    );
+}
+
+fn assert_tag_order(rt: &impl Abort, left: &Tag, right: &Tag, order: Ordering) {
+    assert!(rt; left.cmp(right) == order, "{left} and {right}");
+    assert!(rt; left.const_cmp(right) == order);
+    assert!(rt; left.const_less_than(right) == (order == Ordering::Less));
+    assert!(rt; left.const_eq(right) == (order == Ordering::Equal));
 }
 
 #[test]
@@ -86,10 +103,7 @@ fn tags_go_by_class_then_number(rt: HostRuntime) {
     ];
     for (i, left) in ascending.iter().enumerate() {
         for (j, right) in ascending.iter().enumerate() {
-            assert_eq!(rt; left.const_cmp(right), i.cmp(&j), "{left} and {right}");
-            assert_eq!(rt; left.cmp(right), i.cmp(&j), "{left} and {right}");
-            assert_eq!(rt; left.const_less_than(right), i < j, "{left} and {right}");
-            assert_eq!(rt; left.const_eq(right), i == j, "{left} and {right}");
+            assert_tag_order(&rt, left, right, i.cmp(&j));
         }
     }
     assert!(rt; Tag::CHOICE.is_choice());
@@ -125,6 +139,20 @@ const A1_BELOW: &[TagTree<'static>] = &[leaf!(Universal 1), TagTree::Choice(JUST
 
 const C1_AND_NOTHING: &[TagTree<'static>] = &[leaf!(Context 1), TagTree::Choice(&[])];
 
+// The choice of the trees has that smallest tag, each tag once or not, and so many leaves.
+fn assert_leaves(
+    rt: &impl Abort,
+    nodes: &[TagTree<'_>],
+    smallest: Tag,
+    is_unique: bool,
+    count: usize,
+) {
+    let tree = TagTree::Choice(nodes);
+    assert!(rt; tree.smallest_tag() == smallest);
+    assert!(rt; tree.is_unique() == is_unique && TagTree::is_unique_set(nodes) == is_unique);
+    assert!(rt; TagTree::leaf_count(nodes) == Some(count));
+}
+
 #[test]
 fn a_tree_with_each_tag_once_is_unique(rt: HostRuntime) {
     let nodes = [
@@ -135,11 +163,7 @@ fn a_tree_with_each_tag_once_is_unique(rt: HostRuntime) {
         leaf!(Private 0),
         leaf!(Private 1),
     ];
-    let tree = TagTree::Choice(&nodes);
-    assert!(rt; tree.is_unique());
-    assert!(rt; TagTree::is_unique_set(&nodes));
-    assert_eq!(rt; tree.smallest_tag(), Tag::EOC);
-    assert_eq!(rt; TagTree::leaf_count(&nodes), Some(8));
+    assert_leaves(&rt, &nodes, Tag::EOC, true, 8);
     assert!(rt; TagTree::tag_contains(&Tag::new_context(2), &nodes));
     assert!(rt; !TagTree::tag_contains(&Tag::new_context(1), &nodes));
 }
@@ -154,18 +178,36 @@ fn a_tag_may_stand_again_in_another_branch(rt: HostRuntime) {
         leaf!(Private 1),
         leaf!(Private 1),
     ];
-    let tree = TagTree::Choice(&nodes);
-    assert!(rt; !tree.is_unique());
-    assert_eq!(rt; tree.smallest_tag(), Tag::EOC);
-    assert_eq!(rt; TagTree::leaf_count(&nodes), Some(9));
-
+    assert_leaves(&rt, &nodes, Tag::EOC, false, 9);
     let cousins = [
         leaf!(Universal 0),
         TagTree::Choice(APPLICATIONS),
         TagTree::Choice(A1_BELOW),
     ];
-    assert!(rt; !TagTree::is_unique_set(&cousins));
-    assert_eq!(rt; TagTree::leaf_count(&cousins), Some(5));
+    assert_leaves(&rt, &cousins, Tag::EOC, false, 5);
+}
+
+// What the seven leaves of the trees have at the place.
+fn assert_leaf(rt: &impl Abort, nodes: &[TagTree<'_>], place: usize, tag: Option<Tag>) {
+    assert!(rt; TagTree::leaf_count(nodes) == Some(7));
+    assert!(rt; TagTree::leaf_at(nodes, place) == tag);
+}
+
+// Where the seven leaves of the trees have the tag first.
+fn assert_place(rt: &impl Abort, nodes: &[TagTree<'_>], tag: &Tag, first: Option<usize>) {
+    assert!(rt; TagTree::leaf_count(nodes) == Some(7));
+    assert!(rt; TagTree::leaf_position(tag, nodes) == first);
+}
+
+fn assert_leaf_and_place(
+    rt: &impl Abort,
+    nodes: &[TagTree<'_>],
+    place: usize,
+    tag: Tag,
+    first: usize,
+) {
+    assert_leaf(rt, nodes, place, Some(tag));
+    assert_place(rt, nodes, &tag, Some(first));
 }
 
 #[test]
@@ -176,41 +218,31 @@ fn leaves_are_numbered_from_the_left(rt: HostRuntime) {
         TagTree::Choice(A0_TWICE),
         leaf!(Private 1),
     ];
-    let count = TagTree::leaf_count(&nodes);
-    assert_eq!(rt; count, Some(7));
-    for (place, tag, first) in [
-        (0, Tag::EOC, 0),
-        (1, Tag::new_application(0), 1),
-        (2, Tag::new_application(1), 2),
-        (3, Tag::new_application(0), 1),
-        (4, Tag::new_application(0), 1),
-        (5, Tag::new_context(2), 5),
-        (6, Tag::new_private(1), 6),
-    ] {
-        assert_eq!(rt; TagTree::leaf_at(&nodes, place), Some(tag), "at {place}");
-        assert_eq!(rt;
-            TagTree::leaf_position(&tag, &nodes),
-            Some(first),
-            "of {tag}"
-        );
-    }
-    assert_eq!(rt; TagTree::leaf_at(&nodes, 7), None);
-    assert_eq!(rt; TagTree::leaf_at(&nodes, usize::MAX), None);
-    assert_eq!(rt; TagTree::leaf_position(&Tag::BOOL, &nodes), None);
+    assert_leaf_and_place(&rt, &nodes, 0, Tag::EOC, 0);
+    assert_leaf_and_place(&rt, &nodes, 1, Tag::new_application(0), 1);
+    assert_leaf_and_place(&rt, &nodes, 2, Tag::new_application(1), 2);
+    assert_leaf_and_place(&rt, &nodes, 3, Tag::new_application(0), 1);
+    assert_leaf_and_place(&rt, &nodes, 4, Tag::new_application(0), 1);
+    assert_leaf_and_place(&rt, &nodes, 5, Tag::new_context(2), 5);
+    assert_leaf_and_place(&rt, &nodes, 6, Tag::new_private(1), 6);
+    assert_leaf(&rt, &nodes, 7, None);
+    assert_leaf(&rt, &nodes, usize::MAX, None);
+    assert_place(&rt, &nodes, &Tag::BOOL, None);
 }
 
 #[test]
 fn the_smallest_tag_is_of_the_lowest_class(rt: HostRuntime) {
-    let nodes = [leaf!(Context 0), leaf!(Universal 3)];
-    let tree = TagTree::Choice(&nodes);
-    assert_eq!(rt; tree.smallest_tag(), Tag::BIT_STRING);
-    assert!(rt; tree.is_unique());
-    assert_eq!(rt; TagTree::leaf_count(&nodes), Some(2));
-
+    assert_leaves(
+        &rt,
+        &[leaf!(Context 0), leaf!(Universal 3)],
+        Tag::BIT_STRING,
+        true,
+        2,
+    );
+    let largest = Tag::new_private(4294967295);
+    assert_leaves(&rt, &[TagTree::empty()], largest, true, 0);
     let nothing = TagTree::empty();
-    assert_eq!(rt; nothing.smallest_tag(), Tag::new_private(4294967295));
-    assert!(rt; nothing.is_unique());
-    assert_eq!(rt; TagTree::leaf_count(&[nothing]), Some(0));
+    assert!(rt; nothing.smallest_tag() == largest && nothing.is_unique());
 }
 
 #[test]
@@ -232,6 +264,12 @@ fn trees_share_a_leaf_at_any_depth(rt: HostRuntime) {
     assert!(rt; !TagTree::empty().shares_leaf(&TagTree::empty()));
 }
 
+fn assert_tree_order(rt: &impl Abort, left: &TagTree<'_>, right: &TagTree<'_>, order: Ordering) {
+    assert!(rt; left.cmp(right) == order, "{left:?} and {right:?}");
+    assert!(rt; left.partial_cmp(right) == Some(order));
+    assert!(rt; (left == right) == (order == Ordering::Equal));
+}
+
 #[test]
 fn trees_go_by_smallest_tag_then_structure(rt: HostRuntime) {
     let ascending = [
@@ -248,27 +286,20 @@ fn trees_go_by_smallest_tag_then_structure(rt: HostRuntime) {
     ];
     for (i, left) in ascending.iter().enumerate() {
         for (j, right) in ascending.iter().enumerate() {
-            assert_eq!(rt; left.cmp(right), i.cmp(&j), "{left:?} and {right:?}");
-            assert_eq!(rt;
-                left.partial_cmp(right),
-                Some(i.cmp(&j)),
-                "{left:?} and {right:?}"
-            );
-            assert_eq!(rt; left == right, i == j, "{left:?} and {right:?}");
+            assert_tree_order(&rt, left, right, i.cmp(&j));
         }
     }
 }
 
 #[test]
-fn a_tree_prints_as_its_tags(rt: HostRuntime) -> Result<(), Fail> {
+fn a_tree_prints_as_its_tags(rt: HostRuntime) {
     let nodes = [TagTree::Leaf(Tag::INTEGER), TagTree::Choice(C1_AND_NOTHING)];
     let tree = TagTree::Choice(&nodes);
-    let shown = format!(in rt.alloc(); "{tree:?}")?;
-    assert_eq!(rt; shown.as_str(), "(Universal 2, (Context 1, ()))");
-    Ok(())
+    let shown = format!(in rt.alloc(); "{tree:?}").expect(&rt, "memory");
+    assert!(rt; shown.as_str() == "(Universal 2, (Context 1, ()))");
 }
 
-const NAMES: [(Identifier, &str); 36] = [
+const NAMES: &[(Identifier, &str)] = &[
     (Identifier::BOOL, "BOOLEAN"),
     (Identifier::INTEGER, "INTEGER"),
     (Identifier::ENUMERATED, "ENUMERATED"),
@@ -307,24 +338,39 @@ const NAMES: [(Identifier, &str); 36] = [
     (Identifier::UTC_TIME, "UTCTime"),
 ];
 
+fn assert_name(rt: &impl Abort, name: Identifier, text: &str) {
+    assert!(rt; name.0 == Some(text));
+    assert!(rt; name.or(Identifier::EMPTY) == name && Identifier::EMPTY.or(name) == name);
+}
+
 #[test]
 fn names_of_types_have_their_texts(rt: HostRuntime) {
     for (name, text) in NAMES {
-        assert_eq!(rt; name.0, Some(text));
-        assert_eq!(rt; name.or(Identifier::EMPTY), name);
-        assert_eq!(rt; Identifier::EMPTY.or(name), name);
+        assert_name(&rt, *name, text);
     }
-    assert_eq!(rt; Identifier::EMPTY.0, None);
-    assert_eq!(rt;
-        Identifier::INTEGER.or(Identifier::BOOL).unwrap(),
-        "INTEGER"
-    );
+    assert!(rt; Identifier::EMPTY.0.is_none());
+    assert!(rt; Identifier::INTEGER.or(Identifier::BOOL).unwrap() == "INTEGER");
     assert!(rt; Identifier::EMPTY < Identifier::BIT_STRING);
     assert!(rt; Identifier::BIT_STRING < Identifier::BOOL);
 }
 
+fn assert_tags(rt: &impl Abort, variants: Variants, tags: &[Tag]) {
+    assert!(rt; variants.as_slice() == tags);
+}
+
+fn assert_variants(rt: &impl Abort, alloc: Global, nodes: &[TagTree<'_>], tags: &[Tag]) {
+    assert_tags(
+        rt,
+        Variants::from_slice(alloc, nodes).expect(rt, "memory"),
+        tags,
+    );
+    let variants = Variants::new(alloc, nodes).expect(rt, "memory");
+    assert_tags(rt, variants.try_clone(alloc).expect(rt, "memory"), tags);
+    assert_tags(rt, variants, tags);
+}
+
 #[test]
-fn variants_are_the_leaves_from_the_left(rt: HostRuntime) -> Result<(), Fail> {
+fn variants_are_the_leaves_from_the_left(rt: HostRuntime) {
     let alloc = rt.alloc();
     let nodes = [leaf!(Universal 2), TagTree::Choice(A0_TWICE)];
     let tags = [
@@ -333,17 +379,11 @@ fn variants_are_the_leaves_from_the_left(rt: HostRuntime) -> Result<(), Fail> {
         Tag::new_application(0),
         Tag::new_context(2),
     ];
-    let variants = Variants::new(alloc, &nodes)?;
-    assert_eq!(rt; variants.as_slice(), tags.as_slice());
-    assert_eq!(rt; variants.try_clone(alloc)?.as_slice(), tags.as_slice());
-    assert_eq!(rt;
-        Variants::from_slice(alloc, &nodes)?.as_slice(),
-        tags.as_slice()
+    assert_variants(&rt, alloc, &nodes, &tags);
+    assert_tags(
+        &rt,
+        Variants::from_static(alloc, A0_TWICE).expect(&rt, "memory"),
+        &tags[1..],
     );
-    assert_eq!(rt;
-        Variants::from_static(alloc, A0_TWICE)?.as_slice(),
-        &tags[1..]
-    );
-    assert!(rt; Variants::empty(alloc).as_slice().is_empty());
-    Ok(())
+    assert_tags(&rt, Variants::empty(alloc), &[]);
 }

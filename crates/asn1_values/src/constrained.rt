@@ -90,7 +90,7 @@ impl<L: Limits> LimitedInteger<L> {
 #[cfg(test)]
 mod tests {
     use super::*;
-    use std::test::Fail;
+    use std::process::Abort;
 
     /// The numbers of a `u64`.
     #[derive(Drop)]
@@ -112,28 +112,36 @@ mod tests {
         }
     }
 
+    fn assert_is_from_one_to_ten(rt: &impl Abort, number: i128) {
+        let limited = ConstrainedInteger::<1, 10>::new(Integer::from_i128(number));
+        let limited = limited.expect(rt, "a number within the limits");
+        assert!(rt; limited.get().to_i128() == Some(number));
+    }
+
+    fn assert_is_not_from_one_to_ten(rt: &impl Abort, number: i128) {
+        let limited = ConstrainedInteger::<1, 10>::new(Integer::from_i128(number));
+        assert!(rt; limited.is_none());
+    }
+
     #[test]
-    fn numbers_are_within_the_limits(rt: HostRuntime) -> Result<(), Fail> {
-        for (number, is_within) in [(0, false), (1, true), (10, true), (11, false)] {
-            let limited = ConstrainedInteger::<1, 10>::new(Integer::from_i128(number));
-            assert_eq!(rt; limited.is_some(), is_within, "at {number}");
-        }
-        let Some(limited) = ConstrainedInteger::<1, 10>::new(Integer::from_i128(7)) else {
-            return Ok(assert!(rt; false));
-        };
-        assert_eq!(rt; limited.get().to_i128(), Some(7));
-        Ok(())
+    fn numbers_are_within_the_limits(rt: HostRuntime) {
+        assert_is_not_from_one_to_ten(&rt, 0);
+        assert_is_from_one_to_ten(&rt, 1);
+        assert_is_from_one_to_ten(&rt, 7);
+        assert_is_from_one_to_ten(&rt, 10);
+        assert_is_not_from_one_to_ten(&rt, 11);
+    }
+
+    /// Asserts whether the number is one of a `u64`.
+    fn assert_is_u64(rt: &impl Abort, number: i128, is_within: bool) {
+        let limited = LimitedInteger::<OfU64>::new(Integer::from_i128(number));
+        assert!(rt; limited.is_some() == is_within);
     }
 
     #[test]
     fn limits_may_need_more_than_64_bits(rt: HostRuntime) {
-        for (number, is_within) in [
-            (-1, false),
-            (18446744073709551615, true),
-            (18446744073709551616, false),
-        ] {
-            let limited = LimitedInteger::<OfU64>::new(Integer::from_i128(number));
-            assert_eq!(rt; limited.is_some(), is_within, "at {number}");
-        }
+        assert_is_u64(&rt, -1, false);
+        assert_is_u64(&rt, 18446744073709551615, true);
+        assert_is_u64(&rt, 18446744073709551616, false);
     }
 }

@@ -9,14 +9,10 @@ pub struct AlphabetError(pub usize);
 #[cfg(test)]
 mod tests {
     use super::*;
-    use std::test::Fail;
 
     #[test]
-    fn says_which_unit(rt: HostRuntime) -> Result<(), Fail> {
-        assert_eq!(rt;
-            AlphabetError(7).to_string(rt.alloc())?.as_str(),
-            "unit 7 is not allowed"
-        );
-        Ok(())
+    fn says_which_unit(rt: HostRuntime) {
+        let text = AlphabetError(7).to_string(rt.alloc()).expect(&rt, "memory");
+        assert!(rt; text.as_str() == "unit 7 is not allowed");
     }
 }

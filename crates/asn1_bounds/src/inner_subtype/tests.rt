@@ -3,10 +3,10 @@ ghost use Rattle.asn1_bounds.specs.InnerSubtype.{outcome, missing, unexpected, w
 
 use super::*;
 use std::alloc::AllocError;
-use std::test::Fail;
+use std::process::Abort;
 
 /// A SEQUENCE of two numbers that may be there or not, `WITH COMPONENTS { a PRESENT, b ABSENT }`.
-#[derive(Debug, Drop, PartialEq)]
+#[derive(Drop, PartialEq)]
 struct Pair {
     a: Option<u8>,
     b: Option<u8>,
@@ -33,7 +33,7 @@ impl InnerSubtypeConstraint for Pair {
 }
 
 /// A SEQUENCE of a number and an OCTET STRING, `WITH COMPONENTS { version (3), content (CONTAINING BOOLEAN (TRUE)) }`.
-#[derive(Debug, Drop, PartialEq)]
+#[derive(Drop)]
 struct Letter {
     version: u8,
     content: Vec<u8>,
@@ -77,40 +77,66 @@ fn lacks_a(alloc: Global, b: Option<u8>) -> Result<Pair, InnerSubtypeConstraintE
     Pair { a: None, b }.validate_components(alloc)
 }
 
-#[test]
-fn names_the_first_component_at_fault(rt: HostRuntime) {
-    let pair = |a, b| Pair { a, b };
-    let missing = Err(InnerSubtypeConstraintError::Missing("a"));
-    assert_eq!(rt; lacks_a(rt.alloc(), Some(1)), missing);
-    let unexpected = Err(InnerSubtypeConstraintError::Unexpected("b"));
-    assert_eq!(rt;
-        pair(Some(1), Some(1)).validate_components(rt.alloc()),
-        unexpected
-    );
-    let right = pair(Some(1), None).validate_components(rt.alloc());
-    assert_eq!(rt; right, Ok(pair(Some(1), None)));
+fn assert_answer(
+    rt: &impl Abort,
+    answer: Result<Pair, InnerSubtypeConstraintError>,
+    wanted: Result<Pair, InnerSubtypeConstraintError>,
+) {
+    assert!(rt; answer == wanted);
+}
+
+fn validated(
+    alloc: Global,
+    a: Option<u8>,
+    b: Option<u8>,
+) -> Result<Pair, InnerSubtypeConstraintError> {
+    Pair { a, b }.validate_components(alloc)
 }
 
 #[test]
-fn looks_into_contents_with_a_codec(rt: HostRuntime) -> Result<(), Fail> {
-    let wrong_value = InnerSubtypeConstraintError::Value("version");
-    let wrong_content = InnerSubtypeConstraintError::Contained("content");
-    let cases = [
-        (2, None, Err(wrong_value)),
-        (3, None, Ok(())),
-        (3, Some(Codec::Der), Ok(())),
-        (3, Some(Codec::Jer), Err(wrong_content)),
-        (
-            3,
-            Some(Codec::Other(0)),
-            Err(InnerSubtypeConstraintError::Memory),
-        ),
-    ];
-    for (version, codec, answer) in cases {
-        let content = truth_in(rt.alloc(), Codec::Der)?;
-        let letter = Letter { version, content };
-        let validated = letter.validate_and_decode_containing(rt.alloc(), codec);
-        assert_eq!(rt; validated.map(|_| ()), answer, "{version} {codec:?}");
-    }
-    Ok(())
+fn names_the_first_component_at_fault(rt: HostRuntime) {
+    let alloc = rt.alloc();
+    let both = Some(1);
+    assert_answer(
+        &rt,
+        lacks_a(alloc, both),
+        Err(InnerSubtypeConstraintError::Missing("a")),
+    );
+    assert_answer(
+        &rt,
+        validated(alloc, both, both),
+        Err(InnerSubtypeConstraintError::Unexpected("b")),
+    );
+    assert_answer(
+        &rt,
+        validated(alloc, both, None),
+        Ok(Pair { a: both, b: None }),
+    );
+}
+
+/// Asserts why a letter that contains TRUE in DER is refused, if it is.
+fn assert_refused(
+    rt: &impl Abort,
+    alloc: Global,
+    version: u8,
+    codec: Option<Codec>,
+    error: Option<InnerSubtypeConstraintError>,
+) {
+    let content = truth_in(alloc, Codec::Der).expect(rt, "memory");
+    let letter = Letter { version, content };
+    let validated = letter.validate_and_decode_containing(alloc, codec);
+    assert!(rt; validated.err() == error);
+}
+
+#[test]
+fn looks_into_contents_with_a_codec(rt: HostRuntime) {
+    let alloc = rt.alloc();
+    let wrong_value = Some(InnerSubtypeConstraintError::Value("version"));
+    assert_refused(&rt, alloc, 2, None, wrong_value);
+    assert_refused(&rt, alloc, 3, None, None);
+    assert_refused(&rt, alloc, 3, Some(Codec::Der), None);
+    let wrong_content = Some(InnerSubtypeConstraintError::Contained("content"));
+    assert_refused(&rt, alloc, 3, Some(Codec::Jer), wrong_content);
+    let no_memory = Some(InnerSubtypeConstraintError::Memory);
+    assert_refused(&rt, alloc, 3, Some(Codec::Other(0)), no_memory);
 }

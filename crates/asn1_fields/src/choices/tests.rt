@@ -68,9 +68,9 @@ impl Choice for Answer {
 fn a_choice_is_untagged_under_no_tag(rt: HostRuntime) {
     let answer = Answer(true);
     assert!(rt; answer.0 && answer.is_present());
-    assert_eq!(rt; Answer::tag_tree(), TagTree::Choice(Answer::variants()));
+    assert!(rt; Answer::tag_tree() == TagTree::Choice(Answer::variants()));
     let tag = Tag::new_context(1);
-    assert_eq!(rt; Answer::tag_tree_under(tag), TagTree::Leaf(tag));
+    assert!(rt; Answer::tag_tree_under(tag) == TagTree::Leaf(tag));
     assert!(rt; Answer::extended_variants().is_none());
-    assert_eq!(rt; Answer::identifiers().len(), 1);
+    assert!(rt; Answer::identifiers().len() == 1);
 }

@@ -1,5 +1,6 @@
 //! An ENUMERATED type with a variant behind the extension marker.
 use crate::Enumerated;
+use std::process::Abort;
 
 #[derive(Clone, Copy, PartialEq, Eq, Debug)]
 enum Color {
@@ -69,42 +70,50 @@ impl Enumerated for Color {
     }
 }
 
+fn assert_color(rt: &impl Abort, color: Color, number: isize, name: &str) {
+    assert!(rt; color.discriminant() == number && color.identifier() == name);
+    assert!(rt; Color::from_discriminant(number) == Some(color));
+    assert!(rt; Color::from_identifier(name) == Some(color));
+}
+
+fn assert_no_number(rt: &impl Abort, number: isize) {
+    assert!(rt; Color::from_discriminant(number).is_none(), "of {number}");
+}
+
+fn assert_no_name(rt: &impl Abort, name: &str) {
+    assert!(rt; Color::from_identifier(name).is_none(), "of {name}");
+}
+
 #[test]
 fn colors_are_found_by_number_name_and_place(rt: HostRuntime) {
-    for (color, number, name) in [
-        (Color::Red, 0, "red"),
-        (Color::Green, 1, "green"),
-        (Color::Blue, 5, "blue"),
-    ] {
-        assert_eq!(rt; color.discriminant(), number);
-        assert_eq!(rt; Color::from_discriminant(number), Some(color));
-        assert_eq!(rt; color.identifier(), name);
-        assert_eq!(rt; Color::from_identifier(name), Some(color));
-    }
-    for number in [-1, 2, 3, 4, 6] {
-        assert_eq!(rt; Color::from_discriminant(number), None, "of {number}");
-    }
-    for name in ["", "Red", "redd", "yellow"] {
-        assert_eq!(rt; Color::from_identifier(name), None, "of {name}");
-    }
+    assert_color(&rt, Color::Red, 0, "red");
+    assert_color(&rt, Color::Green, 1, "green");
+    assert_color(&rt, Color::Blue, 5, "blue");
+    assert_no_number(&rt, -1);
+    assert_no_number(&rt, 2);
+    assert_no_number(&rt, 3);
+    assert_no_number(&rt, 4);
+    assert_no_number(&rt, 6);
+    assert_no_name(&rt, "");
+    assert_no_name(&rt, "Red");
+    assert_no_name(&rt, "redd");
+    assert_no_name(&rt, "yellow");
+}
+
+// The place of the color in its own table.
+fn assert_place(rt: &impl Abort, color: Color, is_extended: bool, index: usize) {
+    assert!(rt; color.is_extended_variant() == is_extended && color.enumeration_index() == index);
 }
 
 #[test]
 fn colors_have_places_in_two_tables(rt: HostRuntime) {
-    assert_eq!(rt; Color::variance(), 2);
-    assert_eq!(rt; Color::extended_variance(), 1);
-    assert_eq!(rt; Color::complete_variance(), 3);
-    assert!(rt; !Color::Red.is_extended_variant());
-    assert!(rt; !Color::Green.is_extended_variant());
-    assert!(rt; Color::Blue.is_extended_variant());
-    assert_eq!(rt; Color::Red.enumeration_index(), 0);
-    assert_eq!(rt; Color::Green.enumeration_index(), 1);
-    assert_eq!(rt; Color::Blue.enumeration_index(), 0);
-    assert_eq!(rt; Color::from_enumeration_index(1), Some(Color::Green));
-    assert_eq!(rt; Color::from_enumeration_index(2), None);
-    assert_eq!(rt;
-        Color::from_extended_enumeration_index(0),
-        Some(Color::Blue)
-    );
-    assert_eq!(rt; Color::from_extended_enumeration_index(1), None);
+    assert!(rt; Color::variance() == 2 && Color::extended_variance() == 1);
+    assert!(rt; Color::complete_variance() == 3);
+    assert_place(&rt, Color::Red, false, 0);
+    assert_place(&rt, Color::Green, false, 1);
+    assert_place(&rt, Color::Blue, true, 0);
+    assert!(rt; Color::from_enumeration_index(1) == Some(Color::Green));
+    assert!(rt; Color::from_enumeration_index(2).is_none());
+    assert!(rt; Color::from_extended_enumeration_index(0) == Some(Color::Blue));
+    assert!(rt; Color::from_extended_enumeration_index(1).is_none());
 }

@@ -106,13 +106,13 @@ pub enum Bmp {}
 mod tests {
     use super::*;
     use crate::error::AlphabetError;
+    use std::alloc::Global;
     use std::process::Abort;
-    use std::test::Fail;
 
     /// Asserts that of all units the alphabet has the characters of the text, and no others.
     fn assert_characters<A: Alphabet<u8>>(rt: &impl Abort, text: &[u8]) {
         for unit in 0..=u8::MAX {
-            assert_eq!(rt; A::allows(&unit), text.contains(&unit), "unit {unit}");
+            assert!(rt; A::allows(&unit) == text.contains(&unit), "unit {unit}");
         }
     }
 
@@ -132,50 +132,92 @@ mod tests {
     #[test]
     fn ia5_is_ascii(rt: HostRuntime) {
         for unit in 0..=u8::MAX {
-            assert_eq!(rt; Ia5::allows(&unit), unit < 128, "unit {unit}");
+            assert!(rt; Ia5::allows(&unit) == (unit < 128), "unit {unit}");
         }
     }
 
-    #[test]
-    fn names_the_first_unit_that_is_not_allowed(rt: HostRuntime) -> Result<(), Fail> {
-        let alloc = rt.alloc();
-        let refused = PrintableString::new(Vec::from_slice(alloc, b"A*")?);
-        assert_eq!(rt; refused.err(), Some(AlphabetError(1)));
-        let refused = NumericString::new(Vec::from_slice(alloc, b"1 2x3y")?);
-        assert_eq!(rt; refused.err(), Some(AlphabetError(3)));
-        let refused = VisibleString::new(Vec::from_slice(alloc, b"\x1f~\x7f")?);
-        assert_eq!(rt; refused.err(), Some(AlphabetError(0)));
-        let refused = Ia5String::new(Vec::from_slice(alloc, b"\x00\x7f\x80")?);
-        assert_eq!(rt; refused.err(), Some(AlphabetError(2)));
-        Ok(())
+    fn own<U: Copy>(rt: &impl Abort, alloc: Global, units: &[U]) -> Vec<U> {
+        Vec::from_slice(alloc, units).expect(rt, "memory")
+    }
+
+    /// Asserts that no string was made, for the unit with this index.
+    fn assert_refused<A: Alphabet<u8> + Drop>(
+        rt: &impl Abort,
+        made: Result<AlphabetString<u8, A>, AlphabetError>,
+        index: usize,
+    ) {
+        assert!(rt; made.err() == Some(AlphabetError(index)));
     }
 
     #[test]
-    fn strings_give_their_units_back(rt: HostRuntime) -> Result<(), Fail> {
+    fn names_the_first_unit_that_is_not_allowed(rt: HostRuntime) {
         let alloc = rt.alloc();
-        let name = PrintableString::new(Vec::from_slice(alloc, b"Ann (1)")?)?;
-        assert_eq!(rt; name.as_slice(), b"Ann (1)".as_slice());
-        let empty = NumericString::new(Vec::new(alloc))?;
-        assert!(rt; empty.as_slice().is_empty());
-        let smile = BmpString::new(vec![in alloc; 0xd83d, 0xde00]?);
-        assert_eq!(rt; smile.as_slice(), [0xd83d, 0xde00].as_slice());
-        let text = TeletexString::new(vec![in alloc; u32::MAX]?);
-        assert_eq!(rt; text.as_slice(), [u32::MAX].as_slice());
-        let general = GeneralString::new(vec![in alloc; 0, 0xff]?);
-        let graphic = GraphicString::new(vec![in alloc; 0, 0xff]?);
-        assert_eq!(rt; general.as_slice(), graphic.as_slice());
-        Ok(())
+        assert_refused(&rt, PrintableString::new(own(&rt, alloc, b"A*")), 1);
+        assert_refused(&rt, NumericString::new(own(&rt, alloc, b"1 2x3y")), 3);
+        assert_refused(&rt, VisibleString::new(own(&rt, alloc, b"\x1f~\x7f")), 0);
+        assert_refused(&rt, Ia5String::new(own(&rt, alloc, b"\x00\x7f\x80")), 2);
+    }
+
+    /// Asserts that the string was made, and gives these units back.
+    fn assert_allowed<A: Alphabet<u8> + Drop>(
+        rt: &impl Abort,
+        made: Result<AlphabetString<u8, A>, AlphabetError>,
+        units: &[u8],
+    ) {
+        let text = made.expect(rt, "an allowed text");
+        assert!(rt; text.as_slice() == units);
+    }
+
+    /// Asserts that the string gives these units back.
+    fn assert_units<U: Copy + PartialEq, K: Drop>(
+        rt: &impl Abort,
+        text: UnitString<U, K>,
+        units: &[U],
+    ) {
+        assert!(rt; text.as_slice() == units);
     }
 
     #[test]
-    fn strings_go_lexicographically(rt: HostRuntime) -> Result<(), Fail> {
+    fn strings_give_their_units_back(rt: HostRuntime) {
         let alloc = rt.alloc();
-        let ann = VisibleString::new(Vec::from_slice(alloc, b"Ann")?)?;
-        let anna = VisibleString::new(Vec::from_slice(alloc, b"Anna")?)?;
-        let bob = VisibleString::new(Vec::from_slice(alloc, b"Bob")?)?;
-        assert!(rt; ann < anna);
-        assert!(rt; anna < bob);
-        assert_ne!(rt; ann, anna);
-        Ok(())
+        assert_allowed(
+            &rt,
+            PrintableString::new(own(&rt, alloc, b"Ann (1)")),
+            b"Ann (1)",
+        );
+        assert_allowed(&rt, NumericString::new(Vec::new(alloc)), &[]);
+        assert_units(
+            &rt,
+            BmpString::new(own(&rt, alloc, &[0xd83d, 0xde00])),
+            &[0xd83d, 0xde00],
+        );
+        assert_units(
+            &rt,
+            TeletexString::new(own(&rt, alloc, &[u32::MAX])),
+            &[u32::MAX],
+        );
+        assert_units(
+            &rt,
+            GeneralString::new(own(&rt, alloc, &[0, 0xff])),
+            &[0, 0xff],
+        );
+        assert_units(
+            &rt,
+            GraphicString::new(own(&rt, alloc, &[0, 0xff])),
+            &[0, 0xff],
+        );
+    }
+
+    /// Asserts that the text is less than the other, which it does not equal.
+    fn assert_less(rt: &impl Abort, alloc: Global, text: &[u8], other: &[u8]) {
+        let text = VisibleString::new(own(rt, alloc, text)).expect(rt, "an allowed text");
+        let other = VisibleString::new(own(rt, alloc, other)).expect(rt, "an allowed text");
+        assert!(rt; text < other && text != other);
+    }
+
+    #[test]
+    fn strings_go_lexicographically(rt: HostRuntime) {
+        assert_less(&rt, rt.alloc(), b"Ann", b"Anna");
+        assert_less(&rt, rt.alloc(), b"Anna", b"Bob");
     }
 }
