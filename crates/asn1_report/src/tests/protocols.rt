@@ -8,7 +8,7 @@ struct Example {
     verdicts: &'static [u8],
 }
 
-// The tables of certificates: RFC 5280, 4.1, 4.2.1 and 5.1.
+// The tables of certificates: RFC 5280, 4.1, 4.2.1, 5.1 and A.1.
 const X509: Example = Example {
     table: b"sequence Certificate\n\
         tbsCertificate required U16\n\
@@ -60,6 +60,12 @@ const X509: Example = Example {
         revokedCertificates optional U16\n\
         crlExtensions optional C0\n\
         end\n\
+        set PersonalName\n\
+        surname required C0\n\
+        given-name optional C1\n\
+        initials optional C2\n\
+        generation-qualifier optional C3\n\
+        end\n\
         bound Version 0..2 & 0..\n\
         bound CertificateSerialNumberOctets 1.. & ..20\n",
     verdicts: b"sequence Certificate: no clash, not canonical\n\
@@ -72,6 +78,7 @@ const X509: Example = Example {
         sequence AuthorityKeyIdentifier: no clash, canonical\n\
         sequence BasicConstraints: no clash, canonical\n\
         sequence TBSCertList: no clash, not canonical\n\
+        set PersonalName: no clash, canonical\n\
         bound Version: 0..2\n\
         bound CertificateSerialNumberOctets: 1..20\n",
 };
