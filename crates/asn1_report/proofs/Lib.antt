@@ -6,3 +6,4 @@ pub mod Answering
 pub mod Progress
 pub mod Reports
 pub mod Spellings
+pub mod Respellings
