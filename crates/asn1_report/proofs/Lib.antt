@@ -7,3 +7,5 @@ pub mod Progress
 pub mod Reports
 pub mod Spellings
 pub mod Respellings
+pub mod Beginnings
+pub mod ReadingLemmas
