@@ -9,3 +9,4 @@ pub mod Spellings
 pub mod Respellings
 pub mod Beginnings
 pub mod ReadingLemmas
+pub mod WholeTrees
