@@ -28,6 +28,7 @@ mod input;
 mod kind;
 mod line;
 mod names;
+mod number;
 mod parts;
 mod table;
 #[cfg(test)]
