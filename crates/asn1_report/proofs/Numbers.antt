@@ -1,24 +1,150 @@
--- What `parse` reads of decimal digits without a leading zero.
-use Rattle.std.proofs.Common.{◌≡◌, ℕ, ◌<◌, ◌^◌, Bool, true, false, cond, not, ◌&&◌, ◌==◌, List, [], ◌∷◌, length, get_or, Ok, Err, Some, None, Result, drop, refl, sym, ap, subst, ◌∙◌, arith, rules, ltb}
-use Rattle.std.specs.List.{list_all}
-use Rattle.std.specs.Char.{is_ascii_digit}
+-- The digits of a number, as they are read.
+use Rattle.std.proofs.Common.{◌≡◌, ℕ, zero, suc, ◌+◌, ◌-◌, ◌*◌, ◌<◌, ◌≤◌, ◌^◌, Bool, true, false, cond, not, ◌&&◌, ◌==◌, List, [], ◌∷◌, ◌++◌, length, get_or, Ok, Err, Some, None, Result, take, drop, refl, sym, ap, subst, ◌∙◌, arith, rules, ltb, le_refl, le_trans, mul-le-mul_left, add_comm, add-one}
+use Rattle.std.specs.List.{list_all, prefix_len, take_while}
+use Rattle.std.specs.Char.{is_ascii_digit, digit_value}
 use Rattle.std.specs.Str.{IsUtf8, bytes_eq}
 use Rattle.std.specs.Int.{w128}
 use Rattle.std.specs.Prelude.{ℤ, pos, negsuc, FitsSigned, codes}
-use Rattle.std.specs.Str.Parse.{digits_value, signed_digits_value, ParsesUnsigned, ParsesSigned, IsNumeral, without_leading_sign, without_leading_plus}
+use Rattle.std.specs.Str.Parse.{digits_value, digits_value_after, signed_digits_value, ParsesUnsigned, ParsesSigned, IsNumeral, without_leading_sign, without_leading_plus}
 use Rattle.std.specs.Result.{result_ok, OkIff}
 use Rattle.std.proofs.lemmas.Grind.{common_steps}
-use Rattle.std.proofs.lemmas.Bool.{eqb-true, ltb-true, lt-ltb}
+use Rattle.std.proofs.lemmas.Bool.{and_parts, eqb-true, ltb-true, lt-ltb}
 use Rattle.std.proofs.lemmas.Bool.Decides.{nat_tests}
+use Rattle.std.proofs.lemmas.List.{take_all, take-append-drop}
+use Rattle.std.proofs.lemmas.List.Sums.{take_while-cons}
 use Rattle.std.proofs.lemmas.Str.{IsUtf8-from_ascii}
 use Rattle.std.proofs.lemmas.Str.Ascii.{IsAscii-cons}
 use Rattle.std.specs.Fmt.{decimal}
-use Rattle.std.proofs.lemmas.Fmt.{IsAscii-from_digits, decimal-digits_value}
+use Rattle.std.proofs.lemmas.Fmt.{IsAscii-from_digits, decimal_digit, decimal_nonempty, decimal-digits_value, digits_decimal, digits_value-decimal, first_decimal}
 use Rattle.std.proofs.lemmas.Str.Parse.{IsNumeralModel, numerals_by_value, parse_digits}
-use Rattle.asn1_report.specs.Names.{is_plain_number, is_plain_integer, fits_i128, number_of, integer_of}
+use Rattle.asn1_report.specs.Names.{BeginsWithNumber, begins_with_digit, is_plain_number, is_plain_integer, fits_i128, number_of, integer_of}
 
 own : IsNumeralModel (λ ds. list_all is_ascii_digit ds ≡ true) (digits_value 10)
 own = numerals_by_value (λ ds. list_all is_ascii_digit ds ≡ true) (search rules)
+
+-- more digits only make the value larger
+pub le-digits_value_after : (radix n : ℕ) (ds : List ℕ) → 1 ≤ radix → n ≤ digits_value_after radix n ds
+le-digits_value_after radix n [] h = le_refl n
+le-digits_value_after radix n (d ∷ ds) h =
+    let step : n ≤ n * radix + digit_value d = omega (arith, mul-le-mul_left n h) in
+    le_trans step (le-digits_value_after radix (n * radix + digit_value d) ds h)
+
+-- a digit in front is read
+pub next_digit-value : (n m : ℕ) (text : List ℕ) (k : ℕ) → 0 < length text → length text ≤ k + 1 → 48 ≤ get_or text 0 0 → get_or text 0 0 ≤ 57 →
+    m ≡ n * 10 + (get_or text 0 0 - 48) →
+    digits_value_after 10 n (take_while is_ascii_digit text) ≡ digits_value_after 10 m (take_while is_ascii_digit (take k (drop 1 text)))
+next_digit-value n m [] k some all low high is = absurd (omega arith)
+next_digit-value n m (d ∷ ds) k some all low high is =
+    let digit : is_ascii_digit d ≡ true = grind (arith, common_steps, nat_tests) in
+    let value : n * 10 + digit_value d ≡ m = grind (arith, common_steps, nat_tests) in
+    let whole : take k ds ≡ ds = take_all k ds (omega arith) in
+    rw (take_while-cons, digit, whole) (ap (λ v. digits_value_after 10 v (take_while is_ascii_digit ds)) value)
+
+-- and what is left after the digits stays the same
+pub next_digit-left : (text : List ℕ) (k : ℕ) → 0 < length text → length text ≤ k + 1 → 48 ≤ get_or text 0 0 → get_or text 0 0 ≤ 57 →
+    drop (prefix_len is_ascii_digit text) text ≡ drop (prefix_len is_ascii_digit (take k (drop 1 text))) (take k (drop 1 text))
+next_digit-left [] k some all low high = absurd (omega arith)
+next_digit-left (d ∷ ds) k some all low high =
+    let digit : is_ascii_digit d ≡ true = grind (arith, common_steps, nat_tests) in
+    let whole : take k ds ≡ ds = take_all k ds (omega arith) in
+    rw (digit, whole, add_comm 1 (prefix_len is_ascii_digit ds), add-one) refl
+
+-- so a value that is too large stays so
+pub le-next_digit : (n : ℕ) (text : List ℕ) → 0 < length text → 48 ≤ get_or text 0 0 → get_or text 0 0 ≤ 57 →
+    n * 10 + (get_or text 0 0 - 48) ≤ digits_value_after 10 n (take_while is_ascii_digit text)
+le-next_digit n text some low high =
+    let k = length text - 1 in
+    let m = n * 10 + (get_or text 0 0 - 48) in
+    rw (next_digit-value n m text k some (omega arith) low high refl) (le-digits_value_after 10 m (take_while is_ascii_digit (take k (drop 1 text))) (omega arith))
+
+-- what `take_while` takes are digits
+digits-take_while : (text : List ℕ) → list_all is_ascii_digit (take_while is_ascii_digit text) ≡ true
+digits-take_while [] = refl
+digits-take_while (d ∷ ds) = by_test (is_ascii_digit d) refl (digits-take_while ds)
+  where
+    by_test : (b : Bool) → is_ascii_digit d ≡ b → list_all is_ascii_digit (take_while is_ascii_digit ds) ≡ true →
+        list_all is_ascii_digit (take_while is_ascii_digit (d ∷ ds)) ≡ true
+    by_test true is others = rw (take_while-cons, is) (ap (λ b. b && list_all is_ascii_digit (take_while is_ascii_digit ds)) is ∙ others)
+    by_test false is others = rw (take_while-cons, is) refl
+
+-- and no digit follows them
+digits_end : (text : List ℕ) → begins_with_digit (drop (prefix_len is_ascii_digit text) text) ≡ false
+digits_end [] = refl
+digits_end (d ∷ ds) = by_test (is_ascii_digit d) refl (digits_end ds)
+  where
+    by_test : (b : Bool) → is_ascii_digit d ≡ b → begins_with_digit (drop (prefix_len is_ascii_digit ds) ds) ≡ false →
+        begins_with_digit (drop (prefix_len is_ascii_digit (d ∷ ds)) (d ∷ ds)) ≡ false
+    by_test true is others = rw (is, add_comm 1 (prefix_len is_ascii_digit ds), add-one) others
+    by_test false is others = rw is is
+
+no_digits : (text : List ℕ) → begins_with_digit text ≡ false → take_while is_ascii_digit text ≡ []
+no_digits [] h = refl
+no_digits (d ∷ ds) h = rw (take_while-cons, h) refl
+
+take_while-digits : (ds left : List ℕ) → list_all is_ascii_digit ds ≡ true → begins_with_digit left ≡ false → take_while is_ascii_digit (ds ++ left) ≡ ds
+take_while-digits [] left all end = no_digits left end
+take_while-digits (d ∷ ds) left all end =
+    let parts = and_parts (is_ascii_digit d) (list_all is_ascii_digit ds) all in
+    let is = parts.0 in
+    rw (take_while-cons, is) (ap (λ rest. d ∷ rest) (take_while-digits ds left parts.1 end))
+
+-- a text that begins with a number begins with the digits of just that number
+pub number-value : (text : List ℕ) (n : ℕ) (left : List ℕ) → BeginsWithNumber text n left → digits_value 10 (take_while is_ascii_digit text) ≡ n
+number-value text n left begins =
+    rw (begins.spelled, take_while-digits (decimal n) left (digits_decimal own n (omega arith)) begins.whole) (digits_value-decimal own n (omega arith))
+
+first_digit-bounds : (ds left : List ℕ) → 0 < length ds → list_all is_ascii_digit ds ≡ true →
+    (0 < length (ds ++ left)) × (48 ≤ get_or (ds ++ left) 0 0) × (get_or (ds ++ left) 0 0 ≤ 57)
+first_digit-bounds [] left some all = absurd (omega arith)
+first_digit-bounds (d ∷ ds) left some all = (omega arith, grind (arith, common_steps, nat_tests), grind (arith, common_steps, nat_tests))
+
+pub number-bounds : (text : List ℕ) (n : ℕ) (left : List ℕ) → BeginsWithNumber text n left → (0 < length text) × (48 ≤ get_or text 0 0) × (get_or text 0 0 ≤ 57)
+number-bounds text n left begins =
+    rw begins.spelled (first_digit-bounds (decimal n) left (decimal_nonempty n (omega arith)) (digits_decimal own n (omega arith)))
+
+first-append : (ds left : List ℕ) → 0 < length ds → get_or (ds ++ left) 0 0 ≡ get_or ds 0 0
+first-append [] left some = absurd (omega arith)
+first-append (d ∷ ds) left some = refl
+
+-- a digit 0 in front stands alone
+pub number-lone_zero : (text : List ℕ) (k : ℕ) (n : ℕ) (left : List ℕ) → BeginsWithNumber text n left → length text ≤ k + 1 → get_or text 0 0 ≡ 48 →
+    begins_with_digit (take k (drop 1 text)) ≡ false
+number-lone_zero text k zero left begins all zero_first =
+    let is : text ≡ 48 ∷ left = begins.spelled ∙ ap (λ digits. digits ++ left) (decimal_digit 0 (omega arith)) in
+    let whole : take k (drop 1 text) ≡ left = ap (λ t. take k (drop 1 t)) is ∙ take_all k left (omega (arith, ap length is)) in
+    rw whole begins.whole
+number-lone_zero text k (suc n) left begins all zero_first =
+    absurd (omega (arith, first_decimal (suc n) (omega arith) (omega arith), first-append (decimal (suc n)) left (decimal_nonempty (suc n) (omega arith)), ap (λ t. get_or t 0 0) begins.spelled))
+
+-- a text that begins with a 0 and no further digit begins with the number 0
+pub zero-begins : (text : List ℕ) (k : ℕ) → 0 < length text → length text ≤ k + 1 → get_or text 0 0 ≡ 48 → begins_with_digit (take k (drop 1 text)) ≡ false →
+    BeginsWithNumber text 0 (take k (drop 1 text))
+zero-begins [] k some all zero_first end = absurd (omega arith)
+zero-begins (d ∷ ds) k some all zero_first end =
+    let whole : take k ds ≡ ds = take_all k ds (omega arith) in
+    record { spelled = rw (decimal_digit 0 (omega arith), whole) (ap (λ b. b ∷ ds) zero_first); small = omega arith; whole = end }
+
+first-take_while : (text : List ℕ) → 0 < length text → 48 < get_or text 0 0 → get_or text 0 0 ≤ 57 →
+    (0 < length (take_while is_ascii_digit text)) × (48 < get_or (take_while is_ascii_digit text) 0 0)
+first-take_while [] some low high = absurd (omega arith)
+first-take_while (d ∷ ds) some low high =
+    let digit : is_ascii_digit d ≡ true = grind (arith, common_steps, nat_tests) in
+    rw (take_while-cons, digit) (omega arith, low)
+
+-- a text that begins with digits of which the first is not 0 begins with the number that they write, if it is below 2 ^ 32
+pub digits-begin : (text : List ℕ) (n : ℕ) (left : List ℕ) → 0 < length text → 48 < get_or text 0 0 → get_or text 0 0 ≤ 57 →
+    n ≡ digits_value 10 (take_while is_ascii_digit text) → n < 2 ^ 32 → left ≡ drop (prefix_len is_ascii_digit text) text → BeginsWithNumber text n left
+digits-begin text n left some low high value small rest =
+    let digits = take_while is_ascii_digit text in
+    let first = first-take_while text some low high in
+    let spelled = decimal-digits_value own digits (digits-take_while text) first.0 (λ zero_first. absurd (omega arith)) (omega arith) in
+    record {
+      spelled =
+          sym (take-append-drop (prefix_len is_ascii_digit text) text)
+          ∙ (λ i. (sym spelled ∙ ap decimal (sym value)) i ++ sym rest i);
+      small = small;
+      whole = ap begins_with_digit rest ∙ digits_end text;
+    }
 
 plain_digits : (ds : List ℕ) → is_plain_number ds ≡ true → (list_all is_ascii_digit ds ≡ true) × (0 < length ds)
 plain_digits [] h = cc
