@@ -101,11 +101,14 @@ pub named_of_rest : (line name rest : List ℕ) (verdict : Option TreeVerdict) �
 named_of_rest line name rest verdict is read =
     let make : List ℕ → Tree → List ℕ × List ℕ = λ mark tree. (mark, tree_verdict (leaves tree)) in
     made_of_rest name make (tree_line (parts_of line)) rest is
-    ∙ (beside (λ tree. tree_verdict (leaves tree)) (tree_of deepest rest) ∙ (ap (option_map (λ text. (name, text))) (sym read) ∙ sym (beside verdict_text verdict)))
+    ∙ (beside (λ tree. tree_verdict (leaves tree)) (tree_of deepest rest) ∙ (ap (option_map {U = List ℕ × List ℕ} (λ text. (name, text))) (sym read) ∙ sym (beside verdict_text verdict)))
   where
-    beside : {A : Type 0} (f : A → List ℕ) (r : Option A) → option_map (λ a. (name, f a)) r ≡ option_map (λ text. (name, text)) (option_map f r)
+    beside : {A : Type 0} (f : A → List ℕ) (r : Option A) → option_map {U = List ℕ × List ℕ} (λ a. (name, f a)) r ≡ option_map (λ text. (name, text)) (option_map f r)
     beside f None = refl
     beside f (Some a) = refl
+
+abbrev component_with : FieldPresence → Tree → Component
+component_with presence tree = record { presence = presence; tree = tree }
 
 -- the component that a line adds has the tree that the rest of the line is
 pub component_of_rest : (line rest : List ℕ) (presence : FieldPresence) (old new : FlatTree) →
@@ -114,16 +117,11 @@ pub component_of_rest : (line rest : List ℕ) (presence : FieldPresence) (old n
     option_map component_seen (cond b (Some (record { presence = presence; tree = new })) None) ≡ option_map flat_component (component_of line)
 component_of_rest line rest presence old new is no_tags no_empty_choice b said = by_test b said ∙ sym (ap (option_map flat_component) made)
   where
-    make : FieldPresence → Tree → Component
-    make mark tree = record { presence = mark; tree = tree }
-
-    made : component_of line ≡ option_map (make presence) (tree_of deepest rest)
-    unfolding make
-    made = made_of_rest presence make (component_line (parts_of line)) rest is
+    made : component_of line ≡ option_map (component_with presence) (tree_of deepest rest)
+    made = made_of_rest presence component_with (component_line (parts_of line)) rest is
 
     by_tree : (r : Option Tree) → IsSomeAnd r (Adds old new) →
-        option_map component_seen (Some (record { presence = presence; tree = new })) ≡ option_map flat_component (option_map (make presence) r)
-    unfolding make
+        option_map component_seen (Some (record { presence = presence; tree = new })) ≡ option_map flat_component (option_map (component_with presence) r)
     by_tree None none_there = absurd none_there
     by_tree (Some tree) added = λ i. Some (record {
       presence = presence;
@@ -133,6 +131,6 @@ component_of_rest line rest presence old new is no_tags no_empty_choice b said =
     })
 
     by_test : (b : Bool) → MatchBool b (IsSomeAnd (tree_of deepest rest) (Adds old new)) (tree_of deepest rest ≡ None) →
-        option_map component_seen (cond b (Some (record { presence = presence; tree = new })) None) ≡ option_map flat_component (option_map (make presence) (tree_of deepest rest))
+        option_map component_seen (cond b (Some (record { presence = presence; tree = new })) None) ≡ option_map flat_component (option_map (component_with presence) (tree_of deepest rest))
     by_test true added = by_tree (tree_of deepest rest) added
-    by_test false none_there = sym (ap (λ r. option_map flat_component (option_map (make presence) r)) none_there)
+    by_test false none_there = sym (ap (λ r. option_map flat_component (option_map (component_with presence) r)) none_there)
