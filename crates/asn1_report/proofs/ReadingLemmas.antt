@@ -1,5 +1,5 @@
 -- How a tree is read where it stands, and the trees of a choice one after another.
-use Rattle.std.proofs.Common.{◌≡◌, ℕ, zero, suc, ◌+◌, ◌-◌, ◌<◌, ◌≤◌, ◌^◌, max, Bool, true, false, not, ◌||◌, List, [], ◌∷◌, ◌++◌, length, get_or, take, drop, Result, Ok, Err, Option, Some, None, refl, sym, ap, ◌∙◌, subst, append_assoc, arith}
+use Rattle.std.proofs.Common.{◌≡◌, ℕ, suc, ◌+◌, ◌-◌, ◌≤◌, false, List, [], ◌∷◌, ◌++◌, length, get_or, take, drop, Result, Ok, Err, Option, Some, None, refl, sym, ap, ◌∙◌, subst, append_assoc, arith}
 use Rattle.std.specs.Prelude.{All, IfOk, MatchOption}
 use Rattle.std.specs.Fmt.{decimal}
 use Rattle.std.proofs.lemmas.List.{append-nil, take_all}
@@ -9,8 +9,8 @@ use Rattle.asn1_tags.specs.Trees.{Tree, Trees, leaf, choice, none, more, leaves,
 use Rattle.asn1_clash.specs.Seen.{Adds}
 use Rattle.asn1_clash.specs.declared.flat_tree.FlatTree.{FlatTree}
 use Rattle.asn1_report.specs.Names.{begins_with_digit, BeginsWithNumber}
-use Rattle.asn1_report.specs.Spelling.{letter_of, spelling, spelling_of, spelling_after, brackets, brackets_of, may_follow, BeginsWithTree, BeginsWithTrees, ReadsTree, ReadsChoice}
-use Rattle.asn1_report.proofs.Beginnings.{follows_in_choice, not_false, one_tree_begins, tag_no_bracket, tree_not_closing}
+use Rattle.asn1_report.specs.Spelling.{letter_of, spelling, spelling_of, spelling_after, brackets, brackets_of, BeginsWithTree, BeginsWithTrees, ReadsTree, ReadsChoice}
+use Rattle.asn1_report.proofs.Beginnings.{follows_in_choice, not_false, one_tree_begins, tag_no_bracket}
 use Rattle.asn1_report.proofs.Respellings.{HasSmallNumber, small_front, small_back}
 use Rattle.asn1_report.proofs.TreeLemmas.{AddsAll, adds_nothing, adds_one, adds_choice, join, leaves_of-join}
 

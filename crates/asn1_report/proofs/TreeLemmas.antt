@@ -1,17 +1,11 @@
 -- How the trees between two brackets are read, one after another.
-use Rattle.std.proofs.Common.{◌≡◌, ℕ, zero, suc, ◌-◌, ◌<◌, arith, Bool, true, false, ◌||◌, ◌==◌, length, Result, Ok, Err, Option, Some, None, List, [], ◌∷◌, ◌++◌, option_map, option_and_then, refl, sym, ap, subst, ◌∙◌, append_assoc}
-use Rattle.std.specs.Prelude.{IsSomeAnd, IfOk, MatchBool}
+use Rattle.std.proofs.Common.{◌≡◌, ℕ, zero, suc, ◌-◌, ◌<◌, arith, false, ◌||◌, Option, Some, None, List, ◌++◌, option_map, option_and_then, refl, sym, ap, ◌∙◌, append_assoc}
 use Rattle.std.specs.Option.{option_map_or}
 use Rattle.std.proofs.lemmas.List.{append-nil}
 use Rattle.std.proofs.Math.Bool.{or_assoc, or-false}
-use Rattle.std.proofs.lemmas.Bool.{false≢true}
-use Rattle.std.proofs.lemmas.Grind.{common_steps}
-use Rattle.asn1_tags.specs.declared.tags.Tag.{Tag}
 use Rattle.asn1_tags.specs.Trees.{Tree, Trees, leaf, choice, none, more, leaves, leaves_of, is_open, is_any_open, is_nothing}
 use Rattle.asn1_clash.specs.Seen.{Adds}
 use Rattle.asn1_clash.specs.declared.flat_tree.FlatTree.{FlatTree}
-use Rattle.asn1_report.proofs.PartsLemmas.{IsSome, some-parts_at}
-use Rattle.asn1_report.specs.Parts.{parts_of}
 use Rattle.asn1_report.specs.Grammar.{tag_of, between_brackets, elements_of, all_trees, tree_of}
 
 -- the trees of one list, then those of the other
@@ -90,4 +84,3 @@ unfolding tree_of
 tree_of-tag zero text none_there = refl
 tree_of-tag (suc depth) text none_there =
     ap (λ found. option_map_or (λ bs. option_map choice (all_trees (tree_of depth) (elements_of bs))) found (option_map leaf (tag_of text))) none_there
-

@@ -3,7 +3,6 @@ use Rattle.std.proofs.Common.{◌≡◌, ℕ, Bool, true, false, cond, ◌||◌,
 use Rattle.std.specs.Prelude.{IsSomeAnd, MatchBool}
 use Rattle.std.proofs.lemmas.List.{append-nil}
 use Rattle.std.proofs.lemmas.Bool.{eqb-true, false≢true}
-use Rattle.std.proofs.lemmas.Option.{none-some}
 use Rattle.asn1_tags.specs.Trees.{Tree, leaves, is_open}
 use Rattle.asn1_fields.specs.Components.{Component}
 use Rattle.asn1_fields.specs.declared.presence.FieldPresence.{FieldPresence}
@@ -16,7 +15,7 @@ use Rattle.asn1_report.specs.PartsLeft.{only_part}
 use Rattle.asn1_report.specs.Report.{tree_verdict}
 use Rattle.asn1_report.specs.Verdict.{named_verdict, verdict_text}
 use Rattle.asn1_report.specs.declared.verdict.TreeVerdict.{TreeVerdict}
-use Rattle.asn1_report.specs.Spelling.{spelling, may_follow, BeginsWithTree, ReadsTree}
+use Rattle.asn1_report.specs.Spelling.{spelling, BeginsWithTree, ReadsTree}
 use Rattle.asn1_report.proofs.Beginnings.{one_tree_begins, nothing_may_follow}
 use Rattle.asn1_report.proofs.PartsLemmas.{lone_part}
 use Rattle.asn1_report.proofs.ReadingLemmas.{BeginsWithNoTree}

@@ -1,6 +1,6 @@
 use Rattle.std.proofs.Common.{◌≡◌, ap, get_or, length, arith}
 use borrow.Author.Tests.{ltb-true}
-use Rattle.asn1_report.proofs.ReadingLemmas.{choice_read, first_byte, no_tag_no_tree, read_last, read_no_end, read_no_tree, read_nothing, read_one, too_deep}
+use Rattle.asn1_report.proofs.ReadingLemmas.{choice_read, first_byte, read_last, read_no_end, read_no_tree, read_nothing, read_one}
 use Rattle.asn1_report.proofs.tree.+tree.Goals as goal
 use Rattle.asn1_report.proofs.tree.+tree.Goals.{read_choice-then-inside-lt1, read_choice-else-inside-lt1+in_default-1, read_choice-in_default-left-via-then-left-lt1, read_choice-in_default-left-via-else-left-lt1+in_default-1}
 
@@ -8,10 +8,10 @@ pub read_choice-loop-left-init : goal.read_choice-loop-left-init
 read_choice-loop-left-init t c =
     read_nothing _ _ _
     (λ left same.
-      elim c.if-inside-lt1.branch [
-        read_choice-then-inside-lt1 w ↦ omega (arith, ltb-true, ap length same)
+    elim c.if-inside-lt1.branch [
+      | read_choice-then-inside-lt1 w ↦ omega (arith, ltb-true, ap length same)
       | read_choice-else-inside-lt1+in_default-1 w ↦ omega (arith, ap (λ bytes. get_or bytes 0 0) same)
-      ])
+    ])
 
 pub read_choice-loop-left-preserved : goal.read_choice-loop-left-preserved
 read_choice-loop-left-preserved t c =
@@ -27,15 +27,15 @@ pub read_choice-returns-in_default-left : goal.read_choice-returns-in_default-le
 read_choice-returns-in_default-left t c =
     read_no_end _ _ _ _ _ _ _ c.loop-left.invariant (rw c.in-Some.is at c.in_ok-left.ensures)
     (λ next same.
-      elim c.in_default-left.branch [
-        read_choice-in_default-left-via-then-left-lt1 w ↦ omega (arith, ltb-true, ap length same)
+    elim c.in_default-left.branch [
+      | read_choice-in_default-left-via-then-left-lt1 w ↦ omega (arith, ltb-true, ap length same)
       | read_choice-in_default-left-via-else-left-lt1+in_default-1 w ↦ omega (arith, ap (λ bytes. get_or bytes 0 0) same)
-      ])
+    ])
     (λ next same.
-      elim c.in_default-left.branch [
-        read_choice-in_default-left-via-then-left-lt1 w ↦ omega (arith, ltb-true, ap length same)
+    elim c.in_default-left.branch [
+      | read_choice-in_default-left-via-then-left-lt1 w ↦ omega (arith, ltb-true, ap length same)
       | read_choice-in_default-left-via-else-left-lt1+in_default-1 w ↦ omega (arith, ap (λ bytes. get_or bytes 0 0) same)
-      ])
+    ])
 
 pub read_choice-returns : goal.read_choice-returns
 read_choice-returns t c = read_no_tree _ _ _ _ _ c.loop-left.invariant (rw c.in_default-2.is at c.in_ok-left.ensures)
