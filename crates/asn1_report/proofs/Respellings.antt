@@ -1,5 +1,5 @@
--- A tree's text is read as that tree, and each tree that is read fits.
-use Rattle.std.proofs.Common.{◌≡◌, ℕ, zero, suc, ◌+◌, ◌-◌, ◌/◌, ◌%◌, ◌^◌, ◌<◌, ◌≤◌, max, Bool, true, false, cond, not, ◌&&◌, ◌==◌, List, [], ◌∷◌, ◌++◌, length, get_or, take, Option, Some, None, option_map, option_and_then, refl, sym, ap, subst, ◌∙◌, append_assoc, arith, ltb, rules}
+-- The text of a tree is read as that tree, and what is read is a tree whose text is read so.
+use Rattle.std.proofs.Common.{◌≡◌, ℕ, zero, suc, ◌+◌, ◌-◌, ◌/◌, ◌%◌, ◌^◌, ◌<◌, ◌≤◌, Bool, true, false, cond, not, ◌&&◌, ◌==◌, List, [], ◌∷◌, ◌++◌, length, get_or, take, Option, Some, None, option_map, option_and_then, refl, sym, ap, subst, ◌∙◌, append_assoc, arith, ltb, rules}
 use Rattle.std.specs.Prelude.{All}
 use Rattle.std.specs.List.{onto_first, list_all}
 use Rattle.std.specs.Option.{option_map_or}
@@ -8,11 +8,10 @@ use Rattle.std.specs.Str.Parse.{digits_value}
 use Rattle.std.specs.Fmt.{decimal, digits, digits_onto, digit_glyph}
 use Rattle.std.specs.Io.BufRead.{ends_with_byte}
 use Rattle.std.proofs.Math.Bool.{and-false}
-use Rattle.std.proofs.Math.Nat.{le-max_left, le-max_right, max-le}
 use Rattle.std.proofs.Math.Seq.{take-append_seam}
-use Rattle.std.proofs.lemmas.Bool.{eq-eqb, ne_eqb, eqb-true, ltb-true, lt-ltb}
+use Rattle.std.proofs.lemmas.Bool.{ne_eqb, ltb-true, lt-ltb}
 use Rattle.std.proofs.lemmas.Bool.Decides.{nat_tests}
-use Rattle.std.proofs.lemmas.Fmt.{decimal_is_IsNumeral, decimal_digit, first_decimal, digits_decimal, digits_value-decimal, decimal_nonempty}
+use Rattle.std.proofs.lemmas.Fmt.{decimal_digit, first_decimal, digits_decimal, digits_value-decimal, decimal_nonempty}
 use Rattle.std.proofs.lemmas.Grind.{common_steps}
 use Rattle.std.proofs.lemmas.List.{append-nil, length-append, length_push, get_or_push, get_or_append_left, get_or-append-add}
 use Rattle.std.proofs.lemmas.List.Elements.{All-nil, All-cons, All-append, All-head}
@@ -29,7 +28,7 @@ use Rattle.asn1_report.specs.Spelling.{letter_of, spelling, spelling_of, spellin
 use Rattle.asn1_report.proofs.PartsLemmas.{before_first, before_first-onto_first, parts_start}
 use Rattle.asn1_report.proofs.TreeLemmas.{tree_of-inside, tree_of-tag}
 
--- the bytes of a text that no part ends at, whatever the depth: they stand in one part, and change no depth
+-- where so many brackets are open before the text, no part ends in it, and as many are open after it
 abbrev Passes : ℕ → List ℕ → Type 0
 Passes depth text = (rest : List ℕ) → parts_at depth (text ++ rest) ≡ before_first text (parts_at depth rest)
 
@@ -41,7 +40,7 @@ before_first-append : (front back : List ℕ) (parts : List (List ℕ)) → befo
 before_first-append front back [] = refl
 before_first-append front back (part ∷ parts) = ap (λ first. first ∷ parts) (sym (append_assoc front back part))
 
--- a byte goes onto the first part, where the test for a space outside all brackets fails
+-- a byte that is no space outside all brackets goes onto the first part
 byte_passes : (depth after byte : ℕ) (bytes : List ℕ) → ((depth == 0) && (byte == 32)) ≡ false → depth_after depth byte ≡ after →
     parts_at depth (byte ∷ bytes) ≡ onto_first byte (parts_at after bytes)
 byte_passes depth after byte bytes inside is =
@@ -57,9 +56,9 @@ Passes-cons depth byte bytes inside same passes rest =
     ∙ (ap (onto_first byte) (passes rest) ∙ onto_first-before_first byte bytes (parts_at depth rest))
 
 Passes-append : (depth : ℕ) (front back : List ℕ) → Passes depth front → Passes depth back → Passes depth (front ++ back)
-Passes-append depth front back first then rest =
+Passes-append depth front back front_passes back_passes rest =
     ap (parts_at depth) (append_assoc front back rest)
-    ∙ (first (back ++ rest) ∙ (ap (before_first front) (then rest) ∙ before_first-append front back (parts_at depth rest)))
+    ∙ (front_passes (back ++ rest) ∙ (ap (before_first front) (back_passes rest) ∙ before_first-append front back (parts_at depth rest)))
 
 Passes-brackets : (depth : ℕ) (inside : List ℕ) → Passes (depth + 1) inside → Passes depth (40 ∷ (inside ++ 41 ∷ []))
 Passes-brackets depth inside passes rest =
@@ -73,7 +72,7 @@ Passes-brackets depth inside passes rest =
         ∙ (ap (before_first inside) (byte_passes (depth + 1) depth 41 rest (and-false (depth + 1 == 0)) (omega arith))
         ∙ before_first-onto_first inside 41 (parts_at depth rest)))
 
--- bytes that are letters, digits or others above the brackets
+-- each byte is above those of the space and of the brackets, as letters and digits are
 abbrev IsAboveBrackets : List ℕ → Type 0
 IsAboveBrackets [] = Unit {0}
 IsAboveBrackets (byte ∷ bytes) = (41 < byte) × IsAboveBrackets bytes
@@ -181,11 +180,11 @@ between_brackets-inside inside =
 pub own : IsNumeralModel (λ ds. list_all is_ascii_digit ds ≡ true) (digits_value 10)
 own = numerals_by_value (λ ds. list_all is_ascii_digit ds ≡ true) (search rules)
 
--- digits, of which the first is no zero, are a plain number
+-- digits of which the first is above zero are a plain number
 plain_from_digits : (ds : List ℕ) → list_all is_ascii_digit ds ≡ true → 0 < length ds → 48 < get_or ds 0 0 → is_plain_number ds ≡ true
 plain_from_digits [] all some first = absurd (omega arith)
 plain_from_digits (d ∷ []) all some first = grind (arith, common_steps)
-plain_from_digits (d ∷ e ∷ ds) all some first = ap (λ b. not b && list_all is_ascii_digit (d ∷ e ∷ ds)) (ne_eqb d 48 (λ e. omega arith)) ∙ all
+plain_from_digits (d ∷ e ∷ ds) all some first = ap (λ b. not b && list_all is_ascii_digit (d ∷ e ∷ ds)) (ne_eqb d 48 (λ is_zero. omega arith)) ∙ all
 
 plain_decimal : (n : ℕ) → n < 2 ^ 32 → is_plain_number (decimal n) ≡ true
 plain_decimal zero small = ap is_plain_number (decimal_digit 0 (omega arith))
@@ -216,7 +215,7 @@ no_brackets Application bytes = refl
 no_brackets Context bytes = refl
 no_brackets Private bytes = refl
 
--- the number of a tag that is read
+-- the tag's number is one that is read
 abbrev pub HasSmallNumber : Tag → Type 0
 HasSmallNumber tag = tag.value < 2 ^ 32
 
@@ -246,10 +245,11 @@ mutual
       ap (option_and_then (λ t. option_map (more t) (all_trees (tree_of depth) (spelling_each trees)))) (tree_respelled depth tree (omega arith) (small_front (leaves tree) (leaves_of trees) small))
       ∙ ap (option_map (more tree)) (trees_respelled depth trees (omega arith) (small_back (leaves tree) (leaves_of trees) small))
 
--- the tree's brackets are at most so many, and its tags' numbers small
+-- at most so many of the tree's brackets are open at once, and its tags' numbers are small
 abbrev Fits : ℕ → Tree → Type 0
 Fits depth tree = (brackets tree ≤ depth) × All HasSmallNumber (leaves tree)
 
+-- each tree that the function finds fits
 abbrev FindsFitting : ℕ → (List ℕ → Option Tree) → Type 0
 FindsFitting depth tree_in = (text : List ℕ) (tree : Tree) → tree_in text ≡ Some tree → Fits depth tree
 
@@ -284,7 +284,7 @@ leaf_fits depth text tree is = with_tag (tag_of text) refl is
     with_tag (Some tag) found whole =
         subst (Fits depth) (same_Some _ _ whole) (omega arith, All-cons HasSmallNumber tag [] (tag_small text tag found) (All-nil HasSmallNumber))
 
--- the trees' brackets are at most so many, and their tags' numbers small
+-- the same of several trees
 abbrev AllFit : ℕ → Trees → Type 0
 AllFit depth trees = (brackets_of trees ≤ depth) × All HasSmallNumber (leaves_of trees)
 
@@ -311,7 +311,7 @@ choice_fits : (depth : ℕ) (r : Option Trees) (tree : Tree) → ((trees : Trees
 choice_fits depth None tree fit whole = cc
 choice_fits depth (Some trees) tree fit whole = let all = fit trees refl in subst (Fits (suc depth)) (same_Some _ _ whole) (omega (arith, all.0), all.1)
 
--- a tree that is read has no more brackets open at once than may be, and its tags' numbers are below 2 ^ 32
+-- what is read is a tree with at most `depth` brackets open at once, and with tags' numbers below 2 ^ 32
 pub tree_fits : (depth : ℕ) (text : List ℕ) (tree : Tree) → tree_of depth text ≡ Some tree → (brackets tree ≤ depth) × All (λ tag. tag.value < 2 ^ 32) (leaves tree)
 unfolding tree_of
 tree_fits zero text tree is = leaf_fits zero text tree is

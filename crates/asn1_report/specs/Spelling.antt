@@ -30,8 +30,8 @@ abbrev mutual
   spelling_after none = []
   spelling_after (more tree trees) = 32 ∷ (spelling tree ++ spelling_after trees)
 
--- how many brackets are open at once in a tree's text: none in a tag's, and in a choice's one more than the most
--- that are in one of its trees'
+-- how many brackets are open at once in a tree's text: none for a tag, and for a choice one more than the most of
+-- its trees
 abbrev mutual
   pub brackets : Tree → ℕ
   brackets (leaf tag) = 0

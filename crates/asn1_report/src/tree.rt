@@ -1,10 +1,10 @@
 //! Trees of tags, as they are written.
-ghost use Rattle.std.specs.Prelude.{◌≡◌, ℕ, List, None, Some, IfOk, MatchBool, MatchOption, IsSomeAnd};
-ghost use Rattle.asn1_tags.specs.Trees.{Tree, Trees, leaf};
+ghost use Rattle.std.specs.Prelude.{◌≡◌, ℕ, ◌^◌, ◌<◌, ◌≤◌, List, None, Some, All, IfOk, MatchBool, MatchOption, IsSomeAnd};
+ghost use Rattle.asn1_tags.specs.Trees.{Tree, Trees, leaf, leaves};
 ghost use Rattle.asn1_tags.specs.declared.tags.Tag.{Tag};
 ghost use Rattle.asn1_report.specs.Grammar.{class_of, deepest, tree_of};
 ghost use Rattle.asn1_clash.specs.Seen.{Adds};
-ghost use Rattle.asn1_report.specs.Spelling.{spelling, BeginsWithTree, BeginsWithTrees, ReadsTree, ReadsChoice};
+ghost use Rattle.asn1_report.specs.Spelling.{spelling, brackets, BeginsWithTree, BeginsWithTrees, ReadsTree, ReadsChoice};
 
 use crate::number::read_number;
 use asn1_clash::FlatTree;
@@ -111,8 +111,14 @@ fn read_class(letter: u8) -> Option<Class>
     }
 }
 
-/// A law of the definition that [`read_tree`] meets: what is read as a tree is the text of that tree, so no two
-/// trees are read of one text, and no byte of it is passed over.
+ghost use Rattle.std.specs.Prelude.{◌≡◌, ℕ, ◌^◌, ◌<◌, ◌≤◌, List, None, Some, All, IfOk, MatchBool, MatchOption, IsSomeAnd};
+ghost use Rattle.asn1_tags.specs.Trees.{Tree, Trees, leaf, leaves};
+ghost use Rattle.asn1_tags.specs.declared.tags.Tag.{Tag};
+ghost use Rattle.asn1_report.specs.Grammar.{class_of, deepest, tree_of};
+ghost use Rattle.asn1_clash.specs.Seen.{Adds};
+ghost use Rattle.asn1_report.specs.Spelling.{spelling, brackets, BeginsWithTree, BeginsWithTrees, ReadsTree, ReadsChoice};
 pub fn trees_are_read_of_their_texts()
-    ensures { (depth : ℕ) (text : List ℕ) (tree : Tree) → tree_of depth text ≡ Some tree → text ≡ spelling tree }
+    ensures text { (depth : ℕ) (text : List ℕ) (tree : Tree) → tree_of depth text ≡ Some tree → text ≡ spelling tree }
+    ensures read { (depth : ℕ) (tree : Tree) → brackets tree ≤ depth → All (λ tag. tag.value < 2 ^ 32) (leaves tree)
+        → tree_of depth (spelling tree) ≡ Some tree }
 {}

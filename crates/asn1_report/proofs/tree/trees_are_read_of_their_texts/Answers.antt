@@ -1,5 +1,6 @@
+use Rattle.asn1_report.proofs.Respellings.{tree_respelled}
 use Rattle.asn1_report.proofs.Spellings.{tree_spelled}
 use Rattle.asn1_report.proofs.tree.trees_are_read_of_their_texts.Goals as goal
 
 pub returns : goal.returns
-returns c = λ depth text tree is. tree_spelled depth text tree is
+returns c = record { text = tree_spelled; read = tree_respelled }
