@@ -1,25 +1,23 @@
 -- The digits of a number, as they are read.
-use Rattle.std.proofs.Common.{◌≡◌, ℕ, zero, suc, ◌+◌, ◌-◌, ◌*◌, ◌<◌, ◌≤◌, ◌≢◌, ◌^◌, Bool, true, false, cond, not, ◌&&◌, ◌==◌, List, [], ◌∷◌, ◌++◌, length, get_or, Ok, Err, Some, None, Result, take, drop, refl, sym, ap, subst, ◌∙◌, arith, rules, ltb, le_refl, le_trans, mul-le-mul_left, add_comm, add-one, length-drop, pow-suc}
+use Rattle.std.proofs.Common.{◌≡◌, ℕ, zero, suc, ◌+◌, ◌-◌, ◌*◌, ◌<◌, ◌≤◌, ◌^◌, Bool, true, false, cond, not, ◌&&◌, List, [], ◌∷◌, ◌++◌, length, get_or, Ok, Err, Some, None, Result, take, drop, refl, sym, ap, ◌∙◌, arith, rules, ltb, le_refl, le_trans, mul-le-mul_left, add_comm, add-one, length-drop, pow-suc}
 use Rattle.std.specs.List.{list_all, prefix_len, take_while}
 use Rattle.std.specs.Char.{is_ascii_digit, digit_value}
 use Rattle.std.specs.Str.{IsUtf8, bytes_eq}
-use Rattle.std.specs.Int.{w128}
-use Rattle.std.specs.Prelude.{ℤ, pos, negsuc, neg_ℤ, nat_le, nat_lt, FitsSigned, codes}
-use Rattle.std.specs.Str.Parse.{digits_value, digits_value_after, signed_digits_value, ParsesUnsigned, ParsesSigned, IsNumeral, without_leading_sign, without_leading_plus}
+use Rattle.std.specs.Prelude.{pos, neg_ℤ, nat_le, codes}
+use Rattle.std.specs.Str.Parse.{digits_value, digits_value_after, ParsesUnsigned}
 use Rattle.std.specs.Result.{result_ok, OkIff}
 use Rattle.std.proofs.lemmas.Grind.{common_steps}
-use Rattle.std.proofs.lemmas.Bool.{and_parts, eqb-true, ltb-true, lt-ltb}
+use Rattle.std.proofs.lemmas.Bool.{and_parts, ltb-true}
 use Rattle.std.proofs.lemmas.Bool.Decides.{nat_tests}
 use Rattle.std.proofs.lemmas.List.{take_all, take-append-drop}
 use Rattle.std.proofs.lemmas.List.Folds.{list_all-append}
 use Rattle.std.proofs.lemmas.List.Sums.{take_while-cons}
 use Rattle.std.proofs.lemmas.Slice.Eq.{bytes_eq-Decides}
 use Rattle.std.proofs.lemmas.Str.{IsUtf8-from_ascii}
-use Rattle.std.proofs.lemmas.Str.Ascii.{IsAscii-cons}
 use Rattle.std.specs.Fmt.{decimal}
 use Rattle.std.proofs.lemmas.Fmt.{IsAscii-from_digits, decimal_digit, decimal_nonempty, decimal-digits_value, digits_decimal, digits_value-decimal, first_decimal}
 use Rattle.std.proofs.lemmas.Str.Parse.{IsNumeralModel, numerals_by_value, parse_digits, digits_value_short}
-use Rattle.asn1_report.specs.Names.{BeginsWithNumber, begins_with_digit, is_plain_number, is_plain_integer, fits_i128, number_of, integer_of}
+use Rattle.asn1_report.specs.Names.{BeginsWithNumber, begins_with_digit, is_plain_number, fits_i128, number_of, integer_of}
 
 own : IsNumeralModel (λ ds. list_all is_ascii_digit ds ≡ true) (digits_value 10)
 own = numerals_by_value (λ ds. list_all is_ascii_digit ds ≡ true) (search rules)
@@ -60,9 +58,9 @@ le-next_digit n text some low high =
     rw (next_digit-value n m text k some (omega arith) low high refl) (le-digits_value_after 10 m (take_while is_ascii_digit (take k (drop 1 text))) (omega arith))
 
 -- what `take_while` takes are digits
-digits-take_while : (text : List ℕ) → list_all is_ascii_digit (take_while is_ascii_digit text) ≡ true
-digits-take_while [] = refl
-digits-take_while (d ∷ ds) = by_test (is_ascii_digit d) refl (digits-take_while ds)
+list_all-take_while : (text : List ℕ) → list_all is_ascii_digit (take_while is_ascii_digit text) ≡ true
+list_all-take_while [] = refl
+list_all-take_while (d ∷ ds) = by_test (is_ascii_digit d) refl (list_all-take_while ds)
   where
     by_test : (b : Bool) → is_ascii_digit d ≡ b → list_all is_ascii_digit (take_while is_ascii_digit ds) ≡ true →
         list_all is_ascii_digit (take_while is_ascii_digit (d ∷ ds)) ≡ true
@@ -79,21 +77,22 @@ digits_end (d ∷ ds) = by_test (is_ascii_digit d) refl (digits_end ds)
     by_test true is others = rw (is, add_comm 1 (prefix_len is_ascii_digit ds), add-one) others
     by_test false is others = rw is is
 
-no_digits : (text : List ℕ) → begins_with_digit text ≡ false → take_while is_ascii_digit text ≡ []
-no_digits [] h = refl
-no_digits (d ∷ ds) h = rw (take_while-cons, h) refl
+-- digits before what begins with no digit are all that is taken
+take_while-none : (text : List ℕ) → begins_with_digit text ≡ false → take_while is_ascii_digit text ≡ []
+take_while-none [] h = refl
+take_while-none (d ∷ ds) h = rw (take_while-cons, h) refl
 
-take_while-digits : (ds left : List ℕ) → list_all is_ascii_digit ds ≡ true → begins_with_digit left ≡ false → take_while is_ascii_digit (ds ++ left) ≡ ds
-take_while-digits [] left all end = no_digits left end
-take_while-digits (d ∷ ds) left all end =
+take_while-append : (ds left : List ℕ) → list_all is_ascii_digit ds ≡ true → begins_with_digit left ≡ false → take_while is_ascii_digit (ds ++ left) ≡ ds
+take_while-append [] left all end = take_while-none left end
+take_while-append (d ∷ ds) left all end =
     let parts = and_parts (is_ascii_digit d) (list_all is_ascii_digit ds) all in
     let is = parts.0 in
-    rw (take_while-cons, is) (ap (λ rest. d ∷ rest) (take_while-digits ds left parts.1 end))
+    rw (take_while-cons, is) (ap (λ rest. d ∷ rest) (take_while-append ds left parts.1 end))
 
--- a text that begins with a number begins with the digits of just that number
+-- a text that begins with a number begins with the digits of that number, and no more
 pub number-value : (text : List ℕ) (n : ℕ) (left : List ℕ) → BeginsWithNumber text n left → digits_value 10 (take_while is_ascii_digit text) ≡ n
 number-value text n left begins =
-    rw (begins.spelled, take_while-digits (decimal n) left (digits_decimal own n (omega arith)) begins.whole) (digits_value-decimal own n (omega arith))
+    rw (begins.spelled, take_while-append (decimal n) left (digits_decimal own n (omega arith)) begins.whole) (digits_value-decimal own n (omega arith))
 
 first_digit-bounds : (ds left : List ℕ) → 0 < length ds → list_all is_ascii_digit ds ≡ true →
     (0 < length (ds ++ left)) × (48 ≤ get_or (ds ++ left) 0 0) × (get_or (ds ++ left) 0 0 ≤ 57)
@@ -139,7 +138,7 @@ pub digits-begin : (text : List ℕ) (n : ℕ) (left : List ℕ) → 0 < length 
 digits-begin text n left some low high value small rest =
     let digits = take_while is_ascii_digit text in
     let first = first-take_while text some low high in
-    let spelled = decimal-digits_value own digits (digits-take_while text) first.0 (λ zero_first. absurd (omega arith)) (omega arith) in
+    let spelled = decimal-digits_value own digits (list_all-take_while text) first.0 (λ zero_first. absurd (omega arith)) (omega arith) in
     record {
       spelled =
           sym (take-append-drop (prefix_len is_ascii_digit text) text)
@@ -148,15 +147,15 @@ digits-begin text n left some low high value small rest =
       whole = ap begins_with_digit rest ∙ digits_end text;
     }
 
-tens-more : (n d p v : ℕ) → (n * 10 + d) * p + v ≡ n * (p * 10) + ((0 * 10 + d) * p + v)
-tens-more n d p v = omega arith
+ten_times-more : (n d p v : ℕ) → (n * 10 + d) * p + v ≡ n * (p * 10) + ((0 * 10 + d) * p + v)
+ten_times-more n d p v = omega arith
 
 -- each digit makes what stands in front of it count ten times
 digits_value_after-digits_value : (n : ℕ) (ds : List ℕ) → digits_value_after 10 n ds ≡ n * 10 ^ length ds + digits_value 10 ds
 digits_value_after-digits_value n [] = omega arith
 digits_value_after-digits_value n (d ∷ ds) =
     digits_value_after-digits_value (n * 10 + digit_value d) ds
-    ∙ (tens-more n (digit_value d) (10 ^ length ds) (digits_value 10 ds)
+    ∙ (ten_times-more n (digit_value d) (10 ^ length ds) (digits_value 10 ds)
     ∙ (λ i. n * sym (pow-suc 10 (length ds)) i + sym (digits_value_after-digits_value (0 * 10 + digit_value d) ds) i))
 
 digits_value_after-append : (n : ℕ) (xs ys : List ℕ) → digits_value_after 10 n (xs ++ ys) ≡ digits_value_after 10 (digits_value_after 10 n xs) ys
@@ -179,21 +178,13 @@ digits_value-split text k is =
         let few : length (drop (suc k) text) ≡ 19 = omega (arith, length-drop {A = ℕ}) in
         ap (λ n. digits_value 10 (take (suc k) text) * 10 ^ n + digits_value 10 (drop (suc k) text)) few
 
+-- what the last 19 digits write fits 64 bits
 pub digits_value-last : (text : List ℕ) (k : ℕ) → k ≡ length text - 19 → list_all is_ascii_digit (drop k text) ≡ true → digits_value 10 (drop k text) < 10 ^ 19
 digits_value-last text k is digits = digits_value_short own (drop k text) 19 digits (omega (arith, length-drop {A = ℕ}))
 
--- a text is digits if its two parts are
+-- a text is digits if and only if its two parts are
 pub digits-split : (text : List ℕ) (k : ℕ) → list_all is_ascii_digit text ≡ (list_all is_ascii_digit (take k text) && list_all is_ascii_digit (drop k text))
 digits-split text k = ap (list_all is_ascii_digit) (sym (take-append-drop k text)) ∙ list_all-append is_ascii_digit (take k text) (drop k text)
-
--- a text without a leading zero is a number if it is digits
-pub plain-digits : (text : List ℕ) → 0 < length text → (1 < length text → get_or text 0 0 ≢ 48) → is_plain_number text ≡ list_all is_ascii_digit text
-plain-digits [] some first = absurd (omega arith)
-plain-digits (d ∷ []) some first = grind (arith, common_steps)
-plain-digits (d ∷ e ∷ ds) some first =
-    let other : d ≢ 48 = first (omega arith) in
-    let is : (d == 48) ≡ false = grind (arith, nat_tests) in
-    rw is refl
 
 plain_digits : (ds : List ℕ) → is_plain_number ds ≡ true → (list_all is_ascii_digit ds ≡ true) × (0 < length ds)
 plain_digits [] h = cc
@@ -213,12 +204,6 @@ number_read ds r h parsed = by_result r (parse_digits own 32 ds r parsed (plain_
     by_result (Ok n) found = let e = number_by ds h in let lt = found.0.1 in let v = found.1 in grind (arith, nat_tests)
     by_result (Err e) none = let f = number_by ds h in
         let big : digits_value 10 ds < 2 ^ 32 → ⊥ = λ lt. none ((plain_digits ds h).1, lt) in grind (arith, nat_tests)
-
-first_digit : (d : ℕ) (ds : List ℕ) → is_plain_number (d ∷ ds) ≡ true → (d == 43) ≡ false
-first_digit d ds h =
-    let all = (plain_digits (d ∷ ds) h).0 in
-    let digit : is_ascii_digit d ≡ true = grind (arith, common_steps) in
-    grind (arith, nat_tests)
 
 -- a digit 0 in front stands alone
 lone_zero : (ds : List ℕ) → is_plain_number ds ≡ true → get_or ds 0 0 ≡ 48 → length ds ≡ 1
@@ -274,24 +259,7 @@ integer-minus (d ∷ ds) k some all minus =
     by_tests true v plain value = ap (λ b. cond b (Some (neg_ℤ (pos v))) None) (same_test v plain value)
     by_tests false v plain value = refl
 
+-- and there is none where the digits write too much
 pub none-too_large : (p : Bool) (v : ℕ) → (p ≡ true → 2 ^ 127 < v) → cond (p && (nat_le 1 v && nat_le v (2 ^ 127))) (Some (neg_ℤ (pos v))) None ≡ None
 none-too_large true v large = let more = large refl in grind (arith, nat_tests)
 none-too_large false v large = refl
-
--- digits alone are their value
-pub integer-digits : (text : List ℕ) → (0 < length text → get_or text 0 0 ≢ 45) →
-    let v = digits_value 10 text in
-    integer_of text ≡ cond (is_plain_number text && nat_lt v (2 ^ 127)) (Some (pos v)) None
-integer-digits [] other = refl
-integer-digits (d ∷ ds) other = by_plain (is_plain_number (d ∷ ds)) refl
-  where
-    no_minus : (d == 45) ≡ false
-    no_minus = let unlike : d ≢ 45 = other (omega arith) in grind (arith, nat_tests)
-
-    by_plain : (p : Bool) → is_plain_number (d ∷ ds) ≡ p →
-        integer_of (d ∷ ds)
-        ≡ cond (p && nat_lt (digits_value 10 (d ∷ ds)) (2 ^ 127)) (Some (pos (digits_value 10 (d ∷ ds)))) None
-    by_plain true plain =
-        let no_plus = first_digit d ds plain in
-        rw (no_minus, plain, no_plus) refl
-    by_plain false plain = rw (no_minus, plain) refl

@@ -1,9 +1,9 @@
-use Rattle.std.proofs.Common.{◌≡◌, ℕ, ◌^◌, ◌<◌, ◌≤◌, ◌-◌, ◌≢◌, length, get_or, arith, sym, ◌∙◌}
+use Rattle.std.proofs.Common.{◌-◌, length, arith, sym, ◌∙◌}
 use Rattle.std.proofs.lemmas.Grind.{common_steps}
 use Rattle.std.proofs.lemmas.Bool.Decides.{nat_tests}
 use Rattle.asn1_report.proofs.Numbers.{integer-minus, none-too_large}
 use Rattle.asn1_report.proofs.number.read_integer.Goals as goal
-    
+
 pub returns-in_err-read_magnitude-in-45 : goal.returns-in_err-read_magnitude-in-45
 returns-in_err-read_magnitude-in-45 c =
     let text = c.args.text.now in

@@ -1,9 +1,6 @@
-use Rattle.std.proofs.Common.{rules, ◌≡◌, ℕ, ◌^◌, ◌<◌, ◌≤◌, List, MatchOption, drop, take, true, ◌&&◌, nat_lt, if◌then◌else◌, ◌+◌, ◌-◌, ◌*◌, ◌≢◌, length, get_or, arith}
+use Rattle.std.proofs.Common.{arith}
 use Rattle.std.proofs.lemmas.Grind.{common_steps}
 use Rattle.std.proofs.lemmas.Bool.Decides.{nat_tests}
-use Rattle.std.specs.List.{list_all, prefix_len, take_while}
-use Rattle.std.specs.Char.{is_ascii_digit}
-use Rattle.std.specs.Str.Parse.{digits_value}
 use Rattle.asn1_report.proofs.Numbers.{digits_value-split, digits_value-last, digits-split}
 use Rattle.asn1_report.proofs.number.read_u128.Goals as goal
 

@@ -8,5 +8,5 @@ abbrev pub invariant-loop-byte : goal.invariant-loop-byte
 invariant-loop-byte l = record {
   value : digits_value_after 10 l.number (drop l.byte-index l.text) ≡ digits_value 10 l.text;
   digits : list_all is_ascii_digit (drop l.byte-index l.text) ≡ list_all is_ascii_digit l.text;
-  small : l.number < 2 ^ 64
+  small : l.number < 2 ^ 64;
 }
