@@ -2,7 +2,7 @@
 ghost use Rattle.std.specs.Prelude.{◌≡◌};
 ghost use Rattle.std.specs.List.{list_all};
 ghost use Rattle.std.specs.Char.{is_ascii_digit};
-ghost use Rattle.asn1_report.specs.Names.{is_name, is_name_byte, is_plain_number, is_plain_integer, number_of, integer_of};
+ghost use Rattle.asn1_report.specs.Names.{is_name, is_name_byte, is_plain_number, number_of};
 
 use std::str;
 
@@ -48,30 +48,6 @@ pub(crate) fn read_number(text: &[u8]) -> Option<u32>
     }
     match str::from_utf8(text) {
         Ok(digits) => digits.parse().ok(),
-        Err(_) => None,
-    }
-}
-
-// Whether the text is such digits, or a minus and such digits of another number than 0.
-fn is_plain_integer(text: &[u8]) -> bool
-    ensures { result ≡ is_plain_integer text.now }
-{
-    match text {
-        [b'-', digits @ ..] => is_plain_number(digits) && digits != b"0".as_slice(),
-        _ => is_plain_number(text),
-    }
-}
-
-/// The number that the text spells: decimal, without leading zeros, with a minus in front where it is below 0, and
-/// of 128 bits.
-pub(crate) fn read_integer(text: &[u8]) -> Option<i128>
-    ensures { result ≡ integer_of text.now }
-{
-    if !is_plain_integer(text) {
-        return None;
-    }
-    match str::from_utf8(text) {
-        Ok(number) => number.parse().ok(),
         Err(_) => None,
     }
 }
