@@ -1,4 +1,4 @@
--- A text begins with at most one number, and with at most one tree.
+-- A text begins with at most one tree.
 use Rattle.std.proofs.Common.{◌≡◌, ℕ, ◌<◌, ◌^◌, ◌≤◌, Bool, true, false, not, List, [], ◌∷◌, ◌++◌, refl, sym, ap, ◌∙◌, append_assoc, arith}
 use Rattle.std.specs.Prelude.{All}
 use Rattle.std.specs.List.{list_all}
@@ -7,6 +7,7 @@ use Rattle.std.specs.Fmt.{decimal}
 use Rattle.std.proofs.lemmas.Bool.{false≢true}
 use Rattle.std.proofs.lemmas.Fmt.{decimal_injective, digits_decimal}
 use Rattle.std.proofs.lemmas.Grind.{common_steps}
+use Rattle.std.proofs.lemmas.List.{append_cancel_left}
 use Rattle.std.proofs.lemmas.List.Elements.{All-head}
 use Rattle.std.proofs.lemmas.Option.{same_Some}
 use Rattle.asn1_tags.specs.declared.classes.Class.{Class}
@@ -15,31 +16,16 @@ use Rattle.asn1_tags.specs.Trees.{Tree, Trees, leaf, choice, none, more, leaves,
 use Rattle.asn1_report.specs.Grammar.{class_of}
 use Rattle.asn1_report.specs.Names.{begins_with_digit}
 use Rattle.asn1_report.specs.Spelling.{letter_of, spelling, spelling_of, spelling_after, may_follow, BeginsWithTree}
-use Rattle.asn1_report.proofs.Respellings.{HasSmallNumber, class_of-letter, letter_above_brackets, own, small_front, small_back}
-
--- digits end where no digit follows
-digits_end : (ds es a b : List ℕ) → list_all is_ascii_digit ds ≡ true → list_all is_ascii_digit es ≡ true →
-    begins_with_digit a ≡ false → begins_with_digit b ≡ false → ds ++ a ≡ es ++ b → (ds ≡ es) × (a ≡ b)
-digits_end [] [] a b ds_digits es_digits a_other b_other same = (refl, same)
-digits_end [] (e ∷ es) a b ds_digits es_digits a_other b_other same =
-    let digit : is_ascii_digit e ≡ true = grind (arith, common_steps) in
-    absurd (false≢true (sym a_other ∙ (ap begins_with_digit same ∙ digit)))
-digits_end (d ∷ ds) [] a b ds_digits es_digits a_other b_other same =
-    let digit : is_ascii_digit d ≡ true = grind (arith, common_steps) in
-    absurd (false≢true (sym b_other ∙ (ap begins_with_digit (sym same) ∙ digit)))
-digits_end (d ∷ ds) (e ∷ es) a b ds_digits es_digits a_other b_other same =
-    let first : d ≡ e = cc in
-    let others : ds ++ a ≡ es ++ b = cc in
-    let ds_others : list_all is_ascii_digit ds ≡ true = grind (arith, common_steps) in
-    let es_others : list_all is_ascii_digit es ≡ true = grind (arith, common_steps) in
-    let ends = digits_end ds es a b ds_others es_others a_other b_other others in
-    (λ i. first i ∷ ends.0 i, ends.1)
+use Rattle.asn1_report.proofs.Numbers.{number-value}
+use Rattle.asn1_report.proofs.Respellings.{HasSmallNumber, class_of-letter, letter_above_brackets, small_front, small_back}
 
 number_once : (m n : ℕ) (a b : List ℕ) → m < 2 ^ 32 → n < 2 ^ 32 → begins_with_digit a ≡ false → begins_with_digit b ≡ false →
     decimal m ++ a ≡ decimal n ++ b → (m ≡ n) × (a ≡ b)
 number_once m n a b m_small n_small a_other b_other same =
-    let ends = digits_end (decimal m) (decimal n) a b (digits_decimal own m (omega arith)) (digits_decimal own n (omega arith)) a_other b_other same in
-    (decimal_injective m n (omega arith) (omega arith) ends.0, ends.1)
+    let first : BeginsWithNumber (decimal m ++ a) m a = record { spelled = refl; small = m_small; whole = a_other } in
+    let second : BeginsWithNumber (decimal m ++ a) n b = record { spelled = same; small = n_small; whole = b_other } in
+    let number : m ≡ n = sym (number-value (decimal m ++ a) m a first) ∙ number-value (decimal m ++ a) n b second in
+    (number, append_cancel_left (decimal m) a b (same ∙ ap (λ k. decimal k ++ b) (sym number)))
 
 -- two letters that are the same name the same class
 letter_once : (c d : Class) → letter_of c ≡ letter_of d → c ≡ d

@@ -191,19 +191,8 @@ plain_digits [] h = cc
 plain_digits (d ∷ []) h = (grind (arith, common_steps), omega arith)
 plain_digits (d ∷ e ∷ ds) h = (grind (arith, common_steps), omega arith)
 
-pub plain_utf8 : (ds : List ℕ) → is_plain_number ds ≡ true → IsUtf8 ds
-plain_utf8 ds h = IsUtf8-from_ascii ds (IsAscii-from_digits ds (own.to ds (plain_digits ds h).0))
-
 number_by : (ds : List ℕ) → is_plain_number ds ≡ true → number_of ds ≡ cond (ltb (digits_value 10 ds) (2 ^ 32)) (Some (digits_value 10 ds)) None
 number_by ds h = ap (λ b. cond (b && ltb (digits_value 10 ds) (2 ^ 32)) (Some (digits_value 10 ds)) None) h
-
-pub number_read : {E : Type 0} (ds : List ℕ) (r : Result ℕ E) → is_plain_number ds ≡ true → ParsesUnsigned 32 10 ds r → result_ok r ≡ number_of ds
-number_read ds r h parsed = by_result r (parse_digits own 32 ds r parsed (plain_digits ds h).0)
-  where
-    by_result : {E : Type 0} (r : Result ℕ E) → OkIff r ((0 < length ds) × (digits_value 10 ds < 2 ^ 32)) (digits_value 10 ds) → result_ok r ≡ number_of ds
-    by_result (Ok n) found = let e = number_by ds h in let lt = found.0.1 in let v = found.1 in grind (arith, nat_tests)
-    by_result (Err e) none = let f = number_by ds h in
-        let big : digits_value 10 ds < 2 ^ 32 → ⊥ = λ lt. none ((plain_digits ds h).1, lt) in grind (arith, nat_tests)
 
 -- a digit 0 in front stands alone
 lone_zero : (ds : List ℕ) → is_plain_number ds ≡ true → get_or ds 0 0 ≡ 48 → length ds ≡ 1

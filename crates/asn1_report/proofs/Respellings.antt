@@ -177,7 +177,7 @@ between_brackets-inside inside =
     ap (λ b. cond b (Some (take (length (inside ++ 41 ∷ []) - 1) (inside ++ 41 ∷ []))) None) (ends-push 41 inside)
     ∙ ap Some (take-push 41 inside)
 
-pub own : IsNumeralModel (λ ds. list_all is_ascii_digit ds ≡ true) (digits_value 10)
+own : IsNumeralModel (λ ds. list_all is_ascii_digit ds ≡ true) (digits_value 10)
 own = numerals_by_value (λ ds. list_all is_ascii_digit ds ≡ true) (search rules)
 
 -- digits of which the first is above zero are a plain number

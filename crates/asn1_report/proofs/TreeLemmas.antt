@@ -1,4 +1,4 @@
--- How the trees between two brackets are read, one after another.
+-- What several trees add, one after another, and what the definition reads of a text with brackets and of one without.
 use Rattle.std.proofs.Common.{◌≡◌, ℕ, zero, suc, ◌-◌, ◌<◌, arith, false, ◌||◌, Option, Some, None, List, ◌++◌, option_map, option_and_then, refl, sym, ap, ◌∙◌, append_assoc}
 use Rattle.std.specs.Option.{option_map_or}
 use Rattle.std.proofs.lemmas.List.{append-nil}

@@ -111,12 +111,9 @@ fn read_class(letter: u8) -> Option<Class>
     }
 }
 
-ghost use Rattle.std.specs.Prelude.{◌≡◌, ℕ, ◌^◌, ◌<◌, ◌≤◌, List, None, Some, All, IfOk, MatchBool, MatchOption, IsSomeAnd};
-ghost use Rattle.asn1_tags.specs.Trees.{Tree, Trees, leaf, leaves};
-ghost use Rattle.asn1_tags.specs.declared.tags.Tag.{Tag};
-ghost use Rattle.asn1_report.specs.Grammar.{class_of, deepest, tree_of};
-ghost use Rattle.asn1_clash.specs.Seen.{Adds};
-ghost use Rattle.asn1_report.specs.Spelling.{spelling, brackets, BeginsWithTree, BeginsWithTrees, ReadsTree, ReadsChoice};
+/// A law of the definition that [`read_whole_tree`] meets: what is read as a tree is the text of that tree, so no byte of
+/// it is passed over, and no two texts are read as one tree. And each tree's text is read as that tree, where at most
+/// `depth` of its brackets are open at once and each tag's number is below 2 ^ 32.
 pub fn trees_are_read_of_their_texts()
     ensures text { (depth : ℕ) (text : List ℕ) (tree : Tree) → tree_of depth text ≡ Some tree → text ≡ spelling tree }
     ensures read { (depth : ℕ) (tree : Tree) → brackets tree ≤ depth → All (λ tag. tag.value < 2 ^ 32) (leaves tree)
