@@ -7,3 +7,6 @@ pub mod Progress
 pub mod Reports
 pub mod Spellings
 pub mod Respellings
+pub mod Beginnings
+pub mod ReadingLemmas
+pub mod WholeTrees

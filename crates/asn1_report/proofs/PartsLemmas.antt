@@ -1,5 +1,5 @@
 -- How the parts of a text grow, byte by byte.
-use Rattle.std.proofs.Common.{◌≡◌, ℕ, ◌+◌, ◌<◌, Bool, true, false, cond, ◌&&◌, ◌==◌, List, [], ◌∷◌, ◌++◌, length, get_or, take, drop, refl, sym, ap, ◌∙◌, append_assoc}
+use Rattle.std.proofs.Common.{◌≡◌, ℕ, ◌+◌, ◌<◌, Bool, true, false, cond, ◌&&◌, ◌==◌, List, [], ◌∷◌, ◌++◌, length, get_or, take, drop, refl, sym, ap, subst, ◌∙◌, append_assoc}
 use Rattle.std.proofs.lemmas.List.{take_more, drop_more}
 use Rattle.std.specs.List.{onto_first}
 use Rattle.asn1_report.specs.Parts.{depth_after, parts_at}
@@ -58,3 +58,22 @@ some-parts_at depth (byte ∷ bytes) = by_test ((depth == 0) && (byte == 32))
     by_test : (b : Bool) → IsSome (cond b ([] ∷ parts_at 0 bytes) (onto_first byte (parts_at (depth_after depth byte) bytes)))
     by_test true = tt
     by_test false = some-onto_first byte (parts_at (depth_after depth byte) bytes)
+
+-- where a text has one part, the part is the text
+pub lone_part : (depth : ℕ) (text part : List ℕ) → parts_at depth text ≡ part ∷ [] → part ≡ text
+lone_part depth [] part is = cc
+lone_part depth (byte ∷ bytes) part is =
+    by_test ((depth == 0) && (byte == 32)) (λ first alone. lone_part (depth_after depth byte) bytes first alone) is
+  where
+    by_parts : (others : List (List ℕ)) → IsSome others → ((first : List ℕ) → others ≡ first ∷ [] → first ≡ bytes) → onto_first byte others ≡ part ∷ [] →
+        part ≡ byte ∷ bytes
+    by_parts [] some whole same = absurd some
+    by_parts (first ∷ behind) some whole same =
+        let front : byte ∷ first ≡ part = cc in
+        let alone : behind ≡ [] = cc in
+        sym front ∙ ap (λ rest. byte ∷ rest) (whole first (ap (λ rest. first ∷ rest) alone))
+
+    by_test : (b : Bool) → ((first : List ℕ) → parts_at (depth_after depth byte) bytes ≡ first ∷ [] → first ≡ bytes) →
+        cond b ([] ∷ parts_at 0 bytes) (onto_first byte (parts_at (depth_after depth byte) bytes)) ≡ part ∷ [] → part ≡ byte ∷ bytes
+    by_test true whole same = let nothing : parts_at 0 bytes ≡ [] = cc in absurd (subst IsSome nothing (some-parts_at 0 bytes))
+    by_test false whole same = by_parts (parts_at (depth_after depth byte) bytes) (some-parts_at (depth_after depth byte) bytes) whole same

@@ -108,7 +108,7 @@ decimal_above_brackets : (n : ℕ) → IsAboveBrackets (decimal n)
 unfolding digits
 decimal_above_brackets n = digits_above_brackets 64 n [] tt
 
-letter_above_brackets : (class : Class) → 41 < letter_of class
+pub letter_above_brackets : (class : Class) → 41 < letter_of class
 letter_above_brackets Universal = omega arith
 letter_above_brackets Application = omega arith
 letter_above_brackets Context = omega arith
@@ -198,7 +198,7 @@ number_of-decimal n small =
     ap (λ b. cond (b && ltb (digits_value 10 (decimal n)) (2 ^ 32)) (Some (digits_value 10 (decimal n))) None) (plain_decimal n small)
     ∙ (ap (λ m. cond (ltb m (2 ^ 32)) (Some m) None) value ∙ ap (λ b. cond b (Some n) None) (lt-ltb n (2 ^ 32) small))
 
-class_of-letter : (class : Class) → class_of (letter_of class) ≡ Some class
+pub class_of-letter : (class : Class) → class_of (letter_of class) ≡ Some class
 class_of-letter Universal = refl
 class_of-letter Application = refl
 class_of-letter Context = refl
@@ -216,15 +216,15 @@ no_brackets Context bytes = refl
 no_brackets Private bytes = refl
 
 -- the tag's number is one that is read
-abbrev HasSmallNumber : Tag → Type 0
+abbrev pub HasSmallNumber : Tag → Type 0
 HasSmallNumber tag = tag.value < 2 ^ 32
 
-small_front : (front back : List Tag) → All HasSmallNumber (front ++ back) → All HasSmallNumber front
+pub small_front : (front back : List Tag) → All HasSmallNumber (front ++ back) → All HasSmallNumber front
 small_front front back small k d lt =
     let long = length-append front back in
     subst HasSmallNumber (get_or_append_left front back d k lt) (small k d (omega arith))
 
-small_back : (front back : List Tag) → All HasSmallNumber (front ++ back) → All HasSmallNumber back
+pub small_back : (front back : List Tag) → All HasSmallNumber (front ++ back) → All HasSmallNumber back
 small_back front back small k d lt =
     let long = length-append front back in
     subst HasSmallNumber (get_or-append-add front back k d) (small (length front + k) d (omega arith))

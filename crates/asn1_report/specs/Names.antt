@@ -1,7 +1,8 @@
 -- Names and numbers, as they are written.
-use Rattle.std.specs.Prelude.{ℕ, ℤ, pos, negsuc, codes, Bool, false, not, ◌&&◌, ◌||◌, ◌==◌, ◌^◌, nat_le, nat_lt, if◌then◌else◌, List, [], ◌∷◌, Option, Some, None, length}
+use Rattle.std.specs.Prelude.{◌≡◌, ℕ, ℤ, pos, negsuc, codes, Bool, false, not, ◌&&◌, ◌||◌, ◌==◌, ◌^◌, ◌<◌, ◌++◌, nat_le, nat_lt, if◌then◌else◌, List, [], ◌∷◌, Option, Some, None, length}
 use Rattle.std.specs.List.{list_all}
 use Rattle.std.specs.Char.{is_ascii_alphanumeric, is_ascii_digit}
+use Rattle.std.specs.Fmt.{decimal}
 use Rattle.std.specs.Str.{bytes_eq}
 use Rattle.std.specs.Str.Parse.{digits_value, signed_digits_value}
 
@@ -18,6 +19,17 @@ abbrev pub is_plain_number : List ℕ → Bool
 is_plain_number [] = false
 is_plain_number (digit ∷ []) = is_ascii_digit digit
 is_plain_number (digit ∷ digits) = not (digit == 48) && list_all is_ascii_digit (digit ∷ digits)
+
+-- whether a text begins with a digit
+abbrev pub begins_with_digit : List ℕ → Bool
+begins_with_digit [] = false
+begins_with_digit (byte ∷ bytes) = is_ascii_digit byte
+
+-- A text begins with a number below 2 ^ 32 in decimal, and no further digit follows; this is left.
+pub record BeginsWithNumber (text : List ℕ) (number : ℕ) (left : List ℕ) : Type 0 where
+  pub spelled : text ≡ decimal number ++ left
+  pub small : number < 2 ^ 32
+  pub whole : begins_with_digit left ≡ false
 
 -- the number below 2 ^ 32 that is written so
 abbrev pub number_of : List ℕ → Option ℕ

@@ -3,7 +3,8 @@ ghost use Rattle.std.specs.Prelude.{◌≡◌, ◌==◌, option_map, position};
 ghost use Rattle.asn1_report.specs.Parts.{parts_of};
 ghost use Rattle.asn1_report.specs.Grammar.{end_of, range_of, bound_of, bound_line};
 
-use crate::names::{is_name, read_integer};
+use crate::names::is_name;
+use crate::number::read_integer;
 use crate::parts::Parts;
 use asn1_bounded::Bounded;
 

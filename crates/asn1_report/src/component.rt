@@ -1,13 +1,14 @@
 //! The components of a table.
-ghost use Rattle.std.specs.Prelude.{◌≡◌, option_map, IfOk};
+ghost use Rattle.std.specs.Prelude.{◌≡◌, None, option_map, IfOk, MatchOption};
 ghost use Rattle.asn1_clash.specs.Flat.{flat_component};
 ghost use Rattle.asn1_clash.specs.Seen.{component_seen};
 ghost use Rattle.asn1_report.specs.Parts.{parts_of};
+ghost use Rattle.asn1_report.specs.PartsLeft.{only_part};
 ghost use Rattle.asn1_report.specs.Grammar.{presence_of, component_line, component_of};
 
 use crate::names::is_name;
 use crate::parts::Parts;
-use crate::tree::{DEEPEST, read_tree};
+use crate::tree::read_whole_tree;
 use asn1_clash::{FlatComponent, FlatTree};
 use asn1_fields::FieldPresence;
 use std::alloc::{AllocError, Global};
@@ -23,7 +24,7 @@ pub(crate) fn read_component(
         return Ok(None);
     };
     let mut tree = FlatTree::new(alloc);
-    if read_tree(text, DEEPEST, &mut tree)? {
+    if read_whole_tree(text, &mut tree)? {
         Ok(Some(FlatComponent { presence, tree }))
     } else {
         Ok(None)
@@ -45,16 +46,17 @@ fn presence_of(word: &[u8]) -> Option<FieldPresence>
     }
 }
 
-// The presence and the text of the tree, where the line has three parts and the first two are a name and a presence.
+// The presence and what stands after it, where the line's first part is a name and the second a presence.
 fn component_line(line: &[u8]) -> Option<(FieldPresence, &[u8])>
-    ensures { option_map (λ (presence, text). (presence, text.now)) result ≡ component_line (parts_of line.now) }
+    ensures { MatchOption result (component_line (parts_of line.now) ≡ None)
+        (λ (presence, rest). component_line (parts_of line.now) ≡ option_map (λ text. (presence, text)) (only_part (parts_of rest.now))) }
 {
     let mut parts = Parts::of(line);
     let name = parts.next()?;
     let word = parts.next()?;
-    let text = parts.next()?;
-    if parts.next().is_none() && is_name(name) {
-        Some((presence_of(word)?, text))
+    let rest = parts.remainder()?;
+    if is_name(name) {
+        Some((presence_of(word)?, rest))
     } else {
         None
     }

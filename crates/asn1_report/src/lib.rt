@@ -30,6 +30,7 @@ mod input;
 mod kind;
 mod line;
 mod names;
+mod number;
 mod parts;
 mod reporter;
 mod table;

@@ -1,10 +1,7 @@
-//! Names and numbers, as they are written.
+//! Names, as they are written.
 ghost use Rattle.std.specs.Prelude.{◌≡◌};
 ghost use Rattle.std.specs.List.{list_all};
-ghost use Rattle.std.specs.Char.{is_ascii_digit};
-ghost use Rattle.asn1_report.specs.Names.{is_name, is_name_byte, is_plain_number, is_plain_integer, number_of, integer_of};
-
-use std::str;
+ghost use Rattle.asn1_report.specs.Names.{is_name, is_name_byte};
 
 /// Whether the text is a name: 1 to 64 ASCII letters, digits, `-` and `_`.
 pub(crate) fn is_name(text: &[u8]) -> bool
@@ -20,58 +17,4 @@ fn has_name_bytes(text: &[u8]) -> bool
     ensures { result ≡ list_all is_name_byte text.now }
 {
     text.iter().all(|byte| byte.is_ascii_alphanumeric() || *byte == b'-' || *byte == b'_')
-}
-
-fn has_digits(text: &[u8]) -> bool
-    ensures { result ≡ list_all is_ascii_digit text.now }
-{
-    text.iter().all(|byte| byte.is_ascii_digit())
-}
-
-// Whether the text is decimal digits without a leading zero.
-fn is_plain_number(text: &[u8]) -> bool
-    ensures { result ≡ is_plain_number text.now }
-{
-    match text {
-        [] => false,
-        [digit] => digit.is_ascii_digit(),
-        [first, ..] => *first != b'0' && has_digits(text),
-    }
-}
-
-/// The number that the text spells: decimal, without leading zeros, below 2^32.
-pub(crate) fn read_number(text: &[u8]) -> Option<u32>
-    ensures { result ≡ number_of text.now }
-{
-    if !is_plain_number(text) {
-        return None;
-    }
-    match str::from_utf8(text) {
-        Ok(digits) => digits.parse().ok(),
-        Err(_) => None,
-    }
-}
-
-// Whether the text is such digits, or a minus and such digits of another number than 0.
-fn is_plain_integer(text: &[u8]) -> bool
-    ensures { result ≡ is_plain_integer text.now }
-{
-    match text {
-        [b'-', digits @ ..] => is_plain_number(digits) && digits != b"0".as_slice(),
-        _ => is_plain_number(text),
-    }
-}
-
-/// The number that the text spells: decimal, without leading zeros, with a minus in front where it is below 0, and
-/// of 128 bits.
-pub(crate) fn read_integer(text: &[u8]) -> Option<i128>
-    ensures { result ≡ integer_of text.now }
-{
-    if !is_plain_integer(text) {
-        return None;
-    }
-    match str::from_utf8(text) {
-        Ok(number) => number.parse().ok(),
-        Err(_) => None,
-    }
 }

@@ -9,12 +9,20 @@ pub(crate) struct Parts<'a> {
 }
 
 impl<'a> Parts<'a> {
-    ghost use Rattle.asn1_report.specs.PartsLeft.{parts_left};
+    ghost use Rattle.std.specs.Prelude.{option_map};
+    ghost use Rattle.asn1_report.specs.PartsLeft.{parts_left, text_left};
 
     pub(crate) fn of(text: &'a [u8]) -> Parts<'a>
         ensures { parts_left result ≡ parts_of text.now }
     {
         Parts { rest: Some(text) }
+    }
+
+    /// The text that is left, from the next part on, if a part is left.
+    pub(crate) fn remainder(&self) -> Option<&'a [u8]>
+        ensures { option_map (λ text. text.now) result ≡ text_left self.now }
+    {
+        self.rest
     }
 }
 

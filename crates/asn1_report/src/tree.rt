@@ -1,18 +1,103 @@
 //! Trees of tags, as they are written.
-ghost use Rattle.std.specs.Prelude.{◌≡◌, ℕ, ◌^◌, ◌<◌, ◌≤◌, List, None, Some, option_map, All, IfOk, MatchBool, IsSomeAnd};
-ghost use Rattle.asn1_tags.specs.Trees.{Tree, choice, leaves};
-ghost use Rattle.asn1_report.specs.Grammar.{class_of, tag_of, between_brackets, elements_of, all_trees, tree_of};
+ghost use Rattle.std.specs.Prelude.{◌≡◌, ℕ, ◌^◌, ◌<◌, ◌≤◌, List, None, Some, All, IfOk, MatchBool, MatchOption, IsSomeAnd};
+ghost use Rattle.asn1_tags.specs.Trees.{Tree, Trees, leaf, leaves};
+ghost use Rattle.asn1_tags.specs.declared.tags.Tag.{Tag};
+ghost use Rattle.asn1_report.specs.Grammar.{class_of, deepest, tree_of};
 ghost use Rattle.asn1_clash.specs.Seen.{Adds};
-ghost use Rattle.asn1_report.specs.Spelling.{spelling, brackets};
+ghost use Rattle.asn1_report.specs.Spelling.{spelling, brackets, BeginsWithTree, BeginsWithTrees, ReadsTree, ReadsChoice};
 
-use crate::names::read_number;
-use crate::parts::Parts;
+use crate::number::read_number;
 use asn1_clash::FlatTree;
 use asn1_tags::{Class, Tag};
 use std::alloc::AllocError;
 
-/// How many brackets of a tree may be open at once.
-pub(crate) const DEEPEST: u8 = 16;
+// How many brackets of a tree may be open at once.
+const DEEPEST: u8 = 16;
+
+/// Whether the text is a tree, up to its end.
+///
+/// Adds the tree to `flat`. Where the text is no tree, something of it may be added too.
+pub(crate) fn read_whole_tree(text: &[u8], flat: &mut FlatTree) -> Result<bool, AllocError>
+    ensures { IfOk result (λ is_tree. MatchBool is_tree
+        (IsSomeAnd (tree_of deepest text.now) (Adds flat.old flat.new))
+        (tree_of deepest text.now ≡ None)) }
+{
+    match read_tree(text, DEEPEST, flat)? {
+        Some(left) => Ok(left.is_empty()),
+        None => Ok(false),
+    }
+}
+
+// Reads the tree with which the text begins, with at most `depth` brackets open at once, and gives what is left of the
+// text after it.
+//
+// Adds the tree to `flat`. Where the text begins with no tree, something of it may be added too.
+#[cycle(tree)]
+fn read_tree<'a>(
+    text: &'a [u8],
+    depth: u8,
+    flat: &mut FlatTree,
+) -> Result<Option<&'a [u8]>, AllocError>
+    ensures { IfOk result (λ left. MatchOption left
+        ((tree : Tree) (rest : List ℕ) → ¬ BeginsWithTree depth text.now tree rest)
+        (λ left. ReadsTree depth text.now left.now flat.old flat.new)) }
+{
+    match text {
+        [b'(', inside @ ..] => match depth.checked_sub(1) {
+            Some(depth) => read_choice(inside, depth, flat),
+            None => Ok(None),
+        },
+        _ => match read_tag(text) {
+            Some((tag, left)) => {
+                flat.push(tag)?;
+                Ok(Some(left))
+            }
+            None => Ok(None),
+        },
+    }
+}
+
+// Reads the trees of a choice, of which the bracket that opens it was read, and the bracket that closes it.
+#[cycle(tree)]
+fn read_choice<'a>(
+    inside: &'a [u8],
+    depth: u8,
+    flat: &mut FlatTree,
+) -> Result<Option<&'a [u8]>, AllocError>
+    ensures { IfOk result (λ left. MatchOption left
+        ((trees : Trees) (rest : List ℕ) → ¬ BeginsWithTrees depth inside.now trees rest)
+        (λ left. ReadsChoice depth inside.now left.now flat.old flat.new)) }
+{
+    if let [b')', left @ ..] = inside {
+        flat.add_empty_choice();
+        return Ok(Some(left));
+    }
+    let mut text = inside;
+    while let Some(left) = read_tree(text, depth, flat)? {
+        match left {
+            [b' ', next @ ..] => text = next,
+            [b')', left @ ..] => return Ok(Some(left)),
+            _ => return Ok(None),
+        }
+    }
+    Ok(None)
+}
+
+// Reads the tag with which the text begins, the letter of its class and its number, and gives what is left of the text.
+fn read_tag(text: &[u8]) -> Option<(Tag, &[u8])>
+    ensures { MatchOption result
+        ((tag : Tag) (left : List ℕ) → ¬ BeginsWithTree 0 text.now (leaf tag) left)
+        (λ (tag, left). BeginsWithTree 0 text.now (leaf tag) left.now) }
+{
+    match text {
+        [] => None,
+        [letter, digits @ ..] => {
+            let class = read_class(*letter)?;
+            let (value, left) = read_number(digits)?;
+            Some((Tag::new(class, value), left))
+        }
+    }
+}
 
 fn read_class(letter: u8) -> Option<Class>
     ensures { result ≡ class_of letter }
@@ -26,74 +111,7 @@ fn read_class(letter: u8) -> Option<Class>
     }
 }
 
-/// The tag that the text spells: the letter of its class, and its number.
-pub(crate) fn read_tag(text: &[u8]) -> Option<Tag>
-    ensures { result ≡ tag_of text.now }
-{
-    match text {
-        [] => None,
-        [letter, digits @ ..] => {
-            let class = read_class(*letter)?;
-            let value = read_number(digits)?;
-            Some(Tag::new(class, value))
-        }
-    }
-}
-
-// What stands between a bracket that opens the text and one that closes it.
-fn between_brackets(text: &[u8]) -> Option<&[u8]>
-    ensures { option_map (λ inside. inside.now) result ≡ between_brackets text.now }
-{
-    match text {
-        [b'(', inside @ .., b')'] => Some(inside),
-        _ => None,
-    }
-}
-
-/// Whether the text is a tree with at most `depth` brackets open at once.
-///
-/// Adds the tree to `flat`. Where the text is no tree, something of it may be added too.
-#[cycle(tree)]
-pub(crate) fn read_tree(text: &[u8], depth: u8, flat: &mut FlatTree) -> Result<bool, AllocError>
-    ensures { IfOk result (λ is_tree. MatchBool is_tree
-        (IsSomeAnd (tree_of depth text.now) (Adds flat.old flat.new))
-        (tree_of depth text.now ≡ None)) }
-{
-    match between_brackets(text) {
-        Some(inside) => match depth.checked_sub(1) {
-            Some(depth) => read_elements(inside, depth, flat),
-            None => Ok(false),
-        },
-        None => match read_tag(text) {
-            Some(tag) => {
-                flat.push(tag)?;
-                Ok(true)
-            }
-            None => Ok(false),
-        },
-    }
-}
-
-// Whether the text is trees, as they stand between two brackets.
-#[cycle(tree)]
-fn read_elements(inside: &[u8], depth: u8, flat: &mut FlatTree) -> Result<bool, AllocError>
-    ensures { IfOk result (λ are_trees. MatchBool are_trees
-        (IsSomeAnd (all_trees (tree_of depth) (elements_of inside.now)) (λ trees. Adds flat.old flat.new (choice trees)))
-        (all_trees (tree_of depth) (elements_of inside.now) ≡ None)) }
-{
-    if inside.is_empty() {
-        flat.add_empty_choice();
-        return Ok(true);
-    }
-    for text in Parts::of(inside) {
-        if !read_tree(text, depth, flat)? {
-            return Ok(false);
-        }
-    }
-    Ok(true)
-}
-
-/// A law of the definition that [`read_tree`] meets: what is read as a tree is the text of that tree, so no byte of
+/// A law of the definition that [`read_whole_tree`] meets: what is read as a tree is the text of that tree, so no byte of
 /// it is passed over, and no two texts are read as one tree. And each tree's text is read as that tree, where at most
 /// `depth` of its brackets are open at once and each tag's number is below 2 ^ 32.
 pub fn trees_are_read_of_their_texts()

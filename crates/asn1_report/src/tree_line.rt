@@ -2,27 +2,29 @@
 ghost use Rattle.std.specs.Prelude.{◌≡◌, None, Some, IfOk, MatchOption, option_map};
 ghost use Rattle.asn1_tags.specs.Trees.{leaves};
 ghost use Rattle.asn1_report.specs.Parts.{parts_of};
+ghost use Rattle.asn1_report.specs.PartsLeft.{only_part};
 ghost use Rattle.asn1_report.specs.Grammar.{deepest, tree_line, tree_of};
 ghost use Rattle.asn1_report.specs.Report.{tree_verdict};
 ghost use Rattle.asn1_report.specs.Verdict.{named_verdict, verdict_text};
 
 use crate::names::is_name;
 use crate::parts::Parts;
-use crate::tree::{DEEPEST, read_tree};
+use crate::tree::read_whole_tree;
 use crate::verdict::TreeVerdict;
 use asn1_clash::{FlatTree, TreeSummary};
 use std::alloc::AllocError;
 
-// The name and the text of the tree, where the line has three parts and `tree` is the first.
+// The name and what stands after it, where the line's first part is `tree` and the second a name.
 fn tree_line(line: &[u8]) -> Option<(&[u8], &[u8])>
-    ensures { option_map (λ (name, text). (name.now, text.now)) result ≡ tree_line (parts_of line.now) }
+    ensures { MatchOption result (tree_line (parts_of line.now) ≡ None)
+        (λ (name, rest). tree_line (parts_of line.now) ≡ option_map (λ text. (name.now, text)) (only_part (parts_of rest.now))) }
 {
     let mut parts = Parts::of(line);
     let keyword = parts.next()?;
     let name = parts.next()?;
-    let text = parts.next()?;
-    if parts.next().is_none() && keyword == b"tree".as_slice() && is_name(name) {
-        Some((name, text))
+    let rest = parts.remainder()?;
+    if keyword == b"tree".as_slice() && is_name(name) {
+        Some((name, rest))
     } else {
         None
     }
@@ -34,7 +36,7 @@ fn tree_verdict(text: &[u8], scratch: &mut FlatTree) -> Result<Option<TreeVerdic
         ≡ option_map (λ tree. tree_verdict (leaves tree)) (tree_of deepest text.now)) }
 {
     scratch.clear();
-    if read_tree(text, DEEPEST, scratch)? {
+    if read_whole_tree(text, scratch)? {
         Ok(Some(TreeVerdict(TreeSummary::of(&mut scratch.tags))))
     } else {
         Ok(None)

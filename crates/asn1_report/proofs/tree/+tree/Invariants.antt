@@ -1,15 +1,15 @@
-use Rattle.std.proofs.Common.{◌*◌, ◌+◌}
-use Rattle.asn1_report.proofs.TreeLemmas.{ReadSoFar}
-use Rattle.asn1_report.specs.Grammar.{elements_of, tree_of}
-use Rattle.asn1_report.specs.PartsLeft.{parts_left}
+use Rattle.std.proofs.Common.{◌*◌, ◌+◌, length}
+use Rattle.asn1_report.proofs.ReadingLemmas.{ReadSoFar}
 use Rattle.asn1_report.proofs.tree.+tree.Given as goal
 
-abbrev pub decreases-read_elements : goal.decreases-read_elements
-decreases-read_elements l = 2 * l.depth + 1
+abbrev pub decreases-read_choice : goal.decreases-read_choice
+decreases-read_choice l = 2 * l.depth + 1
 
 abbrev pub decreases-read_tree : goal.decreases-read_tree
 decreases-read_tree l = 2 * l.depth
 
-abbrev pub invariant-read_elements-loop-text : goal.invariant-read_elements-loop-text
-invariant-read_elements-loop-text l =
-    ReadSoFar (tree_of l.depth) (elements_of l.inside) (parts_left l.text-iterator) l.initial.flat l.flat
+abbrev pub invariant-read_choice-loop-left : goal.invariant-read_choice-loop-left
+invariant-read_choice-loop-left l = ReadSoFar l.depth l.inside l.text l.initial.flat l.flat
+
+abbrev pub decreases-read_choice-loop-left : goal.decreases-read_choice-loop-left
+decreases-read_choice-loop-left l = length l.text
