@@ -1,14 +1,12 @@
 -- How the bytes of an input are gone through, one after another.
-use Rattle.std.proofs.Common.{◌≡◌, ℕ, suc, Bool, true, false, cond, ◌==◌, nat_lt, ◌+◌, ◌-◌, ◌<◌, ◌≤◌, Option, None, Some, Result, Ok, Err, List, [], ◌∷◌, ◌++◌, length, get_or, take, drop, drop-cons, length-append, length-drop, length-take, refl, sym, ap, subst, ◌∙◌, append_assoc, arith}
-use Rattle.std.specs.Prelude.{OnOk, nat_le, position}
-use Rattle.std.specs.List.{position_or_len}
+use Rattle.std.proofs.Common.{◌≡◌, ℕ, suc, Bool, true, false, cond, ◌==◌, ◌+◌, ◌-◌, ◌<◌, ◌≤◌, Option, None, Some, Result, Ok, Err, List, [], ◌∷◌, ◌++◌, length, get_or, take, drop, drop-cons, length-append, length-drop, length-take, refl, sym, ap, subst, ◌∙◌, append_assoc, arith}
+use Rattle.std.specs.Prelude.{OnOk, nat_le}
+use Rattle.memchr.specs.Find.{IsFirstByte, is_byte}
 use Rattle.std.specs.Io.KnownBytes.{Appends, Consumes, Keeps, IsAtEnd}
 use Rattle.std.proofs.KnownBytes.{Appends-kept, Appends-nil, Appends-trans, Consumes-nil, Consumes-trans, Consumes-kept}
 use Rattle.std.proofs.lemmas.Bool.{eqb-true}
 use Rattle.std.proofs.lemmas.Bool.Decides.{nat_tests}
 use Rattle.std.proofs.lemmas.List.{append-nil, get_or-take, take-append-le, take-append-drop, take_all}
-use Rattle.std.proofs.lemmas.List.Quantifiers.{position-Some}
-use Rattle.std.proofs.lemmas.List.Sums.{fails_before_first}
 use Rattle.asn1_report.specs.Lines.{within_limit}
 use Rattle.asn1_report.specs.Reading.{State, with_byte, with_bytes, after, after_byte, after_line, on_line, text_for_line, text_at, text_at_byte, last_text, all_was_understood, ReadSoFar, ReadToEnd, StoppedByMemory}
 
@@ -86,29 +84,24 @@ text_at-piece s (x ∷ xs) none =
     ap (λ b. cond b (text_for_line s) [] ++ text_at (cond b (after_line s) (record s { line = with_byte s.line x })) xs) (none 0 (omega arith))
     ∙ text_at-piece (record s { line = with_byte s.line x }) xs (no_feed_after x xs none)
 
--- what stands before the first line feed, and after it
-no_feed_before : (bytes : List ℕ) (k : ℕ) → position (λ byte. byte == 10) bytes ≡ Some k → HasNoFeed (take k bytes)
-no_feed_before bytes k is =
-    let found = position-Some (λ byte. byte == 10) bytes k 0 is in
-    λ j lt. let short = length-take k bytes in let before : j < k = omega arith in
-    ap (λ byte. byte == 10) (get_or-take k bytes j 0 before) ∙ found.2 j before
+not_true : (b : Bool) → (b ≡ true → ⊥) → b ≡ false
+not_true true never = absurd (never refl)
+not_true false never = refl
 
-at_feed : (bytes : List ℕ) (k : ℕ) → position (λ byte. byte == 10) bytes ≡ Some k → bytes ≡ take k bytes ++ 10 ∷ drop (k + 1) bytes
-at_feed bytes k is =
-    let found = position-Some (λ byte. byte == 10) bytes k 0 is in
-    let within = found.0 in
+-- what stands before the first line feed, and after it
+no_feed_before : (bytes : List ℕ) (k : ℕ) → IsFirstByte (is_byte 10) bytes (Some k) → HasNoFeed (take k bytes)
+no_feed_before bytes k found =
+    λ j lt. let short = length-take k bytes in let before : j < k = omega arith in ap (λ byte. byte == 10) (get_or-take k bytes j 0 before) ∙ not_true (get_or bytes j 0 == 10) (found.0.before j (omega arith) before)
+
+at_feed : (bytes : List ℕ) (k : ℕ) → IsFirstByte (is_byte 10) bytes (Some k) → bytes ≡ take k bytes ++ 10 ∷ drop (k + 1) bytes
+at_feed bytes k found =
+    let within = found.0.high in
     let next : suc k ≡ k + 1 = omega arith in
     sym (take-append-drop k bytes)
     ∙ ap (λ rest. take k bytes ++ rest) (drop-cons bytes k 0 within ∙ λ i. eqb-true (get_or bytes k 0) 10 found.1 i ∷ drop (next i) bytes)
 
-no_feed_at_all : (bytes : List ℕ) → position (λ byte. byte == 10) bytes ≡ None → HasNoFeed bytes
-no_feed_at_all bytes is = by_test (nat_lt (position_or_len (λ byte. byte == 10) bytes) (length bytes)) refl is
-  where
-    by_test : (b : Bool) → nat_lt (position_or_len (λ byte. byte == 10) bytes) (length bytes) ≡ b →
-        cond b (Some (position_or_len (λ byte. byte == 10) bytes)) None ≡ None → HasNoFeed bytes
-    by_test true within none = cc
-    by_test false past none = λ k lt. let far : length bytes ≤ position_or_len (λ byte. byte == 10) bytes = grind (arith, nat_tests) in
-        fails_before_first (λ byte. byte == 10) bytes k 0 (omega arith)
+no_feed_at_all : (bytes : List ℕ) → IsFirstByte (is_byte 10) bytes None → HasNoFeed bytes
+no_feed_at_all bytes none = λ k lt. not_true (get_or bytes k 0 == 10) (none k (omega arith) lt)
 
 -- Of the bytes those before the rest were taken, and the text for them was written.
 pub record FedSoFar (bytes rest : List ℕ) (written_old written_new : Option (List ℕ)) (old new : State) : Type 0 where
@@ -126,7 +119,7 @@ slice_from n bytes = take_all (length bytes - n) (drop n bytes) (let left = leng
 
 -- a line was ended
 pub fed_line : (bytes rest : List ℕ) (w mid_w new_w : Option (List ℕ)) (s mid_s new_s : State) (k : ℕ) →
-    FedSoFar bytes rest w mid_w s mid_s → position (λ byte. byte == 10) rest ≡ Some k →
+    FedSoFar bytes rest w mid_w s mid_s → IsFirstByte (is_byte 10) rest (Some k) →
     new_s ≡ after_line (on_line mid_s (take k rest)) → Appends mid_w new_w (text_for_line (on_line mid_s (take k rest))) →
     FedSoFar bytes (take (length rest - (k + 1)) (drop (k + 1) rest)) w new_w s new_s
 fed_line bytes rest w mid_w new_w s mid_s new_s k before found ended wrote =
@@ -159,13 +152,13 @@ fed_line bytes rest w mid_w new_w s mid_s new_s k before found ended wrote =
 
 -- the rest goes on the next line
 pub fed_state : (bytes rest : List ℕ) (w new_w : Option (List ℕ)) (s mid_s new_s : State) → FedSoFar bytes rest w new_w s mid_s →
-    position (λ byte. byte == 10) rest ≡ None → new_s ≡ on_line mid_s rest → new_s ≡ after s bytes
+    IsFirstByte (is_byte 10) rest None → new_s ≡ on_line mid_s rest → new_s ≡ after s bytes
 fed_state bytes rest w new_w s mid_s new_s before found held =
     held
     ∙ (sym (after-piece mid_s rest (no_feed_at_all rest found))
     ∙ (ap (λ at. after at rest) before.stands ∙ (sym (after-append s before.given rest) ∙ ap (after s) (sym before.whole))))
 
-pub fed_text : (bytes rest : List ℕ) (w new_w : Option (List ℕ)) (s mid_s : State) → FedSoFar bytes rest w new_w s mid_s → position (λ byte. byte == 10) rest ≡ None →
+pub fed_text : (bytes rest : List ℕ) (w new_w : Option (List ℕ)) (s mid_s : State) → FedSoFar bytes rest w new_w s mid_s → IsFirstByte (is_byte 10) rest None →
     Appends w new_w (text_at s bytes)
 fed_text bytes rest w new_w s mid_s before found =
     subst (Appends w new_w)

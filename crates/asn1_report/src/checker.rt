@@ -1,11 +1,12 @@
 //! A check under way.
-ghost use Rattle.std.specs.Prelude.{◌≡◌, ◌==◌, ◌<◌, ℕ, length, position, take, IfOk, OnOk, IsErrOf};
+ghost use Rattle.std.specs.Prelude.{◌≡◌, ◌<◌, ℕ, length, take, IfOk, OnOk, IsErrOf};
 ghost use Rattle.std.specs.Io.KnownBytes.{Appends, Keeps};
 ghost use Rattle.asn1_report.specs.Reading.{start, after, after_line, on_line, text_for_line, text_at, last_text, all_was_understood, ReadSoFar, ReadToEnd, StoppedByMemory};
 
 use crate::error::CheckError;
 use crate::line::Line;
 use crate::reporter::Reporter;
+use memchr::memchr;
 use std::alloc::{AllocError, Global};
 use std::io::{ErrorKind, Read, Write};
 
@@ -118,7 +119,7 @@ impl Checker {
         ensures no_read { ¬ IsErrOf result CheckError.Reading }
     {
         let mut rest = bytes;
-        while let Some(end) = place_of_line_feed(rest) {
+        while let Some(end) = memchr(b'\n', rest) {
             self.take_line(&rest[..end], writer)?;
             rest = &rest[end + 1..];
         }
@@ -182,11 +183,4 @@ impl Checker {
         }
         Err(CheckError::Reading)
     }
-}
-
-// Where the first line feed stands.
-fn place_of_line_feed(bytes: &[u8]) -> Option<usize>
-    ensures { result ≡ position (λ byte. byte == 10) bytes.now }
-{
-    bytes.iter().position(|byte| *byte == b'\n')
 }

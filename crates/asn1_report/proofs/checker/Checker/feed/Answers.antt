@@ -1,4 +1,4 @@
-use Rattle.std.proofs.Common.{ℕ, List, Option, None, Some, Result, Ok, Err, refl, sym, ◌∙◌}
+use Rattle.std.proofs.Common.{ℕ, List, Option, None, Some, Result, Ok, Err, refl}
 use Rattle.std.specs.Prelude.{OnOk}
 use Rattle.std.specs.Io.KnownBytes.{Keeps}
 use Rattle.std.proofs.lemmas.Result.{err_from_is_err_and}
@@ -15,7 +15,7 @@ Keeps-refl (Some bytes) = refl
 
 pub loop-end-preserved : goal.loop-end-preserved
 loop-end-preserved g c =
-    fed_line _ _ _ _ _ _ _ _ c.in-Some.end c.loop-end.invariant (sym c.place_of_line_feed.ensures ∙ c.in-Some.is) c.in_ok-take_line.ensures.state c.in_ok-take_line.ensures.text
+    fed_line _ _ _ _ _ _ _ _ c.in-Some.end c.loop-end.invariant (rw c.in-Some.is at c.memchr.ensures) c.in_ok-take_line.ensures.state c.in_ok-take_line.ensures.text
 
 pub returns-in_err-take_line-clause-memory : goal.returns-in_err-take_line-clause-memory
 returns-in_err-take_line-clause-memory g c =
@@ -23,10 +23,10 @@ returns-in_err-take_line-clause-memory g c =
     rw (p.1, p.2) (λ is_memory. fed_some _ _ _ _ _ _ _ c.loop-end.invariant (c.in_err-take_line.ensures.memory is_memory))
 
 pub returns-clause-state : goal.returns-clause-state
-returns-clause-state g c = on_ok c.extend_line.result (fed_state _ _ _ _ _ _ _ c.loop-end.invariant (sym c.place_of_line_feed.ensures ∙ c.in_default.is)) c.extend_line.ensures.state
+returns-clause-state g c = on_ok c.extend_line.result (fed_state _ _ _ _ _ _ _ c.loop-end.invariant (rw c.in_default.is at c.memchr.ensures)) c.extend_line.ensures.state
 
 pub returns-clause-text : goal.returns-clause-text
-returns-clause-text g c = on_ok c.extend_line.result (λ (held : _). fed_text _ _ _ _ _ _ c.loop-end.invariant (sym c.place_of_line_feed.ensures ∙ c.in_default.is)) c.extend_line.ensures.state
+returns-clause-text g c = on_ok c.extend_line.result (λ (held : _). fed_text _ _ _ _ _ _ c.loop-end.invariant (rw c.in_default.is at c.memchr.ensures)) c.extend_line.ensures.state
 
 pub returns-clause-memory : goal.returns-clause-memory
 returns-clause-memory g c = λ is_memory. fed_some _ _ _ _ _ _ _ c.loop-end.invariant (Keeps-refl _)

@@ -1,7 +1,4 @@
-use Rattle.std.proofs.Common.{◌≡◌, ◌≤◌, ◌<◌, ◌++◌, Bool, true, false, cond, Some, None, length, length-append, sym, ap, ◌∙◌, arith}
-use Rattle.std.specs.Prelude.{nat_le}
-use Rattle.std.proofs.lemmas.Bool.Decides.{nat_tests}
-use Rattle.asn1_report.specs.Reading.{with_bytes}
+use Rattle.std.proofs.Common.{arith}
 use Rattle.asn1_report.proofs.Progress.{line_extended, line_too_long}
 use Rattle.asn1_report.proofs.line.Line.extend.Goals as goal
 
