@@ -14,9 +14,9 @@ use crate::{Any, AsnType, Explicit, Implicit, InstanceOf, SetOf, tag};
 use asn1_tags::{Tag, TagTree};
 use asn1_values::ObjectIdentifier;
 use std::alloc::Global;
+use std::fmt::Debug;
 use std::hash::{DefaultHasher, Hash, Hasher};
 use std::process::Abort;
-use std::test::Fail;
 
 /// How often an element stands in a set counts, and its place does not.
 fn sets_by_definition()
@@ -91,8 +91,24 @@ struct Labelled {
     note: u8,
 }
 
-fn set(alloc: Global, numbers: &[u8]) -> Result<SetOf<u8>, Fail> {
-    Ok(SetOf::from_slice(alloc, numbers)?)
+fn with_note(key: u8, note: u8) -> Labelled {
+    Labelled { key, note }
+}
+
+/// Asserts that the two are equal.
+fn assert_same<T: PartialEq + Debug>(rt: &impl Abort, left: &T, right: &T) {
+    assert_eq!(rt; left, right);
+}
+
+/// Asserts that the elements are these.
+fn assert_list<T: PartialEq + Debug>(rt: &impl Abort, list: &[T], wanted: &[T]) {
+    assert_eq!(rt; list, wanted);
+}
+
+/// Asserts that equal values feed a hasher alike, and that they are equal.
+fn assert_alike<T: PartialEq + Debug + Hash>(rt: &impl Abort, left: &T, right: &T) {
+    assert_same(rt, left, right);
+    assert!(rt; hash_of(left) == hash_of(right));
 }
 
 fn hash_of<T: Hash>(value: &T) -> u64 {
@@ -101,65 +117,74 @@ fn hash_of<T: Hash>(value: &T) -> u64 {
     state.finish()
 }
 
-#[test]
-fn sets_are_equal_in_any_order(rt: HostRuntime) -> Result<(), Fail> {
-    let alloc = rt.alloc();
-    let rows: [(&[u8], &[u8], bool); 5] = [
-        (&[1, 2, 3, 4, 5], &[5, 4, 3, 2, 1], true),
-        (&[1, 2, 3, 4, 5], &[1, 2, 3, 4, 6], false),
-        (&[1, 1, 2], &[1, 2, 2], false),
-        (&[1, 2, 3], &[1, 1, 2, 2, 3, 3], false),
-        (&[], &[], true),
-    ];
-    for (left, right, are_equal) in rows {
-        let one = set(alloc, left)?;
-        let other = set(alloc, right)?;
-        assert_eq!(rt; one == other, are_equal, "{left:?} and {right:?}");
-        assert_eq!(rt; one.eq_slice(right), are_equal, "{left:?} and {right:?}");
-        let alike = hash_of(&one) == hash_of(&other);
-        assert_eq!(rt; alike, left.len() == right.len(), "{left:?} and {right:?}");
-    }
-    Ok(())
+fn list(rt: &impl Abort, alloc: Global, numbers: &[u8]) -> Vec<u8> {
+    numbers.to_vec(alloc).expect(rt, "memory")
+}
+
+fn set(rt: &impl Abort, alloc: Global, numbers: &[u8]) -> SetOf<u8> {
+    SetOf::from_slice(alloc, numbers).expect(rt, "memory")
+}
+
+/// Asserts that the sets are equal or not, and that sets as long as each other, and no others, feed a hasher alike.
+fn assert_sets(rt: &impl Abort, alloc: Global, left: &[u8], right: &[u8], are_equal: bool) {
+    let one = set(rt, alloc, left);
+    let other = set(rt, alloc, right);
+    assert!(rt; (one == other) == are_equal);
+    assert!(rt; one.eq_slice(right) == are_equal);
+    assert!(rt; (hash_of(&one) == hash_of(&other)) == (left.len() == right.len()));
 }
 
 #[test]
-fn remove_takes_the_first(rt: HostRuntime) -> Result<(), Fail> {
-    let mut numbers = set(rt.alloc(), &[1, 1, 2])?;
+fn sets_are_equal_in_any_order(rt: HostRuntime) {
+    let alloc = rt.alloc();
+    assert_sets(&rt, alloc, &[1, 2, 3, 4, 5], &[5, 4, 3, 2, 1], true);
+    assert_sets(&rt, alloc, &[1, 2, 3, 4, 5], &[1, 2, 3, 4, 6], false);
+    assert_sets(&rt, alloc, &[1, 1, 2], &[1, 2, 2], false);
+    assert_sets(&rt, alloc, &[1, 2, 3], &[1, 1, 2, 2, 3, 3], false);
+    assert_sets(&rt, alloc, &[], &[], true);
+}
+
+#[test]
+fn remove_takes_the_first(rt: HostRuntime) {
+    let mut numbers = set(&rt, rt.alloc(), &[1, 1, 2]);
     assert!(rt; numbers.remove(&1));
-    assert_eq!(rt; numbers.len(), 2);
-    assert!(rt; numbers.contains(&1));
+    assert!(rt; numbers.len() == 2 && numbers.contains(&1));
     assert!(rt; !numbers.remove(&3));
-    assert_eq!(rt; numbers.into_vec().as_slice(), [2, 1].as_slice());
-    Ok(())
+    assert_list(&rt, numbers.into_vec().as_slice(), &[2, 1]);
 }
 
 #[test]
-fn equality_may_ignore_a_part(rt: HostRuntime) -> Result<(), Fail> {
-    let labelled = |key, note| Labelled { key, note };
-    let mut set = SetOf::from_array(rt.alloc(), &[labelled(1, 0), labelled(1, 9)])?;
-    assert!(rt; set.eq_slice(&[labelled(1, 5), labelled(1, 6)]));
-    assert!(rt; !set.eq_slice(&[labelled(1, 5), labelled(2, 6)]));
-    assert!(rt; set.remove(&labelled(1, 100)));
-    assert_eq!(rt; set.len(), 1);
-    assert!(rt; set.iter().all(|left| left.note == 9));
-    Ok(())
+fn equality_may_ignore_a_part(rt: HostRuntime) {
+    let elements = [with_note(1, 0), with_note(1, 9)];
+    let mut set = SetOf::from_array(rt.alloc(), &elements).expect(&rt, "memory");
+    assert!(rt; set.eq_slice(&[with_note(1, 5), with_note(1, 6)]));
+    assert!(rt; !set.eq_slice(&[with_note(1, 5), with_note(2, 6)]));
+    assert!(rt; set.remove(&with_note(1, 100)));
+    assert!(rt; set.len() == 1 && set.iter().all(|left| left.note == 9));
+}
+
+/// Asserts that the set takes the number.
+fn put(rt: &impl Abort, numbers: &mut SetOf<u8>, number: u8) {
+    assert!(rt; numbers.insert(number).is_ok());
 }
 
 #[test]
-fn elements_go_in_and_come_out(rt: HostRuntime) -> Result<(), Fail> {
+fn elements_go_in_and_come_out(rt: HostRuntime) {
     let alloc = rt.alloc();
-    let mut numbers = SetOf::with_capacity(alloc, 1)?;
+    let mut numbers = SetOf::with_capacity(alloc, 1).expect(&rt, "memory");
     assert!(rt; numbers.is_empty());
-    for number in [3u8, 1, 2] {
-        numbers.insert(number).map_err(|_| Fail::from("no memory"))?;
-    }
-    let all = [&3, &1, &2];
-    assert_eq!(rt; numbers.to_vec(alloc)?.as_slice(), all.as_slice());
-    let same = numbers.try_clone(alloc)?;
-    assert_eq!(rt; SetOf::from(numbers.into_vec()).iter().count(), 3);
+    put(&rt, &mut numbers, 3);
+    put(&rt, &mut numbers, 1);
+    put(&rt, &mut numbers, 2);
+    let same = numbers.try_clone(alloc).expect(&rt, "memory");
+    assert_list(
+        &rt,
+        numbers.to_vec(alloc).expect(&rt, "memory").as_slice(),
+        &[&3, &1, &2],
+    );
     assert!(rt; SetOf::from_vec(same.into_vec()).eq_slice(&[1, 2, 3]));
-    assert_eq!(rt; SetOf::<u8>::new(alloc).len(), 0);
-    Ok(())
+    assert!(rt; SetOf::from(numbers.into_vec()).iter().count() == 3);
+    assert!(rt; SetOf::<u8>::new(alloc).len() == 0);
 }
 
 /// Also where an allocation fails.
@@ -168,12 +193,11 @@ fn a_refused_element_comes_back(rt: HostRuntime) {
     let mut numbers = SetOf::new(rt.alloc());
     for number in 0..9u8 {
         let before = numbers.len();
-        let answer = numbers.insert(number);
-        assert_eq!(rt; numbers.contains(&number), answer.is_ok());
-        assert_eq!(rt; numbers.len() > before, answer.is_ok());
-        if let Err(back) = answer {
-            assert_eq!(rt; back, number);
-            assert_eq!(rt; numbers.len(), before);
+        match numbers.insert(number) {
+            Ok(()) => assert!(rt; numbers.contains(&number) && numbers.len() > before),
+            Err(back) => assert!(rt;
+                back == number && !numbers.contains(&number) && numbers.len() == before
+            ),
         }
     }
 }
@@ -185,16 +209,17 @@ fn a_refused_copy_leaves_the_set(rt: HostRuntime) {
     assert!(rt; SetOf::<u8>::with_capacity(alloc, usize::MAX).is_err());
     let elements = [3u8, 1, 3];
     if let Ok(numbers) = SetOf::from_slice(alloc, &elements) {
-        let list = numbers.to_vec(alloc);
-        assert!(rt;
-            list.is_err() || list.is_ok_and(|list| list.as_slice() == [&3, &1, &3].as_slice())
-        );
-        let copy = numbers.try_clone(alloc);
-        assert!(rt; copy.is_err() || copy.is_ok_and(|copy| copy == numbers));
+        if let Ok(list) = numbers.to_vec(alloc) {
+            assert_list(&rt, list.as_slice(), &[&3, &1, &3]);
+        }
+        if let Ok(copy) = numbers.try_clone(alloc) {
+            assert!(rt; copy == numbers);
+        }
         assert!(rt; numbers.eq_slice(&elements));
     }
-    let same = SetOf::from_array(alloc, &elements);
-    assert!(rt; same.is_err() || same.is_ok_and(|same| same.eq_slice(&elements)));
+    if let Ok(same) = SetOf::from_array(alloc, &elements) {
+        assert!(rt; same.eq_slice(&elements));
+    }
 }
 
 /// Also where an allocation fails.
@@ -203,63 +228,64 @@ fn a_refused_copy_leaves_the_bytes(rt: HostRuntime) {
     let alloc = rt.alloc();
     if let Ok(bytes) = [5u8, 0].to_vec(alloc) {
         let null = Any::new(bytes);
-        let copy = null.try_clone(alloc);
-        assert!(rt; copy.is_err() || copy.is_ok_and(|copy| copy == null));
-        assert_eq!(rt; null.as_bytes(), [5, 0].as_slice());
+        if let Ok(copy) = null.try_clone(alloc) {
+            assert!(rt; copy == null);
+        }
+        assert_list(&rt, null.as_bytes(), &[5, 0]);
     }
 }
 
 #[test]
-fn open_types_are_their_bytes(rt: HostRuntime) -> Result<(), Fail> {
+fn open_types_are_their_bytes(rt: HostRuntime) {
     let alloc = rt.alloc();
-    let null = Any::new([5u8, 0].to_vec(alloc)?);
-    let same = null.try_clone(alloc)?;
-    assert_eq!(rt; null, same);
-    assert_eq!(rt; hash_of(&null), hash_of(&same));
-    assert!(rt; Any::from([4u8, 9, 9].to_vec(alloc)?) < null);
-    assert_eq!(rt; null.as_bytes(), [5, 0].as_slice());
-    assert_eq!(rt; same.into_bytes().as_slice(), [5, 0].as_slice());
-    Ok(())
+    let null = Any::new(list(&rt, alloc, &[5, 0]));
+    let same = null.try_clone(alloc).expect(&rt, "memory");
+    assert_alike(&rt, &null, &same);
+    assert!(rt; Any::from(list(&rt, alloc, &[4, 9, 9])) < null);
+    assert_list(&rt, null.as_bytes(), &[5, 0]);
+    assert_list(&rt, same.into_bytes().as_slice(), &[5, 0]);
 }
 
 #[test]
 fn wrappers_hold_their_value(rt: HostRuntime) {
     let mut level = Implicit::<tag::SET, u8>::new(7);
     *level.get_mut() = 8;
-    assert_eq!(rt; *level.get(), 8);
-    assert!(rt; Implicit::from(7) < level);
+    assert!(rt; *level.get() == 8 && Implicit::from(7) < level);
     let copy = level;
-    assert_eq!(rt; hash_of(&copy), hash_of(&level));
+    assert_alike(&rt, &copy, &level);
 
     let mut level = Explicit::<tag::SET, u8>::new(7);
     *level.get_mut() = 8;
-    assert_eq!(rt; *level.get(), 8);
-    assert!(rt; Explicit::from(7) < level);
+    assert!(rt; *level.get() == 8 && Explicit::from(7) < level);
     let copy = level;
-    assert_eq!(rt; hash_of(&copy), hash_of(&level));
+    assert_alike(&rt, &copy, &level);
+}
+
+fn instance(rt: &impl Abort, alloc: Global, arcs: &[u32], value: u8) -> InstanceOf<u8> {
+    InstanceOf {
+        type_id: ObjectIdentifier::new(arcs.to_vec(alloc).expect(rt, "memory")),
+        value,
+    }
 }
 
 #[test]
-fn instances_are_compared_by_type_and_value(rt: HostRuntime) -> Result<(), Fail> {
+fn instances_are_compared_by_type_and_value(rt: HostRuntime) {
     let alloc = rt.alloc();
-    let instance = |arcs: &[u32], value: u8| -> Result<InstanceOf<u8>, Fail> {
-        Ok(InstanceOf {
-            type_id: ObjectIdentifier::new(arcs.to_vec(alloc)?),
-            value,
-        })
-    };
-    assert_eq!(rt; instance(&[1, 2], 3)?, instance(&[1, 2], 3)?);
-    assert!(rt; instance(&[1, 2], 9)? < instance(&[1, 3], 0)?);
-    assert!(rt; instance(&[1, 2], 3)? < instance(&[1, 2], 4)?);
-    Ok(())
+    let least = instance(&rt, alloc, &[1, 2], 3);
+    assert_same(&rt, &instance(&rt, alloc, &[1, 2], 3), &least);
+    assert!(rt; instance(&rt, alloc, &[1, 2], 9) < instance(&rt, alloc, &[1, 3], 0));
+    assert!(rt; least < instance(&rt, alloc, &[1, 2], 4));
 }
 
 /// Asserts what the tables of a type say.
 fn assert_tables<T: AsnType>(rt: &impl Abort, tag: Tag, name: Option<&str>) {
-    assert_eq!(rt; T::tag(), tag);
-    assert_eq!(rt; T::identifier().0, name);
+    assert!(rt; T::tag() == tag && T::identifier().0 == name && !T::is_choice());
     assert!(rt; T::constraints().value().is_none() && T::constraints().size().is_none());
-    assert!(rt; !T::is_choice());
+}
+
+/// Asserts that the tree of the type under the tag is this one.
+fn assert_tree<T: AsnType>(rt: &impl Abort, tag: Tag, tree: TagTree<'_>) {
+    assert!(rt; T::tag_tree_under(tag) == tree);
 }
 
 #[test]
@@ -269,18 +295,20 @@ fn tables(rt: HostRuntime) {
     assert_tables::<Implicit<tag::UNIVERSAL_STRING, String>>(&rt, Tag::UNIVERSAL_STRING, None);
     assert_tables::<Explicit<tag::SET, u8>>(&rt, Tag::SET, None);
     assert_tables::<InstanceOf<u8>>(&rt, Tag::EXTERNAL, Some("SEQUENCE"));
+}
+
+#[test]
+fn trees_under_a_tag(rt: HostRuntime) {
     let tag = Tag::new_context(3);
-    assert_eq!(rt; SetOf::<u8>::tag_tree_under(tag), TagTree::Leaf(tag));
-    assert_eq!(rt;
-        Implicit::<tag::SET, Any>::tag_tree_under(tag),
-        TagTree::Leaf(tag)
-    );
-    assert_eq!(rt;
-        Explicit::<tag::SET, Any>::tag_tree_under(tag),
-        TagTree::Leaf(tag)
-    );
-    assert_eq!(rt; InstanceOf::<Any>::tag_tree_under(tag), TagTree::Leaf(tag));
-    assert_eq!(rt; Any::tag_tree_under(tag), TagTree::empty());
+    assert_tree::<SetOf<u8>>(&rt, tag, TagTree::Leaf(tag));
+    assert_tree::<Implicit<tag::SET, Any>>(&rt, tag, TagTree::Leaf(tag));
+    assert_tree::<Explicit<tag::SET, Any>>(&rt, tag, TagTree::Leaf(tag));
+    assert_tree::<InstanceOf<Any>>(&rt, tag, TagTree::Leaf(tag));
+    assert_tree::<Any>(&rt, tag, TagTree::empty());
+}
+
+#[test]
+fn wrappers_are_always_present(rt: HostRuntime) {
     assert!(rt; SetOf::<u8>::new(rt.alloc()).is_present());
     assert!(rt; Implicit::<tag::SET, Option<u8>>::new(None).is_present());
     assert!(rt; Explicit::<tag::SET, Option<u8>>::new(None).is_present());

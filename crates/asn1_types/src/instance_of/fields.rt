@@ -66,18 +66,21 @@ impl<T: AsnType> Constructed<2, 0> for InstanceOf<T> {
 #[cfg(test)]
 mod tests {
     use super::*;
+    use std::process::Abort;
+
+    fn assert_field(rt: &impl Abort, field: &Field<'_>, tag: Tag, name: &str) {
+        assert!(rt; field.tag == tag && field.name == name);
+    }
 
     #[test]
     fn an_instance_has_two_fields(rt: HostRuntime) {
         let fields = <InstanceOf<bool>>::fields();
-        for (field, (tag, name)) in fields.iter().zip([
-            (Tag::OBJECT_IDENTIFIER, "type_id"),
-            (Tag::new_context(0), "value"),
-        ]) {
-            assert_eq!(rt; (field.tag, field.name), (tag, name));
-        }
-        assert_eq!(rt; fields.len(), 2);
-        assert!(rt; !<InstanceOf<bool>>::is_extensible());
-        assert_eq!(rt; <InstanceOf<bool>>::field_count(), 2);
+        let [first, second] = fields.as_slice() else {
+            panic!(rt; "not two")
+        };
+        assert_field(&rt, first, Tag::OBJECT_IDENTIFIER, "type_id");
+        assert_field(&rt, second, Tag::new_context(0), "value");
+        assert!(rt; !<InstanceOf<bool>>::is_extensible() && <InstanceOf<bool>>::field_count() == 2);
+        assert!(rt; fields.len() == 2);
     }
 }
