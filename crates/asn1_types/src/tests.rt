@@ -83,7 +83,7 @@ fn wrappers_under_tags()
 {}
 
 /// A key with a note that equality ignores.
-#[derive(Clone, Copy, Debug)]
+#[derive(Clone, Copy)]
 #[derive_where(PartialEq, Eq)]
 struct Labelled {
     key: u8,
