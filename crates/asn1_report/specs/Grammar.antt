@@ -65,7 +65,7 @@ abbrev pub end_of : List ℕ → Option (Option ℤ)
 end_of [] = Some None
 end_of (byte ∷ bytes) = option_map (λ number. Some number) (integer_of (byte ∷ bytes))
 
--- a range: the text of its start, a dot, and what stands behind that, another dot and the text of its end
+-- a range: the text of its start, a dot, and what stands after that, another dot and the text of its end
 abbrev pub range_of : List ℕ → List ℕ → Option (Bounded ℤ)
 range_of start [] = None
 range_of start (byte ∷ bytes) =
@@ -88,7 +88,7 @@ pub data Statement : Type 0 where
 
 -- what a line inside a table says
 pub data Entry : Type 0 where
-  -- that the table has this component behind the others
+  -- that the table has this component after the others
   adds_component : Component → Entry
   -- that the table ends
   ends_table : Entry

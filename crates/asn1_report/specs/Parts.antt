@@ -2,7 +2,7 @@
 use Rattle.std.specs.Prelude.{ℕ, ◌+◌, ◌-◌, ◌&&◌, ◌==◌, if◌then◌else◌, List, [], ◌∷◌}
 use Rattle.std.specs.List.{onto_first}
 
--- how many brackets are open behind the byte, where so many are open before it
+-- how many brackets are open after the byte, where so many are open before it
 abbrev pub depth_after : ℕ → ℕ → ℕ
 depth_after depth byte = if byte == 40 then depth + 1 else (if byte == 41 then depth - 1 else depth)
 

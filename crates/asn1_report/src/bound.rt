@@ -19,11 +19,11 @@ fn read_end(text: &[u8]) -> Option<Option<i128>>
     }
 }
 
-// The range whose start has the first text, and whose end stands behind a dot of the second.
-fn read_range(start: &[u8], behind: &[u8]) -> Option<Bounded<i128>>
-    ensures { result ≡ range_of start.now behind.now }
+// The range whose start has the first text, and whose end stands after a dot of the second.
+fn read_range(start: &[u8], after: &[u8]) -> Option<Bounded<i128>>
+    ensures { result ≡ range_of start.now after.now }
 {
-    match behind {
+    match after {
         [b'.', end @ ..] => Some(Bounded::Range {
             start: read_end(start)?,
             end: read_end(end)?,

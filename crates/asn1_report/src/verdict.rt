@@ -36,9 +36,9 @@ impl fmt::Display for TreeVerdict {
 }
 
 /// Laws of the definition of a verdict. On a tree: its smallest tag is one of the tags and at most each of them, and it
-/// says `unique` exactly where no tag stands twice. On a table: the clash is the least pair of places whose components
-/// must have distinct tags and have not, and none exactly where there is no such pair; and it says `canonical` exactly
-/// where no component's smallest tag is above the next one's.
+/// says `unique` if and only if no tag stands twice. On a table: the clash is the least pair of places whose components
+/// must have distinct tags and have not, and none if and only if there is no such pair; and it says `canonical` if and
+/// only if no component's smallest tag is above the next one's.
 pub fn verdicts_mean_what_they_say()
     ensures smallest { (tags : List Tag) → IsSmallest tags (smallest tags) }
     ensures unique { (tags : List Tag) → IsTrue (distinct tags) ↔ AllPairs (λ s t. s ≢ t) tags }
@@ -77,7 +77,7 @@ impl fmt::Display for Common {
     }
 }
 
-/// The first clash of a table's fields: the least pair of places whose fields must have distinct tags, and have not.
+/// The first clash of a table's components: the least pair of places whose components must have distinct tags, and have not.
 #[derive(Clone, Copy)]
 struct Clash(Option<(usize, usize)>);
 
@@ -95,7 +95,7 @@ impl fmt::Display for Clash {
     }
 }
 
-/// What is said of a table: its first clash, and whether its fields stand in canonical order.
+/// What is said of a table: its first clash, and whether its components stand in canonical order.
 #[derive(Clone, Copy)]
 pub(crate) struct TableVerdict {
     clash: Clash,
@@ -109,7 +109,7 @@ impl TableVerdict {
     ghost use Rattle.asn1_report.specs.Tables.{clash_text, order_text};
     ghost use Rattle.asn1_report.specs.Verdict.{text_of_table_verdict};
 
-    /// The verdict on a table of these fields, whose first clash is known.
+    /// The verdict on a table of these components, whose first clash is known.
     pub(crate) fn on(clash: Option<(usize, usize)>, components: &[FlatComponent]) -> TableVerdict
         ensures { text_of_table_verdict result ≡ clash_text clash ++ codes ", " ++ order_text (canonical (components_seen components.now)) }
     {
