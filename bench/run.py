@@ -1,13 +1,17 @@
 #!/usr/bin/env python3
-"""Times asn1_check on inputs of 1, 10 and 100 MB, and measures its peak memory.
+"""Times asn1_check on inputs of 1, 10 and 100 MB, and measures its peak memory; or compares it with plain Rust.
 
     python3 bench/run.py
+    python3 bench/run.py --plain
 
-proves and builds the program first. It prints a line for each kind of input and size: the rate in MB (10^6 bytes) a second,
-the best of three runs, and the peak memory of the process in MB.
+proves and builds the program first. The first prints a line for each kind of input and size: the rate in MB (10^6 bytes) a
+second, the best of three runs, and the peak memory of the process in MB. The second builds bench/plain.rs, a program in plain
+Rust that does the same job, by `rustc -O`, and prints the seconds of processor time that both take for 20 MB, the best of five.
 """
 import os
+import resource
 import subprocess
+import sys
 import tempfile
 import time
 
@@ -76,9 +80,36 @@ def write_lines(source, line, megabytes):
     source.flush()
 
 
+def processor_seconds(program, path):
+    """The least processor time in seconds that a program takes for a file in five runs."""
+    least = float("inf")
+    for _ in range(5):
+        before = resource.getrusage(resource.RUSAGE_CHILDREN)
+        with open(path, "rb") as source:
+            subprocess.run([program], stdin=source, stdout=subprocess.DEVNULL)
+        after = resource.getrusage(resource.RUSAGE_CHILDREN)
+        least = min(least, after.ru_utime + after.ru_stime - before.ru_utime - before.ru_stime)
+    return least
+
+
+def compare_with_plain():
+    """Prints the processor time of asn1_check and of bench/plain.rs for 20 MB of each kind."""
+    with tempfile.TemporaryDirectory() as folder:
+        plain = os.path.join(folder, "plain")
+        subprocess.run(["rustc", "-O", os.path.join(ROOT, "bench", "plain.rs"), "-o", plain], check=True)
+        for kind, line in KINDS.items():
+            with tempfile.NamedTemporaryFile() as source:
+                write_lines(source, line, 20)
+                ours, theirs = (processor_seconds(program, source.name) for program in (PROGRAM, plain))
+            print(f"{kind}: {ours:.3f} s, plain Rust {theirs:.3f} s, ratio {ours / theirs:.2f}")
+
+
 def main():
     subprocess.run(["rt", "run"], cwd=CRATE, stdin=subprocess.DEVNULL, check=True)
     print(f"cores: {os.cpu_count()}")
+    if "--plain" in sys.argv:
+        compare_with_plain()
+        return
     for kind, line in KINDS.items():
         for megabytes in (1, 10, 100):
             with tempfile.NamedTemporaryFile() as source:
