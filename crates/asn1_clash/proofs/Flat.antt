@@ -78,11 +78,37 @@ set_clash-flat cs = set_clash-alike (map flat_component cs) cs (looks-flat cs)
 pub canonical-flat : (cs : List Component) → canonical (map flat_component cs) ≡ canonical cs
 canonical-flat cs = canonical-alike (map flat_component cs) cs (looks-flat cs)
 
--- what is found in flat components is the least clash of the components
-pub least_in_sequence : (seen table : List Component) (found : Option (ℕ × ℕ)) → found ≡ sequence_clash seen → seen ≡ map flat_component table → IsLeast (IsSequenceClash table) found
-least_in_sequence seen table found is flattened =
-    subst (IsLeast (IsSequenceClash table)) (sym (is ∙ (ap sequence_clash flattened ∙ sequence_clash-flat table))) (sequence_clash-is table)
+-- what is found in flat components is what is found in the components, and is the least clash of both
+pub record FindsInSequence (seen : List Component) (found : Option (ℕ × ℕ)) : Type 0 where
+  pub report : found ≡ sequence_clash seen
+  pub least : IsLeast (IsSequenceClash seen) found
+  pub report_of_table : (table : List Component) → seen ≡ map flat_component table → found ≡ sequence_clash table
+  pub least_of_table : (table : List Component) → seen ≡ map flat_component table → IsLeast (IsSequenceClash table) found
 
-pub least_in_set : (seen table : List Component) (found : Option (ℕ × ℕ)) → found ≡ set_clash seen → seen ≡ map flat_component table → IsLeast (IsSetClash table) found
-least_in_set seen table found is flattened =
-    subst (IsLeast (IsSetClash table)) (sym (is ∙ (ap set_clash flattened ∙ set_clash-flat table))) (set_clash-is table)
+pub found_in_sequence : (seen : List Component) (found : Option (ℕ × ℕ)) → found ≡ sequence_clash seen → FindsInSequence seen found
+found_in_sequence seen found is =
+    let of_table : (table : List Component) → seen ≡ map flat_component table → found ≡ sequence_clash table =
+    λ table flattened. is ∙ (ap sequence_clash flattened ∙ sequence_clash-flat table) in
+    record {
+      report = is;
+      least = subst (IsLeast (IsSequenceClash seen)) (sym is) (sequence_clash-is seen);
+      report_of_table = of_table;
+      least_of_table = λ table flattened. subst (IsLeast (IsSequenceClash table)) (sym (of_table table flattened)) (sequence_clash-is table);
+    }
+
+pub record FindsInSet (seen : List Component) (found : Option (ℕ × ℕ)) : Type 0 where
+  pub report : found ≡ set_clash seen
+  pub least : IsLeast (IsSetClash seen) found
+  pub report_of_table : (table : List Component) → seen ≡ map flat_component table → found ≡ set_clash table
+  pub least_of_table : (table : List Component) → seen ≡ map flat_component table → IsLeast (IsSetClash table) found
+
+pub found_in_set : (seen : List Component) (found : Option (ℕ × ℕ)) → found ≡ set_clash seen → FindsInSet seen found
+found_in_set seen found is =
+    let of_table : (table : List Component) → seen ≡ map flat_component table → found ≡ set_clash table =
+    λ table flattened. is ∙ (ap set_clash flattened ∙ set_clash-flat table) in
+    record {
+      report = is;
+      least = subst (IsLeast (IsSetClash seen)) (sym is) (set_clash-is seen);
+      report_of_table = of_table;
+      least_of_table = λ table flattened. subst (IsLeast (IsSetClash table)) (sym (of_table table flattened)) (set_clash-is table);
+    }

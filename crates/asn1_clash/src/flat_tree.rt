@@ -1,7 +1,7 @@
 //! Trees of tags, flattened.
 ghost use Rattle.std.specs.Prelude.{◌≡◌, [], false, fold, IfOk, OnOk};
 ghost use Rattle.asn1_tags.specs.Tags.{lesser, smallest};
-ghost use Rattle.asn1_tags.specs.Trees.{leaf, choice, none, is_open, shape};
+ghost use Rattle.asn1_tags.specs.Trees.{leaf, leaves, choice, none, is_open, shape};
 ghost use Rattle.asn1_clash.specs.Flat.{flat};
 
 use asn1_tags::{Class, Tag, TagTree, Variants};
@@ -34,6 +34,8 @@ impl FlatTree {
 
     /// The tree, flattened.
     pub fn of(alloc: Global, tree: &TagTree<'_>) -> Result<FlatTree, AllocError>
+        ensures tags { IfOk result (λ seen. seen.tags.items ≡ leaves (shape tree.now)) }
+        ensures empty_choice { IfOk result (λ seen. seen.has_empty_choice ≡ is_open (shape tree.now)) }
         ensures flattened { IfOk result (λ seen. tree_seen seen ≡ flat (shape tree.now)) }
     {
         let leaves = Variants::new(alloc, slice::from_ref(tree))?;

@@ -11,25 +11,30 @@
 //! | [`TreeSummary`] | whether a tag stands twice in a tree, its smallest tag, and how many leaves it has |
 //! | [`FlatComponent`] | a component: whether it may be absent, and its tree |
 //! | [`find_sequence_clash`], [`find_set_clash`] | the least pair of components that do not have distinct tags |
+//! | [`is_canonical`] | whether components stand in canonical order |
 //!
 //! What the contracts promise, and the words that they use:
 //!
 //! - `find_sequence_clash` and `find_set_clash` answer the least pair of places that breaks X.680's rule, and `None` if
-//!   and only if there is none: for the components as they are (`report`), and for each list of components whose trees
-//!   have these leaves (`least`). The rules, and what the least pair is, are words of `asn1_fields` (`specs/Clash.antt`).
+//!   and only if there is none (`least`, and `report` as a function). The rules, and what the least pair is, are words of
+//!   `asn1_fields` (`specs/Clash.antt`), and so is the canonical order, which `is_canonical` decides (`ordered`,
+//!   `report`). The answers are those for each table of which these are the flat components (`report_of_table`,
+//!   `least_of_table`), so a caller with a field table has the very answers of the calls of `asn1_fields`.
 //! - A flat tree is seen as a tree again, with the leaves side by side (`tree_seen`, `component_seen` in
 //!   `specs/Seen.antt`; `flat` in `specs/Flat.antt`). `FlatTree::of` and `FlatComponent::of_fields` make the flat form of
-//!   what they are given (`flattened`).
+//!   what they are given (`flattened`; of a tree its leaves, `tags`, and whether it stands for every tag,
+//!   `empty_choice`).
 //! - A `TreeSummary` says that no tag stands twice (`unique`), the smallest tag (`smallest`) and the number of leaves
-//!   (`count`).
+//!   (`count`); the leaves stay the same (`same_leaves`).
 //!
 //! An error comes only where memory runs out.
 //!
-//! For proofs in other crates, `proofs/Flat.antt` has that verdicts look at nothing of a tree but what its flat form has.
+//! For proofs in other crates, `proofs/Flat.antt` has that the rules look at nothing of a tree but what its flat form has.
 #![tactic(auto)]
 
 mod flat_component;
 mod flat_tree;
+mod order;
 mod search;
 mod summary;
 #[cfg(test)]
@@ -37,5 +42,6 @@ mod tests;
 
 pub use flat_component::FlatComponent;
 pub use flat_tree::FlatTree;
+pub use order::is_canonical;
 pub use search::{find_sequence_clash, find_set_clash};
 pub use summary::TreeSummary;

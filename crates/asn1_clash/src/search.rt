@@ -22,12 +22,17 @@ pub fn find_set_clash(
     components: &[FlatComponent],
 ) -> Result<Option<(usize, usize)>, AllocError>
     ensures report { IfOk result (λ clash. clash ≡ set_clash (components_seen components.now)) }
-    ensures least { (table : List Component) → components_seen components.now ≡ map flat_component table →
+    ensures least { IfOk result (IsLeast (IsSetClash (components_seen components.now))) }
+
+    // The same of each table of which these are the flat components.
+    ensures report_of_table { (table : List Component) → components_seen components.now ≡ map flat_component table →
+        IfOk result (λ clash. clash ≡ set_clash table) }
+    ensures least_of_table { (table : List Component) → components_seen components.now ≡ map flat_component table →
         IfOk result (IsLeast (IsSetClash table)) }
 {
     let mut occurrences = occurrences_in(alloc, components)?;
     occurrences.sort_unstable_by(Occurrence::compare);
-    Ok(lesser(
+    Ok(lesser_pair(
         pair_with_open(components),
         pair_with_equal_tags(&occurrences),
     ))
@@ -42,7 +47,12 @@ pub fn find_sequence_clash(
     components: &[FlatComponent],
 ) -> Result<Option<(usize, usize)>, AllocError>
     ensures report { IfOk result (λ clash. clash ≡ sequence_clash (components_seen components.now)) }
-    ensures least { (table : List Component) → components_seen components.now ≡ map flat_component table →
+    ensures least { IfOk result (IsLeast (IsSequenceClash (components_seen components.now))) }
+
+    // The same of each table of which these are the flat components.
+    ensures report_of_table { (table : List Component) → components_seen components.now ≡ map flat_component table →
+        IfOk result (λ clash. clash ≡ sequence_clash table) }
+    ensures least_of_table { (table : List Component) → components_seen components.now ≡ map flat_component table →
         IfOk result (IsLeast (IsSequenceClash table)) }
 {
     let mut start = 0;
@@ -118,7 +128,7 @@ fn pair_with_equal_tags(all: &[Occurrence]) -> Option<(usize, usize)>
 {
     let mut least = None;
     for i in 1..all.len() {
-        least = lesser(least, pair_of(&all[i - 1], &all[i]));
+        least = lesser_pair(least, pair_of(&all[i - 1], &all[i]));
     }
     least
 }
@@ -155,7 +165,10 @@ fn pair_with_open(components: &[FlatComponent]) -> Option<(usize, usize)>
 }
 
 // The lesser of two pairs, or the one that is there.
-fn lesser(first: Option<(usize, usize)>, second: Option<(usize, usize)>) -> Option<(usize, usize)>
+fn lesser_pair(
+    first: Option<(usize, usize)>,
+    second: Option<(usize, usize)>,
+) -> Option<(usize, usize)>
     ensures { result ≡ lesser_pair first second }
 {
     match (first, second) {

@@ -1,5 +1,6 @@
 //! What there is to say of a tree of tags.
 ghost use Rattle.std.specs.Prelude.{◌≡◌, length};
+ghost use Rattle.std.specs.List.Sorted.{IsPermutation};
 ghost use Rattle.asn1_tags.specs.Tags.{distinct, smallest};
 
 use crate::flat_tree::GREATEST;
@@ -17,11 +18,12 @@ pub struct TreeSummary {
 }
 
 impl TreeSummary {
-    /// The summary of a tree of these leaves, which are sorted for it, so that their order is lost.
+    /// The summary of a tree of these leaves, which are sorted for it: they stay the same leaves, in another order.
     pub fn of(leaves: &mut [Tag]) -> TreeSummary
         ensures unique { result.is_unique ≡ distinct leaves.old }
         ensures smallest { result.smallest_tag ≡ smallest leaves.old }
         ensures count { result.leaf_count ≡ length leaves.old }
+        ensures same_leaves { IsPermutation leaves.old leaves.new }
     {
         leaves.sort_unstable_by(Tag::const_cmp);
         TreeSummary {

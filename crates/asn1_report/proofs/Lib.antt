@@ -8,5 +8,5 @@ pub mod Reports
 pub mod Spellings
 pub mod Respellings
 pub mod Beginnings
-pub mod ReadingLemmas
+pub mod TreeReading
 pub mod WholeTrees

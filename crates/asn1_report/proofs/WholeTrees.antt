@@ -18,7 +18,7 @@ use Rattle.asn1_report.specs.declared.verdict.TreeVerdict.{TreeVerdict}
 use Rattle.asn1_report.specs.Spelling.{spelling, BeginsWithTree, ReadsTree}
 use Rattle.asn1_report.proofs.Beginnings.{one_tree_begins, nothing_may_follow}
 use Rattle.asn1_report.proofs.PartsLemmas.{lone_part}
-use Rattle.asn1_report.proofs.ReadingLemmas.{BeginsWithNoTree}
+use Rattle.asn1_report.proofs.TreeReading.{BeginsWithNoTree}
 use Rattle.asn1_report.proofs.Respellings.{parts-spelling, tree_fits, tree_respelled}
 use Rattle.asn1_report.proofs.Spellings.{tree_spelled}
 

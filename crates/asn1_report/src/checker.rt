@@ -126,14 +126,9 @@ impl Checker {
         self.extend_line(rest)
     }
 
-    // Takes what a read gave, and writes the text for each line that ends there. Where no more bytes are there at once,
-    // the text is handed on, so that whoever waits for it sees it.
-    fn take_read<W: Write>(
-        &mut self,
-        bytes: &[u8],
-        more_may_follow: bool,
-        writer: &mut W,
-    ) -> Result<(), CheckError>
+    // Takes what a read gave, writes the text for each line that ends there, and hands it on, so that whoever waits for
+    // the answer to a line sees it.
+    fn take_read<W: Write>(&mut self, bytes: &[u8], writer: &mut W) -> Result<(), CheckError>
         ensures state { OnOk result (state_seen self.new ≡ after (state_seen self.old) bytes.now) }
         ensures text { OnOk result (Appends (W.contents writer.old) (W.contents writer.new)
             (text_at (state_seen self.old) bytes.now)) }
@@ -142,15 +137,11 @@ impl Checker {
         ensures no_read { ¬ IsErrOf result CheckError.Reading }
     {
         self.feed(bytes, writer)?;
-        if more_may_follow || writer.flush().is_ok() {
-            Ok(())
-        } else {
-            Err(CheckError::Writing)
-        }
+        writer.flush().map_err(|_| CheckError::Writing)
     }
 
-    /// Reads to the end of the input, and writes the text for each line. Where a read gave less than there was room for,
-    /// the text for all lines that have ended is handed on at once.
+    /// Reads to the end of the input, and writes the text for each line. After each read the text for all lines that have
+    /// ended is handed on.
     ///
     /// An interrupted read is tried again. After an error some of the input may be read.
     pub(crate) fn read_to_end<R: Read, W: Write>(
@@ -170,10 +161,7 @@ impl Checker {
         for _ in 0..u64::MAX {
             match reader.read(buffer) {
                 Ok(0) => return self.end_input(writer),
-                Ok(count) => {
-                    let is_full = count == buffer.len();
-                    self.take_read(&buffer[..count], is_full, writer)?;
-                }
+                Ok(count) => self.take_read(&buffer[..count], writer)?,
                 Err(error) => {
                     if error.kind() != ErrorKind::Interrupted {
                         return Err(CheckError::Reading);

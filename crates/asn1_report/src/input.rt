@@ -16,13 +16,13 @@ const BUFFER_LENGTH: usize = 32 * 1024;
 /// its `end`.
 ///
 /// Of the input no more is kept than a line, of which no more than 4096 bytes, and the leaves of the table that is open. A
-/// line is written by one call, so a writer with a buffer serves best; it is flushed before the check ends, unless a write
-/// failed.
+/// line's text is written by one call, so a writer with a buffer serves best. It is flushed after each read, so that whoever
+/// waits for the answers to the lines that have ended sees them, and before the check ends, unless a write failed.
 ///
 /// An interrupted read is tried again. A read that fails, or 2^64 - 1 reads that meet no end of the input, answer
-/// [`CheckError::Reading`], where memory runs out it answers [`CheckError::Memory`], and after either the text for all earlier lines
-/// is written; a table that is open then has neither its verdict nor `not checked`. After [`CheckError::Writing`] nothing is
-/// known of what is written.
+/// [`CheckError::Reading`]; then the text for all lines that had ended is written. Where memory runs out it answers
+/// [`CheckError::Memory`]; then the text for the lines before that one is written. A table that is open then has neither its
+/// verdict nor `not checked`. After [`CheckError::Writing`] nothing is known of what is written.
 pub fn check<R: Read, W: Write>(
     alloc: Global,
     reader: &mut R,
@@ -34,7 +34,7 @@ pub fn check<R: Read, W: Write>(
     ensures understood { IfOk result (λ answer. IfSome (R.remaining reader.old) (λ input. answer ≡ all_understood input)) }
     ensures read { OnOk result (IsAtEnd (R.remaining reader.new)) }
 
-    // After an error it is the text for the lines that were ended among the bytes given so far.
+    // After an error it is the text for the lines that were ended among the bytes given so far, or among the first of them.
     ensures reading { IsErrOf result CheckError.Reading → (given : List ℕ)
         × Consumes (R.remaining reader.old) (R.remaining reader.new) given
         × Appends (W.contents writer.old) (W.contents writer.new) (text_for (whole_lines given)) }

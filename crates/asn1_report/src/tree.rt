@@ -111,11 +111,13 @@ fn read_class(letter: u8) -> Option<Class>
     }
 }
 
-/// A law of the definition that [`read_whole_tree`] meets: what is read as a tree is the text of that tree, so no byte of
-/// it is passed over, and no two texts are read as one tree. And each tree's text is read as that tree, where at most
-/// `depth` of its brackets are open at once and each tag's number is below 2 ^ 32.
+/// A law of the definition that [`read_whole_tree`] meets: a text is read as a tree if and only if it is that tree's text,
+/// at most `depth` brackets of it are open at once, and each tag's number is below 2 ^ 32. So no byte of a text is passed
+/// over, and no two texts are read as one tree.
 pub fn trees_are_read_of_their_texts()
     ensures text { (depth : ℕ) (text : List ℕ) (tree : Tree) → tree_of depth text ≡ Some tree → text ≡ spelling tree }
+    ensures within_limits { (depth : ℕ) (text : List ℕ) (tree : Tree) → tree_of depth text ≡ Some tree
+        → (brackets tree ≤ depth) × All (λ tag. tag.value < 2 ^ 32) (leaves tree) }
     ensures read { (depth : ℕ) (tree : Tree) → brackets tree ≤ depth → All (λ tag. tag.value < 2 ^ 32) (leaves tree)
         → tree_of depth (spelling tree) ≡ Some tree }
 {}

@@ -10,7 +10,7 @@ ghost use Rattle.asn1_report.specs.Tables.{clash_of};
 
 use crate::kind::Kind;
 use asn1_bounded::Bounded;
-use asn1_clash::{FlatComponent, TreeSummary};
+use asn1_clash::{FlatComponent, TreeSummary, is_canonical};
 use std::fmt;
 
 /// What is said of a tree: whether a tag stands twice, the smallest tag, and how many leaves there are.
@@ -115,7 +115,7 @@ impl TableVerdict {
     {
         TableVerdict {
             clash: Clash(clash),
-            is_canonical: components.is_sorted_by(FlatComponent::is_in_order),
+            is_canonical: is_canonical(components),
         }
     }
 }

@@ -161,7 +161,7 @@ fn writes_that_fail(rt: HostRuntime) {
     assert_failed_write(&rt, 1000, true);
 }
 
-// After a read that gave less than there was room for, the text for all lines that have ended is handed on.
+// After each read, the text for all lines that have ended is handed on.
 #[test]
 fn answers_are_handed_on_at_once(rt: HostRuntime) {
     let mut page = Page::new(1000, false);
@@ -171,27 +171,36 @@ fn answers_are_handed_on_at_once(rt: HostRuntime) {
     assert!(rt; a == 70 && b == 121 && c == 148 && d == 148 && e == REPORT.len());
 }
 
-// A reader of so many line feeds, which always fills the buffer but at the end.
+// A reader whose first read fills the buffer, by a line that is not understood and empty ones, and whose next one fails.
 #[derive(Drop)]
-struct Feeds(usize);
+struct Full {
+    is_read: bool,
+}
 
-impl Read for Feeds {
+impl Read for Full {
     fn read(&mut self, buffer: &mut [u8]) -> io::Result<usize> {
-        let count = self.0.min(buffer.len());
-        for byte in &mut buffer[..count] {
+        if self.is_read {
+            return Err(io::Error::from(ErrorKind::ConnectionReset));
+        }
+        self.is_read = true;
+        for byte in buffer.iter_mut() {
             *byte = b'\n';
         }
-        self.0 -= count;
-        Ok(count)
+        if let [first, ..] = buffer {
+            *first = b'?';
+        }
+        Ok(buffer.len())
     }
 }
 
-// While more is there at once, nothing is handed on.
+// Also what a read that filled the buffer ends is handed on before the next read, and after one that fails.
 #[test]
-fn full_reads_are_not_handed_on(rt: HostRuntime) {
+fn full_reads_are_handed_on(rt: HostRuntime) {
     let mut page = Page::new(1000, false);
-    let answer = check(rt.alloc(), &mut Feeds(100_000), &mut page);
-    assert!(rt; answer == Ok(true) && page.flushes == 2);
+    let answer = check(rt.alloc(), &mut Full { is_read: false }, &mut page);
+    assert!(rt; answer == Err(CheckError::Reading) && page.flushes == 2);
+    let [a, b, _, _, _, _, _, _] = page.flushed;
+    assert!(rt; a == b"line 1: not understood\n".len() && b == a && page.length == a);
 }
 
 // With ample memory the report is whole. Run with each allocation failing in turn, it ends after a line.

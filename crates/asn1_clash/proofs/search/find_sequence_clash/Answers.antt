@@ -2,7 +2,7 @@ use Rattle.std.proofs.Common.{◌≡◌, ◌+◌, Some, None, arith, length, sub
 use Rattle.asn1_fields.specs.Clash.{sequence_clash, set_clash}
 use Rattle.asn1_fields.proofs.Searches.{shifted}
 use Rattle.asn1_clash.specs.Seen.{components_seen}
-use Rattle.asn1_clash.proofs.Flat.{least_in_sequence}
+use Rattle.asn1_clash.proofs.Flat.{found_in_sequence}
 use Rattle.asn1_clash.proofs.Runs.{run_fits, run_is_some, found_in_run, none_in_run, clash_within, some_length, none_left, no_length}
 use Rattle.asn1_clash.proofs.search.find_sequence_clash.Goals as goal
 
@@ -29,15 +29,14 @@ returns-in-Some c =
     let whole =
     found_in_run c.args.components.now c.loop-rest.rest.now c.loop-rest.start c.run_length.result c.in-Some.i c.in-Some.j c.loop-rest.invariant.whole c.run_length.ensures
     (subst (λ run. Some (c.in-Some.i, c.in-Some.j) ≡ set_clash (components_seen run)) c.split_at.ensures.front found) in
-    record {
-      report = whole;
-      least = λ table. least_in_sequence (components_seen c.args.components.now) table (Some (c.loop-rest.start + c.in-Some.i, c.loop-rest.start + c.in-Some.j)) whole;
-    }
+    let all = found_in_sequence (components_seen c.args.components.now) (Some (c.loop-rest.start + c.in-Some.i, c.loop-rest.start + c.in-Some.j)) whole in
+    record { report = all.report; least = all.least; report_of_table = all.report_of_table; least_of_table = all.least_of_table }
 
 pub returns : goal.returns
 returns c =
     let whole = none_left c.args.components.now c.loop-rest.rest.now c.loop-rest.start c.loop-rest.invariant.whole (no_length _ c.loop-rest-test.ensures) in
-    record { report = whole; least = λ table. least_in_sequence (components_seen c.args.components.now) table None whole }
+    let all = found_in_sequence (components_seen c.args.components.now) None whole in
+    record { report = all.report; least = all.least; report_of_table = all.report_of_table; least_of_table = all.least_of_table }
 
 pub loop-rest-smaller : goal.loop-rest-smaller
 loop-rest-smaller c =

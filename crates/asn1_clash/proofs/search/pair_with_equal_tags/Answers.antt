@@ -6,7 +6,7 @@ loop-i-init c = no_neighbours c.args.all.now
 
 pub loop-i-preserved : goal.loop-i-preserved
 loop-i-preserved c =
-    neighbours_passed c.args.all.now c.loop-i.i _ _ c.loop-i.least c.lesser-least.result c.pair_of.result c.loop-i.auto.i c.loop-i-test.true c.pair_of.ensures c.lesser-least.ensures c.loop-i.invariant
+    neighbours_passed c.args.all.now c.loop-i.i _ _ c.loop-i.least c.lesser_pair-least.result c.pair_of.result c.loop-i.auto.i c.loop-i-test.true c.pair_of.ensures c.lesser_pair-least.ensures c.loop-i.invariant
 
 pub returns : goal.returns
 returns c = twice_from_neighbours c.args.all.now c.requires c.loop-i.least (neighbours_end c.args.all.now c.loop-i.i c.loop-i.least c.loop-i-test.false c.loop-i.invariant)

@@ -1,6 +1,6 @@
 use Rattle.std.proofs.Common.{◌≡◌, ap, get_or, length, arith}
 use borrow.Author.Tests.{ltb-true}
-use Rattle.asn1_report.proofs.ReadingLemmas.{choice_read, first_byte, read_last, read_no_end, read_no_tree, read_nothing, read_one}
+use Rattle.asn1_report.proofs.TreeReading.{choice_read, first_byte, read_last, read_no_end, read_no_tree, read_nothing, read_one}
 use Rattle.asn1_report.proofs.tree.+tree.Goals as goal
 use Rattle.asn1_report.proofs.tree.+tree.Goals.{read_choice-then-inside-lt1, read_choice-else-inside-lt1+in_default-1, read_choice-in_default-left-via-then-left-lt1, read_choice-in_default-left-via-else-left-lt1+in_default-1}
 

@@ -1,5 +1,5 @@
 use Rattle.std.proofs.Common.{refl}
-use Rattle.asn1_report.proofs.ReadingLemmas.{first_byte, no_tag_without_number}
+use Rattle.asn1_report.proofs.TreeReading.{first_byte, no_tag_without_number}
 use Rattle.asn1_report.proofs.tree.read_tag.Goals as goal
 
 pub returns-in_err-value-in-len1-up : goal.returns-in_err-value-in-len1-up

@@ -18,4 +18,5 @@ returns c =
       unique = unique ∙ distinct-permutation c.args.leaves.now tags moved;
       smallest = first ∙ (smallest-in_order tags up ∙ smallest-permutation c.args.leaves.now tags moved);
       count = length_permutation c.args.leaves.now tags moved;
+      same_leaves = moved;
     }

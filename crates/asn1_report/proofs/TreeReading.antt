@@ -143,7 +143,7 @@ record GoesOn (depth : ℕ) (text left : List ℕ) : Type 0 where
   begins : BeginsWithTrees depth text (more first others) left
 
 -- Trees of a choice were read and added, and the space after each; this is left. There is no other way to begin.
-pub record ReadSoFar (depth : ℕ) (inside text : List ℕ) (old new : FlatTree) : Type 0 where
+pub record TreesReadSoFar (depth : ℕ) (inside text : List ℕ) (old new : FlatTree) : Type 0 where
   trees : Trees
   stand : AddsAll old new trees
   spelled : inside ≡ spelling_before trees ++ text
@@ -151,7 +151,7 @@ pub record ReadSoFar (depth : ℕ) (inside text : List ℕ) (old new : FlatTree)
   small : All HasSmallNumber (leaves_of trees)
   only : (all : Trees) (left : List ℕ) → BeginsWithTrees depth inside all left → GoesOn depth text left
 
-pub read_nothing : (depth : ℕ) (inside : List ℕ) (kept : FlatTree) → ((left : List ℕ) → inside ≡ 41 ∷ left → ⊥) → ReadSoFar depth inside inside kept kept
+pub read_nothing : (depth : ℕ) (inside : List ℕ) (kept : FlatTree) → ((left : List ℕ) → inside ≡ 41 ∷ left → ⊥) → TreesReadSoFar depth inside inside kept kept
 read_nothing depth inside kept not_closed = record {
   trees = none;
   stand = adds_nothing kept;
@@ -184,7 +184,7 @@ others_begin depth next left (more first others) shallow small same =
 
 -- one more tree, and the space after it
 pub read_one : (depth : ℕ) (inside text left next : List ℕ) (old mid new : FlatTree) →
-    ReadSoFar depth inside text old mid → left ≡ 32 ∷ next → ReadsTree depth text left mid new → ReadSoFar depth inside next old new
+    TreesReadSoFar depth inside text old mid → left ≡ 32 ∷ next → ReadsTree depth text left mid new → TreesReadSoFar depth inside next old new
 read_one depth inside text left next old mid new before space one = record {
   trees = join before.trees (more one.tree none);
   stand = adds_one old mid new before.trees one.tree before.stand one.added;
@@ -210,7 +210,7 @@ some_joined (more s ts) t = refl
 
 -- the last tree, and the bracket after it
 pub read_last : (depth : ℕ) (inside text left rest : List ℕ) (old mid new : FlatTree) →
-    ReadSoFar depth inside text old mid → left ≡ 41 ∷ rest → ReadsTree depth text left mid new → ReadsChoice depth inside rest old new
+    TreesReadSoFar depth inside text old mid → left ≡ 41 ∷ rest → ReadsTree depth text left mid new → ReadsChoice depth inside rest old new
 read_last depth inside text left rest old mid new before bracket one = record {
   trees = join before.trees (more one.tree none);
   begins = record {
@@ -228,14 +228,14 @@ read_last depth inside text left rest old mid new before bracket one = record {
 }
 
 -- no tree follows
-pub read_no_tree : (depth : ℕ) (inside text : List ℕ) (old mid : FlatTree) → ReadSoFar depth inside text old mid → BeginsWithNoTree depth text →
+pub read_no_tree : (depth : ℕ) (inside text : List ℕ) (old mid : FlatTree) → TreesReadSoFar depth inside text old mid → BeginsWithNoTree depth text →
     BeginsWithNoTrees depth inside
 read_no_tree depth inside text old mid before no_tree trees rest begins =
     let goes = before.only trees rest begins in
     no_tree goes.first (spelling_after goes.others ++ 41 ∷ rest) (first_begins goes.begins)
 
 -- a tree follows, and after it neither a space nor a bracket
-pub read_no_end : (depth : ℕ) (inside text left : List ℕ) (old mid new : FlatTree) → ReadSoFar depth inside text old mid → ReadsTree depth text left mid new →
+pub read_no_end : (depth : ℕ) (inside text left : List ℕ) (old mid new : FlatTree) → TreesReadSoFar depth inside text old mid → ReadsTree depth text left mid new →
     ((next : List ℕ) → left ≡ 32 ∷ next → ⊥) → ((next : List ℕ) → left ≡ 41 ∷ next → ⊥) → BeginsWithNoTrees depth inside
 read_no_end depth inside text left old mid new before one no_space no_bracket trees rest begins =
     let goes = before.only trees rest begins in
