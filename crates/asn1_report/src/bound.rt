@@ -58,15 +58,14 @@ pub(crate) fn bound_line(line: &[u8]) -> Option<(&[u8], Bounded<i128>, Bounded<i
 {
     let mut parts = Parts::of(line);
     let keyword = parts.next()?;
+    if keyword != b"bound".as_slice() {
+        return None;
+    }
     let name = parts.next()?;
     let first = parts.next()?;
     let ampersand = parts.next()?;
     let second = parts.next()?;
-    if parts.next().is_none()
-        && keyword == b"bound".as_slice()
-        && is_name(name)
-        && ampersand == b"&".as_slice()
-    {
+    if parts.next().is_none() && is_name(name) && ampersand == b"&".as_slice() {
         Some((name, read_bound(first)?, read_bound(second)?))
     } else {
         None

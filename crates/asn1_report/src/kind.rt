@@ -46,10 +46,10 @@ pub(crate) fn head_line(line: &[u8]) -> Option<(Kind, &[u8])>
     ensures { option_map (λ (kind, name). (kind, name.now)) result ≡ head_line (parts_of line.now) }
 {
     let mut parts = Parts::of(line);
-    let word = parts.next()?;
+    let kind = Kind::named(parts.next()?)?;
     let name = parts.next()?;
     if parts.next().is_none() && is_name(name) {
-        Some((Kind::named(word)?, name))
+        Some((kind, name))
     } else {
         None
     }

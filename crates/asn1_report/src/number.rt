@@ -7,6 +7,7 @@ ghost use Rattle.asn1_report.specs.Names.{BeginsWithNumber, begins_with_digit, i
 
 /// Reads the decimal number below 2^32, without leading zeros, with which the text begins, and gives what is left of the text
 /// after its last digit.
+#[inline(always)]
 pub(crate) fn read_number(text: &[u8]) -> Option<(u32, &[u8])>
     ensures { MatchOption result ((number : ℕ) (left : List ℕ) → ¬ BeginsWithNumber text.now number left)
         (λ (number, left). BeginsWithNumber text.now number left.now) }
@@ -26,6 +27,7 @@ fn begins_with_digit(text: &[u8]) -> bool
 }
 
 // The number below 2^32 that the digits write with which the text begins, and what is left of the text after them.
+#[inline(always)]
 fn read_digits(text: &[u8]) -> Option<(u32, &[u8])>
     ensures { let value = digits_value 10 (take_while is_ascii_digit text.now) in
         MatchOption result (2 ^ 32 ≤ value)

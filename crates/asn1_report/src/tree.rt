@@ -31,8 +31,10 @@ pub(crate) fn read_whole_tree(text: &[u8], flat: &mut FlatTree) -> Result<bool, 
 // Reads the tree with which the text begins, with at most `depth` brackets open at once, and gives what is left of the
 // text after it.
 //
-// Adds the tree to `flat`. Where the text begins with no tree, something of it may be added too.
+// Adds the tree to `flat`. Where the text begins with no tree, something of it may be added too. It is inlined, so that
+// a tag among the trees of a choice is read without a call.
 #[cycle(tree)]
+#[inline(always)]
 fn read_tree<'a>(
     text: &'a [u8],
     depth: u8,
@@ -59,6 +61,7 @@ fn read_tree<'a>(
 
 // Reads the trees of a choice, of which the bracket that opens it was read, and the bracket that closes it.
 #[cycle(tree)]
+#[inline(never)]
 fn read_choice<'a>(
     inside: &'a [u8],
     depth: u8,
@@ -84,6 +87,7 @@ fn read_choice<'a>(
 }
 
 // Reads the tag with which the text begins, the letter of its class and its number, and gives what is left of the text.
+#[inline(always)]
 fn read_tag(text: &[u8]) -> Option<(Tag, &[u8])>
     ensures { MatchOption result
         ((tag : Tag) (left : List ℕ) → ¬ BeginsWithTree 0 text.now (leaf tag) left)
@@ -99,6 +103,7 @@ fn read_tag(text: &[u8]) -> Option<(Tag, &[u8])>
     }
 }
 
+#[inline(always)]
 fn read_class(letter: u8) -> Option<Class>
     ensures { result ≡ class_of letter }
 {
