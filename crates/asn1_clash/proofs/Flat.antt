@@ -78,37 +78,27 @@ set_clash-flat cs = set_clash-alike (map flat_component cs) cs (looks-flat cs)
 pub canonical-flat : (cs : List Component) → canonical (map flat_component cs) ≡ canonical cs
 canonical-flat cs = canonical-alike (map flat_component cs) cs (looks-flat cs)
 
--- what is found in flat components is what is found in the components, and is the least clash of both
-pub record FindsInSequence (seen : List Component) (found : Option (ℕ × ℕ)) : Type 0 where
-  pub report : found ≡ sequence_clash seen
-  pub least : IsLeast (IsSequenceClash seen) found
-  pub report_of_table : (table : List Component) → seen ≡ map flat_component table → found ≡ sequence_clash table
-  pub least_of_table : (table : List Component) → seen ≡ map flat_component table → IsLeast (IsSequenceClash table) found
+-- What is found in flat components is what is found in the components, and is the least clash of both.
+pub record Finds (clash : List Component → Option (ℕ × ℕ)) (IsClash : List Component → ℕ → ℕ → Type 0) (seen : List Component) (found : Option (ℕ × ℕ)) : Type 0 where
+  pub report : found ≡ clash seen
+  pub least : IsLeast (IsClash seen) found
+  pub report_of_table : (table : List Component) → seen ≡ map flat_component table → found ≡ clash table
+  pub least_of_table : (table : List Component) → seen ≡ map flat_component table → IsLeast (IsClash table) found
 
-pub found_in_sequence : (seen : List Component) (found : Option (ℕ × ℕ)) → found ≡ sequence_clash seen → FindsInSequence seen found
-found_in_sequence seen found is =
-    let of_table : (table : List Component) → seen ≡ map flat_component table → found ≡ sequence_clash table =
-    λ table flattened. is ∙ (ap sequence_clash flattened ∙ sequence_clash-flat table) in
+finds : (clash : List Component → Option (ℕ × ℕ)) (IsClash : List Component → ℕ → ℕ → Type 0) → ((cs : List Component) → clash (map flat_component cs) ≡ clash cs) →
+    ((cs : List Component) → IsLeast (IsClash cs) (clash cs)) → (seen : List Component) (found : Option (ℕ × ℕ)) → found ≡ clash seen → Finds clash IsClash seen found
+finds clash IsClash alike is_least seen found is =
+    let of_table : (table : List Component) → seen ≡ map flat_component table → found ≡ clash table =
+    λ table flattened. is ∙ (ap clash flattened ∙ alike table) in
     record {
       report = is;
-      least = subst (IsLeast (IsSequenceClash seen)) (sym is) (sequence_clash-is seen);
+      least = subst (IsLeast (IsClash seen)) (sym is) (is_least seen);
       report_of_table = of_table;
-      least_of_table = λ table flattened. subst (IsLeast (IsSequenceClash table)) (sym (of_table table flattened)) (sequence_clash-is table);
+      least_of_table = λ table flattened. subst (IsLeast (IsClash table)) (sym (of_table table flattened)) (is_least table);
     }
 
-pub record FindsInSet (seen : List Component) (found : Option (ℕ × ℕ)) : Type 0 where
-  pub report : found ≡ set_clash seen
-  pub least : IsLeast (IsSetClash seen) found
-  pub report_of_table : (table : List Component) → seen ≡ map flat_component table → found ≡ set_clash table
-  pub least_of_table : (table : List Component) → seen ≡ map flat_component table → IsLeast (IsSetClash table) found
+pub found_in_sequence : (seen : List Component) (found : Option (ℕ × ℕ)) → found ≡ sequence_clash seen → Finds sequence_clash IsSequenceClash seen found
+found_in_sequence = finds sequence_clash IsSequenceClash sequence_clash-flat sequence_clash-is
 
-pub found_in_set : (seen : List Component) (found : Option (ℕ × ℕ)) → found ≡ set_clash seen → FindsInSet seen found
-found_in_set seen found is =
-    let of_table : (table : List Component) → seen ≡ map flat_component table → found ≡ set_clash table =
-    λ table flattened. is ∙ (ap set_clash flattened ∙ set_clash-flat table) in
-    record {
-      report = is;
-      least = subst (IsLeast (IsSetClash seen)) (sym is) (set_clash-is seen);
-      report_of_table = of_table;
-      least_of_table = λ table flattened. subst (IsLeast (IsSetClash table)) (sym (of_table table flattened)) (set_clash-is table);
-    }
+pub found_in_set : (seen : List Component) (found : Option (ℕ × ℕ)) → found ≡ set_clash seen → Finds set_clash IsSetClash seen found
+found_in_set = finds set_clash IsSetClash set_clash-flat set_clash-is
