@@ -1,9 +1,9 @@
 -- The laws of intersection at the two kinds of constraint that have bounds.
 use Rattle.std.proofs.Common.{◌≡◌, ◌↔◌, ℕ, ℤ, pos, negsuc, ◌<ℤ◌, arith}
 use Rattle.std.proofs.lemmas.Int.{ints}
-use Rattle.asn1_bounds.specs.Kinds.{HasValue, HasLength, value_intersection, size_intersection}
-use Rattle.asn1_bounded.specs.declared.bounded.Bounded.{Bounded}
-use Rattle.asn1_bounded.proofs.IntersectionLaws.{intersection_or-comm, intersection_or-assoc, intersection_or-members}
+use Rattle.asn1_bounds.specs.Admitted.{HasValue, HasLength, value_intersection, size_intersection}
+use Rattle.asn1_ranges.specs.declared.bounded.Bounded.{Bounded}
+use Rattle.asn1_ranges.proofs.IntersectionLaws.{intersection_or-comm, intersection_or-assoc, intersection_or-members}
 
 same-natural : (a b : ℕ) → pos a ≡ pos b → a ≡ b
 same-natural a b h = cc

@@ -4,7 +4,7 @@ use Rattle.std.specs.Prelude.{⊤, All, MatchOption, is_some}
 use Rattle.std.proofs.Math.Bool.{or_assoc, or-false}
 use Rattle.std.proofs.lemmas.List.{take_more}
 use Rattle.std.proofs.lemmas.List.Elements.{All-nil, All-cons, All-head, All-tail}
-use Rattle.asn1_bounds.specs.Kinds.{HasValue, HasLength}
+use Rattle.asn1_bounds.specs.Admitted.{HasValue, HasLength}
 use Rattle.asn1_bounds.specs.Sets.{both_values, both_sizes, second_alphabet, part_intersection, parts_intersection, set_intersection, no_constraints, set_of, set_of_all, AdmitsValue, AdmitsLength}
 use Rattle.asn1_bounds.specs.declared.constraint.Constraint.{Constraint}
 use Rattle.asn1_bounds.specs.declared.constraints.Constraints.{Constraints}

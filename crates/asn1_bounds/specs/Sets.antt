@@ -7,7 +7,7 @@ use Rattle.asn1_bounds.specs.declared.extensible.Extensible.{Extensible}
 use Rattle.asn1_bounds.specs.declared.constraint.Constraint.{Constraint}
 use Rattle.asn1_bounds.specs.declared.constraint.Constraint.TheVariants as constraint
 use Rattle.asn1_bounds.specs.declared.constraints.Constraints.{Constraints}
-use Rattle.asn1_bounds.specs.Kinds.{HasValue, HasLength, value_intersection, size_intersection}
+use Rattle.asn1_bounds.specs.Admitted.{HasValue, HasLength, value_intersection, size_intersection}
 
 -- of two value constraints, and of two size constraints: the members of both bounds
 abbrev pub both_values : Value → Value → Value

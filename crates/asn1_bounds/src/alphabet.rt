@@ -6,7 +6,7 @@ ghost use Rattle.std.specs.Prelude.{◌≡◌};
 pub struct PermittedAlphabet<'a>(&'a [u32]);
 
 impl<'a> PermittedAlphabet<'a> {
-    ghost use Rattle.asn1_bounds.specs.Kinds.{characters};
+    ghost use Rattle.asn1_bounds.specs.Admitted.{characters};
 
     /// The constraint to these characters.
     pub fn new(alphabet: &'a [u32]) -> Self
@@ -32,7 +32,7 @@ impl<'a> PermittedAlphabet<'a> {
 
 impl Default for PermittedAlphabet<'_> {
     ghost use Rattle.std.specs.Prelude.{◌≡◌, []};
-    ghost use Rattle.asn1_bounds.specs.Kinds.{characters};
+    ghost use Rattle.asn1_bounds.specs.Admitted.{characters};
 
     ghost is_default = { λ alphabet. characters alphabet ≡ [] };
 

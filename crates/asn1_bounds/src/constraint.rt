@@ -35,7 +35,7 @@ pub enum ConstraintDiscriminant {
 }
 
 impl<'a> Constraint<'a> {
-    ghost use Rattle.asn1_bounds.specs.Kind.{kind_of, index_of, value_of, size_of, alphabet_of, is_extensible};
+    ghost use Rattle.asn1_bounds.specs.ConstraintKind.{kind_of, index_of, value_of, size_of, alphabet_of, is_extensible};
 
     /// The kind.
     pub fn kind(&self) -> ConstraintDiscriminant

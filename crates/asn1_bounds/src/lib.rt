@@ -2,7 +2,7 @@
 //!
 //! The types, from the least to the whole:
 //!
-//! - [`Bounded`], of the crate `asn1_bounded`, is no bound, a single value, or a range with or without each of its
+//! - [`Bounded`], of the crate `asn1_ranges`, is no bound, a single value, or a range with or without each of its
 //!   ends. It stands here too, with [`WholeNumber`] and [`FitsI128`], which say of what types its ends can be.
 //! - [`Value`], [`Size`] and [`PermittedAlphabet`] are the three kinds of constraint: of numbers, of lengths and of
 //!   characters. [`Intersect`] is what they share.
@@ -23,13 +23,13 @@
 //!   (`validation_gives`); `validate_components` answers that without a codec.
 //!
 //! No call takes memory but the two of `InnerSubtypeConstraint`, at types that want some. The words of the clauses are
-//! defined in `specs`: `Kinds` for the kinds of constraint, `Kind` for one constraint, `Sets` for sets of them,
+//! defined in `specs`: `Admitted` for what a constraint admits, `ConstraintKind` for the kind of one and its part, `Sets` for sets of them,
 //! `InnerSubtype` for the answers of a constraint of components, and `Lending` for the bound that `Size::bounded_mut`
-//! lends. The words on bounds are those of `asn1_bounded`, which `specs/Lib` hands on.
+//! lends. The words on bounds are those of `asn1_ranges`, which `specs/Lib` hands on.
 #![tactic(auto)]
 
 pub use alphabet::PermittedAlphabet;
-pub use asn1_bounded::{Bounded, FitsI128, WholeNumber};
+pub use asn1_ranges::{Bounded, FitsI128, WholeNumber};
 pub use codec::Codec;
 pub use constraint::{Constraint, ConstraintDiscriminant};
 pub use constraints::Constraints;

@@ -1,10 +1,10 @@
 //! Constraints of length (X.680, 51.5).
 ghost use Rattle.std.specs.Prelude.{◌≡◌, ◌↔◌, ℕ, IsTrue};
 ghost use Rattle.std.specs.Borrow.{sem};
-ghost use Rattle.asn1_bounded.specs.Ends.{is_single, is_range};
-ghost use Rattle.asn1_bounds.specs.Kinds.{HasLength, size_intersection};
+ghost use Rattle.asn1_ranges.specs.Ends.{is_single, is_range};
+ghost use Rattle.asn1_bounds.specs.Admitted.{HasLength, size_intersection};
 
-use asn1_bounded::Bounded;
+use asn1_ranges::Bounded;
 
 /// A constraint of the length of a string or a list (X.680, 51.5).
 #[derive(Clone, Copy, Debug, Default, PartialEq, Eq, PartialOrd, Ord, Hash)]

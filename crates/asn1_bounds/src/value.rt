@@ -3,11 +3,11 @@ ghost use Rattle.std.specs.Prelude.{◌≡◌, ◌↔◌, ℤ, pos, FitsSigned, 
 ghost use Rattle.std.specs.Int.{w128};
 ghost use Rattle.std.specs.Option.{option_map};
 ghost use Rattle.std.specs.Result.{OkIff};
-ghost use Rattle.asn1_bounds.specs.Kinds.{HasValue, value_intersection};
-ghost use Rattle.asn1_bounded.specs.Octets.{is_signed, octets_of};
+ghost use Rattle.asn1_bounds.specs.Admitted.{HasValue, value_intersection};
+ghost use Rattle.asn1_ranges.specs.Octets.{is_signed, octets_of};
 
 use crate::error::TooWide;
-use asn1_bounded::{Bounded, FitsI128};
+use asn1_ranges::{Bounded, FitsI128};
 
 /// A constraint of the values of an INTEGER (X.680, 51.2 and 51.4).
 #[derive(Clone, Copy, Debug, Default, PartialEq, Eq, PartialOrd, Ord, Hash)]
@@ -67,7 +67,7 @@ impl Value {
 
 impl<T: FitsI128> From<Bounded<T>> for Value {
     ghost use Rattle.std.specs.Prelude.{◌≡◌};
-    ghost use Rattle.asn1_bounds.specs.Kinds.{numbers};
+    ghost use Rattle.asn1_bounds.specs.Admitted.{numbers};
 
     ghost from_gives = { λ bound value. value.bound ≡ numbers T.number bound };
 
@@ -88,7 +88,7 @@ impl TryFrom<Bounded<usize>> for Value {
 
     ghost use Rattle.std.specs.Prelude.{pos};
     ghost use Rattle.std.specs.Result.{OkIff};
-    ghost use Rattle.asn1_bounds.specs.Kinds.{numbers, HasNarrowEnds};
+    ghost use Rattle.asn1_bounds.specs.Admitted.{numbers, HasNarrowEnds};
 
     ghost try_from_gives = { λ bound result.
         OkIff result (HasNarrowEnds bound) (record { bound = numbers pos bound }) };

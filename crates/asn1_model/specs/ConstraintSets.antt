@@ -1,14 +1,14 @@
 -- Constraint sets, apart from where their lists lie in memory.
 use Rattle.std.specs.Prelude.{ℕ, ℤ, Bool, false, List, map, Option, None, Some}
 use Rattle.std.specs.Option.{option_map, option_copied}
-use Rattle.asn1_bounded.specs.declared.bounded.Bounded.{Bounded}
-use Rattle.asn1_bounded.specs.declared.bounded.Bounded.TheVariants as bounded
+use Rattle.asn1_ranges.specs.declared.bounded.Bounded.{Bounded}
+use Rattle.asn1_ranges.specs.declared.bounded.Bounded.TheVariants as bounded
 use Rattle.asn1_bounds.specs.declared.value.Value.{Value}
 use Rattle.asn1_bounds.specs.declared.size.Size.{Size}
 use Rattle.asn1_bounds.specs.declared.alphabet.PermittedAlphabet.{PermittedAlphabet}
 use Rattle.asn1_bounds.specs.declared.extensible.Extensible.{Extensible}
 use Rattle.asn1_bounds.specs.declared.constraints.Constraints.{Constraints}
-use Rattle.asn1_bounds.specs.Kinds.{characters}
+use Rattle.asn1_bounds.specs.Admitted.{characters}
 
 -- One kind of constraint: what the extension root allows, and the additions of an extensible one (X.680, 50.1).
 pub record Part (T : Type 0) : Type 0 where

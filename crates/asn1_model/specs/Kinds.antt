@@ -6,8 +6,8 @@ use Rattle.std.specs.Option.{option_map}
 use Rattle.asn1_tags.specs.declared.tags.Tag.{Tag}
 use Rattle.asn1_tags.specs.Tags.{tag_eq, distinct}
 use Rattle.asn1_tags.specs.Trees.{Tree, Trees, leaf, choice, leaves}
-use Rattle.asn1_bounded.specs.Members.{IsMember}
-use Rattle.asn1_bounded.specs.declared.bounded.Bounded.{Bounded}
+use Rattle.asn1_ranges.specs.Members.{IsMember}
+use Rattle.asn1_ranges.specs.declared.bounded.Bounded.{Bounded}
 use Rattle.asn1_model.specs.ConstraintSets.{ConstraintSet, unconstrained, values_of, size_of}
 use Rattle.asn1_model.specs.Records.{Name, Record, name_or, Content, Head, arcs, number, null, units, utf8, scalar, discriminant, holding, sequence, set, sequence_of}
 use Rattle.asn1_model.specs.Tags.{universal, CHOICE, IsATag, IsOne, only}

@@ -3,7 +3,7 @@
 //! The clauses of the functions without a body are worked examples: the prover computes the definitions on them.
 ghost use Rattle.std.specs.Prelude.{◌≡◌, ◌^◌, ⊤, pos, true, false, List, [], ◌∷◌, ◌++◌, None, Some, codes};
 ghost use Rattle.std.specs.String.{string_bytes};
-ghost use Rattle.asn1_bounded.specs.declared.bounded.Bounded.TheVariants.{Range};
+ghost use Rattle.asn1_ranges.specs.declared.bounded.Bounded.TheVariants.{Range};
 ghost use Rattle.asn1_model.specs.Composites.{sequence_records, set_records, default_records, group_records, option_records, choice_records, prefix_records};
 ghost use Rattle.asn1_model.specs.ConstraintSets.{unconstrained, values_of, size_of};
 ghost use Rattle.asn1_model.specs.Kinds.{sequence_type, set_type, enumerated_type};

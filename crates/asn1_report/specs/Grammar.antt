@@ -7,8 +7,8 @@ use Rattle.asn1_tags.specs.Trees.{Tree, Trees, leaf, choice, none, more}
 use Rattle.asn1_tags.specs.declared.classes.Class.{Class}
 use Rattle.asn1_tags.specs.declared.classes.Class.TheVariants.{Universal, Application, Context, Private}
 use Rattle.asn1_tags.specs.declared.tags.Tag.{Tag}
-use Rattle.asn1_bounded.specs.declared.bounded.Bounded.{Bounded}
-use Rattle.asn1_bounded.specs.declared.bounded.Bounded.TheVariants as bounded
+use Rattle.asn1_ranges.specs.declared.bounded.Bounded.{Bounded}
+use Rattle.asn1_ranges.specs.declared.bounded.Bounded.TheVariants as bounded
 use Rattle.asn1_fields.specs.Components.{Component}
 use Rattle.asn1_fields.specs.declared.presence.FieldPresence.{FieldPresence}
 use Rattle.asn1_fields.specs.declared.presence.FieldPresence.TheVariants.{Required, Optional, Default}

@@ -2,9 +2,9 @@
 use Rattle.std.specs.Prelude.{ℕ, ℤ, ◌+◌, ◌-◌, ◌^◌, Bool, true, ◌&&◌, ◌++◌, min, nat_lt, if◌then◌else◌, codes, List, [], ◌∷◌, Option, None, Some, length, is_none, is_some, unwrap_or, option_map, option_and_then}
 use Rattle.std.specs.Option.{option_map_or}
 use Rattle.std.specs.Fmt.{decimal, signed_decimal}
-use Rattle.asn1_bounded.specs.Intersection.{intersection}
-use Rattle.asn1_bounded.specs.Text.{bound_text}
-use Rattle.asn1_bounded.specs.declared.bounded.Bounded.{Bounded}
+use Rattle.asn1_ranges.specs.Intersection.{intersection}
+use Rattle.asn1_ranges.specs.Text.{bound_text}
+use Rattle.asn1_ranges.specs.declared.bounded.Bounded.{Bounded}
 use Rattle.asn1_tags.specs.Tags.{distinct, smallest, tag_text}
 use Rattle.asn1_tags.specs.Trees.{leaves}
 use Rattle.asn1_tags.specs.declared.tags.Tag.{Tag}

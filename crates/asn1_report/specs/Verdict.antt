@@ -2,7 +2,7 @@
 use Rattle.std.specs.Prelude.{ℕ, ◌++◌, List, Option, Some, codes, option_map, option_and_then}
 use Rattle.std.specs.Fmt.{signed_decimal}
 use Rattle.std.specs.Option.{option_map_or}
-use Rattle.asn1_bounded.specs.Text.{bound_text}
+use Rattle.asn1_ranges.specs.Text.{bound_text}
 use Rattle.asn1_tags.specs.Trees.{leaves}
 use Rattle.asn1_report.specs.Grammar.{deepest, tree_line, tree_of}
 use Rattle.asn1_report.specs.Parts.{parts_of}

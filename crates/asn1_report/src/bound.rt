@@ -6,7 +6,7 @@ ghost use Rattle.asn1_report.specs.Grammar.{end_of, range_of, bound_of, bound_li
 use crate::names::is_name;
 use crate::number::read_integer;
 use crate::parts::Parts;
-use asn1_bounded::Bounded;
+use asn1_ranges::Bounded;
 
 // The end of a range, which may be missing.
 fn read_end(text: &[u8]) -> Option<Option<i128>>

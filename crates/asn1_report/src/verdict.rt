@@ -9,8 +9,8 @@ ghost use Rattle.asn1_report.specs.Report.{tree_verdict};
 ghost use Rattle.asn1_report.specs.Tables.{clash_of};
 
 use crate::kind::Kind;
-use asn1_bounded::Bounded;
 use asn1_clash::{FlatComponent, TreeSummary, is_canonical};
+use asn1_ranges::Bounded;
 use std::fmt;
 
 /// What is said of a tree: whether a tag stands twice, the smallest tag, and how many leaves there are.
@@ -53,7 +53,7 @@ pub(crate) struct Common(Option<Bounded<i128>>);
 
 impl Common {
     ghost use Rattle.std.specs.Prelude.{Some};
-    ghost use Rattle.asn1_bounded.specs.Intersection.{intersection};
+    ghost use Rattle.asn1_ranges.specs.Intersection.{intersection};
     ghost use Rattle.asn1_report.specs.Report.{common_text};
     ghost use Rattle.asn1_report.specs.Verdict.{text_of_common};
 

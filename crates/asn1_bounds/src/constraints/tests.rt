@@ -1,6 +1,6 @@
 use super::*;
 use crate::constraint::ConstraintDiscriminant;
-use asn1_bounded::Bounded;
+use asn1_ranges::Bounded;
 use std::process::Abort;
 
 fn value(start: i128, end: i128) -> Value {

@@ -1,7 +1,7 @@
 #![tactic(auto, using(asn1_tags::proofs::Leaves::tree_shapes))]
 
 ghost use Rattle.std.specs.Prelude.{⊤, [], ◌∷◌, None, Some, pos, codes, refl};
-ghost use Rattle.asn1_bounded.specs.declared.bounded.Bounded.TheVariants.{Single};
+ghost use Rattle.asn1_ranges.specs.declared.bounded.Bounded.TheVariants.{Single};
 ghost use Rattle.asn1_tags.specs.Trees.{choice, leaf, none, more};
 ghost use Rattle.asn1_model.specs.ConstraintSets.{unconstrained, values_of};
 ghost use Rattle.asn1_model.specs.Kinds.{choice_type};

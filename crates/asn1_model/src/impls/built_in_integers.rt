@@ -1,6 +1,6 @@
 //! The built-in integers: an INTEGER (X.680, 19) within the bound of the type.
 ghost use Rattle.std.specs.Prelude.{◌≡◌, ◌<◌, ◌^◌, pos, negsuc, None, Some, codes};
-ghost use Rattle.asn1_bounded.specs.declared.bounded.Bounded.TheVariants as bounded;
+ghost use Rattle.asn1_ranges.specs.declared.bounded.Bounded.TheVariants as bounded;
 ghost use Rattle.asn1_tags.specs.Names.{name_of};
 ghost use Rattle.asn1_model.specs.declared.type_table.TreeForm.TheVariants.{Leaf};
 ghost use Rattle.asn1_model.specs.ConstraintSets.{constraint_set, values_of};

@@ -1,6 +1,6 @@
 //! An INTEGER (X.680, 19) within limits.
 ghost use Rattle.std.specs.Prelude.{Some};
-ghost use Rattle.asn1_bounded.specs.declared.bounded.Bounded.TheVariants as bounded;
+ghost use Rattle.asn1_ranges.specs.declared.bounded.Bounded.TheVariants as bounded;
 ghost use Rattle.asn1_model.specs.Kinds.{integer_type, under_own_name};
 ghost use Rattle.asn1_model.specs.Laws.{scalar_tagged, own_name_tagged, whole_tagged};
 

@@ -1,5 +1,5 @@
 use Rattle.std.proofs.Common.{◌≡◌, ◌∙◌, ap, rules}
-use Rattle.asn1_bounds.specs.Kinds.{size_intersection}
+use Rattle.asn1_bounds.specs.Admitted.{size_intersection}
 use Rattle.asn1_bounds.proofs.KindLaws.{size_intersection-comm, size_intersection-assoc}
 use Rattle.asn1_bounds.proofs.size.Size.intersect.Goals as goal
 

@@ -1,5 +1,5 @@
 use Rattle.std.proofs.Common.{◌≡◌, ◌∙◌, ap, rules}
-use Rattle.asn1_bounds.specs.Kinds.{value_intersection}
+use Rattle.asn1_bounds.specs.Admitted.{value_intersection}
 use Rattle.asn1_bounds.proofs.KindLaws.{value_intersection-comm, value_intersection-assoc}
 use Rattle.asn1_bounds.proofs.value.Value.intersect.Goals as goal
 

@@ -3,10 +3,10 @@ ghost use Rattle.std.specs.Prelude.{◌≡◌, ◌↔◌, IsTrue, ◌≤ℤ◌, 
 ghost use Rattle.std.specs.Option.{ForSome, option_copied};
 ghost use Rattle.either.specs.Either.{IsLeftAnd};
 ghost use Rattle.either.specs.declared.Either.TheVariants.{Right};
-ghost use Rattle.asn1_bounded.specs.Count.{distance};
-ghost use Rattle.asn1_bounded.specs.Ends.{start_of, end_of, range_start};
-ghost use Rattle.asn1_bounded.specs.Members.{Holds, CountsMembers};
-ghost use Rattle.asn1_bounded.specs.Text.{bound_text};
+ghost use Rattle.asn1_ranges.specs.Count.{distance};
+ghost use Rattle.asn1_ranges.specs.Ends.{start_of, end_of, range_start};
+ghost use Rattle.asn1_ranges.specs.Members.{Holds, CountsMembers};
+ghost use Rattle.asn1_ranges.specs.Text.{bound_text};
 
 use crate::number::WholeNumber;
 use either::{Either, Left, Right};

@@ -3,8 +3,8 @@ use Rattle.std.specs.Prelude.{ℕ, List, [], Option, codes}
 use Rattle.std.specs.Fmt.{◌++?◌}
 use Rattle.std.specs.Option.{option_map_or}
 use Rattle.std.specs.declared.option.Option.TheVariants.{Some}
-use Rattle.asn1_bounded.specs.declared.bounded.Bounded.{Bounded}
-use Rattle.asn1_bounded.specs.declared.bounded.Bounded.TheVariants.{None, Single, Range}
+use Rattle.asn1_ranges.specs.declared.bounded.Bounded.{Bounded}
+use Rattle.asn1_ranges.specs.declared.bounded.Bounded.TheVariants.{None, Single, Range}
 
 -- `text` is the text of a value, or nothing where its type states none
 module _ {T : Type 0} (text : T → Option (List ℕ)) where

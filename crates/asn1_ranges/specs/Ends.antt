@@ -1,7 +1,7 @@
 -- The ends of a bound.
 use Rattle.std.specs.Prelude.{Bool, true, false, Option, None, Some}
-use Rattle.asn1_bounded.specs.declared.bounded.Bounded.{Bounded}
-use Rattle.asn1_bounded.specs.declared.bounded.Bounded.TheVariants as bounded
+use Rattle.asn1_ranges.specs.declared.bounded.Bounded.{Bounded}
+use Rattle.asn1_ranges.specs.declared.bounded.Bounded.TheVariants as bounded
 
 module _ {T : Type 0} where
   -- the least value that the bound names: a single is its own start

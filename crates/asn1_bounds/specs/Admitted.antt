@@ -2,12 +2,12 @@
 use Rattle.std.specs.Prelude.{ℕ, ℤ, pos, negsuc, FitsSigned, List, Some, IfSome}
 use Rattle.std.specs.Int.{w128}
 use Rattle.std.specs.Option.{option_map}
-use Rattle.asn1_bounded.specs.declared.bounded.Bounded.{Bounded}
-use Rattle.asn1_bounded.specs.declared.bounded.Bounded.TheVariants as bounded
+use Rattle.asn1_ranges.specs.declared.bounded.Bounded.{Bounded}
+use Rattle.asn1_ranges.specs.declared.bounded.Bounded.TheVariants as bounded
 use Rattle.asn1_bounds.specs.declared.alphabet.PermittedAlphabet.{PermittedAlphabet}
-use Rattle.asn1_bounded.specs.Ends.{start_of, end_of}
-use Rattle.asn1_bounded.specs.Intersection.{intersection_or}
-use Rattle.asn1_bounded.specs.Members.{IsMember}
+use Rattle.asn1_ranges.specs.Ends.{start_of, end_of}
+use Rattle.asn1_ranges.specs.Intersection.{intersection_or}
+use Rattle.asn1_ranges.specs.Members.{IsMember}
 
 -- the number is a member of a value constraint's bound
 abbrev pub HasValue : Bounded ℤ → ℤ → Type 0

@@ -1,7 +1,7 @@
 //! Bounds of integers: the least value, and membership of numbers of any size.
 ghost use Rattle.std.specs.Prelude.{◌≡◌, ◌↔◌, ◌≤ℤ◌, IsTrue, pos, IfSome, IfNone};
-ghost use Rattle.asn1_bounded.specs.Ends.{start_of};
-ghost use Rattle.asn1_bounded.specs.Members.{IsMember};
+ghost use Rattle.asn1_ranges.specs.Ends.{start_of};
+ghost use Rattle.asn1_ranges.specs.Members.{IsMember};
 
 use crate::bounded::Bounded;
 use asn1_values::IntegerType;

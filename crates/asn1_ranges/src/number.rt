@@ -3,7 +3,7 @@ ghost use Rattle.std.specs.Prelude.{◌≡◌, ℤ, pos, ◌≤ℤ◌, ◌^◌, 
 ghost use Rattle.std.specs.Int.{int_min};
 ghost use Rattle.std.specs.Ordering.{int_cmp};
 ghost use Rattle.std.proofs.Common.{rules, refl};
-ghost use Rattle.asn1_bounded.specs.Count.{numbers_between, distance};
+ghost use Rattle.asn1_ranges.specs.Count.{numbers_between, distance};
 
 /// A type of whole numbers, as each built-in integer is: what a bound needs of the type of its ends.
 ///

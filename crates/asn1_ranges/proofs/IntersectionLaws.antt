@@ -4,12 +4,12 @@ use Rattle.std.proofs.Common.{◌≡◌, ◌↔◌, ◌∙◌, sym, ap, ℤ, ◌
 use Rattle.std.specs.Prelude.{IfSome, IfNone, int_lt, unwrap_or}
 use Rattle.std.proofs.lemmas.Int.{ints}
 use Rattle.std.proofs.Math.Bool.{or_comm, or_assoc}
-use Rattle.asn1_bounded.specs.Ends.{start_of, end_of, is_single}
-use Rattle.asn1_bounded.specs.Intersection.{greater_start, lesser_end, bound_between, common, intersection, intersection_or}
-use Rattle.asn1_bounded.specs.Members.{IsMember}
-use Rattle.asn1_bounded.specs.declared.bounded.Bounded.{Bounded}
-use Rattle.asn1_bounded.specs.declared.bounded.Bounded.TheVariants as bounded
-use Rattle.asn1_bounded.proofs.Intersecting.{IsTight, tight-ends, tight-both, intersection-members, intersection-disjoint, intersection-common}
+use Rattle.asn1_ranges.specs.Ends.{start_of, end_of, is_single}
+use Rattle.asn1_ranges.specs.Intersection.{greater_start, lesser_end, bound_between, common, intersection, intersection_or}
+use Rattle.asn1_ranges.specs.Members.{IsMember}
+use Rattle.asn1_ranges.specs.declared.bounded.Bounded.{Bounded}
+use Rattle.asn1_ranges.specs.declared.bounded.Bounded.TheVariants as bounded
+use Rattle.asn1_ranges.proofs.Intersecting.{IsTight, tight-ends, tight-both, intersection-members, intersection-disjoint, intersection-common}
 
 module _ {T : Type 0} (number : T → ℤ) where
   greater_start-assoc : (a b c : Option T) → greater_start number (greater_start number a b) c ≡ greater_start number a (greater_start number b c)

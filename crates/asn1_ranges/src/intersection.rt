@@ -1,9 +1,9 @@
 //! What two bounds have in common.
 ghost use Rattle.std.specs.Prelude.{◌≡◌, IfSome, IfNone};
 ghost use Rattle.std.specs.Option.{option_copied};
-ghost use Rattle.asn1_bounded.specs.Ends.{is_single};
-ghost use Rattle.asn1_bounded.specs.Intersection.{greater_start, lesser_end, bound_between, common, intersection};
-ghost use Rattle.asn1_bounded.specs.Members.{Holds, HasMember, HasCommonMembers, AreDisjoint, IsOrdered};
+ghost use Rattle.asn1_ranges.specs.Ends.{is_single};
+ghost use Rattle.asn1_ranges.specs.Intersection.{greater_start, lesser_end, bound_between, common, intersection};
+ghost use Rattle.asn1_ranges.specs.Members.{Holds, HasMember, HasCommonMembers, AreDisjoint, IsOrdered};
 
 use crate::bounded::Bounded;
 use crate::number::WholeNumber;

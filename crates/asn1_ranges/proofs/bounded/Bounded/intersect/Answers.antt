@@ -1,6 +1,6 @@
 use Rattle.std.proofs.Common.{◌∙◌}
-use Rattle.asn1_bounded.proofs.Intersecting.{ordered-inhabited, intersection-IsCommon, intersection-None, intersection-common}
-use Rattle.asn1_bounded.proofs.bounded.Bounded.intersect.Goals as goal
+use Rattle.asn1_ranges.proofs.Intersecting.{ordered-inhabited, intersection-IsCommon, intersection-None, intersection-common}
+use Rattle.asn1_ranges.proofs.bounded.Bounded.intersect.Goals as goal
 
 pub returns-in-None-default-clause-inhabited : goal.returns-in-None-default-clause-inhabited
 returns-in-None-default-clause-inhabited g c = λ p q. ordered-inhabited _ _ q

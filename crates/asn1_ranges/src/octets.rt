@@ -1,6 +1,6 @@
 //! In how many octets the ends of a bound can be written.
 ghost use Rattle.std.specs.Prelude.{◌≡◌, ◌&&◌, find};
-ghost use Rattle.asn1_bounded.specs.Octets.{is_signed, fits_octets, octets_of};
+ghost use Rattle.asn1_ranges.specs.Octets.{is_signed, fits_octets, octets_of};
 
 use crate::bounded::Bounded;
 

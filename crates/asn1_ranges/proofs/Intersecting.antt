@@ -2,11 +2,11 @@
 use Rattle.std.proofs.Common.{◌≡◌, ◌↔◌, ℤ, pos, ◌≤ℤ◌, Bool, true, false, cond, ◌||◌, Option, Some, None, refl, ap, arith, rules}
 use Rattle.std.specs.Prelude.{IsSomeAnd, IfSome, IfNone, int_lt}
 use Rattle.std.proofs.lemmas.Int.{ints}
-use Rattle.asn1_bounded.specs.Ends.{start_of, end_of, is_single}
-use Rattle.asn1_bounded.specs.Intersection.{greater_start, lesser_end, bound_between, common, intersection}
-use Rattle.asn1_bounded.specs.Members.{IsFrom, IsUpTo, IsMember, IsOrdered}
-use Rattle.asn1_bounded.specs.declared.bounded.Bounded.{Bounded}
-use Rattle.asn1_bounded.specs.declared.bounded.Bounded.TheVariants as bounded
+use Rattle.asn1_ranges.specs.Ends.{start_of, end_of, is_single}
+use Rattle.asn1_ranges.specs.Intersection.{greater_start, lesser_end, bound_between, common, intersection}
+use Rattle.asn1_ranges.specs.Members.{IsFrom, IsUpTo, IsMember, IsOrdered}
+use Rattle.asn1_ranges.specs.declared.bounded.Bounded.{Bounded}
+use Rattle.asn1_ranges.specs.declared.bounded.Bounded.TheVariants as bounded
 
 IfSome-map : {T : Type 0} {P Q : T → Type 0} (o : Option T) → ((x : T) → P x → Q x) → IfSome o P → IfSome o Q
 IfSome-map None f h = h

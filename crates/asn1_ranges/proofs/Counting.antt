@@ -1,11 +1,11 @@
 -- The numbers from a first to a last one are as many as `numbers_between` says.
 use Rattle.std.proofs.Common.{◌≡◌, ℕ, ◌+◌, ◌<◌, ℤ, pos, negsuc, ◌+ℤ◌, ◌-ℤ◌, ◌≤ℤ◌, Some, refl, arith}
 use Rattle.std.proofs.lemmas.Int.{ints}
-use Rattle.asn1_bounded.specs.Count.{or_zero, numbers_between, HasCount}
-use Rattle.asn1_bounded.specs.Members.{IsMember}
-use Rattle.asn1_bounded.specs.Ends.{start_of, end_of}
-use Rattle.asn1_bounded.specs.declared.bounded.Bounded.{Bounded}
-use Rattle.asn1_bounded.specs.declared.bounded.Bounded.TheVariants as bounded
+use Rattle.asn1_ranges.specs.Count.{or_zero, numbers_between, HasCount}
+use Rattle.asn1_ranges.specs.Members.{IsMember}
+use Rattle.asn1_ranges.specs.Ends.{start_of, end_of}
+use Rattle.asn1_ranges.specs.declared.bounded.Bounded.{Bounded}
+use Rattle.asn1_ranges.specs.declared.bounded.Bounded.TheVariants as bounded
 
 below : (z : ℤ) (i : ℕ) → i < or_zero z → pos (i + 1) ≤ℤ z
 below (pos n) i h = grind (arith, ints)

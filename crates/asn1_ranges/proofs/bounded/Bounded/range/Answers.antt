@@ -1,6 +1,6 @@
 use Rattle.std.proofs.Common.{sym}
-use Rattle.asn1_bounded.proofs.Counting.{bound-count}
-use Rattle.asn1_bounded.proofs.bounded.Bounded.range.Goals as goal
+use Rattle.asn1_ranges.proofs.Counting.{bound-count}
+use Rattle.asn1_ranges.proofs.bounded.Bounded.range.Goals as goal
 
 pub returns-clause-counted : goal.returns-clause-counted
 returns-clause-counted g c =

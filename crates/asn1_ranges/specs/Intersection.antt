@@ -1,9 +1,9 @@
 -- The intersection of two bounds, in its exact shape.
 -- `number` says which whole number a value of the bounds' type is.
 use Rattle.std.specs.Prelude.{ℤ, int_lt, Bool, ◌||◌, Option, None, Some, unwrap_or, if◌then◌else◌}
-use Rattle.asn1_bounded.specs.declared.bounded.Bounded.{Bounded}
-use Rattle.asn1_bounded.specs.declared.bounded.Bounded.TheVariants as bounded
-use Rattle.asn1_bounded.specs.Ends.{start_of, end_of, is_single}
+use Rattle.asn1_ranges.specs.declared.bounded.Bounded.{Bounded}
+use Rattle.asn1_ranges.specs.declared.bounded.Bounded.TheVariants as bounded
+use Rattle.asn1_ranges.specs.Ends.{start_of, end_of, is_single}
 
 module _ {T : Type 0} (number : T → ℤ) where
   -- the greater of two starts, or the one that is there

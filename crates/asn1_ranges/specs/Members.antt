@@ -2,10 +2,10 @@
 -- `number` says which whole number a value of the bound's type is.
 use Rattle.std.specs.Prelude.{◌≡◌, ◌↔◌, ℕ, ℤ, pos, ◌≤ℤ◌, ⊤, Option, MatchOption}
 use Rattle.std.specs.Int.{int_min}
-use Rattle.asn1_bounded.specs.Count.{HasCount}
-use Rattle.asn1_bounded.specs.declared.bounded.Bounded.{Bounded}
-use Rattle.asn1_bounded.specs.declared.bounded.Bounded.TheVariants.{None, Single, Range}
-use Rattle.asn1_bounded.specs.Ends.{start_of, end_of}
+use Rattle.asn1_ranges.specs.Count.{HasCount}
+use Rattle.asn1_ranges.specs.declared.bounded.Bounded.{Bounded}
+use Rattle.asn1_ranges.specs.declared.bounded.Bounded.TheVariants.{None, Single, Range}
+use Rattle.asn1_ranges.specs.Ends.{start_of, end_of}
 
 module _ {T : Type 0} (number : T → ℤ) where
   -- not below the start, where there is one
