@@ -1,5 +1,5 @@
 -- The kinds of type, and what each of them means.
-use Rattle.std.specs.Prelude.{◌≡◌, ℕ, ℤ, ◌<◌, ◌^◌, ⊤, true, false, is_some, IsTrue, List, [], ◌∷◌, length, Option, None, Some, IfSome, All, codes, if◌then◌else◌}
+use Rattle.std.specs.Prelude.{◌≡◌, ℕ, ℤ, ◌<◌, ◌^◌, ⊤, Bool, true, false, is_some, IsTrue, List, [], ◌∷◌, length, Option, None, Some, IfSome, All, codes, refl, if◌then◌else◌}
 use Rattle.std.specs.List.{flat_map}
 use Rattle.std.specs.Str.{IsUtf8}
 use Rattle.std.specs.Option.{option_map}
@@ -10,9 +10,10 @@ use Rattle.asn1_ranges.specs.Members.{IsMember}
 use Rattle.asn1_ranges.specs.declared.bounded.Bounded.{Bounded}
 use Rattle.asn1_model.specs.ConstraintSets.{ConstraintSet, unconstrained, values_of, size_of}
 use Rattle.asn1_model.specs.Records.{Name, Record, name_or, Content, Head, arcs, number, null, units, utf8, scalar, discriminant, holding, sequence, set, sequence_of}
-use Rattle.asn1_model.specs.Tags.{universal, CHOICE, IsATag, IsOne, only}
+use Rattle.asn1_model.specs.Tags.{universal, CHOICE, Has, IsATag, head_tag, tree_tags}
 use Rattle.asn1_model.specs.Composites.{option_records, choice_records}
-use Rattle.asn1_model.specs.Meaning.{Meaning, own_records, IsSound}
+use Rattle.asn1_model.specs.Meaning.{Meaning, own_records, CanStandInside, CanStandInsideUnder}
+use Rattle.asn1_model.specs.OneRecord.{scalar_is_one, scope_is_one, choice_is_one}
 
 -- A type whose values are contents, each of them one record.
 abbrev pub scalar_type : {V : Type 0} → Tag → ConstraintSet → Name → (V → Content) → Meaning V
@@ -24,39 +25,53 @@ scalar_type tag constraints name content = record {
   is_choice = false;
   is_present = λ _. true;
   records = λ v t c n. scalar t c n (content v) ∷ [];
-  IsSolid = ⊤;
+  IsSingleRecord = ⊤;
   IsWellTagged = IsATag;
-  IsWhole = λ _ _. ⊤;
+  IsOfType = λ _. ⊤;
+  IsValid = λ _ _. ⊤;
+  one_record = λ v t c n _ _. scalar_is_one t c n (content v);
 }
 
 -- the type, whose values are written without constraints
 abbrev pub without_constraints : {V : Type 0} → Meaning V → Meaning V
-without_constraints m = record m { records = λ v t c n. m.records v t unconstrained n }
+without_constraints m = record m {
+  records = λ v t c n. m.records v t unconstrained n;
+  one_record = λ v t c n. m.one_record v t unconstrained n;
+}
 
 -- the type, whose values are written under its own name where no other is given
 abbrev pub under_own_name : {V : Type 0} → Meaning V → Meaning V
-under_own_name m = record m { records = λ v t c n. m.records v t c (name_or n m.name) }
+under_own_name m = record m {
+  records = λ v t c n. m.records v t c (name_or n m.name);
+  one_record = λ v t c n. m.one_record v t c (name_or n m.name);
+}
 
 -- A kind of string (X.680, 22, 23 and 41), by its tag, its name, the units that a string can hold, and what these are to
 -- a codec.
 abbrev pub string_type : {U : Type 0} → Tag → List ℕ → (U → Type 0) → (List U → Content) → Meaning (List U)
 string_type tag name IsUnit content =
-    under_own_name (record (scalar_type tag unconstrained (Some name) content) { IsWhole = λ _ units. All IsUnit units })
+    under_own_name (record (scalar_type tag unconstrained (Some name) content) { IsOfType = λ units. All IsUnit units })
 
 -- A UTF8String (X.680, 41), by its bytes, which are those of a text.
 abbrev pub utf8_string : {V : Type 0} → (V → List ℕ) → Meaning V
 utf8_string bytes = under_own_name (record (scalar_type (universal 12) unconstrained (Some (codes "UTF8String")) (λ v. units utf8 (bytes v))) {
-  IsWhole = λ _ v. IsUtf8 (bytes v);
+  IsOfType = λ v. IsUtf8 (bytes v);
 })
 
 -- An OBJECT IDENTIFIER (X.680, 32), whose arcs have 32 bits.
 abbrev pub object_identifier : Meaning (List ℕ)
 object_identifier = without_constraints (string_type (universal 6) (codes "OBJECT_IDENTIFIER") (λ arc. arc < 2 ^ 32) arcs)
 
--- An INTEGER (X.680, 19) within a bound: a value can be none but a member.
+-- An INTEGER (X.680, 19) whose values are the members of a bound.
 abbrev pub integer_type : {V : Type 0} → (V → ℤ) → Bounded ℤ → Meaning V
 integer_type number_of bound = record (scalar_type (universal 2) (values_of bound) (Some (codes "INTEGER")) (λ v. number (number_of v))) {
-  IsWhole = λ _ v. IsMember (λ n. n) bound (number_of v);
+  IsOfType = λ v. IsMember (λ n. n) bound (number_of v);
+}
+
+-- An INTEGER with limits (X.680, 19 and 51.4): a number of any size, which is valid if and only if it is a member.
+abbrev pub limited_integer_type : Bounded ℤ → Meaning ℤ
+limited_integer_type bound = record (scalar_type (universal 2) (values_of bound) (Some (codes "INTEGER")) number) {
+  IsValid = λ _ n. IsMember (λ z. z) bound n;
 }
 
 -- An INTEGER (X.680, 19) of any size.
@@ -73,9 +88,11 @@ through target m = record {
   is_choice = m.is_choice;
   is_present = λ w. m.is_present (target w);
   records = λ w. m.records (target w);
-  IsSolid = m.IsSolid;
+  IsSingleRecord = m.IsSingleRecord;
   IsWellTagged = m.IsWellTagged;
-  IsWhole = λ Takes w. m.IsWhole Takes (target w);
+  IsOfType = λ w. m.IsOfType (target w);
+  IsValid = λ takes w. m.IsValid takes (target w);
+  one_record = λ w. m.one_record (target w);
 }
 
 -- A component that may be absent (X.680, 25.1). It is no record of its own where it is absent, so it stands directly as
@@ -89,50 +106,62 @@ option_type m = record {
   is_choice = m.is_choice;
   is_present = λ o. is_some o;
   records = λ o t c n. option_records t (option_map (λ v. m.records v t c n) o);
-  IsSolid = ⊥;
-  IsWellTagged = λ t. m.IsSolid × m.IsWellTagged t;
-  IsWhole = λ Takes o. IfSome o (m.IsWhole Takes);
+  IsSingleRecord = ⊥;
+  IsWellTagged = CanStandInsideUnder m;
+  IsOfType = λ o. IfSome o m.IsOfType;
+  IsValid = λ takes o. IfSome o (m.IsValid takes);
+  one_record = λ v t c n single _. absurd single;
 }
 
--- A type whose value is one record that holds others: by the head of that record, the type's tag, constraints and name,
--- the records that stand inside, whether what stands there is sound, with distinct tags, and whether it is whole.
-abbrev pub scope_type : {V : Type 0} → (Tag → ConstraintSet → Name → Head) →
-    Tag → ConstraintSet → Name → (V → List Record) → Type 0 → ((List ℕ → Type 0) → V → Type 0) → Meaning V
-scope_type head tag constraints name inside AreSound AreWhole = record {
+-- What a type of values that hold others says of what is inside: whether its types can be there, with distinct tags;
+-- whether a value's are of their types; and whether they are valid.
+pub record Inside (V : Type 0) : Type 1 where
+  pub records : V → List Record
+  pub CanStandInside : Type 0
+  pub AreOfType : V → Type 0
+  pub AreValid : (List ℕ → Bool) → V → Type 0
+
+-- A type whose value is one record that holds others: by the head of that record, which has the tag that the type is
+-- written under, the type's tag, constraints and name, and what is inside.
+abbrev pub scope_type : {V : Type 0} → (head : Tag → ConstraintSet → Name → Head) →
+    ((t : Tag) (c : ConstraintSet) (n : Name) → head_tag (head t c n) ≡ t) →
+    Tag → ConstraintSet → Name → Inside V → Meaning V
+scope_type head at tag constraints name inside = record {
   tag = tag;
   name = name;
   constraints = constraints;
   tree = leaf;
   is_choice = false;
   is_present = λ _. true;
-  records = λ v t c n. holding (head t c n) (inside v) ∷ [];
-  IsSolid = ⊤;
-  IsWellTagged = λ t. IsATag t × AreSound;
-  IsWhole = AreWhole;
+  records = λ v t c n. holding (head t c n) (inside.records v) ∷ [];
+  IsSingleRecord = ⊤;
+  IsWellTagged = λ t. IsATag t × inside.CanStandInside;
+  IsOfType = inside.AreOfType;
+  IsValid = inside.AreValid;
+  one_record = λ v t c n _ _. scope_is_one t (head t c n) (inside.records v) (at t c n);
 }
 
 -- A type of elements of one type, by the head of its record, its tag, name and constraints.
-abbrev pub elements_type : {V W : Type 0} → (Tag → ConstraintSet → Name → Head) →
+abbrev pub elements_type : {V W : Type 0} → (head : Tag → ConstraintSet → Name → Head) →
+    ((t : Tag) (c : ConstraintSet) (n : Name) → head_tag (head t c n) ≡ t) →
     Tag → List ℕ → ConstraintSet → (W → List V) → Meaning V → Meaning W
-elements_type head tag name constraints elements m =
-    under_own_name (
-    scope_type
-    head
-    tag
-    constraints
-    (Some name)
-    (λ w. flat_map (own_records m) (elements w))
-    (IsSound m)
-    (λ Takes w. All (m.IsWhole Takes) (elements w)))
+elements_type head at tag name constraints elements m =
+    under_own_name (scope_type head at tag constraints (Some name) (record {
+      records = λ w. flat_map (own_records m) (elements w);
+      CanStandInside = CanStandInside m;
+      AreOfType = λ w. All m.IsOfType (elements w);
+      AreValid = λ takes w. All (m.IsValid takes) (elements w);
+    }))
 
 -- A SEQUENCE OF (X.680, 26).
 abbrev pub list_type : {V W : Type 0} → (W → List V) → ConstraintSet → Meaning V → Meaning W
-list_type elements constraints = elements_type sequence_of (universal 16) (codes "SEQUENCE_OF") constraints elements
+list_type elements constraints =
+    elements_type sequence_of (λ _ _ _. refl) (universal 16) (codes "SEQUENCE_OF") constraints elements
 
 -- A SEQUENCE OF so many elements.
 abbrev pub array_type : {V : Type 0} → ℕ → Meaning V → Meaning (List V)
 array_type size m = record (list_type (λ elements. elements) (size_of size) m) {
-  IsWhole = λ Takes elements. (length elements ≡ size) × All (m.IsWhole Takes) elements;
+  IsOfType = λ elements. (length elements ≡ size) × All m.IsOfType elements;
 }
 
 -- A type without any content, which stands in no other.
@@ -145,9 +174,11 @@ empty_type = record {
   is_choice = false;
   is_present = λ _. true;
   records = λ _ _ _ _. [];
-  IsSolid = ⊥;
+  IsSingleRecord = ⊥;
   IsWellTagged = λ _. ⊥;
-  IsWhole = λ _ _. ⊤;
+  IsOfType = λ _. ⊤;
+  IsValid = λ _ _. ⊤;
+  one_record = λ v t c n single _. absurd single;
 }
 
 -- The marker of a tag that X.680 assigns (8.4, table 1): a NULL under this tag.
@@ -159,36 +190,39 @@ abbrev pub enumerated_type : {V : Type 0} → Tag → ConstraintSet → Name →
 enumerated_type tag constraints name number_of =
     without_constraints (scalar_type tag constraints name (λ v. discriminant (number_of v)))
 
--- A SEQUENCE (X.680, 25), whose components that may be absent have tags that those behind them have not, and a SET
--- (X.680, 27), whose components all have distinct tags: by its tag, constraints and name, the records of a value's
--- components, whether these have distinct tags and are sound, and whether they are whole.
-abbrev pub sequence_type : {V : Type 0} →
-    Tag → ConstraintSet → Name → (V → List Record) → Type 0 → ((List ℕ → Type 0) → V → Type 0) → Meaning V
-sequence_type = scope_type (λ t c n. sequence t n)
+-- A SEQUENCE (X.680, 25) or a SET (27), by its tag, constraints and name, and its components.
+abbrev pub sequence_type : {V : Type 0} → Tag → ConstraintSet → Name → Inside V → Meaning V
+sequence_type = scope_type (λ t c n. sequence t n) (λ _ _ _. refl)
 
-abbrev pub set_type : {V : Type 0} →
-    Tag → ConstraintSet → Name → (V → List Record) → Type 0 → ((List ℕ → Type 0) → V → Type 0) → Meaning V
-set_type = scope_type (λ t c n. set t n)
+abbrev pub set_type : {V : Type 0} → Tag → ConstraintSet → Name → Inside V → Meaning V
+set_type = scope_type (λ t c n. set t n) (λ _ _ _. refl)
 
 -- the tags with which a CHOICE can begin: those of its alternatives where it is untagged, else the tag alone (X.680, 29)
 abbrev pub choice_tree : Tree → Tag → Tree
 choice_tree alternatives t = if tag_eq t CHOICE then alternatives else leaf t
 
--- A CHOICE (X.680, 29), by its name and constraints, the trees of its alternatives, the tag and the records of the chosen
--- one, whether the types of all are sound, and whether the chosen one is whole. Untagged it begins with the tag of the
--- chosen one. It is well tagged where no tag stands twice among its alternatives (29.3), and the chosen one is always
--- one record that begins with its tag.
-abbrev pub choice_type : {V : Type 0} →
-    Name → ConstraintSet → Trees → (V → Tag) → (V → List Record) → Type 0 → ((List ℕ → Type 0) → V → Type 0) → Meaning V
-choice_type {V = V} name constraints alternatives chosen alternative AreSound AreWhole = record {
+-- What a CHOICE says of its alternatives: their trees, and of each value the tag of the chosen one, which is one of
+-- theirs, as the first tag of what is inside.
+pub record Chosen {V : Type 0} (inside : Inside V) : Type 0 where
+  pub alternatives : Trees
+  pub tag : V → Tag
+  pub among : inside.CanStandInside → (v : V) → Has (tree_tags (choice alternatives)) (tag v)
+
+-- A CHOICE (X.680, 29), by its name and constraints, the chosen alternative, and what is said of all. Untagged it begins
+-- with the tag of the chosen one. It is well tagged where no tag is twice among its alternatives (29.3) and their types
+-- can be there.
+abbrev pub choice_type : {V : Type 0} → Name → ConstraintSet → (inside : Inside V) → Chosen inside → Meaning V
+choice_type name constraints inside chosen = record {
   tag = CHOICE;
   name = name;
   constraints = constraints;
-  tree = choice_tree (choice alternatives);
+  tree = choice_tree (choice chosen.alternatives);
   is_choice = true;
   is_present = λ _. true;
-  records = λ v. choice_records (chosen v) (alternative v) constraints name;
-  IsSolid = ⊤;
-  IsWellTagged = λ _. IsTrue (distinct (leaves (choice alternatives))) × ((v : V) → IsOne (only (chosen v)) (alternative v)) × AreSound;
-  IsWhole = AreWhole;
+  records = λ v. choice_records (chosen.tag v) (inside.records v) constraints name;
+  IsSingleRecord = ⊤;
+  IsWellTagged = λ _. IsTrue (distinct (leaves (choice chosen.alternatives))) × inside.CanStandInside;
+  IsOfType = inside.AreOfType;
+  IsValid = inside.AreValid;
+  one_record = λ v t c n _ well. choice_is_one (choice chosen.alternatives) (chosen.tag v) (inside.records v) constraints name (chosen.among well.1 v) t c n;
 }

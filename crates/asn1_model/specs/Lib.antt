@@ -6,4 +6,4 @@ pub mod Composites
 pub mod Meaning
 pub mod Kinds
 pub mod TypeTables
-pub mod Laws
+pub mod OneRecord

@@ -4,7 +4,7 @@ use Rattle.asn1_tags.specs.declared.tags.Tag.{Tag}
 use Rattle.asn1_tags.specs.Trees.{Tree}
 use Rattle.asn1_model.specs.ConstraintSets.{ConstraintSet}
 use Rattle.asn1_model.specs.Records.{Name, Record}
-use Rattle.asn1_model.specs.Tags.{Tags, tree_tags, IsOne}
+use Rattle.asn1_model.specs.Tags.{Tags, tree_tags, IsOneRecord}
 
 -- The meaning of a type with the values V.
 pub record Meaning (V : Type 0) : Type 1 where
@@ -20,16 +20,23 @@ pub record Meaning (V : Type 0) : Type 1 where
   pub is_present : V → Bool
   -- what a value is under a tag, constraints and a name
   pub records : V → Tag → ConstraintSet → Name → List Record
-  -- each value is one record: so for every type but an option, which may be absent, a type without any content, and what
-  -- holds one of these and means the same
-  pub IsSolid : Type 0
+  -- each value is a single record: so for every type but an option, which may be absent, a type without any content, and
+  -- what holds one of these and means the same
+  pub IsSingleRecord : Type 0
   -- the type can be written under this tag; where it has components or alternatives, these have distinct tags (X.680,
-  -- 25.6, 27.3 and 29.3); and what stands in it is sound
+  -- 25.6, 27.3 and 29.3); and the types inside it can be there
   pub IsWellTagged : Tag → Type 0
-  -- the value is one that its types allow: its numbers are within the range of their types, its strings have the units
-  -- of their kinds (a UTF8String the bytes of a text), its arrays are as long as they say; and each open type in it is
-  -- one value of the codec, which takes the byte strings of a set as one value each
-  pub IsWhole : (List ℕ → Type 0) → V → Type 0
+  -- what every value has that a program can make: its numbers are within the range of their types, its strings have the
+  -- units of their kinds (a UTF8String the bytes of a text), its arrays are as long as they say
+  pub IsOfType : V → Type 0
+  -- what is asked of whoever writes the value: each open type in it holds one value of the codec, which tells by a test
+  -- the byte strings that it takes as one; each group that is there writes a component; and each INTEGER with limits is
+  -- within them
+  pub IsValid : (List ℕ → Bool) → V → Type 0
+  -- The law of types: where each value is a single record and the type is well tagged, that record is no mark, and begins
+  -- with one of the type's tags.
+  pub one_record : (v : V) (t : Tag) (c : ConstraintSet) (n : Name) →
+      IsSingleRecord → IsWellTagged t → IsOneRecord (tree_tags (tree t)) (records v t c n)
 
 module _ {V : Type 0} (m : Meaning V) where
   -- the tags with which a value under the tag can begin
@@ -40,11 +47,10 @@ module _ {V : Type 0} (m : Meaning V) where
   abbrev pub own_records : V → List Record
   own_records v = m.records v m.tag m.constraints m.name
 
-  -- the type can stand in another under its own tag
-  abbrev pub IsSound : Type 0
-  IsSound = m.IsSolid × m.IsWellTagged m.tag
+  -- the type can be inside another, under this tag
+  abbrev pub CanStandInsideUnder : Tag → Type 0
+  CanStandInsideUnder t = m.IsSingleRecord × m.IsWellTagged t
 
--- The law of types: a value of a solid and well-tagged type is one record that is no mark, and begins with one of the
--- type's tags.
-pub record IsTagged {V : Type 0} (m : Meaning V) : Type 0 where
-  pub one : (v : V) (t : Tag) (c : ConstraintSet) (n : Name) → m.IsSolid → m.IsWellTagged t → IsOne (tags m t) (m.records v t c n)
+  -- the type can be inside another, under its own tag
+  abbrev pub CanStandInside : Type 0
+  CanStandInside = CanStandInsideUnder m.tag

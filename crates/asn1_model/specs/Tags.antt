@@ -69,7 +69,7 @@ first_tags [] = among []
 first_tags (r ∷ rs) = if is_mark r then first_tags rs else record_tags r
 
 -- The list is one record, which is no mark, and its first tags lie in these.
-pub record IsOne (tags : Tags) (rs : List Record) : Type 0 where
+pub record IsOneRecord (tags : Tags) (rs : List Record) : Type 0 where
   pub item : Record
   pub alone : rs ≡ item ∷ []
   pub no_mark : is_mark item ≡ false

@@ -4,7 +4,7 @@ ghost use Rattle.asn1_tags.specs.declared.tags.Tag.{Tag};
 ghost use Rattle.asn1_tags.specs.Names.{name_of};
 ghost use Rattle.asn1_tags.specs.Trees.{shape};
 ghost use Rattle.asn1_model.specs.ConstraintSets.{constraint_set};
-ghost use Rattle.asn1_model.specs.Meaning.{Meaning, IsTagged};
+ghost use Rattle.asn1_model.specs.Meaning.{Meaning};
 ghost use Rattle.asn1_model.specs.TypeTables.{tree_under, is_of_choice};
 
 use crate::type_table::TypeTable;
@@ -13,7 +13,9 @@ use asn1_tags::{Identifier, Tag, TagTree};
 
 /// A type of ASN.1: what a schema says of it, and what its values mean.
 ///
-/// An implementation states the meaning, the table and whether a value is there; the other functions read the table.
+/// An implementation states the meaning, the table and whether a value is there; the other functions read the table. With
+/// the meaning it proves the law of types (`one_record`): a value of a type whose values are single records, and whose
+/// tags are distinct, is one record, and begins with one of the type's tags. Each word for a kind of type has the proof.
 pub trait AsnType {
     // What the type means to every codec.
     ghost meaning: { Meaning Self };
@@ -72,11 +74,4 @@ pub trait AsnType {
     {
         Self::table().constraints
     }
-}
-
-/// A type whose values are told apart by its tags: a value of a type that is no option, and whose contents are
-/// well tagged, is one record, and begins with one of the type's tags.
-pub trait Tagged: AsnType {
-    // The law.
-    ghost tagged: { IsTagged Self.meaning };
 }

@@ -6,8 +6,7 @@
 //!
 //! | Item | What it is |
 //! |---|---|
-//! | [`AsnType`] | a type: its table, and by `meaning` what its values are |
-//! | [`Tagged`] | the law of types: a value of a solid and well-tagged type is one record, which begins with one of its tags |
+//! | [`AsnType`] | a type: its table, and by `meaning` what its values are, with the law of types |
 //! | [`StringType`] | what a kind of string is: its tag, its name, and what its units are to a codec |
 //! | [`TypeTable`], [`TreeForm`] | what a schema says of a type; how its tree of tags follows from the tag that it is written under |
 //! | [`tag`] | markers of the tags that X.680 assigns |
@@ -22,14 +21,18 @@
 //!   `is_choice`, `is_present` and `tag_tree`. So the tables of a type and its records cannot disagree.
 //! - Records that are the same up to the order inside sets begin with the same tags and are as high
 //!   (`order_inside_sets_is_not_seen`).
-//! - `Tagged` is proved for each type here (`IsTagged` in `specs/Meaning.antt`).
+//! - The law of types is a part of each meaning (`one_record` of `specs/Meaning.antt`): a value of a type whose values are
+//!   single records (`IsSingleRecord`), and whose tags are distinct (`IsWellTagged`), is one record, which begins with one
+//!   of the type's tags.
+//! - A meaning tells apart what every value has that a program can make (`IsOfType`) and what is asked of whoever writes it
+//!   (`IsValid`).
 //! - `specs/Records.antt` has the records, marks and heights; `specs/Tags.antt` the first tags of a list of records and
 //!   the tags of a tree; `specs/Orders.antt` what it is to be the same up to order; `specs/ConstraintSets.antt` a set of
 //!   constraints apart from where it lies in memory; `specs/TypeTables.antt` the tree of tags that a table stands for.
 //! - `specs/Composites.antt` has the records of what is put together of parts, a word for each: `sequence_records`,
 //!   `option_records`, `group_records` and their kin. `specs/Meaning.antt` says what a meaning is, and `specs/Kinds.antt`
-//!   has that of each kind of type: `scalar_type`, `list_type`, `option_type` and so on. `specs/Laws.antt` has the proofs
-//!   of the law of types for each kind.
+//!   has that of each kind of type: `scalar_type`, `list_type`, `option_type` and so on. `specs/OneRecord.antt` has what
+//!   the law of types rests on.
 //!
 //! No call takes memory.
 #![tactic(auto, using(asn1_tags::proofs::Leaves::tree_shapes))]
@@ -43,7 +46,7 @@ pub mod tag;
 mod tests;
 mod type_table;
 
-pub use asn_type::{AsnType, Tagged};
+pub use asn_type::AsnType;
 pub use orders::order_inside_sets_is_not_seen;
 pub use strings::StringType;
 pub use type_table::{TreeForm, TypeTable};

@@ -1,9 +1,8 @@
 //! Markers of the tags that X.680 assigns (8.4, table 1), for types that name a tag by a type.
 ghost use Rattle.asn1_model.specs.Kinds.{marker_type};
-ghost use Rattle.asn1_model.specs.Laws.{scalar_tagged, unconstrained_tagged};
 ghost use Rattle.asn1_model.specs.Tags.{universal};
 
-use crate::asn_type::{AsnType, Tagged};
+use crate::asn_type::AsnType;
 use crate::type_table::TypeTable;
 use asn1_tags::{Class, Identifier, Tag};
 
@@ -21,10 +20,6 @@ impl<const NUMBER: u32> AsnType for Marker<NUMBER> {
     fn is_present(&self) -> bool {
         true
     }
-}
-
-impl<const NUMBER: u32> Tagged for Marker<NUMBER> {
-    ghost tagged = { unconstrained_tagged scalar_tagged };
 }
 
 /// The tag of end of contents.

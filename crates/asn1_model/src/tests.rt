@@ -1,12 +1,12 @@
 //! What the definitions give for values of a few types, each written out by hand, and the tables of a type of each kind.
 //!
 //! The clauses of the functions without a body are worked examples: the prover computes the definitions on them.
-ghost use Rattle.std.specs.Prelude.{◌≡◌, ◌^◌, ⊤, pos, true, false, List, [], ◌∷◌, ◌++◌, None, Some, codes};
+ghost use Rattle.std.specs.Prelude.{◌≡◌, ◌^◌, ℕ, Bool, pos, true, false, List, [], ◌∷◌, ◌++◌, None, Some, codes};
 ghost use Rattle.std.specs.String.{string_bytes};
 ghost use Rattle.asn1_ranges.specs.declared.bounded.Bounded.TheVariants.{Range};
 ghost use Rattle.asn1_model.specs.Composites.{sequence_records, set_records, default_records, group_records, option_records, choice_records, prefix_records};
 ghost use Rattle.asn1_model.specs.ConstraintSets.{unconstrained, values_of, size_of};
-ghost use Rattle.asn1_model.specs.Kinds.{sequence_type, set_type, enumerated_type};
+ghost use Rattle.asn1_model.specs.Kinds.{Inside, sequence_type, set_type, enumerated_type};
 ghost use Rattle.asn1_model.specs.Meaning.{own_records};
 ghost use Rattle.asn1_model.specs.Orders.{Same};
 ghost use Rattle.asn1_model.specs.Records.{Record, scalar, raw, mark, holding, sequence, set as set_head, set_of, sequence_of, prefix, alternative, present, absent, group_start, group_absent, group_end, null, number, discriminant, units, utf8, ia5, highest};
@@ -127,24 +127,32 @@ fn choice()
 
 /// The words for types of components, and for enumerations.
 fn kinds()
-    ensures sequence { (rs : List Record) → own_records (sequence_type (universal 16) unconstrained None (λ components. components) ⊤ (λ _ _. ⊤)) rs ≡
-        sequence_records (universal 16) None rs }
-    ensures set { (rs : List Record) → own_records (set_type (universal 17) unconstrained None (λ components. components) ⊤ (λ _ _. ⊤)) rs ≡
-        set_records (universal 17) None rs }
+    ensures sequence { (inside : Inside (List Record)) (rs : List Record) → own_records (sequence_type (universal 16) unconstrained None inside) rs ≡
+        sequence_records (universal 16) None (inside.records rs) }
+    ensures set { (inside : Inside (List Record)) (rs : List Record) → own_records (set_type (universal 17) unconstrained None inside) rs ≡
+        set_records (universal 17) None (inside.records rs) }
     ensures enumerated { own_records (enumerated_type (universal 10) (size_of 1) (Some (codes "E")) (λ number. number)) (pos 5) ≡
         scalar (universal 10) unconstrained (Some (codes "E")) (discriminant (pos 5)) ∷ [] }
 {}
 
-/// Whole values have numbers within their bounds, elements as many as an array has, and units of their alphabets.
-fn whole_values()
-    ensures octet { ⟦<u8 as AsnType>⟧.meaning.IsWhole (λ _. ⊤) 255 }
-    ensures above_an_octet { ¬ ⟦<u8 as AsnType>⟧.meaning.IsWhole (λ _. ⊤) 256 }
-    ensures above_u128 { ¬ ⟦<u128 as AsnType>⟧.meaning.IsWhole (λ _. ⊤) (2 ^ 128) }
-    ensures above_the_limit { ¬ ⟦<ConstrainedInteger<1, 10> as AsnType>⟧.meaning.IsWhole (λ _. ⊤) (pos 11) }
-    ensures a_pair { ⟦<[u8; 2] as AsnType>⟧.meaning.IsWhole (λ _. ⊤) (1 ∷ 2 ∷ []) }
-    ensures no_pair { ¬ ⟦<[u8; 2] as AsnType>⟧.meaning.IsWhole (λ _. ⊤) (1 ∷ 2 ∷ 3 ∷ []) }
-    ensures digits { ⟦<NumericString as AsnType>⟧.meaning.IsWhole (λ _. ⊤) (codes "12") }
-    ensures no_digits { ¬ ⟦<NumericString as AsnType>⟧.meaning.IsWhole (λ _. ⊤) (codes "1x") }
+/// What values have by their types: numbers within the range of a built-in integer, elements as many as an array has, and
+/// units of the alphabet.
+fn values_of_types()
+    ensures octet { ⟦<u8 as AsnType>⟧.meaning.IsOfType 255 }
+    ensures above_an_octet { ¬ ⟦<u8 as AsnType>⟧.meaning.IsOfType 256 }
+    ensures above_u128 { ¬ ⟦<u128 as AsnType>⟧.meaning.IsOfType (2 ^ 128) }
+    ensures octets { ¬ ⟦<OctetString as AsnType>⟧.meaning.IsOfType (255 ∷ 256 ∷ []) }
+    ensures a_pair { ⟦<[u8; 2] as AsnType>⟧.meaning.IsOfType (1 ∷ 2 ∷ []) }
+    ensures no_pair { ¬ ⟦<[u8; 2] as AsnType>⟧.meaning.IsOfType (1 ∷ 2 ∷ 3 ∷ []) }
+    ensures digits { ⟦<NumericString as AsnType>⟧.meaning.IsOfType (codes "12") }
+    ensures no_digits { ¬ ⟦<NumericString as AsnType>⟧.meaning.IsOfType (codes "1x") }
+{}
+
+/// What is asked of a value: an INTEGER with limits is within them, and of a type of other values nothing.
+fn valid_values()
+    ensures within { (takes : List ℕ → Bool) → ⟦<ConstrainedInteger<1, 10> as AsnType>⟧.meaning.IsValid takes (pos 10) }
+    ensures above { (takes : List ℕ → Bool) → ¬ ⟦<Option<ConstrainedInteger<1, 10>> as AsnType>⟧.meaning.IsValid takes (Some (pos 11)) }
+    ensures octets { (takes : List ℕ → Bool) (octets : List ℕ) → ⟦<&OctetString as AsnType>⟧.meaning.IsValid takes (record { now = octets }) }
 {}
 
 /// A type that is no CHOICE has a tag, and an option stands in no list and in no option.

@@ -6,9 +6,8 @@ ghost use Rattle.std.specs.Hash as fed;
 ghost use Rattle.std.specs.Hash.{items_Alike, same_Alike};
 ghost use Rattle.std.specs.Ordering.{nat_cmp};
 ghost use Rattle.asn1_types.specs.Kinds.{any_type};
-ghost use Rattle.asn1_types.specs.Laws.{any_tagged};
 
-use asn1_model::{AsnType, Tagged, TreeForm, TypeTable};
+use asn1_model::{AsnType, TreeForm, TypeTable};
 use asn1_tags::{Identifier, Tag};
 use std::alloc::{AllocError, Global};
 use std::cmp::Ordering;
@@ -133,8 +132,4 @@ impl AsnType for Any {
     fn is_present(&self) -> bool {
         true
     }
-}
-
-impl Tagged for Any {
-    ghost tagged = { any_tagged (λ any. any) };
 }

@@ -2,9 +2,8 @@
 ghost use Rattle.std.specs.Prelude.{◌≡◌};
 ghost use Rattle.std.specs.Borrow.{Lends, sem};
 ghost use Rattle.asn1_types.specs.Kinds.{explicit_type};
-ghost use Rattle.asn1_types.specs.Laws.{explicit_tagged};
 
-use asn1_model::{AsnType, Tagged, TypeTable};
+use asn1_model::{AsnType, TypeTable};
 use asn1_tags::Identifier;
 use std::marker::PhantomData;
 
@@ -66,8 +65,4 @@ impl<T: AsnType, V: AsnType> AsnType for Explicit<T, V> {
     fn is_present(&self) -> bool {
         true
     }
-}
-
-impl<T: AsnType, V: AsnType> Tagged for Explicit<T, V> {
-    ghost tagged = { explicit_tagged T.meaning.tag (λ explicit. explicit.value) V.meaning };
 }

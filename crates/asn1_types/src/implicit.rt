@@ -2,9 +2,8 @@
 ghost use Rattle.std.specs.Prelude.{◌≡◌};
 ghost use Rattle.std.specs.Borrow.{Lends, sem};
 ghost use Rattle.asn1_types.specs.Kinds.{implicit_type};
-ghost use Rattle.asn1_types.specs.Laws.{implicit_tagged};
 
-use asn1_model::{AsnType, Tagged, TypeTable};
+use asn1_model::{AsnType, TypeTable};
 use asn1_tags::Identifier;
 use std::marker::PhantomData;
 
@@ -66,8 +65,4 @@ impl<T: AsnType, V: AsnType> AsnType for Implicit<T, V> {
     fn is_present(&self) -> bool {
         true
     }
-}
-
-impl<T: AsnType, V: Tagged> Tagged for Implicit<T, V> {
-    ghost tagged = { implicit_tagged T.meaning.tag (λ implicit. implicit.value) V.tagged };
 }

@@ -1,10 +1,9 @@
 //! INSTANCE OF (X.681, annex C).
 ghost use Rattle.asn1_types.specs.Kinds.{instance_of_type};
-ghost use Rattle.asn1_types.specs.Laws.{instance_of_tagged};
 
 mod fields;
 
-use asn1_model::{AsnType, Tagged, TypeTable};
+use asn1_model::{AsnType, TypeTable};
 use asn1_tags::{Identifier, Tag};
 use asn1_values::ObjectIdentifier;
 
@@ -27,8 +26,4 @@ impl<T: AsnType> AsnType for InstanceOf<T> {
     fn is_present(&self) -> bool {
         true
     }
-}
-
-impl<T: AsnType> Tagged for InstanceOf<T> {
-    ghost tagged = { instance_of_tagged (λ instance. instance.type_id) (λ instance. instance.value) T.meaning };
 }

@@ -11,6 +11,7 @@
 //! | [`ConstrainedInteger`], [`LimitedInteger`] | a whole number from a least to a greatest one | its number |
 //! | [`VisibleString`], [`Ia5String`], [`NumericString`], [`PrintableString`] | units of an alphabet, an [`AlphabetString`] | the list of its units |
 //! | [`BitString`], [`OctetString`], [`GeneralString`], [`GraphicString`], [`TeletexString`], [`BmpString`] | any units, a [`UnitString`] | the list of its units |
+//! | [`StringUnit`] | what strings are made of: bits, octets, numbers of 16 or 32 bits | |
 //! | [`ObjectIdentifier`] | any arcs, a `UnitString` too | the list of its arcs |
 //! | [`Utf8String`], [`BitStr`] | names for `String` and for borrowed bits | |
 //!
@@ -25,7 +26,8 @@
 //! - `AlphabetString::new` succeeds exactly where the alphabet has all units (`allowed`), and then gives
 //!   the string of these units (`units`); else the error names the first unit that the alphabet lacks
 //!   (`first`). The alphabets stand in `specs/Alphabets.antt`, character by character.
-//! - `as_slice` gives a string's units back. Strings of one kind are equal if their units are, go
+//! - `as_slice` gives a string's units back, and tells that they are of the alphabet (`allowed`), or values of their type
+//!   (`in_range`). Strings of one kind are equal if their units are, go
 //!   lexicographically, and feed a hasher alike if they are equal.
 //! - `LimitedInteger::new` succeeds exactly within the limits (`within`).
 //!
@@ -54,4 +56,5 @@ pub use strings::character::{
     NumericString, Printable, PrintableString, Teletex, TeletexString, Utf8String, Visible,
     VisibleString,
 };
+pub use strings::string_unit::StringUnit;
 pub use strings::unit_string::UnitString;

@@ -2,4 +2,5 @@
 pub(crate) mod alphabet_string;
 pub(crate) mod binary;
 pub(crate) mod character;
+pub(crate) mod string_unit;
 pub(crate) mod unit_string;

@@ -5,13 +5,12 @@ ghost use Rattle.asn1_ranges.specs.declared.bounded.Bounded.TheVariants.{Single}
 ghost use Rattle.asn1_tags.specs.Trees.{choice, leaf, none, more};
 ghost use Rattle.asn1_model.specs.ConstraintSets.{unconstrained, values_of};
 ghost use Rattle.asn1_model.specs.Kinds.{choice_type};
-ghost use Rattle.asn1_model.specs.Laws.{choice_tagged, first_in};
 ghost use Rattle.asn1_model.specs.Meaning.{own_records};
 ghost use Rattle.asn1_model.specs.Tags.{universal};
 
 use super::*;
 use asn1_bounds::{Bounded, Constraint, Value};
-use asn1_model::{Tagged, TypeTable};
+use asn1_model::TypeTable;
 use asn1_tags::{Identifier, Tag};
 
 /// A CHOICE of a BOOLEAN alone.
@@ -31,11 +30,6 @@ impl AsnType for Answer {
     fn is_present(&self) -> bool {
         true
     }
-}
-
-impl Tagged for Answer {
-    ghost tagged = { choice_tagged (more (leaf (universal 1)) none) (λ _. universal 1)
-        (λ answer. own_records ⟦<bool as AsnType>⟧.meaning answer.0) (λ _ _. first_in (universal 1) []) };
 }
 
 impl Choice for Answer {

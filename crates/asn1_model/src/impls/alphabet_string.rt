@@ -1,8 +1,7 @@
 //! Strings with an alphabet, by their kind.
 ghost use Rattle.asn1_model.specs.Kinds.{string_type};
-ghost use Rattle.asn1_model.specs.Laws.{scalar_tagged, own_name_tagged, whole_tagged};
 
-use crate::asn_type::{AsnType, Tagged};
+use crate::asn_type::AsnType;
 use crate::strings::StringType;
 use crate::type_table::TypeTable;
 use asn1_values::{Alphabet, AlphabetString};
@@ -17,8 +16,4 @@ impl<U, A: Alphabet<U> + StringType<U>> AsnType for AlphabetString<U, A> {
     fn is_present(&self) -> bool {
         true
     }
-}
-
-impl<U, A: Alphabet<U> + StringType<U>> Tagged for AlphabetString<U, A> {
-    ghost tagged = { own_name_tagged (whole_tagged scalar_tagged) };
 }

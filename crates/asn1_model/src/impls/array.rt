@@ -1,8 +1,7 @@
 //! A SEQUENCE OF (X.680, 26) of a fixed size.
 ghost use Rattle.asn1_model.specs.Kinds.{array_type};
-ghost use Rattle.asn1_model.specs.Laws.{list_tagged, whole_tagged};
 
-use crate::asn_type::{AsnType, Tagged};
+use crate::asn_type::AsnType;
 use crate::type_table::TypeTable;
 use asn1_bounds::{Constraint, Constraints, Size};
 use asn1_tags::{Identifier, Tag};
@@ -18,8 +17,4 @@ impl<T: AsnType, const N: usize> AsnType for [T; N] {
     fn is_present(&self) -> bool {
         true
     }
-}
-
-impl<T: AsnType, const N: usize> Tagged for [T; N] {
-    ghost tagged = { whole_tagged (list_tagged (λ a. a) T.meaning) };
 }

@@ -1,8 +1,7 @@
 //! A box, which means what its content means, under the content's name where no other is given.
 ghost use Rattle.asn1_model.specs.Kinds.{through, under_own_name};
-ghost use Rattle.asn1_model.specs.Laws.{through_tagged, own_name_tagged};
 
-use crate::asn_type::{AsnType, Tagged};
+use crate::asn_type::AsnType;
 use crate::type_table::TypeTable;
 
 impl<T: AsnType> AsnType for Box<T> {
@@ -15,8 +14,4 @@ impl<T: AsnType> AsnType for Box<T> {
     fn is_present(&self) -> bool {
         (**self).is_present()
     }
-}
-
-impl<T: Tagged> Tagged for Box<T> {
-    ghost tagged = { own_name_tagged (through_tagged T.tagged) };
 }

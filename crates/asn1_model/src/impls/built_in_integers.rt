@@ -5,10 +5,9 @@ ghost use Rattle.asn1_tags.specs.Names.{name_of};
 ghost use Rattle.asn1_model.specs.declared.type_table.TreeForm.TheVariants.{Leaf};
 ghost use Rattle.asn1_model.specs.ConstraintSets.{constraint_set, values_of};
 ghost use Rattle.asn1_model.specs.Kinds.{integer_type};
-ghost use Rattle.asn1_model.specs.Laws.{scalar_tagged, whole_tagged};
 ghost use Rattle.asn1_model.specs.Tags.{universal};
 
-use crate::asn_type::{AsnType, Tagged};
+use crate::asn_type::AsnType;
 use crate::type_table::TypeTable;
 use asn1_bounds::{Bounded, Constraint, Constraints, Value};
 use asn1_tags::{Identifier, Tag};
@@ -36,10 +35,6 @@ impl AsnType for u8 {
     }
 }
 
-impl Tagged for u8 {
-    ghost tagged = { whole_tagged scalar_tagged };
-}
-
 impl AsnType for u16 {
     ghost meaning = { integer_type pos (bounded.Range (Some (pos 0)) (Some (pos 65535))) };
 
@@ -50,10 +45,6 @@ impl AsnType for u16 {
     fn is_present(&self) -> bool {
         true
     }
-}
-
-impl Tagged for u16 {
-    ghost tagged = { whole_tagged scalar_tagged };
 }
 
 impl AsnType for u32 {
@@ -68,10 +59,6 @@ impl AsnType for u32 {
     }
 }
 
-impl Tagged for u32 {
-    ghost tagged = { whole_tagged scalar_tagged };
-}
-
 impl AsnType for u64 {
     ghost meaning = { integer_type pos (bounded.Range (Some (pos 0)) (Some (pos 18446744073709551615))) };
 
@@ -82,10 +69,6 @@ impl AsnType for u64 {
     fn is_present(&self) -> bool {
         true
     }
-}
-
-impl Tagged for u64 {
-    ghost tagged = { whole_tagged scalar_tagged };
 }
 
 impl AsnType for usize {
@@ -100,10 +83,6 @@ impl AsnType for usize {
     }
 }
 
-impl Tagged for usize {
-    ghost tagged = { whole_tagged scalar_tagged };
-}
-
 impl AsnType for i8 {
     ghost meaning = { integer_type (λ n. n) (bounded.Range (Some (negsuc 127)) (Some (pos 127))) };
 
@@ -114,10 +93,6 @@ impl AsnType for i8 {
     fn is_present(&self) -> bool {
         true
     }
-}
-
-impl Tagged for i8 {
-    ghost tagged = { whole_tagged scalar_tagged };
 }
 
 impl AsnType for i16 {
@@ -132,10 +107,6 @@ impl AsnType for i16 {
     }
 }
 
-impl Tagged for i16 {
-    ghost tagged = { whole_tagged scalar_tagged };
-}
-
 impl AsnType for i32 {
     ghost meaning = { integer_type (λ n. n) (bounded.Range (Some (negsuc 2147483647)) (Some (pos 2147483647))) };
 
@@ -146,10 +117,6 @@ impl AsnType for i32 {
     fn is_present(&self) -> bool {
         true
     }
-}
-
-impl Tagged for i32 {
-    ghost tagged = { whole_tagged scalar_tagged };
 }
 
 impl AsnType for i64 {
@@ -164,10 +131,6 @@ impl AsnType for i64 {
     }
 }
 
-impl Tagged for i64 {
-    ghost tagged = { whole_tagged scalar_tagged };
-}
-
 impl AsnType for isize {
     ghost meaning = { integer_type (λ n. n) (bounded.Range (Some (negsuc 9223372036854775807)) (Some (pos 9223372036854775807))) };
 
@@ -178,10 +141,6 @@ impl AsnType for isize {
     fn is_present(&self) -> bool {
         true
     }
-}
-
-impl Tagged for isize {
-    ghost tagged = { whole_tagged scalar_tagged };
 }
 
 impl AsnType for i128 {
@@ -196,13 +155,9 @@ impl AsnType for i128 {
     }
 }
 
-impl Tagged for i128 {
-    ghost tagged = { whole_tagged scalar_tagged };
-}
-
 impl AsnType for u128 {
     // Its numbers end with 128 bits, and its bound does not say so.
-    ghost meaning = { record (integer_type pos (bounded.Range (Some (pos 0)) None)) { IsWhole = λ _ n. n < 2 ^ 128 } };
+    ghost meaning = { record (integer_type pos (bounded.Range (Some (pos 0)) None)) { IsOfType = λ n. n < 2 ^ 128 } };
 
     fn table() -> TypeTable {
         integer_within(Bounded::start_from(0))
@@ -211,8 +166,4 @@ impl AsnType for u128 {
     fn is_present(&self) -> bool {
         true
     }
-}
-
-impl Tagged for u128 {
-    ghost tagged = { whole_tagged scalar_tagged };
 }

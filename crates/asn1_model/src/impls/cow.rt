@@ -1,9 +1,8 @@
 //! A borrowed or owned value, which means what the value means, under its name where no other is given.
 ghost use Rattle.std.specs.Cow.{cow_value};
 ghost use Rattle.asn1_model.specs.Kinds.{through, under_own_name};
-ghost use Rattle.asn1_model.specs.Laws.{through_tagged, own_name_tagged};
 
-use crate::asn_type::{AsnType, Tagged};
+use crate::asn_type::AsnType;
 use crate::type_table::TypeTable;
 use std::borrow::Cow;
 
@@ -20,8 +19,4 @@ impl<T: AsnType> AsnType for Cow<'_, T> {
             Cow::Owned(value) => value.is_present(),
         }
     }
-}
-
-impl<T: Tagged> Tagged for Cow<'_, T> {
-    ghost tagged = { own_name_tagged (through_tagged T.tagged) };
 }

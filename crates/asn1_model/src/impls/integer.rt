@@ -1,8 +1,7 @@
 //! An INTEGER (X.680, 19) of any size.
 ghost use Rattle.asn1_model.specs.Kinds.{unbounded_integer_type, under_own_name};
-ghost use Rattle.asn1_model.specs.Laws.{scalar_tagged, own_name_tagged};
 
-use crate::asn_type::{AsnType, Tagged};
+use crate::asn_type::AsnType;
 use crate::type_table::TypeTable;
 use asn1_tags::{Identifier, Tag};
 use asn1_values::Integer;
@@ -17,8 +16,4 @@ impl AsnType for Integer {
     fn is_present(&self) -> bool {
         true
     }
-}
-
-impl Tagged for Integer {
-    ghost tagged = { own_name_tagged scalar_tagged };
 }

@@ -2,11 +2,10 @@
 ghost use Rattle.std.specs.Prelude.{Some, codes};
 ghost use Rattle.asn1_model.specs.ConstraintSets.{unconstrained};
 ghost use Rattle.asn1_model.specs.Kinds.{scalar_type, without_constraints};
-ghost use Rattle.asn1_model.specs.Laws.{scalar_tagged, unconstrained_tagged};
 ghost use Rattle.asn1_model.specs.Records.{null};
 ghost use Rattle.asn1_model.specs.Tags.{universal};
 
-use crate::asn_type::{AsnType, Tagged};
+use crate::asn_type::AsnType;
 use crate::type_table::TypeTable;
 use asn1_tags::{Identifier, Tag};
 
@@ -20,8 +19,4 @@ impl AsnType for () {
     fn is_present(&self) -> bool {
         true
     }
-}
-
-impl Tagged for () {
-    ghost tagged = { unconstrained_tagged scalar_tagged };
 }

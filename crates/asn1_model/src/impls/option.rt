@@ -1,8 +1,7 @@
 //! A component that may be absent.
 ghost use Rattle.asn1_model.specs.Kinds.{option_type};
-ghost use Rattle.asn1_model.specs.Laws.{option_tagged};
 
-use crate::asn_type::{AsnType, Tagged};
+use crate::asn_type::AsnType;
 use crate::type_table::TypeTable;
 
 impl<T: AsnType> AsnType for Option<T> {
@@ -15,8 +14,4 @@ impl<T: AsnType> AsnType for Option<T> {
     fn is_present(&self) -> bool {
         self.is_some()
     }
-}
-
-impl<T: AsnType> Tagged for Option<T> {
-    ghost tagged = { option_tagged T.meaning };
 }

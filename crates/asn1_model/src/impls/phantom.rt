@@ -1,8 +1,7 @@
 //! A type without any content, which no codec writes.
 ghost use Rattle.asn1_model.specs.Kinds.{empty_type};
-ghost use Rattle.asn1_model.specs.Laws.{empty_tagged};
 
-use crate::asn_type::{AsnType, Tagged};
+use crate::asn_type::AsnType;
 use crate::type_table::TypeTable;
 use asn1_tags::{Identifier, Tag};
 use std::marker::PhantomData;
@@ -17,8 +16,4 @@ impl<T: AsnType> AsnType for PhantomData<T> {
     fn is_present(&self) -> bool {
         true
     }
-}
-
-impl<T: AsnType> Tagged for PhantomData<T> {
-    ghost tagged = { empty_tagged };
 }

@@ -1,8 +1,7 @@
 //! A reference, which means what its target means.
 ghost use Rattle.asn1_model.specs.Kinds.{through};
-ghost use Rattle.asn1_model.specs.Laws.{through_tagged};
 
-use crate::asn_type::{AsnType, Tagged};
+use crate::asn_type::AsnType;
 use crate::type_table::TypeTable;
 
 impl<T: AsnType> AsnType for &T {
@@ -15,8 +14,4 @@ impl<T: AsnType> AsnType for &T {
     fn is_present(&self) -> bool {
         (**self).is_present()
     }
-}
-
-impl<T: Tagged> Tagged for &T {
-    ghost tagged = { through_tagged T.tagged };
 }

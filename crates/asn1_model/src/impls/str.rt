@@ -5,11 +5,10 @@ ghost use Rattle.asn1_tags.specs.Trees.{leaf};
 ghost use Rattle.asn1_tags.specs.declared.tags.Tag.{Tag};
 ghost use Rattle.asn1_model.specs.ConstraintSets.{constraint_set, unconstrained};
 ghost use Rattle.asn1_model.specs.Kinds.{utf8_string};
-ghost use Rattle.asn1_model.specs.Laws.{scalar_tagged, own_name_tagged, whole_tagged};
 ghost use Rattle.asn1_model.specs.Tags.{universal};
 ghost use Rattle.asn1_model.specs.TypeTables.{tree_under, is_of_choice};
 
-use crate::asn_type::{AsnType, Tagged};
+use crate::asn_type::AsnType;
 use crate::type_table::TypeTable;
 use asn1_tags::{Identifier, Tag};
 
@@ -31,8 +30,4 @@ impl AsnType for &str {
     {
         true
     }
-}
-
-impl Tagged for &str {
-    ghost tagged = { own_name_tagged (whole_tagged scalar_tagged) };
 }

@@ -1,9 +1,8 @@
 //! UTF8String (X.680, 41).
 ghost use Rattle.std.specs.String.{string_bytes};
 ghost use Rattle.asn1_model.specs.Kinds.{utf8_string};
-ghost use Rattle.asn1_model.specs.Laws.{scalar_tagged, own_name_tagged, whole_tagged};
 
-use crate::asn_type::{AsnType, Tagged};
+use crate::asn_type::AsnType;
 use crate::type_table::TypeTable;
 use asn1_tags::{Identifier, Tag};
 
@@ -17,8 +16,4 @@ impl AsnType for String {
     fn is_present(&self) -> bool {
         true
     }
-}
-
-impl Tagged for String {
-    ghost tagged = { own_name_tagged (whole_tagged scalar_tagged) };
 }

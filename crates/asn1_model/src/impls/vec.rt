@@ -1,9 +1,8 @@
 //! A SEQUENCE OF (X.680, 26) as a vector.
 ghost use Rattle.asn1_model.specs.ConstraintSets.{unconstrained};
 ghost use Rattle.asn1_model.specs.Kinds.{list_type};
-ghost use Rattle.asn1_model.specs.Laws.{list_tagged};
 
-use crate::asn_type::{AsnType, Tagged};
+use crate::asn_type::AsnType;
 use crate::type_table::TypeTable;
 use asn1_tags::{Identifier, Tag};
 
@@ -17,8 +16,4 @@ impl<T: AsnType> AsnType for Vec<T> {
     fn is_present(&self) -> bool {
         true
     }
-}
-
-impl<T: AsnType> Tagged for Vec<T> {
-    ghost tagged = { list_tagged (λ v. v.items) T.meaning };
 }

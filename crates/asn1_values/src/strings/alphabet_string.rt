@@ -3,6 +3,7 @@ ghost use Rattle.std.specs.Prelude.{◌≡◌, ◌↔◌, Bool, not, IsNone, IsO
 ghost use Rattle.std.specs.List.{AllPass};
 
 use crate::error::AlphabetError;
+use crate::strings::string_unit::StringUnit;
 use crate::strings::unit_string::UnitString;
 use std::marker::Model;
 
@@ -55,8 +56,10 @@ impl<U, A: Alphabet<U>> AlphabetString<U, A> {
             }),
         }
     }
+}
 
-    /// The units, in their order.
+impl<U: StringUnit, A: Alphabet<U>> AlphabetString<U, A> {
+    /// The units, in their order, each of them in the alphabet.
     pub fn as_slice(&self) -> &[U]
         ensures units { result.now ≡ self.now }
         ensures allowed { AllPass A.allows self.now }

@@ -106,6 +106,7 @@ pub enum Bmp {}
 mod tests {
     use super::*;
     use crate::error::AlphabetError;
+    use crate::strings::string_unit::StringUnit;
     use std::alloc::Global;
     use std::process::Abort;
 
@@ -169,7 +170,7 @@ mod tests {
     }
 
     /// Asserts that the string gives these units back.
-    fn assert_units<U: Copy + PartialEq, K: Drop>(
+    fn assert_units<U: StringUnit + Copy + PartialEq, K: Drop>(
         rt: &impl Abort,
         text: UnitString<U, K>,
         units: &[U],

@@ -1,9 +1,10 @@
 //! Strings of any units, and how strings are compared and hashed.
-ghost use Rattle.std.specs.Prelude.{◌≡◌};
+ghost use Rattle.std.specs.Prelude.{◌≡◌, All};
 ghost use Rattle.std.specs.Cmp.Lexicographic.{pointwise, slice_cmp, slice_partial_cmp, lists_per, lists_equiv, lists_po, lists_agrees, lists_total, lists_ties};
 ghost use Rattle.std.specs.Hash as fed;
 ghost use Rattle.std.specs.Hash.{items_Alike};
 
+use crate::strings::string_unit::StringUnit;
 use std::cmp::Ordering;
 use std::hash::{Hash, Hasher};
 use std::marker::{Model, PhantomData};
@@ -38,11 +39,15 @@ impl<U, K> UnitString<U, K> {
             kind: PhantomData,
         }
     }
+}
 
-    /// The units, in their order.
+impl<U: StringUnit, K> UnitString<U, K> {
+    /// The units, in their order, each of them a value of its type.
     pub fn as_slice(&self) -> &[U]
-        ensures { result.now ≡ self.now }
+        ensures units { result.now ≡ self.now }
+        ensures in_range { All U.IsInRange self.now }
     {
+        U::tell_range(&self.units);
         self.units.as_slice()
     }
 }
