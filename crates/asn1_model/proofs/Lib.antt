@@ -1,2 +1,4 @@
+pub mod FirstTags
 pub mod Lists
 pub mod SameRecords
+pub mod TagSets

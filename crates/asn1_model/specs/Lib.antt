@@ -7,3 +7,4 @@ pub mod Meaning
 pub mod Kinds
 pub mod TypeTables
 pub mod OneRecord
+pub mod TaggedTypes

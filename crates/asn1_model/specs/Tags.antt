@@ -4,7 +4,7 @@ use Rattle.asn1_tags.specs.declared.tags.Tag.{Tag}
 use Rattle.asn1_tags.specs.declared.classes.Class.TheVariants.{Universal, Context}
 use Rattle.asn1_tags.specs.Tags.{tag_eq}
 use Rattle.asn1_tags.specs.Trees.{Tree, leaves, is_open}
-use Rattle.asn1_model.specs.Records.{Record, scalar, scope, raw, mark, is_mark, Head, sequence, set, sequence_of, set_of, prefix, alternative}
+use Rattle.asn1_model.specs.Records.{Record, scalar, scope, raw, mark, is_mark, marks_alone, Head, sequence, set, sequence_of, set_of, prefix, alternative}
 
 -- a tag that X.680 assigns to a type of its own (8.4, table 1)
 abbrev pub universal : ℕ → Tag
@@ -74,3 +74,12 @@ pub record IsOneRecord (tags : Tags) (rs : List Record) : Type 0 where
   pub alone : rs ≡ item ∷ []
   pub no_mark : is_mark item ≡ false
   pub within : LiesIn (first_tags rs) tags
+
+-- The list has a record that is no mark, and the first tags lie in these.
+pub record BeginsWithin (tags : Tags) (rs : List Record) : Type 0 where
+  pub some : marks_alone rs ≡ false
+  pub within : LiesIn (first_tags rs) tags
+
+-- no tag is one of both
+abbrev pub ShareNone : Tags → Tags → Type 0
+ShareNone a b = (t : Tag) → Has a t → Has b t → ⊥

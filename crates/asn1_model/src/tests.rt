@@ -152,7 +152,7 @@ fn values_of_types()
 fn valid_values()
     ensures within { (takes : List ℕ → Bool) → ⟦<ConstrainedInteger<1, 10> as AsnType>⟧.meaning.IsValid takes (pos 10) }
     ensures above { (takes : List ℕ → Bool) → ¬ ⟦<Option<ConstrainedInteger<1, 10>> as AsnType>⟧.meaning.IsValid takes (Some (pos 11)) }
-    ensures octets { (takes : List ℕ → Bool) (octets : List ℕ) → ⟦<&OctetString as AsnType>⟧.meaning.IsValid takes (record { now = octets }) }
+    ensures octets { (takes : List ℕ → Bool) (octets : List ℕ) → ⟦<OctetString as AsnType>⟧.meaning.IsValid takes octets }
 {}
 
 /// A type that is no CHOICE has a tag, and an option stands in no list and in no option.

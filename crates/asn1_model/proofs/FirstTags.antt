@@ -1,0 +1,45 @@
+-- The first tags of lists of records that follow one another.
+use Rattle.std.specs.Prelude.{◌≡◌, Bool, true, false, ◌&&◌, List, [], ◌∷◌, ◌++◌, refl}
+use Rattle.std.proofs.Common.{ap, sym, ◌∙◌, subst, cond}
+use Rattle.std.proofs.lemmas.Bool.{and_parts}
+use Rattle.asn1_tags.specs.declared.tags.Tag.{Tag}
+use Rattle.asn1_model.specs.Records.{Record, mark, present, is_mark, marks_alone}
+use Rattle.asn1_model.specs.Tags.{Tags, LiesIn, IsOneRecord, BeginsWithin, first_tags, record_tags}
+
+false_and : (a b : Bool) → a ≡ false → (a && b) ≡ false
+false_and a b h = ap (λ x. x && b) h
+
+pub one_begins : (tags : Tags) (rs : List Record) → IsOneRecord tags rs → BeginsWithin tags rs
+one_begins tags rs one = record {
+  some = ap marks_alone one.alone ∙ false_and (is_mark one.item) true one.no_mark;
+  within = one.within;
+}
+
+pub present_begins : (tags : Tags) (t : Tag) (rs : List Record) → IsOneRecord tags rs → BeginsWithin tags (mark (present t) ∷ rs)
+present_begins tags t rs one = let b = one_begins tags rs one in record { some = b.some; within = b.within }
+
+-- marks are passed over
+pub first_passes : (rs rest : List Record) → marks_alone rs ≡ true → first_tags (rs ++ rest) ≡ first_tags rest
+first_passes [] rest h = refl
+first_passes (r ∷ rs) rest h =
+    let p = and_parts (is_mark r) (marks_alone rs) h in
+    ap (λ b. cond b (first_tags (rs ++ rest)) (record_tags r)) p.0 ∙ first_passes rs rest p.1
+
+picked : (b alone : Bool) (A B C : Tags) → (b && alone) ≡ false → (alone ≡ false → A ≡ B) → cond b A C ≡ cond b B C
+picked true alone A B C h f = f h
+picked false alone A B C h f = refl
+
+-- what follows a record that is no mark is not seen
+pub first_stays : (rs rest : List Record) → marks_alone rs ≡ false → first_tags (rs ++ rest) ≡ first_tags rs
+first_stays [] rest h = cc
+first_stays (r ∷ rs) rest h = picked (is_mark r) (marks_alone rs) (first_tags (rs ++ rest)) (first_tags rs) (record_tags r) h (first_stays rs rest)
+
+pub alone_append : (rs ss : List Record) → marks_alone (rs ++ ss) ≡ (marks_alone rs && marks_alone ss)
+alone_append [] ss = refl
+alone_append (r ∷ rs) ss = elim (is_mark r) as (λ b. (b && marks_alone (rs ++ ss)) ≡ (b && marks_alone rs && marks_alone ss)) [ true ↦ alone_append rs ss | false ↦ refl ]
+
+pub begins_before : (tags : Tags) (rs rest : List Record) → BeginsWithin tags rs → BeginsWithin tags (rs ++ rest)
+begins_before tags rs rest h = record {
+  some = alone_append rs rest ∙ false_and (marks_alone rs) (marks_alone rest) h.some;
+  within = subst (λ a. LiesIn a tags) (sym (first_stays rs rest h.some)) h.within;
+}

@@ -1,0 +1,57 @@
+-- Types inside others, each under a tag (X.680, 31).
+use Rattle.std.specs.Prelude.{ℕ, Bool, List, refl}
+use Rattle.asn1_tags.specs.declared.tags.Tag.{Tag}
+use Rattle.asn1_tags.specs.Trees.{Tree, leaf}
+use Rattle.asn1_model.specs.Composites.{prefix_records}
+use Rattle.asn1_model.specs.Meaning.{Meaning, own_records, CanStandInside, CanStandInsideUnder}
+use Rattle.asn1_model.specs.OneRecord.{scope_is_one}
+use Rattle.asn1_model.specs.Records.{Name, Record, prefix}
+use Rattle.asn1_model.specs.Tags.{IsATag, IsOneRecord, tree_tags}
+
+-- A type as a component or an alternative has it.
+pub record TaggedType (W : Type 0) : Type 1 where
+  -- the tag under which a value is written
+  pub tag : Tag
+  -- the tags with which it can begin
+  pub tree : Tree
+  -- what a value is
+  pub records : W → List Record
+  -- the type can be there
+  pub CanStandInside : Type 0
+  -- what a value has by its type, and whether it is valid
+  pub IsOfType : W → Type 0
+  pub IsValid : (List ℕ → Bool) → W → Type 0
+  -- then each value is one record, which begins with one of the tags
+  pub one_record : CanStandInside → (w : W) → IsOneRecord (tree_tags tree) (records w)
+
+-- under a tag in the place of its own; a CHOICE is after it, as after an explicit tag (31.2.7 c)
+abbrev pub tagged : {W : Type 0} → Tag → Meaning W → TaggedType W
+tagged t m = record {
+  tag = t;
+  tree = m.tree t;
+  records = λ w. m.records w t m.constraints m.name;
+  CanStandInside = CanStandInsideUnder m t;
+  IsOfType = m.IsOfType;
+  IsValid = m.IsValid;
+  one_record = λ can w. m.one_record w t m.constraints m.name can.0 can.1;
+}
+
+-- under its own tag; a CHOICE is untagged there
+abbrev pub untagged : {W : Type 0} → Meaning W → TaggedType W
+untagged m = tagged m.tag m
+
+-- after an explicit tag, which has a name
+abbrev pub explicitly_tagged_as : {W : Type 0} → Name → Tag → Meaning W → TaggedType W
+explicitly_tagged_as name t m = record {
+  tag = t;
+  tree = leaf t;
+  records = λ w. prefix_records t name (own_records m w);
+  CanStandInside = IsATag t × CanStandInside m;
+  IsOfType = m.IsOfType;
+  IsValid = m.IsValid;
+  one_record = λ _ w. scope_is_one t (prefix t name) (own_records m w) refl;
+}
+
+-- after an explicit tag, which has the type's name
+abbrev pub explicitly_tagged : {W : Type 0} → Tag → Meaning W → TaggedType W
+explicitly_tagged t m = explicitly_tagged_as m.name t m
