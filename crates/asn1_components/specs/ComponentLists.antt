@@ -1,0 +1,108 @@
+-- What follows from a list of components.
+use Rattle.std.specs.Prelude.{◌≡◌, ℕ, ◌+◌, ⊤, Bool, true, false, ◌&&◌, List, [], ◌∷◌, ◌++◌, Option, None, Some, IfSome, All, refl, if◌then◌else◌}
+use Rattle.std.proofs.Common.{inl, inr, ap, sym, ◌∙◌, subst}
+use Rattle.std.specs.Option.{option_map}
+use Rattle.asn1_tags.specs.declared.tags.Tag.{Tag}
+use Rattle.asn1_tags.specs.Trees.{Tree, Trees, choice, none, more}
+use Rattle.asn1_model.specs.Composites.{group_records}
+use Rattle.asn1_model.specs.Records.{Record, mark, group_start, group_end, group_absent, marks_alone}
+use Rattle.asn1_model.specs.Tags.{CHOICE, BeginsWithin, LiesIn, tree_tags, first_tags}
+use Rattle.asn1_model.proofs.FirstTags.{begins_before, first_passes, first_stays, alone_append}
+use Rattle.asn1_model.proofs.TagSets.{in_first_tree, in_later_trees}
+use Rattle.asn1_fields.specs.Components.{Component, Entry}
+use Rattle.asn1_fields.specs.Clash.{sequence_clash, set_clash}
+use Rattle.asn1_fields.specs.declared.presence.FieldPresence.TheVariants.{Optional}
+use Rattle.asn1_components.specs.ComponentTypes.{ComponentType, Fits}
+
+-- the records of all, in the order of their definition
+abbrev pub all_records : {V : Type 0} → List (ComponentType V) → V → List Record
+all_records [] v = []
+all_records (c ∷ cs) v = c.records v ++ all_records cs v
+
+-- what the rules on tags look at
+abbrev pub seen_by_tags : {V : Type 0} → List (ComponentType V) → List Component
+seen_by_tags [] = []
+seen_by_tags (c ∷ cs) = record { presence = c.presence; tree = c.tree } ∷ seen_by_tags cs
+
+-- their lines in a table, in the order of the definition; the index of the first is given
+abbrev pub entries_from : {V : Type 0} → ℕ → List (ComponentType V) → List Entry
+entries_from k [] = []
+entries_from k (c ∷ cs) = record { index = k; tag = c.tag; tree = c.tree; presence = c.presence; name = c.name } ∷ entries_from (k + 1) cs
+
+-- the trees of all
+abbrev pub trees_of : {V : Type 0} → List (ComponentType V) → Trees
+trees_of [] = none
+trees_of (c ∷ cs) = more c.tree (trees_of cs)
+
+-- the type of each can be there
+abbrev pub EachCanStandInside : {V : Type 0} → List (ComponentType V) → Type 0
+EachCanStandInside [] = ⊤
+EachCanStandInside (c ∷ cs) = c.CanStandInside × EachCanStandInside cs
+
+-- each has what it has by its type
+abbrev pub EachIsOfType : {V : Type 0} → List (ComponentType V) → V → Type 0
+EachIsOfType [] v = ⊤
+EachIsOfType (c ∷ cs) v = c.IsOfType v × EachIsOfType cs v
+
+-- each is valid
+abbrev pub EachIsValid : {V : Type 0} → List (ComponentType V) → (List ℕ → Bool) → V → Type 0
+EachIsValid [] takes v = ⊤
+EachIsValid (c ∷ cs) takes v = c.IsValid takes v × EachIsValid cs takes v
+
+-- In a SEQUENCE and in a group a component that may be absent shares no tag with those after it, up to and including the
+-- next that is always there (X.680, 25.6).
+abbrev pub AreDistinctInSequence : {V : Type 0} → List (ComponentType V) → Type 0
+AreDistinctInSequence cs = sequence_clash (seen_by_tags cs) ≡ None
+
+-- In a SET no two components share a tag (X.680, 27.3).
+abbrev pub AreDistinctInSet : {V : Type 0} → List (ComponentType V) → Type 0
+AreDistinctInSet cs = set_clash (seen_by_tags cs) ≡ None
+
+-- What is written of components that are not all absent begins with a tag of one of them.
+first_or_later : {V : Type 0} (c : ComponentType V) (cs : List (ComponentType V)) (v : V) → marks_alone (all_records (c ∷ cs) v) ≡ false →
+    Fits c.presence c.tree (c.records v) →
+    (marks_alone (all_records cs v) ≡ false → LiesIn (first_tags (all_records cs v)) (tree_tags (choice (trees_of cs)))) →
+    LiesIn (first_tags (all_records (c ∷ cs) v)) (tree_tags (choice (trees_of (c ∷ cs))))
+first_or_later c cs v some (inl begins) later =
+    subst (λ a. LiesIn a (tree_tags (choice (trees_of (c ∷ cs))))) (sym (first_stays (c.records v) (all_records cs v) begins.some))
+    (in_first_tree (first_tags (c.records v)) c.tree (trees_of cs) begins.within)
+first_or_later c [] v some (inr absent) later =
+    let alone : false ≡ true = sym some ∙ alone_append (c.records v) [] ∙ ap (λ b. b && true) absent.1 in cc
+first_or_later c (d ∷ ds) v some (inr absent) later =
+    subst (λ a. LiesIn a (tree_tags (choice (trees_of (c ∷ d ∷ ds))))) (sym (first_passes (c.records v) (all_records (d ∷ ds) v) absent.1))
+    (in_later_trees (first_tags (all_records (d ∷ ds) v)) c.tree d.tree (trees_of ds)
+    (later (sym (alone_append (c.records v) (all_records (d ∷ ds) v) ∙ ap (λ b. b && marks_alone (all_records (d ∷ ds) v)) absent.1) ∙ some)))
+
+begins_with_one : {V : Type 0} (cs : List (ComponentType V)) → EachCanStandInside cs → (v : V) → marks_alone (all_records cs v) ≡ false →
+    LiesIn (first_tags (all_records cs v)) (tree_tags (choice (trees_of cs)))
+begins_with_one [] can v some = cc
+begins_with_one (c ∷ cs) can v some = first_or_later c cs v some (c.fits can.0 v) (begins_with_one cs can.1 v)
+
+between_marks : (tree : Tree) (rs : List Record) (b : Bool) → marks_alone rs ≡ b → (marks_alone rs ≡ false → BeginsWithin (tree_tags tree) rs) →
+    Fits Optional tree (if b then mark group_absent ∷ [] else mark group_start ∷ rs ++ mark group_end ∷ [])
+between_marks tree rs true e f = inr (refl, refl)
+between_marks tree rs false e f =
+    let h = begins_before (tree_tags tree) rs (mark group_end ∷ []) (f e) in
+    inl (record { some = h.some; within = h.within })
+
+group_fits : {W : Type 0} (cs : List (ComponentType W)) → EachCanStandInside cs → (o : Option W) →
+    Fits Optional (choice (trees_of cs)) (group_records (option_map (all_records cs) o))
+group_fits cs can None = inr (refl, refl)
+group_fits cs can (Some w) =
+    between_marks (choice (trees_of cs)) (all_records cs w) (marks_alone (all_records cs w)) refl (λ some.
+    record { some = some; within = begins_with_one cs can w some })
+
+-- A group of additions (X.680, 25.1, "ExtensionAdditionGroup"): it has the tags of all of its components, and one that is
+-- there writes a component.
+abbrev pub group_of : {V W : Type 0} → List ℕ → (V → Option W) → List (ComponentType W) → ComponentType V
+group_of name get cs = record {
+  name = name;
+  presence = Optional;
+  tag = CHOICE;
+  tree = choice (trees_of cs);
+  records = λ v. group_records (option_map (all_records cs) (get v));
+  CanStandInside = EachCanStandInside cs × AreDistinctInSequence cs;
+  IsOfType = λ v. IfSome (get v) (EachIsOfType cs);
+  IsValid = λ takes v. IfSome (get v) (λ w. EachIsValid cs takes w × (marks_alone (all_records cs w) ≡ false));
+  fits = λ can v. group_fits cs can.0 (get v);
+}

@@ -1,0 +1,88 @@
+-- The components of a SEQUENCE, a SET or a group, one by one (X.680, 25.1).
+use Rattle.std.specs.Prelude.{◌≡◌, ◌⊎◌, ℕ, ⊤, Bool, true, false, IsTrue, List, [], ◌∷◌, ◌++◌, Option, None, Some, IfSome, refl, if◌then◌else◌}
+use Rattle.std.proofs.Common.{inl, inr}
+use Rattle.std.specs.Option.{option_map}
+use Rattle.asn1_tags.specs.declared.tags.Tag.{Tag}
+use Rattle.asn1_tags.specs.Trees.{Tree}
+use Rattle.asn1_model.specs.Composites.{option_records, default_records}
+use Rattle.asn1_model.specs.Records.{Record, mark, group_start, group_end, group_absent, marks_alone}
+use Rattle.asn1_model.specs.TaggedTypes.{TaggedType}
+use Rattle.asn1_model.specs.Tags.{Tags, BeginsWithin, tree_tags}
+use Rattle.asn1_model.proofs.FirstTags.{one_begins, present_begins, begins_before}
+use Rattle.asn1_fields.specs.Components.{may_be_absent}
+use Rattle.asn1_fields.specs.declared.presence.FieldPresence.{FieldPresence}
+use Rattle.asn1_fields.specs.declared.presence.FieldPresence.TheVariants.{Required, Optional, Default}
+
+-- The records can be those of a component: they begin with one of its tags, or they are presence marks alone and the
+-- component may be absent.
+abbrev pub Fits : FieldPresence → Tree → List Record → Type 0
+Fits presence tree rs = BeginsWithin (tree_tags tree) rs ⊎ (IsTrue (may_be_absent presence) × (marks_alone rs ≡ true))
+
+-- A component of the values V.
+pub record ComponentType (V : Type 0) : Type 1 where
+  pub name : List ℕ
+  pub presence : FieldPresence
+  -- the tag under which it is written, and the tags with which it can begin
+  pub tag : Tag
+  pub tree : Tree
+  -- what is written of it
+  pub records : V → List Record
+  -- its type can be there, under this tag
+  pub CanStandInside : Type 0
+  -- what it has by its type, and whether it is valid
+  pub IsOfType : V → Type 0
+  pub IsValid : (List ℕ → Bool) → V → Type 0
+  -- what is written of it begins with one of its tags, or it is absent
+  pub fits : CanStandInside → (v : V) → Fits presence tree (records v)
+
+-- one that is always there
+abbrev pub required : {V W : Type 0} → List ℕ → (V → W) → TaggedType W → ComponentType V
+required name get type = record {
+  name = name;
+  presence = Required;
+  tag = type.tag;
+  tree = type.tree;
+  records = λ v. type.records (get v);
+  CanStandInside = type.CanStandInside;
+  IsOfType = λ v. type.IsOfType (get v);
+  IsValid = λ takes v. type.IsValid takes (get v);
+  fits = λ can v. inl (one_begins (tree_tags type.tree) (type.records (get v)) (type.one_record can (get v)));
+}
+
+present_or_absent : {W : Type 0} (type : TaggedType W) (presence : FieldPresence) → Fits presence type.tree (option_records type.tag None) →
+    type.CanStandInside → (o : Option W) → Fits presence type.tree (option_records type.tag (option_map type.records o))
+present_or_absent type presence absent can None = absent
+present_or_absent type presence absent can (Some w) = inl (present_begins (tree_tags type.tree) type.tag (type.records w) (type.one_record can w))
+
+-- one that is marked OPTIONAL; an addition is one too, since the sender may know an earlier version of the type
+abbrev pub optional : {V W : Type 0} → List ℕ → (V → Option W) → TaggedType W → ComponentType V
+optional name get type = record {
+  name = name;
+  presence = Optional;
+  tag = type.tag;
+  tree = type.tree;
+  records = λ v. option_records type.tag (option_map type.records (get v));
+  CanStandInside = type.CanStandInside;
+  IsOfType = λ v. IfSome (get v) type.IsOfType;
+  IsValid = λ takes v. IfSome (get v) (type.IsValid takes);
+  fits = λ can v. present_or_absent type Optional (inr (refl, refl)) can (get v);
+}
+
+other_than_default : {W : Type 0} (type : TaggedType W) → type.CanStandInside → (w : W) (is_default : Bool) →
+    Fits Default type.tree (default_records is_default type.tag (type.records w))
+other_than_default type can w true = inr (refl, refl)
+other_than_default type can w false = present_or_absent type Default (inr (refl, refl)) can (Some w)
+
+-- one with a DEFAULT: whether the value's is that
+abbrev pub with_default : {V W : Type 0} → List ℕ → (V → W) → (V → Bool) → TaggedType W → ComponentType V
+with_default name get is_default type = record {
+  name = name;
+  presence = Default;
+  tag = type.tag;
+  tree = type.tree;
+  records = λ v. default_records (is_default v) type.tag (type.records (get v));
+  CanStandInside = type.CanStandInside;
+  IsOfType = λ v. type.IsOfType (get v);
+  IsValid = λ takes v. type.IsValid takes (get v);
+  fits = λ can v. other_than_default type can (get v) (is_default v);
+}

@@ -1,0 +1,164 @@
+-- The components of a SEQUENCE, a SET or a group, each written once: the records of a value, the lines of the field table,
+-- whether the tags are distinct, and which values are valid follow from them.
+use Rattle.std.specs.Prelude.{◌≡◌, ◌↔◌, ℕ, ⊤, Bool, is_some, unwrap_or, List, [], ◌∷◌, ◌++◌, length, All, Option, None, Some, refl}
+use Rattle.asn1_tags.specs.declared.tags.Tag.{Tag}
+use Rattle.asn1_model.specs.ConstraintSets.{ConstraintSet, unconstrained}
+use Rattle.asn1_model.specs.Kinds.{Inside, scope_type}
+use Rattle.asn1_model.specs.Meaning.{Meaning}
+use Rattle.asn1_model.specs.Records.{Name, Record, Head, sequence as sequence_head, set as set_head, holding}
+use Rattle.asn1_model.specs.Tags.{IsATag, head_tag, universal}
+use Rattle.asn1_fields.specs.Canonical.{in_order}
+use Rattle.asn1_fields.specs.Components.{Entry, component_of}
+use Rattle.asn1_fields.specs.declared.presence.FieldPresence.TheVariants.{Optional}
+use Rattle.asn1_components.specs.ComponentLists.{all_records, entries_from, EachCanStandInside, EachIsOfType, EachIsValid, AreDistinctInSequence, AreDistinctInSet, group_of}
+use Rattle.asn1_components.specs.ComponentTypes.{ComponentType}
+
+-- A SEQUENCE (X.680, 25) or a SET (27); a group is a SEQUENCE here.
+pub data Kind : Type 0 where
+  is_sequence : Kind
+  is_set : Kind
+
+-- The components, in the order of their definition: those of the root, and after an extension marker the additions.
+pub record Components (V : Type 0) : Type 1 where
+  pub kind : Kind
+  pub root : List (ComponentType V)
+  pub additions : Option (List (ComponentType V))
+
+-- without an extension marker
+abbrev pub sequence : {V : Type 0} → List (ComponentType V) → Components V
+sequence root = record { kind = is_sequence; root = root; additions = None }
+
+abbrev pub set : {V : Type 0} → List (ComponentType V) → Components V
+set root = record { kind = is_set; root = root; additions = None }
+
+-- with one
+abbrev pub extensible_sequence : {V : Type 0} → List (ComponentType V) → List (ComponentType V) → Components V
+extensible_sequence root additions = record { kind = is_sequence; root = root; additions = Some additions }
+
+abbrev pub extensible_set : {V : Type 0} → List (ComponentType V) → List (ComponentType V) → Components V
+extensible_set root additions = record { kind = is_set; root = root; additions = Some additions }
+
+-- the entry, at its place among entries in canonical order
+abbrev pub put_in_order : Entry → List Entry → List Entry
+put_in_order e [] = e ∷ []
+put_in_order e (f ∷ fs) = if in_order (component_of e) (component_of f) then e ∷ f ∷ fs else f ∷ put_in_order e fs
+
+-- the entries in canonical order: by the smallest tag of each (X.680, 8.6)
+abbrev pub in_canonical_order : List Entry → List Entry
+in_canonical_order [] = []
+in_canonical_order (e ∷ es) = put_in_order e (in_canonical_order es)
+
+-- the table of the root: of a SEQUENCE in the order of the definition, of a SET in canonical order
+abbrev pub table_in : Kind → List Entry → List Entry
+table_in is_sequence es = es
+table_in is_set es = in_canonical_order es
+
+-- all tags that must be distinct are: as in a SEQUENCE, or as in a SET
+abbrev pub AreDistinctIn : {V : Type 0} → Kind → List (ComponentType V) → Type 0
+AreDistinctIn is_sequence cs = AreDistinctInSequence cs
+AreDistinctIn is_set cs = AreDistinctInSet cs
+
+-- what a value's record is, apart from what is inside
+abbrev pub head_in : Kind → Tag → Name → Head
+head_in is_sequence t n = sequence_head t n
+head_in is_set t n = set_head t n
+
+pub head_has_tag : (kind : Kind) (t : Tag) (n : Name) → head_tag (head_in kind t n) ≡ t
+head_has_tag is_sequence t n = refl
+head_has_tag is_set t n = refl
+
+-- the tag that X.680 assigns to the kind (8.4, table 1)
+abbrev pub tag_of : Kind → Tag
+tag_of is_sequence = universal 16
+tag_of is_set = universal 17
+
+module _ {V : Type 0} (components : Components V) where
+  -- the additions, none where there is no extension marker
+  abbrev pub added : List (ComponentType V)
+  added = unwrap_or components.additions []
+
+  -- all components, in the order of their definition
+  abbrev pub all_components : List (ComponentType V)
+  all_components = components.root ++ added
+
+  -- the records of a value's
+  abbrev pub component_records : V → List Record
+  component_records = all_records all_components
+
+  -- The lines of the field table: those of the root, and then the additions. The index of each is its place in the
+  -- definition.
+  abbrev pub root_entries : List Entry
+  root_entries = table_in components.kind (entries_from 0 components.root)
+
+  abbrev pub added_entries : List Entry
+  added_entries = entries_from (length components.root) added
+
+  abbrev pub table : List Entry
+  table = root_entries ++ added_entries
+
+  -- The type of each component can be there, additions may be absent at will, and tags are distinct.
+  abbrev pub CanStandTogether : Type 0
+  CanStandTogether =
+      EachCanStandInside all_components × All (λ c. c.presence ≡ Optional) added × AreDistinctIn components.kind all_components
+
+  -- what a value has inside
+  abbrev pub inside : Inside V
+  inside = record {
+    records = component_records;
+    CanStandInside = CanStandTogether;
+    AreOfType = EachIsOfType all_components;
+    AreValid = EachIsValid all_components;
+  }
+
+  -- The type of these components, under a tag of its own, and with a name.
+  abbrev pub constructed_type_under : Tag → List ℕ → Meaning V
+  constructed_type_under tag name =
+      scope_type (λ t c n. head_in components.kind t n) (λ t c n. head_has_tag components.kind t n) tag unconstrained (Some name) inside
+
+-- The type of these components, under the tag of its kind.
+abbrev pub constructed_type : {V : Type 0} → List ℕ → Components V → Meaning V
+constructed_type name components = constructed_type_under components (tag_of components.kind) name
+
+-- A group of additions, by its components.
+abbrev pub group : {V W : Type 0} → List ℕ → (V → Option W) → Components W → ComponentType V
+group name get components = group_of name get (all_components components)
+
+-- A type has these components: its values are the records of theirs, it is well tagged only where they can stand
+-- together, and a value has by its type, and is valid by, what they have and are.
+pub record Has {V : Type 0} (m : Meaning V) (components : Components V) : Type 0 where
+  pub records : (v : V) (t : Tag) (c : ConstraintSet) (n : Name) →
+      m.records v t c n ≡ holding (head_in components.kind t n) (component_records components v) ∷ []
+  pub well_tagged : (t : Tag) → m.IsWellTagged t → CanStandTogether components
+  pub of_type : (v : V) → m.IsOfType v ↔ EachIsOfType (all_components components) v
+  pub valid : (takes : List ℕ → Bool) (v : V) → m.IsValid takes v ↔ EachIsValid (all_components components) takes v
+
+-- so has each type that is made of them
+pub made_of : {V : Type 0} {tag : Tag} {name : List ℕ} {components : Components V} → Has (constructed_type_under components tag name) components
+made_of = record {
+  records = λ v t c n. refl;
+  well_tagged = λ t h. h.1;
+  of_type = λ v. (λ h. h, λ h. h);
+  valid = λ takes v. (λ h. h, λ h. h);
+}
+
+-- A type that holds itself. Its components speak of it, so its records, what it has by its type and which values are valid
+-- are defined first, by recursion over its values. This is what it means to its own components, of which nothing is asked
+-- there.
+abbrev pub inside_itself : {V : Type 0} → List ℕ → Kind → (V → List Record) → (V → Type 0) → ((List ℕ → Bool) → V → Type 0) → Meaning V
+inside_itself name kind fields AreOfType AreValid =
+    scope_type (λ t c n. head_in kind t n) (λ t c n. head_has_tag kind t n) (tag_of kind) unconstrained (Some name) (record {
+      records = fields;
+      CanStandInside = ⊤;
+      AreOfType = AreOfType;
+      AreValid = AreValid;
+    })
+
+-- And this is what it means to all others, with its components, which speak of it by the word above.
+abbrev pub holding_itself : {V : Type 0} → List ℕ → (V → List Record) → (V → Type 0) → ((List ℕ → Bool) → V → Type 0) → Components V → Meaning V
+holding_itself name fields AreOfType AreValid components =
+    scope_type (λ t c n. head_in components.kind t n) (λ t c n. head_has_tag components.kind t n) (tag_of components.kind) unconstrained (Some name) (record {
+      records = fields;
+      CanStandInside = CanStandTogether components;
+      AreOfType = AreOfType;
+      AreValid = AreValid;
+    })

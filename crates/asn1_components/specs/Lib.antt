@@ -1,0 +1,4 @@
+pub mod ComponentLists
+pub mod ComponentTypes
+pub mod Components
+pub mod Following
