@@ -39,6 +39,11 @@ abbrev pub EachCanStandInside : {V : Type 0} → List (ComponentType V) → Type
 EachCanStandInside [] = ⊤
 EachCanStandInside (c ∷ cs) = c.CanStandInside × EachCanStandInside cs
 
+-- each may be absent at will, as additions may (X.680, 25.6.3)
+abbrev pub EachIsOptional : {V : Type 0} → List (ComponentType V) → Type 0
+EachIsOptional [] = ⊤
+EachIsOptional (c ∷ cs) = (c.presence ≡ Optional) × EachIsOptional cs
+
 -- each has what it has by its type
 abbrev pub EachIsOfType : {V : Type 0} → List (ComponentType V) → V → Type 0
 EachIsOfType [] v = ⊤
@@ -85,7 +90,7 @@ between_marks tree rs false e f =
     let h = begins_before (tree_tags tree) rs (mark group_end ∷ []) (f e) in
     inl (record { some = h.some; within = h.within })
 
-group_fits : {W : Type 0} (cs : List (ComponentType W)) → EachCanStandInside cs → (o : Option W) →
+pub group_fits : {W : Type 0} (cs : List (ComponentType W)) → EachCanStandInside cs → (o : Option W) →
     Fits Optional (choice (trees_of cs)) (group_records (option_map (all_records cs) o))
 group_fits cs can None = inr (refl, refl)
 group_fits cs can (Some w) =

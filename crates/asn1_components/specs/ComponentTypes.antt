@@ -49,7 +49,7 @@ required name get type = record {
   fits = λ can v. inl (one_begins (tree_tags type.tree) (type.records (get v)) (type.one_record can (get v)));
 }
 
-present_or_absent : {W : Type 0} (type : TaggedType W) (presence : FieldPresence) → Fits presence type.tree (option_records type.tag None) →
+pub present_or_absent : {W : Type 0} (type : TaggedType W) (presence : FieldPresence) → Fits presence type.tree (option_records type.tag None) →
     type.CanStandInside → (o : Option W) → Fits presence type.tree (option_records type.tag (option_map type.records o))
 present_or_absent type presence absent can None = absent
 present_or_absent type presence absent can (Some w) = inl (present_begins (tree_tags type.tree) type.tag (type.records w) (type.one_record can w))
@@ -68,7 +68,7 @@ optional name get type = record {
   fits = λ can v. present_or_absent type Optional (inr (refl, refl)) can (get v);
 }
 
-other_than_default : {W : Type 0} (type : TaggedType W) → type.CanStandInside → (w : W) (is_default : Bool) →
+pub other_than_default : {W : Type 0} (type : TaggedType W) → type.CanStandInside → (w : W) (is_default : Bool) →
     Fits Default type.tree (default_records is_default type.tag (type.records w))
 other_than_default type can w true = inr (refl, refl)
 other_than_default type can w false = present_or_absent type Default (inr (refl, refl)) can (Some w)

@@ -1,6 +1,6 @@
 -- The components of a SEQUENCE, a SET or a group, each written once: the records of a value, the lines of the field table,
 -- whether the tags are distinct, and which values are valid follow from them.
-use Rattle.std.specs.Prelude.{◌≡◌, ◌↔◌, ℕ, ⊤, Bool, is_some, unwrap_or, List, [], ◌∷◌, ◌++◌, length, All, Option, None, Some, refl}
+use Rattle.std.specs.Prelude.{◌≡◌, ◌↔◌, ℕ, ⊤, Bool, true, false, List, [], ◌∷◌, ◌++◌, length, Option, Some, refl, if◌then◌else◌}
 use Rattle.asn1_tags.specs.declared.tags.Tag.{Tag}
 use Rattle.asn1_model.specs.ConstraintSets.{ConstraintSet, unconstrained}
 use Rattle.asn1_model.specs.Kinds.{Inside, scope_type}
@@ -9,8 +9,7 @@ use Rattle.asn1_model.specs.Records.{Name, Record, Head, sequence as sequence_he
 use Rattle.asn1_model.specs.Tags.{IsATag, head_tag, universal}
 use Rattle.asn1_fields.specs.Canonical.{in_order}
 use Rattle.asn1_fields.specs.Components.{Entry, component_of}
-use Rattle.asn1_fields.specs.declared.presence.FieldPresence.TheVariants.{Optional}
-use Rattle.asn1_components.specs.ComponentLists.{all_records, entries_from, EachCanStandInside, EachIsOfType, EachIsValid, AreDistinctInSequence, AreDistinctInSet, group_of}
+use Rattle.asn1_components.specs.ComponentLists.{all_records, entries_from, EachCanStandInside, EachIsOptional, EachIsOfType, EachIsValid, AreDistinctInSequence, AreDistinctInSet, group_of}
 use Rattle.asn1_components.specs.ComponentTypes.{ComponentType}
 
 -- A SEQUENCE (X.680, 25) or a SET (27); a group is a SEQUENCE here.
@@ -18,25 +17,30 @@ pub data Kind : Type 0 where
   is_sequence : Kind
   is_set : Kind
 
--- The components, in the order of their definition: those of the root, and after an extension marker the additions.
+-- Whether there is an extension marker, and the additions after it (X.680, 25.1).
+pub data Extension (V : Type 0) : Type 1 where
+  no_marker : Extension V
+  marker : List (ComponentType V) → Extension V
+
+-- The components, in the order of their definition: those of the root, and then the additions.
 pub record Components (V : Type 0) : Type 1 where
   pub kind : Kind
   pub root : List (ComponentType V)
-  pub additions : Option (List (ComponentType V))
+  pub extension : Extension V
 
 -- without an extension marker
 abbrev pub sequence : {V : Type 0} → List (ComponentType V) → Components V
-sequence root = record { kind = is_sequence; root = root; additions = None }
+sequence root = record { kind = is_sequence; root = root; extension = no_marker }
 
 abbrev pub set : {V : Type 0} → List (ComponentType V) → Components V
-set root = record { kind = is_set; root = root; additions = None }
+set root = record { kind = is_set; root = root; extension = no_marker }
 
 -- with one
 abbrev pub extensible_sequence : {V : Type 0} → List (ComponentType V) → List (ComponentType V) → Components V
-extensible_sequence root additions = record { kind = is_sequence; root = root; additions = Some additions }
+extensible_sequence root additions = record { kind = is_sequence; root = root; extension = marker additions }
 
 abbrev pub extensible_set : {V : Type 0} → List (ComponentType V) → List (ComponentType V) → Components V
-extensible_set root additions = record { kind = is_set; root = root; additions = Some additions }
+extensible_set root additions = record { kind = is_set; root = root; extension = marker additions }
 
 -- the entry, at its place among entries in canonical order
 abbrev pub put_in_order : Entry → List Entry → List Entry
@@ -72,10 +76,20 @@ abbrev pub tag_of : Kind → Tag
 tag_of is_sequence = universal 16
 tag_of is_set = universal 17
 
+-- there is one
+abbrev pub has_marker : {V : Type 0} → Extension V → Bool
+has_marker no_marker = false
+has_marker (marker additions) = true
+
+-- the additions, none where there is no marker
+abbrev pub additions_of : {V : Type 0} → Extension V → List (ComponentType V)
+additions_of no_marker = []
+additions_of (marker additions) = additions
+
 module _ {V : Type 0} (components : Components V) where
   -- the additions, none where there is no extension marker
   abbrev pub added : List (ComponentType V)
-  added = unwrap_or components.additions []
+  added = additions_of components.extension
 
   -- all components, in the order of their definition
   abbrev pub all_components : List (ComponentType V)
@@ -99,7 +113,7 @@ module _ {V : Type 0} (components : Components V) where
   -- The type of each component can be there, additions may be absent at will, and tags are distinct.
   abbrev pub CanStandTogether : Type 0
   CanStandTogether =
-      EachCanStandInside all_components × All (λ c. c.presence ≡ Optional) added × AreDistinctIn components.kind all_components
+      EachCanStandInside all_components × EachIsOptional added × AreDistinctIn components.kind all_components
 
   -- what a value has inside
   abbrev pub inside : Inside V
