@@ -25,8 +25,8 @@ use Rattle.asn1_tags.specs.Trees.{is_open, leaves}
 use Rattle.asn1_tags.specs.Walks.{meet}
 use Rattle.asn1_tags.proofs.Smallest.{IsAtMost-from_not_less, IsAtMost-antisym}
 use Rattle.asn1_tags.proofs.Distinct.{tag_eq-true, tag_eq-refl}
-use Rattle.asn1_fields.specs.Components.{Component}
-use Rattle.asn1_fields.specs.Clash.{IsLeast, IsSetClash, IsUpTo, set_clash}
+use Rattle.asn1_fields.specs.Entries.{Component}
+use Rattle.asn1_fields.specs.DistinctTags.{IsLeast, IsSetClash, IsUpTo, set_clash}
 use Rattle.asn1_fields.proofs.Clashes.{set_clash-is}
 use Rattle.asn1_fields.proofs.SharedTags.{open_or_leaf, tag-from_open_or_leaf, ShareTag-from_test}
 use Rattle.asn1_clash.specs.declared.search.Occurrence.{Occurrence}
@@ -214,8 +214,8 @@ pub neighbours_ahead : (all : List Occurrence) → IsSorted occurrence_cmp all �
 neighbours_ahead all up i j h =
     let x = h.at_first in
     let y = h.at_second in
-    let before = ordered_places all up x.0 y.0 h.tag i j x.1 h.behind x.2 y.2 in
-    neighbour_of all up (y.0 - x.0) x.0 y.0 h.tag i j (omega arith) y.1 h.behind x.2 y.2
+    let before = ordered_places all up x.0 y.0 h.tag i j x.1 h.before x.2 y.2 in
+    neighbour_of all up (y.0 - x.0) x.0 y.0 h.tag i j (omega arith) y.1 h.before x.2 y.2
 
 -- neighbours are such places
 pub neighbours_occur : (all : List Occurrence) → IsSorted occurrence_cmp all → (n i j : ℕ) → Neighbours all n i j → OccursTwice all i j
@@ -229,7 +229,7 @@ neighbours_occur all up n i j h =
     let lt = h.fits in
     record {
       tag = h.first.tag;
-      behind = omega arith;
+      before = omega arith;
       at_first = (h.at, omega arith, subst (λ o. get_or all h.at o ≡ o) (sym first) h.first_at);
       at_second = (h.at + 1, h.fits, subst (λ o. get_or all (h.at + 1) o ≡ o) (sym second) h.second_at);
     }
@@ -372,7 +372,7 @@ clash_which cs all moved i j h =
     by_tags (open_or_leaf h.first.tree h.shared.tag h.shared.of_first) (open_or_leaf h.second.tree h.shared.tag h.shared.of_second)
   where
     any : (is_open h.first.tree || is_open h.second.tree) ≡ true → HasOpen cs i j
-    any open_one = record { first = h.first; second = h.second; first_at = h.first_at; second_at = h.second_at; behind = h.behind; open_one = open_one }
+    any open_one = record { first = h.first; second = h.second; first_at = h.first_at; second_at = h.second_at; before = h.before; open_one = open_one }
 
     at : (k : ℕ) (c : Component) → slice_get cs k ≡ Some c → Contains (leaves c.tree) h.shared.tag → Contains all (record { tag = h.shared.tag; place = k })
     at k c is has = Contains-permutation (occurrences 0 cs) all _ moved (subst (λ n. Contains (occurrences 0 cs) (record { tag = h.shared.tag; place = n })) (omega arith) (to_occurrence 0 cs h.shared.tag k c is has))
@@ -383,7 +383,7 @@ clash_which cs all moved i j h =
     by_tags (inl e) f = inl (any (or_left (is_open h.first.tree) (is_open h.second.tree) e))
     by_tags (inr e) (inl f) = inl (any (or_right (is_open h.first.tree) (is_open h.second.tree) f))
     by_tags (inr e) (inr f) =
-        inr (record { tag = h.shared.tag; behind = h.behind; at_first = at i h.first h.first_at e; at_second = at j h.second h.second_at f })
+        inr (record { tag = h.shared.tag; before = h.before; at_first = at i h.first h.first_at e; at_second = at j h.second h.second_at f })
 
 clash_from_open : (cs : List Component) (i j : ℕ) → HasOpen cs i j → IsSetClash cs i j
 clash_from_open cs i j h = record {
@@ -391,7 +391,7 @@ clash_from_open cs i j h = record {
   second = h.second;
   first_at = h.first_at;
   second_at = h.second_at;
-  behind = h.behind;
+  before = h.before;
   shared = ShareTag-from_test h.first.tree h.second.tree (or_left (is_open h.first.tree || is_open h.second.tree) (meet (leaves h.first.tree) (leaves h.second.tree)) h.open_one);
 }
 
@@ -407,7 +407,7 @@ clash_from_twice cs all moved i j h =
       second = second.1;
       first_at = subst (λ k. slice_get cs k ≡ Some first.1) first_place first.3;
       second_at = subst (λ k. slice_get cs k ≡ Some second.1) second_place second.3;
-      behind = h.behind;
+      before = h.before;
       shared = record {
         tag = h.tag;
         of_first = tag-from_open_or_leaf first.1.tree h.tag (inr first.4);
@@ -449,7 +449,7 @@ first_open cs k d is fits =
       second = get_or cs 1 d;
       first_at = slice_get-get_or cs 0 d (omega arith);
       second_at = slice_get-get_or cs 1 d (omega arith);
-      behind = omega arith;
+      before = omega arith;
       open_one = or_left (is_open (get_or cs 0 d).tree) (is_open (get_or cs 1 d).tree) here;
     }
     by_place (suc n) here lt =
@@ -460,7 +460,7 @@ first_open cs k d is fits =
           second = get_or cs (suc n) d;
           first_at = slice_get-get_or cs 0 d (omega arith);
           second_at = slice_get-get_or cs (suc n) d (omega arith);
-          behind = omega arith;
+          before = omega arith;
           open_one = or_right (is_open (get_or cs 0 d).tree) (is_open (get_or cs (suc n) d).tree) here;
         })
 
@@ -476,8 +476,8 @@ first_open cs k d is fits =
             by_order (inl lt) = absurd (false≢true (sym (shut m lt) ∙ (ap (λ x. is_open x.tree) (get_or_from_slice_get cs m c d at) ∙ open_here)))
 
         bound : (is_open h.first.tree ≡ true) ⊎ (is_open h.second.tree ≡ true) → max k 1 ≤ j
-        bound (inl e) = let le = not_before 0 h.first h.first_at e in let lt = h.behind in omega arith
-        bound (inr e) = let le = not_before j h.second h.second_at e in let lt = h.behind in omega arith
+        bound (inl e) = let le = not_before 0 h.first h.first_at e in let lt = h.before in omega arith
+        bound (inr e) = let le = not_before j h.second h.second_at e in let lt = h.before in omega arith
 
 -- beyond the last there are no neighbours
 pub neighbours_end : (all : List Occurrence) (n : ℕ) (r : Option (ℕ × ℕ)) → length all ≤ n → IsLeast (Neighbours all n) r → IsLeast (Neighbours all (length all)) r
@@ -537,7 +537,7 @@ pub one_alone : (cs : List Component) (k : ℕ) (d : Component) → position (λ
 one_alone cs k d is few i j h =
     let found = position-Some (λ c. is_open c.tree) cs k d is in
     let within = slice_get_within cs j h.second h.second_at in
-    let lt = h.behind in
+    let lt = h.before in
     let bound = found.0 in
     omega arith
 

@@ -1,4 +1,4 @@
--- The runs of components that may be absent, each with the component right behind it.
+-- The runs of components that may be absent, each with the component right after it.
 use Rattle.std.proofs.Common.{◌≡◌, ℕ, zero, suc, ◌+◌, ◌<◌, ◌≤◌, ◌==◌, Bool, true, false, cond, not, nat_lt, Option, Some, None, List, [], ◌∷◌, length, take, drop, option_map, refl, sym, ap, ◌∙◌, subst, arith}
 use Rattle.std.specs.Prelude.{position}
 use Rattle.std.specs.List.{position_or_len}
@@ -7,8 +7,8 @@ use Rattle.std.proofs.lemmas.Bool.{false≢true}
 use Rattle.std.proofs.lemmas.Bool.Decides.{nat_tests}
 use Rattle.std.proofs.lemmas.List.{length-map, take-map, drop-map}
 use Rattle.std.proofs.lemmas.Option.{slice_get_within}
-use Rattle.asn1_fields.specs.Components.{Component, may_be_absent}
-use Rattle.asn1_fields.specs.Clash.{sequence_clash, set_clash, share_tag, up_to_required, IsLeast, IsSetClash}
+use Rattle.asn1_fields.specs.Entries.{Component, may_be_absent}
+use Rattle.asn1_fields.specs.DistinctTags.{sequence_clash, set_clash, share_tag, up_to_required, IsLeast, IsSetClash}
 use Rattle.asn1_fields.proofs.Clashes.{set_clash-is}
 use Rattle.asn1_fields.proofs.Searches.{shifted, shifted-shifted}
 use Rattle.asn1_clash.specs.declared.flat_component.FlatComponent.{FlatComponent}
@@ -22,7 +22,7 @@ shifted-or : (a b : Option (ℕ × ℕ)) → shifted 1 (option_or a b) ≡ optio
 shifted-or None b = refl
 shifted-or (Some p) b = refl
 
--- the first clash of a SEQUENCE is that of its first run as a SET, or else that of what is behind
+-- the first clash of a SEQUENCE is that of its first run as a SET, or else that of what follows the run
 pub clash_by_runs : (cs : List Component) →
     sequence_clash cs ≡ option_or (set_clash (up_to_required cs)) (shifted (length (up_to_required cs)) (sequence_clash (drop (length (up_to_required cs)) cs)))
 clash_by_runs [] = refl
@@ -39,12 +39,12 @@ clash_by_runs (c ∷ cs) = by_test (may_be_absent c.presence) refl (clash_by_run
     by_test true absent rest =
         let run = up_to_required cs in
         let n = length run in
-        let behind = sequence_clash (drop n cs) in
+        let later = sequence_clash (drop n cs) in
         let longer : 1 + n ≡ suc n = omega arith in
         ap (λ r. option_or (here run) (shifted 1 r)) rest
-        ∙ (ap (option_or (here run)) (shifted-or (set_clash run) (shifted n behind))
-        ∙ (or_assoc (here run) (shifted 1 (set_clash run)) (shifted 1 (shifted n behind))
-        ∙ ap (option_or (set_clash (c ∷ run))) (shifted-shifted 1 n behind ∙ ap (λ k. shifted k behind) longer)))
+        ∙ (ap (option_or (here run)) (shifted-or (set_clash run) (shifted n later))
+        ∙ (or_assoc (here run) (shifted 1 (set_clash run)) (shifted 1 (shifted n later))
+        ∙ ap (option_or (set_clash (c ∷ run))) (shifted-shifted 1 n later ∙ ap (λ k. shifted k later) longer)))
     by_test false there rest = refl
 
 -- the components up to the first that must be there stand first
@@ -158,7 +158,7 @@ clash_within fs i j found =
     let clash = is.0 in
     let second = slice_get_within (components_seen fs) j clash.second clash.second_at in
     let same = length-map fs component_seen in
-    let lt = clash.behind in
+    let lt = clash.before in
     (omega arith, omega arith)
 
 -- without components there is no clash

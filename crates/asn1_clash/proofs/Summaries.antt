@@ -52,7 +52,7 @@ repeated-from_level (t ∷ ts) k up within level = by_test (distinct (t ∷ ts))
         let above = IsAtMost-from_not_less (get_or (t ∷ ts) (k + 1) t) (get_or (t ∷ ts) k t) (up k t (omega arith) within) in
         absurd (AllPairs-from_distinct (t ∷ ts) is k (k + 1) t (omega arith) within (IsAtMost-antisym _ _ above below))
 
--- in order, no tag stands twice exactly where each stands before the next
+-- in order, no tag stands twice if and only if each is below the next
 pub distinct-in_order : (ts : List Tag) (r : Bool) → IsSorted tag_cmp ts → IsAllAdjacentAnswer (λ s t b. b ≡ is_lt (tag_cmp s t)) ts r → r ≡ distinct ts
 distinct-in_order ts true up answer = sym (distinct-from_rising ts up answer)
 distinct-in_order ts false up answer = sym (repeated-from_level ts answer.0 up answer.1 answer.2)

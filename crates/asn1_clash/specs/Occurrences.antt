@@ -5,7 +5,7 @@ use Rattle.std.specs.Ordering.{nat_cmp, on, then_cmp}
 use Rattle.asn1_tags.specs.Tags.{tag_cmp, tag_eq}
 use Rattle.asn1_tags.specs.Trees.{is_open, leaves}
 use Rattle.asn1_tags.specs.declared.tags.Tag.{Tag}
-use Rattle.asn1_fields.specs.Components.{Component}
+use Rattle.asn1_fields.specs.Entries.{Component}
 use Rattle.asn1_clash.specs.declared.search.Occurrence.{Occurrence}
 
 -- the leaves of the component at a place
@@ -28,7 +28,7 @@ pair_of a b = if tag_eq a.tag b.tag && not (a.place == b.place) then Some (a.pla
 -- some tag occurs at both places
 pub record OccursTwice (all : List Occurrence) (i j : ℕ) : Type 0 where
   pub tag : Tag
-  pub behind : i < j
+  pub before : i < j
   pub at_first : Contains all (record { tag = tag; place = i })
   pub at_second : Contains all (record { tag = tag; place = j })
 
@@ -38,7 +38,7 @@ pub record HasOpen (components : List Component) (i j : ℕ) : Type 0 where
   pub second : Component
   pub first_at : slice_get components i ≡ Some first
   pub second_at : slice_get components j ≡ Some second
-  pub behind : i < j
+  pub before : i < j
   pub open_one : IsTrue (is_open first.tree || is_open second.tree)
 
 -- whether the first pair stands before the second

@@ -1,8 +1,8 @@
 //! Components of SEQUENCE and SET types, as the rules on distinct tags look at them.
 ghost use Rattle.std.specs.Prelude.{◌≡◌, map, IfOk};
 ghost use Rattle.asn1_tags.specs.Trees.{is_open, leaves};
-ghost use Rattle.asn1_fields.specs.Canonical.{in_order, smallest_tag};
-ghost use Rattle.asn1_fields.specs.Components.{component_of, components, entry_of, may_be_absent};
+ghost use Rattle.asn1_fields.specs.CanonicalOrder.{in_order, smallest_tag};
+ghost use Rattle.asn1_fields.specs.Entries.{component_of, components, entry_of, may_be_absent};
 ghost use Rattle.asn1_clash.specs.Flat.{flat_component};
 
 use crate::flat_tree::FlatTree;

@@ -17,7 +17,7 @@
 //!
 //! - `find_sequence_clash` and `find_set_clash` answer the least pair of places that breaks X.680's rule, and `None` if
 //!   and only if there is none (`least`, and `report` as a function). The rules, and what the least pair is, are words of
-//!   `asn1_fields` (`specs/Clash.antt`), and so is the canonical order, which `is_canonical` decides (`ordered`,
+//!   `asn1_fields` (`specs/DistinctTags.antt`), and so is the canonical order, which `is_canonical` decides (`ordered`,
 //!   `report`). The answers are those for each table of which these are the flat components (`report_of_table`,
 //!   `least_of_table`), so a caller with a field table has the very answers of the calls of `asn1_fields`.
 //! - A flat tree is seen as a tree again, with the leaves side by side (`tree_seen`, `component_seen` in

@@ -2,8 +2,8 @@
 ghost use Rattle.std.specs.Prelude.{◌≡◌, List, length, map, not, position, IfOk};
 ghost use Rattle.std.specs.List.Sorted.{IsSorted};
 ghost use Rattle.asn1_tags.specs.Trees.{is_open};
-ghost use Rattle.asn1_fields.specs.Clash.{IsLeast, IsSequenceClash, IsSetClash, sequence_clash, set_clash, up_to_required};
-ghost use Rattle.asn1_fields.specs.Components.{Component, may_be_absent};
+ghost use Rattle.asn1_fields.specs.DistinctTags.{IsLeast, IsSequenceClash, IsSetClash, sequence_clash, set_clash, up_to_required};
+ghost use Rattle.asn1_fields.specs.Entries.{Component, may_be_absent};
 ghost use Rattle.asn1_clash.specs.Flat.{flat_component};
 ghost use Rattle.asn1_clash.specs.Seen.{component_seen, components_seen};
 ghost use Rattle.asn1_clash.specs.Occurrences.{HasOpen, OccursTwice, lesser_pair, occurrence_cmp, occurrences, pair_less, pair_of};

@@ -7,9 +7,9 @@ use Rattle.asn1_tags.specs.Tags.{smallest, tag_cmp}
 use Rattle.asn1_tags.specs.Trees.{is_open, leaves}
 use Rattle.asn1_tags.specs.Walks.{meet}
 use Rattle.asn1_tags.specs.declared.tags.Tag.{Tag}
-use Rattle.asn1_fields.specs.Canonical.{canonical}
-use Rattle.asn1_fields.specs.Clash.{first_clash, rivals, sequence_clash, set_clash, share_tag, up_to_required}
-use Rattle.asn1_fields.specs.Components.{Component, may_be_absent}
+use Rattle.asn1_fields.specs.CanonicalOrder.{canonical}
+use Rattle.asn1_fields.specs.DistinctTags.{first_clash, rivals, sequence_clash, set_clash, share_tag, up_to_required}
+use Rattle.asn1_fields.specs.Entries.{Component, may_be_absent}
 use Rattle.asn1_fields.specs.declared.presence.FieldPresence.{FieldPresence}
 use Rattle.asn1_fields.proofs.Places.{position-map}
 
@@ -70,8 +70,8 @@ sequence_clash-alike cs ds alike =
 
 pub set_clash-alike : (cs ds : List Component) → map look_at cs ≡ map look_at ds → set_clash cs ≡ set_clash ds
 set_clash-alike cs ds alike =
-    first_clash-looks (λ c behind. behind) (λ l behind. behind) (λ c cs. refl) cs
-    ∙ (ap (first_shared (λ l behind. behind)) alike ∙ sym (first_clash-looks (λ c behind. behind) (λ l behind. behind) (λ c cs. refl) ds))
+    first_clash-looks (λ c following. following) (λ l following. following) (λ c cs. refl) cs
+    ∙ (ap (first_shared (λ l following. following)) alike ∙ sym (first_clash-looks (λ c following. following) (λ l following. following) (λ c cs. refl) ds))
 
 abbrev canonical_look : List Look → Bool
 canonical_look [] = true

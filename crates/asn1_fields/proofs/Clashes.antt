@@ -4,15 +4,15 @@ use Rattle.std.specs.List.{position, slice_get}
 use Rattle.std.specs.Option.{option_map, option_or}
 use Rattle.std.proofs.lemmas.Bool.{cases_lt, false≢true}
 use Rattle.std.proofs.lemmas.Option.{none-some, same_Some}
-use Rattle.asn1_fields.specs.Clash.{IsLeast, IsSequenceClash, IsSetClash, IsUpTo, ShareTag, first_clash, rivals, sequence_clash, set_clash, share_tag, up_to_required}
-use Rattle.asn1_fields.specs.Components.{Component, may_be_absent}
+use Rattle.asn1_fields.specs.DistinctTags.{IsLeast, IsSequenceClash, IsSetClash, IsUpTo, ShareTag, first_clash, rivals, sequence_clash, set_clash, share_tag, up_to_required}
+use Rattle.asn1_fields.specs.Entries.{Component, may_be_absent}
 use Rattle.asn1_fields.proofs.Places.{position-found, position-missing}
 use Rattle.asn1_fields.proofs.SharedTags.{ShareTag-from_test, test-from_ShareTag}
 
--- A relation between places of components by which a component clashes with some of those behind it, `others`.
+-- A relation between places of components by which a component clashes with some of those after it, `others`.
 record IsFoundBy (others : Component → List Component → List Component) (IsClash : List Component → ℕ → ℕ → Type 0) : Type 0 where
   nothing : (i j : ℕ) → IsClash [] i j → ⊥
-  behind : (cs : List Component) (i j : ℕ) → IsClash cs i j → i < j
+  before : (cs : List Component) (i j : ℕ) → IsClash cs i j → i < j
   here : (c : Component) (cs : List Component) (j : ℕ) (d : Component) → slice_get (others c cs) j ≡ Some d → ShareTag c.tree d.tree → IsClash (c ∷ cs) 0 (suc j)
   from_here : (c : Component) (cs : List Component) (j : ℕ) → IsClash (c ∷ cs) 0 (suc j) → (d : Component) × (slice_get (others c cs) j ≡ Some d) × ShareTag c.tree d.tree
   later : (c : Component) (cs : List Component) (i j : ℕ) → IsClash cs i j → IsClash (c ∷ cs) (suc i) (suc j)
@@ -34,7 +34,7 @@ module _ (others : Component → List Component → List Component) (IsClash : L
       least : ((k : ℕ) (y : Component) → k < j → slice_get (others c cs) k ≡ Some y → share_tag c.tree y.tree ≡ false) →
           (i k : ℕ) → IsClash (c ∷ cs) i k → IsUpTo (0, j + 1) (i, k)
       least none (suc i) k clash = inl (omega arith)
-      least none zero zero clash = let lt = by.behind (c ∷ cs) 0 0 clash in absurd (omega arith)
+      least none zero zero clash = let lt = by.before (c ∷ cs) 0 0 clash in absurd (omega arith)
       least none zero (suc k) clash = by_order (cases_lt k j)
         where
           by_order : (k < j) ⊎ (j ≤ k) → IsUpTo (0, j + 1) (0, suc k)
@@ -49,7 +49,7 @@ module _ (others : Component → List Component → List Component) (IsClash : L
   later_is c cs o e least = by_cases o least
     where
       not_here : (k : ℕ) → IsClash (c ∷ cs) 0 k → ⊥
-      not_here zero clash = let lt = by.behind (c ∷ cs) 0 0 clash in absurd (omega arith)
+      not_here zero clash = let lt = by.before (c ∷ cs) 0 0 clash in absurd (omega arith)
       not_here (suc k) clash =
           let other = by.from_here c cs k clash in
           false≢true
@@ -60,7 +60,7 @@ module _ (others : Component → List Component → List Component) (IsClash : L
         where
           absent : (i k : ℕ) → IsClash (c ∷ cs) i k → ⊥
           absent zero k clash = not_here k clash
-          absent (suc i) zero clash = let lt = by.behind (c ∷ cs) (suc i) 0 clash in absurd (omega arith)
+          absent (suc i) zero clash = let lt = by.before (c ∷ cs) (suc i) 0 clash in absurd (omega arith)
           absent (suc i) (suc k) clash = none i k (by.from_later c cs i k clash)
       by_cases (Some p) found = (
         subst (λ n. IsClash (c ∷ cs) (p.0 + 1) n) (sym (add-one p.1))
@@ -70,7 +70,7 @@ module _ (others : Component → List Component → List Component) (IsClash : L
         where
           up_to : (i k : ℕ) → IsClash (c ∷ cs) i k → IsUpTo (p.0 + 1, p.1 + 1) (i, k)
           up_to zero k clash = absurd (not_here k clash)
-          up_to (suc i) zero clash = let lt = by.behind (c ∷ cs) (suc i) 0 clash in absurd (omega arith)
+          up_to (suc i) zero clash = let lt = by.before (c ∷ cs) (suc i) 0 clash in absurd (omega arith)
           up_to (suc i) (suc k) clash =
               elim (found.1 i k (by.from_later c cs i k clash)) [
                 | inl lt ↦ inl (omega arith)
@@ -86,12 +86,12 @@ module _ (others : Component → List Component → List Component) (IsClash : L
       by_place rest (Some j) e = first_is c cs j e
       by_place rest None e = later_is c cs (first_clash others cs) e rest
 
--- in a SET each component clashes with any behind it
+-- in a SET each component clashes with any after it
 set_clashes : IsFoundBy (λ c cs. cs) IsSetClash
 set_clashes = record {
   nothing = λ i j clash. none-some clash.first clash.first_at;
-  behind = λ cs i j clash. clash.behind;
-  here = λ c cs j d at shared. record { first = c; second = d; first_at = refl; second_at = at; behind = omega arith; shared = shared };
+  before = λ cs i j clash. clash.before;
+  here = λ c cs j d at shared. record { first = c; second = d; first_at = refl; second_at = at; before = omega arith; shared = shared };
   from_here = λ c cs j clash. (
     clash.second,
     clash.second_at,
@@ -102,7 +102,7 @@ set_clashes = record {
     second = clash.second;
     first_at = clash.first_at;
     second_at = clash.second_at;
-    behind = let lt = clash.behind in omega arith;
+    before = let lt = clash.before in omega arith;
     shared = clash.shared;
   };
   from_later = λ c cs i j clash. record {
@@ -110,7 +110,7 @@ set_clashes = record {
     second = clash.second;
     first_at = clash.first_at;
     second_at = clash.second_at;
-    behind = let lt = clash.behind in omega arith;
+    before = let lt = clash.before in omega arith;
     shared = clash.shared;
   };
 }
@@ -148,7 +148,7 @@ to_up_to_required (c ∷ cs) (suc j) d e run =
 sequence_clashes : IsFoundBy rivals IsSequenceClash
 sequence_clashes = record {
   nothing = λ i j clash. set_clashes.nothing i j clash.pair;
-  behind = λ cs i j clash. clash.pair.behind;
+  before = λ cs i j clash. clash.pair.before;
   here = here;
   from_here = λ c cs j clash.
       let absent : may_be_absent c.presence ≡ true = clash.run 0 (omega arith) (omega arith) in
@@ -189,4 +189,4 @@ pub sequence_clash-is : (cs : List Component) → IsLeast (IsSequenceClash cs) (
 sequence_clash-is cs = first_clash-is rivals IsSequenceClash sequence_clashes cs
 
 pub set_clash-is : (cs : List Component) → IsLeast (IsSetClash cs) (set_clash cs)
-set_clash-is cs = first_clash-is (λ c behind. behind) IsSetClash set_clashes cs
+set_clash-is cs = first_clash-is (λ c following. following) IsSetClash set_clashes cs

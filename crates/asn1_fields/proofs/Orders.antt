@@ -9,9 +9,9 @@ use Rattle.std.proofs.lemmas.Option.{none-some, same_Some}
 use Rattle.std.proofs.lemmas.Simd.{map-map}
 use Rattle.asn1_tags.specs.Tags.{IsAtMost, class_number, tag_cmp}
 use Rattle.asn1_tags.specs.declared.tags.Tag.{Tag}
-use Rattle.asn1_fields.specs.Canonical.{IsCanonical, canonical, in_order, smallest_tag}
-use Rattle.asn1_fields.specs.Components.{Component, component_of, components, entry_of}
-use Rattle.asn1_fields.specs.declared.components.Field.{Field}
+use Rattle.asn1_fields.specs.CanonicalOrder.{IsCanonical, canonical, in_order, smallest_tag}
+use Rattle.asn1_fields.specs.Entries.{Component, component_of, components, entry_of}
+use Rattle.asn1_fields.specs.declared.field.Field.{Field}
 
 -- the order of tags, and what is at most what
 IsAtMost-from_le : (s t : Tag) → is_le (tag_cmp s t) ≡ true → IsAtMost s t

@@ -10,8 +10,8 @@ use Rattle.asn1_tags.specs.Tags.{IsAtMost, tag_eq}
 use Rattle.asn1_tags.specs.declared.tags.Tag.{Tag}
 use Rattle.asn1_tags.proofs.Distinct.{tag_eq-refl, tag_eq-true}
 use Rattle.asn1_tags.proofs.Smallest.{IsAtMost-antisym, IsAtMost-refl, IsAtMost-trans}
-use Rattle.asn1_fields.specs.Canonical.{IsCanonical, AtMostOneIsCanonical, smallest_tag}
-use Rattle.asn1_fields.specs.Components.{Entry, component_of}
+use Rattle.asn1_fields.specs.CanonicalOrder.{IsCanonical, AtMostOneIsCanonical, smallest_tag}
+use Rattle.asn1_fields.specs.Entries.{Entry, component_of}
 
 abbrev key : Entry → Tag
 key e = smallest_tag (component_of e)
@@ -21,7 +21,7 @@ abbrev IsAtMostAll : Tag → List Entry → Type 0
 IsAtMostAll t [] = Unit {0}
 IsAtMostAll t (e ∷ es) = IsAtMost t (key e) × IsAtMostAll t es
 
--- each entry's smallest tag is at most those of all behind it
+-- each entry's smallest tag is at most those of all after it
 abbrev IsAscending : List Entry → Type 0
 IsAscending [] = Unit {0}
 IsAscending (e ∷ es) = IsAtMostAll (key e) es × IsAscending es

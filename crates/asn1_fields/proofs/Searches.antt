@@ -7,9 +7,9 @@ use Rattle.std.proofs.lemmas.Bool.Decides.{nat_tests}
 use Rattle.std.proofs.lemmas.Grind.{common_steps}
 use Rattle.asn1_tags.specs.Trees.{shape}
 use Rattle.asn1_fields.proofs.Places.{position-map}
-use Rattle.asn1_fields.specs.Clash.{first_clash, rivals, share_tag, up_to_required}
-use Rattle.asn1_fields.specs.Components.{Component, component_of, components, entries, entry_of, may_be_absent}
-use Rattle.asn1_fields.specs.declared.components.Field.{Field}
+use Rattle.asn1_fields.specs.DistinctTags.{first_clash, rivals, share_tag, up_to_required}
+use Rattle.asn1_fields.specs.Entries.{Component, component_of, components, entries, entry_of, may_be_absent}
+use Rattle.asn1_fields.specs.declared.field.Field.{Field}
 
 -- what the first of the fields that is always there answers
 abbrev pub is_required : Field → Bool
@@ -76,7 +76,7 @@ module _ (others : Component → List Component → List Component) (fs : List F
   pub search_ends : (i : ℕ) → length fs ≤ i → IsLeft others fs i → first_clash others (components fs) ≡ None
   search_ends i past left = left ∙ ap (λ gs. shifted i (first_clash others (components gs))) (drop_all i fs past)
 
-  -- what is found at a place, or behind it
+  -- what is found at a place, or after it
   at_place : ℕ → Option ℕ → Option (ℕ × ℕ)
   at_place i o = option_or (option_map (λ j. (0, j + 1)) o) (shifted 1 (first_clash others (components (drop (i + 1) fs))))
 

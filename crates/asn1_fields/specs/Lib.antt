@@ -1,6 +1,6 @@
-pub mod Canonical
-pub mod Clash
-pub mod Components
+pub mod CanonicalOrder
+pub mod DistinctTags
+pub mod Entries
 pub mod EnumerationLaws
 pub mod Enumerations
-pub mod Tables
+pub mod FieldLists

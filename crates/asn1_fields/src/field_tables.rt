@@ -1,12 +1,12 @@
 //! Types with a table of fields.
 ghost use Rattle.std.specs.Prelude.{◌≡◌, ◌++◌, List, length, slice_get, MatchOption, Bool, true, false, All, []};
 ghost use Rattle.std.specs.Option.{option_map};
-ghost use Rattle.asn1_fields.specs.Components.{Entry, entries, entry_of};
-ghost use Rattle.asn1_fields.specs.Tables.{fields_of};
+ghost use Rattle.asn1_fields.specs.Entries.{Entry, entries, entry_of};
+ghost use Rattle.asn1_fields.specs.FieldLists.{fields_of};
 ghost use Rattle.asn1_fields.specs.declared.presence.FieldPresence.TheVariants.{Optional};
 
-use crate::components::Field;
-use crate::tables::Fields;
+use crate::field::Field;
+use crate::fields::Fields;
 
 /// The fields of a SEQUENCE or a SET type: those of its root in the order of its table, and then its additions.
 pub trait FieldTable {

@@ -1,9 +1,9 @@
 //! The iterators of a table.
 ghost use Rattle.std.specs.Prelude.{◌≡◌};
 ghost use Rattle.std.specs.Iterator.{YieldsFirst, YieldsFirstBy, item_count};
-ghost use Rattle.asn1_fields.specs.Tables.{fields_left, names_of, names_left, optional_fields, optional_left};
+ghost use Rattle.asn1_fields.specs.FieldLists.{fields_left, names_of, names_left, optional_fields, optional_left};
 
-use crate::components::Field;
+use crate::field::Field;
 use std::slice;
 
 /// The fields of a table, in order.

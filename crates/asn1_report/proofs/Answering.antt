@@ -3,7 +3,7 @@ use Rattle.std.proofs.Common.{◌≡◌, ℕ, ◌<◌, arith, Bool, true, false,
 use Rattle.std.specs.Prelude.{IsSomeAnd, is_some, unwrap_or}
 use Rattle.std.specs.Borrow.{Bor}
 use Rattle.std.proofs.lemmas.List.{append-nil}
-use Rattle.asn1_fields.specs.Components.{Component}
+use Rattle.asn1_fields.specs.Entries.{Component}
 use Rattle.asn1_clash.specs.declared.flat_component.FlatComponent.{FlatComponent}
 use Rattle.asn1_report.specs.declared.table.Table as declared
 use Rattle.asn1_report.specs.Grammar.{adds_component}

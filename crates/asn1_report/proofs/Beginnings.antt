@@ -97,10 +97,10 @@ mutual
   after_once none (more t ts) a b s_small t_small same = let first : ◌≡◌ {A = ℕ} 41 32 = cc in absurd (omega arith)
   after_once (more s ss) none a b s_small t_small same = let first : ◌≡◌ {A = ℕ} 32 41 = cc in absurd (omega arith)
   after_once (more s ss) (more t ts) a b s_small t_small same =
-      let behind : (spelling s ++ spelling_after ss) ++ 41 ∷ a ≡ (spelling t ++ spelling_after ts) ++ 41 ∷ b = cc in
+      let longer : (spelling s ++ spelling_after ss) ++ 41 ∷ a ≡ (spelling t ++ spelling_after ts) ++ 41 ∷ b = cc in
       let first =
       tree_once s t (spelling_after ss ++ 41 ∷ a) (spelling_after ts ++ 41 ∷ b) (small_front (leaves s) (leaves_of ss) s_small) (small_front (leaves t) (leaves_of ts) t_small)
-      (sym (append_assoc (spelling s) (spelling_after ss) (41 ∷ a)) ∙ (behind ∙ append_assoc (spelling t) (spelling_after ts) (41 ∷ b)))
+      (sym (append_assoc (spelling s) (spelling_after ss) (41 ∷ a)) ∙ (longer ∙ append_assoc (spelling t) (spelling_after ts) (41 ∷ b)))
       (follows_in_choice s ss a) (follows_in_choice t ts b) in
       let others = after_once ss ts a b (small_back (leaves s) (leaves_of ss) s_small) (small_back (leaves t) (leaves_of ts) t_small) first.1 in
       (λ i. more (first.0 i) (others.0 i), others.1)

@@ -2,7 +2,7 @@
 use Rattle.std.proofs.Common.{◌≡◌, ℕ, Bool, true, false, cond, nat_lt, List, [], ◌∷◌, ◌++◌, length, map, Option, Some, None, option_map, option_and_then, refl, sym, ap, ◌∙◌}
 use Rattle.std.specs.Prelude.{unwrap_or, is_some, codes}
 use Rattle.std.proofs.lemmas.List.{length-map}
-use Rattle.asn1_fields.specs.Components.{Component}
+use Rattle.asn1_fields.specs.Entries.{Component}
 use Rattle.asn1_clash.specs.Flat.{flat_component}
 use Rattle.asn1_clash.proofs.Flat.{flat_all_twice, sequence_clash-flat, set_clash-flat, canonical-flat}
 use Rattle.asn1_report.specs.declared.kind.Kind.{Kind}
@@ -100,7 +100,7 @@ answer-flat p line =
 pub text-flat : (p : Place) (line : Option (List ℕ)) → (answer_to (flat_place p) line).text ≡ (answer_to p line).text
 text-flat p line = ap (λ a. a.text) (answer-flat p line)
 
--- nor does what is kept of the table behind it
+-- nor does what is kept of the table after it
 pub next-flat : (p : Place) (line : Option (List ℕ)) → flat_place (next_place (flat_place p) line) ≡ flat_place (next_place p line)
 next-flat p line = ap (λ a. record { number = (next_place p line).number; table = a.table }) (answer-flat p line)
 

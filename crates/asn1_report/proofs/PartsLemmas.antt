@@ -41,7 +41,7 @@ parts_start (byte ∷ bytes) depth = by_test ((depth == 0) && (byte == 32))
     by_test true = refl
     by_test false = no_bytes_before (parts_at (depth_after depth byte) bytes) byte
 
--- some part, and parts behind it
+-- some part, and parts after it
 abbrev pub IsSome : List (List ℕ) → Type 0
 IsSome [] = ⊥
 IsSome (part ∷ parts) = Unit {0}
@@ -68,9 +68,9 @@ lone_part depth (byte ∷ bytes) part is =
     by_parts : (others : List (List ℕ)) → IsSome others → ((first : List ℕ) → others ≡ first ∷ [] → first ≡ bytes) → onto_first byte others ≡ part ∷ [] →
         part ≡ byte ∷ bytes
     by_parts [] some whole same = absurd some
-    by_parts (first ∷ behind) some whole same =
+    by_parts (first ∷ following) some whole same =
         let front : byte ∷ first ≡ part = cc in
-        let alone : behind ≡ [] = cc in
+        let alone : following ≡ [] = cc in
         sym front ∙ ap (λ rest. byte ∷ rest) (whole first (ap (λ rest. first ∷ rest) alone))
 
     by_test : (b : Bool) → ((first : List ℕ) → parts_at (depth_after depth byte) bytes ≡ first ∷ [] → first ≡ bytes) →

@@ -104,14 +104,14 @@ abbrev now : List (List ℕ) → Place → Bool → State
 now ps place understood = in_line (last ps) (place_after place (but_last ps)) (understood && understood_from place (but_last ps))
 
 -- and the state is in what is not ended
-behind_is : (bytes line : List ℕ) (place : Place) (understood : Bool) →
+state_is : (bytes line : List ℕ) (place : Place) (understood : Bool) →
     after (in_line line place understood) bytes ≡ now (pieces_on line bytes) place understood
-behind_is [] line place understood =
+state_is [] line place understood =
     ap (λ l. in_line l place understood) (sym (append-nil line)) ∙ ap (in_line (line ++ []) place) (sym (and-true understood))
-behind_is (byte ∷ bytes) line place understood =
+state_is (byte ∷ bytes) line place understood =
     by_test (byte == 10) refl
-    (behind_is bytes [] (next_place place (within_limit line)) (understood && is_understood place (within_limit line)))
-    (behind_is bytes (line ++ byte ∷ []) place understood)
+    (state_is bytes [] (next_place place (within_limit line)) (understood && is_understood place (within_limit line)))
+    (state_is bytes (line ++ byte ∷ []) place understood)
   where
     by_test : (b : Bool) → (byte == 10) ≡ b →
         after (in_line [] (next_place place (within_limit line)) (understood && is_understood place (within_limit line))) bytes
@@ -137,8 +137,8 @@ behind_is (byte ∷ bytes) line place understood =
 pub text_at_start : (given : List ℕ) → text_at start given ≡ text_for (whole_lines given)
 text_at_start given = text_at_is given [] first_place true ∙ ap (λ ps. text_for (but_last ps)) (pieces_anew given)
 
-behind_start : (given : List ℕ) → after start given ≡ now (pieces given) first_place true
-behind_start given = behind_is given [] first_place true ∙ ap (λ ps. now ps first_place true) (pieces_anew given)
+state_at_start : (given : List ℕ) → after start given ≡ now (pieces given) first_place true
+state_at_start given = state_is given [] first_place true ∙ ap (λ ps. now ps first_place true) (pieces_anew given)
 
 text_from-append : (place : Place) (xs ys : List (List ℕ)) → text_from place (xs ++ ys) ≡ text_from place xs ++ text_from (place_after place xs) ys
 text_from-append place [] ys = refl
@@ -197,7 +197,7 @@ report_at_end given =
     let place = place_after first_place lines in
     let end = last_line (unended given) in
     let rest = text_from place end in
-    ap (λ s. text_at start given ++ last_text s) (behind_start given)
+    ap (λ s. text_at start given ++ last_text s) (state_at_start given)
     ∙ (ap (λ text. text ++ last_text (now (pieces given) first_place true)) (text_at_start given)
     ∙ (ap (λ text. text_for lines ++ text) (text_of_last place (unended given) (understood_from first_place lines))
     ∙ (sym (append_assoc (text_for lines) rest (text_at_end (place_after place end).table))
@@ -208,7 +208,7 @@ pub understood_at_end : (given : List ℕ) → all_was_understood (after start g
 understood_at_end given =
     let lines = whole_lines given in
     let end = last_line (unended given) in
-    ap all_was_understood (behind_start given)
+    ap all_was_understood (state_at_start given)
     ∙ (understood_of_last (place_after first_place lines) (unended given) (understood_from first_place lines)
     ∙ λ i. sym (understood_from-append first_place lines end) i && is_none (sym (place_after-append first_place lines end) i).table)
 

@@ -22,19 +22,19 @@ use Rattle.asn1_report.proofs.TreeLemmas.{no_tree_less}
 use Rattle.asn1_report.specs.Spelling.{letter_of, spelling, spelling_of, spelling_after}
 
 -- parts with a space between each two
-abbrev joined_behind : List (List ℕ) → List ℕ
-joined_behind [] = []
-joined_behind (part ∷ parts) = 32 ∷ (part ++ joined_behind parts)
+abbrev joined_after : List (List ℕ) → List ℕ
+joined_after [] = []
+joined_after (part ∷ parts) = 32 ∷ (part ++ joined_after parts)
 
 abbrev joined : List (List ℕ) → List ℕ
 joined [] = []
-joined (part ∷ parts) = part ++ joined_behind parts
+joined (part ∷ parts) = part ++ joined_after parts
 
 joined-onto_first : (byte : ℕ) (parts : List (List ℕ)) → joined (onto_first byte parts) ≡ byte ∷ joined parts
 joined-onto_first byte [] = refl
 joined-onto_first byte (part ∷ parts) = refl
 
-joined-cons : (parts : List (List ℕ)) → IsSome parts → joined_behind parts ≡ 32 ∷ joined parts
+joined-cons : (parts : List (List ℕ)) → IsSome parts → joined_after parts ≡ 32 ∷ joined parts
 joined-cons [] some = absurd some
 joined-cons (part ∷ parts) some = refl
 
@@ -83,7 +83,7 @@ tag_spelled (letter ∷ digits) tag h = with_class (class_of letter) refl h
     with_class None unnamed whole = cc
     with_class (Some class) named whole = with_number class (number_of digits) named refl whole
 
--- the last byte of a text stands behind the others
+-- the last byte of a text is after the others
 last_byte : (byte : ℕ) (bytes : List ℕ) → ends_with_byte byte bytes ≡ true → bytes ≡ take (length bytes - 1) bytes ++ byte ∷ []
 last_byte byte bytes h =
     let k = length bytes - 1 in
@@ -108,22 +108,22 @@ brackets_spelled (byte ∷ bytes) inside h = by_tests (byte == 40) (ends_with_by
 abbrev FindsSpelled : (List ℕ → Option Tree) → Type 0
 FindsSpelled tree_in = (text : List ℕ) (tree : Tree) → tree_in text ≡ Some tree → text ≡ spelling tree
 
-behind_spelled : (tree_in : List ℕ → Option Tree) → FindsSpelled tree_in → (texts : List (List ℕ)) (trees : Trees) → all_trees tree_in texts ≡ Some trees →
-    joined_behind texts ≡ spelling_after trees
-behind_spelled tree_in spelled [] trees is = ap spelling_after (same_Some _ _ is)
-behind_spelled tree_in spelled (text ∷ texts) trees is =
-    with_tree (λ ts found. behind_spelled tree_in spelled texts ts found) (tree_in text) refl is
+after_spelled : (tree_in : List ℕ → Option Tree) → FindsSpelled tree_in → (texts : List (List ℕ)) (trees : Trees) → all_trees tree_in texts ≡ Some trees →
+    joined_after texts ≡ spelling_after trees
+after_spelled tree_in spelled [] trees is = ap spelling_after (same_Some _ _ is)
+after_spelled tree_in spelled (text ∷ texts) trees is =
+    with_tree (λ ts found. after_spelled tree_in spelled texts ts found) (tree_in text) refl is
   where
-    with_rest : ((ts : Trees) → all_trees tree_in texts ≡ Some ts → joined_behind texts ≡ spelling_after ts) →
+    with_rest : ((ts : Trees) → all_trees tree_in texts ≡ Some ts → joined_after texts ≡ spelling_after ts) →
         (tree : Tree) (r : Option Trees) → all_trees tree_in texts ≡ r → tree_in text ≡ Some tree → option_map (more tree) r ≡ Some trees →
-        32 ∷ (text ++ joined_behind texts) ≡ spelling_after trees
+        32 ∷ (text ++ joined_after texts) ≡ spelling_after trees
     with_rest others tree None rest first whole = cc
     with_rest others tree (Some ts) rest first whole =
         (λ i. 32 ∷ (spelled text tree first i ++ others ts rest i)) ∙ ap spelling_after (same_Some _ _ whole)
 
-    with_tree : ((ts : Trees) → all_trees tree_in texts ≡ Some ts → joined_behind texts ≡ spelling_after ts) →
+    with_tree : ((ts : Trees) → all_trees tree_in texts ≡ Some ts → joined_after texts ≡ spelling_after ts) →
         (r : Option Tree) → tree_in text ≡ r → option_and_then (λ tree. option_map (more tree) (all_trees tree_in texts)) r ≡ Some trees →
-        32 ∷ (text ++ joined_behind texts) ≡ spelling_after trees
+        32 ∷ (text ++ joined_after texts) ≡ spelling_after trees
     with_tree others None found whole = cc
     with_tree others (Some tree) found whole = with_rest others tree (all_trees tree_in texts) refl found whole
 
@@ -136,7 +136,7 @@ trees_spelled : (tree_in : List ℕ → Option Tree) → FindsSpelled tree_in �
 trees_spelled tree_in spelled [] trees is = ap spelling_of (same_Some _ _ is)
 trees_spelled tree_in spelled (text ∷ texts) none is = absurd (no_tree_less (tree_in text) (all_trees tree_in texts) is)
 trees_spelled tree_in spelled (text ∷ texts) (more t ts) is =
-    without_space _ _ (behind_spelled tree_in spelled (text ∷ texts) (more t ts) is)
+    without_space _ _ (after_spelled tree_in spelled (text ∷ texts) (more t ts) is)
 
 elements_joined : (inside : List ℕ) → joined (elements_of inside) ≡ inside
 elements_joined [] = refl

@@ -15,12 +15,12 @@ join (more t ts) us = more t (join ts us)
 
 pub leaves_of-join : (ts us : Trees) → leaves_of (join ts us) ≡ leaves_of ts ++ leaves_of us
 leaves_of-join none us = refl
-leaves_of-join (more t ts) us = ap (λ behind. leaves t ++ behind) (leaves_of-join ts us) ∙ sym (append_assoc (leaves t) (leaves_of ts) (leaves_of us))
+leaves_of-join (more t ts) us = ap (λ rest. leaves t ++ rest) (leaves_of-join ts us) ∙ sym (append_assoc (leaves t) (leaves_of ts) (leaves_of us))
 
 is_any_open-join : (ts us : Trees) → is_any_open (join ts us) ≡ (is_any_open ts || is_any_open us)
 is_any_open-join none us = refl
 is_any_open-join (more t ts) us =
-    ap (λ behind. is_open t || behind) (is_any_open-join ts us) ∙ sym (or_assoc (is_open t) (is_any_open ts) (is_any_open us))
+    ap (λ rest. is_open t || rest) (is_any_open-join ts us) ∙ sym (or_assoc (is_open t) (is_any_open ts) (is_any_open us))
 
 join_assoc : (ts us vs : Trees) → join (join ts us) vs ≡ join ts (join us vs)
 join_assoc none us vs = refl
@@ -62,7 +62,7 @@ adds_choice old new ts all some = record {
   empty_choice = all.empty_choice ∙ ap (λ b. old.has_empty_choice || (b || is_any_open ts)) (sym some);
 }
 
--- behind a tree there are some trees
+-- trees with a first one are not none
 pub no_tree_less : (r : Option Tree) (rest : Option Trees) → option_and_then (λ tree. option_map (more tree) rest) r ≡ Some none → ⊥
 no_tree_less None rest h = cc
 no_tree_less (Some t) None h = cc

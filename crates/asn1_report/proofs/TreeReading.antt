@@ -42,9 +42,9 @@ no_tag_without_number text digits letter parts no_number tag left begins =
 choice_begins : {depth : ℕ} {inside rest : List ℕ} {trees : Trees} → BeginsWithTree (depth + 1) (40 ∷ inside) (choice trees) rest → BeginsWithTrees depth inside trees rest
 choice_begins {depth} {inside} {rest} {trees} begins =
     let spelled : 40 ∷ inside ≡ 40 ∷ ((spelling_of trees ++ 41 ∷ []) ++ rest) = begins.spelled in
-    let behind : inside ≡ (spelling_of trees ++ 41 ∷ []) ++ rest = cc in
+    let bytes : inside ≡ (spelling_of trees ++ 41 ∷ []) ++ rest = cc in
     record {
-      spelled = behind ∙ append_assoc (spelling_of trees) (41 ∷ []) rest;
+      spelled = bytes ∙ append_assoc (spelling_of trees) (41 ∷ []) rest;
       shallow = omega (arith, begins.shallow);
       small = begins.small;
     }
@@ -179,8 +179,8 @@ others_begin : (depth : ℕ) (next left : List ℕ) (us : Trees) → brackets_of
     spelling_after us ++ 41 ∷ left ≡ 32 ∷ next → GoesOn depth next left
 others_begin depth next left none shallow small same = let first : ◌≡◌ {A = ℕ} 41 32 = cc in absurd (omega arith)
 others_begin depth next left (more first others) shallow small same =
-    let behind : (spelling first ++ spelling_after others) ++ 41 ∷ left ≡ next = cc in
-    record { first = first; others = others; begins = record { spelled = sym behind; shallow = shallow; small = small } }
+    let bytes : (spelling first ++ spelling_after others) ++ 41 ∷ left ≡ next = cc in
+    record { first = first; others = others; begins = record { spelled = sym bytes; shallow = shallow; small = small } }
 
 -- one more tree, and the space after it
 pub read_one : (depth : ℕ) (inside text left next : List ℕ) (old mid new : FlatTree) →

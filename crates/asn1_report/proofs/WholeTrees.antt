@@ -4,7 +4,7 @@ use Rattle.std.specs.Prelude.{IsSomeAnd, MatchBool}
 use Rattle.std.proofs.lemmas.List.{append-nil}
 use Rattle.std.proofs.lemmas.Bool.{eqb-true, false≢true}
 use Rattle.asn1_tags.specs.Trees.{Tree, leaves, is_open}
-use Rattle.asn1_fields.specs.Components.{Component}
+use Rattle.asn1_fields.specs.Entries.{Component}
 use Rattle.asn1_fields.specs.declared.presence.FieldPresence.{FieldPresence}
 use Rattle.asn1_clash.specs.Flat.{flat_component, flat_tree}
 use Rattle.asn1_clash.specs.Seen.{Adds, component_seen}

@@ -9,7 +9,7 @@ use Rattle.asn1_tags.specs.declared.classes.Class.TheVariants.{Universal, Applic
 use Rattle.asn1_tags.specs.declared.tags.Tag.{Tag}
 use Rattle.asn1_ranges.specs.declared.bounded.Bounded.{Bounded}
 use Rattle.asn1_ranges.specs.declared.bounded.Bounded.TheVariants as bounded
-use Rattle.asn1_fields.specs.Components.{Component}
+use Rattle.asn1_fields.specs.Entries.{Component}
 use Rattle.asn1_fields.specs.declared.presence.FieldPresence.{FieldPresence}
 use Rattle.asn1_fields.specs.declared.presence.FieldPresence.TheVariants.{Required, Optional, Default}
 use Rattle.asn1_report.specs.declared.kind.Kind.{Kind}

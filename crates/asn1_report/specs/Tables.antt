@@ -2,9 +2,9 @@
 use Rattle.std.specs.Prelude.{ℕ, Bool, true, false, ◌++◌, if◌then◌else◌, codes, List, [], ◌∷◌, Option, None, Some}
 use Rattle.std.specs.Option.{option_map_or}
 use Rattle.std.specs.Fmt.{decimal}
-use Rattle.asn1_fields.specs.Canonical.{canonical}
-use Rattle.asn1_fields.specs.Clash.{sequence_clash, set_clash}
-use Rattle.asn1_fields.specs.Components.{Component}
+use Rattle.asn1_fields.specs.CanonicalOrder.{canonical}
+use Rattle.asn1_fields.specs.DistinctTags.{sequence_clash, set_clash}
+use Rattle.asn1_fields.specs.Entries.{Component}
 use Rattle.asn1_report.specs.declared.kind.Kind.{Kind}
 use Rattle.asn1_report.specs.declared.kind.Kind.TheVariants.{Sequence, Set}
 

@@ -2,9 +2,9 @@
 ghost use Rattle.std.specs.Prelude.{◌≡◌, ◌≢◌, ◌↔◌, List, AllPairs, IsTrue};
 ghost use Rattle.asn1_tags.specs.Tags.{IsSmallest, smallest, distinct};
 ghost use Rattle.asn1_tags.specs.declared.tags.Tag.{Tag};
-ghost use Rattle.asn1_fields.specs.Canonical.{IsCanonical, canonical};
-ghost use Rattle.asn1_fields.specs.Clash.{IsLeast, IsSequenceClash, IsSetClash};
-ghost use Rattle.asn1_fields.specs.Components.{Component};
+ghost use Rattle.asn1_fields.specs.CanonicalOrder.{IsCanonical, canonical};
+ghost use Rattle.asn1_fields.specs.DistinctTags.{IsLeast, IsSequenceClash, IsSetClash};
+ghost use Rattle.asn1_fields.specs.Entries.{Component};
 ghost use Rattle.asn1_report.specs.Report.{tree_verdict};
 ghost use Rattle.asn1_report.specs.Tables.{clash_of};
 
@@ -104,7 +104,7 @@ pub(crate) struct TableVerdict {
 
 impl TableVerdict {
     ghost use Rattle.std.specs.Prelude.{◌++◌, codes};
-    ghost use Rattle.asn1_fields.specs.Canonical.{canonical};
+    ghost use Rattle.asn1_fields.specs.CanonicalOrder.{canonical};
     ghost use Rattle.asn1_clash.specs.Seen.{components_seen};
     ghost use Rattle.asn1_report.specs.Tables.{clash_text, order_text};
     ghost use Rattle.asn1_report.specs.Verdict.{text_of_table_verdict};

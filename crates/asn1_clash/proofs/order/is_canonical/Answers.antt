@@ -1,6 +1,6 @@
 use Rattle.std.proofs.Common.{sym, ap, ◌∙◌}
 use Rattle.std.proofs.lemmas.List.Sorted.{answers_always}
-use Rattle.asn1_fields.specs.Canonical.{canonical, in_order}
+use Rattle.asn1_fields.specs.CanonicalOrder.{canonical, in_order}
 use Rattle.asn1_fields.proofs.Orders.{canonical-seen, IsCanonical-from_test, test-from_IsCanonical}
 use Rattle.asn1_clash.specs.Seen.{component_seen, components_seen}
 use Rattle.asn1_clash.proofs.Flat.{canonical-flat}

@@ -1,5 +1,5 @@
 use Rattle.std.proofs.Common.{◌≡◌, ◌+◌, Some, None, arith, length, subst, sym, ◌∙◌}
-use Rattle.asn1_fields.specs.Clash.{sequence_clash, set_clash}
+use Rattle.asn1_fields.specs.DistinctTags.{sequence_clash, set_clash}
 use Rattle.asn1_fields.proofs.Searches.{shifted}
 use Rattle.asn1_clash.specs.Seen.{components_seen}
 use Rattle.asn1_clash.proofs.Flat.{found_in_sequence}

@@ -1,5 +1,5 @@
 use Rattle.std.proofs.Common.{◌≡◌, ◌+◌, length}
-use Rattle.asn1_fields.specs.Clash.{sequence_clash}
+use Rattle.asn1_fields.specs.DistinctTags.{sequence_clash}
 use Rattle.asn1_fields.proofs.Searches.{shifted}
 use Rattle.asn1_clash.specs.Seen.{components_seen}
 use Rattle.asn1_clash.proofs.search.find_sequence_clash.Given as goal

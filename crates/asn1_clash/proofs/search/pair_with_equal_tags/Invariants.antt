@@ -1,4 +1,4 @@
-use Rattle.asn1_fields.specs.Clash.{IsLeast}
+use Rattle.asn1_fields.specs.DistinctTags.{IsLeast}
 use Rattle.asn1_clash.proofs.Occurrences.{Neighbours}
 use Rattle.asn1_clash.proofs.search.pair_with_equal_tags.Given as goal
 

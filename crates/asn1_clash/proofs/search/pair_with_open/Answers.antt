@@ -1,8 +1,8 @@
 use Rattle.std.proofs.Common.{◌<◌, ◌≤◌, ◌∙◌, Some, arith, max, subst, sym, length}
 use Rattle.std.proofs.lemmas.List.{length-map}
 use Rattle.asn1_tags.specs.Trees.{choice, is_open, none}
-use Rattle.asn1_fields.specs.Clash.{IsLeast}
-use Rattle.asn1_fields.specs.Components.{Component}
+use Rattle.asn1_fields.specs.DistinctTags.{IsLeast}
+use Rattle.asn1_fields.specs.Entries.{Component}
 use Rattle.asn1_fields.specs.declared.presence.FieldPresence.TheVariants.{Required}
 use Rattle.asn1_clash.specs.Seen.{component_seen, components_seen}
 use Rattle.asn1_clash.specs.Occurrences.{HasOpen}

@@ -5,4 +5,4 @@ use Rattle.asn1_report.proofs.texts.write_refusal.Goals as goal
 pub returns-in-Ok : goal.returns-in-Ok
 returns-in-Ok c =
     c.in-Ok.ensures.bytes
-    ∙ ap (λ behind. c.args.text.now.items ++ (codes "line " ++ behind)) (sym (append_assoc (decimal c.args.number) (codes ": not understood") (10 ∷ [])))
+    ∙ ap (λ rest. c.args.text.now.items ++ (codes "line " ++ rest)) (sym (append_assoc (decimal c.args.number) (codes ": not understood") (10 ∷ [])))

@@ -1,6 +1,6 @@
 use Rattle.std.proofs.Common.{◌≡◌, length}
 use Rattle.std.specs.Slice.Iter.{iter_rest}
-use Rattle.asn1_fields.specs.Tables.{optional_left}
+use Rattle.asn1_fields.specs.FieldLists.{optional_left}
 use Rattle.asn1_fields.proofs.iterators.OptionalFieldIterIterator.next.Given as goal
 
 -- only fields that are always there are passed over

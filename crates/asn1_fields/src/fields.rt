@@ -1,12 +1,12 @@
 //! Tables of a known number of fields.
 ghost use Rattle.std.specs.Prelude.{◌≡◌, length, not};
 ghost use Rattle.std.specs.List.{list_any};
-ghost use Rattle.asn1_fields.specs.Components.{may_be_absent};
+ghost use Rattle.asn1_fields.specs.Entries.{may_be_absent};
 
-use crate::checks;
-use crate::components::Field;
+use crate::field::Field;
 use crate::iterators::{FieldIter, IdentifierIter, OptionalFieldIter};
 use crate::presence::FieldPresence;
+use crate::{canonical_order, distinct_tags};
 
 /// The fields of a SEQUENCE or a SET type, `N` of them, in the order of its table.
 ///
@@ -19,10 +19,10 @@ pub struct Fields<'a, const N: usize> {
 
 impl<'a, const N: usize> Fields<'a, N> {
     ghost use Rattle.std.specs.Prelude.{◌≡◌, ◌↔◌, ◌<◌, Any, IsTrue, length};
-    ghost use Rattle.asn1_fields.specs.Canonical.{IsCanonical, canonical};
-    ghost use Rattle.asn1_fields.specs.Clash.{IsLeast, IsSequenceClash, IsSetClash, sequence_clash, set_clash};
-    ghost use Rattle.asn1_fields.specs.Components.{components};
-    ghost use Rattle.asn1_fields.specs.Tables.{fields_left, fields_of, names_left, names_of, optional_fields, optional_left};
+    ghost use Rattle.asn1_fields.specs.CanonicalOrder.{IsCanonical, canonical};
+    ghost use Rattle.asn1_fields.specs.DistinctTags.{IsLeast, IsSequenceClash, IsSetClash, sequence_clash, set_clash};
+    ghost use Rattle.asn1_fields.specs.Entries.{components};
+    ghost use Rattle.asn1_fields.specs.FieldLists.{fields_left, fields_of, names_left, names_of, optional_fields, optional_left};
 
     /// The table of these fields, of which there have to be `N`.
     pub fn from_static(fields: &'a [Field<'a>]) -> Self
@@ -104,7 +104,7 @@ impl<'a, const N: usize> Fields<'a, N> {
         ensures ordered { IsTrue result ↔ IsCanonical (components (fields_of self.now)) }
         ensures report { result ≡ canonical (components (fields_of self.now)) }
     {
-        checks::is_canonical(self.fields)
+        canonical_order::is_canonical(self.fields)
     }
 
     /// As the function [`first_sequence_clash`](crate::first_sequence_clash).
@@ -112,7 +112,7 @@ impl<'a, const N: usize> Fields<'a, N> {
         ensures least { IsLeast (IsSequenceClash (components (fields_of self.now))) result }
         ensures report { result ≡ sequence_clash (components (fields_of self.now)) }
     {
-        checks::first_sequence_clash(self.fields)
+        distinct_tags::first_sequence_clash(self.fields)
     }
 
     /// As the function [`first_set_clash`](crate::first_set_clash).
@@ -120,7 +120,7 @@ impl<'a, const N: usize> Fields<'a, N> {
         ensures least { IsLeast (IsSetClash (components (fields_of self.now))) result }
         ensures report { result ≡ set_clash (components (fields_of self.now)) }
     {
-        checks::first_set_clash(self.fields)
+        distinct_tags::first_set_clash(self.fields)
     }
 }
 

@@ -1,31 +1,16 @@
-//! The rules on components' tags.
-ghost use Rattle.std.specs.Prelude.{◌≡◌, ◌↔◌, IsTrue, not, position};
+//! The components that must have distinct tags.
+ghost use Rattle.std.specs.Prelude.{◌≡◌, not, position};
 ghost use Rattle.asn1_tags.specs.Trees.{shape};
-ghost use Rattle.asn1_fields.specs.Canonical.{IsCanonical, AtMostOneIsCanonical, canonical, in_order};
-ghost use Rattle.asn1_fields.specs.Clash.{IsLeast, IsSequenceClash, IsSetClash, rivals, sequence_clash, set_clash, share_tag};
-ghost use Rattle.asn1_fields.specs.Components.{component_of, components, entry_of, may_be_absent};
+ghost use Rattle.asn1_fields.specs.DistinctTags.{IsLeast, IsSequenceClash, IsSetClash, rivals, sequence_clash, set_clash, share_tag};
+ghost use Rattle.asn1_fields.specs.Entries.{component_of, components, entry_of, may_be_absent};
 
-use crate::components::Field;
-
-/// Whether the fields stand in canonical order: no field's smallest tag is above the next one's (X.680, 8.6).
-pub fn is_canonical(fields: &[Field<'_>]) -> bool
-    ensures ordered { IsTrue result ↔ IsCanonical (components fields.now) }
-    ensures report { result ≡ canonical (components fields.now) }
-{
-    fields.is_sorted_by(are_in_order)
-}
-
-/// A law of the canonical order: of all rearrangements of a table whose components' smallest tags differ, at most
-/// one is canonical.
-pub fn at_most_one_rearrangement_is_canonical()
-    ensures { AtMostOneIsCanonical }
-{}
+use crate::field::Field;
 
 /// The least pair of places whose fields must have distinct tags in a SEQUENCE, and have not; `None` where there is
 /// no such pair (X.680, 25.6 and 25.6.1).
 ///
-/// The first of the two may be absent. The second stands behind it, up to and including the next field that is
-/// always there. Additions stand last, as fields that may be absent.
+/// The first of the two may be absent. The second is after it, up to and including the next field that is always
+/// there. Additions are the last fields, and may be absent.
 pub fn first_sequence_clash(fields: &[Field<'_>]) -> Option<(usize, usize)>
     ensures least { IsLeast (IsSequenceClash (components fields.now)) result }
     ensures report { result ≡ sequence_clash (components fields.now) }
@@ -53,25 +38,16 @@ pub fn first_set_clash(fields: &[Field<'_>]) -> Option<(usize, usize)>
     None
 }
 
-// Whether the first field's smallest tag is not above the second's.
-#[tactic(auto, using(asn1_tags::proofs::Smallest::smallest_cmp))]
-fn are_in_order(field: &Field<'_>, next: &Field<'_>) -> bool
-    ensures { result ≡ in_order (component_of (entry_of field.now)) (component_of (entry_of next.now)) }
-{
-    let smallest = field.tag_tree.smallest_tag();
-    smallest.const_cmp(&next.tag_tree.smallest_tag()).is_le()
-}
-
-// Of the fields behind this one, those that must have other tags in a SEQUENCE.
-fn sequence_rivals<'a>(field: &Field<'_>, behind: &'a [Field<'a>]) -> &'a [Field<'a>]
-    ensures { components result.now ≡ rivals (component_of (entry_of field.now)) (components behind.now) }
+// Of the fields that follow this one, those that must have other tags in a SEQUENCE.
+fn sequence_rivals<'a>(field: &Field<'_>, following: &'a [Field<'a>]) -> &'a [Field<'a>]
+    ensures { components result.now ≡ rivals (component_of (entry_of field.now)) (components following.now) }
 {
     if field.is_not_optional_or_default() {
         return &[];
     }
-    match place_of_required(behind) {
-        Some(required) => &behind[..required + 1],
-        None => behind,
+    match place_of_required(following) {
+        Some(required) => &following[..required + 1],
+        None => following,
     }
 }
 

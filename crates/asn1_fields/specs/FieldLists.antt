@@ -1,12 +1,12 @@
--- Tables of fields, and what the iterators over them have left.
+-- The fields of a table as a list, and what its iterators have left.
 use Rattle.std.specs.Prelude.{ℕ, List, filter, map}
 use Rattle.std.specs.Slice.Iter.{iter_rest}
-use Rattle.asn1_fields.specs.Components.{may_be_absent}
-use Rattle.asn1_fields.specs.declared.components.Field.{Field}
+use Rattle.asn1_fields.specs.Entries.{may_be_absent}
+use Rattle.asn1_fields.specs.declared.field.Field.{Field}
 use Rattle.asn1_fields.specs.declared.iterators.FieldIter.{FieldIter}
 use Rattle.asn1_fields.specs.declared.iterators.IdentifierIter.{IdentifierIter}
 use Rattle.asn1_fields.specs.declared.iterators.OptionalFieldIter.{OptionalFieldIter}
-use Rattle.asn1_fields.specs.declared.tables.Fields.{Fields}
+use Rattle.asn1_fields.specs.declared.fields.Fields.{Fields}
 
 -- the fields of a table, in order
 abbrev pub fields_of : {N : ℕ} → Fields N → List Field

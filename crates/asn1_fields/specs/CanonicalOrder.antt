@@ -4,7 +4,7 @@ use Rattle.std.specs.Ordering.{is_le}
 use Rattle.asn1_tags.specs.Tags.{IsAtMost, smallest, tag_cmp}
 use Rattle.asn1_tags.specs.Trees.{leaves}
 use Rattle.asn1_tags.specs.declared.tags.Tag.{Tag}
-use Rattle.asn1_fields.specs.Components.{Component, Entry, component_of}
+use Rattle.asn1_fields.specs.Entries.{Component, Entry, component_of}
 
 -- the smallest leaf of a component's tree
 abbrev pub smallest_tag : Component → Tag

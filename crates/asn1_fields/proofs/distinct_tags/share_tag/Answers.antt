@@ -2,8 +2,8 @@ use Rattle.std.proofs.Common.{arith}
 use Rattle.std.proofs.lemmas.Grind.{common_steps}
 use Rattle.asn1_tags.specs.Trees.{leaves, shape}
 use Rattle.asn1_fields.proofs.SharedTags.{meet-is}
-use Rattle.asn1_fields.proofs.checks.share_tag.Goals as goal
-use Rattle.asn1_fields.proofs.checks.share_tag.Goals.{then-has_empty_choice, else-has_empty_choice}
+use Rattle.asn1_fields.proofs.distinct_tags.share_tag.Goals as goal
+use Rattle.asn1_fields.proofs.distinct_tags.share_tag.Goals.{then-has_empty_choice, else-has_empty_choice}
 
 -- no choice of nothing stands in either, so the leaves decide
 pub returns-else-has_empty_choice-2 : goal.returns-else-has_empty_choice-2

@@ -5,7 +5,7 @@ use Rattle.asn1_tags.specs.Trees.{Tree, is_open, leaves}
 use Rattle.asn1_tags.specs.Walks.{meet}
 use Rattle.asn1_tags.specs.declared.tags.Tag.{Tag}
 use Rattle.asn1_model.specs.Tags.{Has, tree_tags}
-use Rattle.asn1_fields.specs.Components.{Component, may_be_absent}
+use Rattle.asn1_fields.specs.Entries.{Component, may_be_absent}
 
 -- Two types do not have distinct tags: some tag is a tag of both. A type's tags are the leaves of its tree, or every tag
 -- where a choice of nothing stands anywhere in the tree.
@@ -24,10 +24,10 @@ pub record IsSetClash (cs : List Component) (i j : ℕ) : Type 0 where
   pub second : Component
   pub first_at : slice_get cs i ≡ Some first
   pub second_at : slice_get cs j ≡ Some second
-  pub behind : i < j
+  pub before : i < j
   pub shared : ShareTag first.tree second.tree
 
--- In a SEQUENCE each run of components that may be absent, together with the component right behind the run, must have
+-- In a SEQUENCE each run of components that may be absent, together with the component right after the run, must have
 -- distinct tags (X.680, 25.6 and 25.6.1). Two of them have not: from the first on, all before the second may be absent.
 pub record IsSequenceClash (cs : List Component) (i j : ℕ) : Type 0 where
   pub pair : IsSetClash cs i j
@@ -37,7 +37,7 @@ pub record IsSequenceClash (cs : List Component) (i j : ℕ) : Type 0 where
 abbrev pub IsUpTo : ℕ × ℕ → ℕ × ℕ → Type 0
 IsUpTo p q = (p.0 < q.0) ⊎ ((p.0 ≡ q.0) × (p.1 ≤ q.1))
 
--- the least pair that is such a clash, and `None` exactly where there is none
+-- the least pair that is such a clash, and `None` if and only if there is none
 abbrev pub IsLeast : (ℕ → ℕ → Type 0) → Option (ℕ × ℕ) → Type 0
 IsLeast IsClash found =
     MatchOption found ((i j : ℕ) → ¬ IsClash i j) (λ p. IsClash p.0 p.1 × ((i j : ℕ) → IsClash i j → IsUpTo p (i, j)))
@@ -49,7 +49,7 @@ abbrev pub up_to_required : List Component → List Component
 up_to_required [] = []
 up_to_required (c ∷ cs) = c ∷ (if may_be_absent c.presence then up_to_required cs else [])
 
--- the components behind this one that must have other tags, in a SEQUENCE
+-- the components that follow this one and must have other tags, in a SEQUENCE
 abbrev pub rivals : Component → List Component → List Component
 rivals c cs = if may_be_absent c.presence then up_to_required cs else []
 
@@ -67,4 +67,4 @@ sequence_clash cs = first_clash rivals cs
 
 -- the least pair of places that clash in a SET of these components
 abbrev pub set_clash : List Component → Option (ℕ × ℕ)
-set_clash cs = first_clash (λ c behind. behind) cs
+set_clash cs = first_clash (λ c following. following) cs

@@ -1,7 +1,7 @@
-//! The fields of a table.
+//! A line of a field table.
 ghost use Rattle.std.specs.Prelude.{◌≡◌, ◌↔◌, IsTrue, not};
 ghost use Rattle.asn1_tags.specs.Trees.{shape};
-ghost use Rattle.asn1_fields.specs.Components.{entry_of, may_be_absent, typed_entry};
+ghost use Rattle.asn1_fields.specs.Entries.{entry_of, may_be_absent, typed_entry};
 
 use crate::presence::FieldPresence;
 use asn1_model::AsnType;
