@@ -9,8 +9,8 @@ use Rattle.asn1_model.specs.Records.{Record, mark, group_start, group_end, group
 use Rattle.asn1_model.specs.Tags.{CHOICE, BeginsWithin, LiesIn, tree_tags, first_tags}
 use Rattle.asn1_model.proofs.FirstTags.{begins_before, first_passes, first_stays, alone_append}
 use Rattle.asn1_model.proofs.TagSets.{in_first_tree, in_later_trees}
-use Rattle.asn1_fields.specs.Components.{Component, Entry}
-use Rattle.asn1_fields.specs.Clash.{sequence_clash, set_clash}
+use Rattle.asn1_fields.specs.Entries.{Component, Entry}
+use Rattle.asn1_fields.specs.DistinctTags.{sequence_clash, set_clash}
 use Rattle.asn1_fields.specs.declared.presence.FieldPresence.TheVariants.{Optional}
 use Rattle.asn1_components.specs.ComponentTypes.{ComponentType, Fits}
 
@@ -39,7 +39,7 @@ abbrev pub EachCanStandInside : {V : Type 0} → List (ComponentType V) → Type
 EachCanStandInside [] = ⊤
 EachCanStandInside (c ∷ cs) = c.CanStandInside × EachCanStandInside cs
 
--- each may be absent at will, as additions may (X.680, 25.6.3)
+-- each may be absent at will, as additions may (X.680, 25.6)
 abbrev pub EachIsOptional : {V : Type 0} → List (ComponentType V) → Type 0
 EachIsOptional [] = ⊤
 EachIsOptional (c ∷ cs) = (c.presence ≡ Optional) × EachIsOptional cs
@@ -58,6 +58,10 @@ EachIsValid (c ∷ cs) takes v = c.IsValid takes v × EachIsValid cs takes v
 -- next that is always there (X.680, 25.6).
 abbrev pub AreDistinctInSequence : {V : Type 0} → List (ComponentType V) → Type 0
 AreDistinctInSequence cs = sequence_clash (seen_by_tags cs) ≡ None
+
+-- the components can be those of a SEQUENCE or a group
+abbrev pub CanBeInSequence : {V : Type 0} → List (ComponentType V) → Type 0
+CanBeInSequence cs = EachCanStandInside cs × AreDistinctInSequence cs
 
 -- In a SET no two components share a tag (X.680, 27.3).
 abbrev pub AreDistinctInSet : {V : Type 0} → List (ComponentType V) → Type 0
@@ -106,7 +110,7 @@ group_of name get cs = record {
   tag = CHOICE;
   tree = choice (trees_of cs);
   records = λ v. group_records (option_map (all_records cs) (get v));
-  CanStandInside = EachCanStandInside cs × AreDistinctInSequence cs;
+  CanStandInside = CanBeInSequence cs;
   IsOfType = λ v. IfSome (get v) (EachIsOfType cs);
   IsValid = λ takes v. IfSome (get v) (λ w. EachIsValid cs takes w × (marks_alone (all_records cs w) ≡ false));
   fits = λ can v. group_fits cs can.0 (get v);

@@ -9,7 +9,7 @@ use Rattle.asn1_model.specs.Records.{Record, mark, group_start, group_end, group
 use Rattle.asn1_model.specs.TaggedTypes.{TaggedType}
 use Rattle.asn1_model.specs.Tags.{Tags, BeginsWithin, tree_tags}
 use Rattle.asn1_model.proofs.FirstTags.{one_begins, present_begins, begins_before}
-use Rattle.asn1_fields.specs.Components.{may_be_absent}
+use Rattle.asn1_fields.specs.Entries.{may_be_absent}
 use Rattle.asn1_fields.specs.declared.presence.FieldPresence.{FieldPresence}
 use Rattle.asn1_fields.specs.declared.presence.FieldPresence.TheVariants.{Required, Optional, Default}
 

@@ -3,7 +3,7 @@ use Rattle.std.specs.Prelude.{⊤, Bool, true, false, ◌&&◌, List, [], ◌∷
 use Rattle.asn1_tags.specs.Trees.{Tree}
 use Rattle.asn1_model.specs.Records.{Record}
 use Rattle.asn1_model.specs.Tags.{ShareNone, tree_tags, first_tags}
-use Rattle.asn1_fields.specs.Components.{may_be_absent}
+use Rattle.asn1_fields.specs.Entries.{may_be_absent}
 use Rattle.asn1_components.specs.ComponentTypes.{ComponentType}
 
 -- the list does not begin with a tag of the tree
@@ -34,3 +34,13 @@ EndsApart (c ∷ cs) rest = Where (may_be_absent c.presence && all_may_be_absent
 abbrev pub EachApart : {V : Type 0} → List (ComponentType V) → V → List Record → Type 0
 EachApart [] v rest = ⊤
 EachApart (c ∷ cs) v rest = Where (may_be_absent c.presence) (BeginsApart c.tree (records_then cs v rest)) × EachApart cs v rest
+
+-- the tree shares no tag with one of the components
+abbrev pub ApartFromEach : {V : Type 0} → Tree → List (ComponentType V) → Type 0
+ApartFromEach tree [] = ⊤
+ApartFromEach tree (c ∷ cs) = ShareNone (tree_tags tree) (tree_tags c.tree) × ApartFromEach tree cs
+
+-- no two of the components share a tag
+abbrev pub AllApart : {V : Type 0} → List (ComponentType V) → Type 0
+AllApart [] = ⊤
+AllApart (c ∷ cs) = ApartFromEach c.tree cs × AllApart cs

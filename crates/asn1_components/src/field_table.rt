@@ -1,7 +1,7 @@
 //! Types with a table of fields.
 ghost use Rattle.std.specs.Prelude.{◌≡◌, length, slice_get};
 ghost use Rattle.std.specs.Option.{option_map};
-ghost use Rattle.asn1_fields.specs.Components.{entry_of};
+ghost use Rattle.asn1_fields.specs.Entries.{entry_of};
 ghost use Rattle.asn1_components.specs.Components.{Components, Has, table};
 
 use asn1_fields::Field;

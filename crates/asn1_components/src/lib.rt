@@ -2,5 +2,7 @@
 #![tactic(auto)]
 
 mod field_table;
+mod following;
 
 pub use field_table::{ConstructedType, FieldTable};
+pub use following::components_are_told_apart;
