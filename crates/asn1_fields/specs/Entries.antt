@@ -30,9 +30,13 @@ pub record Entry : Type 0 where
 abbrev pub entry_of : Field → Entry
 entry_of f = record { index = f.index; tag = f.tag; tree = shape f.tag_tree; presence = f.presence; name = f.name.now }
 
+-- the entry of a component under a tag
+abbrev pub tagged_entry : {V : Type 0} → ℕ → Meaning V → Tag → FieldPresence → List ℕ → Entry
+tagged_entry index type tag presence name = record { index = index; tag = tag; tree = type.tree tag; presence = presence; name = name }
+
 -- the entry of a component under its type's own tag
 abbrev pub typed_entry : {V : Type 0} → ℕ → Meaning V → FieldPresence → List ℕ → Entry
-typed_entry index type presence name = record { index = index; tag = type.tag; tree = type.tree type.tag; presence = presence; name = name }
+typed_entry index type presence name = tagged_entry index type type.tag presence name
 
 -- what the rules on tags look at in an entry
 abbrev pub component_of : Entry → Component

@@ -1,7 +1,8 @@
 //! A line of a field table.
 ghost use Rattle.std.specs.Prelude.{◌≡◌, ◌↔◌, IsTrue, not};
-ghost use Rattle.asn1_tags.specs.Trees.{shape};
-ghost use Rattle.asn1_fields.specs.Entries.{entry_of, may_be_absent, typed_entry};
+ghost use Rattle.asn1_model.specs.Tags.{CHOICE};
+ghost use Rattle.asn1_tags.specs.Trees.{choice, leaf, shape, shapes};
+ghost use Rattle.asn1_fields.specs.Entries.{entry_of, may_be_absent, tagged_entry, typed_entry};
 
 use crate::presence::FieldPresence;
 use asn1_model::AsnType;
@@ -83,6 +84,59 @@ impl<'a> Field<'a> {
         ensures { entry_of result ≡ typed_entry index T.meaning FieldPresence.Default name.now }
     {
         Field::new_default(index, T::tag(), T::tag_tree(), name)
+    }
+
+    /// A component that is always there, under a tag in the place of its type's own.
+    pub fn new_required_type_with_tag<T: AsnType>(index: usize, tag: Tag, name: &'a str) -> Self
+        ensures { entry_of result ≡ tagged_entry index T.meaning tag FieldPresence.Required name.now }
+    {
+        Field::new_required(index, tag, T::tag_tree_under(tag), name)
+    }
+
+    /// A component that is marked OPTIONAL, under a tag in the place of its type's own.
+    pub fn new_optional_type_with_tag<T: AsnType>(index: usize, tag: Tag, name: &'a str) -> Self
+        ensures { entry_of result ≡ tagged_entry index T.meaning tag FieldPresence.Optional name.now }
+    {
+        Field::new_optional(index, tag, T::tag_tree_under(tag), name)
+    }
+
+    /// A component that is marked DEFAULT, under a tag in the place of its type's own.
+    pub fn new_default_type_with_tag<T: AsnType>(index: usize, tag: Tag, name: &'a str) -> Self
+        ensures { entry_of result ≡ tagged_entry index T.meaning tag FieldPresence.Default name.now }
+    {
+        Field::new_default(index, tag, T::tag_tree_under(tag), name)
+    }
+
+    /// A component that is always there, after an explicit tag (X.680, 31.2.7), which is the one that it can begin with.
+    #[tactic(auto, using(asn1_tags::proofs::Leaves::tree_shapes))]
+    pub fn new_required_explicit(index: usize, tag: Tag, name: &'a str) -> Self
+        ensures { entry_of result ≡ record { index = index; tag = tag; tree = leaf tag; presence = FieldPresence.Required; name = name.now } }
+    {
+        Field::new_required(index, tag, TagTree::Leaf(tag), name)
+    }
+
+    /// A component that is marked OPTIONAL, after an explicit tag (X.680, 31.2.7), which is the one that it can begin with.
+    #[tactic(auto, using(asn1_tags::proofs::Leaves::tree_shapes))]
+    pub fn new_optional_explicit(index: usize, tag: Tag, name: &'a str) -> Self
+        ensures { entry_of result ≡ record { index = index; tag = tag; tree = leaf tag; presence = FieldPresence.Optional; name = name.now } }
+    {
+        Field::new_optional(index, tag, TagTree::Leaf(tag), name)
+    }
+
+    /// A component that is marked DEFAULT, after an explicit tag (X.680, 31.2.7), which is the one that it can begin with.
+    #[tactic(auto, using(asn1_tags::proofs::Leaves::tree_shapes))]
+    pub fn new_default_explicit(index: usize, tag: Tag, name: &'a str) -> Self
+        ensures { entry_of result ≡ record { index = index; tag = tag; tree = leaf tag; presence = FieldPresence.Default; name = name.now } }
+    {
+        Field::new_default(index, tag, TagTree::Leaf(tag), name)
+    }
+
+    /// A group of additions (X.680, 25.1): it has the tags of all of its components, and none of its own.
+    #[tactic(auto, using(asn1_tags::proofs::Leaves::tree_shapes))]
+    pub fn new_group(index: usize, trees: &'a [TagTree<'a>], name: &'a str) -> Self
+        ensures { entry_of result ≡ record { index = index; tag = CHOICE; tree = choice (shapes trees.now); presence = FieldPresence.Optional; name = name.now } }
+    {
+        Field::new_optional(index, Tag::CHOICE, TagTree::Choice(trees), name)
     }
 
     /// Whether the component may be absent.

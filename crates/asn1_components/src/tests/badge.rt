@@ -1,0 +1,73 @@
+//! Badge ::= SET { id INTEGER (0..4294967295), label VisibleString OPTIONAL, note BOOLEAN }: the table goes by tags.
+ghost use Rattle.std.specs.Prelude.{◌≡◌, [], ◌∷◌, None, Some, true, pos, codes};
+ghost use Rattle.asn1_ranges.specs.declared.bounded.Bounded.TheVariants.{Range};
+ghost use Rattle.asn1_model.specs.ConstraintSets.{unconstrained, values_of};
+ghost use Rattle.asn1_model.specs.Meaning.{CanStandInside, own_records};
+ghost use Rattle.asn1_model.specs.Records.{holding, scalar, mark, absent, set as set_head, number, truth};
+ghost use Rattle.asn1_model.specs.TaggedTypes.{untagged};
+ghost use Rattle.asn1_model.specs.Tags.{universal};
+ghost use Rattle.asn1_components.specs.ComponentTypes.{required, optional};
+ghost use Rattle.asn1_components.specs.Components.{constructed_type, made_of, set};
+
+use crate::{ConstructedType, FieldTable};
+use asn1_fields::Field;
+use asn1_model::{AsnType, TypeTable};
+use asn1_tags::{Identifier, Tag};
+use asn1_values::VisibleString;
+
+#[derive(Drop)]
+struct Badge {
+    id: u32,
+    label: Option<VisibleString>,
+    note: bool,
+}
+
+impl FieldTable for Badge {
+    ghost components = { set (required (codes "id") (λ b. b.id) (untagged ⟦<u32 as AsnType>⟧.meaning) ∷
+        optional (codes "label") (λ b. b.label) (untagged ⟦<VisibleString as AsnType>⟧.meaning) ∷
+        required (codes "note") (λ b. b.note) (untagged ⟦<bool as AsnType>⟧.meaning) ∷ []) };
+
+    fn field_count() -> usize {
+        3
+    }
+
+    fn field_at(place: usize) -> Option<Field<'static>> {
+        match place {
+            0 => Some(Field::new_required_type::<bool>(2, "note")),
+            1 => Some(Field::new_required_type::<u32>(0, "id")),
+            2 => Some(Field::new_optional_type::<VisibleString>(1, "label")),
+            _ => None,
+        }
+    }
+}
+
+impl AsnType for Badge {
+    ghost meaning = { constructed_type (codes "Badge") ⟦<Badge as FieldTable>⟧.components };
+
+    fn table() -> TypeTable {
+        TypeTable::new(Tag::SET, Identifier(Some("Badge")))
+    }
+
+    fn is_present(&self) -> bool {
+        true
+    }
+}
+
+impl ConstructedType for Badge {
+    ghost has_components = { made_of };
+}
+
+/// No two of its components share a tag.
+fn badge_can_stand_inside()
+    ensures { CanStandInside ⟦<Badge as AsnType>⟧.meaning }
+{}
+
+/// Its records are in the order of the definition.
+fn badge_records(badge: &Badge)
+    ensures { badge.now.id ≡ 7 → badge.now.label ≡ None → badge.now.note ≡ true →
+        own_records ⟦<Badge as AsnType>⟧.meaning badge.now ≡
+        holding (set_head (universal 17) (Some (codes "Badge"))) (
+        scalar (universal 2) (values_of (Range (Some (pos 0)) (Some (pos 4294967295)))) (Some (codes "INTEGER")) (number (pos 7)) ∷
+        mark (absent (universal 26)) ∷
+        scalar (universal 1) unconstrained (Some (codes "BOOLEAN")) (truth true) ∷ []) ∷ [] }
+{}
