@@ -1,19 +1,24 @@
 -- The kinds of type of this crate, and what each of them means.
-use Rattle.std.specs.Prelude.{◌≡◌, ℕ, ⊤, true, false, List, ◌++◌, None, Some, codes}
+use Rattle.std.specs.Prelude.{◌≡◌, ℕ, ⊤, true, false, List, [], ◌∷◌, IsTrue, None, Some, codes, refl}
+use Rattle.std.proofs.Common.{subst}
 use Rattle.asn1_tags.specs.declared.tags.Tag.{Tag}
 use Rattle.asn1_tags.specs.Trees.{leaf, choice, none}
 use Rattle.asn1_model.specs.ConstraintSets.{unconstrained}
-use Rattle.asn1_model.specs.Composites.{raw_records, prefix_records}
-use Rattle.asn1_model.specs.Records.{prefix, set_of}
-use Rattle.asn1_model.specs.Kinds.{object_identifier, scope_type, elements_type, sequence_type}
-use Rattle.asn1_model.specs.Meaning.{Meaning, tags, own_records, IsSound}
-use Rattle.asn1_model.specs.Tags.{universal, context, CHOICE, IsATag, only}
+use Rattle.asn1_model.specs.Composites.{raw_records}
+use Rattle.asn1_model.specs.Records.{prefix, raw, set_of}
+use Rattle.asn1_model.specs.Kinds.{Inside, elements_type, object_identifier, scope_type}
+use Rattle.asn1_model.specs.Meaning.{Meaning, tags, own_records, CanStandInside}
+use Rattle.asn1_model.specs.TaggedTypes.{explicitly_tagged_as, untagged}
+use Rattle.asn1_model.specs.Tags.{universal, context, CHOICE, IsATag, LiesIn, first_tags, only}
+use Rattle.asn1_components.specs.ComponentTypes.{required}
+use Rattle.asn1_components.specs.Components.{Components, sequence}
 
 -- A SET OF (X.680, 28).
 abbrev pub set_of_type : {V W : Type 0} → (W → List V) → Meaning V → Meaning W
-set_of_type = elements_type set_of (universal 17) (codes "SET_OF") unconstrained
+set_of_type = elements_type set_of (λ _ _ _. refl) (universal 17) (codes "SET_OF") unconstrained
 
--- An open type (X.681, 14): a value of any type, as the bytes that a codec makes of it. It has no tag and can begin with every one.
+-- An open type (X.681, 14): a value of any type, as the bytes that a codec makes of it. It has no tag and can begin with
+-- every one. It is valid if and only if the codec takes the bytes as one value.
 abbrev pub any_type : {V : Type 0} → (V → List ℕ) → Meaning V
 any_type bytes = record {
   tag = CHOICE;
@@ -23,9 +28,11 @@ any_type bytes = record {
   is_choice = false;
   is_present = λ _. true;
   records = λ v t c n. raw_records n (bytes v);
-  IsSolid = ⊤;
+  IsSingleRecord = ⊤;
   IsWellTagged = λ _. ⊤;
-  IsWhole = λ Takes v. Takes (bytes v);
+  IsOfType = λ _. ⊤;
+  IsValid = λ takes v. IsTrue (takes (bytes v));
+  one_record = λ v t c n _ _. record { item = raw n (bytes v); alone = refl; no_mark = refl; within = tt };
 }
 
 -- A type under another tag, which replaces its own (X.680, 31). The tag is not the one that stands for none, and a value
@@ -39,32 +46,34 @@ implicit_type tag content m = record {
   is_choice = false;
   is_present = λ _. true;
   records = λ w t c n. m.records (content w) t c n;
-  IsSolid = m.IsSolid;
+  IsSingleRecord = m.IsSingleRecord;
   IsWellTagged = λ t. IsATag t × m.IsWellTagged t × (tags m t ≡ only t);
-  IsWhole = λ Takes w. m.IsWhole Takes (content w);
+  IsOfType = λ w. m.IsOfType (content w);
+  IsValid = λ takes w. m.IsValid takes (content w);
+  one_record = λ w t c n single well.
+      let one = m.one_record (content w) t c n single well.1 in
+      record {
+        item = one.item;
+        alone = one.alone;
+        no_mark = one.no_mark;
+        within = subst (LiesIn (first_tags (m.records (content w) t c n))) well.2 one.within;
+      };
 }
 
--- A type under another tag, which stands before its own (X.680, 31). The tag is not the one that stands for none.
+-- A type after another tag, which stands before its own (X.680, 31). The tag is not the one that stands for none.
 abbrev pub explicit_type : {V W : Type 0} → Tag → (W → V) → Meaning V → Meaning W
 explicit_type tag content m =
-    scope_type
-    (λ t c n. prefix t n)
-    tag
-    unconstrained
-    None
-    (λ w. own_records m (content w))
-    (IsSound m)
-    (λ Takes w. m.IsWhole Takes (content w))
+    scope_type (λ t c n. prefix t n) (λ _ _ _. refl) tag unconstrained None (record {
+      records = λ w. own_records m (content w);
+      CanStandInside = CanStandInside m;
+      AreOfType = λ w. m.IsOfType (content w);
+      AreValid = λ takes w. m.IsValid takes (content w);
+    })
 
--- An INSTANCE OF (X.681, annex C): the name of a type, and a value of the type under the explicit tag Context 0.
-abbrev pub instance_of_type : {V W : Type 0} → (W → List ℕ) → (W → V) → Meaning V → Meaning W
-instance_of_type type_id content m =
-    sequence_type
-    (universal 8)
-    unconstrained
-    (Some (codes "SEQUENCE"))
-    (λ w.
-    own_records object_identifier (type_id w) ++
-    prefix_records (context 0) (Some (codes "SEQUENCE")) (own_records m (content w)))
-    (IsSound m)
-    (λ Takes w. object_identifier.IsWhole Takes (type_id w) × m.IsWhole Takes (content w))
+-- The components of an INSTANCE OF (X.681, annex C): the name of a type, and a value of the type after the explicit tag
+-- Context 0.
+abbrev pub instance_of_components : {V W : Type 0} → (W → List ℕ) → (W → V) → Meaning V → Components W
+instance_of_components type_id content m =
+    sequence (
+    required (codes "type_id") type_id (untagged object_identifier) ∷
+    required (codes "value") content (explicitly_tagged_as (Some (codes "SEQUENCE")) (context 0) m) ∷ [])

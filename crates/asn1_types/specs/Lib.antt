@@ -1,7 +1,6 @@
 pub mod Multisets
 pub mod MultisetLaws
 pub mod Kinds
-pub mod Laws
 -- of the crate below: what a type means
 pub use Rattle.asn1_model.specs.Composites
 pub use Rattle.asn1_model.specs.ConstraintSets

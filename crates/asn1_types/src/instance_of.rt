@@ -1,8 +1,11 @@
 //! INSTANCE OF (X.681, annex C).
-ghost use Rattle.asn1_types.specs.Kinds.{instance_of_type};
+ghost use Rattle.std.specs.Prelude.{codes};
+ghost use Rattle.asn1_components.specs.Components.{constructed_type_under, made_of};
+ghost use Rattle.asn1_model.specs.Tags.{universal};
 
 mod fields;
 
+use asn1_components::{ConstructedType, FieldTable};
 use asn1_model::{AsnType, TypeTable};
 use asn1_tags::{Identifier, Tag};
 use asn1_values::ObjectIdentifier;
@@ -17,7 +20,7 @@ pub struct InstanceOf<T> {
 }
 
 impl<T: AsnType> AsnType for InstanceOf<T> {
-    ghost meaning = { instance_of_type (λ instance. instance.type_id) (λ instance. instance.value) T.meaning };
+    ghost meaning = { constructed_type_under ⟦<InstanceOf<T> as FieldTable>⟧.components (universal 8) (codes "SEQUENCE") };
 
     fn table() -> TypeTable {
         TypeTable::new(Tag::EXTERNAL, Identifier::INSTANCE_OF)
@@ -26,4 +29,8 @@ impl<T: AsnType> AsnType for InstanceOf<T> {
     fn is_present(&self) -> bool {
         true
     }
+}
+
+impl<T: AsnType> ConstructedType for InstanceOf<T> {
+    ghost has_components = { made_of };
 }

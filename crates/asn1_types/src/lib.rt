@@ -10,7 +10,7 @@
 //! | [`Implicit`] | a value under another tag, which replaces its own | its fields |
 //! | [`Explicit`] | a value under another tag, which stands before its own | its fields |
 //! | [`InstanceOf`] | the name of a type, and a value of that type | its fields |
-//! | [`AsnType`], [`Tagged`], [`TypeTable`], [`TreeForm`], [`StringType`], [`tag`] | what a type means, and the law of types: of `asn1_model` | |
+//! | [`AsnType`], [`TypeTable`], [`TreeForm`], [`StringType`], [`tag`] | what a type means, and the law of types: of `asn1_model` | |
 //! | [`Field`], [`Fields`], [`FieldTable`], [`Constructed`], [`Choice`], [`Enumerated`] | field tables and their kin: of `asn1_fields` | |
 //!
 //! What the contracts promise, and the words that they use:
@@ -26,7 +26,7 @@
 //!   the elements themselves where a clone is (`same`).
 //! - `Any`, `Implicit` and `Explicit` give back what went in.
 //! - What each type means is a word of `specs/Kinds.antt`: `set_of_type`, `any_type`, `implicit_type`, `explicit_type`
-//!   and `instance_of_type`. `specs/Laws.antt` has the proofs of the law of types for each.
+//!   and `instance_of_components`.
 //!
 //! `SetOf::with_capacity`, `insert`, `to_vec`, `from_slice`, `from_array` and `try_clone`, and `Any::try_clone` may want
 //! memory, and fail only where there is none. No other call takes any.
@@ -41,13 +41,15 @@ mod set_of;
 mod tests;
 
 pub use any::Any;
+pub use asn1_components::{
+    Constructed, ConstructedType, FieldTable, components_are_told_apart, field_in,
+};
 pub use asn1_fields::{
-    Choice, Constructed, Enumerated, Field, FieldIter, FieldPresence, FieldTable, Fields,
-    IdentifierIter, OptionalFieldIter, at_most_one_rearrangement_is_canonical,
-    first_sequence_clash, first_set_clash, is_canonical,
+    Choice, Enumerated, Field, FieldIter, FieldPresence, Fields, IdentifierIter, OptionalFieldIter,
+    at_most_one_rearrangement_is_canonical, first_sequence_clash, first_set_clash, is_canonical,
 };
 pub use asn1_model::{
-    AsnType, StringType, Tagged, TreeForm, TypeTable, order_inside_sets_is_not_seen, tag,
+    AsnType, StringType, TreeForm, TypeTable, order_inside_sets_is_not_seen, tag,
 };
 pub use explicit::Explicit;
 pub use implicit::Implicit;

@@ -1,12 +1,10 @@
 //! The fields of INSTANCE OF: the name of the type, and the value [0] (X.681, annex C).
-ghost use Rattle.std.proofs.Common.{rules};
-ghost use Rattle.std.specs.Prelude.{[], ◌∷◌, codes, refl, false};
-ghost use Rattle.asn1_fields.specs.declared.presence.FieldPresence.TheVariants.{Required};
-ghost use Rattle.asn1_model.specs.Tags.{context, universal};
-ghost use Rattle.asn1_tags.specs.Trees.{leaf};
+ghost use Rattle.std.specs.Prelude.{refl};
+ghost use Rattle.asn1_types.specs.Kinds.{instance_of_components};
 
 use crate::instance_of::InstanceOf;
-use asn1_fields::{Constructed, Field, FieldPresence, FieldTable};
+use asn1_components::{Constructed, FieldTable};
+use asn1_fields::{Field, FieldPresence};
 use asn1_model::AsnType;
 use asn1_tags::{Class, Tag, TagTree};
 
@@ -33,11 +31,18 @@ const FIELDS: &[Field<'static>] = &[
 ];
 
 impl<T: AsnType> FieldTable for InstanceOf<T> {
-    ghost root = { record { index = 0; tag = universal 6; tree = leaf (universal 6); presence = Required; name = codes "type_id" } ∷
-        record { index = 1; tag = context 0; tree = leaf (context 0); presence = Required; name = codes "value" } ∷ [] };
+    ghost components = { instance_of_components (λ instance. instance.type_id) (λ instance. instance.value) T.meaning };
 
-    ghost additions = { [] };
+    fn field_count() -> usize {
+        2
+    }
 
+    fn field_at(place: usize) -> Option<Field<'static>> {
+        FIELDS.get(place).copied()
+    }
+}
+
+impl<T: AsnType> Constructed<2, 0> for InstanceOf<T> {
     fn root_fields() -> &'static [Field<'static>] {
         FIELDS
     }
@@ -46,12 +51,6 @@ impl<T: AsnType> FieldTable for InstanceOf<T> {
         &[]
     }
 
-    ghost additions_optional = { Prim.search rules };
-}
-
-impl<T: AsnType> Constructed<2, 0> for InstanceOf<T> {
-    ghost extensible = { false };
-
     fn is_extensible() -> bool {
         false
     }
@@ -59,8 +58,6 @@ impl<T: AsnType> Constructed<2, 0> for InstanceOf<T> {
     ghost root_length = { refl };
 
     ghost additions_length = { refl };
-
-    ghost no_additions = { λ _. refl };
 }
 
 #[cfg(test)]
