@@ -52,4 +52,4 @@ pub use asn1_model::{
 pub use explicit::Explicit;
 pub use implicit::Implicit;
 pub use instance_of::InstanceOf;
-pub use set_of::SetOf;
+pub use set_of::{SetOf, equal_sets_have_the_same_elements};

@@ -9,6 +9,7 @@ ghost use Rattle.asn1_types.specs.Multisets.{SameElements};
 mod asn_type;
 mod equality;
 
+pub use equality::equal_sets_have_the_same_elements;
 use equality::{first_equal, have_same_elements};
 use std::alloc::{AllocError, Global};
 use std::marker::Model;
