@@ -1,10 +1,8 @@
--- `SetOf` as a type that may hold the type that holds it.
-use Rattle.std.specs.Prelude.{◌≡◌, List, [], length, map, refl}
-use Rattle.std.specs.Hash.{usize}
+-- `SetOf` as a type that may hold the type that holds it: how a set holds its elements, which are a list to contracts.
+use Rattle.std.specs.Prelude.{◌≡◌, List, [], map, refl}
 use Rattle.std.specs.declared.cmp.PartialEq as eq
-use Rattle.std.proofs.Common.{ap, sym}
+use Rattle.std.proofs.Common.{sym}
 use mathlib.Core.Former.{Former, this, list, via, children}
-use lib.ListN.{length-map}
 use base.Stored.{code_map}
 use denote.RattleType.{RattleType}
 use denote.HoleLaws.{Alike}
@@ -52,9 +50,7 @@ module _ (R S : RattleType) (h : R.Denot → S.Denot) where
   pub the_codes_placed : Recodes R S h → Recodes (C.the_row R) (C.the_row S) ((the_former this).map R.Denot S.Denot h)
   the_codes_placed e d = sym (code_map R.coded.code S.coded.code h (λ x. sym (e x)) d)
 
-module _ (X Y : Type 0) (h : X → Y) (G : eq.Ghosts Y) where
-  pub the_eq_natural : (xs ys : List X) → same_counts G.eq (map h xs) (map h ys) ≡ same_counts (λ x y. G.eq (h x) (h y)) xs ys
-  the_eq_natural xs ys = same_counts-map h G.eq xs ys
-
-  pub the_hash_input_natural : (xs : List X) → usize (length (map h xs)) ≡ usize (length xs)
-  the_hash_input_natural xs = ap usize (length-map xs h)
+-- sets of what a function made are compared as the sets, along the function
+pub the_eq_natural : (X Y : Type 0) (h : X → Y) (G : eq.Ghosts Y) (xs ys : List X) →
+    same_counts G.eq (map h xs) (map h ys) ≡ same_counts (λ x y. G.eq (h x) (h y)) xs ys
+the_eq_natural X Y h G = same_counts-map h G.eq
