@@ -16,9 +16,11 @@
 //! What the contracts promise, and the words that they use:
 //!
 //! - Two sets are equal exactly if some rearrangement of the second is place by place equal to the first, by the
-//!   elements' own equality: `SetOf::eq_slice` says so in `SameElements` of `specs/Multisets.antt`. `Eq` is
-//!   `same_counts`, which counts; that the two agree, and that this is an equality, is proved in
-//!   `specs/MultisetLaws.antt` (`same_counts-SameElements`, `same_counts-equiv`). Equal sets feed a hasher alike.
+//!   elements' own equality: `equal_sets_have_the_same_elements` and `SetOf::eq_slice` say so in `SameElements` of
+//!   `specs/Multisets.antt`. `==` is `same_counts`, which counts; that the two agree, and that this is an equality, is
+//!   proved in `specs/MultisetLaws.antt` (`same_counts-SameElements`, `same_counts-partial`, `same_counts-equiv`). Equal
+//!   sets feed a hasher alike.
+//! - A type may hold itself in a `SetOf`: `specs/formers` says how a set holds its elements.
 //! - `SetOf::insert` puts the element last (`inserted`), or gives it back (`given_back`) and changes nothing
 //!   (`unchanged`). `SetOf::remove` answers whether there was an equal one (`found`), takes the first such and moves the
 //!   last into its place (`taken`). `iter`, `to_vec` and `into_vec` have the elements in one order.
@@ -54,4 +56,4 @@ pub use asn1_model::{
 pub use explicit::Explicit;
 pub use implicit::Implicit;
 pub use instance_of::InstanceOf;
-pub use set_of::SetOf;
+pub use set_of::{SetOf, equal_sets_have_the_same_elements};

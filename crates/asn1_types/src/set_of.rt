@@ -9,6 +9,7 @@ ghost use Rattle.asn1_types.specs.Multisets.{SameElements};
 mod asn_type;
 mod equality;
 
+pub use equality::equal_sets_have_the_same_elements;
 use equality::{first_equal, have_same_elements};
 use std::alloc::{AllocError, Global};
 use std::marker::Model;
@@ -18,8 +19,10 @@ use std::slice::Iter;
 ///
 /// Contracts see it as the list of its elements, in the order in which `from_vec` and `insert` put them. Two sets are
 /// equal if they have the same elements, each as often, in any order. To find that out each element is counted in both
-/// sets: for n elements that takes up to twice n times n comparisons. Nothing but `Eq` is asked of the elements: where
-/// they have an order or a hash, it is not used.
+/// sets: for n elements that takes up to twice n times n comparisons, and in a set of sets twice as many at each level.
+/// Nothing but `PartialEq` is asked of the elements: where they have an order or a hash, it is not used.
+///
+/// A type may hold itself in a `SetOf`, and derive `PartialEq`, `Eq` and `Debug`.
 #[derive(Drop)]
 #[derive_where(Debug; T)]
 pub struct SetOf<T> {

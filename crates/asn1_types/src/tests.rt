@@ -1,7 +1,7 @@
 //! Worked sets, and what the definitions give for a value of each type, written out by hand.
 //!
 //! The clauses of the functions without a body are worked examples: the prover computes the definitions on them.
-ghost use Rattle.std.specs.Prelude.{◌≡◌, true, false, [], ◌∷◌, None, Some, nat_eq, codes};
+ghost use Rattle.std.specs.Prelude.{◌≡◌, ℕ, true, false, [], ◌∷◌, None, Some, nat_eq, codes};
 ghost use Rattle.std.specs.String.{string_bytes};
 ghost use Rattle.asn1_tags.specs.declared.tags.Tag.{Tag};
 ghost use Rattle.asn1_model.specs.ConstraintSets.{unconstrained};
@@ -9,6 +9,8 @@ ghost use Rattle.asn1_model.specs.Meaning.{own_records, tags};
 ghost use Rattle.asn1_model.specs.Records.{scalar, raw, holding, sequence, set_of, prefix, truth as truth_of, arcs, units, utf8};
 ghost use Rattle.asn1_model.specs.Tags.{universal, context, CHOICE, every};
 ghost use Rattle.asn1_types.specs.Multisets.{same_counts};
+
+mod filters;
 
 use crate::{Any, AsnType, Explicit, Implicit, InstanceOf, SetOf, tag};
 use asn1_tags::{Tag, TagTree};
@@ -18,12 +20,13 @@ use std::fmt::Debug;
 use std::hash::{DefaultHasher, Hash, Hasher};
 use std::process::Abort;
 
-/// How often an element stands in a set counts, and its place does not.
+/// How often an element stands in a set counts, and its place does not. One that is not equal to itself stands nowhere.
 fn sets_by_definition()
     ensures turned { same_counts nat_eq (1 ∷ 2 ∷ 3 ∷ 4 ∷ 5 ∷ []) (5 ∷ 4 ∷ 3 ∷ 2 ∷ 1 ∷ []) ≡ true }
     ensures another { same_counts nat_eq (1 ∷ 2 ∷ 3 ∷ 4 ∷ 5 ∷ []) (1 ∷ 2 ∷ 3 ∷ 4 ∷ 6 ∷ []) ≡ false }
     ensures as_often { same_counts nat_eq (1 ∷ 1 ∷ 2 ∷ []) (1 ∷ 2 ∷ 2 ∷ []) ≡ false }
     ensures twice { same_counts nat_eq (1 ∷ 2 ∷ 3 ∷ []) (1 ∷ 1 ∷ 2 ∷ 2 ∷ 3 ∷ 3 ∷ []) ≡ false }
+    ensures not_itself { same_counts (λ (x y : ℕ). false) (1 ∷ []) (1 ∷ []) ≡ false }
 {}
 
 /// The set of `true` and `false`, and of nothing under another tag and name.

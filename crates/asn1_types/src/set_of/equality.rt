@@ -1,11 +1,10 @@
 //! Equality of sets, by counting, and the hash that goes with it.
-ghost use Rattle.std.specs.Prelude.{◌≡◌, ◌==◌, ◌↔◌, IsTrue, length, position};
-ghost use Rattle.std.specs.Cmp.{partial_equiv_from_equiv};
+ghost use Rattle.std.specs.Prelude.{◌≡◌, ◌↔◌, IsTrue, length, position};
 ghost use Rattle.std.specs.Hash as fed;
 ghost use Rattle.std.specs.List.{list_all};
 ghost use Rattle.std.proofs.Common.{ap};
-ghost use Rattle.asn1_types.specs.Multisets.{count_of, same_counts, SameElements};
-ghost use Rattle.asn1_types.specs.MultisetLaws.{same_length, same_counts-equiv};
+ghost use Rattle.asn1_types.specs.Multisets.{count_of, stands_as_often, same_counts, SameElements};
+ghost use Rattle.asn1_types.specs.MultisetLaws.{same_length, same_counts-equiv, same_counts-partial};
 
 use super::SetOf;
 use std::hash::{Hash, Hasher};
@@ -18,43 +17,50 @@ pub(super) fn first_equal<T: Eq>(element: &T, others: &[T]) -> Option<usize>
 }
 
 /// How many of the others the element is equal to.
-fn count<T: Eq>(element: &T, others: &[T]) -> usize
+fn count<T: PartialEq>(element: &T, others: &[T]) -> usize
     ensures { result ≡ count_of T.eq element.now others.now }
 {
     others.iter().filter(|other| *element == **other).count()
 }
 
-/// Whether each of the elements stands as often among the others.
-fn stand_as_often<T: Eq>(elements: &[T], others: &[T]) -> bool
-    ensures { result ≡ list_all (λ element. count_of T.eq element elements.now == count_of T.eq element others.now) elements.now }
+/// Whether the element stands in both, as often in the others as among the elements.
+fn stands_as_often<T: PartialEq>(element: &T, elements: &[T], others: &[T]) -> bool
+    ensures { result ≡ stands_as_often T.eq elements.now others.now element.now }
 {
-    elements.iter().all(|element| count(element, elements) == count(element, others))
+    let wanted = count(element, elements);
+    wanted > 0 && wanted == count(element, others)
+}
+
+/// Whether each of the elements stands as often among the others.
+fn all_stand_as_often<T: PartialEq>(elements: &[T], others: &[T]) -> bool
+    ensures { result ≡ list_all (λ element. stands_as_often T.eq elements.now others.now element) elements.now }
+{
+    elements
+        .iter()
+        .all(|element| stands_as_often(element, elements, others))
 }
 
 /// Whether both are as long, and each of the elements stands as often among the others.
-fn have_same_counts<T: Eq>(elements: &[T], others: &[T]) -> bool
+fn have_same_counts<T: PartialEq>(elements: &[T], others: &[T]) -> bool
     ensures { result ≡ same_counts T.eq elements.now others.now }
 {
-    elements.len() == others.len() && stand_as_often(elements, others)
+    elements.len() == others.len() && all_stand_as_often(elements, others)
 }
 
 /// Whether both have the same elements, each as often, in any order.
-pub(super) fn have_same_elements<T: Eq>(elements: &[T], others: &[T]) -> bool
+pub(super) fn have_same_elements<T: PartialEq>(elements: &[T], others: &[T]) -> bool
     ensures counts { result ≡ same_counts T.eq elements.now others.now }
     ensures same { IsTrue result ↔ SameElements T.eq elements.now others.now }
 {
     have_same_counts(elements, others)
 }
 
-impl<T: Eq> PartialEq for SetOf<T> {
+impl<T: PartialEq> PartialEq for SetOf<T> {
     ghost eq = { same_counts T.eq };
 
-    ghost laws = { partial_equiv_from_equiv (same_counts-equiv T.Eq.laws) };
+    ghost laws = { same_counts-partial T.laws };
 
-    fn eq(&self, other: &Self) -> bool
-        ensures counts { result ≡ same_counts T.eq self.now other.now }
-        ensures same { IsTrue result ↔ SameElements T.eq self.now other.now }
-    {
+    fn eq(&self, other: &Self) -> bool {
         have_same_elements(&self.elements, &other.elements)
     }
 }
@@ -73,3 +79,8 @@ impl<T: Eq> Hash for SetOf<T> {
         state.write_usize(self.len());
     }
 }
+
+/// A law of sets: two of them are equal exactly if they have the same elements, each as often, in any order.
+pub fn equal_sets_have_the_same_elements<T: PartialEq>(left: &SetOf<T>, right: &SetOf<T>)
+    ensures { IsTrue (⟦<SetOf<T> as PartialEq>⟧.eq left.now right.now) ↔ SameElements T.eq left.now right.now }
+{}

@@ -1,0 +1,101 @@
+//! A type that holds itself in sets: the filters of LDAP (RFC 4511, 4.5.1), cut down.
+//!
+//! ```text
+//! Filter ::= CHOICE {
+//!     and     [0] SET OF filter Filter,
+//!     or      [1] SET OF filter Filter,
+//!     not     [2] Filter,
+//!     present [7] OCTET STRING
+//! }
+//! ```
+ghost use Rattle.std.specs.Prelude.{◌≡◌, ◌^◌, ◌-◌, min};
+ghost use Rattle.asn1_types.specs.declared.tests.filters.Filter.{size-Filter};
+ghost use Rattle.asn1_types.specs.declared.tests.filters.Filter.TheViews.{weight-Filter-And-0};
+
+use crate::SetOf;
+use asn1_values::OctetString;
+use std::alloc::Global;
+use std::process::Abort;
+
+#[derive(PartialEq, Eq, Debug, Drop)]
+enum Filter {
+    And(SetOf<Filter>),
+    Or(SetOf<Filter>),
+    Not(Box<Filter>),
+    Present(OctetString),
+}
+
+/// How many levels the filter has, or the greatest number where there are more.
+#[cycle(depth)]
+fn depth(filter: &Filter) -> usize
+    ensures { result ≡ min (size-Filter filter.now) (2 ^ 64 - 1) }
+{
+    match filter {
+        Filter::And(filters) => greatest_depth(filters).saturating_add(1),
+        Filter::Or(filters) => greatest_depth(filters).saturating_add(1),
+        Filter::Not(inner) => depth(inner).saturating_add(1),
+        Filter::Present(_) => 1,
+    }
+}
+
+/// How many levels the highest of the filters has.
+#[cycle(depth)]
+fn greatest_depth(filters: &SetOf<Filter>) -> usize
+    ensures { result ≡ min (weight-Filter-And-0 filters.now) (2 ^ 64 - 1) }
+{
+    let mut greatest = 0;
+    for filter in filters.iter() {
+        greatest = greatest.max(depth(filter));
+    }
+    greatest
+}
+
+/// Whether there is an attribute of this name.
+fn present(rt: &impl Abort, alloc: Global, name: &[u8]) -> Filter {
+    Filter::Present(OctetString::new(name.to_vec(alloc).expect(rt, "memory")))
+}
+
+fn not(rt: &impl Abort, alloc: Global, inner: Filter) -> Filter {
+    Filter::Not(Box::new(alloc, inner).expect(rt, "memory"))
+}
+
+fn pair(rt: &impl Abort, alloc: Global, first: Filter, second: Filter) -> SetOf<Filter> {
+    let mut filters = SetOf::new(alloc);
+    assert!(rt; filters.insert(first).is_ok());
+    assert!(rt; filters.insert(second).is_ok());
+    filters
+}
+
+/// Both attributes, or not the first.
+fn nested(rt: &impl Abort, alloc: Global, first: &[u8], second: &[u8]) -> Filter {
+    let both = pair(
+        rt,
+        alloc,
+        present(rt, alloc, first),
+        present(rt, alloc, second),
+    );
+    let without = not(rt, alloc, present(rt, alloc, first));
+    Filter::Or(pair(rt, alloc, Filter::And(both), without))
+}
+
+/// The same conditions in another order.
+fn turned(rt: &impl Abort, alloc: Global, first: &[u8], second: &[u8]) -> Filter {
+    let both = pair(
+        rt,
+        alloc,
+        present(rt, alloc, second),
+        present(rt, alloc, first),
+    );
+    let without = not(rt, alloc, present(rt, alloc, first));
+    Filter::Or(pair(rt, alloc, without, Filter::And(both)))
+}
+
+#[test]
+fn filters_are_equal_in_any_order(rt: HostRuntime) {
+    let alloc = rt.alloc();
+    let filter = nested(&rt, alloc, &[1], &[2]);
+    assert_eq!(rt; filter, turned(&rt, alloc, &[1], &[2]));
+    assert!(rt; filter != turned(&rt, alloc, &[2], &[1]));
+    assert!(rt; filter != turned(&rt, alloc, &[1], &[1]));
+    assert!(rt; depth(&filter) == 3);
+}
