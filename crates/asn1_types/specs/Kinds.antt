@@ -6,7 +6,7 @@ use Rattle.asn1_tags.specs.Trees.{leaf, choice, none}
 use Rattle.asn1_model.specs.ConstraintSets.{unconstrained}
 use Rattle.asn1_model.specs.Composites.{raw_records}
 use Rattle.asn1_model.specs.Records.{prefix, raw, set_of}
-use Rattle.asn1_model.specs.Kinds.{Inside, elements_type, object_identifier, scope_type}
+use Rattle.asn1_model.specs.Kinds.{elements_type, object_identifier, scope_type}
 use Rattle.asn1_model.specs.Meaning.{Meaning, tags, own_records, CanStandInside}
 use Rattle.asn1_model.specs.TaggedTypes.{explicitly_tagged_as, untagged}
 use Rattle.asn1_model.specs.Tags.{universal, context, CHOICE, IsATag, LiesIn, first_tags, only}
