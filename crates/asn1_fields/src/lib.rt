@@ -1,4 +1,4 @@
-//! Field tables of SEQUENCE and SET types, and ENUMERATED types.
+//! Field tables of SEQUENCE and SET types, and CHOICE types.
 //!
 //! A decoder of a SEQUENCE tells by the next tag whether a component that may be absent is there, and a decoder of a
 //! SET knows each component by its tag. So X.680 asks that the tags of such components differ, and canonical
@@ -12,7 +12,6 @@
 //! | [`FieldIter`], [`OptionalFieldIter`], [`IdentifierIter`] | its fields, those that may be absent, and its names |
 //! | [`FieldTable`], [`Constructed`] | a type with a table of fields: its root and its additions |
 //! | [`Choice`] | a CHOICE type: the trees and the names of its alternatives |
-//! | [`Enumerated`] | a type whose values are variants with numbers and names |
 //!
 //! What the contracts promise, and the words that they use:
 //!
@@ -30,10 +29,6 @@
 //! - A `FieldTable` is its two lists of entries, and `field_count` and `field_at` go over both; a `Constructed` type
 //!   proves how many fields each has. The forms `Field::new_required_type` and its kin take tag and tree from the type's
 //!   meaning (`typed_entry`).
-//! - An `Enumerated` type proves that each value is a variant and that no number and no name stands twice. For all such
-//!   types `from_discriminant` and `from_identifier` give the variant of a number or a name back (`back`), and nothing
-//!   else (`only`), and the forms by place agree with the tables; `specs/Enumerations.antt` has the words.
-//!   `specs/EnumerationLaws.antt` proves for an implementation, by a test that computes, that none stands twice.
 //!
 //! No call takes memory.
 //!
@@ -45,7 +40,6 @@
 mod checks;
 mod choices;
 mod components;
-mod enumerations;
 mod field_tables;
 mod iterators;
 mod presence;
@@ -58,7 +52,6 @@ pub use checks::{
 };
 pub use choices::Choice;
 pub use components::Field;
-pub use enumerations::Enumerated;
 pub use field_tables::{Constructed, FieldTable};
 pub use iterators::{FieldIter, IdentifierIter, OptionalFieldIter};
 pub use presence::FieldPresence;

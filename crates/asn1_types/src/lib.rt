@@ -11,7 +11,8 @@
 //! | [`Explicit`] | a value under another tag, which stands before its own | its fields |
 //! | [`InstanceOf`] | the name of a type, and a value of that type | its fields |
 //! | [`AsnType`], [`Tagged`], [`TypeTable`], [`TreeForm`], [`StringType`], [`tag`] | what a type means, and the law of types: of `asn1_model` | |
-//! | [`Field`], [`Fields`], [`FieldTable`], [`Constructed`], [`Choice`], [`Enumerated`] | field tables and their kin: of `asn1_fields` | |
+//! | [`Field`], [`Fields`], [`FieldTable`], [`Constructed`], [`Choice`] | field tables and their kin: of `asn1_fields` | |
+//! | [`Enumerated`], [`EnumerationItem`], [`EnumeratedType`] | ENUMERATED types: of `asn1_enumerations` | |
 //!
 //! What the contracts promise, and the words that they use:
 //!
@@ -41,10 +42,14 @@ mod set_of;
 mod tests;
 
 pub use any::Any;
+pub use asn1_enumerations::{
+    DiscriminantIter, Enumerated, EnumeratedType, EnumerationItem, ItemIdentifierIter, VariantIter,
+    written_number,
+};
 pub use asn1_fields::{
-    Choice, Constructed, Enumerated, Field, FieldIter, FieldPresence, FieldTable, Fields,
-    IdentifierIter, OptionalFieldIter, at_most_one_rearrangement_is_canonical,
-    first_sequence_clash, first_set_clash, is_canonical,
+    Choice, Constructed, Field, FieldIter, FieldPresence, FieldTable, Fields, IdentifierIter,
+    OptionalFieldIter, at_most_one_rearrangement_is_canonical, first_sequence_clash,
+    first_set_clash, is_canonical,
 };
 pub use asn1_model::{
     AsnType, StringType, Tagged, TreeForm, TypeTable, order_inside_sets_is_not_seen, tag,

@@ -1,0 +1,12 @@
+//! The lines of an ENUMERATED type's table.
+
+/// A line of the table of an ENUMERATED type: X.680's `EnumerationItem` (20.1).
+#[derive(Clone, Copy, Debug)]
+pub struct EnumerationItem<T> {
+    /// The value.
+    pub value: T,
+    /// Its number.
+    pub number: isize,
+    /// Its name.
+    pub name: &'static str,
+}
