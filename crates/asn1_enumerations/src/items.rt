@@ -10,3 +10,15 @@ pub struct EnumerationItem<T> {
     /// Its name.
     pub name: &'static str,
 }
+
+/// A line of a table, from a value, its number and its name; it can be written in a constant.
+#[macro_export]
+macro_rules! item {
+    ($value:expr, $number:expr, $name:expr) => {
+        $crate::EnumerationItem {
+            value: $value,
+            number: $number,
+            name: $name,
+        }
+    };
+}

@@ -6,7 +6,7 @@
 //!
 //! | Item | What it is |
 //! |---|---|
-//! | [`EnumerationItem`] | a value with its number and its name: a line of a type's table |
+//! | [`EnumerationItem`], `item!` | a value with its number and its name: a line of a type's table; a macro that writes one |
 //! | [`Enumerated`] | a type with such tables, and all calls on them |
 //! | [`VariantIter`], [`DiscriminantIter`], [`ItemIdentifierIter`] | the values of a table, these with their numbers, and the names |
 //! | [`EnumeratedType`], [`written_number`] | an `Enumerated` type of ASN.1, and the number that every codec writes for a value |

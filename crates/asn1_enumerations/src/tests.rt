@@ -1,5 +1,5 @@
 //! An ENUMERATED type with a value after the extension marker.
-use crate::{Enumerated, EnumeratedType, EnumerationItem, written_number};
+use crate::{Enumerated, EnumeratedType, EnumerationItem, item, written_number};
 use asn1_model::{AsnType, TypeTable};
 use asn1_tags::{Identifier, Tag};
 use std::process::Abort;
@@ -12,23 +12,11 @@ enum Color {
 }
 
 const ROOT: &[EnumerationItem<Color>] = &[
-    EnumerationItem {
-        value: Color::Red,
-        number: 0,
-        name: "red",
-    },
-    EnumerationItem {
-        value: Color::Green,
-        number: 1,
-        name: "green",
-    },
+    item!(Color::Red, 0, "red"),
+    item!(Color::Green, 1, "green"),
 ];
 
-const ADDITIONS: &[EnumerationItem<Color>] = &[EnumerationItem {
-    value: Color::Blue,
-    number: 5,
-    name: "blue",
-}];
+const ADDITIONS: &[EnumerationItem<Color>] = &[item!(Color::Blue, 5, "blue")];
 
 impl Enumerated for Color {
     ghost use Rattle.std.specs.Prelude.{pos, [], ◌∷◌, codes, refl};
