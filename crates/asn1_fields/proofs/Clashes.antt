@@ -6,7 +6,7 @@ use Rattle.std.proofs.lemmas.Bool.{cases_lt, false≢true}
 use Rattle.std.proofs.lemmas.Option.{none-some, same_Some}
 use Rattle.asn1_fields.specs.DistinctTags.{IsLeast, IsSequenceClash, IsSetClash, IsUpTo, ShareTag, first_clash, rivals, sequence_clash, set_clash, share_tag, up_to_required}
 use Rattle.asn1_fields.specs.Entries.{Component, may_be_absent}
-use Rattle.asn1_fields.proofs.Places.{position-found, position-missing}
+use Rattle.asn1_tags.proofs.PlacesInLists.{position-found, position-missing}
 use Rattle.asn1_fields.proofs.SharedTags.{ShareTag-from_test, test-from_ShareTag}
 
 -- A relation between places of components by which a component clashes with some of those after it, `others`.

@@ -4,6 +4,4 @@ pub mod Clashes
 pub mod Orders
 pub mod Required
 pub mod Rearranged
-pub mod Numbering
-pub mod Places
 pub mod Alike

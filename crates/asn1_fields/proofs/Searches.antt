@@ -6,7 +6,7 @@ use Rattle.std.proofs.lemmas.List.{drop_more, drop_all, take_all, take_rest}
 use Rattle.std.proofs.lemmas.Bool.Decides.{nat_tests}
 use Rattle.std.proofs.lemmas.Grind.{common_steps}
 use Rattle.asn1_tags.specs.Trees.{shape}
-use Rattle.asn1_fields.proofs.Places.{position-map}
+use Rattle.asn1_tags.proofs.PlacesInLists.{position-map}
 use Rattle.asn1_fields.specs.DistinctTags.{first_clash, rivals, share_tag, up_to_required}
 use Rattle.asn1_fields.specs.Entries.{Component, component_of, components, entries, entry_of, may_be_absent}
 use Rattle.asn1_fields.specs.declared.field.Field.{Field}

@@ -1,4 +1,4 @@
-//! Field tables of SEQUENCE and SET types, and ENUMERATED types.
+//! Field tables of SEQUENCE and SET types, and CHOICE types.
 //!
 //! A decoder of a SEQUENCE tells by the next tag whether a component that may be absent is there, and a decoder of a
 //! SET knows each component by its tag. So X.680 asks that the tags of such components differ, and canonical
@@ -12,9 +12,7 @@
 //! | [`FieldIter`] and its kin | its fields, those that may be absent, and its names | `iterators.rt` | `FieldLists` |
 //! | [`first_sequence_clash`], [`first_set_clash`] | the rules on distinct tags | `distinct_tags.rt` | `DistinctTags` |
 //! | [`is_canonical`] | the canonical order | `canonical_order.rt` | `CanonicalOrder` |
-//! | [`FieldTable`], [`Constructed`] | a type with a table: root and additions | `field_tables.rt` | `Entries` |
 //! | [`Choice`] | a CHOICE type: the trees and the names of its alternatives | `choices.rt` | |
-//! | [`Enumerated`] | a type whose values are variants with numbers and names | `enumerations.rt` | `Enumerations` |
 //!
 //! What the contracts promise, in the words that `specs/` defines:
 //!
@@ -29,13 +27,8 @@
 //!   (`at_most_one_rearrangement_is_canonical`).
 //! - A `Fields` is the list of its fields (`fields_of`). Each iterator gives its items once, in the order of the table,
 //!   and ends. `Fields::from_static` requires that there are as many fields as its type says.
-//! - A `FieldTable` is its two lists of entries, and `field_count` and `field_at` go over both; a `Constructed` type
-//!   proves how many fields each has. The forms `Field::new_required_type` and its kin take tag and tree from the type's
-//!   meaning (`typed_entry`).
-//! - An `Enumerated` type proves that each value is a variant and that no number and no name stands twice. For all such
-//!   types `from_discriminant` and `from_identifier` give the variant of a number or a name back (`back`), and nothing
-//!   else (`only`), and the forms by place agree with the tables. `specs/EnumerationLaws.antt` proves for an
-//!   implementation, by a test that computes, that none stands twice.
+//! - `Field::new_required_type` and its kin take the tree of tags from the type's meaning (`typed_entry`,
+//!   `tagged_entry`).
 //!
 //! No call takes memory.
 //!
@@ -47,7 +40,6 @@
 mod canonical_order;
 mod choices;
 mod distinct_tags;
-mod enumerations;
 mod field;
 mod fields;
 mod iterators;
@@ -58,7 +50,6 @@ mod tests;
 pub use canonical_order::{at_most_one_rearrangement_is_canonical, is_canonical};
 pub use choices::Choice;
 pub use distinct_tags::{first_sequence_clash, first_set_clash};
-pub use enumerations::Enumerated;
 pub use field::Field;
 pub use fields::Fields;
 pub use iterators::{FieldIter, IdentifierIter, OptionalFieldIter};

@@ -1,5 +1,3 @@
-mod colors;
-
 use crate::{Field, FieldPresence, Fields, first_sequence_clash, first_set_clash, is_canonical};
 use asn1_tags::{Class, Tag, TagTree};
 use std::alloc::Global;

@@ -3,3 +3,4 @@ pub mod Distinct
 pub mod Smallest
 pub mod Positions
 pub mod Structures
+pub mod PlacesInLists

@@ -11,7 +11,9 @@
 //! | [`Explicit`] | a value under another tag, which stands before its own | its fields |
 //! | [`InstanceOf`] | the name of a type, and a value of that type | its fields |
 //! | [`AsnType`], [`TypeTable`], [`TreeForm`], [`StringType`], [`tag`] | what a type means, and the law of types: of `asn1_model` | |
-//! | [`Field`], [`Fields`], [`FieldTable`], [`Constructed`], [`Choice`], [`Enumerated`] | field tables and their kin: of `asn1_fields` | |
+//! | [`Field`], [`Fields`] | field tables: of `asn1_fields` | |
+//! | [`FieldTable`], [`ConstructedType`], [`Constructed`] | SEQUENCE and SET types: of `asn1_components` | |
+//! | [`Enumerated`], [`EnumerationItem`], [`EnumeratedType`] | ENUMERATED types: of `asn1_enumerations` | |
 //!
 //! What the contracts promise, and the words that they use:
 //!
@@ -46,8 +48,12 @@ pub use any::Any;
 pub use asn1_components::{
     Constructed, ConstructedType, FieldTable, components_are_told_apart, field_in,
 };
+pub use asn1_enumerations::{
+    DiscriminantIter, Enumerated, EnumeratedType, EnumerationItem, ItemIdentifierIter, VariantIter,
+    written_number,
+};
 pub use asn1_fields::{
-    Choice, Enumerated, Field, FieldIter, FieldPresence, Fields, IdentifierIter, OptionalFieldIter,
+    Choice, Field, FieldIter, FieldPresence, Fields, IdentifierIter, OptionalFieldIter,
     at_most_one_rearrangement_is_canonical, first_sequence_clash, first_set_clash, is_canonical,
 };
 pub use asn1_model::{

@@ -1,0 +1,4 @@
+pub mod EnumerationLaws
+pub mod Enumerations
+pub mod Meanings
+pub mod Tables

@@ -1,0 +1,41 @@
+//! ENUMERATED types.
+//!
+//! The values of an ENUMERATED type (X.680, clause 20) are told apart by numbers, and a schema gives each a name. A type
+//! states its items once, each a value with its number and its name; all calls, and what the type means to a codec,
+//! follow from that list.
+//!
+//! | Item | What it is |
+//! |---|---|
+//! | [`EnumerationItem`], `item!` | a value with its number and its name: a line of a type's table; a macro that writes one |
+//! | [`Enumerated`] | a type with such tables, and all calls on them |
+//! | [`VariantIter`], [`DiscriminantIter`], [`ItemIdentifierIter`] | the values of a table, these with their numbers, and the names |
+//! | [`EnumeratedType`], [`written_number`] | an `Enumerated` type of ASN.1, and the number that every codec writes for a value |
+//!
+//! What the contracts promise, and the words that they use:
+//!
+//! - Contracts see a type's items as an `Enumeration`, its root and what comes after the extension marker; the words for
+//!   its values, numbers and names are in `specs/Enumerations.antt`, and those for tables in `specs/Tables.antt`.
+//! - A type proves that each value has an item (`complete`), and that any two items differ in value, number and name and
+//!   can be counted (`lawful`, by the test `by_test` of `specs/EnumerationLaws.antt`).
+//! - `discriminant` and `identifier` answer the number and the name of a value's item. `from_discriminant` and
+//!   `from_identifier` give the value of a number or a name back (`back`), and nothing else (`only`).
+//! - `enumeration_index` is the place of a value in its own table (`root`, `extended`), and `from_enumeration_index` and
+//!   `from_extended_enumeration_index` answer the value at a place.
+//! - The iterators give what the items say, in order.
+//! - `enumeration_type` of `specs/Meanings.antt` is what an ENUMERATED type means: `written_number` ensures that the
+//!   records of a value have the number that `discriminant` answers.
+//!
+//! No call takes memory.
+#![tactic(auto)]
+
+mod enumerated;
+mod enumerated_type;
+mod items;
+mod iterators;
+#[cfg(test)]
+mod tests;
+
+pub use enumerated::Enumerated;
+pub use enumerated_type::{EnumeratedType, written_number};
+pub use items::EnumerationItem;
+pub use iterators::{DiscriminantIter, ItemIdentifierIter, VariantIter};

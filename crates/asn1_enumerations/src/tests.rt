@@ -1,0 +1,124 @@
+//! An ENUMERATED type with a value after the extension marker.
+use crate::{Enumerated, EnumeratedType, EnumerationItem, item, written_number};
+use asn1_model::{AsnType, TypeTable};
+use asn1_tags::{Identifier, Tag};
+use std::process::Abort;
+
+#[derive(Clone, Copy, PartialEq, Eq, Debug)]
+enum Color {
+    Red,
+    Green,
+    Blue,
+}
+
+const ROOT: &[EnumerationItem<Color>] = &[
+    item!(Color::Red, 0, "red"),
+    item!(Color::Green, 1, "green"),
+];
+
+const ADDITIONS: &[EnumerationItem<Color>] = &[item!(Color::Blue, 5, "blue")];
+
+impl Enumerated for Color {
+    ghost use Rattle.std.specs.Prelude.{pos, [], ◌∷◌, codes, refl};
+    ghost use Rattle.asn1_enumerations.specs.EnumerationLaws.{by_test};
+    ghost use Rattle.asn1_enumerations.specs.Enumerations.{extensible, item};
+    ghost use Rattle.asn1_enumerations.specs.declared.tests.Color.TheVariants.{Red, Green, Blue};
+
+    ghost enumeration = { extensible (item Red (pos 0) (codes "red") ∷ item Green (pos 1) (codes "green") ∷ []) (item Blue (pos 5) (codes "blue") ∷ []) };
+
+    ghost complete = { elim [ Red ↦ refl | Green ↦ refl | Blue ↦ refl ] };
+
+    ghost lawful = { by_test refl };
+
+    fn items() -> &'static [EnumerationItem<Color>] {
+        ROOT
+    }
+
+    fn added_items() -> Option<&'static [EnumerationItem<Color>]> {
+        Some(ADDITIONS)
+    }
+}
+
+impl AsnType for Color {
+    ghost use Rattle.std.specs.Prelude.{codes};
+    ghost use Rattle.asn1_enumerations.specs.Meanings.{enumeration_type};
+
+    ghost meaning = { enumeration_type (codes "Color") ⟦<Color as Enumerated>⟧.enumeration ⟦<Color as PartialEq>⟧.eq };
+
+    fn table() -> TypeTable {
+        TypeTable::new(Tag::ENUMERATED, Identifier(Some("Color")))
+    }
+
+    fn is_present(&self) -> bool {
+        true
+    }
+}
+
+impl EnumeratedType for Color {
+    ghost use Rattle.std.specs.Prelude.{refl};
+
+    ghost written = { λ v t c n. refl };
+}
+
+fn assert_color(rt: &impl Abort, color: Color, number: isize, name: &str) {
+    assert!(rt; color.discriminant() == number && color.identifier() == name);
+    assert!(rt; Color::from_discriminant(number) == Some(color));
+    assert!(rt; Color::from_identifier(name) == Some(color));
+}
+
+fn assert_no_number(rt: &impl Abort, number: isize) {
+    assert!(rt; Color::from_discriminant(number).is_none(), "of {number}");
+}
+
+fn assert_no_name(rt: &impl Abort, name: &str) {
+    assert!(rt; Color::from_identifier(name).is_none(), "of {name}");
+}
+
+#[test]
+fn colors_are_found_by_number_name_and_place(rt: HostRuntime) {
+    assert_color(&rt, Color::Red, 0, "red");
+    assert_color(&rt, Color::Green, 1, "green");
+    assert_color(&rt, Color::Blue, 5, "blue");
+    assert_no_number(&rt, -1);
+    assert_no_number(&rt, 2);
+    assert_no_number(&rt, 3);
+    assert_no_number(&rt, 4);
+    assert_no_number(&rt, 6);
+    assert_no_name(&rt, "");
+    assert_no_name(&rt, "Red");
+    assert_no_name(&rt, "redd");
+    assert_no_name(&rt, "yellow");
+}
+
+#[test]
+fn colors_are_their_numbers_to_a_codec(rt: HostRuntime) {
+    assert!(rt; written_number(&Color::Green) == 1 && written_number(&Color::Blue) == 5);
+}
+
+// What the table says, root first.
+#[test]
+fn tables_give_their_items_in_order(rt: HostRuntime) {
+    assert!(rt; Color::variants().next() == Some(Color::Red));
+    assert!(rt; Color::discriminants().nth(1) == Some((Color::Green, 1)));
+    assert!(rt; Color::identifiers().nth(2) == Some("blue"));
+    let mut added = Color::extended_variants().expect(&rt, "an extension marker");
+    assert!(rt; added.next() == Some(Color::Blue) && added.next().is_none());
+}
+
+// The place of the color in its own table.
+fn assert_place(rt: &impl Abort, color: Color, is_extended: bool, index: usize) {
+    assert!(rt; color.is_extended_variant() == is_extended && color.enumeration_index() == index);
+}
+
+#[test]
+fn colors_have_places_in_two_tables(rt: HostRuntime) {
+    assert!(rt; Color::variance() == 2 && Color::extended_variance() == 1);
+    assert!(rt; Color::complete_variance() == 3);
+    assert_place(&rt, Color::Red, false, 0);
+    assert_place(&rt, Color::Green, false, 1);
+    assert_place(&rt, Color::Blue, true, 0);
+    assert!(rt; Color::from_enumeration_index(1) == Some(Color::Green));
+    assert!(rt; Color::from_enumeration_index(2).is_none());
+    assert!(rt; Color::from_extended_enumeration_index(0) == Some(Color::Blue));
+    assert!(rt; Color::from_extended_enumeration_index(1).is_none());
+}
