@@ -11,7 +11,6 @@
 //! | [`Fields`] | a table of a known number of fields |
 //! | [`FieldIter`], [`OptionalFieldIter`], [`IdentifierIter`] | its fields, those that may be absent, and its names |
 //! | [`FieldTable`], [`Constructed`] | a type with a table of fields: its root and its additions |
-//! | [`Choice`] | a CHOICE type: the trees and the names of its alternatives |
 //! | [`Enumerated`] | a type whose values are variants with numbers and names |
 //!
 //! What the contracts promise, and the words that they use:
@@ -43,7 +42,6 @@
 #![tactic(auto)]
 
 mod checks;
-mod choices;
 mod components;
 mod enumerations;
 mod field_tables;
@@ -56,7 +54,6 @@ mod tests;
 pub use checks::{
     at_most_one_rearrangement_is_canonical, first_sequence_clash, first_set_clash, is_canonical,
 };
-pub use choices::Choice;
 pub use components::Field;
 pub use enumerations::Enumerated;
 pub use field_tables::{Constructed, FieldTable};
