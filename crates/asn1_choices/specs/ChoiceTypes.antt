@@ -58,28 +58,28 @@ pub record AgreesWithChoice {V : Type 0} (alts : Alternatives) (pick : V → One
   pub of_type : (v : V) → m.IsOfType v ↔ (chosen_meaning (all_of alts) (pick v)).IsOfType
   pub valid : (takes : List ℕ → Bool) (v : V) → m.IsValid takes v ↔ (chosen_meaning (all_of alts) (pick v)).IsValid takes
 
-module _ {V : Type 0} (name : List ℕ) (alts : Alternatives) (pick : V → OneOf (all_of alts)) where
-  -- so for a CHOICE that holds itself
-  pub itself_agrees : (means : V → ValueMeaning) (agree : (v : V) → means v ≡ chosen_meaning (all_of alts) (pick v)) →
-      AgreesWithChoice alts pick (choice_holding_itself name alts pick means agree)
-  itself_agrees means agree = record {
-    tag = refl;
-    tree = λ _. refl;
-    records = λ v t c n. ap (λ m. choice_records (first_tag m.records) m.records unconstrained (Some name) t c n) (agree v);
-    single = tt;
-    well_tagged = λ _. (λ h. h, λ h. h);
-    of_type = λ v. (subst (λ m. m.IsOfType) (agree v), subst (λ m. m.IsOfType) (sym (agree v)));
-    valid = λ takes v. (subst (λ m. m.IsValid takes) (agree v), subst (λ m. m.IsValid takes) (sym (agree v)));
-  }
+-- so for a CHOICE that holds itself
+pub itself_agrees : {V : Type 0} {name : List ℕ} {alts : Alternatives} {pick : V → OneOf (all_of alts)} {means : V → ValueMeaning} →
+    (agree : (v : V) → means v ≡ chosen_meaning (all_of alts) (pick v)) →
+    AgreesWithChoice alts pick (choice_holding_itself name alts pick means agree)
+itself_agrees {name = name} agree = record {
+  tag = refl;
+  tree = λ _. refl;
+  records = λ v t c n. ap (λ m. choice_records (first_tag m.records) m.records unconstrained (Some name) t c n) (agree v);
+  single = tt;
+  well_tagged = λ _. (λ h. h, λ h. h);
+  of_type = λ v. (subst (λ m. m.IsOfType) (agree v), subst (λ m. m.IsOfType) (sym (agree v)));
+  valid = λ takes v. (subst (λ m. m.IsValid takes) (agree v), subst (λ m. m.IsValid takes) (sym (agree v)));
+}
 
-  -- and for every other
-  pub choice_agrees : AgreesWithChoice alts pick (choice_of name alts pick)
-  choice_agrees = record {
-    tag = refl;
-    tree = λ _. refl;
-    records = λ _ _ _ _. refl;
-    single = tt;
-    well_tagged = λ _. (λ h. h, λ h. h);
-    of_type = λ _. (λ h. h, λ h. h);
-    valid = λ _ _. (λ h. h, λ h. h);
-  }
+-- and for every other
+pub choice_agrees : {V : Type 0} {name : List ℕ} {alts : Alternatives} {pick : V → OneOf (all_of alts)} → AgreesWithChoice alts pick (choice_of name alts pick)
+choice_agrees = record {
+  tag = refl;
+  tree = λ _. refl;
+  records = λ _ _ _ _. refl;
+  single = tt;
+  well_tagged = λ _. (λ h. h, λ h. h);
+  of_type = λ _. (λ h. h, λ h. h);
+  valid = λ _ _. (λ h. h, λ h. h);
+}

@@ -44,9 +44,10 @@ chosen_is_among alts can x = has_leaf (choice (trees_of alts)) (chosen_tag alts 
 -- a tag that is no leaf of their trees is a tag of none of them
 none_has : (t : Tag) (alts : List Alternative) → Each CanBeChosen alts → ¬ Contains (leaves_of (trees_of alts)) t → Each (LacksTag t) alts
 none_has t [] can no_leaf = tt
-none_has t (a ∷ alts) can no_leaf =
-    (λ has. no_leaf (Contains-append_left (leaves a.type.tree) (leaves_of (trees_of alts)) t (leaf_has a.type.tree t can.0.1 has)),
-    none_has t alts can.1 (λ leaf. no_leaf (Contains-append_right (leaves a.type.tree) (leaves_of (trees_of alts)) t leaf)))
+none_has t (a ∷ alts) can no_leaf = (
+  λ has. no_leaf (Contains-append_left (leaves a.type.tree) (leaves_of (trees_of alts)) t (leaf_has a.type.tree t can.0.1 has)),
+  none_has t alts can.1 (λ leaf. no_leaf (Contains-append_right (leaves a.type.tree) (leaves_of (trees_of alts)) t leaf)),
+)
 
 -- where they have distinct tags, no other alternative has the chosen tag
 pub others_lack : (alts : List Alternative) → HaveDistinctTags alts → Each CanBeChosen alts → (x : OneOf alts) → Each (LacksTag (chosen_tag alts x)) (others alts x)
@@ -56,9 +57,10 @@ others_lack (a ∷ alts) apart can (inl w) =
     none_has t alts can.1
     (apart-from_distinct (leaves a.type.tree) (leaves_of (trees_of alts)) apart t (leaf_has a.type.tree t can.0.1 (chosen_has_own (a ∷ alts) can (inl w))))
 others_lack (a ∷ alts) apart can (inr x) =
-    let t : Tag = chosen_tag alts x in
-    (λ has. apart-from_distinct (leaves a.type.tree) (leaves_of (trees_of alts)) apart t (leaf_has a.type.tree t can.0.1 has) (chosen_is_leaf alts can.1 x),
-    others_lack alts (distinct-after (leaves a.type.tree) (leaves_of (trees_of alts)) apart) can.1 x)
+    let t : Tag = chosen_tag alts x in (
+      λ has. apart-from_distinct (leaves a.type.tree) (leaves_of (trees_of alts)) apart t (leaf_has a.type.tree t can.0.1 has) (chosen_is_leaf alts can.1 x),
+      others_lack alts (distinct-after (leaves a.type.tree) (leaves_of (trees_of alts)) apart) can.1 x,
+    )
 
 -- The chosen alternative is one record, which begins with one of its own tags, and no other alternative has that tag.
 pub record TagTellsAlternative (alts : List Alternative) (x : OneOf alts) : Type 0 where

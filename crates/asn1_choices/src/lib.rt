@@ -1,7 +1,8 @@
 //! CHOICE types.
-#![tactic(auto)]
+#![tactic(auto, using(asn1_tags::proofs::Leaves::tree_shapes))]
 
 mod choices;
+pub mod examples;
 #[cfg(test)]
 mod tests;
 

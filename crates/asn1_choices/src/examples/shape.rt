@@ -6,17 +6,20 @@ ghost use Rattle.asn1_model.specs.Tags.{context};
 ghost use Rattle.asn1_model.specs.TaggedTypes.{tagged, untagged};
 ghost use Rattle.asn1_choices.specs.Alternatives.{alternative, closed};
 ghost use Rattle.asn1_choices.specs.ChoiceTypes.{choice_of, choice_agrees};
-ghost use Rattle.asn1_choices.specs.declared.tests.shape.Corner.TheVariants as corner;
-ghost use Rattle.asn1_choices.specs.declared.tests.shape.Shape.TheVariants as shape;
+ghost use Rattle.asn1_choices.specs.declared.examples.shape.Corner.TheVariants as corner;
+ghost use Rattle.asn1_choices.specs.declared.examples.shape.Shape.TheVariants as shape;
 
 use crate::choices::{Choice, ChoiceType};
 use asn1_model::{AsnType, TypeTable};
 use asn1_tags::{Class, Identifier, Tag, TagTree};
 use asn1_values::OctetString;
 
+/// A CHOICE of two.
 #[derive(Drop)]
 pub enum Corner {
+    /// `left BOOLEAN`
     Left(bool),
+    /// `right OCTET STRING`
     Right(OctetString),
 }
 
@@ -55,13 +58,17 @@ impl AsnType for Corner {
 }
 
 impl ChoiceType for Corner {
-    ghost agrees = { choice_agrees (codes "Corner") ⟦<Corner as Choice>⟧.alternatives ⟦<Corner as Choice>⟧.pick };
+    ghost agrees = { choice_agrees };
 }
 
+/// A CHOICE with an untagged CHOICE among its alternatives.
 #[derive(Drop)]
 pub enum Shape {
+    /// `dot NULL`
     Dot(()),
+    /// `ring [0] INTEGER (0..65535)`
     Ring(u16),
+    /// `inner Corner`
     Inner(Corner),
 }
 
@@ -110,5 +117,5 @@ impl AsnType for Shape {
 }
 
 impl ChoiceType for Shape {
-    ghost agrees = { choice_agrees (codes "Shape") ⟦<Shape as Choice>⟧.alternatives ⟦<Shape as Choice>⟧.pick };
+    ghost agrees = { choice_agrees };
 }
