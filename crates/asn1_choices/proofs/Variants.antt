@@ -1,8 +1,5 @@
 -- How many alternatives there are, by their trees, and whether some are after the extension marker.
-use Rattle.std.specs.Prelude.{◌≡◌, ℕ, zero, suc, Bool, true, false, is_some, IsSomeAnd, List, [], ◌∷◌, length, Option, None, Some, refl}
-use Rattle.std.specs.Bool.{OnTrue, OnFalse}
-use Rattle.std.specs.Option.{option_map, option_copied}
-use Rattle.std.specs.Borrow.{Bor}
+use Rattle.std.specs.Prelude.{◌≡◌, ℕ, zero, suc, List, [], ◌∷◌, length, refl}
 use Rattle.std.proofs.Common.{ap, sym, ◌∙◌}
 use Rattle.asn1_tags.specs.declared.trees.TagTree.{TagTree}
 use Rattle.asn1_tags.specs.Trees.{Trees, none, more, shapes}

@@ -3,7 +3,6 @@ use Rattle.std.specs.Prelude.{◌≡◌, ◌⊎◌, ℕ, pos, ◌-ℤ◌, ⊤, B
 use Rattle.std.specs.Option.{option_map}
 use Rattle.std.proofs.Common.{inl, inr}
 use Rattle.asn1_ranges.specs.declared.bounded.Bounded.TheVariants.{Range}
-use Rattle.asn1_tags.specs.declared.tags.Tag.{Tag}
 use Rattle.asn1_tags.specs.Tags.{distinct}
 use Rattle.asn1_tags.specs.Trees.{Trees, none, more, is_open, leaves_of}
 use Rattle.asn1_model.specs.ConstraintSets.{ConstraintSet, unconstrained}

@@ -4,12 +4,12 @@ use Rattle.std.proofs.Common.{ap, sym, subst}
 use Rattle.asn1_tags.specs.declared.tags.Tag.{Tag}
 use Rattle.asn1_tags.specs.Trees.{Trees, choice, none}
 use Rattle.asn1_model.specs.ConstraintSets.{ConstraintSet, unconstrained}
-use Rattle.asn1_model.specs.Records.{Name, Record}
-use Rattle.asn1_model.specs.Tags.{CHOICE, Has, IsOneRecord, first_tag, tree_tags}
+use Rattle.asn1_model.specs.Records.{Name}
+use Rattle.asn1_model.specs.Tags.{CHOICE, Has, first_tag, tree_tags}
 use Rattle.asn1_model.specs.Composites.{choice_records}
 use Rattle.asn1_model.specs.Meaning.{Meaning}
 use Rattle.asn1_model.specs.Kinds.{choice_tree, choice_type}
-use Rattle.asn1_choices.specs.Alternatives.{Alternative, Alternatives, OneOf, Each, CanBeChosen, HaveDistinctTags, ValueMeaning, all_of, trees_of, chosen, chosen_meaning, others}
+use Rattle.asn1_choices.specs.Alternatives.{Alternatives, OneOf, Each, CanBeChosen, HaveDistinctTags, ValueMeaning, all_of, trees_of, chosen_meaning}
 use Rattle.asn1_choices.specs.ChosenTags.{chosen_tag, chosen_is_among}
 
 -- A CHOICE (X.680, 29) by its name, the trees of its alternatives, whether they can be chosen, and what the chosen one

@@ -1,12 +1,12 @@
 -- Open ::= CHOICE { null NULL, flag BOOLEAN, nested [0] Open }
-use Rattle.std.specs.Prelude.{◌≡◌, Bool, List, [], ◌∷◌, Some, codes, refl}
+use Rattle.std.specs.Prelude.{◌≡◌, [], ◌∷◌, codes, refl}
 use Rattle.std.proofs.Common.{inl, inr}
 use Rattle.asn1_model.specs.Tags.{context}
 use Rattle.asn1_model.specs.contracts.impls.null.UnitAsnType.TheImpl.{ghosts as null}
 use Rattle.asn1_model.specs.contracts.impls.boolean.BoolAsnType.TheImpl.{ghosts as boolean}
 use Rattle.asn1_model.specs.TaggedTypes.{tagged, untagged}
 use Rattle.asn1_choices.specs.Alternatives.{Alternatives, OneOf, ValueMeaning, all_of, alternative, closed, chosen_meaning, value_meaning}
-use Rattle.asn1_choices.specs.ChoiceTypes.{inside_itself, itself_under, choice_holding_itself}
+use Rattle.asn1_choices.specs.ChoiceTypes.{inside_itself, itself_under}
 use Rattle.asn1_choices.specs.declared.examples.open.Open.{Open, Null, Flag, Nested'}
 
 -- what the chosen alternative says of each value

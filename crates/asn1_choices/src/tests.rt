@@ -22,14 +22,6 @@ use asn1_model::AsnType;
 use asn1_tags::{Tag, TagTree};
 use std::process::Abort;
 
-/// No tag is twice among the alternatives, so these can be inside other types.
-fn distinct_tags()
-    ensures corner { CanStandInside ⟦<Corner as AsnType>⟧.meaning }
-    ensures open { CanStandInside ⟦<Open as AsnType>⟧.meaning }
-    ensures reply { CanStandInside ⟦<Reply as AsnType>⟧.meaning }
-    ensures shape { CanStandInside ⟦<Shape as AsnType>⟧.meaning }
-{}
-
 /// A CHOICE cannot be inside others with the same tag twice: in the root, on both sides of the extension marker, or in an
 /// untagged CHOICE and beside it.
 fn same_tag_twice()
