@@ -1,4 +1,4 @@
-//! Field tables of SEQUENCE and SET types, and CHOICE types.
+//! Field tables of SEQUENCE and SET types.
 //!
 //! A decoder of a SEQUENCE tells by the next tag whether a component that may be absent is there, and a decoder of a
 //! SET knows each component by its tag. So X.680 asks that the tags of such components differ, and canonical
@@ -12,7 +12,6 @@
 //! | [`FieldIter`] and its kin | its fields, those that may be absent, and its names | `iterators.rt` | `FieldLists` |
 //! | [`first_sequence_clash`], [`first_set_clash`] | the rules on distinct tags | `distinct_tags.rt` | `DistinctTags` |
 //! | [`is_canonical`] | the canonical order | `canonical_order.rt` | `CanonicalOrder` |
-//! | [`Choice`] | a CHOICE type: the trees and the names of its alternatives | `choices.rt` | |
 //!
 //! What the contracts promise, in the words that `specs/` defines:
 //!
@@ -38,7 +37,6 @@
 #![tactic(auto)]
 
 mod canonical_order;
-mod choices;
 mod distinct_tags;
 mod field;
 mod fields;
@@ -48,7 +46,6 @@ mod presence;
 mod tests;
 
 pub use canonical_order::{at_most_one_rearrangement_is_canonical, is_canonical};
-pub use choices::Choice;
 pub use distinct_tags::{first_sequence_clash, first_set_clash};
 pub use field::Field;
 pub use fields::Fields;

@@ -3,8 +3,9 @@ use Rattle.std.specs.Prelude.{◌≡◌, Bool, true, false, ◌&&◌, List, [], 
 use Rattle.std.proofs.Common.{ap, sym, ◌∙◌, subst, cond}
 use Rattle.std.proofs.lemmas.Bool.{and_parts}
 use Rattle.asn1_tags.specs.declared.tags.Tag.{Tag}
-use Rattle.asn1_model.specs.Records.{Record, mark, present, is_mark, marks_alone}
-use Rattle.asn1_model.specs.Tags.{Tags, LiesIn, IsOneRecord, BeginsWithin, first_tags, record_tags}
+use Rattle.asn1_model.specs.Records.{Record, scalar, scope, raw, mark, present, is_mark, marks_alone}
+use Rattle.asn1_model.specs.Tags.{Tags, every, among, Has, LiesIn, IsOneRecord, BeginsWithin, head_tag, first_of, first_tag, first_tags, record_tags}
+use Rattle.asn1_model.proofs.TagSets.{only_has}
 
 false_and : (a b : Bool) → a ≡ false → (a && b) ≡ false
 false_and a b h = ap (λ x. x && b) h
@@ -43,3 +44,17 @@ begins_before tags rs rest h = record {
   some = alone_append rs rest ∙ false_and (marks_alone rs) (marks_alone rest) h.some;
   within = subst (λ a. LiesIn a tags) (sym (first_stays rs rest h.some)) h.within;
 }
+
+-- a record that lies in some tags begins with one of them
+record_has : (ts : List Tag) (r : Record) → is_mark r ≡ false → LiesIn (record_tags r) (among ts) → Has (among ts) (first_of (record_tags r))
+record_has ts (scalar t c n x) no_mark within = within t (only_has t)
+record_has ts (scope h rs) no_mark within = within (head_tag h) (only_has (head_tag h))
+record_has ts (raw n bytes) no_mark within = absurd within
+record_has ts (mark m) no_mark within = cc
+
+-- and so does a list that is one record
+pub one_has : (tags : Tags) (rs : List Record) → IsOneRecord tags rs → Has tags (first_tag rs)
+one_has every rs one = tt
+one_has (among ts) rs one =
+    let first : first_tags rs ≡ record_tags one.item = ap first_tags one.alone ∙ ap (λ b. cond b (among []) (record_tags one.item)) one.no_mark in
+    subst (λ a. Has (among ts) (first_of a)) (sym first) (record_has ts one.item one.no_mark (subst (λ a. LiesIn a (among ts)) first one.within))

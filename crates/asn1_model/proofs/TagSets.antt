@@ -1,5 +1,5 @@
 -- Sets of tags, and the tags of trees.
-use Rattle.std.specs.Prelude.{Bool, true, false, ◌||◌, List, ◌++◌, refl, if◌then◌else◌}
+use Rattle.std.specs.Prelude.{◌≡◌, Bool, true, false, ◌||◌, List, ◌++◌, Contains, refl, if◌then◌else◌}
 use Rattle.std.proofs.Common.{arith}
 use Rattle.std.proofs.lemmas.List.Elements.{Contains-append_left, Contains-append_right}
 use Rattle.asn1_tags.specs.declared.tags.Tag.{Tag}
@@ -54,3 +54,19 @@ has_first t ts tag h = in_first_tree (only tag) t ts (only_in (tree_tags t) tag 
 
 pub has_later : (t u : Tree) (us : Trees) (tag : Tag) → Has (tree_tags (choice (more u us))) tag → Has (tree_tags (choice (more t (more u us)))) tag
 has_later t u us tag h = in_later_trees (only tag) t u us (only_in (tree_tags (choice (more u us))) tag h) tag (only_has tag)
+
+-- a leaf of a tree is one of its tags
+pub has_leaf : (tree : Tree) (t : Tag) → Contains (leaves tree) t → Has (tree_tags tree) t
+has_leaf tree t h = by_open (is_open tree)
+  where
+    by_open : (b : Bool) → Has (if b then every else among (leaves tree)) t
+    by_open true = tt
+    by_open false = h
+
+-- and each tag of a tree that is not open is a leaf
+pub leaf_has : (tree : Tree) (t : Tag) → is_open tree ≡ false → Has (tree_tags tree) t → Contains (leaves tree) t
+leaf_has tree t closed h = by_open (is_open tree) closed h
+  where
+    by_open : (b : Bool) → b ≡ false → Has (if b then every else among (leaves tree)) t → Contains (leaves tree) t
+    by_open true e h = cc
+    by_open false e h = h

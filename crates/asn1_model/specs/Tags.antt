@@ -68,6 +68,16 @@ abbrev pub first_tags : List Record → Tags
 first_tags [] = among []
 first_tags (r ∷ rs) = if is_mark r then first_tags rs else record_tags r
 
+-- the first of a list of tags, or the tag that stands for none
+abbrev pub first_of : Tags → Tag
+first_of every = CHOICE
+first_of (among []) = CHOICE
+first_of (among (t ∷ ts)) = t
+
+-- the tag with which a list begins, or the tag that stands for none where it can be any
+abbrev pub first_tag : List Record → Tag
+first_tag rs = first_of (first_tags rs)
+
 -- The list is one record, which is no mark, and its first tags lie in these.
 pub record IsOneRecord (tags : Tags) (rs : List Record) : Type 0 where
   pub item : Record

@@ -1,7 +1,8 @@
 -- Tests of lists of tags, and what they decide.
-use Rattle.std.proofs.Common.{◌≡◌, ◌≢◌, zero, suc, Bool, true, false, List, [], ◌∷◌, ◌<◌, ◌&&◌, not, AllPairs, Contains, length, get_or, refl, sym, ◌∙◌, subst, arith}
-use Rattle.std.proofs.lemmas.Bool.{false≢true}
+use Rattle.std.proofs.Common.{◌≡◌, ◌≢◌, zero, suc, Bool, true, false, List, [], ◌∷◌, ◌++◌, ◌<◌, ◌&&◌, not, AllPairs, Contains, length, get_or, refl, sym, ap, ◌∙◌, subst, arith}
+use Rattle.std.proofs.lemmas.Bool.{false≢true, and_parts}
 use Rattle.std.proofs.lemmas.Grind.{common_steps}
+use Rattle.std.proofs.lemmas.List.Elements.{Contains-append_right}
 use Rattle.std.proofs.lemmas.List.Folds.{list_any_at, Any-from_list_any}
 use Rattle.asn1_tags.specs.Tags.{HaveCommonTag, class_number, tag_eq, has, distinct}
 use Rattle.asn1_tags.specs.Walks.{meet}
@@ -69,6 +70,21 @@ meet-from_HaveCommonTag ts us c =
     let in_first = c.in_first in
     list_any_at (λ t. has t us) ts in_first.0 c.tag in_first.1
     (subst (λ t. has t us ≡ true) (sym in_first.2) (has-from_Contains c.tag us c.in_second))
+
+-- where the test finds no tag twice in two lists that follow one another, it finds none in the second
+pub distinct-after : (ts us : List Tag) → distinct (ts ++ us) ≡ true → distinct us ≡ true
+distinct-after [] us h = h
+distinct-after (t ∷ ts) us h = distinct-after ts us (and_parts (not (has t (ts ++ us))) (distinct (ts ++ us)) h).1
+
+-- and no tag of the first is one of the second
+pub apart-from_distinct : (ts us : List Tag) → distinct (ts ++ us) ≡ true → (t : Tag) → Contains ts t → Contains us t → ⊥
+apart-from_distinct [] us h t (k, below, same) of_us = absurd (omega arith)
+apart-from_distinct (s ∷ ts) us h t (zero, below, same) of_us =
+    let absent : not (has s (ts ++ us)) ≡ true = (and_parts (not (has s (ts ++ us))) (distinct (ts ++ us)) h).0 in
+    let present : has s (ts ++ us) ≡ true = has-from_Contains s (ts ++ us) (Contains-append_right ts us s (subst (Contains us) (sym same) of_us)) in
+    false≢true (ap not (sym present) ∙ absent)
+apart-from_distinct (s ∷ ts) us h t (suc k, below, same) of_us =
+    apart-from_distinct ts us (and_parts (not (has s (ts ++ us))) (distinct (ts ++ us)) h).1 t (k, omega arith, same) of_us
 
 -- the tags that two lists have in common
 pub ruleset common_tags = (HaveCommonTag-from_meet, meet-from_HaveCommonTag)

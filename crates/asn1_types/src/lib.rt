@@ -13,6 +13,7 @@
 //! | [`AsnType`], [`TypeTable`], [`TreeForm`], [`StringType`], [`tag`] | what a type means, and the law of types: of `asn1_model` | |
 //! | [`Field`], [`Fields`] | field tables: of `asn1_fields` | |
 //! | [`FieldTable`], [`ConstructedType`], [`Constructed`] | SEQUENCE and SET types: of `asn1_components` | |
+//! | [`Choice`], [`ChoiceType`] | CHOICE types: of `asn1_choices` | |
 //! | [`Enumerated`], [`EnumerationItem`], [`EnumeratedType`] | ENUMERATED types: of `asn1_enumerations` | |
 //!
 //! What the contracts promise, and the words that they use:
@@ -45,6 +46,7 @@ mod set_of;
 mod tests;
 
 pub use any::Any;
+pub use asn1_choices::{Choice, ChoiceType, the_chosen_tag_tells_the_alternative};
 pub use asn1_components::{
     Constructed, ConstructedType, FieldTable, components_are_told_apart, field_in,
 };
@@ -53,7 +55,7 @@ pub use asn1_enumerations::{
     written_number,
 };
 pub use asn1_fields::{
-    Choice, Field, FieldIter, FieldPresence, Fields, IdentifierIter, OptionalFieldIter,
+    Field, FieldIter, FieldPresence, Fields, IdentifierIter, OptionalFieldIter,
     at_most_one_rearrangement_is_canonical, first_sequence_clash, first_set_clash, is_canonical,
 };
 pub use asn1_model::{

@@ -1,0 +1,85 @@
+-- What a CHOICE means, by its alternatives.
+use Rattle.std.specs.Prelude.{◌≡◌, ◌↔◌, ℕ, ⊤, Bool, List, Some, refl}
+use Rattle.std.proofs.Common.{ap, sym, subst}
+use Rattle.asn1_tags.specs.declared.tags.Tag.{Tag}
+use Rattle.asn1_tags.specs.Trees.{Trees, choice, none}
+use Rattle.asn1_model.specs.ConstraintSets.{ConstraintSet, unconstrained}
+use Rattle.asn1_model.specs.Records.{Name}
+use Rattle.asn1_model.specs.Tags.{CHOICE, Has, first_tag, tree_tags}
+use Rattle.asn1_model.specs.Composites.{choice_records}
+use Rattle.asn1_model.specs.Meaning.{Meaning}
+use Rattle.asn1_model.specs.Kinds.{choice_tree, choice_type}
+use Rattle.asn1_choices.specs.Alternatives.{Alternatives, OneOf, Each, CanBeChosen, HaveDistinctTags, ValueMeaning, all_of, trees_of, chosen_meaning}
+use Rattle.asn1_choices.specs.ChosenTags.{chosen_tag, chosen_is_among}
+
+-- A CHOICE (X.680, 29) by its name, the trees of its alternatives, whether they can be chosen, and what the chosen one
+-- says of each value.
+abbrev pub choice_by : {V : Type 0} → List ℕ → (alternatives : Trees) → (CanChoose : Type 0) → (means : V → ValueMeaning) →
+    (CanChoose → (v : V) → Has (tree_tags (choice alternatives)) (first_tag (means v).records)) → Meaning V
+choice_by name alternatives CanChoose means is_among = choice_type (Some name) unconstrained
+    (record {
+      records = λ v. (means v).records;
+      CanStandInside = CanChoose;
+      AreOfType = λ v. (means v).IsOfType;
+      AreValid = λ takes v. (means v).IsValid takes;
+    })
+    (record { alternatives = alternatives; tag = λ v. first_tag (means v).records; among = is_among })
+
+module _ {V : Type 0} (name : List ℕ) (alts : Alternatives) (pick : V → OneOf (all_of alts)) where
+  -- A CHOICE of these alternatives, by which of them a value is.
+  abbrev pub choice_of : Meaning V
+  choice_of = choice_by name (trees_of (all_of alts)) (Each CanBeChosen (all_of alts)) (λ v. chosen_meaning (all_of alts) (pick v))
+      (λ can v. chosen_is_among (all_of alts) can (pick v))
+
+  -- A CHOICE that holds itself, whose author says what the chosen alternative says of each value by recursion on the value.
+  abbrev pub choice_holding_itself : (means : V → ValueMeaning) → ((v : V) → means v ≡ chosen_meaning (all_of alts) (pick v)) → Meaning V
+  choice_holding_itself means agree = choice_by name (trees_of (all_of alts)) (Each CanBeChosen (all_of alts)) means
+      (λ can v. subst (λ m. Has (tree_tags (choice (trees_of (all_of alts)))) (first_tag m.records)) (sym (agree v)) (chosen_is_among (all_of alts) can (pick v)))
+
+-- What a CHOICE that holds itself is to its own alternatives, where nothing is asked of it. There it has to be under a tag:
+-- without one it may begin with every tag, and so is no alternative.
+abbrev pub inside_itself : {V : Type 0} → List ℕ → (V → ValueMeaning) → Meaning V
+inside_itself name means = choice_by name none ⊤ means (λ _ _. tt)
+
+-- what the alternative that is the CHOICE itself, under this tag, says of a value, by what the CHOICE says of it
+abbrev pub itself_under : List ℕ → Tag → ValueMeaning → ValueMeaning
+itself_under name t meaning = record meaning { records = choice_records (first_tag meaning.records) meaning.records unconstrained (Some name) t unconstrained (Some name) }
+
+-- The law of a CHOICE type: its meaning is that of its alternatives. Its tags are theirs, and a value is what was chosen;
+-- it is well tagged if and only if they have distinct tags and can be chosen; and what a value has, and whether it is valid,
+-- the chosen alternative says.
+pub record AgreesWithChoice {V : Type 0} (alts : Alternatives) (pick : V → OneOf (all_of alts)) (m : Meaning V) : Type 0 where
+  pub tag : m.tag ≡ CHOICE
+  pub tree : (t : Tag) → m.tree t ≡ choice_tree (choice (trees_of (all_of alts))) t
+  pub records : (v : V) (t : Tag) (c : ConstraintSet) (n : Name) →
+      m.records v t c n ≡ choice_records (chosen_tag (all_of alts) (pick v)) (chosen_meaning (all_of alts) (pick v)).records m.constraints m.name t c n
+  pub single : m.IsSingleRecord
+  pub well_tagged : (t : Tag) → m.IsWellTagged t ↔ (HaveDistinctTags (all_of alts) × Each CanBeChosen (all_of alts))
+  pub of_type : (v : V) → m.IsOfType v ↔ (chosen_meaning (all_of alts) (pick v)).IsOfType
+  pub valid : (takes : List ℕ → Bool) (v : V) → m.IsValid takes v ↔ (chosen_meaning (all_of alts) (pick v)).IsValid takes
+
+-- so for a CHOICE that holds itself
+pub itself_agrees : {V : Type 0} {name : List ℕ} {alts : Alternatives} {pick : V → OneOf (all_of alts)} {means : V → ValueMeaning} →
+    (agree : (v : V) → means v ≡ chosen_meaning (all_of alts) (pick v)) →
+    AgreesWithChoice alts pick (choice_holding_itself name alts pick means agree)
+itself_agrees {name = name} agree = record {
+  tag = refl;
+  tree = λ _. refl;
+  records = λ v t c n. ap (λ m. choice_records (first_tag m.records) m.records unconstrained (Some name) t c n) (agree v);
+  single = tt;
+  well_tagged = λ _. (λ h. h, λ h. h);
+  of_type = λ v. (subst (λ m. m.IsOfType) (agree v), subst (λ m. m.IsOfType) (sym (agree v)));
+  valid = λ takes v. (subst (λ m. m.IsValid takes) (agree v), subst (λ m. m.IsValid takes) (sym (agree v)));
+}
+
+-- and for every other
+pub choice_agrees : {V : Type 0} {name : List ℕ} {alts : Alternatives} {pick : V → OneOf (all_of alts)} → AgreesWithChoice alts pick (choice_of name alts pick)
+choice_agrees = record {
+  tag = refl;
+  tree = λ _. refl;
+  records = λ _ _ _ _. refl;
+  single = tt;
+  well_tagged = λ _. (λ h. h, λ h. h);
+  of_type = λ _. (λ h. h, λ h. h);
+  valid = λ _ _. (λ h. h, λ h. h);
+}

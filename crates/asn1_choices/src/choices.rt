@@ -1,0 +1,74 @@
+//! CHOICE types.
+ghost use Rattle.std.specs.Prelude.{◌≡◌, length, map};
+ghost use Rattle.std.specs.Option.{option_copied, option_map};
+ghost use Rattle.asn1_model.specs.ConstraintSets.{constraint_set};
+ghost use Rattle.asn1_tags.specs.Trees.{shapes};
+ghost use Rattle.asn1_tags.specs.declared.tags.Tag.{Tag};
+ghost use Rattle.asn1_choices.specs.Alternatives.{Alternatives, OneOf, root_of, all_of, names_of, trees_of, added_trees_of, variance_of};
+ghost use Rattle.asn1_choices.specs.ChosenTags.{TagTellsAlternative};
+ghost use Rattle.asn1_choices.specs.ChoiceTypes.{AgreesWithChoice};
+
+use asn1_bounds::{Bounded, Constraints, Extensible, Value};
+use asn1_model::AsnType;
+use asn1_tags::TagTree;
+
+/// A CHOICE type (X.680, 29): its alternatives, and which of them a value is.
+pub trait Choice {
+    // The alternatives of the root, and those after the extension marker.
+    ghost alternatives: { Alternatives };
+
+    // The alternative that a value is.
+    ghost pick: { Self → OneOf (all_of alternatives) };
+
+    /// The trees of the alternatives of the root.
+    fn variants() -> &'static [TagTree<'static>]
+        ensures { shapes result.now ≡ trees_of (root_of alternatives) };
+
+    /// The trees of the alternatives after the extension marker; `None` where there is no marker.
+    fn extended_variants() -> Option<&'static [TagTree<'static>]>
+        ensures { option_map shapes (option_copied result) ≡ added_trees_of alternatives };
+
+    /// The names of the alternatives, those of the root first.
+    fn identifiers() -> &'static [&'static str]
+        ensures { map (λ text. text.now) result.now ≡ names_of (all_of alternatives) };
+
+    /// How many alternatives the root has.
+    #[tactic(auto, using(crate::proofs::Variants::as_many))]
+    final fn variance() -> usize
+        ensures { result ≡ length (root_of alternatives) }
+    {
+        Self::variants().len()
+    }
+
+    /// How many alternatives there are.
+    final fn complete_variance() -> usize
+        ensures { result ≡ length (all_of alternatives) }
+    {
+        Self::identifiers().len()
+    }
+
+    /// The constraint of the alternative's place: from 0 to one less than the root has alternatives, and extensible where
+    /// there is an extension marker.
+    final fn variance_constraint() -> Constraints<'static>
+        ensures { constraint_set result ≡ variance_of alternatives }
+    {
+        let places = Value::new(Bounded::const_new(0, Self::variance() as i128 - 1));
+        let is_extensible = Self::extended_variants().is_some();
+        Constraints {
+            value: Some(Extensible::new(places).set_extensible(is_extensible)),
+            ..Constraints::NONE
+        }
+    }
+}
+
+/// A type that is a CHOICE: its meaning is that of its alternatives.
+pub trait ChoiceType: AsnType + Choice {
+    // The law.
+    ghost agrees: { AgreesWithChoice Self.alternatives Self.pick Self.meaning };
+}
+
+/// Of a value of a well tagged CHOICE, the chosen alternative is one record, which begins with one of the alternative's own
+/// tags, and no other alternative has that tag (X.680, 29.3). So a decoder knows the alternative by the next tag.
+pub fn the_chosen_tag_tells_the_alternative<T: ChoiceType>()
+    ensures { (t : Tag) (v : T) → T.meaning.IsWellTagged t → TagTellsAlternative (all_of T.alternatives) (T.pick v) }
+{}
