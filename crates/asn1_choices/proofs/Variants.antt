@@ -1,4 +1,4 @@
--- How many alternatives there are, by their trees, and whether some are after the extension marker.
+-- How many alternatives there are, by their trees.
 use Rattle.std.specs.Prelude.{◌≡◌, ℕ, zero, suc, List, [], ◌∷◌, length, refl}
 use Rattle.std.proofs.Common.{ap, sym, ◌∙◌}
 use Rattle.asn1_tags.specs.declared.trees.TagTree.{TagTree}

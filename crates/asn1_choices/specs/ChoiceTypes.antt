@@ -26,15 +26,14 @@ choice_by name alternatives CanChoose means is_among = choice_type (Some name) u
     (record { alternatives = alternatives; tag = λ v. first_tag (means v).records; among = is_among })
 
 module _ {V : Type 0} (name : List ℕ) (alts : Alternatives) (pick : V → OneOf (all_of alts)) where
-  -- A CHOICE of these alternatives, by which of them a value is.
-  abbrev pub choice_of : Meaning V
-  choice_of = choice_by name (trees_of (all_of alts)) (Each CanBeChosen (all_of alts)) (λ v. chosen_meaning (all_of alts) (pick v))
-      (λ can v. chosen_is_among (all_of alts) can (pick v))
-
-  -- A CHOICE that holds itself, whose author says what the chosen alternative says of each value by recursion on the value.
+  -- A CHOICE that holds itself: its author says by recursion on a value what the chosen alternative says of it.
   abbrev pub choice_holding_itself : (means : V → ValueMeaning) → ((v : V) → means v ≡ chosen_meaning (all_of alts) (pick v)) → Meaning V
   choice_holding_itself means agree = choice_by name (trees_of (all_of alts)) (Each CanBeChosen (all_of alts)) means
       (λ can v. subst (λ m. Has (tree_tags (choice (trees_of (all_of alts)))) (first_tag m.records)) (sym (agree v)) (chosen_is_among (all_of alts) can (pick v)))
+
+  -- Any other CHOICE of these alternatives, by which of them a value is.
+  abbrev pub choice_of : Meaning V
+  choice_of = choice_holding_itself (λ v. chosen_meaning (all_of alts) (pick v)) (λ _. refl)
 
 -- What a CHOICE that holds itself is to its own alternatives, where nothing is asked of it. There it has to be under a tag:
 -- without one it may begin with every tag, and so is no alternative.
@@ -74,12 +73,4 @@ itself_agrees {name = name} agree = record {
 
 -- and for every other
 pub choice_agrees : {V : Type 0} {name : List ℕ} {alts : Alternatives} {pick : V → OneOf (all_of alts)} → AgreesWithChoice alts pick (choice_of name alts pick)
-choice_agrees = record {
-  tag = refl;
-  tree = λ _. refl;
-  records = λ _ _ _ _. refl;
-  single = tt;
-  well_tagged = λ _. (λ h. h, λ h. h);
-  of_type = λ _. (λ h. h, λ h. h);
-  valid = λ _ _. (λ h. h, λ h. h);
-}
+choice_agrees = itself_agrees (λ _. refl)
