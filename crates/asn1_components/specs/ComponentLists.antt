@@ -23,10 +23,14 @@ abbrev pub seen_by_tags : {V : Type 0} → List (ComponentType V) → List Compo
 seen_by_tags [] = []
 seen_by_tags (c ∷ cs) = record { presence = c.presence; tree = c.tree } ∷ seen_by_tags cs
 
--- their lines in a table, in the order of the definition; the index of the first is given
+-- a component's line in a table, with its index
+abbrev pub entry_at : {V : Type 0} → ℕ → ComponentType V → Entry
+entry_at k c = record { index = k; tag = c.tag; tree = c.tree; presence = c.presence; name = c.name }
+
+-- the lines of all, in the order of the definition; the index of the first is given
 abbrev pub entries_from : {V : Type 0} → ℕ → List (ComponentType V) → List Entry
 entries_from k [] = []
-entries_from k (c ∷ cs) = record { index = k; tag = c.tag; tree = c.tree; presence = c.presence; name = c.name } ∷ entries_from (k + 1) cs
+entries_from k (c ∷ cs) = entry_at k c ∷ entries_from (k + 1) cs
 
 -- the trees of all
 abbrev pub trees_of : {V : Type 0} → List (ComponentType V) → Trees

@@ -1,5 +1,5 @@
 //! Badge ::= SET { id INTEGER (0..4294967295), label VisibleString OPTIONAL, note BOOLEAN }: the table goes by tags.
-ghost use Rattle.std.specs.Prelude.{◌≡◌, [], ◌∷◌, None, Some, true, pos, codes};
+ghost use Rattle.std.specs.Prelude.{◌≡◌, [], ◌∷◌, None, Some, map, true, pos, codes};
 ghost use Rattle.asn1_ranges.specs.declared.bounded.Bounded.TheVariants.{Range};
 ghost use Rattle.asn1_model.specs.ConstraintSets.{unconstrained, values_of};
 ghost use Rattle.asn1_model.specs.Meaning.{CanStandInside, own_records};
@@ -7,9 +7,11 @@ ghost use Rattle.asn1_model.specs.Records.{holding, scalar, mark, absent, set as
 ghost use Rattle.asn1_model.specs.TaggedTypes.{untagged};
 ghost use Rattle.asn1_model.specs.Tags.{universal};
 ghost use Rattle.asn1_components.specs.ComponentTypes.{required, optional};
-ghost use Rattle.asn1_components.specs.Components.{constructed_type, made_of, set};
+ghost use Rattle.asn1_fields.specs.CanonicalOrder.{IsCanonical};
+ghost use Rattle.asn1_fields.specs.Entries.{component_of};
+ghost use Rattle.asn1_components.specs.Components.{constructed_type, made_of, root_entries, set, table};
 
-use crate::{ConstructedType, FieldTable};
+use crate::{ConstructedType, FieldTable, tables_are_in_order};
 use asn1_fields::Field;
 use asn1_model::{AsnType, TypeTable};
 use asn1_tags::{Identifier, Tag};
@@ -61,6 +63,14 @@ impl ConstructedType for Badge {
 fn badge_can_stand_inside()
     ensures { CanStandInside ⟦<Badge as AsnType>⟧.meaning }
 {}
+
+/// Its table is in canonical order: BOOLEAN, INTEGER, VisibleString.
+fn badge_table_is_canonical()
+    ensures indices { map (λ entry. entry.index) (table ⟦<Badge as FieldTable>⟧.components) ≡ 2 ∷ 0 ∷ 1 ∷ [] }
+    ensures canonical { IsCanonical (map component_of (root_entries ⟦<Badge as FieldTable>⟧.components)) }
+{
+    tables_are_in_order::<Badge>();
+}
 
 /// Its records are in the order of the definition.
 fn badge_records(badge: &Badge)
