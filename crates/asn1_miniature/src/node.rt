@@ -2,6 +2,10 @@
 ghost use Rattle.asn1_model.specs.Meaning.{CanStandInside};
 ghost use Rattle.asn1_miniature.specs.NodeComponents.{node_components, node_has, node_meaning};
 
+use crate::encode::{Encode, EncodeFields};
+use crate::encoder::Encoder;
+use crate::error::EncodeError;
+use asn1_bounds::Constraints;
 use asn1_components::{ConstructedType, FieldTable};
 use asn1_fields::Field;
 use asn1_model::{AsnType, TypeTable};
@@ -50,3 +54,27 @@ impl ConstructedType for Node {
 pub fn node_can_stand_inside()
     ensures { CanStandInside ⟦<Node as AsnType>⟧.meaning }
 {}
+
+impl Encode for Node {
+    #[cycle(node)]
+    fn encode_with_tag_and_constraints<E: Encoder>(
+        &self,
+        encoder: &mut E,
+        tag: Tag,
+        _constraints: &Constraints<'_>,
+        name: Identifier,
+    ) -> Result<(), EncodeError> {
+        encoder.encode_sequence(tag, self, name)
+    }
+}
+
+impl EncodeFields for Node {
+    #[cycle(node)]
+    fn encode_field<E: Encoder>(&self, place: usize, encoder: &mut E) -> Result<(), EncodeError> {
+        match place {
+            0 => self.label.encode(encoder),
+            1 => self.children.encode(encoder),
+            _ => Ok(()),
+        }
+    }
+}
