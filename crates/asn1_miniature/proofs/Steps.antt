@@ -1,8 +1,13 @@
 -- How steps of writing follow one another.
-use Rattle.std.proofs.Common.{◌≡◌, List, [], ◌∷◌, ◌++◌, sym, ap, subst, append_assoc, append-nil, Some, Result, Ok, Err}
+use Rattle.std.proofs.Common.{◌≡◌, List, [], ◌∷◌, ◌++◌, sym, ap, subst, append_assoc, append-nil, ◌∙◌, Some, Result, Ok, Err}
 use Rattle.std.specs.Result.{IsErrAnd}
-use Rattle.asn1_model.specs.Composites.{group_records}
-use Rattle.asn1_model.specs.Records.{Record, Head, holding}
+use Rattle.asn1_components.specs.ComponentLists.{EachIsOfType}
+use Rattle.asn1_components.specs.Components.{Components, Has, all_components, component_records, head_in, is_sequence}
+use Rattle.asn1_model.specs.Composites.{group_records, sequence_records}
+use Rattle.asn1_model.specs.ConstraintSets.{ConstraintSet}
+use Rattle.asn1_model.specs.Meaning.{Meaning}
+use Rattle.asn1_model.specs.Records.{Record, Head, Name, holding}
+use Rattle.asn1_tags.specs.declared.tags.Tag.{Tag}
 use Rattle.asn1_miniature.specs.declared.error.EncodeError.{EncodeError}
 use Rattle.asn1_miniature.specs.declared.error.EncodeError.TheVariants.{Rejected}
 use Rattle.asn1_miniature.specs.Writing.{Codec, Written, outermost, in_scope, in_group, followed_by, RejectsWholes, Appends, Fails, Writes, IsOpen, IsNotOpen, IsClosed, GroupIsOpen, GroupIsClosed, UnlessOutOfMemory}
@@ -79,3 +84,18 @@ module _ {E : Type 0} (C : Codec E) where
     of_type = q.of_type;
   }
   writes_group {rs = rs} d (Err e) p q r = out_of_memory (group_records (Some rs)) r
+
+  -- What is said of the value may be said in other words.
+  pub in_other_words : (a b : E) (rs : List Record) {T U : Type 0} {A : Type 0} (result : Result A EncodeError) → (T → U) → Writes C a rs T b result → Writes C a rs U b result
+  in_other_words a b rs (Ok x) f q = record { written = q.written; of_type = f q.of_type }
+  in_other_words a b rs (Err e) f q = q
+
+  -- the records of a SEQUENCE, by the law that ties its meaning to its components
+  pub as_meant : {V : Type 0} (m : Meaning V) (components : Components V) (v : V) (t : Tag) (c : ConstraintSet) (n : Name) (a b : E) {A : Type 0} (result : Result A EncodeError) →
+      Has m components → components.kind ≡ is_sequence →
+      Writes C a (sequence_records t n (component_records components v)) (EachIsOfType (all_components components) v) b result →
+      Writes C a (m.records v t c n) (m.IsOfType v) b result
+  as_meant m components v t c n a b result law kind q =
+      subst (λ l. Writes C a l (m.IsOfType v) b result)
+      (sym (law.records v t c n ∙ ap (λ k. holding (head_in k t n) (component_records components v) ∷ []) kind))
+      (in_other_words a b _ result ((law.of_type v).1) q)

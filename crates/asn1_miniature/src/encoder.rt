@@ -4,9 +4,9 @@ ghost use Rattle.std.specs.List.{flat_map};
 ghost use Rattle.std.specs.Option.{option_map};
 ghost use Rattle.std.specs.Str.{IsUtf8};
 ghost use Rattle.asn1_components.specs.ComponentLists.{EachIsOfType};
-ghost use Rattle.asn1_components.specs.Components.{all_components, component_records};
+ghost use Rattle.asn1_components.specs.Components.{all_components, component_records, is_sequence};
 ghost use Rattle.asn1_miniature.specs.Writing.{Codec, GroupIsClosed, GroupIsOpen, IsClosed, Opens, RejectsWholes, UnlessOutOfMemory, Writes};
-ghost use Rattle.asn1_model.specs.Composites.{default_records, group_records, list_records, option_records, prefix_records, sequence_records};
+ghost use Rattle.asn1_model.specs.Composites.{default_records, group_records, list_records, option_records, prefix_records};
 ghost use Rattle.asn1_model.specs.ConstraintSets.{constraint_set, unconstrained};
 ghost use Rattle.asn1_model.specs.Meaning.{own_records};
 ghost use Rattle.asn1_model.specs.Records.{absent, group_absent, mark, number, prefix, present, scalar, sequence, sequence_of, truth, units, utf8};
@@ -15,6 +15,7 @@ ghost use Rattle.asn1_tags.specs.Names.{name_of};
 use crate::encode::{Encode, EncodeFields};
 use crate::error::EncodeError;
 use asn1_bounds::Constraints;
+use asn1_components::ConstructedType;
 use asn1_model::AsnType;
 use asn1_tags::{Identifier, Tag};
 
@@ -95,15 +96,16 @@ pub trait Encoder {
     ghost lawful: { RejectsWholes codec.rejects };
 
     /// A SEQUENCE, by its components.
-    final fn encode_sequence<C: EncodeFields>(
+    final fn encode_sequence<C: EncodeFields + ConstructedType>(
         &mut self,
         tag: Tag,
+        constraints: &Constraints<'_>,
         value: &C,
         name: Identifier,
     ) -> Result<(), EncodeError>
     where
         Self: Sized,
-        ensures { Writes codec self.old (sequence_records tag (name_of name) (component_records C.components value.now)) (EachIsOfType (all_components C.components) value.now) self.new result }
+        ensures { C.components.kind ≡ is_sequence → Writes codec self.old (C.meaning.records value.now tag (constraint_set constraints.now) (name_of name)) (C.meaning.IsOfType value.now) self.new result }
     {
         self.open_sequence(tag, name)?;
         value.encode_fields(self)?;

@@ -82,6 +82,12 @@ impl<T: Encode> Encode for Box<T> {
         constraints: &Constraints<'_>,
         name: Identifier,
     ) -> Result<(), EncodeError> {
-        T::encode_with_tag_and_constraints(&**self, encoder, tag, constraints, name)
+        T::encode_with_tag_and_constraints(
+            &**self,
+            encoder,
+            tag,
+            constraints,
+            name.or(T::identifier()),
+        )
     }
 }

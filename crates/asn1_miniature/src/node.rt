@@ -61,10 +61,10 @@ impl Encode for Node {
         &self,
         encoder: &mut E,
         tag: Tag,
-        _constraints: &Constraints<'_>,
+        constraints: &Constraints<'_>,
         name: Identifier,
     ) -> Result<(), EncodeError> {
-        encoder.encode_sequence(tag, self, name)
+        encoder.encode_sequence(tag, constraints, self, name)
     }
 }
 

@@ -9,12 +9,13 @@
 //!     [[ phone [3] UTF8String OPTIONAL, mail [4] UTF8String OPTIONAL ]]
 //! }
 //! ```
-ghost use Rattle.std.specs.Prelude.{[], ◌∷◌, codes, not};
+ghost use Rattle.std.specs.Prelude.{◌≡◌, [], ◌∷◌, codes, not};
 ghost use Rattle.asn1_components.specs.Components.{constructed_type, extensible_sequence, group, made_of, sequence};
 ghost use Rattle.asn1_components.specs.ComponentTypes.{optional, required, with_default};
 ghost use Rattle.asn1_model.specs.Meaning.{CanStandInside};
 ghost use Rattle.asn1_model.specs.TaggedTypes.{explicitly_tagged, tagged};
 ghost use Rattle.asn1_model.specs.Tags.{context};
+ghost use Rattle.asn1_tags.specs.Trees.{choice, shape, shapes};
 
 use crate::encode::{Encode, EncodeFields};
 use crate::encoder::Encoder;
@@ -112,7 +113,7 @@ impl FieldTable for Profile {
             0 => Some(Field::new_optional(0, NICK, TagTree::Leaf(NICK), "nick")),
             1 => Some(Field::new_required(1, LEVEL, TagTree::Leaf(LEVEL), "level")),
             2 => Some(Field::new_default(2, LOUD, TagTree::Leaf(LOUD), "loud")),
-            3 => Some(Field::new_optional(3, Tag::CHOICE, TagTree::Choice(REACH), "reach")),
+            3 => Some(Field::new_optional(3, Tag::CHOICE, group_tree(REACH), "reach")),
             _ => None,
         }
     }
@@ -139,10 +140,10 @@ impl Encode for Profile {
         &self,
         encoder: &mut E,
         tag: Tag,
-        _constraints: &Constraints<'_>,
+        constraints: &Constraints<'_>,
         name: Identifier,
     ) -> Result<(), EncodeError> {
-        encoder.encode_sequence(tag, self, name)
+        encoder.encode_sequence(tag, constraints, self, name)
     }
 }
 
@@ -156,6 +157,13 @@ impl EncodeFields for Profile {
             _ => Ok(()),
         }
     }
+}
+
+/// The tags of a group are those of its components.
+fn group_tree(trees: &'static [TagTree<'static>]) -> TagTree<'static>
+    ensures { shape result ≡ choice (shapes trees.now) }
+{
+    TagTree::Choice(trees)
 }
 
 /// A `Profile` can be inside other types: its tags are distinct.
