@@ -36,8 +36,14 @@ pub length-table : {V : Type 0} (components : Components V) → length (table co
 length-table components =
     let root = entries_from 0 components.root in
     let rest = entries_from (length components.root) (added components) in
-    omega (arith, length-append (table_in components.kind root) rest, length-append components.root (added components), length-table_in components.kind root,
-    length-entries 0 components.root, length-entries (length components.root) (added components))
+    omega (
+      arith,
+      length-append (table_in components.kind root) rest,
+      length-append components.root (added components),
+      length-table_in components.kind root,
+      length-entries 0 components.root,
+      length-entries (length components.root) (added components),
+    )
 
 records_next : {V : Type 0} (cs : List (ComponentType V)) (k : ℕ) (v : V) → all_records (take k cs) v ++ records_at cs k v ≡ all_records (take (suc k) cs) v
 records_next [] zero v = refl

@@ -82,9 +82,9 @@ all_to_row IsSo (more_of-Node child rest) h = (All-head (each_label IsSo) child 
 each_label_is : (IsSo : Option (String Global) → Type 0) (n : Node) → each_label IsSo n ↔ (IsSo (out-Node n).label × (All (each_label IsSo) (out-Node n).children.items × ⊤))
 each_label_is IsSo (Node' label shape children) =
     subst (λ n. (IsSo label × each_label_of IsSo children) ↔ (IsSo n.label × (All (each_label IsSo) n.children.items × ⊤))) (sym (outs-Node' label shape children)) (
-    λ h. (h.0, (All-same (each_label IsSo) _ _ (items_shown-the_row-Node-0 shape children) (row_to_all IsSo children h.1), tt)),
-    λ h. (h.0, all_to_row IsSo children (All-same (each_label IsSo) _ _ (sym (items_shown-the_row-Node-0 shape children)) h.1.0)),
-)
+      λ h. (h.0, (All-same (each_label IsSo) _ _ (items_shown-the_row-Node-0 shape children) (row_to_all IsSo children h.1), tt)),
+      λ h. (h.0, all_to_row IsSo children (All-same (each_label IsSo) _ _ (sym (items_shown-the_row-Node-0 shape children)) h.1.0)),
+    )
 
 pub node_has : Has node_meaning node_components
 node_has = record {

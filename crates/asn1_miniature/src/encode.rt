@@ -27,7 +27,11 @@ pub trait Encode: AsnType {
         ensures { Writes E.codec encoder.old (Self.meaning.records self.now tag (constraint_set constraints.now) (name_of name)) (Self.meaning.IsOfType self.now) encoder.new result };
 
     /// Writes the value under a tag in the place of the type's own.
-    final fn encode_with_tag<E: Encoder>(&self, encoder: &mut E, tag: Tag) -> Result<(), EncodeError>
+    final fn encode_with_tag<E: Encoder>(
+        &self,
+        encoder: &mut E,
+        tag: Tag,
+    ) -> Result<(), EncodeError>
         ensures { Writes E.codec encoder.old (Self.meaning.records self.now tag Self.meaning.constraints Self.meaning.name) (Self.meaning.IsOfType self.now) encoder.new result }
     {
         self.encode_with_tag_and_constraints(encoder, tag, &Self::constraints(), Self::identifier())

@@ -7,6 +7,8 @@ mod error;
 mod holders;
 mod node;
 mod profile;
+#[cfg(test)]
+mod tests;
 
 pub use encode::{Encode, EncodeFields};
 pub use encoder::Encoder;
