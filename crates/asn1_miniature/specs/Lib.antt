@@ -1,0 +1,3 @@
+pub mod NodeComponents
+pub mod Places
+pub mod Writing
