@@ -2,6 +2,7 @@
 -- whether the tags are distinct, and which values are valid follow from them.
 use Rattle.std.specs.Prelude.{◌≡◌, ◌↔◌, ℕ, ⊤, Bool, true, false, List, [], ◌∷◌, ◌++◌, length, Option, Some, refl, if◌then◌else◌}
 use Rattle.asn1_tags.specs.declared.tags.Tag.{Tag}
+use Rattle.asn1_tags.specs.Trees.{leaf}
 use Rattle.asn1_model.specs.ConstraintSets.{ConstraintSet, unconstrained}
 use Rattle.asn1_model.specs.Kinds.{Inside, scope_type}
 use Rattle.asn1_model.specs.Meaning.{Meaning}
@@ -137,20 +138,26 @@ constructed_type name components = constructed_type_under components (tag_of com
 abbrev pub group : {V W : Type 0} → List ℕ → (V → Option W) → Components W → ComponentType V
 group name get components = group_of name get (all_components components)
 
--- A type has these components: its values are the records of theirs, it is well tagged only where they can stand
--- together, and a value has by its type, and is valid by, what they have and are.
-pub record Has {V : Type 0} (m : Meaning V) (components : Components V) : Type 0 where
+-- The law of a type of components: its meaning is that of these. A value begins with the tag of the type, and holds the
+-- records of theirs; it is well tagged if and only if they can stand together; and what a value has by its type, and
+-- whether it is valid, is what they have and are.
+pub record AgreesWithComponents {V : Type 0} (components : Components V) (m : Meaning V) : Type 0 where
+  pub tree : (t : Tag) → m.tree t ≡ leaf t
   pub records : (v : V) (t : Tag) (c : ConstraintSet) (n : Name) →
       m.records v t c n ≡ holding (head_in components.kind t n) (component_records components v) ∷ []
-  pub well_tagged : (t : Tag) → m.IsWellTagged t → CanStandTogether components
+  pub single : m.IsSingleRecord
+  pub well_tagged : (t : Tag) → m.IsWellTagged t ↔ (IsATag t × CanStandTogether components)
   pub of_type : (v : V) → m.IsOfType v ↔ EachIsOfType (all_components components) v
   pub valid : (takes : List ℕ → Bool) (v : V) → m.IsValid takes v ↔ EachIsValid (all_components components) takes v
 
--- so has each type that is made of them
-pub made_of : {V : Type 0} {tag : Tag} {name : List ℕ} {components : Components V} → Has (constructed_type_under components tag name) components
-made_of = record {
+-- so it is for each type that is made of them
+pub constructed_agrees : {V : Type 0} {tag : Tag} {name : List ℕ} {components : Components V} →
+    AgreesWithComponents components (constructed_type_under components tag name)
+constructed_agrees = record {
+  tree = λ _. refl;
   records = λ v t c n. refl;
-  well_tagged = λ t h. h.1;
+  single = tt;
+  well_tagged = λ t. (λ h. h, λ h. h);
   of_type = λ v. (λ h. h, λ h. h);
   valid = λ takes v. (λ h. h, λ h. h);
 }

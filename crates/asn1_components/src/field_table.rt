@@ -2,7 +2,7 @@
 ghost use Rattle.std.specs.Prelude.{◌≡◌, length, slice_get};
 ghost use Rattle.std.specs.Option.{option_map};
 ghost use Rattle.asn1_fields.specs.Entries.{entry_of};
-ghost use Rattle.asn1_components.specs.Components.{Components, Has, table};
+ghost use Rattle.asn1_components.specs.Components.{AgreesWithComponents, Components, table};
 
 use asn1_fields::Field;
 use asn1_model::AsnType;
@@ -29,5 +29,5 @@ pub trait FieldTable {
 /// The law is a trait of its own, without methods, since a recursive type's own writer passes `FieldTable` on.
 pub trait ConstructedType: AsnType + FieldTable {
     // The law.
-    ghost has_components: { Has Self.meaning Self.components };
+    ghost agrees: { AgreesWithComponents Self.components Self.meaning };
 }

@@ -2,7 +2,7 @@
 use Rattle.std.proofs.Common.{◌≡◌, List, [], ◌∷◌, ◌++◌, sym, ap, subst, append_assoc, append-nil, ◌∙◌, Some, Result, Ok, Err}
 use Rattle.std.specs.Result.{IsErrAnd}
 use Rattle.asn1_components.specs.ComponentLists.{EachIsOfType}
-use Rattle.asn1_components.specs.Components.{Components, Has, all_components, component_records, head_in, is_sequence}
+use Rattle.asn1_components.specs.Components.{Components, AgreesWithComponents, all_components, component_records, head_in, is_sequence}
 use Rattle.asn1_model.specs.Composites.{group_records, sequence_records}
 use Rattle.asn1_model.specs.ConstraintSets.{ConstraintSet}
 use Rattle.asn1_model.specs.Meaning.{Meaning}
@@ -92,7 +92,7 @@ module _ {E : Type 0} (C : Codec E) where
 
   -- the records of a SEQUENCE, by the law that ties its meaning to its components
   pub as_meant : {V : Type 0} (m : Meaning V) (components : Components V) (v : V) (t : Tag) (c : ConstraintSet) (n : Name) (a b : E) {A : Type 0} (result : Result A EncodeError) →
-      Has m components → components.kind ≡ is_sequence →
+      AgreesWithComponents components m → components.kind ≡ is_sequence →
       Writes C a (sequence_records t n (component_records components v)) (EachIsOfType (all_components components) v) b result →
       Writes C a (m.records v t c n) (m.IsOfType v) b result
   as_meant m components v t c n a b result law kind q =

@@ -14,7 +14,7 @@ use Rattle.asn1_model.specs.Tags.{universal}
 use Rattle.std.specs.Option.{option_map}
 use Rattle.asn1_model.specs.Records.{Record, holding}
 use Rattle.asn1_model.specs.TaggedTypes.{untagged}
-use Rattle.asn1_components.specs.Components.{Components, Has, component_records, head_in, holding_itself, inside_itself, is_sequence, sequence}
+use Rattle.asn1_components.specs.Components.{AgreesWithComponents, Components, component_records, head_in, holding_itself, inside_itself, is_sequence, sequence}
 use Rattle.asn1_components.specs.ComponentTypes.{optional, required}
 use Rattle.asn1_miniature.specs.declared.node.Node.{Node, Node', Node-F, Row_of-Node, end_of-Node, items-the_row-Node, items_shown-the_row-Node-0, more_of-Node, out-Node, outs-Node', fold-Node, fold_out-Node}
 
@@ -86,10 +86,12 @@ each_label_is IsSo (Node' label shape children) =
       λ h. (h.0, all_to_row IsSo children (All-same (each_label IsSo) _ _ (sym (items_shown-the_row-Node-0 shape children)) h.1.0)),
     )
 
-pub node_has : Has node_meaning node_components
-node_has = record {
+pub node_agrees : AgreesWithComponents node_components node_meaning
+node_agrees = record {
+  tree = λ _. refl;
+  single = tt;
   records = λ v t c n. ap (λ l. holding (head_in is_sequence t n) l ∷ []) (node_records_are v);
-  well_tagged = λ t h. h.1;
+  well_tagged = λ t. (λ h. h, λ h. h);
   of_type = λ v. each_label_is (λ label. IfSome label text.IsOfType) v;
   valid = λ takes v. each_label_is (λ label. IfSome label (text.IsValid takes)) v;
 }

@@ -1,6 +1,6 @@
 //! `Node ::= SEQUENCE { label UTF8String OPTIONAL, children SEQUENCE OF Node }`.
 ghost use Rattle.asn1_model.specs.Meaning.{CanStandInside};
-ghost use Rattle.asn1_miniature.specs.NodeComponents.{node_components, node_has, node_meaning};
+ghost use Rattle.asn1_miniature.specs.NodeComponents.{node_components, node_agrees, node_meaning};
 
 use crate::encode::{Encode, EncodeFields};
 use crate::encoder::Encoder;
@@ -47,7 +47,7 @@ impl AsnType for Node {
 }
 
 impl ConstructedType for Node {
-    ghost has_components = { node_has };
+    ghost agrees = { node_agrees };
 }
 
 /// A `Node` can be inside other types: the tags of its components are distinct.

@@ -10,7 +10,7 @@
 //! }
 //! ```
 ghost use Rattle.std.specs.Prelude.{◌≡◌, [], ◌∷◌, codes, not};
-ghost use Rattle.asn1_components.specs.Components.{constructed_type, extensible_sequence, group, made_of, sequence};
+ghost use Rattle.asn1_components.specs.Components.{constructed_type, extensible_sequence, group, constructed_agrees, sequence};
 ghost use Rattle.asn1_components.specs.ComponentTypes.{optional, required, with_default};
 ghost use Rattle.asn1_model.specs.Meaning.{CanStandInside};
 ghost use Rattle.asn1_model.specs.TaggedTypes.{explicitly_tagged, tagged};
@@ -132,7 +132,7 @@ impl AsnType for Profile {
 }
 
 impl ConstructedType for Profile {
-    ghost has_components = { made_of };
+    ghost agrees = { constructed_agrees };
 }
 
 impl Encode for Profile {

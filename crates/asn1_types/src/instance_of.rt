@@ -1,6 +1,6 @@
 //! INSTANCE OF (X.681, annex C).
 ghost use Rattle.std.specs.Prelude.{codes};
-ghost use Rattle.asn1_components.specs.Components.{constructed_type_under, made_of};
+ghost use Rattle.asn1_components.specs.Components.{constructed_type_under, constructed_agrees};
 ghost use Rattle.asn1_model.specs.Tags.{universal};
 
 mod fields;
@@ -32,5 +32,5 @@ impl<T: AsnType> AsnType for InstanceOf<T> {
 }
 
 impl<T: AsnType> ConstructedType for InstanceOf<T> {
-    ghost has_components = { made_of };
+    ghost agrees = { constructed_agrees };
 }

@@ -9,7 +9,7 @@ ghost use Rattle.asn1_model.specs.Tags.{universal};
 ghost use Rattle.asn1_components.specs.ComponentTypes.{required, optional};
 ghost use Rattle.asn1_fields.specs.CanonicalOrder.{IsCanonical};
 ghost use Rattle.asn1_fields.specs.Entries.{component_of};
-ghost use Rattle.asn1_components.specs.Components.{constructed_type, made_of, root_entries, set, table};
+ghost use Rattle.asn1_components.specs.Components.{constructed_type, constructed_agrees, root_entries, set, table};
 
 use crate::{ConstructedType, FieldTable, tables_are_in_order};
 use asn1_fields::Field;
@@ -56,7 +56,7 @@ impl AsnType for Badge {
 }
 
 impl ConstructedType for Badge {
-    ghost has_components = { made_of };
+    ghost agrees = { constructed_agrees };
 }
 
 /// No two of its components share a tag.

@@ -8,7 +8,7 @@ ghost use Rattle.asn1_model.specs.Records.{holding, scalar, mark, present, prefi
 ghost use Rattle.asn1_model.specs.TaggedTypes.{tagged, explicitly_tagged};
 ghost use Rattle.asn1_model.specs.Tags.{context, universal};
 ghost use Rattle.asn1_components.specs.ComponentTypes.{required, optional};
-ghost use Rattle.asn1_components.specs.Components.{constructed_type, made_of, sequence};
+ghost use Rattle.asn1_components.specs.Components.{constructed_type, constructed_agrees, sequence};
 ghost use Rattle.asn1_components.specs.declared.tests.contact.Ambiguous.{Ambiguous};
 
 use crate::{ConstructedType, FieldTable};
@@ -55,7 +55,7 @@ impl AsnType for Contact {
 }
 
 impl ConstructedType for Contact {
-    ghost has_components = { made_of };
+    ghost agrees = { constructed_agrees };
 }
 
 /// Its tags are distinct.

@@ -4,7 +4,7 @@ ghost use Rattle.asn1_model.specs.Meaning.{CanStandInside, CanStandInsideUnder};
 ghost use Rattle.asn1_model.specs.TaggedTypes.{tagged, untagged};
 ghost use Rattle.asn1_model.specs.Tags.{context};
 ghost use Rattle.asn1_components.specs.ComponentTypes.{required, optional};
-ghost use Rattle.asn1_components.specs.Components.{constructed_type, made_of, sequence};
+ghost use Rattle.asn1_components.specs.Components.{constructed_type, constructed_agrees, sequence};
 
 use crate::{ConstructedType, FieldTable};
 use asn1_fields::Field;
@@ -48,7 +48,7 @@ impl<T: AsnType, U: AsnType> AsnType for Pair<T, U> {
 }
 
 impl<T: AsnType, U: AsnType> ConstructedType for Pair<T, U> {
-    ghost has_components = { made_of };
+    ghost agrees = { constructed_agrees };
 }
 
 /// A pair can be inside others where its first can, and its second can under its tag.

@@ -9,7 +9,7 @@ ghost use Rattle.asn1_model.specs.Records.{holding, scalar, mark, present, absen
 ghost use Rattle.asn1_model.specs.TaggedTypes.{tagged};
 ghost use Rattle.asn1_model.specs.Tags.{context, universal};
 ghost use Rattle.asn1_components.specs.ComponentTypes.{required, optional, with_default};
-ghost use Rattle.asn1_components.specs.Components.{constructed_type, extensible_sequence, group, made_of, sequence};
+ghost use Rattle.asn1_components.specs.Components.{constructed_type, extensible_sequence, group, constructed_agrees, sequence};
 
 use crate::{ConstructedType, FieldTable};
 use asn1_fields::Field;
@@ -102,7 +102,7 @@ impl AsnType for Profile {
 }
 
 impl ConstructedType for Profile {
-    ghost has_components = { made_of };
+    ghost agrees = { constructed_agrees };
 }
 
 /// The tags of its components are distinct, and so are those of the group's.
