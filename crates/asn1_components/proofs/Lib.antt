@@ -1,2 +1,4 @@
 pub mod Apart
 pub mod TableOrder
+pub mod HeldInside
+pub mod TableLengths

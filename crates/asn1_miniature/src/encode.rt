@@ -16,7 +16,7 @@ use asn1_tags::{Identifier, Tag};
 
 /// A type whose values are written.
 pub trait Encode: AsnType {
-    /// Writes the value under a tag, constraints and a name.
+    /// Writes the value under a tag, constraints and a name. Each error is one of the codec's own calls.
     fn encode_with_tag_and_constraints<E: Encoder>(
         &self,
         encoder: &mut E,
@@ -47,7 +47,7 @@ pub trait Encode: AsnType {
 
 /// A type whose components are written one by one, each by its place.
 pub trait EncodeFields: FieldTable {
-    /// Writes the component at a place, and nothing after the last one.
+    /// Writes the component at a place, and nothing at a place after the last. Each error is one of the codec's own calls.
     fn encode_field<E: Encoder>(&self, place: usize, encoder: &mut E) -> Result<(), EncodeError>
         ensures { Writes E.codec encoder.old (records_at (all_components Self.components) place self.now) (IsOfTypeAt (all_components Self.components) place self.now) encoder.new result };
 

@@ -22,7 +22,8 @@ use asn1_tags::{Identifier, Tag};
 /// A codec that writes records: by few calls of its own, on which those for whole types rest.
 ///
 /// A call that succeeds also tells that the value has what it has by its type: a codec that is given a `u8` knows that it is
-/// below 256.
+/// below 256. An error is [`EncodeError::Rejected`] only where the codec does not take the records. Opening a group and
+/// closing never reject.
 pub trait Encoder {
     // What it has written, and which records it does not take.
     ghost codec: { Codec Self };
@@ -95,7 +96,7 @@ pub trait Encoder {
     // The law of what it rejects.
     ghost lawful: { RejectsWholes codec.rejects };
 
-    /// A SEQUENCE, by its components.
+    /// A SEQUENCE, by its components: the type's kind is not that of a SET.
     final fn encode_sequence<C: EncodeFields + ConstructedType>(
         &mut self,
         tag: Tag,
@@ -147,7 +148,8 @@ pub trait Encoder {
         value.encode_with_tag_and_constraints(self, tag, constraints, name)
     }
 
-    /// A component with a default, under a tag: absent where it is that.
+    /// A component with a default, under a tag: absent where it is that. The codec does not see a default, so that it has what
+    /// it has by its type is a premise.
     final fn encode_default_with_tag<T: Encode>(
         &mut self,
         tag: Tag,

@@ -14,7 +14,9 @@ use asn1_tags::{Identifier, Tag};
 /// A tree of labels: a type that holds itself.
 #[derive(Drop)]
 pub struct Node {
+    /// Its own label.
     pub label: Option<String>,
+    /// The nodes below it.
     pub children: Vec<Node>,
 }
 

@@ -56,16 +56,22 @@ const REACH: &[TagTree<'static>] = &[TagTree::Leaf(PHONE), TagTree::Leaf(MAIL)];
 /// How someone calls themselves.
 #[derive(Drop)]
 pub struct Profile {
+    /// A short name.
     pub nick: Option<String>,
+    /// How much they may do.
     pub level: u8,
+    /// Whether they are told of all news.
     pub loud: bool,
+    /// An addition.
     pub reach: Option<Reach>,
 }
 
 /// How to reach them: a group of additions.
 #[derive(Drop)]
 pub struct Reach {
+    /// A telephone number.
     pub phone: Option<String>,
+    /// An address for mail.
     pub mail: Option<String>,
 }
 

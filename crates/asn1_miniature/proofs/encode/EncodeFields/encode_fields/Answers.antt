@@ -1,7 +1,8 @@
 use Rattle.std.proofs.Common.{◌≤◌, length, arith}
 use Rattle.std.proofs.lemmas.List.{take_all}
 use Rattle.asn1_components.specs.Components.{all_components}
-use Rattle.asn1_miniature.proofs.Components.{appends_component, fails_at_component, length-table}
+use Rattle.asn1_components.proofs.TableLengths.{length-table}
+use Rattle.asn1_miniature.proofs.Components.{appends_component, fails_at_component}
 use Rattle.asn1_miniature.proofs.Steps.{appends_none, exits}
 use Rattle.asn1_miniature.proofs.encode.EncodeFields.encode_fields.Goals as goal
 
