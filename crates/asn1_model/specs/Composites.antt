@@ -20,7 +20,7 @@ list_records t c n elements = holding (sequence_of t c n) elements ∷ []
 abbrev pub set_of_records : Tag → ConstraintSet → Name → List Record → List Record
 set_of_records t c n elements = holding (set_of t c n) elements ∷ []
 
--- What stands under an explicit tag (X.680, 31.2.7).
+-- What follows an explicit tag (X.680, 31.2.7).
 abbrev pub prefix_records : Tag → Name → List Record → List Record
 prefix_records t n rs = holding (prefix t n) rs ∷ []
 
@@ -40,7 +40,7 @@ choice_records chosen rs own_constraints own_name t c n =
 abbrev pub raw_records : Name → List ℕ → List Record
 raw_records n bytes = raw n bytes ∷ []
 
--- A component that may be absent (X.680, 25.1) is a mark that says so, or one that says that it is there, and its
+-- A component that may be absent (X.680, 25.1) is a presence mark that says so, or one that says that it is there, and its
 -- records.
 abbrev pub option_records : Tag → Option (List Record) → List Record
 option_records t None = mark (absent t) ∷ []
@@ -50,7 +50,7 @@ option_records t (Some rs) = mark (present t) ∷ rs
 abbrev pub default_records : Bool → Tag → List Record → List Record
 default_records is_default t rs = option_records t (if is_default then None else Some rs)
 
--- An extension addition group stands between two marks. It is absent where there is none, and where its components are
+-- An extension addition group is between two presence marks. It is absent where there is none, and where its components are
 -- marks alone, as PER has it (X.691, 19.9).
 abbrev pub group_records : Option (List Record) → List Record
 group_records None = mark group_absent ∷ []

@@ -15,7 +15,7 @@ pub record Part (T : Type 0) : Type 0 where
   pub root : T
   pub additions : Option (List T)
 
--- The constraints of a type, of each kind at most one, and whether the extension marker stands among them.
+-- The constraints of a type, of each kind at most one, and whether the extension marker is among them.
 pub record ConstraintSet : Type 0 where
   pub value : Option (Part Value)
   pub size : Option (Part Size)

@@ -95,8 +95,8 @@ through target m = record {
   one_record = λ w. m.one_record (target w);
 }
 
--- A component that may be absent (X.680, 25.1). It is no record of its own where it is absent, so it stands directly as
--- a component.
+-- A component that may be absent (X.680, 25.1). It is no record of its own where it is absent, so it can be a
+-- component alone.
 abbrev pub option_type : {V : Type 0} → Meaning V → Meaning (Option V)
 option_type m = record {
   tag = m.tag;
@@ -164,7 +164,7 @@ array_type size m = record (list_type (λ elements. elements) (size_of size) m) 
   IsOfType = λ elements. (length elements ≡ size) × All m.IsOfType elements;
 }
 
--- A type without any content, which stands in no other.
+-- A type without any content, which can be in no other.
 abbrev pub empty_type : {V : Type 0} → Meaning V
 empty_type = record {
   tag = universal 5;

@@ -33,7 +33,7 @@ pub record Meaning (V : Type 0) : Type 1 where
   -- the byte strings that it takes as one; each group that is there writes a component; and each INTEGER with limits is
   -- within them
   pub IsValid : (List ℕ → Bool) → V → Type 0
-  -- The law of types: where each value is a single record and the type is well tagged, that record is no mark, and begins
+  -- The law of types: where each value is a single record and the type is well tagged, that record is no presence mark, and begins
   -- with one of the type's tags.
   pub one_record : (v : V) (t : Tag) (c : ConstraintSet) (n : Name) →
       IsSingleRecord → IsWellTagged t → IsOneRecord (tree_tags (tree t)) (records v t c n)

@@ -1,4 +1,4 @@
--- What a value means to a codec: a list of records and marks.
+-- What a value means to a codec: a list of records and presence marks.
 use Rattle.std.specs.Prelude.{ℕ, suc, max, ℤ, Bool, true, false, ◌&&◌, List, [], ◌∷◌, Option, None, Some}
 use Rattle.asn1_tags.specs.declared.tags.Tag.{Tag}
 use Rattle.asn1_model.specs.ConstraintSets.{ConstraintSet}
@@ -25,7 +25,7 @@ pub data StringKind : Type 0 where
   teletex : StringKind
   bmp : StringKind
 
--- What stands in a record that holds no others (X.680, 18 to 24, 32 and 41). Each kind of type has contents of its own:
+-- What is in a record that holds no others (X.680, 18 to 24, 32 and 41). Each kind of type has contents of its own:
 -- an INTEGER and an ENUMERATED of one number differ, and so do two strings of the same units and different kinds.
 pub data Content : Type 0 where
   null : Content
@@ -37,7 +37,7 @@ pub data Content : Type 0 where
   units : StringKind → List ℕ → Content
 
 -- What a record is that holds others, apart from these (X.680, 25 to 31): the components of a SEQUENCE or a SET in the
--- order of their definition, the elements of a SEQUENCE OF or a SET OF, what an explicit tag stands before, or the
+-- order of their definition, the elements of a SEQUENCE OF or a SET OF, what follows an explicit tag, or the
 -- chosen alternative of a CHOICE, whose tag is that of the alternative.
 pub data Head : Type 0 where
   sequence : Tag → Name → Head
@@ -47,7 +47,7 @@ pub data Head : Type 0 where
   prefix : Tag → Name → Head
   alternative : Tag → ConstraintSet → Name → Head
 
--- Whether a component is there, and where the components of a group begin and end.
+-- A presence mark: whether a component is there, and where the components of a group begin and end.
 pub data Mark : Type 0 where
   present : Tag → Mark
   absent : Tag → Mark
@@ -55,8 +55,8 @@ pub data Mark : Type 0 where
   group_absent : Mark
   group_end : Mark
 
--- A record is a content, or holds other records and marks, or is a value that stands as its bytes (an open type). Marks
--- stand between the records.
+-- A record is a content, or holds other records and marks, or is a value as its bytes (an open type). Presence marks
+-- are between the records.
 mutual
   pub data Record : Type 0 where
     scalar : Tag → ConstraintSet → Name → Content → Record
@@ -82,7 +82,7 @@ listed (more r rs) = r ∷ listed rs
 abbrev pub holding : Head → List Record → Record
 holding h rs = scope h (held rs)
 
--- How many records stand in one another: none in a content, and one more than in the highest of those that it holds.
+-- How many records are in one another: none in a content, and one more than in the highest of those that it holds.
 abbrev mutual
   pub height : Record → ℕ
   height (scalar t c n x) = 0
@@ -99,14 +99,14 @@ abbrev pub highest : List Record → ℕ
 highest [] = 0
 highest (r ∷ rs) = max (height r) (highest rs)
 
--- the record is a mark
+-- the record is a presence mark
 abbrev pub is_mark : Record → Bool
 is_mark (scalar t c n x) = false
 is_mark (scope h rs) = false
 is_mark (raw n bytes) = false
 is_mark (mark m) = true
 
--- no record but marks
+-- no record but presence marks
 abbrev pub marks_alone : List Record → Bool
 marks_alone [] = true
 marks_alone (r ∷ rs) = is_mark r && marks_alone rs

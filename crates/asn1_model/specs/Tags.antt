@@ -31,7 +31,7 @@ pub data Tags : Type 0 where
 abbrev pub only : Tag → Tags
 only t = among (t ∷ [])
 
--- The tags of a tree are its leaves. Where a choice of nothing stands in it, they are every tag: an open type can begin
+-- The tags of a tree are its leaves. Where a choice of nothing is in it, they are every tag: an open type can begin
 -- with any (X.680, 25.6.2).
 abbrev pub tree_tags : Tree → Tags
 tree_tags tree = if is_open tree then every else among (leaves tree)
@@ -41,7 +41,7 @@ abbrev pub Has : Tags → Tag → Type 0
 Has every t = ⊤
 Has (among ts) t = Contains ts t
 
--- each tag of the first stands in the second; every tag lies in every tag alone
+-- each tag of the first is in the second; every tag lies in every tag alone
 abbrev pub LiesIn : Tags → Tags → Type 0
 LiesIn every every = ⊤
 LiesIn every (among us) = ⊥
@@ -56,14 +56,14 @@ head_tag (set_of t c n) = t
 head_tag (prefix t n) = t
 head_tag (alternative t c n) = t
 
--- the tags with which a record can begin: its own, for a value that stands as its bytes every tag, for a mark none
+-- the tags with which a record can begin: its own, for a value as its bytes every tag, for a presence mark none
 abbrev pub record_tags : Record → Tags
 record_tags (scalar t c n x) = only t
 record_tags (scope h rs) = only (head_tag h)
 record_tags (raw n bytes) = every
 record_tags (mark m) = among []
 
--- the first tags of a list are those of its first record; marks are passed over
+-- the first tags of a list are those of its first record; presence marks are passed over
 abbrev pub first_tags : List Record → Tags
 first_tags [] = among []
 first_tags (r ∷ rs) = if is_mark r then first_tags rs else record_tags r
@@ -78,14 +78,14 @@ first_of (among (t ∷ ts)) = t
 abbrev pub first_tag : List Record → Tag
 first_tag rs = first_of (first_tags rs)
 
--- The list is one record, which is no mark, and its first tags lie in these.
+-- The list is one record, which is no presence mark, and its first tags lie in these.
 pub record IsOneRecord (tags : Tags) (rs : List Record) : Type 0 where
   pub item : Record
   pub alone : rs ≡ item ∷ []
   pub no_mark : is_mark item ≡ false
   pub within : LiesIn (first_tags rs) tags
 
--- The list has a record that is no mark, and the first tags lie in these.
+-- The list has a record that is no presence mark, and the first tags lie in these.
 pub record BeginsWithin (tags : Tags) (rs : List Record) : Type 0 where
   pub some : marks_alone rs ≡ false
   pub within : LiesIn (first_tags rs) tags

@@ -1,7 +1,7 @@
 //! What a type of ASN.1 means to every codec: the tables that a schema has of it, and the records of its values.
 //!
 //! A codec never sees a type. It sees records: a content under a tag, a scope with others inside, the bytes of an open
-//! type, and marks that say whether a component is there. So a type is written once, by saying which records its values
+//! type, and presence marks that say whether a component is there. So a type is written once, by saying which records its values
 //! are, and every codec that writes and reads records has it. `docs/MODEL.md` explains this with a worked value.
 //!
 //! | Item | What it is |

@@ -6,6 +6,7 @@
 //! | Type | What it is | Contracts see |
 //! |---|---|---|
 //! | [`SetOf`] | a SET OF: elements, each as often as it stands there, in no order | the list of its elements |
+//! | [`SequenceOf`] | a SEQUENCE OF: a vector | the list of its elements |
 //! | [`Any`] | a value of an open type, as the bytes that a codec makes of it | the list of its bytes |
 //! | [`Implicit`] | a value under another tag, which replaces its own | its fields |
 //! | [`Explicit`] | a value under another tag, which stands before its own | its fields |
@@ -41,6 +42,7 @@ mod any;
 mod explicit;
 mod implicit;
 mod instance_of;
+mod sequence_of;
 mod set_of;
 #[cfg(test)]
 mod tests;
@@ -49,6 +51,7 @@ pub use any::Any;
 pub use asn1_choices::{Choice, ChoiceType, the_chosen_tag_tells_the_alternative};
 pub use asn1_components::{
     Constructed, ConstructedType, FieldTable, components_are_told_apart, field_in,
+    tables_are_in_order,
 };
 pub use asn1_enumerations::{
     DiscriminantIter, Enumerated, EnumeratedType, EnumerationItem, ItemIdentifierIter, VariantIter,
@@ -64,4 +67,5 @@ pub use asn1_model::{
 pub use explicit::Explicit;
 pub use implicit::Implicit;
 pub use instance_of::InstanceOf;
+pub use sequence_of::SequenceOf;
 pub use set_of::{SetOf, equal_sets_have_the_same_elements};

@@ -6,13 +6,13 @@ ghost use Rattle.std.specs.String.{string_bytes};
 ghost use Rattle.asn1_tags.specs.declared.tags.Tag.{Tag};
 ghost use Rattle.asn1_model.specs.ConstraintSets.{unconstrained};
 ghost use Rattle.asn1_model.specs.Meaning.{own_records, tags};
-ghost use Rattle.asn1_model.specs.Records.{scalar, raw, holding, sequence, set_of, prefix, truth as truth_of, arcs, units, utf8};
+ghost use Rattle.asn1_model.specs.Records.{scalar, raw, holding, sequence, sequence_of, set_of, prefix, truth as truth_of, arcs, units, utf8};
 ghost use Rattle.asn1_model.specs.Tags.{universal, context, CHOICE, every};
 ghost use Rattle.asn1_types.specs.Multisets.{same_counts};
 
 mod filters;
 
-use crate::{Any, AsnType, Explicit, Implicit, InstanceOf, SetOf, tag};
+use crate::{Any, AsnType, Explicit, Implicit, InstanceOf, SequenceOf, SetOf, tag};
 use asn1_tags::{Tag, TagTree};
 use asn1_values::ObjectIdentifier;
 use std::alloc::Global;
@@ -37,6 +37,14 @@ fn set_of_booleans(set: &SetOf<bool>)
         scalar (universal 1) unconstrained (Some (codes "BOOLEAN")) (truth_of false) ∷ []) ∷ [] }
     ensures named { set.now ≡ [] → ⟦<SetOf<bool> as AsnType>⟧.meaning.records set.now (context 3) unconstrained (Some (codes "s")) ≡
         holding (set_of (context 3) unconstrained (Some (codes "s"))) [] ∷ [] }
+{}
+
+/// A SEQUENCE OF is what a vector is.
+fn sequence_of_truths(list: &SequenceOf<bool>, vector: &Vec<bool>)
+    ensures { list.now.items ≡ true ∷ [] → vector.now ≡ list.now →
+        own_records ⟦<Vec<bool> as AsnType>⟧.meaning vector.now ≡
+        holding (sequence_of (universal 16) unconstrained (Some (codes "SEQUENCE_OF"))) (
+        scalar (universal 1) unconstrained (Some (codes "BOOLEAN")) (truth_of true) ∷ []) ∷ [] }
 {}
 
 /// An open type is its bytes under whatever tag, and can begin with every tag.
