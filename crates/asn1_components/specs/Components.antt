@@ -6,7 +6,7 @@ use Rattle.asn1_model.specs.ConstraintSets.{ConstraintSet, unconstrained}
 use Rattle.asn1_model.specs.Kinds.{Inside, scope_type}
 use Rattle.asn1_model.specs.Meaning.{Meaning}
 use Rattle.asn1_model.specs.Records.{Name, Record, Head, sequence as sequence_head, set as set_head, holding}
-use Rattle.asn1_model.specs.Tags.{head_tag, universal}
+use Rattle.asn1_model.specs.Tags.{IsATag, head_tag, universal}
 use Rattle.asn1_fields.specs.CanonicalOrder.{in_order}
 use Rattle.asn1_fields.specs.Entries.{Entry, component_of}
 use Rattle.asn1_components.specs.ComponentLists.{all_records, entries_from, EachCanStandInside, EachIsOptional, EachIsOfType, EachIsValid, AreDistinctInSequence, AreDistinctInSet, group_of}
