@@ -7,7 +7,7 @@ use Rattle.std.proofs.lemmas.Bool.{false≢true}
 use Rattle.asn1_tags.specs.declared.tags.Tag.{Tag}
 use Rattle.asn1_tags.specs.Trees.{Tree, choice}
 use Rattle.asn1_model.specs.Records.{Record}
-use Rattle.asn1_model.specs.Tags.{Has, ShareNone, among, tree_tags, first_tags}
+use Rattle.asn1_model.specs.Tags.{Tags, Has, LiesIn, ShareNone, among, tree_tags, first_tags}
 use Rattle.asn1_fields.specs.DistinctTags.{share_tag, rivals, up_to_required, first_clash, sequence_clash}
 use Rattle.asn1_fields.specs.Entries.{Component, may_be_absent}
 use Rattle.asn1_tags.proofs.PlacesInLists.{position-missing}

@@ -1,14 +1,14 @@
 -- The components of a SEQUENCE, a SET or a group, one by one (X.680, 25.1).
-use Rattle.std.specs.Prelude.{◌≡◌, ◌⊎◌, ℕ, Bool, true, false, IsTrue, List, Option, None, Some, IfSome, refl}
+use Rattle.std.specs.Prelude.{◌≡◌, ◌⊎◌, ℕ, ⊤, Bool, true, false, IsTrue, List, [], ◌∷◌, ◌++◌, Option, None, Some, IfSome, refl, if◌then◌else◌}
 use Rattle.std.proofs.Common.{inl, inr}
 use Rattle.std.specs.Option.{option_map}
 use Rattle.asn1_tags.specs.declared.tags.Tag.{Tag}
 use Rattle.asn1_tags.specs.Trees.{Tree}
 use Rattle.asn1_model.specs.Composites.{option_records, default_records}
-use Rattle.asn1_model.specs.Records.{Record, marks_alone}
+use Rattle.asn1_model.specs.Records.{Record, mark, group_start, group_end, group_absent, marks_alone}
 use Rattle.asn1_model.specs.TaggedTypes.{TaggedType}
-use Rattle.asn1_model.specs.Tags.{BeginsWithin, tree_tags}
-use Rattle.asn1_model.proofs.FirstTags.{one_begins, present_begins}
+use Rattle.asn1_model.specs.Tags.{Tags, BeginsWithin, tree_tags}
+use Rattle.asn1_model.proofs.FirstTags.{one_begins, present_begins, begins_before}
 use Rattle.asn1_fields.specs.Entries.{may_be_absent}
 use Rattle.asn1_fields.specs.declared.presence.FieldPresence.{FieldPresence}
 use Rattle.asn1_fields.specs.declared.presence.FieldPresence.TheVariants.{Required, Optional, Default}
