@@ -1,8 +1,11 @@
 -- What records that are the same up to order have in common.
-use Rattle.std.specs.Prelude.{◌≡◌, ℕ, suc, max, List, refl}
-use Rattle.std.proofs.Common.{ap, sym, ◌∙◌, arith}
+use Rattle.std.specs.Prelude.{◌≡◌, ◌≤◌, ℕ, suc, max, List, [], ◌∷◌, All, IsPermutation, refl}
+use Rattle.std.proofs.Common.{ap, sym, zero-le, ◌∙◌}
+use Rattle.std.proofs.Math.Nat.{le_antisymm, le_refl, le_trans, le-max_left, le-max_right, max-le}
+use Rattle.std.proofs.lemmas.List.Elements.{All-nil, All-cons, All-head, All-tail}
+use Rattle.std.proofs.lemmas.List.Sorted.{All-permutation, IsPermutation-sym}
 use Rattle.asn1_model.specs.Records.{Record, Records, none, more, listed, height, inner_height, highest, is_mark}
-use Rattle.asn1_model.specs.Orders.{Put, here, there, Rearranged, nothing, put, Same, SameAll, equal, in_place, in_any_order, at_end, next}
+use Rattle.asn1_model.specs.Orders.{Same, SameAll, equal, in_place, in_any_order, at_end, next}
 use Rattle.asn1_model.specs.Tags.{record_tags}
 
 -- they begin with the same tags
@@ -21,18 +24,27 @@ inner_height-listed : (rs : Records) → inner_height rs ≡ highest (listed rs)
 inner_height-listed none = refl
 inner_height-listed (more r rs) = ap (λ n. max (height r) n) (inner_height-listed rs)
 
-max-swap : (k m n : ℕ) → max k (max m n) ≡ max m (max k n)
-max-swap k m n = omega arith
+-- a list is at most n high if and only if each of its records is
+each_at_most : (rs : List Record) (n : ℕ) → highest rs ≤ n → All (λ r. height r ≤ n) rs
+each_at_most [] n low = All-nil (λ r. height r ≤ n)
+each_at_most (r ∷ rs) n low =
+    All-cons (λ s. height s ≤ n) r rs
+    (le_trans (le-max_left (height r) (highest rs)) low)
+    (each_at_most rs n (le_trans (le-max_right (height r) (highest rs)) low))
 
-highest-put : {r : Record} {rs ss : List Record} → Put r rs ss → highest ss ≡ max (height r) (highest rs)
-highest-put here = refl
-highest-put {r = r} (there {y = y} {xs = rs} later) =
-    ap (λ n. max (height y) n) (highest-put later) ∙ max-swap (height y) (height r) (highest rs)
+highest_at_most : (rs : List Record) (n : ℕ) → All (λ r. height r ≤ n) rs → highest rs ≤ n
+highest_at_most [] n all = zero-le
+highest_at_most (r ∷ rs) n all =
+    max-le (All-head (λ s. height s ≤ n) r rs all) (highest_at_most rs n (All-tail (λ s. height s ≤ n) r rs all))
+
+no_higher : (rs ss : List Record) → IsPermutation rs ss → highest ss ≤ highest rs
+no_higher rs ss moved =
+    highest_at_most ss (highest rs)
+    (All-permutation (λ r. height r ≤ highest rs) rs ss moved (each_at_most rs (highest rs) (le_refl (highest rs))))
 
 -- the order of a list means nothing for its height
-pub highest-rearranged : {rs ss : List Record} → Rearranged rs ss → highest rs ≡ highest ss
-highest-rearranged nothing = refl
-highest-rearranged (put {x = r} moved at) = ap (λ n. max (height r) n) (highest-rearranged moved) ∙ sym (highest-put at)
+pub highest-permutation : (rs ss : List Record) → IsPermutation rs ss → highest rs ≡ highest ss
+highest-permutation rs ss moved = le_antisymm (no_higher ss rs (IsPermutation-sym rs ss moved)) (no_higher rs ss moved)
 
 -- they are as high
 mutual
@@ -40,7 +52,7 @@ mutual
   same-height (equal r) = refl
   same-height (in_place h all) = ap suc (same-inner_height all)
   same-height (in_any_order h {qs = qs} {ss = ss} unordered all moved) =
-      ap suc (same-inner_height all ∙ (inner_height-listed qs ∙ (highest-rearranged moved ∙ sym (inner_height-listed ss))))
+      ap suc (same-inner_height all ∙ (inner_height-listed qs ∙ (highest-permutation (listed qs) (listed ss) moved ∙ sym (inner_height-listed ss))))
 
   pub same-inner_height : {rs ss : Records} → SameAll rs ss → inner_height rs ≡ inner_height ss
   same-inner_height at_end = refl

@@ -1,41 +1,23 @@
 -- Counting tells whether two lists have the same elements, and to have the same elements is itself an equality. An
 -- equality is symmetric and transitive; where each element is equal to itself, so is each list.
-use Rattle.std.specs.Prelude.{◌≡◌, ◌↔◌, ℕ, suc, ◌+◌, Bool, true, false, ◌==◌, ◌&&◌, nat_lt, ◌<◌, ◌≤◌, cond, List, [], ◌∷◌, length, map, refl}
+use Rattle.std.specs.Prelude.{◌≡◌, ◌↔◌, ℕ, ◌+◌, Bool, true, false, ◌==◌, ◌&&◌, nat_lt, ◌<◌, ◌≤◌, cond, List, [], ◌∷◌, IsPermutation, length, map, refl}
 use Rattle.std.specs.List.{list_all}
 use Rattle.std.specs.Cmp.{IsPartialEquivalence, IsEquivalence, partial_equiv_from_equiv, per_alike, equiv, both_ways}
 use Rattle.std.specs.Cmp.Derive.{both_true}
 use Rattle.std.specs.Cmp.Lexicographic.{pointwise, lists_per, lists_equiv}
 use Rattle.std.proofs.Common.{sym, ap, subst, arith, ◌∙◌}
-use Rattle.std.proofs.Math.Nat.{add_left_cancel, add_left_comm, le_refl, suc_inj, suc-ne-zero, zero-add}
+use Rattle.std.proofs.Math.Nat.{add_left_cancel, le_refl, suc_inj, suc-ne-zero, zero-add}
 use Rattle.std.proofs.lemmas.Bool.{and_parts, eq-eqb, eqb-true, false≢true, lt-ltb}
-use Rattle.std.proofs.lemmas.List.Sums.{sum_by-cons}
+use Rattle.std.proofs.lemmas.List.Sorted.{All-permutation, IsPermutation-cons, IsPermutation-middle, IsPermutation-refl, IsPermutation-trans, length_permutation, sum_by-IsPermutation}
+use Rattle.std.proofs.lemmas.List.Sums.{AllPass-from_list_all, list_all-from_AllPass, sum_by-cons}
 use lib.ListN.{length-map}
 use lib.Pointwise.{pointwise_long}
-use Rattle.asn1_model.specs.Orders.{Put, here, there, Rearranged, nothing, put}
 use Rattle.asn1_types.specs.Multisets.{SameElements, count_of, stands_as_often, same_counts}
 
--- a rearrangement is as long
-length-Put : {T : Type 0} {x : T} {xs ys : List T} → Put x xs ys → length ys ≡ suc (length xs)
-length-Put here = refl
-length-Put (there p) = ap suc (length-Put p)
-
-length-Rearranged : {T : Type 0} {xs ys : List T} → Rearranged xs ys → length xs ≡ length ys
-length-Rearranged nothing = refl
-length-Rearranged (put r p) = ap suc (length-Rearranged r) ∙ sym (length-Put p)
-
 -- a rearrangement passes the tests that the list does
-and_swapped : (a b c : Bool) → (a && (b && c)) ≡ (b && (a && c))
-and_swapped true b c = refl
-and_swapped false true c = refl
-and_swapped false false c = refl
-
-all-Put : {T : Type 0} (p : T → Bool) {x : T} {xs ys : List T} → Put x xs ys → (p x && list_all p xs) ≡ list_all p ys
-all-Put p here = refl
-all-Put p (there {x = x} {y = y} {xs = xs} q) = and_swapped (p x) (p y) (list_all p xs) ∙ ap (λ b. p y && b) (all-Put p q)
-
-all-Rearranged : {T : Type 0} (p : T → Bool) {xs ys : List T} → Rearranged xs ys → list_all p xs ≡ list_all p ys
-all-Rearranged p nothing = refl
-all-Rearranged p (put {x = x} r q) = ap (λ b. p x && b) (all-Rearranged p r) ∙ all-Put p q
+list_all-permutation : {T : Type 0} (p : T → Bool) (xs ys : List T) → IsPermutation xs ys → list_all p xs ≡ true → list_all p ys ≡ true
+list_all-permutation p xs ys moved h =
+    list_all-from_AllPass p ys (All-permutation (λ x. p x ≡ true) xs ys moved (AllPass-from_list_all p xs h))
 
 module _ {T : Type 0} (eq : T → T → Bool) where
   -- one if z is equal to the element, else none
@@ -46,18 +28,8 @@ module _ {T : Type 0} (eq : T → T → Bool) where
   count_of-cons z x xs = sum_by-cons (one_if z) x xs
 
   -- a rearrangement has as many of each
-  count_of-Put : (z : T) {x : T} {xs ys : List T} → Put x xs ys → count_of eq z ys ≡ one_if z x + count_of eq z xs
-  count_of-Put z (here {x = x} {xs = xs}) = count_of-cons z x xs
-  count_of-Put z (there {x = x} {y = y} {xs = xs} {ys = ys} p) =
-      count_of-cons z y ys
-      ∙ ap (λ n. one_if z y + n) (count_of-Put z p)
-      ∙ add_left_comm (one_if z y) (one_if z x) (count_of eq z xs)
-      ∙ ap (λ n. one_if z x + n) (sym (count_of-cons z y xs))
-
-  count_of-Rearranged : (z : T) {xs ys : List T} → Rearranged xs ys → count_of eq z xs ≡ count_of eq z ys
-  count_of-Rearranged z nothing = refl
-  count_of-Rearranged z (put {x = x} {xs = xs} r p) =
-      count_of-cons z x xs ∙ ap (λ n. one_if z x + n) (count_of-Rearranged z r) ∙ sym (count_of-Put z p)
+  count_of-permutation : (z : T) (xs ys : List T) → IsPermutation xs ys → count_of eq z xs ≡ count_of eq z ys
+  count_of-permutation z xs ys moved = sym (sum_by-IsPermutation (one_if z) xs ys moved)
 
   -- at least one and at least as many, where the front is counted too
   one_at_least : (z x : T) (xs : List T) {n : ℕ} → eq z x ≡ true → count_of eq z (x ∷ xs) ≤ n → 0 < n
@@ -132,10 +104,10 @@ module _ {T : Type 0} {eq : T → T → Bool} (laws : IsPartialEquivalence eq) w
 
   -- lists with the same elements are as long, and have as many of each
   as_long : (xs ys : List T) → SameElements eq xs ys → length xs ≡ length ys
-  as_long xs ys same = pointwise_long eq xs same.order same.equal ∙ length-Rearranged same.rearranged
+  as_long xs ys same = pointwise_long eq xs same.order same.equal ∙ sym (length_permutation same.order ys same.rearranged)
 
   as_many : (xs ys : List T) → SameElements eq xs ys → (z : T) → count_of eq z xs ≡ count_of eq z ys
-  as_many xs ys same z = count_of-pointwise z xs same.order same.equal ∙ count_of-Rearranged eq z same.rearranged
+  as_many xs ys same z = count_of-pointwise z xs same.order same.equal ∙ count_of-permutation eq z same.order ys same.rearranged
 
   -- each element of the one is found there, and each of the other too
   found_where_same : (xs ys : List T) → SameElements eq xs ys → all_found eq xs xs ≡ true
@@ -146,10 +118,10 @@ module _ {T : Type 0} {eq : T → T → Bool} (laws : IsPartialEquivalence eq) w
 
   others_found_where_same : (xs ys : List T) → SameElements eq xs ys → all_found eq ys ys ≡ true
   others_found_where_same xs ys same =
-      sym (all-Rearranged (λ z. nat_lt 0 (count_of eq z ys)) same.rearranged)
-      ∙ found_by eq ys same.order xs
+      list_all-permutation (λ z. nat_lt 0 (count_of eq z ys)) same.order ys same.rearranged
+      (found_by eq ys same.order xs
       (λ z. subst (λ n. count_of eq z xs ≤ n) (as_many xs ys same z) (le_refl (count_of eq z xs)))
-      ((lists_per laws).symm same.order xs ∙ same.equal)
+      ((lists_per laws).symm same.order xs ∙ same.equal))
 
   counted_where_same : (xs ys : List T) → SameElements eq xs ys → same_counts eq xs ys ≡ true
   counted_where_same xs ys same = counted eq xs ys (as_long xs ys same) (found_where_same xs ys same) (as_many xs ys same)
@@ -163,7 +135,7 @@ module _ {T : Type 0} {eq : T → T → Bool} (laws : IsPartialEquivalence eq) w
     element : T
     others : List T
     equal : eq x element ≡ true
-    taken : Put element others ys
+    rearranged : IsPermutation (element ∷ others) ys
 
   -- where there is one, one can be taken
   take_one : (x : T) (ys : List T) → nat_lt 0 (count_of eq x ys) ≡ true → Taken x ys
@@ -171,13 +143,21 @@ module _ {T : Type 0} {eq : T → T → Bool} (laws : IsPartialEquivalence eq) w
   take_one x (y ∷ ys) found = by_test (eq x y) refl (take_one x ys)
     where
       by_test : (b : Bool) → eq x y ≡ b → (nat_lt 0 (count_of eq x ys) ≡ true → Taken x ys) → Taken x (y ∷ ys)
-      by_test true equal later = record { element = y; others = ys; equal = equal; taken = here }
+      by_test true equal later = record { element = y; others = ys; equal = equal; rearranged = IsPermutation-refl (y ∷ ys) }
       by_test false differs later =
           let fewer = later (
           subst (λ n. nat_lt 0 n ≡ true)
           (count_of-cons eq x y ys ∙ ap (λ b. cond b 1 0 + count_of eq x ys) differs ∙ zero-add (count_of eq x ys))
           found) in
-          record { element = fewer.element; others = y ∷ fewer.others; equal = fewer.equal; taken = there fewer.taken }
+          record {
+            element = fewer.element;
+            others = y ∷ fewer.others;
+            equal = fewer.equal;
+            rearranged =
+                IsPermutation-trans (fewer.element ∷ y ∷ fewer.others) (y ∷ fewer.element ∷ fewer.others) (y ∷ ys)
+                (IsPermutation-middle (fewer.element ∷ []) y fewer.others)
+                (IsPermutation-cons y (fewer.element ∷ fewer.others) ys fewer.rearranged);
+          }
 
   -- whether each element is equal to itself, and to as many of the second list as of the first
   abbrev all_kept : List T → List T → List T → Bool
@@ -198,7 +178,8 @@ module _ {T : Type 0} {eq : T → T → Bool} (laws : IsPartialEquivalence eq) w
       add_left_cancel (one_if eq z x)
       (sym (count_of-cons eq z x xs)
       ∙ e
-      ∙ count_of-Put eq z one.taken
+      ∙ sym (count_of-permutation eq z (one.element ∷ one.others) ys one.rearranged)
+      ∙ count_of-cons eq z one.element one.others
       ∙ ap (λ n. n + count_of eq z one.others) (sym (one_if-equal z x one.element one.equal)))
 
   all_one_less : (zs : List T) (x : T) (xs ys : List T) (one : Taken x ys) → all_kept zs (x ∷ xs) ys ≡ true →
@@ -222,18 +203,25 @@ module _ {T : Type 0} {eq : T → T → Bool} (laws : IsPartialEquivalence eq) w
 
   -- what was taken in front of others with the same elements
   one_more : {x : T} {xs ys : List T} (one : Taken x ys) → ((taken : Taken x ys) → SameElements eq xs taken.others) → SameElements eq (x ∷ xs) ys
-  one_more one rest =
+  one_more {ys = ys} one rest =
       let others = rest one in
-      record { order = one.element ∷ others.order; rearranged = put others.rearranged one.taken; equal = both_true one.equal others.equal }
+      record {
+        order = one.element ∷ others.order;
+        rearranged =
+            IsPermutation-trans (one.element ∷ others.order) (one.element ∷ one.others) ys
+            (IsPermutation-cons one.element others.order one.others others.rearranged)
+            one.rearranged;
+        equal = both_true one.equal others.equal;
+      }
 
   -- where each element of the first list stands as often in the second, which is as long, they have the same elements
   same_where_kept : (xs ys : List T) → length xs ≡ length ys → all_kept xs xs ys ≡ true → SameElements eq xs ys
-  same_where_kept [] [] l h = record { order = []; rearranged = nothing; equal = refl }
+  same_where_kept [] [] l h = record { order = []; rearranged = IsPermutation-refl []; equal = refl }
   same_where_kept [] (y ∷ ys) l h = absurd (suc-ne-zero (length ys) (sym l))
   same_where_kept (x ∷ xs) ys l h =
       let parts = and_parts (eq x x && (count_of eq x (x ∷ xs) == count_of eq x ys)) (all_kept xs (x ∷ xs) ys) h in
       one_more (take_first x xs ys parts.0) (λ one.
-      same_where_kept xs one.others (suc_inj (l ∙ length-Put one.taken)) (all_one_less xs x xs ys one parts.1))
+      same_where_kept xs one.others (suc_inj (l ∙ length_permutation (one.element ∷ one.others) ys one.rearranged)) (all_one_less xs x xs ys one parts.1))
 
   same_where_counted : (xs ys : List T) → same_counts eq xs ys ≡ true → SameElements eq xs ys
   same_where_counted xs ys h =

@@ -1,13 +1,12 @@
 -- Lists apart from their order: the same elements, each as often.
-use Rattle.std.specs.Prelude.{◌≡◌, ℕ, Bool, true, ◌&&◌, ◌==◌, nat_lt, List, length}
+use Rattle.std.specs.Prelude.{◌≡◌, ℕ, Bool, true, ◌&&◌, ◌==◌, nat_lt, List, IsPermutation, length}
 use Rattle.std.specs.List.{list_all, count_by}
 use Rattle.std.specs.Cmp.Lexicographic.{pointwise}
-use Rattle.asn1_model.specs.Orders.{Rearranged}
 
 -- Some rearrangement of the second list is place by place equal to the first, by this equality.
 pub record SameElements {T : Type 0} (eq : T → T → Bool) (xs ys : List T) : Type 0 where
   pub order : List T
-  pub rearranged : Rearranged order ys
+  pub rearranged : IsPermutation order ys
   pub equal : pointwise eq xs order ≡ true
 
 -- to how many elements of the list x is equal

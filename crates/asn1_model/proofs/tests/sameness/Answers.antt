@@ -1,15 +1,16 @@
-use Rattle.std.specs.Prelude.{◌≡◌, Bool, true, false, List, [], ◌∷◌, None, refl}
+use Rattle.std.specs.Prelude.{◌≡◌, Bool, false, [], ◌∷◌, None, IsPermutation, refl}
 use Rattle.std.proofs.Common.{sym, ◌∙◌}
 use Rattle.std.proofs.lemmas.Bool.{false≢true}
+use Rattle.std.proofs.lemmas.List.Sorted.{IsPermutation-middle}
 use Rattle.asn1_model.specs.ConstraintSets.{unconstrained}
-use Rattle.asn1_model.specs.Orders.{Rearranged, nothing, put, here, there, is_unordered, Same, SameAll, equal, in_place, in_any_order, at_end, next}
+use Rattle.asn1_model.specs.Orders.{is_unordered, Same, SameAll, equal, in_place, in_any_order, at_end, next}
 use Rattle.asn1_model.specs.Records.{Record, Records, scalar, scope, raw, mark, none, more, is_mark, sequence, set, set_of}
 use Rattle.asn1_model.specs.Tags.{universal}
 use Rattle.asn1_model.proofs.SameRecords.{same-mark}
 use Rattle.asn1_model.proofs.tests.sameness.Goals as goal
 
-turned : {A : Type 0} (x y : A) → Rearranged (x ∷ y ∷ []) (y ∷ x ∷ [])
-turned x y = put (put nothing here) (there here)
+turned : {A : Type 0} (x y : A) → IsPermutation (x ∷ y ∷ []) (y ∷ x ∷ [])
+turned x y = IsPermutation-middle (x ∷ []) y []
 
 -- src/tests.rt
 pub returns-clause-set : goal.returns-clause-set
