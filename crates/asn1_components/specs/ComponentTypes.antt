@@ -73,7 +73,7 @@ pub other_than_default : {W : Type 0} (type : TaggedType W) → type.CanStandIns
 other_than_default type can w true = inr (refl, refl)
 other_than_default type can w false = present_or_absent type Default (inr (refl, refl)) can (Some w)
 
--- one with a DEFAULT: whether the value's is that
+-- one with a DEFAULT: whether the value's is that. A default is not written, so nothing is told of what it has by its type.
 abbrev pub with_default : {V W : Type 0} → List ℕ → (V → W) → (V → Bool) → TaggedType W → ComponentType V
 with_default name get is_default type = record {
   name = name;
@@ -82,7 +82,7 @@ with_default name get is_default type = record {
   tree = type.tree;
   records = λ v. default_records (is_default v) type.tag (type.records (get v));
   CanStandInside = type.CanStandInside;
-  IsOfType = λ v. type.IsOfType (get v);
+  IsOfType = λ v. is_default v ≡ false → type.IsOfType (get v);
   IsValid = λ takes v. type.IsValid takes (get v);
   fits = λ can v. other_than_default type can (get v) (is_default v);
 }

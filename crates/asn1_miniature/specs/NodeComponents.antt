@@ -1,5 +1,5 @@
 -- Node ::= SEQUENCE { label UTF8String OPTIONAL, children SEQUENCE OF Node }
-use Rattle.std.specs.Prelude.{◌≡◌, ◌↔◌, ◌++◌, ℕ, ⊤, Bool, List, [], ◌∷◌, Option, Some, IfSome, All, codes}
+use Rattle.std.specs.Prelude.{◌≡◌, ◌↔◌, ◌++◌, ℕ, ⊤, Bool, List, [], ◌∷◌, Option, Some, IfSome, All, codes, refl}
 use Rattle.std.proofs.Common.{ap, sym, ◌∙◌, subst}
 use Rattle.std.proofs.lemmas.List.Folds.{flat_map-map}
 use Rattle.std.specs.List.{flat_map}

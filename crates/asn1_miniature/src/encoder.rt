@@ -1,5 +1,5 @@
 //! What a codec writes with.
-ghost use Rattle.std.specs.Prelude.{◌≡◌, [], true, ◌∷◌, All, IfSome, pos};
+ghost use Rattle.std.specs.Prelude.{false, ◌≡◌, [], true, ◌∷◌, All, IfSome, pos};
 ghost use Rattle.std.specs.List.{flat_map};
 ghost use Rattle.std.specs.Option.{option_map};
 ghost use Rattle.std.specs.Str.{IsUtf8};
@@ -148,8 +148,8 @@ pub trait Encoder {
         value.encode_with_tag_and_constraints(self, tag, constraints, name)
     }
 
-    /// A component with a default, under a tag: absent where it is that. The codec does not see a default, so that it has what
-    /// it has by its type is a premise.
+    /// A component with a default, under a tag: absent where it is that. The codec does not see a default, so a success tells
+    /// what another value has by its type.
     final fn encode_default_with_tag<T: Encode>(
         &mut self,
         tag: Tag,
@@ -158,7 +158,7 @@ pub trait Encoder {
     ) -> Result<(), EncodeError>
     where
         Self: Sized,
-        ensures { (is_default ≡ true → T.meaning.IsOfType value.now) → Writes codec self.old (default_records is_default tag (T.meaning.records value.now tag T.meaning.constraints T.meaning.name)) (T.meaning.IsOfType value.now) self.new result }
+        ensures { Writes codec self.old (default_records is_default tag (T.meaning.records value.now tag T.meaning.constraints T.meaning.name)) (is_default ≡ false → T.meaning.IsOfType value.now) self.new result }
     {
         if is_default {
             self.mark_absent(tag)
