@@ -61,6 +61,7 @@ pub use asn1_fields::{
 pub use asn1_model::{
     AsnType, StringType, TreeForm, TypeTable, order_inside_sets_is_not_seen, tag,
 };
+pub use asn1_tags::{Class, Identifier, Tag, TagTree};
 pub use explicit::Explicit;
 pub use implicit::Implicit;
 pub use instance_of::InstanceOf;
