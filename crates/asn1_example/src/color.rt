@@ -3,6 +3,7 @@ ghost use Rattle.std.specs.Prelude.{[], ◌∷◌, pos, codes, refl};
 ghost use Rattle.asn1_types.specs.Words.{item, by_test, extensible_enumeration, enumeration_type, CanStandInside};
 ghost use Rattle.asn1_example.specs.declared.color.Color.TheVariants.{Red, Green, Blue};
 
+use asn1_enumerations::item;
 use asn1_types::{
     AsnType, Enumerated, EnumeratedType, EnumerationItem, Identifier, Tag, TypeTable,
 };
@@ -19,23 +20,11 @@ pub enum Color {
 }
 
 const ROOT: &[EnumerationItem<Color>] = &[
-    EnumerationItem {
-        value: Color::Red,
-        number: 0,
-        name: "red",
-    },
-    EnumerationItem {
-        value: Color::Green,
-        number: 1,
-        name: "green",
-    },
+    item!(Color::Red, 0, "red"),
+    item!(Color::Green, 1, "green"),
 ];
 
-const ADDITIONS: &[EnumerationItem<Color>] = &[EnumerationItem {
-    value: Color::Blue,
-    number: 5,
-    name: "blue",
-}];
+const ADDITIONS: &[EnumerationItem<Color>] = &[item!(Color::Blue, 5, "blue")];
 
 impl Enumerated for Color {
     ghost enumeration = { extensible_enumeration

@@ -5,6 +5,8 @@ mod answer;
 mod color;
 mod contact;
 mod pair;
+#[cfg(test)]
+mod tests;
 
 pub use answer::Answer;
 pub use color::Color;
