@@ -1,32 +1,34 @@
-//! `Answer ::= CHOICE { number INTEGER (0..255), text UTF8String }`
+//! `Answer ::= CHOICE { accepted INTEGER (0..255), refused [0] INTEGER (0..255) }`
 #![tactic(auto, using(asn1_tags::proofs::Leaves::tree_shapes))]
 
-ghost use Rattle.std.specs.Prelude.{[], ◌∷◌, codes};
-ghost use Rattle.asn1_types.specs.Words.{inl, inr, untagged, alternative, closed_choice, choice_of, choice_agrees, CanStandInside};
-ghost use Rattle.asn1_example.specs.declared.answer.Answer.TheVariants.{Number, Text};
+ghost use Rattle.std.specs.Prelude.{◌≡◌, [], ◌∷◌, Some, pos, codes};
+ghost use Rattle.asn1_types.specs.Words.{context, untagged, tagged, inl, inr, alternative, closed_choice, choice_of, choice_agrees, CanStandInside, own_records, holding, alternative_head, scalar, number, unconstrained, values_of, Range};
+ghost use Rattle.asn1_example.specs.declared.answer.Answer.TheVariants.{Accepted, Refused};
 
-use asn1_types::{AsnType, Choice, ChoiceType, Identifier, Tag, TagTree, TypeTable};
+use asn1_types::{AsnType, Choice, ChoiceType, Class, Identifier, Tag, TagTree, TypeTable};
 
-/// A number or a text.
+/// The answer to an order.
 #[derive(Drop)]
 pub enum Answer {
-    /// `number INTEGER (0..255)`
-    Number(u8),
-    /// `text UTF8String`
-    Text(String),
+    /// `accepted INTEGER (0..255)`: the number of the order
+    Accepted(u8),
+    /// `refused [0] INTEGER (0..255)`: the number of the reason
+    Refused(u8),
 }
 
-const VARIANTS: &[TagTree<'static>] = &[
-    TagTree::Leaf(Tag::INTEGER),
-    TagTree::Leaf(Tag::UTF8_STRING),
-];
+const REFUSED: Tag = Tag {
+    class: Class::Context,
+    value: 0,
+};
+
+const VARIANTS: &[TagTree<'static>] = &[TagTree::Leaf(Tag::INTEGER), TagTree::Leaf(REFUSED)];
 
 impl Choice for Answer {
     ghost alternatives = { closed_choice (
-        alternative (codes "number") (untagged ⟦<u8 as AsnType>⟧.meaning) ∷
-        alternative (codes "text") (untagged ⟦<String as AsnType>⟧.meaning) ∷ []) };
+        alternative (codes "accepted") (untagged ⟦<u8 as AsnType>⟧.meaning) ∷
+        alternative (codes "refused") (tagged (context 0) ⟦<u8 as AsnType>⟧.meaning) ∷ []) };
 
-    ghost pick = { elim [ Number n ↦ inl n | Text s ↦ inr (inl s) ] };
+    ghost pick = { elim [ Accepted n ↦ inl n | Refused n ↦ inr (inl n) ] };
 
     fn variants() -> &'static [TagTree<'static>] {
         VARIANTS
@@ -37,7 +39,7 @@ impl Choice for Answer {
     }
 
     fn identifiers() -> &'static [&'static str] {
-        &["number", "text"]
+        &["accepted", "refused"]
     }
 }
 
@@ -60,4 +62,12 @@ impl ChoiceType for Answer {
 /// It can be a component or an alternative of another type: no tag is twice among its alternatives.
 pub fn answer_can_stand_inside()
     ensures { CanStandInside ⟦<Answer as AsnType>⟧.meaning }
+{}
+
+/// What `Answer::Refused(7)` is to every codec.
+pub fn answer_records(answer: &Answer)
+    ensures { answer.now ≡ Refused 7 →
+        own_records ⟦<Answer as AsnType>⟧.meaning answer.now ≡
+        holding (alternative_head (context 0) unconstrained (Some (codes "Answer"))) (
+        scalar (context 0) (values_of (Range (Some (pos 0)) (Some (pos 255)))) (Some (codes "INTEGER")) (number (pos 7)) ∷ []) ∷ [] }
 {}

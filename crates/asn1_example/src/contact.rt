@@ -1,5 +1,5 @@
-//! `Contact ::= SEQUENCE { id [0] INTEGER (0..255), name [1] UTF8String, urgent [2] EXPLICIT BOOLEAN OPTIONAL }`
-ghost use Rattle.std.specs.Prelude.{◌≡◌, [], ◌∷◌, None, Some, true, pos, codes};
+//! `Contact ::= SEQUENCE { id [0] INTEGER (0..255), urgent [1] EXPLICIT BOOLEAN OPTIONAL, name [2] UTF8String }`
+ghost use Rattle.std.specs.Prelude.{◌≡◌, [], ◌∷◌, Some, true, pos, codes};
 ghost use Rattle.std.specs.String.{string_bytes};
 ghost use Rattle.asn1_types.specs.Words.{context, universal, tagged, explicitly_tagged, required, optional, sequence, constructed_type, made_of, CanStandInside, own_records, holding, scalar, mark, present, prefix, sequence_head, number, units, utf8, truth, unconstrained, values_of, Range};
 
@@ -10,17 +10,17 @@ use asn1_types::{AsnType, ConstructedType, Field, FieldTable, Identifier, Tag, T
 pub struct Contact {
     /// `id [0] INTEGER (0..255)`
     pub id: u8,
-    /// `name [1] UTF8String`
-    pub name: String,
-    /// `urgent [2] EXPLICIT BOOLEAN OPTIONAL`
+    /// `urgent [1] EXPLICIT BOOLEAN OPTIONAL`
     pub urgent: Option<bool>,
+    /// `name [2] UTF8String`
+    pub name: String,
 }
 
 impl FieldTable for Contact {
     ghost components = { sequence (
         required (codes "id") (λ c. c.id) (tagged (context 0) ⟦<u8 as AsnType>⟧.meaning) ∷
-        required (codes "name") (λ c. c.name) (tagged (context 1) ⟦<String as AsnType>⟧.meaning) ∷
-        optional (codes "urgent") (λ c. c.urgent) (explicitly_tagged (context 2) ⟦<bool as AsnType>⟧.meaning) ∷ []) };
+        optional (codes "urgent") (λ c. c.urgent) (explicitly_tagged (context 1) ⟦<bool as AsnType>⟧.meaning) ∷
+        required (codes "name") (λ c. c.name) (tagged (context 2) ⟦<String as AsnType>⟧.meaning) ∷ []) };
 
     fn field_count() -> usize {
         3
@@ -29,8 +29,8 @@ impl FieldTable for Contact {
     fn field_at(place: usize) -> Option<Field<'static>> {
         match place {
             0 => Some(Field::new_required_type_with_tag::<u8>(0, Tag::new_context(0), "id")),
-            1 => Some(Field::new_required_type_with_tag::<String>(1, Tag::new_context(1), "name")),
-            2 => Some(Field::new_optional_explicit(2, Tag::new_context(2), "urgent")),
+            1 => Some(Field::new_optional_explicit(1, Tag::new_context(1), "urgent")),
+            2 => Some(Field::new_required_type_with_tag::<String>(2, Tag::new_context(2), "name")),
             _ => None,
         }
     }
@@ -57,14 +57,14 @@ pub fn contact_can_stand_inside()
     ensures { CanStandInside ⟦<Contact as AsnType>⟧.meaning }
 {}
 
-/// What `Contact { id: 7, name: "Ann", urgent: Some(true) }` is to every codec.
+/// What `Contact { id: 7, urgent: Some(true), name: "Ann" }` is to every codec.
 pub fn contact_records(contact: &Contact)
-    ensures { contact.now.id ≡ 7 → string_bytes contact.now.name ≡ codes "Ann" → contact.now.urgent ≡ Some true →
+    ensures { contact.now.id ≡ 7 → contact.now.urgent ≡ Some true → string_bytes contact.now.name ≡ codes "Ann" →
         own_records ⟦<Contact as AsnType>⟧.meaning contact.now ≡
         holding (sequence_head (universal 16) (Some (codes "Contact"))) (
         scalar (context 0) (values_of (Range (Some (pos 0)) (Some (pos 255)))) (Some (codes "INTEGER")) (number (pos 7)) ∷
-        scalar (context 1) unconstrained (Some (codes "UTF8String")) (units utf8 (codes "Ann")) ∷
-        mark (present (context 2)) ∷
-        holding (prefix (context 2) (Some (codes "BOOLEAN"))) (
-        scalar (universal 1) unconstrained (Some (codes "BOOLEAN")) (truth true) ∷ []) ∷ []) ∷ [] }
+        mark (present (context 1)) ∷
+        holding (prefix (context 1) (Some (codes "BOOLEAN"))) (
+        scalar (universal 1) unconstrained (Some (codes "BOOLEAN")) (truth true) ∷ []) ∷
+        scalar (context 2) unconstrained (Some (codes "UTF8String")) (units utf8 (codes "Ann")) ∷ []) ∷ [] }
 {}
