@@ -1,4 +1,5 @@
 -- The words with which the author of a type says what it means, from one place.
+
 -- tags, and types under tags (X.680, 31)
 pub use Rattle.asn1_model.specs.Tags.{universal, context}
 pub use Rattle.asn1_model.specs.TaggedTypes.{untagged, tagged, explicitly_tagged, explicitly_tagged_as}
