@@ -2,6 +2,7 @@ pub mod Multisets
 pub mod MultisetLaws
 pub mod Kinds
 pub mod formers
+pub mod Words
 -- of the crate below: what a type means
 pub use Rattle.asn1_model.specs.Composites
 pub use Rattle.asn1_model.specs.ConstraintSets

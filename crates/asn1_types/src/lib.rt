@@ -12,6 +12,7 @@
 //! | [`Explicit`] | a value under another tag, which stands before its own | its fields |
 //! | [`InstanceOf`] | the name of a type, and a value of that type | its fields |
 //! | [`AsnType`], [`TypeTable`], [`TreeForm`], [`StringType`], [`tag`] | what a type means, and the law of types: of `asn1_model` | |
+//! | [`Tag`], [`Class`], [`TagTree`], [`Identifier`] | tags, trees of tags and names: of `asn1_tags` | |
 //! | [`Field`], [`Fields`] | field tables: of `asn1_fields` | |
 //! | [`FieldTable`], [`ConstructedType`], [`Constructed`] | SEQUENCE and SET types: of `asn1_components` | |
 //! | [`Choice`], [`ChoiceType`] | CHOICE types: of `asn1_choices` | |
@@ -33,6 +34,7 @@
 //! - `Any`, `Implicit` and `Explicit` give back what went in.
 //! - What each type means is a word of `specs/Kinds.antt`: `set_of_type`, `any_type`, `implicit_type`, `explicit_type`
 //!   and `instance_of_components`.
+//! - The words for a type of your own are in `specs/Words.antt`, from all crates below.
 //!
 //! `SetOf::with_capacity`, `insert`, `to_vec`, `from_slice`, `from_array` and `try_clone`, and `Any::try_clone` may want
 //! memory, and fail only where there is none. No other call takes any.
@@ -64,6 +66,7 @@ pub use asn1_fields::{
 pub use asn1_model::{
     AsnType, StringType, TreeForm, TypeTable, order_inside_sets_is_not_seen, tag,
 };
+pub use asn1_tags::{Class, Identifier, Tag, TagTree};
 pub use explicit::Explicit;
 pub use implicit::Implicit;
 pub use instance_of::InstanceOf;
