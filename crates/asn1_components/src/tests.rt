@@ -1,6 +1,5 @@
 //! Types with components, each stated once.
+mod ambiguous;
 mod badge;
-mod contact;
-mod pair;
 mod person;
 mod profile;
