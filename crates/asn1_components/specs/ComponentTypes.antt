@@ -54,7 +54,7 @@ pub present_or_absent : {W : Type 0} (type : TaggedType W) (presence : FieldPres
 present_or_absent type presence absent can None = absent
 present_or_absent type presence absent can (Some w) = inl (present_begins (tree_tags type.tree) type.tag (type.records w) (type.one_record can w))
 
--- one that is marked OPTIONAL; an addition is one too, since the sender may know an earlier version of the type
+-- one that is marked OPTIONAL
 abbrev pub optional : {V W : Type 0} → List ℕ → (V → Option W) → TaggedType W → ComponentType V
 optional name get type = record {
   name = name;
@@ -67,6 +67,10 @@ optional name get type = record {
   IsValid = λ takes v. IfSome (get v) (type.IsValid takes);
   fits = λ can v. present_or_absent type Optional (inr (refl, refl)) can (get v);
 }
+
+-- an addition (X.680, 25.1): it may be absent at will, since the sender may know an earlier version of the type
+abbrev pub addition : {V W : Type 0} → List ℕ → (V → Option W) → TaggedType W → ComponentType V
+addition = optional
 
 pub other_than_default : {W : Type 0} (type : TaggedType W) → type.CanStandInside → (w : W) (is_default : Bool) →
     Fits Default type.tree (default_records is_default type.tag (type.records w))

@@ -4,7 +4,7 @@
 pub use Rattle.asn1_model.specs.Tags.{universal, context}
 pub use Rattle.asn1_model.specs.TaggedTypes.{untagged, tagged, explicitly_tagged, explicitly_tagged_as}
 -- the components of a SEQUENCE or a SET (25 and 27)
-pub use Rattle.asn1_components.specs.ComponentTypes.{required, optional, with_default}
+pub use Rattle.asn1_components.specs.ComponentTypes.{required, optional, with_default, addition}
 pub use Rattle.asn1_components.specs.Components.{group, sequence, extensible_sequence, set, extensible_set, constructed_type, constructed_type_under, constructed_agrees}
 -- the alternatives of a CHOICE (29), and which of them a value is
 pub use Rattle.std.proofs.Common.{inl, inr}

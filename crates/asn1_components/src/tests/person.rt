@@ -2,7 +2,7 @@
 ghost use Rattle.std.specs.Prelude.{[], ◌∷◌, codes, refl};
 ghost use Rattle.asn1_model.specs.TaggedTypes.{tagged, untagged};
 ghost use Rattle.asn1_model.specs.Tags.{context};
-ghost use Rattle.asn1_components.specs.ComponentTypes.{required, optional};
+ghost use Rattle.asn1_components.specs.ComponentTypes.{required, addition};
 ghost use Rattle.asn1_components.specs.Components.{extensible_sequence};
 
 use crate::{Constructed, FieldTable, field_in};
@@ -41,7 +41,7 @@ const ADDED: &[Field<'static>] = &[Field {
 impl FieldTable for Person {
     ghost components = { extensible_sequence
         (required (codes "name") (λ p. p.name) (untagged ⟦<String as AsnType>⟧.meaning) ∷ [])
-        (optional (codes "number") (λ p. p.number) (tagged (context 0) ⟦<u8 as AsnType>⟧.meaning) ∷ []) };
+        (addition (codes "number") (λ p. p.number) (tagged (context 0) ⟦<u8 as AsnType>⟧.meaning) ∷ []) };
 
     fn field_count() -> usize {
         2
