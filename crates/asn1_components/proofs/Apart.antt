@@ -7,14 +7,14 @@ use Rattle.std.proofs.lemmas.Bool.{false≢true}
 use Rattle.asn1_tags.specs.declared.tags.Tag.{Tag}
 use Rattle.asn1_tags.specs.Trees.{Tree, choice}
 use Rattle.asn1_model.specs.Records.{Record}
-use Rattle.asn1_model.specs.Tags.{Tags, Has, LiesIn, ShareNone, among, tree_tags, first_tags}
-use Rattle.asn1_fields.specs.DistinctTags.{share_tag, rivals, up_to_required, first_clash, sequence_clash}
+use Rattle.asn1_model.specs.Tags.{Has, ShareNone, among, tree_tags, first_tags}
+use Rattle.asn1_fields.specs.DistinctTags.{share_tag, rivals, up_to_required, first_clash, sequence_clash, set_clash}
 use Rattle.asn1_fields.specs.Entries.{Component, may_be_absent}
 use Rattle.asn1_tags.proofs.PlacesInLists.{position-missing}
 use Rattle.asn1_fields.proofs.SharedTags.{test-from_ShareTag}
 use Rattle.asn1_model.proofs.FirstTags.{first_passes, first_stays}
 use Rattle.asn1_model.proofs.TagSets.{apart_within, lies_has, lies_itself, in_first_tree, in_later_trees}
-use Rattle.asn1_components.specs.ComponentLists.{all_records, seen_by_tags, trees_of, AreDistinctInSet, CanBeInSequence, EachCanStandInside}
+use Rattle.asn1_components.specs.ComponentLists.{all_records, seen_by_tags, trees_of, CanBeInSequence, EachCanStandInside}
 use Rattle.asn1_components.specs.ComponentTypes.{ComponentType, Fits}
 use Rattle.asn1_components.specs.Following.{BeginsApart, Where, records_then, all_may_be_absent, EndsApart, EachApart, ApartFromEach, AllApart}
 
@@ -79,7 +79,7 @@ distinct_by_test (c ∷ cs) e =
     )
 
 -- The law of a SET.
-pub set_apart : {V : Type 0} (cs : List (ComponentType V)) → AreDistinctInSet cs → AllApart cs
+pub set_apart : {V : Type 0} (cs : List (ComponentType V)) → set_clash (seen_by_tags cs) ≡ None → AllApart cs
 set_apart [] e = tt
 set_apart (c ∷ cs) e =
     let parts = no_clash_parts (λ d after. after) (record { presence = c.presence; tree = c.tree }) (seen_by_tags cs) e in

@@ -1,15 +1,15 @@
 -- What follows from a list of components.
-use Rattle.std.specs.Prelude.{◌≡◌, ℕ, ◌+◌, ⊤, Bool, true, false, ◌&&◌, List, [], ◌∷◌, ◌++◌, Option, None, Some, IfSome, All, refl, if◌then◌else◌}
+use Rattle.std.specs.Prelude.{◌≡◌, ℕ, ◌+◌, ⊤, Bool, true, false, ◌&&◌, IsTrue, List, [], ◌∷◌, ◌++◌, Option, None, Some, IfSome, refl, if◌then◌else◌}
 use Rattle.std.proofs.Common.{inl, inr, ap, sym, ◌∙◌, subst}
 use Rattle.std.specs.Option.{option_map}
-use Rattle.asn1_tags.specs.declared.tags.Tag.{Tag}
-use Rattle.asn1_tags.specs.Trees.{Tree, Trees, choice, none, more}
+use Rattle.asn1_tags.specs.Tags.{distinct}
+use Rattle.asn1_tags.specs.Trees.{Tree, Trees, choice, leaves, none, more}
 use Rattle.asn1_model.specs.Composites.{group_records}
 use Rattle.asn1_model.specs.Records.{Record, mark, group_start, group_end, group_absent, marks_alone}
 use Rattle.asn1_model.specs.Tags.{CHOICE, BeginsWithin, LiesIn, tree_tags, first_tags}
 use Rattle.asn1_model.proofs.FirstTags.{begins_before, first_passes, first_stays, alone_append}
 use Rattle.asn1_model.proofs.TagSets.{in_first_tree, in_later_trees}
-use Rattle.asn1_fields.specs.Entries.{Component, Entry}
+use Rattle.asn1_fields.specs.Entries.{Component, Entry, may_be_absent}
 use Rattle.asn1_fields.specs.DistinctTags.{sequence_clash, set_clash}
 use Rattle.asn1_fields.specs.declared.presence.FieldPresence.TheVariants.{Optional}
 use Rattle.asn1_components.specs.ComponentTypes.{ComponentType, Fits}
@@ -43,10 +43,15 @@ abbrev pub EachCanStandInside : {V : Type 0} → List (ComponentType V) → Type
 EachCanStandInside [] = ⊤
 EachCanStandInside (c ∷ cs) = c.CanStandInside × EachCanStandInside cs
 
--- each may be absent at will, as additions may (X.680, 25.6)
-abbrev pub EachIsOptional : {V : Type 0} → List (ComponentType V) → Type 0
-EachIsOptional [] = ⊤
-EachIsOptional (c ∷ cs) = (c.presence ≡ Optional) × EachIsOptional cs
+-- each may be absent, as additions may (X.680, 25.6)
+abbrev pub EachMayBeAbsent : {V : Type 0} → List (ComponentType V) → Type 0
+EachMayBeAbsent [] = ⊤
+EachMayBeAbsent (c ∷ cs) = IsTrue (may_be_absent c.presence) × EachMayBeAbsent cs
+
+-- no tag is twice in the tree of one of them, as it could be in that of a group
+abbrev pub EachTreeIsDistinct : {V : Type 0} → List (ComponentType V) → Type 0
+EachTreeIsDistinct [] = ⊤
+EachTreeIsDistinct (c ∷ cs) = IsTrue (distinct (leaves c.tree)) × EachTreeIsDistinct cs
 
 -- each has what it has by its type
 abbrev pub EachIsOfType : {V : Type 0} → List (ComponentType V) → V → Type 0
@@ -67,9 +72,9 @@ AreDistinctInSequence cs = sequence_clash (seen_by_tags cs) ≡ None
 abbrev pub CanBeInSequence : {V : Type 0} → List (ComponentType V) → Type 0
 CanBeInSequence cs = EachCanStandInside cs × AreDistinctInSequence cs
 
--- In a SET no two components share a tag (X.680, 27.3).
+-- In a SET no two components share a tag (X.680, 27.3), those of a group among them.
 abbrev pub AreDistinctInSet : {V : Type 0} → List (ComponentType V) → Type 0
-AreDistinctInSet cs = set_clash (seen_by_tags cs) ≡ None
+AreDistinctInSet cs = (set_clash (seen_by_tags cs) ≡ None) × EachTreeIsDistinct cs
 
 -- What is written of components that are not all absent begins with a tag of one of them.
 first_or_later : {V : Type 0} (c : ComponentType V) (cs : List (ComponentType V)) (v : V) → marks_alone (all_records (c ∷ cs) v) ≡ false →

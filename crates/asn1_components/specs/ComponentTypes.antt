@@ -1,14 +1,14 @@
 -- The components of a SEQUENCE, a SET or a group, one by one (X.680, 25.1).
-use Rattle.std.specs.Prelude.{◌≡◌, ◌⊎◌, ℕ, ⊤, Bool, true, false, IsTrue, List, [], ◌∷◌, ◌++◌, Option, None, Some, IfSome, refl, if◌then◌else◌}
+use Rattle.std.specs.Prelude.{◌≡◌, ◌⊎◌, ℕ, Bool, true, false, IsTrue, List, Option, None, Some, IfSome, refl}
 use Rattle.std.proofs.Common.{inl, inr}
 use Rattle.std.specs.Option.{option_map}
 use Rattle.asn1_tags.specs.declared.tags.Tag.{Tag}
 use Rattle.asn1_tags.specs.Trees.{Tree}
 use Rattle.asn1_model.specs.Composites.{option_records, default_records}
-use Rattle.asn1_model.specs.Records.{Record, mark, group_start, group_end, group_absent, marks_alone}
+use Rattle.asn1_model.specs.Records.{Record, marks_alone}
 use Rattle.asn1_model.specs.TaggedTypes.{TaggedType}
-use Rattle.asn1_model.specs.Tags.{Tags, BeginsWithin, tree_tags}
-use Rattle.asn1_model.proofs.FirstTags.{one_begins, present_begins, begins_before}
+use Rattle.asn1_model.specs.Tags.{BeginsWithin, tree_tags}
+use Rattle.asn1_model.proofs.FirstTags.{one_begins, present_begins}
 use Rattle.asn1_fields.specs.Entries.{may_be_absent}
 use Rattle.asn1_fields.specs.declared.presence.FieldPresence.{FieldPresence}
 use Rattle.asn1_fields.specs.declared.presence.FieldPresence.TheVariants.{Required, Optional, Default}
@@ -77,7 +77,8 @@ pub other_than_default : {W : Type 0} (type : TaggedType W) → type.CanStandIns
 other_than_default type can w true = inr (refl, refl)
 other_than_default type can w false = present_or_absent type Default (inr (refl, refl)) can (Some w)
 
--- one with a DEFAULT: whether the value's is that. A default is not written, so nothing is told of what it has by its type.
+-- one with a DEFAULT: whether the value's is that. A default is not written, so nothing is told of it
+-- and nothing is asked.
 abbrev pub with_default : {V W : Type 0} → List ℕ → (V → W) → (V → Bool) → TaggedType W → ComponentType V
 with_default name get is_default type = record {
   name = name;
@@ -87,6 +88,6 @@ with_default name get is_default type = record {
   records = λ v. default_records (is_default v) type.tag (type.records (get v));
   CanStandInside = type.CanStandInside;
   IsOfType = λ v. is_default v ≡ false → type.IsOfType (get v);
-  IsValid = λ takes v. type.IsValid takes (get v);
+  IsValid = λ takes v. is_default v ≡ false → type.IsValid takes (get v);
   fits = λ can v. other_than_default type can (get v) (is_default v);
 }

@@ -10,7 +10,7 @@ use Rattle.asn1_model.specs.Records.{Name, Record, Head, sequence as sequence_he
 use Rattle.asn1_model.specs.Tags.{IsATag, head_tag, universal}
 use Rattle.asn1_fields.specs.CanonicalOrder.{in_order}
 use Rattle.asn1_fields.specs.Entries.{Entry, component_of}
-use Rattle.asn1_components.specs.ComponentLists.{all_records, entries_from, EachCanStandInside, EachIsOptional, EachIsOfType, EachIsValid, AreDistinctInSequence, AreDistinctInSet, group_of}
+use Rattle.asn1_components.specs.ComponentLists.{all_records, entries_from, EachCanStandInside, EachMayBeAbsent, EachIsOfType, EachIsValid, AreDistinctInSequence, AreDistinctInSet, CanBeInSequence, group_fits, group_of}
 use Rattle.asn1_components.specs.ComponentTypes.{ComponentType}
 
 -- A SEQUENCE (X.680, 25) or a SET (27); a group is a SEQUENCE here.
@@ -114,7 +114,7 @@ module _ {V : Type 0} (components : Components V) where
   -- The type of each component can be there, additions may be absent at will, and tags are distinct.
   abbrev pub CanStandTogether : Type 0
   CanStandTogether =
-      EachCanStandInside all_components × EachIsOptional added × AreDistinctIn components.kind all_components
+      EachCanStandInside all_components × EachMayBeAbsent added × AreDistinctIn components.kind all_components
 
   -- what a value has inside
   abbrev pub inside : Inside V
@@ -134,18 +134,22 @@ module _ {V : Type 0} (components : Components V) where
 abbrev pub constructed_type : {V : Type 0} → List ℕ → Components V → Meaning V
 constructed_type name components = constructed_type_under components (tag_of components.kind) name
 
--- A group of additions, by its components.
+-- A group of additions (X.680, 25.1), by its components: those of a SEQUENCE, without an extension marker of its own.
 abbrev pub group : {V W : Type 0} → List ℕ → (V → Option W) → Components W → ComponentType V
-group name get components = group_of name get (all_components components)
+group name get components = record (group_of name get (all_components components)) {
+  CanStandInside = CanBeInSequence (all_components components) × (components.kind ≡ is_sequence) × (has_marker components.extension ≡ false);
+  fits = λ can v. group_fits (all_components components) can.0.0 (get v);
+}
 
--- The law of a type of components: its meaning is that of these. A value begins with the tag of the type, and holds the
--- records of theirs; it is well tagged if and only if they can stand together; and what a value has by its type, and
+-- The law of a type of components: its meaning is that of these. A value is always there, begins with the tag of the type,
+-- and holds the records of theirs; it is well tagged if and only if they can stand together; and what a value has by its type, and
 -- whether it is valid, is what they have and are.
 pub record AgreesWithComponents {V : Type 0} (components : Components V) (m : Meaning V) : Type 0 where
   pub tree : (t : Tag) → m.tree t ≡ leaf t
   pub records : (v : V) (t : Tag) (c : ConstraintSet) (n : Name) →
       m.records v t c n ≡ holding (head_in components.kind t n) (component_records components v) ∷ []
   pub single : m.IsSingleRecord
+  pub present : (v : V) → m.is_present v ≡ true
   pub well_tagged : (t : Tag) → m.IsWellTagged t ↔ (IsATag t × CanStandTogether components)
   pub of_type : (v : V) → m.IsOfType v ↔ EachIsOfType (all_components components) v
   pub valid : (takes : List ℕ → Bool) (v : V) → m.IsValid takes v ↔ EachIsValid (all_components components) takes v
@@ -157,6 +161,7 @@ constructed_agrees = record {
   tree = λ _. refl;
   records = λ v t c n. refl;
   single = tt;
+  present = λ _. refl;
   well_tagged = λ t. (λ h. h, λ h. h);
   of_type = λ v. (λ h. h, λ h. h);
   valid = λ takes v. (λ h. h, λ h. h);

@@ -79,6 +79,7 @@ pub node_agrees : AgreesWithComponents node_components node_meaning
 node_agrees = record {
   tree = λ _. refl;
   single = tt;
+  present = λ _. refl;
   records = λ v t c n. ap (λ components. holding (head_in is_sequence t n) components ∷ []) (node_records_are v);
   well_tagged = λ t. (λ h. h, λ h. h);
   of_type = each_label (λ label. IfSome label text.IsOfType);

@@ -20,4 +20,4 @@ returns-clause-past_the_end g c = λ rest can ends. sequence_apart (all_componen
 pub returns-clause-set : goal.returns-clause-set
 returns-clause-set g c = λ kind can.
     let cs = all_components g.T.FieldTable.components in
-    set_apart cs (subst (λ k. AreDistinctIn k cs) kind can.2)
+    set_apart cs (subst (λ k. AreDistinctIn k cs) kind can.2).0
