@@ -1,6 +1,5 @@
 //! Types with components, each stated once.
 mod ambiguous;
-mod badge;
 mod journey;
+mod limits;
 mod person;
-mod profile;

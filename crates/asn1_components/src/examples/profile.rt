@@ -17,18 +17,26 @@ use asn1_model::{AsnType, TypeTable};
 use asn1_tags::{Class, Identifier, Tag, TagTree};
 use asn1_values::{Ia5String, NumericString};
 
+/// The group of additions.
 #[derive(Drop)]
-struct Reach {
-    phone: Option<NumericString>,
-    mail: Option<Ia5String>,
+pub struct Reach {
+    /// `phone [3] NumericString OPTIONAL`
+    pub phone: Option<NumericString>,
+    /// `mail [4] IA5String OPTIONAL`
+    pub mail: Option<Ia5String>,
 }
 
+/// A SEQUENCE with a component of each kind.
 #[derive(Drop)]
-struct Profile {
-    nick: Option<String>,
-    level: u8,
-    loud: bool,
-    reach: Option<Reach>,
+pub struct Profile {
+    /// `nick [0] UTF8String OPTIONAL`
+    pub nick: Option<String>,
+    /// `level [1] INTEGER (0..255)`
+    pub level: u8,
+    /// `loud [2] BOOLEAN DEFAULT FALSE`
+    pub loud: bool,
+    /// the group
+    pub reach: Option<Reach>,
 }
 
 const REACH: &[TagTree<'static>] = &[
@@ -106,12 +114,12 @@ impl ConstructedType for Profile {
 }
 
 /// The tags of its components are distinct, and so are those of the group's.
-fn profile_can_stand_inside()
+pub fn profile_can_stand_inside()
     ensures { CanStandInside ⟦<Profile as AsnType>⟧.meaning }
 {}
 
 /// No options, a default, and no group; then with all of them, of the group the mail alone.
-fn profiles(profile: &Profile, nick: &String, mail: &Ia5String)
+pub fn profiles(profile: &Profile, nick: &String, mail: &Ia5String)
     ensures empty { profile.now.nick ≡ None → profile.now.level ≡ 7 → profile.now.loud ≡ false → profile.now.reach ≡ None →
         own_records ⟦<Profile as AsnType>⟧.meaning profile.now ≡
         holding (sequence_head (universal 16) (Some (codes "Profile"))) (
@@ -136,7 +144,7 @@ fn profiles(profile: &Profile, nick: &String, mail: &Ia5String)
 {}
 
 /// Of a value nothing is asked but that a group that is there writes a component.
-fn valid_profiles(profile: &Profile)
+pub fn valid_profiles(profile: &Profile)
     ensures without_group { (takes : List ℕ → Bool) → profile.now.reach ≡ None → ⟦<Profile as AsnType>⟧.meaning.IsValid takes profile.now }
     ensures empty_group { (takes : List ℕ → Bool) → profile.now.reach ≡ Some (record { phone = None; mail = None }) →
         ¬ ⟦<Profile as AsnType>⟧.meaning.IsValid takes profile.now }

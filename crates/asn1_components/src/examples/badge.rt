@@ -17,11 +17,15 @@ use asn1_model::{AsnType, TypeTable};
 use asn1_tags::{Identifier, Tag};
 use asn1_values::VisibleString;
 
+/// A SET of three.
 #[derive(Drop)]
-struct Badge {
-    id: u32,
-    label: Option<VisibleString>,
-    note: bool,
+pub struct Badge {
+    /// `id INTEGER (0..4294967295)`
+    pub id: u32,
+    /// `label VisibleString OPTIONAL`
+    pub label: Option<VisibleString>,
+    /// `note BOOLEAN`
+    pub note: bool,
 }
 
 impl FieldTable for Badge {
@@ -60,12 +64,12 @@ impl ConstructedType for Badge {
 }
 
 /// No two of its components share a tag.
-fn badge_can_stand_inside()
+pub fn badge_can_stand_inside()
     ensures { CanStandInside ⟦<Badge as AsnType>⟧.meaning }
 {}
 
 /// Its table is in canonical order: BOOLEAN, INTEGER, VisibleString.
-fn badge_table_is_canonical()
+pub fn badge_table_is_canonical()
     ensures indices { map (λ entry. entry.index) (table ⟦<Badge as FieldTable>⟧.components) ≡ 2 ∷ 0 ∷ 1 ∷ [] }
     ensures canonical { IsCanonical (map component_of (root_entries ⟦<Badge as FieldTable>⟧.components)) }
 {
@@ -73,7 +77,7 @@ fn badge_table_is_canonical()
 }
 
 /// Its records are in the order of the definition.
-fn badge_records(badge: &Badge)
+pub fn badge_records(badge: &Badge)
     ensures { badge.now.id ≡ 7 → badge.now.label ≡ None → badge.now.note ≡ true →
         own_records ⟦<Badge as AsnType>⟧.meaning badge.now ≡
         holding (set_head (universal 17) (Some (codes "Badge"))) (
