@@ -238,3 +238,22 @@ fn a_table_gives_its_fields_in_order(rt: HostRuntime) {
     assert!(rt; table.first_sequence_clash().is_none() && table.first_set_clash().is_none());
     assert_counts(&rt, &Fields::<0>::from_static(&[]), 0);
 }
+
+fn assert_typed(rt: &impl Abort, field: &Field<'_>, tag: Tag, presence: FieldPresence) {
+    assert!(rt; field.tag == tag && field.presence == presence);
+}
+
+#[test]
+fn fields_of_types_have_the_types_own_tags(rt: HostRuntime) {
+    let age = Field::new_required_type::<u8>(0, "age");
+    assert_typed(&rt, &age, Tag::INTEGER, FieldPresence::Required);
+    let answers = Field::new_optional_type::<Vec<bool>>(1, "answers");
+    assert_typed(&rt, &answers, Tag::SEQUENCE, FieldPresence::Optional);
+    let name = Field::new_default_type::<&str>(2, "name");
+    assert_typed(&rt, &name, Tag::UTF8_STRING, FieldPresence::Default);
+    let tag = Tag::new_context(3);
+    let group = Field::new_group(3, C3_OR_C4, "group");
+    assert_typed(&rt, &group, Tag::CHOICE, FieldPresence::Optional);
+    let explicit = Field::new_required_explicit(4, tag, "explicit");
+    assert_typed(&rt, &explicit, tag, FieldPresence::Required);
+}

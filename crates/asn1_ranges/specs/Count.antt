@@ -14,7 +14,7 @@ numbers_between first last = or_zero (last -ℤ first +ℤ pos 1)
 abbrev pub distance : {T : Type 0} → (T → ℤ) → T → T → ℤ
 distance number start value = number value -ℤ number start
 
--- a set of whole numbers has this many: its members can be told off, from the one at 0 to the one before the count
+-- a set of whole numbers has this many: its members can be counted, from the one at 0 to the one before the count
 pub record HasCount (Member : ℤ → Type 0) (count : ℕ) : Type 0 where
   pub nth : ℕ → ℤ
   pub belongs : (i : ℕ) → i < count → Member (nth i)

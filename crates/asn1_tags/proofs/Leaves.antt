@@ -39,7 +39,7 @@ shape-Choice s =
 pub shapes-cons : (t : TagTree) (ts : List TagTree) → shapes (t ∷ ts) ≡ more (shape t) (shapes ts)
 shapes-cons t ts = refl
 
--- the leaves of trees that stand behind one another
+-- the leaves of trees that follow one another
 pub leaves_of-append : (ts us : List TagTree) → leaves_of (shapes (ts ++ us)) ≡ leaves_of (shapes ts) ++ leaves_of (shapes us)
 leaves_of-append [] us = refl
 leaves_of-append (t ∷ ts) us =
@@ -129,7 +129,7 @@ distinct-append (x ∷ xs) ys =
     ∙ ap (λ b. not (has x xs || has x ys) && b) (distinct-append xs ys)
     ∙ shuffle (has x xs) (has x ys) (distinct xs) (distinct ys) (meet xs ys)
 
--- a walk that looks for a tag that stands twice: the tree at i, and those behind it
+-- a walk that looks for a tag that stands twice: the tree at i, and those after it
 distinct_rest : (ts : List TagTree) (i : ℕ) (d : TagTree) → i < length ts →
     distinct (leaves_of (shapes (drop i ts)))
     ≡ (distinct (leaves (shape (get_or ts i d)))

@@ -25,7 +25,7 @@ first_in_front q (y ∷ ys) zs here = by_test (q y) (first_in_front q ys zs) her
     by_test true f h = refl
     by_test false f h = ap (λ n. 1 + n) (f h)
 
--- the first place behind a list that has none
+-- the first place after a list that has none
 first_behind : (q : Tag → Bool) (xs ys : List Tag) → list_any q xs ≡ false → length xs + position_or_len q ys ≡ position_or_len q (xs ++ ys)
 first_behind q [] ys none = zero-add (position_or_len q ys)
 first_behind q (x ∷ xs) ys none =
@@ -51,7 +51,7 @@ place_at t ts i p d lt none here e =
     let whole : leaves_of (shapes ts) ≡ xs ++ (ys ++ zs) = leaves_of-split ts i ∙ ap (λ ls. xs ++ ls) (leaves_of-drop ts i d lt) in
     ap (λ n. length xs + n) (e ∙ first_in_front q ys zs here) ∙ first_behind q xs (ys ++ zs) none ∙ sym (ap (position_or_len q) whole)
 
--- a tag that is found in the tree at i, behind n leaves that are others
+-- a tag that is found in the tree at i, after n leaves that are others
 pub found_at : (t : Tag) (ts : List TagTree) (i n p : ℕ) (d : TagTree) → i < length ts →
     (n ≡ length (leaves_of (shapes (take i ts)))) × (has t (leaves_of (shapes (take i ts))) ≡ false) →
     (has t (leaves (shape (get_or ts i d))) ≡ true) × (p ≡ position_or_len (λ s. tag_eq s t) (leaves (shape (get_or ts i d)))) →
@@ -62,7 +62,7 @@ found_at t ts i n p d lt passed found fits =
     let within = place_within (λ s. tag_eq s t) (leaves_of (shapes ts)) in
     (has_at t ts i d lt found.0, omega arith)
 
--- a tree that does not have the tag, behind n leaves that are others
+-- a tree that does not have the tag, after n leaves that are others
 pub passed_at : (t : Tag) (ts : List TagTree) (i n m : ℕ) (d : TagTree) → i < length ts →
     (n ≡ length (leaves_of (shapes (take i ts)))) × (has t (leaves_of (shapes (take i ts))) ≡ false) →
     (has t (leaves (shape (get_or ts i d))) ≡ false) × (m ≡ length (leaves (shape (get_or ts i d)))) →
@@ -74,7 +74,7 @@ passed_at t ts i n m d lt passed absent fits =
     let step = has_more t ts i d lt in
     (omega arith, grind (arith, common_steps, step))
 
--- the leaf behind so many others of the tree at i
+-- the leaf after so many others of the tree at i
 pub leaf_behind_at : (ts : List TagTree) (i k : ℕ) (d : TagTree) (t : Tag) → i < length ts → k < length (leaves (shape (get_or ts i d))) →
     get_or (leaves_of (shapes ts)) (length (leaves_of (shapes (take i ts))) + k) t ≡ get_or (leaves (shape (get_or ts i d))) k t
 leaf_behind_at ts i k d t lt within =
@@ -136,7 +136,7 @@ position_of-unique t ts k apart e =
     before false j f lt here within = f
     before true j f lt here within = absurd (apart j k t lt within (tag_eq-true (get_or ts j t) t f ∙ sym here))
 
--- the tag behind k others stands at k
+-- the tag after k others stands at k
 pub IsTagBehind-is : (ts : List Tag) (k : ℕ) (r : Result Tag ℕ) → IsTagBehind ts k r → result_ok r ≡ slice_get ts k
 IsTagBehind-is ts k (Ok t) h = sym (slice_get-get_or ts k t h.0 ∙ ap Some (sym h.1))
 IsTagBehind-is ts k (Err left) h = sym (slice_get_past ts k (omega arith))

@@ -13,7 +13,7 @@ use Rattle.asn1_tags.specs.OrderLaws.{second_equal, structure_cmp-Equal, structu
 use Rattle.asn1_tags.specs.Trees.{Tree, leaves, shape, shapes}
 use Rattle.asn1_tags.specs.declared.trees.TagTree.{TagTree}
 
--- the first trees, and those behind them
+-- the first trees, and those after them
 pub structures_more : (ts us : List TagTree) (i : ℕ) (d e : TagTree) → i < length ts → i < length us →
     structures_cmp (shapes (drop i ts)) (shapes (drop i us))
     ≡ ordering_then
@@ -54,7 +54,7 @@ structures_differ ts us i d e lt lu same off =
     first_decides order (structures_cmp (shapes (drop (i + 1) ts)) (shapes (drop (i + 1) us))) (λ tied. false≢true (sym off ∙ ap is_eq tied))
     ∙ sym (same ∙ structures_more ts us i d e lt lu)
 
--- a tree that ties leaves it to those behind
+-- a tree that ties leaves it to those after
 pub structures_tie : (ts us : List TagTree) (i : ℕ) (d e : TagTree) → i < length ts → i < length us →
     structures_cmp (shapes ts) (shapes us) ≡ structures_cmp (shapes (drop i ts)) (shapes (drop i us)) →
     is_eq (structure_cmp (shape (get_or ts i d)) (shape (get_or us i e))) ≡ true →

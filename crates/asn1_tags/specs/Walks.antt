@@ -16,7 +16,7 @@ IsFirstPlaceOf t ts r =
     (λ place. (has t ts ≡ true) × (place ≡ position_or_len (λ s. tag_eq s t) ts))
     (λ count. (has t ts ≡ false) × (count ≡ length ts))
 
--- the tag behind so many others, or how many more there would have to be
+-- the tag after so many others, or how many more there would have to be
 abbrev pub IsTagBehind : List Tag → ℕ → Result Tag ℕ → Type 0
 IsTagBehind ts skipped r =
     MatchResult

@@ -35,7 +35,7 @@
 //! Only the constructors of `Variants` and its `try_clone` take memory. Each answers an error only
 //! where the allocator refused.
 //!
-//! For proofs in other crates, `proofs/` has the leaves of trees that stand behind one another
+//! For proofs in other crates, `proofs/` has the leaves of trees that follow one another
 //! (`Leaves`), the laws of the order of tags (`Smallest`), the tests of lists of tags (`Distinct`),
 //! and places among leaves (`Positions`).
 #![tactic(auto)]

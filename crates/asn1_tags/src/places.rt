@@ -34,7 +34,7 @@ pub(crate) fn first_place(nodes: &[TagTree<'_>], tag: &Tag) -> Result<usize, usi
     Err(passed)
 }
 
-// The leaf of the tree behind `skipped` others, or how many more there would have to be.
+// The leaf of the tree after `skipped` others, or how many more there would have to be.
 #[cycle(behind)]
 fn leaf_in(tree: &TagTree<'_>, skipped: usize) -> Result<Tag, usize>
     ensures { IsTagBehind (leaves (shape tree.now)) skipped result }
@@ -48,7 +48,7 @@ fn leaf_in(tree: &TagTree<'_>, skipped: usize) -> Result<Tag, usize>
     }
 }
 
-// The leaf of the trees behind `skipped` others, or how many more there would have to be.
+// The leaf of the trees after `skipped` others, or how many more there would have to be.
 #[cycle(behind)]
 pub(crate) fn leaf_behind(nodes: &[TagTree<'_>], skipped: usize) -> Result<Tag, usize>
     ensures { IsTagBehind (leaves_of (shapes nodes.now)) skipped result }
