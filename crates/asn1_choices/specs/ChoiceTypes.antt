@@ -1,5 +1,5 @@
 -- What a CHOICE means, by its alternatives.
-use Rattle.std.specs.Prelude.{◌≡◌, ◌↔◌, ℕ, ⊤, Bool, List, Some, refl}
+use Rattle.std.specs.Prelude.{◌≡◌, ◌↔◌, ℕ, ⊤, Bool, true, List, Some, refl}
 use Rattle.std.proofs.Common.{ap, sym, subst}
 use Rattle.asn1_tags.specs.declared.tags.Tag.{Tag}
 use Rattle.asn1_tags.specs.Trees.{Trees, choice, none}
@@ -44,15 +44,16 @@ inside_itself name means = choice_by name none ⊤ means (λ _ _. tt)
 abbrev pub itself_under : List ℕ → Tag → ValueMeaning → ValueMeaning
 itself_under name t meaning = record meaning { records = choice_records (first_tag meaning.records) meaning.records unconstrained (Some name) t unconstrained (Some name) }
 
--- The law of a CHOICE type: its meaning is that of its alternatives. Its tags are theirs, and a value is what was chosen;
--- it is well tagged if and only if they have distinct tags and can be chosen; and what a value has, and whether it is valid,
--- the chosen alternative says.
+-- The law of a CHOICE type: its meaning is that of its alternatives. Its tags are theirs, and each value is there, and is
+-- what was chosen; it is well tagged if and only if they have distinct tags and can be chosen; and what a value has, and
+-- whether it is valid, the chosen alternative says.
 pub record AgreesWithChoice {V : Type 0} (alts : Alternatives) (pick : V → OneOf (all_of alts)) (m : Meaning V) : Type 0 where
   pub tag : m.tag ≡ CHOICE
   pub tree : (t : Tag) → m.tree t ≡ choice_tree (choice (trees_of (all_of alts))) t
   pub records : (v : V) (t : Tag) (c : ConstraintSet) (n : Name) →
       m.records v t c n ≡ choice_records (chosen_tag (all_of alts) (pick v)) (chosen_meaning (all_of alts) (pick v)).records m.constraints m.name t c n
   pub single : m.IsSingleRecord
+  pub present : (v : V) → m.is_present v ≡ true
   pub well_tagged : (t : Tag) → m.IsWellTagged t ↔ (HaveDistinctTags (all_of alts) × Each CanBeChosen (all_of alts))
   pub of_type : (v : V) → m.IsOfType v ↔ (chosen_meaning (all_of alts) (pick v)).IsOfType
   pub valid : (takes : List ℕ → Bool) (v : V) → m.IsValid takes v ↔ (chosen_meaning (all_of alts) (pick v)).IsValid takes
@@ -66,6 +67,7 @@ itself_agrees {name = name} agree = record {
   tree = λ _. refl;
   records = λ v t c n. ap (λ m. choice_records (first_tag m.records) m.records unconstrained (Some name) t c n) (agree v);
   single = tt;
+  present = λ _. refl;
   well_tagged = λ _. (λ h. h, λ h. h);
   of_type = λ v. (subst (λ m. m.IsOfType) (agree v), subst (λ m. m.IsOfType) (sym (agree v)));
   valid = λ takes v. (subst (λ m. m.IsValid takes) (agree v), subst (λ m. m.IsValid takes) (sym (agree v)));

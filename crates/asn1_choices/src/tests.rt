@@ -89,6 +89,7 @@ fn tables(rt: HostRuntime) {
     assert_tables::<Corner>(&rt, TagTree::Choice(Corner::variants()), 2, (0, 1), false);
     assert_tables::<Shape>(&rt, TagTree::Choice(Shape::variants()), 3, (0, 2), false);
     assert_tables::<Open>(&rt, TagTree::Choice(Open::variants()), 3, (0, 2), false);
+    assert!(rt; Corner::tag_tree_under(Tag::new_context(1)) == TagTree::Leaf(Tag::new_context(1)));
     assert!(rt; Reply::variance() == 2 && Reply::complete_variance() == 3);
     assert!(rt; Reply::variance_constraint().extensible());
     assert!(rt; Reply::extended_variants().is_some() && Open::extended_variants().is_none());

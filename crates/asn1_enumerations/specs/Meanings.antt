@@ -1,12 +1,41 @@
 -- What an ENUMERATED type means to every codec (X.680, clause 20).
-use Rattle.std.specs.Prelude.{ℕ, Bool, List, Some}
-use Rattle.asn1_model.specs.ConstraintSets.{unconstrained}
+use Rattle.std.specs.Prelude.{◌≡◌, ◌↔◌, ℕ, Bool, true, List, [], ◌∷◌, Some, refl}
+use Rattle.asn1_tags.specs.declared.tags.Tag.{Tag}
+use Rattle.asn1_tags.specs.Trees.{leaf}
+use Rattle.asn1_model.specs.ConstraintSets.{ConstraintSet, unconstrained}
 use Rattle.asn1_model.specs.Kinds.{enumerated_type}
 use Rattle.asn1_model.specs.Meaning.{Meaning}
-use Rattle.asn1_model.specs.Tags.{universal}
+use Rattle.asn1_model.specs.Records.{Name, discriminant, scalar}
+use Rattle.asn1_model.specs.Tags.{IsATag, universal}
 use Rattle.asn1_enumerations.specs.Enumerations.{Enumeration, number_of}
 
 -- an ENUMERATED type by its name, its enumeration, and the equality of its values: each is its number under the tag that
 -- X.680 assigns (8.4, table 1)
 abbrev pub enumeration_type : {V : Type 0} → List ℕ → Enumeration V → (V → V → Bool) → Meaning V
 enumeration_type name e eq = enumerated_type (universal 10) unconstrained (Some name) (number_of eq e)
+
+-- The law of an ENUMERATED type: its meaning is that of its enumeration. A value begins with the tag that the type is
+-- written under, and is one record without constraints, which has its number; the type is well tagged under every tag
+-- there is; and each value is there, has what its type says, and is valid.
+pub record AgreesWithEnumeration {V : Type 0} (eq : V → V → Bool) (enumeration : Enumeration V) (m : Meaning V) : Type 0 where
+  pub tree : (t : Tag) → m.tree t ≡ leaf t
+  pub records : (v : V) (t : Tag) (c : ConstraintSet) (n : Name) →
+      m.records v t c n ≡ scalar t unconstrained n (discriminant (number_of eq enumeration v)) ∷ []
+  pub single : m.IsSingleRecord
+  pub present : (v : V) → m.is_present v ≡ true
+  pub well_tagged : (t : Tag) → m.IsWellTagged t ↔ IsATag t
+  pub of_type : (v : V) → m.IsOfType v
+  pub valid : (takes : List ℕ → Bool) (v : V) → m.IsValid takes v
+
+-- so it is for each `enumeration_type`
+pub enumeration_agrees : {V : Type 0} {name : List ℕ} {enumeration : Enumeration V} {eq : V → V → Bool} →
+    AgreesWithEnumeration eq enumeration (enumeration_type name enumeration eq)
+enumeration_agrees = record {
+  tree = λ _. refl;
+  records = λ v t c n. refl;
+  single = tt;
+  present = λ _. refl;
+  well_tagged = λ _. (λ h. h, λ h. h);
+  of_type = λ _. tt;
+  valid = λ _ _. tt;
+}

@@ -1,6 +1,6 @@
 //! ENUMERATED types as types of ASN.1.
 ghost use Rattle.std.specs.Prelude.{◌≡◌, [], ◌∷◌};
-ghost use Rattle.asn1_enumerations.specs.Enumerations.{number_of};
+ghost use Rattle.asn1_enumerations.specs.Meanings.{AgreesWithEnumeration};
 ghost use Rattle.asn1_model.specs.ConstraintSets.{ConstraintSet, unconstrained};
 ghost use Rattle.asn1_model.specs.Records.{Name, discriminant, scalar};
 ghost use Rattle.asn1_tags.specs.declared.tags.Tag.{Tag};
@@ -8,13 +8,13 @@ ghost use Rattle.asn1_tags.specs.declared.tags.Tag.{Tag};
 use crate::enumerated::Enumerated;
 use asn1_model::AsnType;
 
-/// An ENUMERATED type whose values are their numbers to every codec.
+/// A type that is an ENUMERATED: its meaning is that of its enumeration.
 pub trait EnumeratedType: AsnType + Enumerated {
-    // each value is one record, which has its number
-    ghost written: { (v : Self) (t : Tag) (c : ConstraintSet) (n : Name) → Self.meaning.records v t c n ≡ scalar t unconstrained n (discriminant (number_of Self.eq Self.enumeration v)) ∷ [] };
+    // The law.
+    ghost agrees: { AgreesWithEnumeration Self.eq Self.enumeration Self.meaning };
 }
 
-/// The number that every codec writes for the value, and reads as it.
+/// The number in the records of the value, the same under every tag, constraints and name.
 pub fn written_number<T: EnumeratedType>(value: &T) -> isize
     ensures { (t : Tag) (c : ConstraintSet) (n : Name) → T.meaning.records value.now t c n ≡ scalar t unconstrained n (discriminant result) ∷ [] }
 {

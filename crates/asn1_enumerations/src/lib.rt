@@ -9,7 +9,7 @@
 //! | [`EnumerationItem`], `item!` | a value with its number and its name: a line of a type's table; a macro that writes one |
 //! | [`Enumerated`] | a type with such tables, and all calls on them |
 //! | [`VariantIter`], [`DiscriminantIter`], [`ItemIdentifierIter`] | the values of a table, these with their numbers, and the names |
-//! | [`EnumeratedType`], [`written_number`] | an `Enumerated` type of ASN.1, and the number that every codec writes for a value |
+//! | [`EnumeratedType`], [`written_number`] | an `Enumerated` type of ASN.1 whose meaning is that of its items, and the number in the records of a value |
 //!
 //! What the contracts promise, and the words that they use:
 //!
@@ -22,8 +22,9 @@
 //! - `enumeration_index` is the place of a value in its own table (`root`, `extended`), and `from_enumeration_index` and
 //!   `from_extended_enumeration_index` answer the value at a place.
 //! - The iterators give what the items say, in order.
-//! - `enumeration_type` of `specs/Meanings.antt` is what an ENUMERATED type means: `written_number` ensures that the
-//!   records of a value have the number that `discriminant` answers.
+//! - `specs/Meanings.antt` says what an ENUMERATED type means (`enumeration_type`), and what it is for a type to mean the
+//!   same (`AgreesWithEnumeration`, the law of `EnumeratedType`). `enumeration_agrees` proves the law of each
+//!   `enumeration_type`. `written_number` ensures that the records of a value have the number that `discriminant` answers.
 //!
 //! No call takes memory.
 #![tactic(auto)]

@@ -55,9 +55,9 @@ impl AsnType for Color {
 }
 
 impl EnumeratedType for Color {
-    ghost use Rattle.std.specs.Prelude.{refl};
+    ghost use Rattle.asn1_enumerations.specs.Meanings.{enumeration_agrees};
 
-    ghost written = { λ v t c n. refl };
+    ghost agrees = { enumeration_agrees };
 }
 
 fn assert_color(rt: &impl Abort, color: Color, number: isize, name: &str) {
@@ -91,7 +91,7 @@ fn colors_are_found_by_number_name_and_place(rt: HostRuntime) {
 }
 
 #[test]
-fn colors_are_their_numbers_to_a_codec(rt: HostRuntime) {
+fn records_of_colors_have_their_numbers(rt: HostRuntime) {
     assert!(rt; written_number(&Color::Green) == 1 && written_number(&Color::Blue) == 5);
 }
 

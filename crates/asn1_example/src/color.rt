@@ -1,6 +1,6 @@
 //! `Color ::= ENUMERATED { red(0), green(1), ..., blue(5) }`
 ghost use Rattle.std.specs.Prelude.{[], ◌∷◌, pos, codes, refl};
-ghost use Rattle.asn1_types.specs.Words.{item, by_test, extensible_enumeration, enumeration_type, CanStandInside};
+ghost use Rattle.asn1_types.specs.Words.{item, by_test, extensible_enumeration, enumeration_type, enumeration_agrees, CanStandInside};
 ghost use Rattle.asn1_example.specs.declared.color.Color.TheVariants.{Red, Green, Blue};
 
 use asn1_enumerations::item;
@@ -57,7 +57,7 @@ impl AsnType for Color {
 }
 
 impl EnumeratedType for Color {
-    ghost written = { λ v t c n. refl };
+    ghost agrees = { enumeration_agrees };
 }
 
 /// It can be a component or an alternative of another type.

@@ -9,7 +9,7 @@ use Rattle.asn1_tags.specs.Trees.{Tree, Trees, leaf, choice, leaves}
 use Rattle.asn1_ranges.specs.Members.{IsMember}
 use Rattle.asn1_ranges.specs.declared.bounded.Bounded.{Bounded}
 use Rattle.asn1_model.specs.ConstraintSets.{ConstraintSet, unconstrained, values_of, size_of}
-use Rattle.asn1_model.specs.Records.{Name, Record, name_or, Content, Head, arcs, number, null, units, utf8, scalar, discriminant, holding, sequence, set, sequence_of}
+use Rattle.asn1_model.specs.Records.{Name, Record, name_or, Content, Head, arcs, number, null, units, utf8, scalar, discriminant, holding, sequence_of}
 use Rattle.asn1_model.specs.Tags.{universal, CHOICE, Has, IsATag, head_tag, tree_tags}
 use Rattle.asn1_model.specs.Composites.{option_records, choice_records}
 use Rattle.asn1_model.specs.Meaning.{Meaning, own_records, CanStandInside, CanStandInsideUnder}
@@ -189,13 +189,6 @@ marker_type tag = without_constraints (scalar_type tag unconstrained None (λ _.
 abbrev pub enumerated_type : {V : Type 0} → Tag → ConstraintSet → Name → (V → ℤ) → Meaning V
 enumerated_type tag constraints name number_of =
     without_constraints (scalar_type tag constraints name (λ v. discriminant (number_of v)))
-
--- A SEQUENCE (X.680, 25) or a SET (27), by its tag, constraints and name, and its components.
-abbrev pub sequence_type : {V : Type 0} → Tag → ConstraintSet → Name → Inside V → Meaning V
-sequence_type = scope_type (λ t c n. sequence t n) (λ _ _ _. refl)
-
-abbrev pub set_type : {V : Type 0} → Tag → ConstraintSet → Name → Inside V → Meaning V
-set_type = scope_type (λ t c n. set t n) (λ _ _ _. refl)
 
 -- the tags with which a CHOICE can begin: those of its alternatives where it is untagged, else the tag alone (X.680, 29)
 abbrev pub choice_tree : Tree → Tag → Tree

@@ -1,12 +1,12 @@
 //! What the definitions give for values of a few types, each written out by hand, and the tables of a type of each kind.
 //!
 //! The clauses of the functions without a body are worked examples: the prover computes the definitions on them.
-ghost use Rattle.std.specs.Prelude.{◌≡◌, ◌^◌, ⊤, ℕ, Bool, pos, true, false, List, [], ◌∷◌, ◌++◌, None, Some, codes};
+ghost use Rattle.std.specs.Prelude.{◌≡◌, ◌^◌, ℕ, Bool, pos, true, false, List, [], ◌∷◌, ◌++◌, None, Some, codes};
 ghost use Rattle.std.specs.String.{string_bytes};
 ghost use Rattle.asn1_ranges.specs.declared.bounded.Bounded.TheVariants.{Range};
 ghost use Rattle.asn1_model.specs.Composites.{sequence_records, set_records, default_records, group_records, option_records, choice_records, prefix_records};
 ghost use Rattle.asn1_model.specs.ConstraintSets.{unconstrained, values_of, size_of};
-ghost use Rattle.asn1_model.specs.Kinds.{sequence_type, set_type, enumerated_type};
+ghost use Rattle.asn1_model.specs.Kinds.{enumerated_type};
 ghost use Rattle.asn1_model.specs.Meaning.{own_records};
 ghost use Rattle.asn1_model.specs.Orders.{Same};
 ghost use Rattle.asn1_model.specs.Records.{Record, scalar, raw, mark, holding, sequence, set as set_head, set_of, sequence_of, prefix, alternative, present, absent, group_start, group_absent, group_end, null, number, discriminant, units, utf8, ia5, highest};
@@ -125,15 +125,9 @@ fn choice()
         holding (alternative (universal 5) (size_of 1) (Some (codes "C"))) (scalar (universal 5) unconstrained None null ∷ []) ∷ []) ∷ [] }
 {}
 
-/// The words for types of components, and for enumerations.
-fn kinds()
-    ensures sequence { (rs : List Record) →
-        own_records (sequence_type (universal 16) unconstrained None (record { records = λ v. v; CanStandInside = ⊤; AreOfType = λ _. ⊤; AreValid = λ _ _. ⊤ })) rs ≡
-        sequence_records (universal 16) None rs }
-    ensures set { (rs : List Record) →
-        own_records (set_type (universal 17) unconstrained None (record { records = λ v. v; CanStandInside = ⊤; AreOfType = λ _. ⊤; AreValid = λ _ _. ⊤ })) rs ≡
-        set_records (universal 17) None rs }
-    ensures enumerated { own_records (enumerated_type (universal 10) (size_of 1) (Some (codes "E")) (λ number. number)) (pos 5) ≡
+/// The word for enumerations.
+fn enumerations()
+    ensures { own_records (enumerated_type (universal 10) (size_of 1) (Some (codes "E")) (λ number. number)) (pos 5) ≡
         scalar (universal 10) unconstrained (Some (codes "E")) (discriminant (pos 5)) ∷ [] }
 {}
 

@@ -13,7 +13,7 @@ pub use Rattle.asn1_choices.specs.ChoiceTypes.{choice_of, choice_agrees}
 -- the items of an ENUMERATED type (20)
 pub use Rattle.asn1_enumerations.specs.EnumerationLaws.{by_test}
 pub use Rattle.asn1_enumerations.specs.Enumerations.{item, closed as closed_enumeration, extensible as extensible_enumeration}
-pub use Rattle.asn1_enumerations.specs.Meanings.{enumeration_type}
+pub use Rattle.asn1_enumerations.specs.Meanings.{enumeration_type, enumeration_agrees}
 -- what a type means: that it can be inside others, and the records of a value
 pub use Rattle.asn1_model.specs.Meaning.{CanStandInside, CanStandInsideUnder, own_records}
 pub use Rattle.asn1_model.specs.Records.{holding, scalar, raw, mark, null, truth, number, discriminant, arcs, bits, units, octet, utf8, visible, general, graphic, ia5, printable, numeric, teletex, bmp}
