@@ -1,5 +1,5 @@
 -- The alternatives of a CHOICE, each said once, and what follows from them: the trees, the names, and what each value is.
-use Rattle.std.specs.Prelude.{◌≡◌, ◌⊎◌, ℕ, pos, ◌-ℤ◌, ⊤, Bool, false, List, [], ◌∷◌, ◌++◌, length, map, Option, None, Some, IsTrue}
+use Rattle.std.specs.Prelude.{◌≡◌, ◌↔◌, ◌⊎◌, ℕ, pos, ◌-ℤ◌, ⊤, Bool, false, List, [], ◌∷◌, ◌++◌, length, map, Option, None, Some, IsTrue, refl}
 use Rattle.std.specs.Option.{option_map}
 use Rattle.std.proofs.Common.{inl, inr}
 use Rattle.asn1_ranges.specs.declared.bounded.Bounded.TheVariants.{Range}
@@ -80,6 +80,15 @@ pub record ValueMeaning : Type 1 where
 
 abbrev pub value_meaning : {W : Type 0} → TaggedType W → W → ValueMeaning
 value_meaning type w = record { records = type.records w; IsOfType = type.IsOfType w; IsValid = λ takes. type.IsValid takes w }
+
+-- Two that say the same of a value.
+pub record SaysTheSame (one other : ValueMeaning) : Type 0 where
+  pub records : one.records ≡ other.records
+  pub of_type : one.IsOfType ↔ other.IsOfType
+  pub valid : (takes : List ℕ → Bool) → one.IsValid takes ↔ other.IsValid takes
+
+pub says_itself : {meaning : ValueMeaning} → SaysTheSame meaning meaning
+says_itself = record { records = refl; of_type = (λ h. h, λ h. h); valid = λ _. (λ h. h, λ h. h) }
 
 -- a value of one of these types
 abbrev pub OneOf : List Alternative → Type 0

@@ -9,7 +9,7 @@ use Rattle.asn1_model.specs.Tags.{CHOICE, Has, first_tag, tree_tags}
 use Rattle.asn1_model.specs.Composites.{choice_records}
 use Rattle.asn1_model.specs.Meaning.{Meaning}
 use Rattle.asn1_model.specs.Kinds.{choice_tree, choice_type}
-use Rattle.asn1_choices.specs.Alternatives.{Alternatives, OneOf, Each, CanBeChosen, HaveDistinctTags, ValueMeaning, all_of, trees_of, chosen_meaning}
+use Rattle.asn1_choices.specs.Alternatives.{Alternatives, OneOf, Each, CanBeChosen, HaveDistinctTags, SaysTheSame, ValueMeaning, all_of, says_itself, trees_of, chosen_meaning}
 use Rattle.asn1_choices.specs.ChosenTags.{chosen_tag, chosen_is_among}
 
 -- A CHOICE (X.680, 29) by its name, the trees of its alternatives, whether they can be chosen, and what the chosen one
@@ -27,13 +27,13 @@ choice_by name alternatives CanChoose means is_among = choice_type (Some name) u
 
 module _ {V : Type 0} (name : List ℕ) (alts : Alternatives) (pick : V → OneOf (all_of alts)) where
   -- A CHOICE that holds itself: its author says by recursion on a value what the chosen alternative says of it.
-  abbrev pub choice_holding_itself : (means : V → ValueMeaning) → ((v : V) → means v ≡ chosen_meaning (all_of alts) (pick v)) → Meaning V
+  abbrev pub choice_holding_itself : (means : V → ValueMeaning) → ((v : V) → SaysTheSame (means v) (chosen_meaning (all_of alts) (pick v))) → Meaning V
   choice_holding_itself means agree = choice_by name (trees_of (all_of alts)) (Each CanBeChosen (all_of alts)) means
-      (λ can v. subst (λ m. Has (tree_tags (choice (trees_of (all_of alts)))) (first_tag m.records)) (sym (agree v)) (chosen_is_among (all_of alts) can (pick v)))
+      (λ can v. subst (λ rs. Has (tree_tags (choice (trees_of (all_of alts)))) (first_tag rs)) (sym (agree v).records) (chosen_is_among (all_of alts) can (pick v)))
 
   -- Any other CHOICE of these alternatives, by which of them a value is.
   abbrev pub choice_of : Meaning V
-  choice_of = choice_holding_itself (λ v. chosen_meaning (all_of alts) (pick v)) (λ _. refl)
+  choice_of = choice_holding_itself (λ v. chosen_meaning (all_of alts) (pick v)) (λ _. says_itself)
 
 -- What a CHOICE that holds itself is to its own alternatives, where nothing is asked of it. There it has to be under a tag:
 -- without one it may begin with every tag, and so is no alternative.
@@ -60,19 +60,19 @@ pub record AgreesWithChoice {V : Type 0} (alts : Alternatives) (pick : V → One
 
 -- so for a CHOICE that holds itself
 pub itself_agrees : {V : Type 0} {name : List ℕ} {alts : Alternatives} {pick : V → OneOf (all_of alts)} {means : V → ValueMeaning} →
-    (agree : (v : V) → means v ≡ chosen_meaning (all_of alts) (pick v)) →
+    (agree : (v : V) → SaysTheSame (means v) (chosen_meaning (all_of alts) (pick v))) →
     AgreesWithChoice alts pick (choice_holding_itself name alts pick means agree)
 itself_agrees {name = name} agree = record {
   tag = refl;
   tree = λ _. refl;
-  records = λ v t c n. ap (λ m. choice_records (first_tag m.records) m.records unconstrained (Some name) t c n) (agree v);
+  records = λ v t c n. ap (λ rs. choice_records (first_tag rs) rs unconstrained (Some name) t c n) (agree v).records;
   single = tt;
   present = λ _. refl;
   well_tagged = λ _. (λ h. h, λ h. h);
-  of_type = λ v. (subst (λ m. m.IsOfType) (agree v), subst (λ m. m.IsOfType) (sym (agree v)));
-  valid = λ takes v. (subst (λ m. m.IsValid takes) (agree v), subst (λ m. m.IsValid takes) (sym (agree v)));
+  of_type = λ v. (agree v).of_type;
+  valid = λ takes v. (agree v).valid takes;
 }
 
 -- and for every other
 pub choice_agrees : {V : Type 0} {name : List ℕ} {alts : Alternatives} {pick : V → OneOf (all_of alts)} → AgreesWithChoice alts pick (choice_of name alts pick)
-choice_agrees = itself_agrees (λ _. refl)
+choice_agrees = itself_agrees (λ _. says_itself)

@@ -41,6 +41,7 @@
 #![tactic(auto, using(asn1_tags::proofs::Leaves::tree_shapes))]
 
 mod any;
+pub mod examples;
 mod explicit;
 mod implicit;
 mod instance_of;
