@@ -1,5 +1,6 @@
 -- The three kinds of constraint that a set can hold: of values, of sizes and of permitted alphabets.
-use Rattle.std.specs.Prelude.{ℕ, ℤ, pos, negsuc, FitsSigned, List, Some, IfSome}
+use Rattle.std.specs.Prelude.{ℕ, ℤ, pos, negsuc, FitsSigned, Bool, nat_eq, List, Contains, Some, IfSome}
+use Rattle.std.specs.List.{filter, list_any}
 use Rattle.std.specs.Int.{w128}
 use Rattle.std.specs.Option.{option_map}
 use Rattle.asn1_ranges.specs.declared.bounded.Bounded.{Bounded}
@@ -17,9 +18,21 @@ HasValue bound n = IsMember (λ z. z) bound n
 abbrev pub HasLength : Bounded ℕ → ℕ → Type 0
 HasLength bound n = IsMember pos bound (pos n)
 
--- the characters of a permitted alphabet
+-- the characters of a permitted alphabet, in the order and as often as they were given
 abbrev pub characters : PermittedAlphabet → List ℕ
-characters alphabet = alphabet.0.now
+characters alphabet = alphabet
+
+-- the character is one of the alphabet's
+abbrev pub IsPermitted : PermittedAlphabet → ℕ → Type 0
+IsPermitted alphabet character = Contains (characters alphabet) character
+
+-- the same, as a test
+abbrev pub is_permitted : PermittedAlphabet → ℕ → Bool
+is_permitted alphabet character = list_any (λ c. nat_eq c character) (characters alphabet)
+
+-- the characters of the first alphabet that are in the second too, in the first one's order and as often as they are in it
+abbrev pub common_characters : PermittedAlphabet → PermittedAlphabet → PermittedAlphabet
+common_characters a b = filter (is_permitted b) (characters a)
 
 -- the intersection of two bounds of values; where they have no value in common, a bound without members
 abbrev pub value_intersection : Bounded ℤ → Bounded ℤ → Bounded ℤ

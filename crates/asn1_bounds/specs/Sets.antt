@@ -1,13 +1,12 @@
 -- Constraint sets: what a list of constraints comes to, and what its root admits (X.680, 50).
 use Rattle.std.specs.Prelude.{ℕ, ℤ, ⊤, Bool, true, false, ◌||◌, is_some, List, [], ◌∷◌, Option, None, Some, MatchOption, if◌then◌else◌}
-use Rattle.asn1_bounds.specs.declared.alphabet.PermittedAlphabet.{PermittedAlphabet}
 use Rattle.asn1_bounds.specs.declared.value.Value.{Value}
 use Rattle.asn1_bounds.specs.declared.size.Size.{Size}
 use Rattle.asn1_bounds.specs.declared.extensible.Extensible.{Extensible}
 use Rattle.asn1_bounds.specs.declared.constraint.Constraint.{Constraint}
 use Rattle.asn1_bounds.specs.declared.constraint.Constraint.TheVariants as constraint
 use Rattle.asn1_bounds.specs.declared.constraints.Constraints.{Constraints}
-use Rattle.asn1_bounds.specs.Admitted.{HasValue, HasLength, value_intersection, size_intersection}
+use Rattle.asn1_bounds.specs.Admitted.{HasValue, HasLength, IsPermitted, value_intersection, size_intersection, common_characters}
 
 -- of two value constraints, and of two size constraints: the members of both bounds
 abbrev pub both_values : Value → Value → Value
@@ -15,10 +14,6 @@ both_values a b = record { bound = value_intersection a.bound b.bound }
 
 abbrev pub both_sizes : Size → Size → Size
 both_sizes a b = record { bound = size_intersection a.bound b.bound }
-
--- of two permitted alphabets: the second, which takes the place of the first
-abbrev pub second_alphabet : PermittedAlphabet → PermittedAlphabet → PermittedAlphabet
-second_alphabet a b = b
 
 module _ {T : Type 0} (both : T → T → T) where
   -- two parts of one kind: extensible where both are, with the additions of the first
@@ -39,7 +34,7 @@ abbrev pub set_intersection : Constraints → Constraints → Constraints
 set_intersection a b = record {
   value = parts_intersection both_values a.value b.value;
   size = parts_intersection both_sizes a.size b.size;
-  permitted_alphabet = parts_intersection second_alphabet a.permitted_alphabet b.permitted_alphabet;
+  permitted_alphabet = parts_intersection common_characters a.permitted_alphabet b.permitted_alphabet;
   extensible = a.extensible || b.extensible;
 }
 
@@ -66,6 +61,10 @@ AdmitsValue set n = MatchOption set.value ⊤ (λ part. HasValue part.constraint
 -- the root of the set admits the length: its size part has it as a member, if there is one
 abbrev pub AdmitsLength : Constraints → ℕ → Type 0
 AdmitsLength set n = MatchOption set.size ⊤ (λ part. HasLength part.constraint.bound n)
+
+-- the root of the set admits the character: its permitted alphabet has it, if there is one; so an empty one admits none
+abbrev pub AdmitsCharacter : Constraints → ℕ → Type 0
+AdmitsCharacter set n = MatchOption set.permitted_alphabet ⊤ (λ part. IsPermitted part.constraint n)
 
 -- the part is there, and extensible
 abbrev pub is_part_extensible : {T : Type 0} → Option (Extensible T) → Bool

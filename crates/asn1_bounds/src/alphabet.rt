@@ -1,42 +1,129 @@
 //! Constraints of characters (X.680, 51.7).
-ghost use Rattle.std.specs.Prelude.{◌≡◌};
+ghost use Rattle.std.specs.Prelude.{◌≡◌, ◌↔◌, IsTrue, IfOk, nat_eq, Some, refl};
+ghost use Rattle.std.specs.Ordering.{nat_cmp};
+ghost use Rattle.std.specs.Hash as fed;
+ghost use Rattle.std.specs.Cmp.Lexicographic.{pointwise, slice_cmp, nat_list_eq_equiv, nat_list_cmp_total, texts_ties, texts_po};
+ghost use Rattle.std.specs.Cmp.{partial_equiv_from_equiv};
+ghost use Rattle.std.specs.Cmp.Rules.{hashing};
+ghost use Rattle.std.proofs.Common.{rules};
+
+use std::alloc::{AllocError, Global};
+use std::cmp::Ordering;
+use std::hash::{Hash, Hasher};
+use std::marker::Model;
 
 /// A constraint of the characters of a string to an alphabet (X.680, 51.7), which is given by the characters' codes.
-#[derive(Clone, Copy, Debug, PartialEq, Eq, PartialOrd, Ord, Hash)]
-pub struct PermittedAlphabet<'a>(&'a [u32]);
+///
+/// Contracts see it as the list of its characters. Alphabets are equal if their lists are, and go lexicographically.
+#[derive(Debug, Drop)]
+pub struct PermittedAlphabet {
+    characters: Vec<u32>,
+}
 
-impl<'a> PermittedAlphabet<'a> {
-    ghost use Rattle.asn1_bounds.specs.Admitted.{characters};
+impl Model for PermittedAlphabet {
+    ghost use Rattle.std.specs.Prelude.{ℕ, List};
 
-    /// The constraint to these characters.
-    pub fn new(alphabet: &'a [u32]) -> Self
-        ensures { characters result ≡ alphabet.now }
+    ghost Value = { List ℕ };
+
+    ghost view = { λ alphabet. alphabet.characters.items };
+}
+
+impl PermittedAlphabet {
+    ghost use Rattle.asn1_bounds.specs.Admitted.{IsPermitted, common_characters};
+
+    /// The constraint to these characters. Fails only where the allocator refuses room for them.
+    pub fn new(alloc: Global, alphabet: &[u32]) -> Result<Self, AllocError>
+        ensures { IfOk result (λ permitted. permitted ≡ alphabet.now) }
     {
-        PermittedAlphabet(alphabet)
+        Ok(PermittedAlphabet {
+            characters: Vec::from_slice(alloc, alphabet)?,
+        })
     }
 
-    /// The characters.
-    pub fn as_inner(&self) -> &'a [u32]
-        ensures { result.now ≡ characters self.now }
+    /// The characters, in the order and as often as they were given.
+    pub fn as_inner(&self) -> &[u32]
+        ensures { result.now ≡ self.now }
     {
-        self.0
+        &self.characters
     }
 
-    /// The other alphabet, which takes the place of this one.
-    pub fn intersect(&self, other: &Self) -> Self
-        ensures { result ≡ other.now }
+    /// Whether the character is in the alphabet.
+    pub fn contains(&self, character: u32) -> bool
+        ensures { IsTrue result ↔ IsPermitted self.now character }
     {
-        *other
+        self.characters.contains(&character)
+    }
+
+    /// The same alphabet once more. Fails only where the allocator refuses room for it.
+    pub fn try_clone(&self, alloc: Global) -> Result<Self, AllocError>
+        ensures { IfOk result (λ copy. copy ≡ self.now) }
+    {
+        Self::new(alloc, self.as_inner())
+    }
+
+    /// The constraint to the characters of both: those of this one that are in the other, in this one's order and as
+    /// often as they are in it. Fails only where the allocator refuses room for them.
+    pub fn intersect(&self, alloc: Global, other: &Self) -> Result<Self, AllocError>
+        ensures shape { IfOk result (λ both. both ≡ common_characters self.now other.now) }
+        ensures members { IfOk result (λ both. (character : _) → IsPermitted both character ↔
+            (IsPermitted self.now character × IsPermitted other.now character)) }
+    {
+        let characters = self.characters.iter().copied();
+        Ok(PermittedAlphabet {
+            characters: characters
+                .filter(|character| other.contains(*character))
+                .collect(alloc)?,
+        })
     }
 }
 
-impl Default for PermittedAlphabet<'_> {
-    ghost use Rattle.std.specs.Prelude.{◌≡◌, []};
-    ghost use Rattle.asn1_bounds.specs.Admitted.{characters};
+impl PartialEq for PermittedAlphabet {
+    ghost eq = { pointwise nat_eq };
 
-    ghost is_default = { λ alphabet. characters alphabet ≡ [] };
+    ghost laws = { partial_equiv_from_equiv nat_list_eq_equiv };
 
-    fn default() -> Self {
-        PermittedAlphabet(&[])
+    fn eq(&self, other: &Self) -> bool {
+        self.characters == other.characters
     }
 }
+
+impl Eq for PermittedAlphabet {
+    ghost laws = { nat_list_eq_equiv };
+}
+
+impl PartialOrd for PermittedAlphabet {
+    ghost partial_cmp = { λ a b. Some (slice_cmp nat_cmp a b) };
+
+    ghost laws = { texts_po };
+
+    fn partial_cmp(&self, other: &Self) -> Option<Ordering> {
+        Some(self.cmp(other))
+    }
+}
+
+impl Ord for PermittedAlphabet {
+    ghost cmp = { slice_cmp nat_cmp };
+
+    ghost total = { nat_list_cmp_total };
+
+    ghost matches_partial_cmp = { λ a b. refl };
+
+    ghost matches_eq = { texts_ties };
+
+    fn cmp(&self, other: &Self) -> Ordering {
+        self.characters.cmp(&other.characters)
+    }
+}
+
+impl Hash for PermittedAlphabet {
+    ghost hash_input = { fed.slice fed.u32 };
+
+    ghost respects_eq = { Prim.search (hashing, rules) };
+
+    fn hash<H: Hasher>(&self, state: &mut H) {
+        self.characters.hash(state);
+    }
+}
+
+#[cfg(test)]
+mod tests;

@@ -1,5 +1,5 @@
 //! One constraint.
-ghost use Rattle.std.specs.Prelude.{◌≡◌, ℤ, pos, Bool, IsTrue, Some, None};
+ghost use Rattle.std.specs.Prelude.{◌≡◌, pos, Some, None, IsNone, IsOk, IfOk};
 ghost use Rattle.std.specs.Option.{option_copied};
 ghost use Rattle.asn1_bounds.specs.declared.constraint.Constraint.TheVariants as constraint;
 
@@ -7,16 +7,17 @@ use crate::alphabet::PermittedAlphabet;
 use crate::extensible::Extensible;
 use crate::size::Size;
 use crate::value::Value;
+use std::alloc::{AllocError, Global};
 
 /// One constraint of a type.
-#[derive(Clone, Copy, Debug, Drop, PartialEq)]
+#[derive(Debug, Drop, PartialEq)]
 pub enum Constraint<'a> {
     /// Of the values of an INTEGER.
     Value(Extensible<'a, Value>),
     /// Of the length of a string or a list.
     Size(Extensible<'a, Size>),
     /// Of the characters of a string.
-    PermittedAlphabet(Extensible<'a, PermittedAlphabet<'a>>),
+    PermittedAlphabet(Extensible<'a, PermittedAlphabet>),
     /// The extension marker alone.
     Extensible,
 }
@@ -67,30 +68,45 @@ impl<'a> Constraint<'a> {
     }
 
     /// The part on values, where this is one.
-    pub fn to_value(&self) -> Option<Extensible<'a, Value>>
-        ensures { result ≡ value_of self.now }
+    pub fn to_value(&self) -> Option<&Extensible<'a, Value>>
+        ensures { option_copied result ≡ value_of self.now }
     {
-        self.as_value().copied()
+        self.as_value()
     }
 
     /// The part on lengths, where this is one.
-    pub fn to_size(&self) -> Option<Extensible<'a, Size>>
-        ensures { result ≡ size_of self.now }
+    pub fn to_size(&self) -> Option<&Extensible<'a, Size>>
+        ensures { option_copied result ≡ size_of self.now }
     {
         match self {
-            Constraint::Size(part) => Some(*part),
+            Constraint::Size(part) => Some(part),
             _ => None,
         }
     }
 
     /// The part on characters, where this is one.
-    pub fn as_permitted_alphabet(&self) -> Option<&Extensible<'a, PermittedAlphabet<'a>>>
+    pub fn as_permitted_alphabet(&self) -> Option<&Extensible<'a, PermittedAlphabet>>
         ensures { option_copied result ≡ alphabet_of self.now }
     {
         match self {
             Constraint::PermittedAlphabet(part) => Some(part),
             _ => None,
         }
+    }
+
+    /// The same constraint once more. Fails only where it is of characters and the allocator refuses room for them.
+    pub fn try_clone(&self, alloc: Global) -> Result<Self, AllocError>
+        ensures copy { IfOk result (λ copy. copy ≡ self.now) }
+        ensures without_alphabet { IsNone (alphabet_of self.now) → IsOk result }
+    {
+        Ok(match self {
+            Constraint::Value(part) => Constraint::Value(*part),
+            Constraint::Size(part) => Constraint::Size(*part),
+            Constraint::PermittedAlphabet(part) => {
+                Constraint::PermittedAlphabet(part.try_clone(alloc)?)
+            }
+            Constraint::Extensible => Constraint::Extensible,
+        })
     }
 
     /// Whether the constraint is extensible, as the extension marker is.
@@ -138,18 +154,21 @@ impl<'a> From<Size> for Constraint<'a> {
     }
 }
 
-impl<'a> From<Extensible<'a, PermittedAlphabet<'a>>> for Constraint<'a> {
+impl<'a> From<Extensible<'a, PermittedAlphabet>> for Constraint<'a> {
     ghost from_gives = { λ part result. result ≡ constraint.PermittedAlphabet part };
 
-    fn from(part: Extensible<'a, PermittedAlphabet<'a>>) -> Self {
+    fn from(part: Extensible<'a, PermittedAlphabet>) -> Self {
         Self::PermittedAlphabet(part)
     }
 }
 
-impl<'a> From<PermittedAlphabet<'a>> for Constraint<'a> {
+impl<'a> From<PermittedAlphabet> for Constraint<'a> {
     ghost from_gives = { λ kind result. result ≡ constraint.PermittedAlphabet (record { constraint = kind; extensible = None }) };
 
-    fn from(kind: PermittedAlphabet<'a>) -> Self {
+    fn from(kind: PermittedAlphabet) -> Self {
         Constraint::PermittedAlphabet(Extensible::new(kind))
     }
 }
+
+#[cfg(test)]
+mod tests;

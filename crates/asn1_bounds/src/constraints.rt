@@ -1,30 +1,36 @@
 //! The set of a type's constraints.
-ghost use Rattle.std.specs.Prelude.{◌≡◌, ◌↔◌, ◌++◌, ◌||◌, ℕ, ℤ, All, List};
+ghost use Rattle.std.specs.Prelude.{◌≡◌, ◌↔◌, ◌++◌, ℕ, ℤ, All, List, IsOk, IfOk, IsNone};
 ghost use Rattle.std.specs.Option.{option_copied};
-ghost use Rattle.asn1_bounds.specs.Sets.{parts_intersection};
+ghost use Rattle.asn1_bounds.specs.Admitted.{common_characters};
+ghost use Rattle.asn1_bounds.specs.Sets.{parts_intersection, both_values, both_sizes, is_part_extensible};
 
 use crate::alphabet::PermittedAlphabet;
 use crate::constraint::Constraint;
-use crate::extensible::{Extensible, Intersect};
+use crate::extensible::Extensible;
 use crate::size::Size;
 use crate::value::Value;
+use std::alloc::{AllocError, Global};
 
 /// The constraints of a type: at most one part of each kind, and the extension marker.
-#[derive(Clone, Copy, Debug, Drop)]
+///
+/// A call that makes a set fails only where the allocator refuses room for a permitted alphabet. Where no argument has
+/// one, it takes no memory and succeeds.
+#[derive(Debug, Drop)]
 pub struct Constraints<'a> {
-    /// What the values are restricted to; all where there is no part.
-    pub value: Option<Extensible<'a, Value>>,
-    /// What the lengths are restricted to; all where there is no part.
-    pub size: Option<Extensible<'a, Size>>,
-    /// What the characters are restricted to; all where there is no part.
-    pub permitted_alphabet: Option<Extensible<'a, PermittedAlphabet<'a>>>,
-    /// Whether the extension marker stands among the constraints.
-    pub extensible: bool,
+    // What the values are restricted to; all where there is no part.
+    value: Option<Extensible<'a, Value>>,
+    // What the lengths are restricted to; all where there is no part.
+    size: Option<Extensible<'a, Size>>,
+    // What the characters are restricted to; all where there is no part.
+    permitted_alphabet: Option<Extensible<'a, PermittedAlphabet>>,
+    // Whether the extension marker is among the constraints.
+    extensible: bool,
 }
 
 impl<'a> Constraints<'a> {
     ghost use Rattle.asn1_bounds.specs.declared.constraint.Constraint.{Constraint};
-    ghost use Rattle.asn1_bounds.specs.Sets.{set_intersection, no_constraints, set_of, set_of_all, AdmitsValue, AdmitsLength, is_per_visibly_extensible, is_extensible};
+    ghost use Rattle.asn1_bounds.specs.ConstraintKind.{alphabet_of};
+    ghost use Rattle.asn1_bounds.specs.Sets.{set_intersection, no_constraints, set_of, set_of_all, AdmitsValue, AdmitsLength, AdmitsCharacter, is_per_visibly_extensible, is_extensible};
 
     /// No constraints: every value is admitted.
     pub const NONE: Constraints<'static> = Constraints {
@@ -34,22 +40,28 @@ impl<'a> Constraints<'a> {
         extensible: false,
     };
 
-    /// The set of these constraints. Those on values restrict together, and so do those on lengths; of several permitted
-    /// alphabets the last is kept.
-    pub fn new(constraints: &[Constraint<'a>]) -> Self
-        ensures parts { result ≡ set_of_all constraints.now }
+    /// The set of these constraints. Those on values restrict together, and so do those on lengths and those on
+    /// characters.
+    pub fn new(alloc: Global, constraints: &[Constraint<'a>]) -> Result<Self, AllocError>
+        ensures parts { IfOk result (λ set. set ≡ set_of_all constraints.now) }
 
         // The root admits what the root of every constraint admits.
-        ensures values { (n : ℤ) → AdmitsValue result n ↔
-            All (λ c. AdmitsValue (set_of c) n) constraints.now }
-        ensures lengths { (n : ℕ) → AdmitsLength result n ↔
-            All (λ c. AdmitsLength (set_of c) n) constraints.now }
+        ensures values { IfOk result (λ set. (n : ℤ) → AdmitsValue set n ↔
+            All (λ c. AdmitsValue (set_of c) n) constraints.now) }
+        ensures lengths { IfOk result (λ set. (n : ℕ) → AdmitsLength set n ↔
+            All (λ c. AdmitsLength (set_of c) n) constraints.now) }
+        ensures characters { IfOk result (λ set. (n : ℕ) → AdmitsCharacter set n ↔
+            All (λ c. AdmitsCharacter (set_of c) n) constraints.now) }
+
+        // Memory is for alphabets alone.
+        ensures without_alphabet { All (λ c. IsNone (alphabet_of c)) constraints.now → IsOk result }
     {
         let mut set = Self::NONE;
         for constraint in constraints {
-            set = set.intersect(Self::of(*constraint));
+            let one = Self::of(constraint.try_clone(alloc)?);
+            set = set.intersect(alloc, &one)?;
         }
-        set
+        Ok(set)
     }
 
     // The set of the one constraint.
@@ -76,24 +88,58 @@ impl<'a> Constraints<'a> {
         }
     }
 
-    /// What both sets leave of values and of lengths, with the other's permitted alphabet where it has one.
-    pub fn intersect(&self, other: Self) -> Self
-        ensures parts { result ≡ set_intersection self.now other.entry }
-        ensures values { (n : ℤ) → AdmitsValue result n ↔
-            (AdmitsValue self.now n × AdmitsValue other.entry n) }
-        ensures lengths { (n : ℕ) → AdmitsLength result n ↔
-            (AdmitsLength self.now n × AdmitsLength other.entry n) }
-
-        // The sets of two lists of constraints come to the set of the one list followed by the other.
-        ensures composes { (a b : List Constraint) → self.now ≡ set_of_all a →
-            other.entry ≡ set_of_all b → result ≡ set_of_all (a ++ b) }
+    // The set of these parts.
+    pub(crate) fn of_parts(
+        value: Option<Extensible<'a, Value>>,
+        size: Option<Extensible<'a, Size>>,
+        permitted_alphabet: Option<Extensible<'a, PermittedAlphabet>>,
+        extensible: bool,
+    ) -> Self
+        ensures { result ≡ record { value = value.entry; size = size.entry;
+            permitted_alphabet = permitted_alphabet.entry; extensible = extensible } }
     {
         Constraints {
-            value: intersect_parts(self.value, other.value),
-            size: intersect_parts(self.size, other.size),
-            permitted_alphabet: intersect_parts(self.permitted_alphabet, other.permitted_alphabet),
-            extensible: self.extensible || other.extensible,
+            value,
+            size,
+            permitted_alphabet,
+            extensible,
         }
+    }
+
+    /// What both sets leave of values, of lengths and of characters.
+    pub fn intersect(&self, alloc: Global, other: &Self) -> Result<Self, AllocError>
+        ensures parts { IfOk result (λ set. set ≡ set_intersection self.now other.now) }
+        ensures values { IfOk result (λ set. (n : ℤ) → AdmitsValue set n ↔
+            (AdmitsValue self.now n × AdmitsValue other.now n)) }
+        ensures lengths { IfOk result (λ set. (n : ℕ) → AdmitsLength set n ↔
+            (AdmitsLength self.now n × AdmitsLength other.now n)) }
+        ensures characters { IfOk result (λ set. (n : ℕ) → AdmitsCharacter set n ↔
+            (AdmitsCharacter self.now n × AdmitsCharacter other.now n)) }
+
+        // The sets of two lists of constraints come to the set of the one list followed by the other.
+        ensures composes { IfOk result (λ set. (a b : List Constraint) → self.now ≡ set_of_all a →
+            other.now ≡ set_of_all b → set ≡ set_of_all (a ++ b)) }
+
+        // Memory is for alphabets alone.
+        ensures without_alphabet { IsNone self.now.permitted_alphabet →
+            IsNone other.now.permitted_alphabet → IsOk result }
+    {
+        let permitted_alphabet =
+            intersect_alphabets(alloc, &self.permitted_alphabet, &other.permitted_alphabet)?;
+        Ok(Constraints {
+            value: intersect_values(self.value, other.value),
+            size: intersect_sizes(self.size, other.size),
+            permitted_alphabet,
+            extensible: self.extensible || other.extensible,
+        })
+    }
+
+    /// The same set once more.
+    pub fn try_clone(&self, alloc: Global) -> Result<Self, AllocError>
+        ensures copy { IfOk result (λ copy. copy ≡ self.now) }
+        ensures without_alphabet { IsNone self.now.permitted_alphabet → IsOk result }
+    {
+        self.intersect(alloc, &Self::NONE)
     }
 
     /// What the lengths are restricted to.
@@ -111,20 +157,17 @@ impl<'a> Constraints<'a> {
     }
 
     /// What the characters are restricted to.
-    pub fn permitted_alphabet(&self) -> Option<&Extensible<'a, PermittedAlphabet<'a>>>
+    pub fn permitted_alphabet(&self) -> Option<&Extensible<'a, PermittedAlphabet>>
         ensures { option_copied result ≡ self.now.permitted_alphabet }
     {
         self.permitted_alphabet.as_ref()
     }
 
-    /// Whether the extension marker stands among the constraints or any part is extensible.
+    /// Whether the extension marker is among the constraints or any part is extensible.
     pub fn extensible(&self) -> bool
         ensures { result ≡ is_extensible self.now }
     {
-        self.per_visibly_extensible()
-            || self
-                .permitted_alphabet
-                .is_some_and(|part| part.extensible.is_some())
+        self.per_visibly_extensible() || is_extensible(&self.permitted_alphabet)
     }
 
     /// Whether the set is extensible but for its permitted alphabet, whose extensibility the packed encoding rules
@@ -132,22 +175,56 @@ impl<'a> Constraints<'a> {
     pub fn per_visibly_extensible(&self) -> bool
         ensures { result ≡ is_per_visibly_extensible self.now }
     {
-        self.extensible
-            || self.value.is_some_and(|part| part.extensible.is_some())
-            || self.size.is_some_and(|part| part.extensible.is_some())
+        self.extensible || is_extensible(&self.value) || is_extensible(&self.size)
     }
 }
 
-// What two parts of one kind leave, either of which may be missing.
-fn intersect_parts<'a, T: Intersect>(
-    a: Option<Extensible<'a, T>>,
-    b: Option<Extensible<'a, T>>,
-) -> Option<Extensible<'a, T>>
-    ensures { result ≡ parts_intersection T.intersection a.entry b.entry }
+// Whether there is a part, and it is extensible.
+fn is_extensible<T>(part: &Option<Extensible<'_, T>>) -> bool
+    ensures { result ≡ is_part_extensible part.now }
+{
+    part.as_ref().is_some_and(|part| part.extensible.is_some())
+}
+
+// What two parts on values leave, either of which may be missing.
+fn intersect_values<'a>(
+    a: Option<Extensible<'a, Value>>,
+    b: Option<Extensible<'a, Value>>,
+) -> Option<Extensible<'a, Value>>
+    ensures { result ≡ parts_intersection both_values a.entry b.entry }
 {
     match (a, b) {
         (Some(a), Some(b)) => Some(a.intersect(&b)),
         (a, b) => a.or(b),
+    }
+}
+
+// What two parts on lengths leave, either of which may be missing.
+fn intersect_sizes<'a>(
+    a: Option<Extensible<'a, Size>>,
+    b: Option<Extensible<'a, Size>>,
+) -> Option<Extensible<'a, Size>>
+    ensures { result ≡ parts_intersection both_sizes a.entry b.entry }
+{
+    match (a, b) {
+        (Some(a), Some(b)) => Some(a.intersect(&b)),
+        (a, b) => a.or(b),
+    }
+}
+
+// What two parts on characters leave, either of which may be missing.
+fn intersect_alphabets<'a>(
+    alloc: Global,
+    a: &Option<Extensible<'a, PermittedAlphabet>>,
+    b: &Option<Extensible<'a, PermittedAlphabet>>,
+) -> Result<Option<Extensible<'a, PermittedAlphabet>>, AllocError>
+    ensures part { IfOk result (λ both. both ≡ parts_intersection common_characters a.now b.now) }
+    ensures without_alphabet { IsNone a.now → IsNone b.now → IsOk result }
+{
+    match (a, b) {
+        (Some(a), Some(b)) => Ok(Some(a.intersect(alloc, b)?)),
+        (Some(part), None) | (None, Some(part)) => Ok(Some(part.try_clone(alloc)?)),
+        (None, None) => Ok(None),
     }
 }
 

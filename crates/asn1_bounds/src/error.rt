@@ -1,4 +1,5 @@
 //! The errors of this crate.
+use std::alloc::AllocError;
 use thiserror::Error;
 
 /// A bound of lengths has an end that no value constraint can hold, being above the greatest `i128`.
@@ -7,7 +8,7 @@ use thiserror::Error;
 pub struct TooWide;
 
 /// Why an inner type constraint (X.680, 51.8) refuses a value, with the name of the component at fault.
-#[derive(Debug, Drop, PartialEq, Eq, Error)]
+#[derive(Clone, Copy, Debug, Drop, PartialEq, Eq, Error)]
 pub enum InnerSubtypeConstraintError {
     /// A component that must be there is not.
     #[error("missing {0}")]
@@ -24,6 +25,17 @@ pub enum InnerSubtypeConstraintError {
     /// There was no memory to find out.
     #[error("no memory")]
     Memory,
+}
+
+impl From<AllocError> for InnerSubtypeConstraintError {
+    ghost use Rattle.std.specs.Prelude.{◌≡◌};
+    ghost use Rattle.asn1_bounds.specs.declared.error.InnerSubtypeConstraintError.TheVariants.{Memory};
+
+    ghost from_gives = { λ _ error. error ≡ Memory };
+
+    fn from(_error: AllocError) -> Self {
+        InnerSubtypeConstraintError::Memory
+    }
 }
 
 #[cfg(test)]

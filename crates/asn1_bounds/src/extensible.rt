@@ -1,10 +1,11 @@
 //! A constraint with the additions of later versions.
-ghost use Rattle.std.specs.Prelude.{◌≡◌, [], None, Some, IsSomeAnd};
+ghost use Rattle.std.specs.Prelude.{◌≡◌, [], None, Some, IsSomeAnd, IfOk};
 ghost use Rattle.std.specs.Bool.{OnTrue, OnFalse};
 
 use crate::alphabet::PermittedAlphabet;
 use crate::size::Size;
 use crate::value::Value;
+use std::alloc::{AllocError, Global};
 
 /// A constraint, and whether it is extensible: then the constraints that later versions added stand beside it.
 ///
@@ -15,46 +16,6 @@ pub struct Extensible<'a, T> {
     pub constraint: T,
     /// The additions of an extensible constraint; `None` where it is not extensible.
     pub extensible: Option<&'a [T]>,
-}
-
-/// A kind of constraint, of which one can stand for two.
-pub trait Intersect: Copy {
-    // The constraint that stands for both.
-    ghost intersection: { Self → Self → Self };
-
-    /// The constraint that stands for both: for values and lengths what both leave, for permitted alphabets the other.
-    fn intersect(&self, other: &Self) -> Self
-        ensures { result ≡ intersection self.now other.now };
-}
-
-impl Intersect for Value {
-    ghost use Rattle.asn1_bounds.specs.Sets.{both_values};
-
-    ghost intersection = { both_values };
-
-    fn intersect(&self, other: &Self) -> Self {
-        Value::intersect(self, other)
-    }
-}
-
-impl Intersect for Size {
-    ghost use Rattle.asn1_bounds.specs.Sets.{both_sizes};
-
-    ghost intersection = { both_sizes };
-
-    fn intersect(&self, other: &Self) -> Self {
-        Size::intersect(self, other)
-    }
-}
-
-impl Intersect for PermittedAlphabet<'_> {
-    ghost use Rattle.asn1_bounds.specs.Sets.{second_alphabet};
-
-    ghost intersection = { second_alphabet };
-
-    fn intersect(&self, other: &Self) -> Self {
-        PermittedAlphabet::intersect(self, other)
-    }
 }
 
 impl<'a, T> Extensible<'a, T> {
@@ -96,17 +57,58 @@ impl<'a, T> Extensible<'a, T> {
     }
 }
 
-impl<T: Intersect> Extensible<'_, T> {
-    ghost use Rattle.asn1_bounds.specs.Sets.{part_intersection};
+impl Extensible<'_, Value> {
+    ghost use Rattle.asn1_bounds.specs.Sets.{part_intersection, both_values};
 
     /// What both constraints leave: extensible only where both are, with the additions of this one.
     pub fn intersect(&self, other: &Self) -> Self
-        ensures { result ≡ part_intersection T.intersection self.now other.now }
+        ensures { result ≡ part_intersection both_values self.now other.now }
     {
         Extensible {
             constraint: self.constraint.intersect(&other.constraint),
             extensible: other.extensible.and(self.extensible),
         }
+    }
+}
+
+impl Extensible<'_, Size> {
+    ghost use Rattle.asn1_bounds.specs.Sets.{part_intersection, both_sizes};
+
+    /// What both constraints leave: extensible only where both are, with the additions of this one.
+    pub fn intersect(&self, other: &Self) -> Self
+        ensures { result ≡ part_intersection both_sizes self.now other.now }
+    {
+        Extensible {
+            constraint: self.constraint.intersect(&other.constraint),
+            extensible: other.extensible.and(self.extensible),
+        }
+    }
+}
+
+impl Extensible<'_, PermittedAlphabet> {
+    ghost use Rattle.asn1_bounds.specs.Admitted.{common_characters};
+    ghost use Rattle.asn1_bounds.specs.Sets.{part_intersection};
+
+    /// What both constraints leave: extensible only where both are, with the additions of this one. Fails only where
+    /// the allocator refuses room for the characters.
+    pub fn intersect(&self, alloc: Global, other: &Self) -> Result<Self, AllocError>
+        ensures { IfOk result (λ both. both ≡ part_intersection common_characters self.now other.now) }
+    {
+        Ok(Extensible {
+            constraint: self.constraint.intersect(alloc, &other.constraint)?,
+            extensible: other.extensible.and(self.extensible),
+        })
+    }
+
+    /// The same constraint once more, with the same additions. Fails only where the allocator refuses room for the
+    /// characters.
+    pub fn try_clone(&self, alloc: Global) -> Result<Self, AllocError>
+        ensures { IfOk result (λ copy. copy ≡ self.now) }
+    {
+        Ok(Extensible {
+            constraint: self.constraint.try_clone(alloc)?,
+            extensible: self.extensible,
+        })
     }
 }
 
@@ -117,3 +119,6 @@ impl<T> From<T> for Extensible<'_, T> {
         Extensible::new(constraint)
     }
 }
+
+#[cfg(test)]
+mod tests;

@@ -34,9 +34,10 @@ pub use codec::Codec;
 pub use constraint::{Constraint, ConstraintDiscriminant};
 pub use constraints::Constraints;
 pub use error::{InnerSubtypeConstraintError, TooWide};
-pub use extensible::{Extensible, Intersect};
+pub use extensible::Extensible;
 pub use inner_subtype::InnerSubtypeConstraint;
 pub use size::Size;
+pub use table::ConstraintTable;
 pub use value::Value;
 
 mod alphabet;
@@ -47,4 +48,5 @@ mod error;
 mod extensible;
 mod inner_subtype;
 mod size;
+mod table;
 mod value;
