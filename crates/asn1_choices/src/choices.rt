@@ -1,5 +1,5 @@
 //! CHOICE types.
-ghost use Rattle.std.specs.Prelude.{◌≡◌, length, map};
+ghost use Rattle.std.specs.Prelude.{◌≡◌, length, map, IfOk, IsOk};
 ghost use Rattle.std.specs.Option.{option_copied, option_map};
 ghost use Rattle.asn1_model.specs.ConstraintSets.{constraint_set};
 ghost use Rattle.asn1_tags.specs.Trees.{shapes};
@@ -8,9 +8,10 @@ ghost use Rattle.asn1_choices.specs.Alternatives.{Alternatives, OneOf, root_of, 
 ghost use Rattle.asn1_choices.specs.ChosenTags.{TagTellsAlternative};
 ghost use Rattle.asn1_choices.specs.ChoiceTypes.{AgreesWithChoice};
 
-use asn1_bounds::{Bounded, Constraints, Extensible, Value};
+use asn1_bounds::{Bounded, ConstraintTable, Constraints, Extensible, Value};
 use asn1_model::AsnType;
 use asn1_tags::TagTree;
+use std::alloc::{AllocError, Global};
 
 /// A CHOICE type (X.680, 29): its alternatives, and which of them a value is.
 pub trait Choice {
@@ -48,16 +49,16 @@ pub trait Choice {
     }
 
     /// The constraint of the alternative's place: from 0 to one less than the root has alternatives, and extensible where
-    /// there is an extension marker.
-    final fn variance_constraint() -> Constraints<'static>
-        ensures { constraint_set result ≡ variance_of alternatives }
+    /// there is an extension marker. It has no permitted alphabet, so it takes no memory and is not refused.
+    final fn variance_constraint(alloc: Global) -> Result<Constraints<'static>, AllocError>
+        ensures set { IfOk result (λ set. constraint_set set ≡ variance_of alternatives) }
+        ensures succeeds { IsOk result }
     {
         let places = Value::new(Bounded::const_new(0, Self::variance() as i128 - 1));
         let is_extensible = Self::extended_variants().is_some();
-        Constraints {
-            value: Some(Extensible::new(places).set_extensible(is_extensible)),
-            ..Constraints::NONE
-        }
+        ConstraintTable::NONE
+            .with_value(Extensible::new(places).set_extensible(is_extensible))
+            .to_constraints(alloc)
     }
 }
 

@@ -70,7 +70,7 @@ fn values_of_types()
 
 /// Asserts what the tables of a CHOICE say: its tree, the number of its alternatives, and the constraint of their places.
 fn assert_tables<T: AsnType + Choice>(
-    rt: &impl Abort,
+    rt: &(impl Abort + AllocGlobal),
     tree: TagTree<'static>,
     names: usize,
     places: (i128, i128),
@@ -78,7 +78,7 @@ fn assert_tables<T: AsnType + Choice>(
 ) {
     assert!(rt; T::tag_tree() == tree && T::is_choice() && T::tag() == Tag::CHOICE);
     assert!(rt; T::identifiers().len() == names && T::complete_variance() == names);
-    let constraint = T::variance_constraint();
+    let constraint = T::variance_constraint(rt.alloc()).expect(rt, "memory");
     let bound = constraint.value().map(|part| part.constraint.bound);
     assert!(rt; bound == Some(Bounded::const_new(places.0, places.1)));
     assert!(rt; constraint.extensible() == extensible);
@@ -91,6 +91,7 @@ fn tables(rt: HostRuntime) {
     assert_tables::<Open>(&rt, TagTree::Choice(Open::variants()), 3, (0, 2), false);
     assert!(rt; Corner::tag_tree_under(Tag::new_context(1)) == TagTree::Leaf(Tag::new_context(1)));
     assert!(rt; Reply::variance() == 2 && Reply::complete_variance() == 3);
-    assert!(rt; Reply::variance_constraint().extensible());
+    let constraint = Reply::variance_constraint(rt.alloc());
+    assert!(rt; constraint.expect(&rt, "memory").extensible());
     assert!(rt; Reply::extended_variants().is_some() && Open::extended_variants().is_none());
 }

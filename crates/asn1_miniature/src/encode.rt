@@ -34,7 +34,8 @@ pub trait Encode: AsnType {
     ) -> Result<(), EncodeError>
         ensures { Writes E.codec encoder.old (Self.meaning.records self.now tag Self.meaning.constraints Self.meaning.name) (Self.meaning.IsOfType self.now) encoder.new result }
     {
-        self.encode_with_tag_and_constraints(encoder, tag, &Self::constraints(), Self::identifier())
+        let constraints = Self::constraints(encoder.global())?;
+        self.encode_with_tag_and_constraints(encoder, tag, &constraints, Self::identifier())
     }
 
     /// Writes the value.

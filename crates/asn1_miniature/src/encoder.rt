@@ -18,6 +18,7 @@ use asn1_bounds::Constraints;
 use asn1_components::ConstructedType;
 use asn1_model::AsnType;
 use asn1_tags::{Identifier, Tag};
+use std::alloc::Global;
 
 /// A codec that writes records: by few calls of its own, on which those for whole types rest.
 ///
@@ -25,6 +26,9 @@ use asn1_tags::{Identifier, Tag};
 /// below 256. An error is [`EncodeError::Rejected`] only where the codec does not take the records. Opening a group and
 /// closing never reject.
 pub trait Encoder {
+    /// The allocator, with which a type makes its constraints.
+    fn global(&self) -> Global;
+
     // What it has written, and which records it does not take.
     ghost codec: { Codec Self };
 
@@ -163,7 +167,8 @@ pub trait Encoder {
         if is_default {
             self.mark_absent(tag)
         } else {
-            self.encode_some(tag, &T::constraints(), value, T::identifier())
+            let constraints = T::constraints(self.global())?;
+            self.encode_some(tag, &constraints, value, T::identifier())
         }
     }
 

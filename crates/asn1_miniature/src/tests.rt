@@ -17,6 +17,7 @@ use asn1_bounds::Constraints;
 use asn1_components::FieldTable;
 use asn1_model::AsnType;
 use asn1_tags::{Identifier, Tag};
+use std::alloc::Global;
 use std::process::Abort;
 
 /// `Profile { nick: None, level: 7, loud: false, reach: None }`.
@@ -62,7 +63,7 @@ fn parent_and_child(parent: &Node, child: &Node, label: &String)
         holding (sequence_of (universal 16) unconstrained (Some (codes "SEQUENCE_OF"))) [] ∷ []) ∷ []) ∷ []) ∷ [] }
 {}
 
-/// A codec that counts what it is given, and keeps nothing.
+/// What a codec has counted that keeps nothing of what it is given.
 #[derive(Clone, Copy, Debug, PartialEq)]
 struct Tally {
     contents: u32,
@@ -92,7 +93,18 @@ impl Tally {
     }
 }
 
-impl Encoder for Tally {
+/// The codec that counts.
+#[derive(Drop)]
+struct Counter {
+    tally: Tally,
+    alloc: Global,
+}
+
+impl Encoder for Counter {
+    fn global(&self) -> Global {
+        self.alloc
+    }
+
     ghost codec = { record { wrote = λ _ _. ⊤; rejects = λ _. ⊥ } };
 
     fn encode_bool(
@@ -101,7 +113,7 @@ impl Encoder for Tally {
         _value: bool,
         _name: Identifier,
     ) -> Result<(), EncodeError> {
-        self.count_content();
+        self.tally.count_content();
         Ok(())
     }
 
@@ -112,7 +124,7 @@ impl Encoder for Tally {
         _value: u8,
         _name: Identifier,
     ) -> Result<(), EncodeError> {
-        self.count_content();
+        self.tally.count_content();
         Ok(())
     }
 
@@ -123,27 +135,27 @@ impl Encoder for Tally {
         _value: &str,
         _name: Identifier,
     ) -> Result<(), EncodeError> {
-        self.count_content();
+        self.tally.count_content();
         Ok(())
     }
 
     fn mark_present(&mut self, _tag: Tag) -> Result<(), EncodeError> {
-        self.count_mark();
+        self.tally.count_mark();
         Ok(())
     }
 
     fn mark_absent(&mut self, _tag: Tag) -> Result<(), EncodeError> {
-        self.count_mark();
+        self.tally.count_mark();
         Ok(())
     }
 
     fn mark_group_absent(&mut self) -> Result<(), EncodeError> {
-        self.count_mark();
+        self.tally.count_mark();
         Ok(())
     }
 
     fn open_sequence(&mut self, _tag: Tag, _name: Identifier) -> Result<(), EncodeError> {
-        self.count_scope();
+        self.tally.count_scope();
         Ok(())
     }
 
@@ -153,12 +165,12 @@ impl Encoder for Tally {
         _constraints: &Constraints<'_>,
         _name: Identifier,
     ) -> Result<(), EncodeError> {
-        self.count_scope();
+        self.tally.count_scope();
         Ok(())
     }
 
     fn open_explicit_prefix(&mut self, _tag: Tag, _name: Identifier) -> Result<(), EncodeError> {
-        self.count_scope();
+        self.tally.count_scope();
         Ok(())
     }
 
@@ -167,12 +179,12 @@ impl Encoder for Tally {
     }
 
     fn open_group(&mut self) -> Result<(), EncodeError> {
-        self.count_mark();
+        self.tally.count_mark();
         Ok(())
     }
 
     fn close_group(&mut self) -> Result<(), EncodeError> {
-        self.count_mark();
+        self.tally.count_mark();
         Ok(())
     }
 
@@ -180,15 +192,18 @@ impl Encoder for Tally {
 }
 
 /// Asserts how many contents, presence marks and scopes a value has.
-fn assert_tally<T: Encode>(rt: &impl Abort, value: &T, contents: u32, marks: u32, scopes: u32) {
-    let mut tally = Tally::new();
-    assert!(rt; value.encode(&mut tally).is_ok());
+fn assert_tally<T: Encode>(rt: &(impl Abort + AllocGlobal), value: &T, contents: u32, marks: u32, scopes: u32) {
+    let mut counter = Counter {
+        tally: Tally::new(),
+        alloc: rt.alloc(),
+    };
+    assert!(rt; value.encode(&mut counter).is_ok());
     let wanted = Tally {
         contents,
         marks,
         scopes,
     };
-    assert!(rt; tally == wanted);
+    assert!(rt; counter.tally == wanted);
 }
 
 #[test]

@@ -1,14 +1,14 @@
 -- Constraint sets, apart from where their lists lie in memory.
-use Rattle.std.specs.Prelude.{ℕ, ℤ, Bool, false, List, map, Option, None, Some}
+use Rattle.std.specs.Prelude.{ℕ, ℤ, Bool, false, List, Option, None, Some}
 use Rattle.std.specs.Option.{option_map, option_copied}
 use Rattle.asn1_ranges.specs.declared.bounded.Bounded.{Bounded}
 use Rattle.asn1_ranges.specs.declared.bounded.Bounded.TheVariants as bounded
 use Rattle.asn1_bounds.specs.declared.value.Value.{Value}
 use Rattle.asn1_bounds.specs.declared.size.Size.{Size}
-use Rattle.asn1_bounds.specs.declared.alphabet.PermittedAlphabet.{PermittedAlphabet}
 use Rattle.asn1_bounds.specs.declared.extensible.Extensible.{Extensible}
 use Rattle.asn1_bounds.specs.declared.constraints.Constraints.{Constraints}
-use Rattle.asn1_bounds.specs.Admitted.{characters}
+use Rattle.asn1_bounds.specs.declared.table.ConstraintTable.{ConstraintTable}
+use Rattle.asn1_bounds.specs.Tables.{owned}
 
 -- One kind of constraint: what the extension root allows, and the additions of an extensible one (X.680, 50.1).
 pub record Part (T : Type 0) : Type 0 where
@@ -26,18 +26,18 @@ pub record ConstraintSet : Type 0 where
 abbrev pub part : {T : Type 0} → Extensible T → Part T
 part e = record { root = e.constraint; additions = option_copied e.extensible }
 
--- the same of an alphabet, whose characters lie in memory themselves
-abbrev pub alphabet_part : Extensible PermittedAlphabet → Part (List ℕ)
-alphabet_part e = record { root = characters e.constraint; additions = option_map (λ alphabets. map characters alphabets) (option_copied e.extensible) }
-
 -- what a constraint set is, apart from where its lists lie in memory
 abbrev pub constraint_set : Constraints → ConstraintSet
 constraint_set set = record {
   value = option_map part set.value;
   size = option_map part set.size;
-  permitted_alphabet = option_map alphabet_part set.permitted_alphabet;
+  permitted_alphabet = option_map part set.permitted_alphabet;
   extensible = set.extensible;
 }
+
+-- the same of a set that borrows all that it has
+abbrev pub table_constraints : ConstraintTable → ConstraintSet
+table_constraints table = constraint_set (owned table)
 
 -- no constraints
 abbrev pub unconstrained : ConstraintSet

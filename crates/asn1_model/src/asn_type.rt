@@ -1,15 +1,16 @@
 //! The tables of a type, and what its values mean.
-ghost use Rattle.std.specs.Prelude.{◌≡◌};
+ghost use Rattle.std.specs.Prelude.{◌≡◌, IfOk, IsNone, IsOk};
 ghost use Rattle.asn1_tags.specs.declared.tags.Tag.{Tag};
 ghost use Rattle.asn1_tags.specs.Names.{name_of};
 ghost use Rattle.asn1_tags.specs.Trees.{shape};
-ghost use Rattle.asn1_model.specs.ConstraintSets.{constraint_set};
+ghost use Rattle.asn1_model.specs.ConstraintSets.{constraint_set, table_constraints};
 ghost use Rattle.asn1_model.specs.Meaning.{Meaning};
 ghost use Rattle.asn1_model.specs.TypeTables.{tree_under, is_of_choice};
 
 use crate::type_table::TypeTable;
 use asn1_bounds::Constraints;
 use asn1_tags::{Identifier, Tag, TagTree};
+use std::alloc::{AllocError, Global};
 
 /// A type of ASN.1: what a schema says of it, and what its values mean.
 ///
@@ -26,7 +27,7 @@ pub trait AsnType {
         ensures tree { (tag : Tag) → tree_under result.tree tag ≡ meaning.tree tag }
         ensures choice { is_of_choice result.tree ≡ meaning.is_choice }
         ensures identifier { name_of result.identifier ≡ meaning.name }
-        ensures constraints { constraint_set result.constraints ≡ meaning.constraints };
+        ensures constraints { table_constraints result.constraints ≡ meaning.constraints };
 
     /// Whether the value is there, as each is but an option without one.
     fn is_present(&self) -> bool
@@ -68,10 +69,12 @@ pub trait AsnType {
         Self::table().identifier
     }
 
-    /// The type's constraints.
-    final fn constraints() -> Constraints<'static>
-        ensures { constraint_set result ≡ meaning.constraints }
+    /// The type's constraints. Takes memory only where a permitted alphabet is among them, and fails only where the
+    /// allocator refuses it.
+    final fn constraints(alloc: Global) -> Result<Constraints<'static>, AllocError>
+        ensures set { IfOk result (λ set. constraint_set set ≡ meaning.constraints) }
+        ensures without_alphabet { IsNone meaning.constraints.permitted_alphabet → IsOk result }
     {
-        Self::table().constraints
+        Self::table().constraints.to_constraints(alloc)
     }
 }

@@ -47,6 +47,9 @@ mod tests;
 mod type_table;
 
 pub use asn_type::AsnType;
+pub use impls::built_in_integers::built_in_integers_are_numbers_of_their_widths;
 pub use orders::order_inside_sets_is_not_seen;
-pub use strings::StringType;
+pub use strings::{
+    StringType, strings_have_the_records_of_their_kinds, strings_have_the_units_of_their_kinds,
+};
 pub use type_table::{TreeForm, TypeTable};

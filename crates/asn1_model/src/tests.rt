@@ -194,14 +194,15 @@ fn firsts()
 
 /// Asserts what the tables of a type say: its tag, its name, and the text of its constraints.
 fn assert_tables<T: AsnType>(
-    rt: &impl Abort,
+    rt: &(impl Abort + AllocGlobal),
     tag: Tag,
     name: Option<&str>,
     value: Option<(i128, i128)>,
 ) {
     assert!(rt; T::tag() == tag && T::identifier().0 == name && !T::is_choice());
     assert!(rt; T::tag_tree().smallest_tag() == tag);
-    let bound = T::constraints().value().map(|part| part.constraint.bound);
+    let constraints = T::constraints(rt.alloc()).expect(rt, "memory");
+    let bound = constraints.value().map(|part| part.constraint.bound);
     assert!(rt; bound == value.map(|(start, end)| Bounded::const_new(start, end)));
 }
 
@@ -218,9 +219,8 @@ fn tables_of_numbers(rt: HostRuntime) {
     );
     assert_tables::<Integer>(&rt, Tag::INTEGER, Some("INTEGER"), None);
     assert_tables::<ConstrainedInteger<1, 10>>(&rt, Tag::INTEGER, Some("INTEGER"), Some((1, 10)));
-    let whole = u128::constraints()
-        .value()
-        .map(|part| part.constraint.bound);
+    let constraints = u128::constraints(rt.alloc()).expect(&rt, "memory");
+    let whole = constraints.value().map(|part| part.constraint.bound);
     assert!(rt; whole == Some(Bounded::start_from(0)));
 }
 
@@ -239,8 +239,45 @@ fn holders_forward_the_tables(rt: HostRuntime) {
     assert_tables::<Cow<u8>>(&rt, Tag::INTEGER, Some("INTEGER"), Some((0, 255)));
     assert_tables::<&u8>(&rt, Tag::INTEGER, Some("INTEGER"), Some((0, 255)));
     assert_tables::<PhantomData<u8>>(&rt, Tag::NULL, None, None);
-    assert_tables::<tag::SET>(&rt, Tag::SET, None, None);
-    assert_tables::<tag::DATE>(&rt, Tag::DATE, None, None);
+}
+
+/// Asserts that the marker is that of the tag.
+fn assert_marks<T: AsnType>(rt: &(impl Abort + AllocGlobal), tag: Tag) {
+    assert_tables::<T>(rt, tag, None, None);
+}
+
+#[test]
+fn markers_have_the_tags_of_their_names(rt: HostRuntime) {
+    assert_marks::<tag::EOC>(&rt, Tag::EOC);
+    assert_marks::<tag::BOOL>(&rt, Tag::BOOL);
+    assert_marks::<tag::INTEGER>(&rt, Tag::INTEGER);
+    assert_marks::<tag::BIT_STRING>(&rt, Tag::BIT_STRING);
+    assert_marks::<tag::OCTET_STRING>(&rt, Tag::OCTET_STRING);
+    assert_marks::<tag::NULL>(&rt, Tag::NULL);
+    assert_marks::<tag::OBJECT_IDENTIFIER>(&rt, Tag::OBJECT_IDENTIFIER);
+    assert_marks::<tag::OBJECT_DESCRIPTOR>(&rt, Tag::OBJECT_DESCRIPTOR);
+    assert_marks::<tag::EXTERNAL>(&rt, Tag::EXTERNAL);
+    assert_marks::<tag::REAL>(&rt, Tag::REAL);
+    assert_marks::<tag::ENUMERATED>(&rt, Tag::ENUMERATED);
+    assert_marks::<tag::EMBEDDED_PDV>(&rt, Tag::EMBEDDED_PDV);
+    assert_marks::<tag::UTF8_STRING>(&rt, Tag::UTF8_STRING);
+    assert_marks::<tag::RELATIVE_OID>(&rt, Tag::RELATIVE_OID);
+    assert_marks::<tag::SEQUENCE>(&rt, Tag::SEQUENCE);
+    assert_marks::<tag::SET>(&rt, Tag::SET);
+    assert_marks::<tag::NUMERIC_STRING>(&rt, Tag::NUMERIC_STRING);
+    assert_marks::<tag::PRINTABLE_STRING>(&rt, Tag::PRINTABLE_STRING);
+    assert_marks::<tag::TELETEX_STRING>(&rt, Tag::TELETEX_STRING);
+    assert_marks::<tag::VIDEOTEX_STRING>(&rt, Tag::VIDEOTEX_STRING);
+    assert_marks::<tag::IA5_STRING>(&rt, Tag::IA5_STRING);
+    assert_marks::<tag::UTC_TIME>(&rt, Tag::UTC_TIME);
+    assert_marks::<tag::GENERALIZED_TIME>(&rt, Tag::GENERALIZED_TIME);
+    assert_marks::<tag::GRAPHIC_STRING>(&rt, Tag::GRAPHIC_STRING);
+    assert_marks::<tag::VISIBLE_STRING>(&rt, Tag::VISIBLE_STRING);
+    assert_marks::<tag::GENERAL_STRING>(&rt, Tag::GENERAL_STRING);
+    assert_marks::<tag::UNIVERSAL_STRING>(&rt, Tag::UNIVERSAL_STRING);
+    assert_marks::<tag::CHARACTER_STRING>(&rt, Tag::CHARACTER_STRING);
+    assert_marks::<tag::BMP_STRING>(&rt, Tag::BMP_STRING);
+    assert_marks::<tag::DATE>(&rt, Tag::DATE);
 }
 
 #[test]
@@ -248,9 +285,8 @@ fn lists_are_sequences(rt: HostRuntime) {
     assert_tables::<Vec<bool>>(&rt, Tag::SEQUENCE, Some("SEQUENCE_OF"), None);
     assert_tables::<&[bool]>(&rt, Tag::SEQUENCE, Some("SEQUENCE_OF"), None);
     assert_tables::<[bool; 3]>(&rt, Tag::SEQUENCE, Some("SEQUENCE_OF"), None);
-    let size = <[bool; 3]>::constraints()
-        .size()
-        .map(|part| part.constraint);
+    let constraints = <[bool; 3]>::constraints(rt.alloc()).expect(&rt, "memory");
+    let size = constraints.size().map(|part| part.constraint);
     assert!(rt; size == Some(Size::fixed(3)));
 }
 

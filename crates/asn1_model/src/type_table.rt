@@ -1,11 +1,11 @@
 //! What a schema says of a type.
 ghost use Rattle.std.specs.Prelude.{◌≡◌};
-ghost use Rattle.asn1_model.specs.ConstraintSets.{constraint_set, unconstrained};
+ghost use Rattle.asn1_model.specs.ConstraintSets.{table_constraints, unconstrained};
 ghost use Rattle.asn1_model.specs.Tags.{CHOICE};
 ghost use Rattle.asn1_model.specs.TypeTables.{tree_under, is_of_choice};
 ghost use Rattle.asn1_tags.specs.Trees.{shape};
 
-use asn1_bounds::Constraints;
+use asn1_bounds::ConstraintTable;
 use asn1_tags::{Identifier, Tag, TagTree};
 
 /// How the tags with which a value can begin follow from the tag that its type is written under.
@@ -49,7 +49,7 @@ pub struct TypeTable {
     /// The type's name.
     pub identifier: Identifier,
     /// The type's constraints.
-    pub constraints: Constraints<'static>,
+    pub constraints: ConstraintTable<'static>,
 }
 
 impl TypeTable {
@@ -60,13 +60,13 @@ impl TypeTable {
         ensures tag { result.tag ≡ tag }
         ensures tree { result.tree ≡ Leaf }
         ensures identifier { result.identifier ≡ identifier }
-        ensures constraints { constraint_set result.constraints ≡ unconstrained }
+        ensures constraints { table_constraints result.constraints ≡ unconstrained }
     {
         TypeTable {
             tag,
             tree: TreeForm::Leaf,
             identifier,
-            constraints: Constraints::NONE,
+            constraints: ConstraintTable::NONE,
         }
     }
 
@@ -75,22 +75,22 @@ impl TypeTable {
         ensures tag { result.tag ≡ CHOICE }
         ensures tree { result.tree ≡ Choice alternatives.entry }
         ensures identifier { result.identifier ≡ identifier }
-        ensures constraints { constraint_set result.constraints ≡ unconstrained }
+        ensures constraints { table_constraints result.constraints ≡ unconstrained }
     {
         TypeTable {
             tag: Tag::CHOICE,
             tree: TreeForm::Choice(alternatives),
             identifier,
-            constraints: Constraints::NONE,
+            constraints: ConstraintTable::NONE,
         }
     }
 
     /// The table with these constraints in the place of its own.
-    pub fn with_constraints(self, constraints: Constraints<'static>) -> TypeTable
+    pub fn with_constraints(self, constraints: ConstraintTable<'static>) -> TypeTable
         ensures tag { result.tag ≡ self.tag }
         ensures tree { result.tree ≡ self.tree }
         ensures identifier { result.identifier ≡ self.identifier }
-        ensures constraints { constraint_set result.constraints ≡ constraint_set constraints.entry }
+        ensures constraints { table_constraints result.constraints ≡ table_constraints constraints.entry }
     {
         TypeTable {
             constraints,

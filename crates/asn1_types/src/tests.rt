@@ -289,9 +289,10 @@ fn instances_are_compared_by_type_and_value(rt: HostRuntime) {
 }
 
 /// Asserts what the tables of a type say.
-fn assert_tables<T: AsnType>(rt: &impl Abort, tag: Tag, name: Option<&str>) {
+fn assert_tables<T: AsnType>(rt: &(impl Abort + AllocGlobal), tag: Tag, name: Option<&str>) {
     assert!(rt; T::tag() == tag && T::identifier().0 == name && !T::is_choice());
-    assert!(rt; T::constraints().value().is_none() && T::constraints().size().is_none());
+    let constraints = T::constraints(rt.alloc()).expect(rt, "memory");
+    assert!(rt; constraints.value().is_none() && constraints.size().is_none());
 }
 
 /// Asserts that the tree of the type under the tag is this one.

@@ -3,14 +3,14 @@ ghost use Rattle.asn1_model.specs.Kinds.{array_type};
 
 use crate::asn_type::AsnType;
 use crate::type_table::TypeTable;
-use asn1_bounds::{Constraint, Constraints, Size};
+use asn1_bounds::{ConstraintTable, Size};
 use asn1_tags::{Identifier, Tag};
 
 impl<T: AsnType, const N: usize> AsnType for [T; N] {
     ghost meaning = { array_type N T.meaning };
 
     fn table() -> TypeTable {
-        let constraints = Constraints::new(&[Constraint::from(Size::fixed(N))]);
+        let constraints = ConstraintTable::from(Size::fixed(N));
         TypeTable::new(Tag::SEQUENCE, Identifier::SEQUENCE_OF).with_constraints(constraints)
     }
 

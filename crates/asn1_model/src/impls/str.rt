@@ -3,7 +3,7 @@ ghost use Rattle.std.specs.Prelude.{◌≡◌, true, false, Some, codes};
 ghost use Rattle.asn1_tags.specs.Names.{name_of};
 ghost use Rattle.asn1_tags.specs.Trees.{leaf};
 ghost use Rattle.asn1_tags.specs.declared.tags.Tag.{Tag};
-ghost use Rattle.asn1_model.specs.ConstraintSets.{constraint_set, unconstrained};
+ghost use Rattle.asn1_model.specs.ConstraintSets.{table_constraints, unconstrained};
 ghost use Rattle.asn1_model.specs.Kinds.{utf8_string};
 ghost use Rattle.asn1_model.specs.Tags.{universal};
 ghost use Rattle.asn1_model.specs.TypeTables.{tree_under, is_of_choice};
@@ -20,7 +20,7 @@ impl AsnType for &str {
         ensures tree { (tag : Tag) → tree_under result.tree tag ≡ leaf tag }
         ensures choice { is_of_choice result.tree ≡ false }
         ensures identifier { name_of result.identifier ≡ Some (codes "UTF8String") }
-        ensures constraints { constraint_set result.constraints ≡ unconstrained }
+        ensures constraints { table_constraints result.constraints ≡ unconstrained }
     {
         TypeTable::new(Tag::UTF8_STRING, Identifier::UTF8_STRING)
     }

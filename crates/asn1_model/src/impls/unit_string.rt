@@ -4,10 +4,10 @@ ghost use Rattle.asn1_model.specs.Kinds.{string_type};
 use crate::asn_type::AsnType;
 use crate::strings::StringType;
 use crate::type_table::TypeTable;
-use asn1_values::UnitString;
+use asn1_values::{StringUnit, UnitString};
 
-impl<U, K: StringType<U>> AsnType for UnitString<U, K> {
-    ghost meaning = { string_type K.own_tag K.own_name K.IsUnit K.content };
+impl<U: StringUnit, K: StringType<U>> AsnType for UnitString<U, K> {
+    ghost meaning = { string_type K.own_tag K.own_name U.IsInRange K.content };
 
     fn table() -> TypeTable {
         K::table()
