@@ -1,2 +1,3 @@
+pub mod AlphabetLaws
 pub mod KindLaws
 pub mod SetLaws

@@ -1,16 +1,20 @@
 -- The laws of constraint sets: intersection associates, and the set of a list is the intersection of its constraints'.
 use Rattle.std.proofs.Common.{◌≡◌, ◌↔◌, ◌∙◌, sym, ap, ℕ, ◌+◌, ◌<◌, ℤ, cond, List, [], ◌∷◌, ◌++◌, length, take, get_or, Option, Some, None, refl}
-use Rattle.std.specs.Prelude.{⊤, All, MatchOption, is_some}
+use Rattle.std.specs.Prelude.{⊤, All, MatchOption, IsNone, is_some}
 use Rattle.std.proofs.Math.Bool.{or_assoc, or-false}
 use Rattle.std.proofs.lemmas.List.{take_more}
-use Rattle.std.proofs.lemmas.List.Elements.{All-nil, All-cons, All-head, All-tail}
-use Rattle.asn1_bounds.specs.Admitted.{HasValue, HasLength}
-use Rattle.asn1_bounds.specs.Sets.{both_values, both_sizes, second_alphabet, part_intersection, parts_intersection, set_intersection, no_constraints, set_of, set_of_all, AdmitsValue, AdmitsLength}
+use Rattle.std.proofs.lemmas.List.Elements.{All-nil, All-cons, All-head, All-tail, All-take}
+use Rattle.asn1_bounds.specs.Admitted.{HasValue, HasLength, IsPermitted, common_characters}
+use Rattle.asn1_bounds.specs.ConstraintKind.{alphabet_of}
+use Rattle.asn1_bounds.specs.Sets.{both_values, both_sizes, part_intersection, parts_intersection, set_intersection, no_constraints, set_of, set_of_all, AdmitsValue, AdmitsLength, AdmitsCharacter}
+use Rattle.asn1_bounds.specs.declared.alphabet.PermittedAlphabet.{PermittedAlphabet}
 use Rattle.asn1_bounds.specs.declared.constraint.Constraint.{Constraint}
+use Rattle.asn1_bounds.specs.declared.constraint.Constraint.TheVariants as constraint
 use Rattle.asn1_bounds.specs.declared.constraints.Constraints.{Constraints}
 use Rattle.asn1_bounds.specs.declared.extensible.Extensible.{Extensible}
 use Rattle.asn1_bounds.specs.declared.size.Size.{Size}
 use Rattle.asn1_bounds.specs.declared.value.Value.{Value}
+use Rattle.asn1_bounds.proofs.AlphabetLaws.{common_characters-assoc, common_characters-members}
 use Rattle.asn1_bounds.proofs.KindLaws.{value_intersection-assoc, value_intersection-members, size_intersection-assoc, size_intersection-members}
 
 -- what is extensible of three is so of all three
@@ -44,13 +48,13 @@ set_intersection-assoc a b c =
     rw (
       parts_intersection-assoc both_values both_values-assoc a.value b.value c.value,
       parts_intersection-assoc both_sizes both_sizes-assoc a.size b.size c.size,
-      parts_intersection-assoc second_alphabet (λ a b c. refl) a.permitted_alphabet b.permitted_alphabet c.permitted_alphabet,
+      parts_intersection-assoc common_characters common_characters-assoc a.permitted_alphabet b.permitted_alphabet c.permitted_alphabet,
       or_assoc a.extensible b.extensible c.extensible,
     ) refl
 
 pub set_intersection-none : (a : Constraints) → set_intersection a no_constraints ≡ a
 set_intersection-none a =
-    rw (parts_intersection-none both_values a.value, parts_intersection-none both_sizes a.size, parts_intersection-none second_alphabet a.permitted_alphabet, or-false a.extensible) refl
+    rw (parts_intersection-none both_values a.value, parts_intersection-none both_sizes a.size, parts_intersection-none common_characters a.permitted_alphabet, or-false a.extensible) refl
 
 -- the set of one list followed by another
 pub set_of_all-append : (xs ys : List Constraint) → set_of_all (xs ++ ys) ≡ set_intersection (set_of_all xs) (set_of_all ys)
@@ -83,11 +87,20 @@ parts-lengths None b n = (λ h. (tt, h), λ h. h.1)
 parts-lengths (Some a) None n = (λ h. (h, tt), λ h. h.0)
 parts-lengths (Some a) (Some b) n = size_intersection-members a.constraint.bound b.constraint.bound n
 
+parts-characters : (a b : Option (Extensible PermittedAlphabet)) (n : ℕ) → MatchOption (parts_intersection common_characters a b) ⊤ (λ part. IsPermitted part.constraint n)
+    ↔ (MatchOption a ⊤ (λ part. IsPermitted part.constraint n) × MatchOption b ⊤ (λ part. IsPermitted part.constraint n))
+parts-characters None b n = (λ h. (tt, h), λ h. h.1)
+parts-characters (Some a) None n = (λ h. (h, tt), λ h. h.0)
+parts-characters (Some a) (Some b) n = common_characters-members a.constraint b.constraint n
+
 pub set_intersection-values : (a b : Constraints) (n : ℤ) → AdmitsValue (set_intersection a b) n ↔ (AdmitsValue a n × AdmitsValue b n)
 set_intersection-values a b n = parts-values a.value b.value n
 
 pub set_intersection-lengths : (a b : Constraints) (n : ℕ) → AdmitsLength (set_intersection a b) n ↔ (AdmitsLength a n × AdmitsLength b n)
 set_intersection-lengths a b n = parts-lengths a.size b.size n
+
+pub set_intersection-characters : (a b : Constraints) (n : ℕ) → AdmitsCharacter (set_intersection a b) n ↔ (AdmitsCharacter a n × AdmitsCharacter b n)
+set_intersection-characters a b n = parts-characters a.permitted_alphabet b.permitted_alphabet n
 
 -- what a set of a list admits each of its constraints does
 module _ (Admits : Constraints → Type 0) (none : Admits no_constraints) (both : (a b : Constraints) → Admits (set_intersection a b) ↔ (Admits a × Admits b)) where
@@ -106,10 +119,36 @@ set_of_all-values cs n = all-admit (λ set. AdmitsValue set n) tt (λ a b. set_i
 pub set_of_all-lengths : (cs : List Constraint) (n : ℕ) → AdmitsLength (set_of_all cs) n ↔ All (λ c. AdmitsLength (set_of c) n) cs
 set_of_all-lengths cs n = all-admit (λ set. AdmitsLength set n) tt (λ a b. set_intersection-lengths a b n) cs
 
+pub set_of_all-characters : (cs : List Constraint) (n : ℕ) → AdmitsCharacter (set_of_all cs) n ↔ All (λ c. AdmitsCharacter (set_of c) n) cs
+set_of_all-characters cs n = all-admit (λ set. AdmitsCharacter set n) tt (λ a b. set_intersection-characters a b n) cs
+
+-- constraints without a permitted alphabet come to a set without one
+pub set_of-without_alphabet : (c : Constraint) → IsNone (alphabet_of c) → IsNone (set_of c).permitted_alphabet
+set_of-without_alphabet (constraint.Value part) h = refl
+set_of-without_alphabet (constraint.Size part) h = refl
+set_of-without_alphabet (constraint.PermittedAlphabet part) h = h
+set_of-without_alphabet constraint.Extensible h = refl
+
+parts-without_alphabet : (a b : Option (Extensible PermittedAlphabet)) → IsNone a → IsNone b → IsNone (parts_intersection common_characters a b)
+parts-without_alphabet None b p q = q
+parts-without_alphabet (Some a) None p q = p
+parts-without_alphabet (Some a) (Some b) p q = p
+
+set_of_all-without_alphabet : (cs : List Constraint) → All (λ c. IsNone (alphabet_of c)) cs → IsNone (set_of_all cs).permitted_alphabet
+set_of_all-without_alphabet [] h = refl
+set_of_all-without_alphabet (c ∷ cs) h =
+    parts-without_alphabet (set_of c).permitted_alphabet (set_of_all cs).permitted_alphabet
+      (set_of-without_alphabet c (All-head (λ c. IsNone (alphabet_of c)) c cs h))
+      (set_of_all-without_alphabet cs (All-tail (λ c. IsNone (alphabet_of c)) c cs h))
+
+pub set_of_some-without_alphabet : (cs : List Constraint) (i : ℕ) → All (λ c. IsNone (alphabet_of c)) cs → IsNone (set_of_all (take i cs)).permitted_alphabet
+set_of_some-without_alphabet cs i h = set_of_all-without_alphabet (take i cs) (All-take (λ c. IsNone (alphabet_of c)) i cs h)
+
 -- what follows of a set that is the intersection of two
 pub record IsIntersection (a b set : Constraints) : Type 0 where
   pub values : (n : ℤ) → AdmitsValue set n ↔ (AdmitsValue a n × AdmitsValue b n)
   pub lengths : (n : ℕ) → AdmitsLength set n ↔ (AdmitsLength a n × AdmitsLength b n)
+  pub characters : (n : ℕ) → AdmitsCharacter set n ↔ (AdmitsCharacter a n × AdmitsCharacter b n)
   pub composes : (xs ys : List Constraint) → a ≡ set_of_all xs → b ≡ set_of_all ys → set ≡ set_of_all (xs ++ ys)
 
 pub is-intersection : (a b set : Constraints) → set ≡ set_intersection a b → IsIntersection a b set
@@ -117,5 +156,6 @@ is-intersection a b set e =
     rw e (record {
       values = set_intersection-values a b;
       lengths = set_intersection-lengths a b;
+      characters = set_intersection-characters a b;
       composes = λ xs ys p q. rw (p, q) (sym (set_of_all-append xs ys));
     })

@@ -29,7 +29,7 @@ impl Model for PermittedAlphabet {
 }
 
 impl PermittedAlphabet {
-    ghost use Rattle.asn1_bounds.specs.Admitted.{IsPermitted, common_characters};
+    ghost use Rattle.asn1_bounds.specs.Admitted.{IsPermitted, is_permitted, common_characters};
 
     /// The constraint to these characters. Fails only where the allocator refuses room for them.
     pub fn new(alloc: Global, alphabet: &[u32]) -> Result<Self, AllocError>
@@ -49,7 +49,8 @@ impl PermittedAlphabet {
 
     /// Whether the character is in the alphabet.
     pub fn contains(&self, character: u32) -> bool
-        ensures { IsTrue result ↔ IsPermitted self.now character }
+        ensures inside { IsTrue result ↔ IsPermitted self.now character }
+        ensures test { result ≡ is_permitted self.now character }
     {
         self.characters.contains(&character)
     }
@@ -68,12 +69,9 @@ impl PermittedAlphabet {
         ensures members { IfOk result (λ both. (character : _) → IsPermitted both character ↔
             (IsPermitted self.now character × IsPermitted other.now character)) }
     {
-        let characters = self.characters.iter().copied();
-        Ok(PermittedAlphabet {
-            characters: characters
-                .filter(|character| other.contains(*character))
-                .collect(alloc)?,
-        })
+        let mut characters = Vec::from_slice(alloc, &self.characters)?;
+        characters.retain(|character| other.contains(*character));
+        Ok(PermittedAlphabet { characters })
     }
 }
 

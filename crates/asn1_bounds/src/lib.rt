@@ -44,6 +44,7 @@ mod alphabet;
 mod codec;
 mod constraint;
 mod constraints;
+mod derived;
 mod error;
 mod extensible;
 mod inner_subtype;

@@ -1,3 +1,4 @@
+pub mod Compared
 pub mod Count
 pub mod Ends
 pub mod Intersection

@@ -13,23 +13,23 @@ impl<T: WholeNumber> Bounded<T> {
     ///
     /// No bound leaves the other side as it is, also where that is inverted. An inverted range with anything else is
     /// `None`.
-    pub fn intersect(&self, other: &Self) -> Option<Self>
-        ensures shape { result ≡ intersection T.number self.now other.now }
-        ensures members { IfSome result (HasCommonMembers T.number self.now other.now) }
-        ensures disjoint { IfNone result (AreDisjoint T.number self.now other.now) }
+    pub fn intersect(&self, other: Self) -> Option<Self>
+        ensures shape { result ≡ intersection T.number self.now other }
+        ensures members { IfSome result (HasCommonMembers T.number self.now other) }
+        ensures disjoint { IfNone result (AreDisjoint T.number self.now other) }
 
         // Where neither side is inverted, `None` comes only if nothing is in common.
-        ensures inhabited { IsOrdered T.number self.now → IsOrdered T.number other.now →
+        ensures inhabited { IsOrdered T.number self.now → IsOrdered T.number other →
             IfSome result (HasMember T.number) }
 
         // A single with anything that holds it is that single.
-        ensures single { (v : _) → self.now ≡ Bounded.Single v → Holds T.number other.now v →
+        ensures single { (v : _) → self.now ≡ Bounded.Single v → Holds T.number other v →
             result ≡ Some self.now }
     {
         match (self, other) {
-            (Bounded::None, _) => Some(*other),
+            (Bounded::None, other) => Some(other),
             (_, Bounded::None) => Some(*self),
-            _ => common(self, other),
+            (_, other) => common(self, &other),
         }
     }
 }

@@ -24,9 +24,11 @@
 #![tactic(auto)]
 
 pub use bounded::Bounded;
+pub use compared::{bounds_are_compared_by_ends, bounds_of_numbers_are_told_apart};
 pub use number::{FitsI128, WholeNumber};
 
 mod bounded;
+mod compared;
 mod integers;
 mod intersection;
 mod number;

@@ -20,11 +20,11 @@ pub trait WholeNumber: Copy + Ord {
     fn count_to(self, last: Self) -> Self
         ensures { number result ≡ int_min (pos (numbers_between (number self) (number last))) greatest };
 
-    /// How far this number is above `start`.
+    /// How far this number is above `start`, where it is not below it and the type has a number for that. Otherwise
+    /// some number of the type.
     fn offset_from(self, start: Self) -> Self
-        requires above { number start ≤ℤ number self }
-        requires fits { distance number start self ≤ℤ greatest }
-        ensures { number result ≡ distance number start self };
+        ensures { number start ≤ℤ number self → distance number start self ≤ℤ greatest →
+            number result ≡ distance number start self };
 
     // Values go in the order of their numbers.
     ghost ordered: { (a b : Self) → Self.cmp a b ≡ int_cmp (number a) (number b) };
@@ -48,7 +48,7 @@ impl WholeNumber for u8 {
     }
 
     fn offset_from(self, start: u8) -> u8 {
-        self - start
+        self.saturating_sub(start)
     }
 }
 
@@ -67,7 +67,7 @@ impl WholeNumber for u16 {
     }
 
     fn offset_from(self, start: u16) -> u16 {
-        self - start
+        self.saturating_sub(start)
     }
 }
 
@@ -86,7 +86,7 @@ impl WholeNumber for u32 {
     }
 
     fn offset_from(self, start: u32) -> u32 {
-        self - start
+        self.saturating_sub(start)
     }
 }
 
@@ -105,7 +105,7 @@ impl WholeNumber for u64 {
     }
 
     fn offset_from(self, start: u64) -> u64 {
-        self - start
+        self.saturating_sub(start)
     }
 }
 
@@ -124,7 +124,7 @@ impl WholeNumber for u128 {
     }
 
     fn offset_from(self, start: u128) -> u128 {
-        self - start
+        self.saturating_sub(start)
     }
 }
 
@@ -143,7 +143,7 @@ impl WholeNumber for usize {
     }
 
     fn offset_from(self, start: usize) -> usize {
-        self - start
+        self.saturating_sub(start)
     }
 }
 
@@ -165,7 +165,7 @@ impl WholeNumber for i8 {
     }
 
     fn offset_from(self, start: i8) -> i8 {
-        self - start
+        self.saturating_sub(start)
     }
 }
 
@@ -187,7 +187,7 @@ impl WholeNumber for i16 {
     }
 
     fn offset_from(self, start: i16) -> i16 {
-        self - start
+        self.saturating_sub(start)
     }
 }
 
@@ -209,7 +209,7 @@ impl WholeNumber for i32 {
     }
 
     fn offset_from(self, start: i32) -> i32 {
-        self - start
+        self.saturating_sub(start)
     }
 }
 
@@ -231,7 +231,7 @@ impl WholeNumber for i64 {
     }
 
     fn offset_from(self, start: i64) -> i64 {
-        self - start
+        self.saturating_sub(start)
     }
 }
 
@@ -253,7 +253,7 @@ impl WholeNumber for i128 {
     }
 
     fn offset_from(self, start: i128) -> i128 {
-        self - start
+        self.saturating_sub(start)
     }
 }
 
@@ -275,7 +275,7 @@ impl WholeNumber for isize {
     }
 
     fn offset_from(self, start: isize) -> isize {
-        self - start
+        self.saturating_sub(start)
     }
 }
 

@@ -60,7 +60,7 @@ impl Common {
     pub(crate) fn of(first: &Bounded<i128>, second: &Bounded<i128>) -> Common
         ensures { text_of_common result ≡ Some (common_text (intersection (λ number. number) first.now second.now)) }
     {
-        Common(first.intersect(second))
+        Common(first.intersect(*second))
     }
 }
 

@@ -18,7 +18,7 @@ fn assert_common(
     right: Bounded<i128>,
     both: Option<Bounded<i128>>,
 ) {
-    assert!(rt; left.intersect(&right) == both && right.intersect(&left) == both);
+    assert!(rt; left.intersect(right) == both && right.intersect(left) == both);
 }
 
 #[test]
@@ -155,7 +155,7 @@ fn counts<T: WholeNumber>(rt: &impl Abort, least: T, greatest: T) {
     let single = Bounded::Single(least);
     assert!(rt; all.range() == Some(greatest) && Bounded::start_from(least).range() == None);
     assert!(rt; all.contains(&least) && all.contains(&greatest));
-    assert!(rt; all.intersect(&single) == Some(single));
+    assert!(rt; all.intersect(single) == Some(single));
 }
 
 #[test]
