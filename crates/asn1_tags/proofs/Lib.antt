@@ -4,3 +4,5 @@ pub mod Smallest
 pub mod Positions
 pub mod Structures
 pub mod PlacesInLists
+pub mod Fitting
+pub mod Searching

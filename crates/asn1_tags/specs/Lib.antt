@@ -4,3 +4,4 @@ pub mod Walks
 pub mod Order
 pub mod OrderLaws
 pub mod Names
+pub mod Tables

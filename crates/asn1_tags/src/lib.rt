@@ -41,10 +41,14 @@
 #![tactic(auto)]
 
 mod classes;
+mod error;
 mod flattened;
+mod laws;
 mod names;
 mod order;
 mod places;
+mod searches;
+mod tables;
 mod tags;
 #[cfg(test)]
 mod tests;
@@ -53,7 +57,9 @@ mod universal;
 mod walks;
 
 pub use classes::Class;
+pub use error::VariantsError;
 pub use flattened::Variants;
+pub use laws::derives_take_every_part;
 pub use names::Identifier;
 pub use tags::Tag;
 pub use trees::TagTree;

@@ -79,10 +79,10 @@ impl Tag {
     }
 
     /// Whether this tag stands before the other in the canonical order.
-    pub fn const_less_than(&self, other: &Self) -> bool
-        ensures { IsTrue result ↔ (tag_cmp self.now other.now ≡ Less) }
+    pub fn const_less_than(&self, other: Self) -> bool
+        ensures { IsTrue result ↔ (tag_cmp self.now other ≡ Less) }
     {
-        self.const_cmp(other).is_lt()
+        self.const_cmp(&other).is_lt()
     }
 
     /// Whether this is the tag that stands for an untagged CHOICE.

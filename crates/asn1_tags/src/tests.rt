@@ -86,7 +86,7 @@ fn tags_have_their_texts(rt: HostRuntime) {
 fn assert_tag_order(rt: &impl Abort, left: &Tag, right: &Tag, order: Ordering) {
     assert!(rt; left.cmp(right) == order, "{left} and {right}");
     assert!(rt; left.const_cmp(right) == order);
-    assert!(rt; left.const_less_than(right) == (order == Ordering::Less));
+    assert!(rt; left.const_less_than(*right) == (order == Ordering::Less));
     assert!(rt; left.const_eq(right) == (order == Ordering::Equal));
 }
 

@@ -85,7 +85,7 @@ fn lesser(first: Option<Tag>, second: Option<Tag>) -> Option<Tag>
     ensures { result ≡ lesser_of first second }
 {
     match (first, second) {
-        (Some(a), Some(b)) => Some(if b.const_less_than(&a) { b } else { a }),
+        (Some(a), Some(b)) => Some(if b.const_less_than(a) { b } else { a }),
         (Some(a), None) => Some(a),
         (None, second) => second,
     }
