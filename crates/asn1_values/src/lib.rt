@@ -40,21 +40,22 @@ mod constrained;
 mod error;
 mod integer;
 mod integer_type;
+pub mod kind;
+pub mod laws;
 mod magnitude;
 mod object_identifier;
 mod strings;
 
 pub use constrained::{Between, ConstrainedInteger, LimitedInteger, Limits};
-pub use error::AlphabetError;
+pub use error::{AlphabetError, OutOfRangeError};
 pub use integer::Integer;
 pub use integer_type::IntegerType;
-pub use object_identifier::{Arcs, ObjectIdentifier};
+pub use object_identifier::ObjectIdentifier;
 pub use strings::alphabet_string::{Alphabet, AlphabetString};
-pub use strings::binary::{BitStr, BitString, Bits, OctetString, Octets};
+pub use strings::binary::{BitStr, BitString, OctetString};
 pub use strings::character::{
-    Bmp, BmpString, General, GeneralString, Graphic, GraphicString, Ia5, Ia5String, Numeric,
-    NumericString, Printable, PrintableString, Teletex, TeletexString, Utf8String, Visible,
-    VisibleString,
+    BmpString, GeneralString, GraphicString, Ia5String, NumericString, PrintableString,
+    TeletexString, Utf8String, VisibleString,
 };
 pub use strings::string_unit::StringUnit;
 pub use strings::unit_string::UnitString;
