@@ -1,8 +1,8 @@
 //! How an integer is written.
-ghost use Rattle.std.specs.Prelude.{Some, codes};
-ghost use Rattle.std.specs.Fmt.{WritesOnOk};
+ghost use Rattle.std.specs.Prelude.{if◌then◌else◌, None, Some};
+ghost use Rattle.std.specs.Fmt.{styled_signed_decimal, WritesOnOk};
 ghost use Rattle.std.specs.List.{flat_map};
-ghost use Rattle.asn1_values.specs.Text.{byte_text, integer_text};
+ghost use Rattle.asn1_values.specs.Text.{byte_text, integer_text, is_narrow};
 
 use crate::integer::{Form, Integer};
 use std::fmt;
@@ -12,9 +12,12 @@ use std::fmt;
 impl fmt::Display for Integer {
     ghost output = { λ z. Some (integer_text z) };
 
+    // Options, as in `{:>8}`, are kept for what an `i128` holds. Nothing is said of them at any other number.
+    ghost styled_output = { λ z options. if is_narrow z then Some (styled_signed_decimal options z) else None };
+
     fn fmt<W: fmt::Write>(&self, f: &mut fmt::Formatter<W>) -> fmt::Result {
         match &self.form {
-            Form::Narrow(number) => write!(f, "{number}"),
+            Form::Narrow(number) => fmt::Display::fmt(number, f),
             Form::Wide { negative, bytes } => {
                 let sign = if *negative { "-" } else { "" };
                 write!(f, "{sign}0x")?;
