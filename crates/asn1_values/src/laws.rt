@@ -2,12 +2,12 @@
 //!
 //! A derive compares, an alias names and a ghost member defines without a word in any contract. Each function here
 //! says by its contract what they give, so that a wrong one is refused.
-ghost use Rattle.std.specs.Prelude.{◌≡◌, ◌↔◌, ◌<◌, ◌≤◌, ◌≤ℤ◌, ℕ, ℤ, pos, IsTrue, IsOk, IsSome, IfSome, All};
+ghost use Rattle.std.specs.Prelude.{◌≡◌, ◌↔◌, ◌<◌, ◌≤◌, ◌≤ℤ◌, ◌⊎◌, ℕ, ℤ, Bool, pos, codes, IsTrue, IsOk, IsSome, IfSome, All};
 ghost use Rattle.std.specs.Cmp.Lexicographic.{pointwise, slice_cmp, slice_partial_cmp};
 ghost use Rattle.std.specs.Hash as fed;
 ghost use Rattle.std.specs.List.{AllPass};
 ghost use Rattle.std.specs.Ordering.{as_partial_cmp, int_cmp, int_eq};
-ghost use Rattle.asn1_values.specs.Alphabets.{is_ia5, is_numeric, is_printable, is_visible};
+ghost use Rattle.asn1_values.specs.Alphabets.{is_among, is_ia5, is_numeric, is_printable, is_visible};
 
 use crate::constrained::{ConstrainedInteger, LimitedInteger, Limits};
 use crate::error::{AlphabetError, OutOfRangeError};
@@ -84,4 +84,69 @@ pub fn is_ia5_string(units: Vec<u8>) -> bool
     ensures characters { (c : ℕ) → IsTrue (is_ia5 c) ↔ (c ≤ 127) }
 {
     Ia5String::new(units).is_ok()
+}
+
+/// Whether the units make a NumericString, which holds the digits, 48 to 57, and space, 32.
+pub fn is_numeric_string(units: Vec<u8>) -> bool
+    ensures alphabet { IsTrue result ↔ AllPass is_numeric units.items }
+    ensures characters { (c : ℕ) → IsTrue (is_numeric c) ↔ ((c ≡ 32) ⊎ ((48 ≤ c) × (c ≤ 57))) }
+{
+    NumericString::new(units).is_ok()
+}
+
+/// Whether the units make a PrintableString, which holds the ASCII letters, digits, space and `'()+,-./:=?`.
+pub fn is_printable_string(units: Vec<u8>) -> bool
+    ensures alphabet { IsTrue result ↔ AllPass is_printable units.items }
+    ensures characters { (c : ℕ) → IsTrue (is_printable c) ↔ (((65 ≤ c) × (c ≤ 90)) ⊎ ((97 ≤ c) × (c ≤ 122)) ⊎ ((48 ≤ c) × (c ≤ 57)) ⊎ IsTrue (is_among (codes " '()+,-./:=?") c)) }
+{
+    PrintableString::new(units).is_ok()
+}
+
+/// The units of a string are the values of their type, and no other numbers.
+pub fn string_units_are_the_values_of_their_type()
+    ensures bits { (bit : Bool) → ⟦<bool as StringUnit>⟧.IsInRange bit }
+    ensures octets { (unit : ℕ) → ⟦<u8 as StringUnit>⟧.IsInRange unit ↔ (unit ≤ u8.MAX) }
+    ensures of_16_bits { (unit : ℕ) → ⟦<u16 as StringUnit>⟧.IsInRange unit ↔ (unit ≤ u16.MAX) }
+    ensures of_32_bits { (unit : ℕ) → ⟦<u32 as StringUnit>⟧.IsInRange unit ↔ (unit ≤ u32.MAX) }
+{}
+
+/// The number of a whole number's value is that value, in each type.
+pub fn integers_are_their_numbers()
+    ensures of_u8 { (n : ℕ) → ⟦<u8 as IntegerType>⟧.number n ≡ pos n }
+    ensures of_u16 { (n : ℕ) → ⟦<u16 as IntegerType>⟧.number n ≡ pos n }
+    ensures of_u32 { (n : ℕ) → ⟦<u32 as IntegerType>⟧.number n ≡ pos n }
+    ensures of_u64 { (n : ℕ) → ⟦<u64 as IntegerType>⟧.number n ≡ pos n }
+    ensures of_u128 { (n : ℕ) → ⟦<u128 as IntegerType>⟧.number n ≡ pos n }
+    ensures of_usize { (n : ℕ) → ⟦<usize as IntegerType>⟧.number n ≡ pos n }
+    ensures of_i8 { (z : ℤ) → ⟦<i8 as IntegerType>⟧.number z ≡ z }
+    ensures of_i16 { (z : ℤ) → ⟦<i16 as IntegerType>⟧.number z ≡ z }
+    ensures of_i32 { (z : ℤ) → ⟦<i32 as IntegerType>⟧.number z ≡ z }
+    ensures of_i64 { (z : ℤ) → ⟦<i64 as IntegerType>⟧.number z ≡ z }
+    ensures of_i128 { (z : ℤ) → ⟦<i128 as IntegerType>⟧.number z ≡ z }
+    ensures of_isize { (z : ℤ) → ⟦<isize as IntegerType>⟧.number z ≡ z }
+    ensures of_integer { (z : ℤ) → ⟦<Integer as IntegerType>⟧.number z ≡ z }
+{}
+
+/// An `Integer` is made of its number, and its default is 0.
+pub fn integers_are_made_of_their_numbers()
+    ensures default { (z : ℤ) → ⟦<Integer as Default>⟧.is_default z ↔ (z ≡ pos 0) }
+    ensures of_i128 { (n z : ℤ) → ⟦<Integer as From<i128>>⟧.from_gives n z ↔ (z ≡ n) }
+    ensures of_u64 { (n : ℕ) (z : ℤ) → ⟦<Integer as From<u64>>⟧.from_gives n z ↔ (z ≡ pos n) }
+    ensures of_u8 { (n : ℕ) (z : ℤ) → ⟦<Integer as From<u8>>⟧.from_gives n z ↔ (z ≡ pos n) }
+{}
+
+/// Whether the errors are the same, which they are if they name the same unit. A clone is its source.
+pub fn alphabet_errors_are_compared_by_index(a: &AlphabetError, b: &AlphabetError) -> bool
+    ensures same { IsTrue result ↔ (a.now ≡ b.now) }
+    ensures clone { ⟦<AlphabetError as Clone>⟧.is_clone a.now b.now ↔ (b.now ≡ a.now) }
+{
+    a == b
+}
+
+/// There is one such error.
+pub fn out_of_range_errors_are_equal(a: &OutOfRangeError, b: &OutOfRangeError) -> bool
+    ensures same { IsTrue result }
+    ensures clone { ⟦<OutOfRangeError as Clone>⟧.is_clone a.now b.now ↔ (b.now ≡ a.now) }
+{
+    a == b
 }
