@@ -2,7 +2,9 @@
 //!
 //! A derive compares, an alias names and a ghost member defines without a word in any contract. Each function here
 //! says by its contract what they give, so that a wrong one is refused.
-ghost use Rattle.std.specs.Prelude.{◌≡◌, ◌↔◌, ◌<◌, ◌≤◌, ◌≤ℤ◌, ◌⊎◌, ℕ, ℤ, Bool, pos, codes, IsTrue, IsOk, IsSome, IfSome, All};
+ghost use Rattle.std.specs.Prelude.{◌≡◌, ◌↔◌, ◌≤◌, ◌≤ℤ◌, ◌⊎◌, ◌++◌, ℕ, ℤ, Bool, pos, codes, IsTrue, IsSome, IfSome, unsigned_abs};
+ghost use Rattle.std.specs.Int.{is_negative};
+ghost use Rattle.std.specs.Int.Digits.{digits_of};
 ghost use Rattle.std.specs.Cmp.Lexicographic.{pointwise, slice_cmp, slice_partial_cmp};
 ghost use Rattle.std.specs.Hash as fed;
 ghost use Rattle.std.specs.List.{AllPass};
@@ -19,7 +21,19 @@ use crate::strings::string_unit::StringUnit;
 use crate::strings::unit_string::UnitString;
 use std::hash::Hash;
 
-/// Whether the numbers are the same. Limited integers are compared, ordered and hashed as their numbers are.
+/// Whether the numbers are the same. Integers are compared and ordered by their numbers, and feed a hasher the sign and
+/// the bytes of the magnitude, the most significant first and with no leading zero.
+pub fn integers_are_compared_by_number(a: &Integer, b: &Integer) -> bool
+    ensures same { IsTrue result ↔ (a.now ≡ b.now) }
+    ensures equality { (x y : ℤ) → ⟦<Integer as PartialEq>⟧.eq x y ≡ int_eq x y }
+    ensures partial_order { (x y : ℤ) → ⟦<Integer as PartialOrd>⟧.partial_cmp x y ≡ as_partial_cmp int_cmp x y }
+    ensures order { (x y : ℤ) → ⟦<Integer as Ord>⟧.cmp x y ≡ int_cmp x y }
+    ensures hash { (x : ℤ) → ⟦<Integer as Hash>⟧.hash_input x ≡ fed.bool (is_negative x) ++ fed.slice fed.u8 (digits_of 256 (unsigned_abs x)) }
+{
+    a == b
+}
+
+/// The same of integers within limits, which are compared, ordered and hashed as their numbers are.
 pub fn limited_integers_are_compared_by_number<L: Limits>(
     a: &LimitedInteger<L>,
     b: &LimitedInteger<L>,

@@ -97,6 +97,7 @@ mod tests {
     ) {
         let text = made.expect(rt, "an allowed text");
         assert!(rt; text.as_slice() == units);
+        assert!(rt; text.into_vec().as_slice() == units);
     }
 
     /// Asserts that the string gives these units back.
@@ -106,6 +107,7 @@ mod tests {
         units: &[U],
     ) {
         assert!(rt; text.as_slice() == units);
+        assert!(rt; text.into_vec().as_slice() == units);
     }
 
     #[test]
@@ -116,7 +118,7 @@ mod tests {
             PrintableString::new(own(&rt, alloc, b"Ann (1)")),
             b"Ann (1)",
         );
-        assert_allowed(&rt, NumericString::new(Vec::new(alloc)), &[]);
+        assert_allowed(&rt, NumericString::try_from(Vec::new(alloc)), &[]);
         assert_units(
             &rt,
             BmpString::new(own(&rt, alloc, &[0xd83d, 0xde00])),
@@ -134,7 +136,7 @@ mod tests {
         );
         assert_units(
             &rt,
-            GraphicString::new(own(&rt, alloc, &[0, 0xff])),
+            GraphicString::from(own(&rt, alloc, &[0, 0xff])),
             &[0, 0xff],
         );
     }
