@@ -12,10 +12,12 @@ ghost use Rattle.asn1_model.specs.Tags.{universal};
 use crate::asn_type::AsnType;
 use crate::type_table::TypeTable;
 use asn1_tags::{Identifier, Tag};
+use asn1_values::kind::{
+    Bits, Bmp, General, Graphic, Ia5, Numeric, Octets, Printable, Teletex, Visible,
+};
 use asn1_values::{
-    BitString, Bits, Bmp, BmpString, General, GeneralString, Graphic, GraphicString, Ia5,
-    Ia5String, Numeric, NumericString, ObjectIdentifier, OctetString, Octets, Printable,
-    PrintableString, Teletex, TeletexString, Visible, VisibleString,
+    BitString, BmpString, GeneralString, GraphicString, Ia5String, NumericString, ObjectIdentifier,
+    OctetString, PrintableString, TeletexString, VisibleString,
 };
 
 /// What a kind of string is in a schema, as the kind's marker says it.

@@ -149,7 +149,7 @@ pub type DATE = Marker<31>;
 /// A law of the markers: each name is that of the number that X.680 gives its type (8.4, table 1), and the marker of a
 /// number is a NULL under it.
 pub fn markers_have_their_numbers<const NUMBER: u32>(_marker: Marker<NUMBER>)
-    ensures records { own_records ⟦<Marker<NUMBER> as AsnType>⟧.meaning _marker ≡ scalar (universal NUMBER) unconstrained None null ∷ [] }
+    ensures records { own_records ⟦<Marker<NUMBER> as AsnType>⟧.meaning _marker.entry ≡ scalar (universal NUMBER) unconstrained None null ∷ [] }
     ensures eoc { ⟦<EOC as AsnType>⟧.meaning.tag ≡ universal 0 }
     ensures bool { ⟦<BOOL as AsnType>⟧.meaning.tag ≡ universal 1 }
     ensures integer { ⟦<INTEGER as AsnType>⟧.meaning.tag ≡ universal 2 }

@@ -1,3 +1,4 @@
 pub mod Alphabets
 pub mod Integer
 pub mod Numbers
+pub mod Text

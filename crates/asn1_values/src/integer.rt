@@ -4,7 +4,9 @@ ghost use Rattle.std.specs.Int.{FitsUnsigned, w128};
 ghost use Rattle.std.specs.Option.{SomeIff};
 ghost use Rattle.asn1_values.specs.Numbers.{magnitude, signed, IsShortest, IsMagnitude};
 
+mod conversions;
 mod order;
+mod text;
 
 use crate::magnitude;
 use std::alloc::{AllocError, Global};

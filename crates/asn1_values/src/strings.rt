@@ -1,4 +1,4 @@
-//! The kinds of string. Each is a name for one of two types, whose last argument tells the kinds apart.
+//! The kinds of string. Each is a name for one of two types, whose last argument tells the kinds apart (`kind`).
 pub(crate) mod alphabet_string;
 pub(crate) mod binary;
 pub(crate) mod character;

@@ -1,4 +1,5 @@
 use super::*;
+use crate::error::OutOfRangeError;
 use std::process::Abort;
 
 fn number(rt: &impl Abort, alloc: Global, is_negative: bool, magnitude: &[u8]) -> Integer {
@@ -6,18 +7,29 @@ fn number(rt: &impl Abort, alloc: Global, is_negative: bool, magnitude: &[u8]) -
 }
 
 /// Asserts that the type gives the value of a number back.
-fn assert_gives_back<T: IntegerType + Copy + PartialEq>(rt: &impl Abort, alloc: Global, value: T) {
+fn assert_gives_back<T: IntegerType + TryFrom<Integer, Error = OutOfRangeError> + Copy + PartialEq>(
+    rt: &impl Abort,
+    alloc: Global,
+    value: T,
+) {
     let number = value.to_integer(alloc).expect(rt, "memory");
-    assert!(rt; T::try_from_integer(number) == Some(value));
+    assert!(rt; T::try_from(number) == Ok(value));
 }
 
 /// Asserts that the type lacks the number.
-fn assert_lacks<T: IntegerType + Copy>(rt: &impl Abort, number: Integer, case: &str) {
-    assert!(rt; T::try_from_integer(number).is_none(), "{case}");
+fn assert_lacks<T: IntegerType + TryFrom<Integer, Error = OutOfRangeError> + Copy>(
+    rt: &impl Abort,
+    number: Integer,
+    case: &str,
+) {
+    assert!(rt;
+        T::try_from(number).err() == Some(OutOfRangeError),
+        "{case}"
+    );
 }
 
 /// Asserts that the type has these two numbers and gives them back, and that it lacks the other two.
-fn assert_ends<T: IntegerType + Copy + PartialEq>(
+fn assert_ends<T: IntegerType + TryFrom<Integer, Error = OutOfRangeError> + Copy + PartialEq>(
     rt: &impl Abort,
     alloc: Global,
     least: T,
@@ -33,7 +45,7 @@ fn assert_ends<T: IntegerType + Copy + PartialEq>(
 }
 
 /// The same where the neighbours are `i128`s.
-fn assert_range<T: IntegerType + Copy + PartialEq>(
+fn assert_range<T: IntegerType + TryFrom<Integer, Error = OutOfRangeError> + Copy + PartialEq>(
     rt: &impl Abort,
     alloc: Global,
     least: T,

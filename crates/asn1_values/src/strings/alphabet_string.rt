@@ -1,5 +1,5 @@
 //! Strings whose units come from an alphabet.
-ghost use Rattle.std.specs.Prelude.{◌≡◌, ◌↔◌, Bool, not, IsNone, IsOk, IfOk, IfErr, position};
+ghost use Rattle.std.specs.Prelude.{◌≡◌, ◌↔◌, Bool, not, IsNone, IsOk, IfOk, IfErr, MatchResult, Some, position};
 ghost use Rattle.std.specs.List.{AllPass};
 
 use crate::error::AlphabetError;
@@ -65,6 +65,25 @@ impl<U: StringUnit, A: Alphabet<U>> AlphabetString<U, A> {
         ensures allowed { AllPass A.allows self.now }
     {
         self.units.as_slice()
+    }
+
+    /// The units, in their order, each of them in the alphabet. The string is their memory, so none is taken.
+    pub fn into_vec(self) -> Vec<U>
+        ensures units { result.items ≡ self }
+        ensures allowed { AllPass A.allows result.items }
+    {
+        self.units.into_vec()
+    }
+}
+
+impl<U: Drop, A: Alphabet<U>> TryFrom<Vec<U>> for AlphabetString<U, A> {
+    type Error = AlphabetError;
+
+    // The string of these units, if the alphabet has them all; else the index of the first that it lacks.
+    ghost try_from_gives = { λ units made. MatchResult made (λ s. (s ≡ units.items) × AllPass A.allows units.items) (λ e. position (λ u. not (A.allows u)) units.items ≡ Some e.0) };
+
+    fn try_from(units: Vec<U>) -> Result<Self, AlphabetError> {
+        Self::new(units)
     }
 }
 

@@ -1,4 +1,5 @@
 //! Strings of bits and of octets.
+use crate::kind::{Bits, Octets};
 use crate::strings::unit_string::UnitString;
 
 /// A BIT STRING: any bits, from the first one on (X.680, 22).
@@ -7,16 +8,8 @@ pub type BitString = UnitString<bool, Bits>;
 /// The bits of a BIT STRING, borrowed.
 pub type BitStr<'a> = &'a [bool];
 
-/// The kind of BIT STRING.
-#[derive(Drop)]
-pub enum Bits {}
-
 /// An OCTET STRING: any octets (X.680, 23).
 pub type OctetString = UnitString<u8, Octets>;
-
-/// The kind of OCTET STRING.
-#[derive(Drop)]
-pub enum Octets {}
 
 #[cfg(test)]
 mod tests {

@@ -1,6 +1,7 @@
 //! Character strings (X.680, 41). Those with a table of characters hold no others; a unit of theirs is a
 //! character's code in ASCII.
-use crate::strings::alphabet_string::{Alphabet, AlphabetString};
+use crate::kind::{Bmp, General, Graphic, Ia5, Numeric, Printable, Teletex, Visible};
+use crate::strings::alphabet_string::AlphabetString;
 use crate::strings::unit_string::UnitString;
 
 /// A UTF8String: any text.
@@ -9,103 +10,32 @@ pub type Utf8String = String;
 /// A VisibleString: spaces and the graphic characters of ASCII.
 pub type VisibleString = AlphabetString<u8, Visible>;
 
-/// The alphabet of VisibleString.
-#[derive(Drop)]
-pub enum Visible {}
-
-impl Alphabet<u8> for Visible {
-    ghost use Rattle.asn1_values.specs.Alphabets.{is_visible};
-
-    ghost allows = { is_visible };
-
-    fn allows(unit: &u8) -> bool {
-        *unit == b' ' || unit.is_ascii_graphic()
-    }
-}
-
 /// An IA5String: the characters of ASCII, control characters among them.
 pub type Ia5String = AlphabetString<u8, Ia5>;
-
-/// The alphabet of IA5String.
-#[derive(Drop)]
-pub enum Ia5 {}
-
-impl Alphabet<u8> for Ia5 {
-    ghost use Rattle.asn1_values.specs.Alphabets.{is_ia5};
-
-    ghost allows = { is_ia5 };
-
-    fn allows(unit: &u8) -> bool {
-        unit.is_ascii()
-    }
-}
 
 /// A NumericString: spaces and digits.
 pub type NumericString = AlphabetString<u8, Numeric>;
 
-/// The alphabet of NumericString.
-#[derive(Drop)]
-pub enum Numeric {}
-
-impl Alphabet<u8> for Numeric {
-    ghost use Rattle.asn1_values.specs.Alphabets.{is_numeric};
-
-    ghost allows = { is_numeric };
-
-    fn allows(unit: &u8) -> bool {
-        *unit == b' ' || unit.is_ascii_digit()
-    }
-}
-
 /// A PrintableString: ASCII letters, digits, spaces and `'()+,-./:=?`.
 pub type PrintableString = AlphabetString<u8, Printable>;
-
-/// The alphabet of PrintableString.
-#[derive(Drop)]
-pub enum Printable {}
-
-impl Alphabet<u8> for Printable {
-    ghost use Rattle.asn1_values.specs.Alphabets.{is_printable};
-
-    ghost allows = { is_printable };
-
-    fn allows(unit: &u8) -> bool {
-        unit.is_ascii_alphanumeric() || b" '()+,-./:=?".contains(unit)
-    }
-}
 
 /// A GeneralString: any octets.
 pub type GeneralString = UnitString<u8, General>;
 
-/// The kind of GeneralString.
-#[derive(Drop)]
-pub enum General {}
-
 /// A GraphicString: any octets.
 pub type GraphicString = UnitString<u8, Graphic>;
-
-/// The kind of GraphicString.
-#[derive(Drop)]
-pub enum Graphic {}
 
 /// A TeletexString: any units of 32 bits.
 pub type TeletexString = UnitString<u32, Teletex>;
 
-/// The kind of TeletexString.
-#[derive(Drop)]
-pub enum Teletex {}
-
 /// A BMPString: any units of 16 bits.
 pub type BmpString = UnitString<u16, Bmp>;
-
-/// The kind of BMPString.
-#[derive(Drop)]
-pub enum Bmp {}
 
 #[cfg(test)]
 mod tests {
     use super::*;
     use crate::error::AlphabetError;
+    use crate::strings::alphabet_string::Alphabet;
     use crate::strings::string_unit::StringUnit;
     use std::alloc::Global;
     use std::process::Abort;
@@ -167,6 +97,7 @@ mod tests {
     ) {
         let text = made.expect(rt, "an allowed text");
         assert!(rt; text.as_slice() == units);
+        assert!(rt; text.into_vec().as_slice() == units);
     }
 
     /// Asserts that the string gives these units back.
@@ -176,6 +107,7 @@ mod tests {
         units: &[U],
     ) {
         assert!(rt; text.as_slice() == units);
+        assert!(rt; text.into_vec().as_slice() == units);
     }
 
     #[test]
@@ -186,7 +118,7 @@ mod tests {
             PrintableString::new(own(&rt, alloc, b"Ann (1)")),
             b"Ann (1)",
         );
-        assert_allowed(&rt, NumericString::new(Vec::new(alloc)), &[]);
+        assert_allowed(&rt, NumericString::try_from(Vec::new(alloc)), &[]);
         assert_units(
             &rt,
             BmpString::new(own(&rt, alloc, &[0xd83d, 0xde00])),
@@ -204,7 +136,7 @@ mod tests {
         );
         assert_units(
             &rt,
-            GraphicString::new(own(&rt, alloc, &[0, 0xff])),
+            GraphicString::from(own(&rt, alloc, &[0, 0xff])),
             &[0, 0xff],
         );
     }

@@ -50,6 +50,23 @@ impl<U: StringUnit, K> UnitString<U, K> {
         U::tell_range(&self.units);
         self.units.as_slice()
     }
+
+    /// The units, in their order, each of them a value of its type. The string is their memory, so none is taken.
+    pub fn into_vec(self) -> Vec<U>
+        ensures units { result.items ≡ self }
+        ensures in_range { All U.IsInRange result.items }
+    {
+        U::tell_range(&self.units);
+        self.units
+    }
+}
+
+impl<U, K> From<Vec<U>> for UnitString<U, K> {
+    ghost from_gives = { λ units s. s ≡ units.items };
+
+    fn from(units: Vec<U>) -> Self {
+        Self::new(units)
+    }
 }
 
 impl<U: PartialEq, K> PartialEq for UnitString<U, K> {

@@ -1,0 +1,166 @@
+//! Laws of what no other contract names: derives, aliases, and the definitions that a trait's implementation picks.
+//!
+//! A derive compares, an alias names and a ghost member defines without a word in any contract. Each function here
+//! says by its contract what they give, so that a wrong one is refused.
+ghost use Rattle.std.specs.Prelude.{◌≡◌, ◌↔◌, ◌≤◌, ◌≤ℤ◌, ◌⊎◌, ◌++◌, ℕ, ℤ, Bool, pos, codes, IsTrue, IsSome, IfSome, unsigned_abs};
+ghost use Rattle.std.specs.Int.{is_negative};
+ghost use Rattle.std.specs.Int.Digits.{digits_of};
+ghost use Rattle.std.specs.Cmp.Lexicographic.{pointwise, slice_cmp, slice_partial_cmp};
+ghost use Rattle.std.specs.Hash as fed;
+ghost use Rattle.std.specs.List.{AllPass};
+ghost use Rattle.std.specs.Ordering.{as_partial_cmp, int_cmp, int_eq};
+ghost use Rattle.asn1_values.specs.Alphabets.{is_among, is_ia5, is_numeric, is_printable, is_visible};
+
+use crate::constrained::{ConstrainedInteger, LimitedInteger, Limits};
+use crate::error::{AlphabetError, OutOfRangeError};
+use crate::integer::Integer;
+use crate::integer_type::IntegerType;
+use crate::strings::alphabet_string::{Alphabet, AlphabetString};
+use crate::strings::character::{Ia5String, NumericString, PrintableString, VisibleString};
+use crate::strings::string_unit::StringUnit;
+use crate::strings::unit_string::UnitString;
+use std::hash::Hash;
+
+/// Whether the numbers are the same. Integers are compared and ordered by their numbers, and feed a hasher the sign and
+/// the bytes of the magnitude, the most significant first and with no leading zero.
+pub fn integers_are_compared_by_number(a: &Integer, b: &Integer) -> bool
+    ensures same { IsTrue result ↔ (a.now ≡ b.now) }
+    ensures equality { (x y : ℤ) → ⟦<Integer as PartialEq>⟧.eq x y ≡ int_eq x y }
+    ensures partial_order { (x y : ℤ) → ⟦<Integer as PartialOrd>⟧.partial_cmp x y ≡ as_partial_cmp int_cmp x y }
+    ensures order { (x y : ℤ) → ⟦<Integer as Ord>⟧.cmp x y ≡ int_cmp x y }
+    ensures hash { (x : ℤ) → ⟦<Integer as Hash>⟧.hash_input x ≡ fed.bool (is_negative x) ++ fed.slice fed.u8 (digits_of 256 (unsigned_abs x)) }
+{
+    a == b
+}
+
+/// The same of integers within limits, which are compared, ordered and hashed as their numbers are.
+pub fn limited_integers_are_compared_by_number<L: Limits>(
+    a: &LimitedInteger<L>,
+    b: &LimitedInteger<L>,
+) -> bool
+    ensures same { IsTrue result ↔ (a.now ≡ b.now) }
+    ensures equality { (x y : ℤ) → ⟦<LimitedInteger<L> as PartialEq>⟧.eq x y ≡ int_eq x y }
+    ensures partial_order { (x y : ℤ) → ⟦<LimitedInteger<L> as PartialOrd>⟧.partial_cmp x y ≡ as_partial_cmp int_cmp x y }
+    ensures order { (x y : ℤ) → ⟦<LimitedInteger<L> as Ord>⟧.cmp x y ≡ int_cmp x y }
+    ensures hash { (x : ℤ) → ⟦<LimitedInteger<L> as Hash>⟧.hash_input x ≡ ⟦<Integer as Hash>⟧.hash_input x }
+{
+    a == b
+}
+
+/// The number, if it is from `S` to `E`.
+pub fn constrained_integers_are_within<const S: i64, const E: i64>(
+    number: Integer,
+) -> Option<ConstrainedInteger<S, E>>
+    ensures within { IsSome result ↔ ((S ≤ℤ number) × (number ≤ℤ E)) }
+    ensures same { IfSome result (λ constrained. constrained ≡ number) }
+{
+    ConstrainedInteger::new(number)
+}
+
+/// Whether the units are equal. Strings without an alphabet are compared, ordered and hashed as the lists of their units
+/// are.
+pub fn unit_strings_are_compared_by_units<U: Ord + Hash, K>(
+    a: &UnitString<U, K>,
+    b: &UnitString<U, K>,
+) -> bool
+    ensures same { result ≡ pointwise U.eq a.now b.now }
+    ensures partial_order { ⟦<UnitString<U, K> as PartialOrd>⟧.partial_cmp a.now b.now ≡ slice_partial_cmp U.partial_cmp a.now b.now }
+    ensures order { ⟦<UnitString<U, K> as Ord>⟧.cmp a.now b.now ≡ slice_cmp U.cmp a.now b.now }
+    ensures hash { ⟦<UnitString<U, K> as Hash>⟧.hash_input a.now ≡ fed.slice U.hash_input a.now }
+{
+    a == b
+}
+
+/// The same of strings with an alphabet.
+pub fn alphabet_strings_are_compared_by_units<U: Ord + Hash, A: Alphabet<U>>(
+    a: &AlphabetString<U, A>,
+    b: &AlphabetString<U, A>,
+) -> bool
+    ensures same { result ≡ pointwise U.eq a.now b.now }
+    ensures partial_order { ⟦<AlphabetString<U, A> as PartialOrd>⟧.partial_cmp a.now b.now ≡ slice_partial_cmp U.partial_cmp a.now b.now }
+    ensures order { ⟦<AlphabetString<U, A> as Ord>⟧.cmp a.now b.now ≡ slice_cmp U.cmp a.now b.now }
+    ensures hash { ⟦<AlphabetString<U, A> as Hash>⟧.hash_input a.now ≡ fed.slice U.hash_input a.now }
+{
+    a == b
+}
+
+/// Whether the units make a VisibleString, which holds the characters 32 to 126.
+pub fn is_visible_string(units: Vec<u8>) -> bool
+    ensures alphabet { IsTrue result ↔ AllPass is_visible units.items }
+    ensures characters { (c : ℕ) → IsTrue (is_visible c) ↔ ((32 ≤ c) × (c ≤ 126)) }
+{
+    VisibleString::new(units).is_ok()
+}
+
+/// Whether the units make an IA5String, which holds the characters 0 to 127.
+pub fn is_ia5_string(units: Vec<u8>) -> bool
+    ensures alphabet { IsTrue result ↔ AllPass is_ia5 units.items }
+    ensures characters { (c : ℕ) → IsTrue (is_ia5 c) ↔ (c ≤ 127) }
+{
+    Ia5String::new(units).is_ok()
+}
+
+/// Whether the units make a NumericString, which holds the digits, 48 to 57, and space, 32.
+pub fn is_numeric_string(units: Vec<u8>) -> bool
+    ensures alphabet { IsTrue result ↔ AllPass is_numeric units.items }
+    ensures characters { (c : ℕ) → IsTrue (is_numeric c) ↔ ((c ≡ 32) ⊎ ((48 ≤ c) × (c ≤ 57))) }
+{
+    NumericString::new(units).is_ok()
+}
+
+/// Whether the units make a PrintableString, which holds the ASCII letters, digits, space and `'()+,-./:=?`.
+pub fn is_printable_string(units: Vec<u8>) -> bool
+    ensures alphabet { IsTrue result ↔ AllPass is_printable units.items }
+    ensures characters { (c : ℕ) → IsTrue (is_printable c) ↔ (((65 ≤ c) × (c ≤ 90)) ⊎ ((97 ≤ c) × (c ≤ 122)) ⊎ ((48 ≤ c) × (c ≤ 57)) ⊎ IsTrue (is_among (codes " '()+,-./:=?") c)) }
+{
+    PrintableString::new(units).is_ok()
+}
+
+/// The units of a string are the values of their type, and no other numbers.
+pub fn string_units_are_the_values_of_their_type()
+    ensures bits { (bit : Bool) → ⟦<bool as StringUnit>⟧.IsInRange bit }
+    ensures octets { (unit : ℕ) → ⟦<u8 as StringUnit>⟧.IsInRange unit ↔ (unit ≤ u8.MAX) }
+    ensures of_16_bits { (unit : ℕ) → ⟦<u16 as StringUnit>⟧.IsInRange unit ↔ (unit ≤ u16.MAX) }
+    ensures of_32_bits { (unit : ℕ) → ⟦<u32 as StringUnit>⟧.IsInRange unit ↔ (unit ≤ u32.MAX) }
+{}
+
+/// The number of a whole number's value is that value, in each type.
+pub fn integers_are_their_numbers()
+    ensures of_u8 { (n : ℕ) → ⟦<u8 as IntegerType>⟧.number n ≡ pos n }
+    ensures of_u16 { (n : ℕ) → ⟦<u16 as IntegerType>⟧.number n ≡ pos n }
+    ensures of_u32 { (n : ℕ) → ⟦<u32 as IntegerType>⟧.number n ≡ pos n }
+    ensures of_u64 { (n : ℕ) → ⟦<u64 as IntegerType>⟧.number n ≡ pos n }
+    ensures of_u128 { (n : ℕ) → ⟦<u128 as IntegerType>⟧.number n ≡ pos n }
+    ensures of_usize { (n : ℕ) → ⟦<usize as IntegerType>⟧.number n ≡ pos n }
+    ensures of_i8 { (z : ℤ) → ⟦<i8 as IntegerType>⟧.number z ≡ z }
+    ensures of_i16 { (z : ℤ) → ⟦<i16 as IntegerType>⟧.number z ≡ z }
+    ensures of_i32 { (z : ℤ) → ⟦<i32 as IntegerType>⟧.number z ≡ z }
+    ensures of_i64 { (z : ℤ) → ⟦<i64 as IntegerType>⟧.number z ≡ z }
+    ensures of_i128 { (z : ℤ) → ⟦<i128 as IntegerType>⟧.number z ≡ z }
+    ensures of_isize { (z : ℤ) → ⟦<isize as IntegerType>⟧.number z ≡ z }
+    ensures of_integer { (z : ℤ) → ⟦<Integer as IntegerType>⟧.number z ≡ z }
+{}
+
+/// An `Integer` is made of its number, and its default is 0.
+pub fn integers_are_made_of_their_numbers()
+    ensures default { (z : ℤ) → ⟦<Integer as Default>⟧.is_default z ↔ (z ≡ pos 0) }
+    ensures of_i128 { (n z : ℤ) → ⟦<Integer as From<i128>>⟧.from_gives n z ↔ (z ≡ n) }
+    ensures of_u64 { (n : ℕ) (z : ℤ) → ⟦<Integer as From<u64>>⟧.from_gives n z ↔ (z ≡ pos n) }
+    ensures of_u8 { (n : ℕ) (z : ℤ) → ⟦<Integer as From<u8>>⟧.from_gives n z ↔ (z ≡ pos n) }
+{}
+
+/// Whether the errors are the same, which they are if they name the same unit. A clone is its source.
+pub fn alphabet_errors_are_compared_by_index(a: &AlphabetError, b: &AlphabetError) -> bool
+    ensures same { IsTrue result ↔ (a.now ≡ b.now) }
+    ensures clone { ⟦<AlphabetError as Clone>⟧.is_clone a.now b.now ↔ (b.now ≡ a.now) }
+{
+    a == b
+}
+
+/// There is one such error.
+pub fn out_of_range_errors_are_equal(a: &OutOfRangeError, b: &OutOfRangeError) -> bool
+    ensures same { IsTrue result }
+    ensures clone { ⟦<OutOfRangeError as Clone>⟧.is_clone a.now b.now ↔ (b.now ≡ a.now) }
+{
+    a == b
+}
