@@ -1,6 +1,7 @@
 pub mod SharedTags
 pub mod Searches
 pub mod Clashes
+mod Compared
 pub mod Orders
 pub mod Required
 pub mod Rearranged

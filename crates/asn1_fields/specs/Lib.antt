@@ -1,4 +1,5 @@
 pub mod CanonicalOrder
 pub mod DistinctTags
 pub mod Entries
+pub mod EntryOrder
 pub mod FieldLists

@@ -65,10 +65,7 @@ impl<'a, const N: usize> Fields<'a, N> {
     pub fn number_of_optional_and_default_fields(&self) -> usize
         ensures { result ≡ length (optional_fields (fields_of self.now)) }
     {
-        self.as_slice()
-            .iter()
-            .filter(|field| field.is_optional_or_default())
-            .count()
+        self.optional_and_default_fields().len()
     }
 
     /// The fields in order, each once.
@@ -121,6 +118,36 @@ impl<'a, const N: usize> Fields<'a, N> {
         ensures report { result ≡ set_clash (components (fields_of self.now)) }
     {
         distinct_tags::first_set_clash(self.fields)
+    }
+}
+
+/// The fields in order, each once, as those of [`Fields::iter`].
+impl<'a, const N: usize> IntoIterator for Fields<'a, N> {
+    ghost use Rattle.asn1_fields.specs.FieldLists.{fields_left, fields_of};
+
+    type Item = Field<'a>;
+
+    type IntoIter = FieldIter<'a>;
+
+    ghost into_iter_gives = { λ table fields. fields_left fields ≡ fields_of table };
+
+    fn into_iter(self) -> FieldIter<'a> {
+        self.iter()
+    }
+}
+
+/// The fields in order, each once, as those of [`Fields::iter`].
+impl<'a, const N: usize> IntoIterator for &Fields<'a, N> {
+    ghost use Rattle.asn1_fields.specs.FieldLists.{fields_left, fields_of};
+
+    type Item = Field<'a>;
+
+    type IntoIter = FieldIter<'a>;
+
+    ghost into_iter_gives = { λ table fields. fields_left fields ≡ fields_of table.now };
+
+    fn into_iter(self) -> FieldIter<'a> {
+        self.iter()
     }
 }
 

@@ -10,6 +10,7 @@
 //! | [`FieldPresence`] | whether a component is always there, OPTIONAL or has a DEFAULT | `presence.rt` | `Entries` |
 //! | [`Fields`] | a table of a known number of fields | `fields.rt` | `FieldLists` |
 //! | [`FieldIter`] and its kin | its fields, those that may be absent, and its names | `iterators.rt` | `FieldLists` |
+//! | [`derived_traits_say_what_they_should`] | laws of equality, order, default and clones | `laws.rt` | `EntryOrder` |
 //! | [`first_sequence_clash`], [`first_set_clash`] | the rules on distinct tags | `distinct_tags.rt` | `DistinctTags` |
 //! | [`is_canonical`] | the canonical order | `canonical_order.rt` | `CanonicalOrder` |
 //!
@@ -25,7 +26,10 @@
 //!   a function). Of all rearrangements of a table whose smallest tags differ, at most one is canonical
 //!   (`at_most_one_rearrangement_is_canonical`).
 //! - A `Fields` is the list of its fields (`fields_of`). Each iterator gives its items once, in the order of the table,
-//!   and ends. `Fields::from_static` requires that there are as many fields as its type says.
+//!   and ends; it knows how many are left (`exact`), and a clone of it has the same ones left. `Fields::from_static`
+//!   requires that there are as many fields as its type says.
+//! - Fields are equal if and only if they say the same (`field_equal`), and go by what they say, part after part
+//!   (`field_order`). Presences go as they are listed, and the default one is `Default`.
 //! - `Field::new_required_type` and its kin take the tree of tags from the type's meaning (`typed_entry`,
 //!   `tagged_entry`).
 //!
@@ -41,6 +45,7 @@ mod distinct_tags;
 mod field;
 mod fields;
 mod iterators;
+mod laws;
 mod presence;
 #[cfg(test)]
 mod tests;
@@ -50,4 +55,5 @@ pub use distinct_tags::{first_sequence_clash, first_set_clash};
 pub use field::Field;
 pub use fields::Fields;
 pub use iterators::{FieldIter, IdentifierIter, OptionalFieldIter};
+pub use laws::derived_traits_say_what_they_should;
 pub use presence::FieldPresence;

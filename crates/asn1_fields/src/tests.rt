@@ -222,10 +222,37 @@ fn assert_items<const N: usize>(
     }
 }
 
+// Clones of the iterators of the table tell how many items are left.
+fn assert_lengths<const N: usize>(rt: &impl Abort, table: &Fields<'_, N>, optional: usize) {
+    let fields = table.iter().clone().expect(rt, "a clone");
+    assert!(rt; fields.len() == N && fields.size_hint() == (N, Some(N)));
+    let names = table.identifiers().clone().expect(rt, "a clone");
+    assert!(rt; names.len() == N && names.size_hint() == (N, Some(N)));
+    let some = table
+        .optional_and_default_fields()
+        .clone()
+        .expect(rt, "a clone");
+    assert!(rt; some.len() == optional && some.size_hint() == (optional, Some(optional)));
+}
+
+// A `for` over the table, and over a reference to it, gives its fields.
+fn assert_loops<const N: usize>(rt: &impl Abort, table: Fields<'_, N>) {
+    let mut place = 0;
+    for field in &table {
+        assert!(rt; table.as_slice().get(place) == Some(&field));
+        place += 1;
+    }
+    for field in table {
+        assert!(rt; field.index < place);
+    }
+}
+
 #[test]
 fn a_table_gives_its_fields_in_order(rt: HostRuntime) {
     let table = Fields::<3>::from_static(PROFILE);
     assert_counts(&rt, &table, 2);
+    assert_lengths(&rt, &table, 2);
+    assert_loops(&rt, table);
     assert_fields(&rt, table.as_slice(), PROFILE);
     assert_items(
         &rt,

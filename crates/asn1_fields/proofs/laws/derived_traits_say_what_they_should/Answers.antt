@@ -1,0 +1,8 @@
+use Rattle.asn1_fields.proofs.Compared.{field_order, field_same}
+use Rattle.asn1_fields.proofs.laws.derived_traits_say_what_they_should.Goals as goal
+
+pub returns-clause-field_equal : goal.returns-clause-field_equal
+returns-clause-field_equal c = field_same
+
+pub returns-clause-field_order : goal.returns-clause-field_order
+returns-clause-field_order c = field_order
