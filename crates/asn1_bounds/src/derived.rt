@@ -68,7 +68,7 @@ pub fn alphabets_are_compared_by_characters()
 pub fn extensible_constraints_are_compared_by_parts<'a, T: PartialEq + Default + 'a>()
     ensures equality { (a b : Extensible T) → ⟦<Extensible<'a, T> as PartialEq>⟧.eq a b ≡
         (T.eq a.constraint b.constraint &&
-            option_eq (pointwise T.eq) (option_copied a.extensible) (option_copied b.extensible)) }
+        option_eq (pointwise T.eq) (option_copied a.extensible) (option_copied b.extensible)) }
     ensures default { (a : Extensible T) → ⟦<Extensible<'a, T> as Default>⟧.is_default a →
         T.is_default a.constraint × (a.extensible ≡ None) }
     ensures value_clones { ClonesExactly ⟦<Extensible<'a, Value> as Clone>⟧.is_clone
@@ -98,8 +98,7 @@ pub fn names_are_compared_by_case()
     ensures widths { TellsApart ⟦<TooWide as PartialEq>⟧.eq }
     ensures errors { (a b : InnerSubtypeConstraintError) →
         IsTrue (⟦<InnerSubtypeConstraintError as PartialEq>⟧.eq a b) ↔ (refusal_of a ≡ refusal_of b) }
-    ensures discriminant_clones {
-        ClonesExactly ⟦<ConstraintDiscriminant as Clone>⟧.is_clone ⟦<ConstraintDiscriminant as Clone>⟧.is_infallible }
+    ensures discriminant_clones { ClonesExactly ⟦<ConstraintDiscriminant as Clone>⟧.is_clone ⟦<ConstraintDiscriminant as Clone>⟧.is_infallible }
     ensures codec_clones { ClonesExactly ⟦<Codec as Clone>⟧.is_clone ⟦<Codec as Clone>⟧.is_infallible }
     ensures error_clones { ClonesExactly ⟦<InnerSubtypeConstraintError as Clone>⟧.is_clone
         ⟦<InnerSubtypeConstraintError as Clone>⟧.is_infallible }
