@@ -47,8 +47,8 @@ filter-both p q r same [] = refl
 filter-both p q r same (x ∷ xs) =
     let rest = filter-both p q r same xs in
     rw (same x) (elim (q x) as (λ t. filter p (cond t (x ∷ filter q xs) (filter q xs)) ≡ cond (t && p x) (x ∷ filter r xs) (filter r xs)) [
-      true ↦ ap (λ ys. cond (p x) (x ∷ ys) ys) rest
-    | false ↦ rest
+      | true ↦ ap (λ ys. cond (p x) (x ∷ ys) ys) rest
+      | false ↦ rest
     ])
 
 pub common_characters-assoc : (a b c : List ℕ) → common_characters (common_characters a b) c ≡ common_characters a (common_characters b c)

@@ -138,8 +138,8 @@ set_of_all-without_alphabet : (cs : List Constraint) → All (λ c. IsNone (alph
 set_of_all-without_alphabet [] h = refl
 set_of_all-without_alphabet (c ∷ cs) h =
     parts-without_alphabet (set_of c).permitted_alphabet (set_of_all cs).permitted_alphabet
-      (set_of-without_alphabet c (All-head (λ c. IsNone (alphabet_of c)) c cs h))
-      (set_of_all-without_alphabet cs (All-tail (λ c. IsNone (alphabet_of c)) c cs h))
+    (set_of-without_alphabet c (All-head (λ c. IsNone (alphabet_of c)) c cs h))
+    (set_of_all-without_alphabet cs (All-tail (λ c. IsNone (alphabet_of c)) c cs h))
 
 pub set_of_some-without_alphabet : (cs : List Constraint) (i : ℕ) → All (λ c. IsNone (alphabet_of c)) cs → IsNone (set_of_all (take i cs)).permitted_alphabet
 set_of_some-without_alphabet cs i h = set_of_all-without_alphabet (take i cs) (All-take (λ c. IsNone (alphabet_of c)) i cs h)

@@ -15,12 +15,16 @@ both_values a b = record { bound = value_intersection a.bound b.bound }
 abbrev pub both_sizes : Size → Size → Size
 both_sizes a b = record { bound = size_intersection a.bound b.bound }
 
+-- of two parts: the additions of the first, where both are extensible
+abbrev pub common_additions : {A : Type 0} → Option A → Option A → Option A
+common_additions a b = if is_some b then a else None
+
 module _ {T : Type 0} (both : T → T → T) where
-  -- two parts of one kind: extensible where both are, with the additions of the first
+  -- two parts of one kind
   abbrev pub part_intersection : Extensible T → Extensible T → Extensible T
   part_intersection a b = record {
     constraint = both a.constraint b.constraint;
-    extensible = if is_some b.extensible then a.extensible else None;
+    extensible = common_additions a.extensible b.extensible;
   }
 
   -- a kind without a part restricts nothing

@@ -95,8 +95,12 @@ impl<'a> Constraints<'a> {
         permitted_alphabet: Option<Extensible<'a, PermittedAlphabet>>,
         extensible: bool,
     ) -> Self
-        ensures { result ≡ record { value = value.entry; size = size.entry;
-            permitted_alphabet = permitted_alphabet.entry; extensible = extensible } }
+        ensures { result ≡ record {
+          value = value.entry;
+          size = size.entry;
+          permitted_alphabet = permitted_alphabet.entry;
+          extensible = extensible;
+        } }
     {
         Constraints {
             value,
@@ -124,8 +128,11 @@ impl<'a> Constraints<'a> {
         ensures without_alphabet { IsNone self.now.permitted_alphabet →
             IsNone other.now.permitted_alphabet → IsOk result }
     {
-        let permitted_alphabet =
-            intersect_alphabets(alloc, &self.permitted_alphabet, &other.permitted_alphabet)?;
+        let permitted_alphabet = intersect_alphabets(
+            alloc,
+            self.permitted_alphabet(),
+            other.permitted_alphabet(),
+        )?;
         Ok(Constraints {
             value: intersect_values(self.value, other.value),
             size: intersect_sizes(self.size, other.size),
@@ -167,7 +174,7 @@ impl<'a> Constraints<'a> {
     pub fn extensible(&self) -> bool
         ensures { result ≡ is_extensible self.now }
     {
-        self.per_visibly_extensible() || is_extensible(&self.permitted_alphabet)
+        self.per_visibly_extensible() || is_extensible(self.permitted_alphabet())
     }
 
     /// Whether the set is extensible but for its permitted alphabet, whose extensibility the packed encoding rules
@@ -175,15 +182,15 @@ impl<'a> Constraints<'a> {
     pub fn per_visibly_extensible(&self) -> bool
         ensures { result ≡ is_per_visibly_extensible self.now }
     {
-        self.extensible || is_extensible(&self.value) || is_extensible(&self.size)
+        self.extensible || is_extensible(self.value()) || is_extensible(self.size())
     }
 }
 
 // Whether there is a part, and it is extensible.
-fn is_extensible<T>(part: &Option<Extensible<'_, T>>) -> bool
-    ensures { result ≡ is_part_extensible part.now }
+fn is_extensible<T>(part: Option<&Extensible<'_, T>>) -> bool
+    ensures { result ≡ is_part_extensible (option_copied part.entry) }
 {
-    part.as_ref().is_some_and(|part| part.extensible.is_some())
+    part.is_some_and(|part| part.extensible.is_some())
 }
 
 // What two parts on values leave, either of which may be missing.
@@ -215,11 +222,12 @@ fn intersect_sizes<'a>(
 // What two parts on characters leave, either of which may be missing.
 fn intersect_alphabets<'a>(
     alloc: Global,
-    a: &Option<Extensible<'a, PermittedAlphabet>>,
-    b: &Option<Extensible<'a, PermittedAlphabet>>,
+    a: Option<&Extensible<'a, PermittedAlphabet>>,
+    b: Option<&Extensible<'a, PermittedAlphabet>>,
 ) -> Result<Option<Extensible<'a, PermittedAlphabet>>, AllocError>
-    ensures part { IfOk result (λ both. both ≡ parts_intersection common_characters a.now b.now) }
-    ensures without_alphabet { IsNone a.now → IsNone b.now → IsOk result }
+    ensures part { IfOk result (λ both.
+        both ≡ parts_intersection common_characters (option_copied a.entry) (option_copied b.entry)) }
+    ensures without_alphabet { IsNone a.entry → IsNone b.entry → IsOk result }
 {
     match (a, b) {
         (Some(a), Some(b)) => Ok(Some(a.intersect(alloc, b)?)),

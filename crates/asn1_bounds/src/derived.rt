@@ -1,50 +1,107 @@
-//! What the derived comparisons, hashes and defaults of this crate's types answer.
-ghost use Rattle.std.specs.Prelude.{◌≡◌, ◌↔◌, ◌&&◌, IsTrue, Some, None, List, ℕ, refl};
-ghost use Rattle.std.specs.Option.{option_copied, option_eq};
+//! What the derived comparisons, hashes, copies and defaults of this crate's types answer.
+ghost use Rattle.std.specs.Prelude.{◌≡◌, ◌↔◌, ◌&&◌, IsTrue, Some, None};
 ghost use Rattle.std.specs.Cmp.Lexicographic.{pointwise, slice_cmp};
-ghost use Rattle.std.specs.Ordering.{nat_cmp};
 ghost use Rattle.std.specs.Hash as fed;
+ghost use Rattle.std.specs.Option.{option_copied, option_eq};
+ghost use Rattle.std.specs.Ordering.{nat_cmp};
+ghost use Rattle.asn1_ranges.specs.Compared.{TellsApart, ClonesExactly};
+ghost use Rattle.asn1_bounds.specs.ConstraintKind.{kind_of};
+ghost use Rattle.asn1_bounds.specs.InnerSubtype.{refusal_of};
 ghost use Rattle.asn1_bounds.specs.declared.alphabet.PermittedAlphabet.{PermittedAlphabet};
-ghost use Rattle.asn1_bounds.specs.declared.codec.Codec.{Codec};
-ghost use Rattle.asn1_bounds.specs.declared.constraint.ConstraintDiscriminant.{ConstraintDiscriminant};
+ghost use Rattle.asn1_bounds.specs.declared.constraint.Constraint.{Constraint};
+ghost use Rattle.asn1_bounds.specs.declared.constraint.Constraint.TheVariants as constraint;
 ghost use Rattle.asn1_bounds.specs.declared.error.InnerSubtypeConstraintError.{InnerSubtypeConstraintError};
-ghost use Rattle.asn1_bounds.specs.declared.error.TooWide.{TooWide};
 ghost use Rattle.asn1_bounds.specs.declared.extensible.Extensible.{Extensible};
 ghost use Rattle.asn1_bounds.specs.declared.size.Size.{Size};
 ghost use Rattle.asn1_bounds.specs.declared.value.Value.{Value};
 
 use crate::alphabet::PermittedAlphabet;
 use crate::codec::Codec;
-use crate::constraint::ConstraintDiscriminant;
+use crate::constraint::{Constraint, ConstraintDiscriminant};
 use crate::error::{InnerSubtypeConstraintError, TooWide};
 use crate::extensible::Extensible;
 use crate::size::Size;
+use crate::table::ConstraintTable;
 use crate::value::Value;
 use asn1_ranges::Bounded;
 use std::hash::Hash;
 
-/// Two constraints of values, or of sizes, are equal if they have the same bound; they go in the order of their bounds,
-/// and are hashed as these. Permitted alphabets do so by their lists of characters. The default has no bound.
-pub fn kinds_are_compared_by_content()
-    ensures value_equality { (a b : Value) → IsTrue (⟦<Value as PartialEq>⟧.eq a b) ↔ (a ≡ b) }
-    ensures value_order { (a b : Value) → ⟦<Value as Ord>⟧.cmp a b ≡ ⟦<Bounded<i128> as Ord>⟧.cmp a.bound b.bound }
-    ensures value_partial_order { (a b : Value) → ⟦<Value as PartialOrd>⟧.partial_cmp a b ≡ Some (⟦<Value as Ord>⟧.cmp a b) }
-    ensures value_hash { (a : Value) → ⟦<Value as Hash>⟧.hash_input a ≡ ⟦<Bounded<i128> as Hash>⟧.hash_input a.bound }
-    ensures value_default { (a : Value) → ⟦<Value as Default>⟧.is_default a → a.bound ≡ Bounded.None }
-    ensures value_clone { (a b : Value) → ⟦<Value as Clone>⟧.is_clone a b → b ≡ a }
-    ensures size_equality { (a b : Size) → IsTrue (⟦<Size as PartialEq>⟧.eq a b) ↔ (a ≡ b) }
-    ensures alphabet_equality { (a b : PermittedAlphabet) → IsTrue (⟦<PermittedAlphabet as PartialEq>⟧.eq a b) ↔ (a ≡ b) }
-    ensures alphabet_hash { (a : PermittedAlphabet) → ⟦<PermittedAlphabet as Hash>⟧.hash_input a ≡ fed.slice fed.u32 a }
-    ensures discriminant_equality { (a b : ConstraintDiscriminant) → IsTrue (⟦<ConstraintDiscriminant as PartialEq>⟧.eq a b) ↔ (a ≡ b) }
-    ensures codec_equality { (a b : Codec) → IsTrue (⟦<Codec as PartialEq>⟧.eq a b) ↔ (a ≡ b) }
+/// Constraints of values are equal if and only if they have the same bound; they go in the order of their bounds, and
+/// are hashed as these. The default has no bound, and a clone is its source.
+pub fn values_are_compared_by_bound()
+    ensures equality { TellsApart ⟦<Value as PartialEq>⟧.eq }
+    ensures order { (a b : Value) → ⟦<Value as Ord>⟧.cmp a b ≡ ⟦<Bounded<i128> as Ord>⟧.cmp a.bound b.bound }
+    ensures partial_order { (a b : Value) →
+        ⟦<Value as PartialOrd>⟧.partial_cmp a b ≡ Some (⟦<Value as Ord>⟧.cmp a b) }
+    ensures hash { (a : Value) →
+        ⟦<Value as Hash>⟧.hash_input a ≡ ⟦<Bounded<i128> as Hash>⟧.hash_input a.bound }
+    ensures default { (a : Value) → ⟦<Value as Default>⟧.is_default a → a.bound ≡ Bounded.None }
+    ensures clone { ClonesExactly ⟦<Value as Clone>⟧.is_clone ⟦<Value as Clone>⟧.is_infallible }
 {}
 
-/// A constraint with additions is equal to another if the roots are equal and both or neither is extensible, with equal
-/// additions. The default is the default of the constraint, not extensible.
+/// Constraints of length are equal if and only if they have the same bound; they go in the order of their bounds, and
+/// are hashed as these. The default has no bound, and a clone is its source.
+pub fn sizes_are_compared_by_bound()
+    ensures equality { TellsApart ⟦<Size as PartialEq>⟧.eq }
+    ensures order { (a b : Size) → ⟦<Size as Ord>⟧.cmp a b ≡ ⟦<Bounded<usize> as Ord>⟧.cmp a.bound b.bound }
+    ensures partial_order { (a b : Size) →
+        ⟦<Size as PartialOrd>⟧.partial_cmp a b ≡ Some (⟦<Size as Ord>⟧.cmp a b) }
+    ensures hash { (a : Size) →
+        ⟦<Size as Hash>⟧.hash_input a ≡ ⟦<Bounded<usize> as Hash>⟧.hash_input a.bound }
+    ensures default { (a : Size) → ⟦<Size as Default>⟧.is_default a → a.bound ≡ Bounded.None }
+    ensures clone { ClonesExactly ⟦<Size as Clone>⟧.is_clone ⟦<Size as Clone>⟧.is_infallible }
+{}
+
+/// Permitted alphabets are equal if and only if they are the same list of characters, go lexicographically, and are
+/// hashed as slices.
+pub fn alphabets_are_compared_by_characters()
+    ensures equality { TellsApart ⟦<PermittedAlphabet as PartialEq>⟧.eq }
+    ensures order { (a b : PermittedAlphabet) → ⟦<PermittedAlphabet as Ord>⟧.cmp a b ≡ slice_cmp nat_cmp a b }
+    ensures partial_order { (a b : PermittedAlphabet) →
+        ⟦<PermittedAlphabet as PartialOrd>⟧.partial_cmp a b ≡ Some (⟦<PermittedAlphabet as Ord>⟧.cmp a b) }
+    ensures hash { (a : PermittedAlphabet) → ⟦<PermittedAlphabet as Hash>⟧.hash_input a ≡ fed.slice fed.u32 a }
+{}
+
+/// Two constraints with additions are equal if their roots are equal, and either neither is extensible or both are, with
+/// equal additions. The default is the default of the constraint, not extensible. A clone of one on values or lengths is
+/// its source.
 pub fn extensible_constraints_are_compared_by_parts<'a, T: PartialEq + Default + 'a>()
     ensures equality { (a b : Extensible T) → ⟦<Extensible<'a, T> as PartialEq>⟧.eq a b ≡
         (T.eq a.constraint b.constraint &&
-            option_eq (pointwise T.eq) (option_copied a.extensible) (option_copied b.extensible)) }
+        option_eq (pointwise T.eq) (option_copied a.extensible) (option_copied b.extensible)) }
     ensures default { (a : Extensible T) → ⟦<Extensible<'a, T> as Default>⟧.is_default a →
         T.is_default a.constraint × (a.extensible ≡ None) }
+    ensures value_clones { ClonesExactly ⟦<Extensible<'a, Value> as Clone>⟧.is_clone
+        ⟦<Extensible<'a, Value> as Clone>⟧.is_infallible }
+    ensures size_clones { ClonesExactly ⟦<Extensible<'a, Size> as Clone>⟧.is_clone
+        ⟦<Extensible<'a, Size> as Clone>⟧.is_infallible }
+{}
+
+/// Two constraints are equal if and only if they are of one kind, and their parts are equal.
+pub fn constraints_are_compared_by_parts<'a>()
+    ensures values { (a b : Extensible Value) → ⟦<Constraint<'a> as PartialEq>⟧.eq (constraint.Value a) (constraint.Value b)
+        ≡ ⟦<Extensible<'a, Value> as PartialEq>⟧.eq a b }
+    ensures sizes { (a b : Extensible Size) → ⟦<Constraint<'a> as PartialEq>⟧.eq (constraint.Size a) (constraint.Size b)
+        ≡ ⟦<Extensible<'a, Size> as PartialEq>⟧.eq a b }
+    ensures alphabets { (a b : Extensible PermittedAlphabet) →
+        ⟦<Constraint<'a> as PartialEq>⟧.eq (constraint.PermittedAlphabet a) (constraint.PermittedAlphabet b)
+        ≡ ⟦<Extensible<'a, PermittedAlphabet> as PartialEq>⟧.eq a b }
+    ensures markers { IsTrue (⟦<Constraint<'a> as PartialEq>⟧.eq constraint.Extensible constraint.Extensible) }
+    ensures kinds { (a b : Constraint) → IsTrue (⟦<Constraint<'a> as PartialEq>⟧.eq a b) → kind_of a ≡ kind_of b }
+{}
+
+/// Kinds of constraint, codecs and errors are equal if and only if they are the same case, of the same number or name.
+/// A clone of these, or of a table of constraints, is its source.
+pub fn names_are_compared_by_case()
+    ensures discriminants { TellsApart ⟦<ConstraintDiscriminant as PartialEq>⟧.eq }
+    ensures codecs { TellsApart ⟦<Codec as PartialEq>⟧.eq }
+    ensures widths { TellsApart ⟦<TooWide as PartialEq>⟧.eq }
+    ensures errors { (a b : InnerSubtypeConstraintError) →
+        IsTrue (⟦<InnerSubtypeConstraintError as PartialEq>⟧.eq a b) ↔ (refusal_of a ≡ refusal_of b) }
+    ensures discriminant_clones { ClonesExactly ⟦<ConstraintDiscriminant as Clone>⟧.is_clone ⟦<ConstraintDiscriminant as Clone>⟧.is_infallible }
+    ensures codec_clones { ClonesExactly ⟦<Codec as Clone>⟧.is_clone ⟦<Codec as Clone>⟧.is_infallible }
+    ensures error_clones { ClonesExactly ⟦<InnerSubtypeConstraintError as Clone>⟧.is_clone
+        ⟦<InnerSubtypeConstraintError as Clone>⟧.is_infallible }
+    ensures table_clones { ClonesExactly ⟦<ConstraintTable<'static> as Clone>⟧.is_clone
+        ⟦<ConstraintTable<'static> as Clone>⟧.is_infallible }
 {}

@@ -19,6 +19,8 @@ pub struct Extensible<'a, T> {
 }
 
 impl<'a, T> Extensible<'a, T> {
+    ghost use Rattle.asn1_bounds.specs.Sets.{common_additions};
+
     /// The constraint, not extensible.
     pub fn new(constraint: T) -> Self
         ensures { result ≡ record { constraint = constraint; extensible = None } }
@@ -55,6 +57,13 @@ impl<'a, T> Extensible<'a, T> {
         self.extensible = constraints;
         self
     }
+
+    // The additions of what both constraints leave.
+    fn common_additions(&self, other: &Self) -> Option<&'a [T]>
+        ensures { result ≡ common_additions self.now.extensible other.now.extensible }
+    {
+        other.extensible.and(self.extensible)
+    }
 }
 
 impl Extensible<'_, Value> {
@@ -66,7 +75,7 @@ impl Extensible<'_, Value> {
     {
         Extensible {
             constraint: self.constraint.intersect(&other.constraint),
-            extensible: other.extensible.and(self.extensible),
+            extensible: self.common_additions(other),
         }
     }
 }
@@ -80,7 +89,7 @@ impl Extensible<'_, Size> {
     {
         Extensible {
             constraint: self.constraint.intersect(&other.constraint),
-            extensible: other.extensible.and(self.extensible),
+            extensible: self.common_additions(other),
         }
     }
 }
@@ -96,7 +105,7 @@ impl Extensible<'_, PermittedAlphabet> {
     {
         Ok(Extensible {
             constraint: self.constraint.intersect(alloc, &other.constraint)?,
-            extensible: other.extensible.and(self.extensible),
+            extensible: self.common_additions(other),
         })
     }
 

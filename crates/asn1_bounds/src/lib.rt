@@ -33,6 +33,11 @@ pub use asn1_ranges::{Bounded, FitsI128, WholeNumber};
 pub use codec::Codec;
 pub use constraint::{Constraint, ConstraintDiscriminant};
 pub use constraints::Constraints;
+pub use derived::{
+    alphabets_are_compared_by_characters, constraints_are_compared_by_parts,
+    extensible_constraints_are_compared_by_parts, names_are_compared_by_case,
+    sizes_are_compared_by_bound, values_are_compared_by_bound,
+};
 pub use error::{InnerSubtypeConstraintError, TooWide};
 pub use extensible::Extensible;
 pub use inner_subtype::InnerSubtypeConstraint;

@@ -73,7 +73,7 @@ impl Size {
     {
         Size::new(
             self.bound
-                .intersect(&other.bound)
+                .intersect(other.bound)
                 .unwrap_or(Bounded::const_new(1, 0)),
         )
     }

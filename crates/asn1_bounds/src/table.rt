@@ -60,8 +60,10 @@ impl<'a> ConstraintTable<'a> {
 
     /// The table with these characters as its permitted alphabet, not extensible.
     pub fn with_permitted_alphabet(self, characters: &'a [u32]) -> Self
-        ensures { owned result ≡ record (owned self.entry) { permitted_alphabet =
-            Some (record { constraint = characters.now; extensible = None }) } }
+        ensures { owned result ≡ record (owned self.entry) {
+          permitted_alphabet =
+              Some (record { constraint = characters.now; extensible = None });
+        } }
     {
         ConstraintTable {
             permitted_alphabet: Some(AlphabetTable {
@@ -78,8 +80,10 @@ impl<'a> ConstraintTable<'a> {
         characters: &'a [u32],
         additions: &'a [PermittedAlphabet],
     ) -> Self
-        ensures { owned result ≡ record (owned self.entry) { permitted_alphabet =
-            Some (record { constraint = characters.now; extensible = Some additions.entry }) } }
+        ensures { owned result ≡ record (owned self.entry) {
+          permitted_alphabet =
+              Some (record { constraint = characters.now; extensible = Some additions.entry });
+        } }
     {
         ConstraintTable {
             permitted_alphabet: Some(AlphabetTable {
@@ -113,12 +117,7 @@ impl<'a> ConstraintTable<'a> {
             }),
             None => None,
         };
-        Ok(Constraints::of_parts(
-            self.value,
-            self.size,
-            permitted_alphabet,
-            self.extensible,
-        ))
+        Ok(Constraints::of_parts(self.value, self.size, permitted_alphabet, self.extensible))
     }
 }
 
@@ -126,8 +125,10 @@ impl From<Value> for ConstraintTable<'_> {
     ghost use Rattle.asn1_bounds.specs.Sets.{no_constraints};
     ghost use Rattle.asn1_bounds.specs.Tables.{owned};
 
-    ghost from_gives = { λ kind table. owned table ≡ record no_constraints { value =
-        Some (record { constraint = kind; extensible = None }) } };
+    ghost from_gives = { λ kind table. owned table ≡ record no_constraints {
+      value =
+          Some (record { constraint = kind; extensible = None });
+    } };
 
     fn from(kind: Value) -> Self {
         ConstraintTable::NONE.with_value(Extensible::new(kind))
@@ -138,8 +139,10 @@ impl From<Size> for ConstraintTable<'_> {
     ghost use Rattle.asn1_bounds.specs.Sets.{no_constraints};
     ghost use Rattle.asn1_bounds.specs.Tables.{owned};
 
-    ghost from_gives = { λ kind table. owned table ≡ record no_constraints { size =
-        Some (record { constraint = kind; extensible = None }) } };
+    ghost from_gives = { λ kind table. owned table ≡ record no_constraints {
+      size =
+          Some (record { constraint = kind; extensible = None });
+    } };
 
     fn from(kind: Size) -> Self {
         ConstraintTable::NONE.with_size(Extensible::new(kind))

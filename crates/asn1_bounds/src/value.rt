@@ -59,7 +59,7 @@ impl Value {
     {
         Value::new(
             self.bound
-                .intersect(&other.bound)
+                .intersect(other.bound)
                 .unwrap_or(Bounded::const_new(1, -1)),
         )
     }

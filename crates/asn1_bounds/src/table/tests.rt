@@ -15,7 +15,11 @@ fn come_to_sets(rt: HostRuntime) {
     let bound = Value::new(Bounded::const_new(0, 1));
     let values = set(&rt, alloc, ConstraintTable::from(bound));
     assert!(rt; values.value().copied() == Some(Extensible::new(bound)) && !values.extensible());
-    let sizes = set(&rt, alloc, ConstraintTable::from(Size::fixed(3)).with_extension_marker());
+    let sizes = set(
+        &rt,
+        alloc,
+        ConstraintTable::from(Size::fixed(3)).with_extension_marker(),
+    );
     assert!(rt; sizes.size().copied() == Some(Extensible::new(Size::fixed(3))));
     assert!(rt; sizes.per_visibly_extensible());
 }
