@@ -2,13 +2,16 @@
 //!
 //! A derive compares, an alias names and a ghost member defines without a word in any contract. Each function here
 //! says by its contract what they give, so that a wrong one is refused.
-ghost use Rattle.std.specs.Prelude.{◌≡◌, ◌↔◌, ◌≤◌, ◌≤ℤ◌, ◌⊎◌, ◌++◌, ℕ, ℤ, Bool, pos, codes, IsTrue, IsSome, IfSome, unsigned_abs};
+ghost use Rattle.std.specs.Prelude.{◌≡◌, ◌↔◌, ◌≤◌, ◌≤ℤ◌, ◌⊎◌, ◌++◌, ℕ, ℤ, Bool, pos, codes, Result, Some, IsTrue, IsOk, IfOk, IfErr, not, position, IsSome, IfSome, unsigned_abs};
 ghost use Rattle.std.specs.Int.{is_negative};
 ghost use Rattle.std.specs.Int.Digits.{digits_of};
 ghost use Rattle.std.specs.Cmp.Lexicographic.{pointwise, slice_cmp, slice_partial_cmp};
 ghost use Rattle.std.specs.Hash as fed;
 ghost use Rattle.std.specs.List.{AllPass};
 ghost use Rattle.std.specs.Ordering.{as_partial_cmp, int_cmp, int_eq};
+ghost use Rattle.std.specs.Result.{OkIff};
+ghost use Rattle.asn1_values.specs.declared.error.OutOfRangeError.{OutOfRangeError};
+ghost use Rattle.asn1_values.specs.Text.{integer_text};
 ghost use Rattle.asn1_values.specs.Alphabets.{is_among, is_ia5, is_numeric, is_printable, is_visible};
 
 use crate::constrained::{ConstrainedInteger, LimitedInteger, Limits};
@@ -19,6 +22,7 @@ use crate::strings::alphabet_string::{Alphabet, AlphabetString};
 use crate::strings::character::{Ia5String, NumericString, PrintableString, VisibleString};
 use crate::strings::string_unit::StringUnit;
 use crate::strings::unit_string::UnitString;
+use std::fmt::Display;
 use std::hash::Hash;
 
 /// Whether the numbers are the same. Integers are compared and ordered by their numbers, and feed a hasher the sign and
@@ -84,6 +88,24 @@ pub fn alphabet_strings_are_compared_by_units<U: Ord + Hash, A: Alphabet<U>>(
     a == b
 }
 
+/// The string of these units, which `From` makes as `UnitString::new` does.
+pub fn unit_strings_are_made_of_their_units<U, K>(units: Vec<U>) -> UnitString<U, K>
+    ensures { result ≡ units.items }
+{
+    UnitString::from(units)
+}
+
+/// The string of these units or the first that the alphabet lacks, which `TryFrom` answers as `AlphabetString::new` does.
+pub fn alphabet_strings_are_made_of_their_units<U: Drop, A: Alphabet<U>>(
+    units: Vec<U>,
+) -> Result<AlphabetString<U, A>, AlphabetError>
+    ensures allowed { IsOk result ↔ AllPass A.allows units.items }
+    ensures units { IfOk result (λ s. s ≡ units.items) }
+    ensures first { IfErr result (λ e. position (λ u. not (A.allows u)) units.items ≡ Some e.0) }
+{
+    AlphabetString::try_from(units)
+}
+
 /// Whether the units make a VisibleString, which holds the characters 32 to 126.
 pub fn is_visible_string(units: Vec<u8>) -> bool
     ensures alphabet { IsTrue result ↔ AllPass is_visible units.items }
@@ -141,12 +163,30 @@ pub fn integers_are_their_numbers()
     ensures of_integer { (z : ℤ) → ⟦<Integer as IntegerType>⟧.number z ≡ z }
 {}
 
-/// An `Integer` is made of its number, and its default is 0.
-pub fn integers_are_made_of_their_numbers()
+/// An `Integer` is made of its number, its default is 0, and its text is that of its number.
+pub fn integers_are_made_and_written_by_number()
     ensures default { (z : ℤ) → ⟦<Integer as Default>⟧.is_default z ↔ (z ≡ pos 0) }
     ensures of_i128 { (n z : ℤ) → ⟦<Integer as From<i128>>⟧.from_gives n z ↔ (z ≡ n) }
     ensures of_u64 { (n : ℕ) (z : ℤ) → ⟦<Integer as From<u64>>⟧.from_gives n z ↔ (z ≡ pos n) }
     ensures of_u8 { (n : ℕ) (z : ℤ) → ⟦<Integer as From<u8>>⟧.from_gives n z ↔ (z ≡ pos n) }
+    ensures text { (z : ℤ) → ⟦<Integer as Display>⟧.output z ≡ Some (integer_text z) }
+{}
+
+/// A built-in integer is made of an `Integer` if and only if the number is from its least to its greatest one, and then
+/// has that number.
+pub fn built_in_integers_are_made_of_numbers_that_fit()
+    ensures to_u8 { (z : ℤ) (made : Result ℕ OutOfRangeError) → ⟦<u8 as TryFrom<Integer>>⟧.try_from_gives z made ↔ OkIff made ((pos 0 ≤ℤ z) × (z ≤ℤ pos u8.MAX)) (unsigned_abs z) }
+    ensures to_u16 { (z : ℤ) (made : Result ℕ OutOfRangeError) → ⟦<u16 as TryFrom<Integer>>⟧.try_from_gives z made ↔ OkIff made ((pos 0 ≤ℤ z) × (z ≤ℤ pos u16.MAX)) (unsigned_abs z) }
+    ensures to_u32 { (z : ℤ) (made : Result ℕ OutOfRangeError) → ⟦<u32 as TryFrom<Integer>>⟧.try_from_gives z made ↔ OkIff made ((pos 0 ≤ℤ z) × (z ≤ℤ pos u32.MAX)) (unsigned_abs z) }
+    ensures to_u64 { (z : ℤ) (made : Result ℕ OutOfRangeError) → ⟦<u64 as TryFrom<Integer>>⟧.try_from_gives z made ↔ OkIff made ((pos 0 ≤ℤ z) × (z ≤ℤ pos u64.MAX)) (unsigned_abs z) }
+    ensures to_u128 { (z : ℤ) (made : Result ℕ OutOfRangeError) → ⟦<u128 as TryFrom<Integer>>⟧.try_from_gives z made ↔ OkIff made ((pos 0 ≤ℤ z) × (z ≤ℤ pos u128.MAX)) (unsigned_abs z) }
+    ensures to_usize { (z : ℤ) (made : Result ℕ OutOfRangeError) → ⟦<usize as TryFrom<Integer>>⟧.try_from_gives z made ↔ OkIff made ((pos 0 ≤ℤ z) × (z ≤ℤ pos usize.MAX)) (unsigned_abs z) }
+    ensures to_i8 { (z : ℤ) (made : Result ℤ OutOfRangeError) → ⟦<i8 as TryFrom<Integer>>⟧.try_from_gives z made ↔ OkIff made ((i8.MIN ≤ℤ z) × (z ≤ℤ i8.MAX)) z }
+    ensures to_i16 { (z : ℤ) (made : Result ℤ OutOfRangeError) → ⟦<i16 as TryFrom<Integer>>⟧.try_from_gives z made ↔ OkIff made ((i16.MIN ≤ℤ z) × (z ≤ℤ i16.MAX)) z }
+    ensures to_i32 { (z : ℤ) (made : Result ℤ OutOfRangeError) → ⟦<i32 as TryFrom<Integer>>⟧.try_from_gives z made ↔ OkIff made ((i32.MIN ≤ℤ z) × (z ≤ℤ i32.MAX)) z }
+    ensures to_i64 { (z : ℤ) (made : Result ℤ OutOfRangeError) → ⟦<i64 as TryFrom<Integer>>⟧.try_from_gives z made ↔ OkIff made ((i64.MIN ≤ℤ z) × (z ≤ℤ i64.MAX)) z }
+    ensures to_i128 { (z : ℤ) (made : Result ℤ OutOfRangeError) → ⟦<i128 as TryFrom<Integer>>⟧.try_from_gives z made ↔ OkIff made ((i128.MIN ≤ℤ z) × (z ≤ℤ i128.MAX)) z }
+    ensures to_isize { (z : ℤ) (made : Result ℤ OutOfRangeError) → ⟦<isize as TryFrom<Integer>>⟧.try_from_gives z made ↔ OkIff made ((isize.MIN ≤ℤ z) × (z ≤ℤ isize.MAX)) z }
 {}
 
 /// Whether the errors are the same, which they are if they name the same unit. A clone is its source.

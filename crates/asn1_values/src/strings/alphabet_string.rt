@@ -1,5 +1,5 @@
 //! Strings whose units come from an alphabet.
-ghost use Rattle.std.specs.Prelude.{◌≡◌, ◌↔◌, Bool, not, IsNone, IsOk, IfOk, IfErr, MatchResult, Some, position};
+ghost use Rattle.std.specs.Prelude.{◌≡◌, ◌↔◌, Bool, not, IsNone, IsOk, IfOk, IfErr, Some, position};
 ghost use Rattle.std.specs.List.{AllPass};
 
 use crate::error::AlphabetError;
@@ -79,8 +79,8 @@ impl<U: StringUnit, A: Alphabet<U>> AlphabetString<U, A> {
 impl<U: Drop, A: Alphabet<U>> TryFrom<Vec<U>> for AlphabetString<U, A> {
     type Error = AlphabetError;
 
-    // The string of these units, if the alphabet has them all; else the index of the first that it lacks.
-    ghost try_from_gives = { λ units made. MatchResult made (λ s. (s ≡ units.items) × AllPass A.allows units.items) (λ e. position (λ u. not (A.allows u)) units.items ≡ Some e.0) };
+    // What `new` answers.
+    ghost try_from_gives = { λ units made. (IsOk made ↔ AllPass A.allows units.items) × IfOk made (λ s. s ≡ units.items) × IfErr made (λ e. position (λ u. not (A.allows u)) units.items ≡ Some e.0) };
 
     fn try_from(units: Vec<U>) -> Result<Self, AlphabetError> {
         Self::new(units)
