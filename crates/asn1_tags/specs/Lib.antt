@@ -5,3 +5,4 @@ pub mod Order
 pub mod OrderLaws
 pub mod Names
 pub mod Tables
+pub mod Derives

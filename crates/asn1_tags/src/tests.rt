@@ -1,7 +1,9 @@
-use crate::{Class, Identifier, Tag, TagTree, Variants};
+use crate::{Class, Identifier, Tag, TagTree};
 use std::alloc::Global;
 use std::cmp::Ordering;
 use std::process::Abort;
+
+mod variants;
 
 const UNIVERSAL: &[(Tag, u32)] = &[
     (Tag::EOC, 0),
@@ -352,38 +354,4 @@ fn names_of_types_have_their_texts(rt: HostRuntime) {
     assert!(rt; Identifier::INTEGER.or(Identifier::BOOL).unwrap() == "INTEGER");
     assert!(rt; Identifier::EMPTY < Identifier::BIT_STRING);
     assert!(rt; Identifier::BIT_STRING < Identifier::BOOL);
-}
-
-fn assert_tags(rt: &impl Abort, variants: Variants, tags: &[Tag]) {
-    assert!(rt; variants.as_slice() == tags);
-}
-
-fn assert_variants(rt: &impl Abort, alloc: Global, nodes: &[TagTree<'_>], tags: &[Tag]) {
-    assert_tags(
-        rt,
-        Variants::from_slice(alloc, nodes).expect(rt, "memory"),
-        tags,
-    );
-    let variants = Variants::new(alloc, nodes).expect(rt, "memory");
-    assert_tags(rt, variants.try_clone(alloc).expect(rt, "memory"), tags);
-    assert_tags(rt, variants, tags);
-}
-
-#[test]
-fn variants_are_the_leaves_from_the_left(rt: HostRuntime) {
-    let alloc = rt.alloc();
-    let nodes = [leaf!(Universal 2), TagTree::Choice(A0_TWICE)];
-    let tags = [
-        Tag::INTEGER,
-        Tag::new_application(0),
-        Tag::new_application(0),
-        Tag::new_context(2),
-    ];
-    assert_variants(&rt, alloc, &nodes, &tags);
-    assert_tags(
-        &rt,
-        Variants::from_static(alloc, A0_TWICE).expect(&rt, "memory"),
-        &tags[1..],
-    );
-    assert_tags(&rt, Variants::empty(alloc), &[]);
 }
