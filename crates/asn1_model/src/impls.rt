@@ -4,7 +4,7 @@ mod alphabet_string;
 mod array;
 mod boolean;
 mod boxed;
-pub(crate) mod built_in_integers;
+mod built_in_integers;
 mod cow;
 mod integer;
 mod limited_integer;

@@ -39,6 +39,7 @@
 
 mod asn_type;
 mod impls;
+pub mod laws;
 mod orders;
 mod strings;
 pub mod tag;
@@ -47,9 +48,6 @@ mod tests;
 mod type_table;
 
 pub use asn_type::AsnType;
-pub use impls::built_in_integers::built_in_integers_are_numbers_of_their_widths;
 pub use orders::order_inside_sets_is_not_seen;
-pub use strings::{
-    StringType, strings_have_the_records_of_their_kinds, strings_have_the_units_of_their_kinds,
-};
+pub use strings::StringType;
 pub use type_table::{TreeForm, TypeTable};

@@ -1,9 +1,5 @@
 //! Markers of the tags that X.680 assigns (8.4, table 1), for types that name a tag by a type.
-ghost use Rattle.std.specs.Prelude.{◌≡◌, [], ◌∷◌, None};
-ghost use Rattle.asn1_model.specs.ConstraintSets.{unconstrained};
 ghost use Rattle.asn1_model.specs.Kinds.{marker_type};
-ghost use Rattle.asn1_model.specs.Meaning.{own_records};
-ghost use Rattle.asn1_model.specs.Records.{null, scalar};
 ghost use Rattle.asn1_model.specs.Tags.{universal};
 
 use crate::asn_type::AsnType;
@@ -145,39 +141,3 @@ pub type BMP_STRING = Marker<30>;
 /// The tag of DATE.
 #[allow(non_camel_case_types)]
 pub type DATE = Marker<31>;
-
-/// A law of the markers: each name is that of the number that X.680 gives its type (8.4, table 1), and the marker of a
-/// number is a NULL under it.
-pub fn markers_have_their_numbers<const NUMBER: u32>(_marker: Marker<NUMBER>)
-    ensures records { own_records ⟦<Marker<NUMBER> as AsnType>⟧.meaning _marker.entry ≡ scalar (universal NUMBER) unconstrained None null ∷ [] }
-    ensures eoc { ⟦<EOC as AsnType>⟧.meaning.tag ≡ universal 0 }
-    ensures bool { ⟦<BOOL as AsnType>⟧.meaning.tag ≡ universal 1 }
-    ensures integer { ⟦<INTEGER as AsnType>⟧.meaning.tag ≡ universal 2 }
-    ensures bit_string { ⟦<BIT_STRING as AsnType>⟧.meaning.tag ≡ universal 3 }
-    ensures octet_string { ⟦<OCTET_STRING as AsnType>⟧.meaning.tag ≡ universal 4 }
-    ensures null { ⟦<NULL as AsnType>⟧.meaning.tag ≡ universal 5 }
-    ensures object_identifier { ⟦<OBJECT_IDENTIFIER as AsnType>⟧.meaning.tag ≡ universal 6 }
-    ensures object_descriptor { ⟦<OBJECT_DESCRIPTOR as AsnType>⟧.meaning.tag ≡ universal 7 }
-    ensures external { ⟦<EXTERNAL as AsnType>⟧.meaning.tag ≡ universal 8 }
-    ensures real { ⟦<REAL as AsnType>⟧.meaning.tag ≡ universal 9 }
-    ensures enumerated { ⟦<ENUMERATED as AsnType>⟧.meaning.tag ≡ universal 10 }
-    ensures embedded_pdv { ⟦<EMBEDDED_PDV as AsnType>⟧.meaning.tag ≡ universal 11 }
-    ensures utf8_string { ⟦<UTF8_STRING as AsnType>⟧.meaning.tag ≡ universal 12 }
-    ensures relative_oid { ⟦<RELATIVE_OID as AsnType>⟧.meaning.tag ≡ universal 13 }
-    ensures sequence { ⟦<SEQUENCE as AsnType>⟧.meaning.tag ≡ universal 16 }
-    ensures set { ⟦<SET as AsnType>⟧.meaning.tag ≡ universal 17 }
-    ensures numeric_string { ⟦<NUMERIC_STRING as AsnType>⟧.meaning.tag ≡ universal 18 }
-    ensures printable_string { ⟦<PRINTABLE_STRING as AsnType>⟧.meaning.tag ≡ universal 19 }
-    ensures teletex_string { ⟦<TELETEX_STRING as AsnType>⟧.meaning.tag ≡ universal 20 }
-    ensures videotex_string { ⟦<VIDEOTEX_STRING as AsnType>⟧.meaning.tag ≡ universal 21 }
-    ensures ia5_string { ⟦<IA5_STRING as AsnType>⟧.meaning.tag ≡ universal 22 }
-    ensures utc_time { ⟦<UTC_TIME as AsnType>⟧.meaning.tag ≡ universal 23 }
-    ensures generalized_time { ⟦<GENERALIZED_TIME as AsnType>⟧.meaning.tag ≡ universal 24 }
-    ensures graphic_string { ⟦<GRAPHIC_STRING as AsnType>⟧.meaning.tag ≡ universal 25 }
-    ensures visible_string { ⟦<VISIBLE_STRING as AsnType>⟧.meaning.tag ≡ universal 26 }
-    ensures general_string { ⟦<GENERAL_STRING as AsnType>⟧.meaning.tag ≡ universal 27 }
-    ensures universal_string { ⟦<UNIVERSAL_STRING as AsnType>⟧.meaning.tag ≡ universal 28 }
-    ensures character_string { ⟦<CHARACTER_STRING as AsnType>⟧.meaning.tag ≡ universal 29 }
-    ensures bmp_string { ⟦<BMP_STRING as AsnType>⟧.meaning.tag ≡ universal 30 }
-    ensures date { ⟦<DATE as AsnType>⟧.meaning.tag ≡ universal 31 }
-{}

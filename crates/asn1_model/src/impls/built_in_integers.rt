@@ -1,6 +1,5 @@
 //! The built-in integers: an INTEGER (X.680, 19) within the bound of the type.
-ghost use Rattle.std.specs.Prelude.{◌≡◌, ◌↔◌, ℕ, ℤ, ◌<◌, ◌^◌, pos, negsuc, FitsSigned, None, Some, codes};
-ghost use Rattle.std.specs.Int.{w8, w16, w32, w64, w128};
+ghost use Rattle.std.specs.Prelude.{◌≡◌, ◌<◌, ◌^◌, pos, negsuc, None, Some, codes};
 ghost use Rattle.asn1_ranges.specs.declared.bounded.Bounded.TheVariants as bounded;
 ghost use Rattle.asn1_tags.specs.Names.{name_of};
 ghost use Rattle.asn1_model.specs.declared.type_table.TreeForm.TheVariants.{Leaf};
@@ -168,45 +167,3 @@ impl AsnType for u128 {
         true
     }
 }
-
-/// A law of the built-in integers: the numbers of a type are those of its width, and each value is one of them.
-#[allow(clippy::too_many_arguments)]
-pub fn built_in_integers_are_numbers_of_their_widths(
-    _u8: u8,
-    _u16: u16,
-    _u32: u32,
-    _u64: u64,
-    _usize: usize,
-    _u128: u128,
-    _i8: i8,
-    _i16: i16,
-    _i32: i32,
-    _i64: i64,
-    _isize: isize,
-    _i128: i128,
-)
-    ensures u8_values { ⟦<u8 as AsnType>⟧.meaning.IsOfType _u8 }
-    ensures u16_values { ⟦<u16 as AsnType>⟧.meaning.IsOfType _u16 }
-    ensures u32_values { ⟦<u32 as AsnType>⟧.meaning.IsOfType _u32 }
-    ensures u64_values { ⟦<u64 as AsnType>⟧.meaning.IsOfType _u64 }
-    ensures usize_values { ⟦<usize as AsnType>⟧.meaning.IsOfType _usize }
-    ensures u128_values { ⟦<u128 as AsnType>⟧.meaning.IsOfType _u128 }
-    ensures i8_values { ⟦<i8 as AsnType>⟧.meaning.IsOfType _i8 }
-    ensures i16_values { ⟦<i16 as AsnType>⟧.meaning.IsOfType _i16 }
-    ensures i32_values { ⟦<i32 as AsnType>⟧.meaning.IsOfType _i32 }
-    ensures i64_values { ⟦<i64 as AsnType>⟧.meaning.IsOfType _i64 }
-    ensures isize_values { ⟦<isize as AsnType>⟧.meaning.IsOfType _isize }
-    ensures i128_values { ⟦<i128 as AsnType>⟧.meaning.IsOfType _i128 }
-    ensures u8_range { (n : ℕ) → ⟦<u8 as AsnType>⟧.meaning.IsOfType n ↔ n < 2 ^ 8 }
-    ensures u16_range { (n : ℕ) → ⟦<u16 as AsnType>⟧.meaning.IsOfType n ↔ n < 2 ^ 16 }
-    ensures u32_range { (n : ℕ) → ⟦<u32 as AsnType>⟧.meaning.IsOfType n ↔ n < 2 ^ 32 }
-    ensures u64_range { (n : ℕ) → ⟦<u64 as AsnType>⟧.meaning.IsOfType n ↔ n < 2 ^ 64 }
-    ensures usize_range { (n : ℕ) → ⟦<usize as AsnType>⟧.meaning.IsOfType n ↔ n < 2 ^ 64 }
-    ensures u128_range { (n : ℕ) → ⟦<u128 as AsnType>⟧.meaning.IsOfType n ↔ n < 2 ^ 128 }
-    ensures i8_range { (n : ℤ) → ⟦<i8 as AsnType>⟧.meaning.IsOfType n ↔ FitsSigned w8 n }
-    ensures i16_range { (n : ℤ) → ⟦<i16 as AsnType>⟧.meaning.IsOfType n ↔ FitsSigned w16 n }
-    ensures i32_range { (n : ℤ) → ⟦<i32 as AsnType>⟧.meaning.IsOfType n ↔ FitsSigned w32 n }
-    ensures i64_range { (n : ℤ) → ⟦<i64 as AsnType>⟧.meaning.IsOfType n ↔ FitsSigned w64 n }
-    ensures isize_range { (n : ℤ) → ⟦<isize as AsnType>⟧.meaning.IsOfType n ↔ FitsSigned w64 n }
-    ensures i128_range { (n : ℤ) → ⟦<i128 as AsnType>⟧.meaning.IsOfType n ↔ FitsSigned w128 n }
-{}
