@@ -1,5 +1,5 @@
 //! The kinds of string (X.680, 22, 23 and 41).
-ghost use Rattle.std.specs.Prelude.{◌≡◌, List, Some, codes};
+ghost use Rattle.std.specs.Prelude.{◌≡◌, ℕ, List, Some, codes};
 ghost use Rattle.asn1_tags.specs.Names.{name_of};
 ghost use Rattle.asn1_tags.specs.declared.tags.Tag.{Tag};
 ghost use Rattle.asn1_model.specs.ConstraintSets.{table_constraints, unconstrained};
