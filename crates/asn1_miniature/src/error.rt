@@ -1,5 +1,6 @@
 //! Why a value was not written.
 ghost use Rattle.std.specs.Prelude.{◌≡◌};
+ghost use Rattle.asn1_miniature.specs.declared.error.EncodeError.TheVariants.{Memory};
 
 use std::alloc::AllocError;
 
@@ -13,9 +14,9 @@ pub enum EncodeError {
 }
 
 impl From<AllocError> for EncodeError {
-    ghost from_gives = { λ _ error. error ≡ EncodeError.Memory };
+    ghost from_gives = { λ _ error. error ≡ Memory };
 
-    fn from(_: AllocError) -> Self {
+    fn from(_refused: AllocError) -> Self {
         EncodeError::Memory
     }
 }

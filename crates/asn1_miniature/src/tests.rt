@@ -192,7 +192,13 @@ impl Encoder for Counter {
 }
 
 /// Asserts how many contents, presence marks and scopes a value has.
-fn assert_tally<T: Encode>(rt: &(impl Abort + AllocGlobal), value: &T, contents: u32, marks: u32, scopes: u32) {
+fn assert_tally<T: Encode>(
+    rt: &(impl Abort + AllocGlobal),
+    value: &T,
+    contents: u32,
+    marks: u32,
+    scopes: u32,
+) {
     let mut counter = Counter {
         tally: Tally::new(),
         alloc: rt.alloc(),
