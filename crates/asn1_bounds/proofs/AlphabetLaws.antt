@@ -1,8 +1,7 @@
 -- The laws of permitted alphabets: what two of them have in common, and that this associates.
 use Rattle.std.proofs.Common.{◌≡◌, ◌↔◌, ◌∙◌, sym, ap, ℕ, Bool, true, false, cond, ◌&&◌, List, [], ◌∷◌, nat_eq, refl}
 use Rattle.std.proofs.Math.Bool.{and_comm}
-use Rattle.std.specs.Prelude.{Contains}
-use Rattle.std.specs.Cmp.{IsEquivalence, nat_eq_equiv}
+use Rattle.std.specs.Cmp.{nat_eq_equiv}
 use Rattle.std.specs.List.{filter, list_any}
 use Rattle.std.proofs.lemmas.Bool.{eqb-true}
 use Rattle.std.proofs.lemmas.Map.Views.{Contains-from_any, list_any-from_Contains, any-filter_same}

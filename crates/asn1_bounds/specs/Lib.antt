@@ -5,6 +5,7 @@ pub mod Lending
 pub mod Sets
 pub mod Tables
 -- of the crate below: what is said of a bound
+pub use Rattle.asn1_ranges.specs.Compared
 pub use Rattle.asn1_ranges.specs.Count
 pub use Rattle.asn1_ranges.specs.Ends
 pub use Rattle.asn1_ranges.specs.Intersection

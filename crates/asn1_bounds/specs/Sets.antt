@@ -15,6 +15,10 @@ both_values a b = record { bound = value_intersection a.bound b.bound }
 abbrev pub both_sizes : Size → Size → Size
 both_sizes a b = record { bound = size_intersection a.bound b.bound }
 
+-- the constraint, not extensible
+abbrev pub fixed : {T : Type 0} → T → Extensible T
+fixed kind = record { constraint = kind; extensible = None }
+
 -- of two parts: the additions of the first, where both are extensible
 abbrev pub common_additions : {A : Type 0} → Option A → Option A → Option A
 common_additions a b = if is_some b then a else None

@@ -1,14 +1,16 @@
-//! Constraint sets of ASN.1 (X.680, 50 and 51): which values and lengths a type's constraints leave.
+//! Constraint sets of ASN.1 (X.680, 50 and 51): which values, lengths and characters a type's constraints leave.
 //!
 //! The types, from the least to the whole:
 //!
 //! - [`Bounded`], of the crate `asn1_ranges`, is no bound, a single value, or a range with or without each of its
-//!   ends. It stands here too, with [`WholeNumber`] and [`FitsI128`], which say of what types its ends can be.
+//!   ends. It is exported here too, with [`WholeNumber`] and [`FitsI128`], which say of what types its ends can be.
 //! - [`Value`], [`Size`] and [`PermittedAlphabet`] are the three kinds of constraint: of numbers, of lengths and of
-//!   characters. [`Intersect`] is what they share.
+//!   characters. The first two are plain values, and an alphabet owns the list of its characters.
 //! - [`Extensible`] is one of them with the additions of later versions, if it is extensible.
 //! - [`Constraint`] is one constraint of any kind, or the extension marker; [`ConstraintDiscriminant`] is its kind.
 //! - [`Constraints`] is the set of a type's constraints: at most one part of each kind, and the marker.
+//! - [`ConstraintTable`] is such a set that borrows its characters, so that it is one plain value, also a constant. It
+//!   makes the set when it is asked for.
 //! - [`InnerSubtypeConstraint`] is a type with a constraint of its components, which says that they are there, are not
 //!   there, or hold certain values; [`InnerSubtypeConstraintError`] names the one at fault. [`Codec`] is the name of the
 //!   rules by which what a component contains is decoded.
@@ -17,15 +19,23 @@
 //!
 //! - `Value::intersect` and `Size::intersect` have the common members (`members`), are `commutative` and
 //!   `associative`, and leave the other side with no bound (`left_identity`, `right_identity`).
-//! - `Constraints::new` admits exactly what each constraint admits (`values`, `lengths`), and `Constraints::intersect`
-//!   of two sets is the set of the two lists one after the other (`composes`).
+//! - `PermittedAlphabet::intersect` permits the common characters (`members`), in the left order with repeats (`shape`).
+//! - `Constraints::new` admits exactly what each constraint admits (`values`, `lengths`, `characters`), and
+//!   `Constraints::intersect` of two sets is the set of the two lists one after the other (`composes`).
+//! - `ConstraintTable::to_constraints` answers the set that the table stands for (`set`).
 //! - What `validate_and_decode_containing` answers, each implementation of `InnerSubtypeConstraint` states
 //!   (`validation_gives`); `validate_components` answers that without a codec.
+//! - What derived comparisons, hashes, copies and defaults answer, and what a conversion gives, is said by the functions
+//!   of the module `laws`, as `values_are_compared_by_bound`, which do nothing.
 //!
-//! No call takes memory but the two of `InnerSubtypeConstraint`, at types that want some. The words of the clauses are
-//! defined in `specs`: `Admitted` for what a constraint admits, `ConstraintKind` for the kind of one and its part, `Sets` for sets of them,
-//! `InnerSubtype` for the answers of a constraint of components, and `Lending` for the bound that `Size::bounded_mut`
-//! lends. The words on bounds are those of `asn1_ranges`, which `specs/Lib` hands on.
+//! Memory is taken for permitted alphabets alone, and by `InnerSubtypeConstraint` at types that want some. Where no
+//! argument has an alphabet, `new`, `intersect`, `try_clone` and `to_constraints` succeed (`without_alphabet`). A call
+//! that fails for want of memory changes no argument, since each borrows them to read.
+//!
+//! The words of the clauses are defined in `specs`: `Admitted` for what a constraint admits, `ConstraintKind` for the
+//! kind of one and its part, `Sets` for sets of them, `Tables` for the set of a table, `InnerSubtype` for the answers of
+//! a constraint of components, and `Lending` for the bound that `Size::bounded_mut` lends. The words on bounds, and on
+//! derived comparisons, are those of `asn1_ranges`, which `specs/Lib` hands on.
 #![tactic(auto)]
 
 pub use alphabet::PermittedAlphabet;
@@ -33,14 +43,14 @@ pub use asn1_ranges::{Bounded, FitsI128, WholeNumber};
 pub use codec::Codec;
 pub use constraint::{Constraint, ConstraintDiscriminant};
 pub use constraints::Constraints;
-pub use derived::{
-    alphabets_are_compared_by_characters, constraints_are_compared_by_parts,
-    extensible_constraints_are_compared_by_parts, names_are_compared_by_case,
-    sizes_are_compared_by_bound, values_are_compared_by_bound,
-};
 pub use error::{InnerSubtypeConstraintError, TooWide};
 pub use extensible::Extensible;
 pub use inner_subtype::InnerSubtypeConstraint;
+pub use laws::{
+    alphabets_are_compared_by_characters, constraints_are_compared_by_parts,
+    conversions_keep_the_constraint, extensible_constraints_are_compared_by_parts,
+    names_are_compared_by_case, sizes_are_compared_by_bound, values_are_compared_by_bound,
+};
 pub use size::Size;
 pub use table::ConstraintTable;
 pub use value::Value;
@@ -49,10 +59,10 @@ mod alphabet;
 mod codec;
 mod constraint;
 mod constraints;
-mod derived;
 mod error;
 mod extensible;
 mod inner_subtype;
+mod laws;
 mod size;
 mod table;
 mod value;

@@ -8,13 +8,17 @@ use crate::size::Size;
 use crate::value::Value;
 use std::alloc::{AllocError, Global};
 
-/// A set of constraints that borrows all that it has, so that it is one plain value, also of static memory: at most one
-/// part of each kind, and the extension marker. [`ConstraintTable::to_constraints`] makes the set.
+/// A set of constraints that borrows all that it has, so that it is one plain value, also a constant: at most one part of
+/// each kind, and the extension marker. [`ConstraintTable::to_constraints`] makes the set.
 #[derive(Clone, Copy, Debug)]
 pub struct ConstraintTable<'a> {
+    // What the values are restricted to; all where there is no part.
     value: Option<Extensible<'a, Value>>,
+    // What the lengths are restricted to; all where there is no part.
     size: Option<Extensible<'a, Size>>,
+    // What the characters are restricted to; all where there is no part.
     permitted_alphabet: Option<AlphabetTable<'a>>,
+    // Whether the extension marker is among the constraints.
     extensible: bool,
 }
 
@@ -74,7 +78,7 @@ impl<'a> ConstraintTable<'a> {
         }
     }
 
-    /// The table with these characters as its permitted alphabet, extensible by these.
+    /// The table with these characters as its permitted alphabet, extensible by these additions.
     pub fn with_extensible_alphabet(
         self,
         characters: &'a [u32],

@@ -1,9 +1,12 @@
-//! How bounds are compared, hashed and copied, as it is derived.
-ghost use Rattle.std.specs.Prelude.{◌≡◌, Some, ℕ, ℤ};
+//! What the derives of bounds answer, and the ghost members that an impl states for itself.
+ghost use Rattle.std.specs.Prelude.{◌≡◌, Some, ℕ, ℤ, pos};
 ghost use Rattle.asn1_ranges.specs.declared.bounded.Bounded.{Bounded};
 ghost use Rattle.asn1_ranges.specs.Compared.{TellsApart, ClonesExactly, bound_eq, bound_cmp, bound_hash};
+ghost use Rattle.asn1_ranges.specs.Text.{bound_text};
 
 use crate::bounded::Bounded;
+use crate::number::WholeNumber;
+use std::fmt;
 use std::hash::Hash;
 
 /// Bounds are equal if they are of one kind with equal ends. No bound is below each single, and a single below each
@@ -23,4 +26,25 @@ pub fn bounds_of_numbers_are_told_apart()
     ensures values { TellsApart ⟦<Bounded<i128> as PartialEq>⟧.eq }
     ensures lengths { TellsApart ⟦<Bounded<usize> as PartialEq>⟧.eq }
     ensures clone { ClonesExactly ⟦<Bounded<i128> as Clone>⟧.is_clone ⟦<Bounded<i128> as Clone>⟧.is_infallible }
+{}
+
+/// The text of a bound is that of its ends, with two dots between those of a range.
+pub fn bounds_are_printed_by_ends<T: fmt::Display>()
+    ensures { (a : Bounded T) → ⟦<Bounded<T> as fmt::Display>⟧.output a ≡ bound_text T.output a }
+{}
+
+/// The number that a value of a built-in integer type stands for in contracts is the value.
+pub fn whole_numbers_are_their_values()
+    ensures of_u8 { (n : ℕ) → ⟦<u8 as WholeNumber>⟧.number n ≡ pos n }
+    ensures of_u16 { (n : ℕ) → ⟦<u16 as WholeNumber>⟧.number n ≡ pos n }
+    ensures of_u32 { (n : ℕ) → ⟦<u32 as WholeNumber>⟧.number n ≡ pos n }
+    ensures of_u64 { (n : ℕ) → ⟦<u64 as WholeNumber>⟧.number n ≡ pos n }
+    ensures of_u128 { (n : ℕ) → ⟦<u128 as WholeNumber>⟧.number n ≡ pos n }
+    ensures of_usize { (n : ℕ) → ⟦<usize as WholeNumber>⟧.number n ≡ pos n }
+    ensures of_i8 { (n : ℤ) → ⟦<i8 as WholeNumber>⟧.number n ≡ n }
+    ensures of_i16 { (n : ℤ) → ⟦<i16 as WholeNumber>⟧.number n ≡ n }
+    ensures of_i32 { (n : ℤ) → ⟦<i32 as WholeNumber>⟧.number n ≡ n }
+    ensures of_i64 { (n : ℤ) → ⟦<i64 as WholeNumber>⟧.number n ≡ n }
+    ensures of_i128 { (n : ℤ) → ⟦<i128 as WholeNumber>⟧.number n ≡ n }
+    ensures of_isize { (n : ℤ) → ⟦<isize as WholeNumber>⟧.number n ≡ n }
 {}

@@ -16,15 +16,21 @@
 //! - `Bounded::in_bound` is membership for a number of any size, and `Bounded::minimum` is the start or 0 (`start`, `zero`).
 //! - `Bounded::range` counts the members (`counted`), `Bounded::effective_value` gives offsets (`offset`), and
 //!   `Bounded::range_in_bytes` a sign and a width (`signed`, `octets`): each at every bound, and no sum wraps.
+//! - What the derived comparisons, hash, copy and default of a bound answer is said by `bounds_are_compared_by_ends` and
+//!   `bounds_of_numbers_are_told_apart`, and which number a value is by `whole_numbers_are_their_values`. These do nothing.
 //! - The text of a bound is said byte for byte, by the `output` of its `Display`.
 //!
 //! No call takes memory. The words of the clauses are defined in `specs`: `Ends`, `Members` and `Count` for a bound,
-//! `Intersection` for two of them, `Octets` and `Text`. That intersection commutes and associates, where a bound
-//! without members stands in place of none, is in `proofs/IntersectionLaws`, for the crates above.
+//! `Intersection` for two of them, `Octets` and `Text`, and `Compared` for what derived traits answer. That intersection
+//! commutes and associates, where a bound without members takes the place of none, is in `proofs/IntersectionLaws`, for
+//! the crates above.
 #![tactic(auto)]
 
 pub use bounded::Bounded;
-pub use compared::{bounds_are_compared_by_ends, bounds_of_numbers_are_told_apart};
+pub use compared::{
+    bounds_are_compared_by_ends, bounds_are_printed_by_ends, bounds_of_numbers_are_told_apart,
+    whole_numbers_are_their_values,
+};
 pub use number::{FitsI128, WholeNumber};
 
 mod bounded;

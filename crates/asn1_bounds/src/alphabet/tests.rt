@@ -18,11 +18,25 @@ fn leaves_common_characters(rt: HostRuntime) {
 }
 
 #[test]
-fn is_copied(rt: HostRuntime) {
+fn contains_its_characters(rt: HostRuntime) {
     let alloc = rt.alloc();
     let letters = PermittedAlphabet::new(alloc, &[97, 98]).expect(&rt, "memory");
-    let copy = letters.try_clone(alloc).expect(&rt, "memory");
-    assert!(rt; copy == letters && copy.contains(98) && !copy.contains(99));
+    assert!(rt; letters.contains(98) && !letters.contains(99));
     let more = PermittedAlphabet::new(alloc, &[97, 98, 97]).expect(&rt, "memory");
-    assert!(rt; letters < more);
+    assert!(rt; letters < more && letters != more);
+}
+
+/// Also where an allocation fails: what a call was asked of stays as it was.
+#[test]
+fn a_refused_copy_leaves_the_alphabet(rt: HostRuntime) {
+    let alloc = rt.alloc();
+    if let Ok(letters) = PermittedAlphabet::new(alloc, &[97, 98]) {
+        if let Ok(copy) = letters.try_clone(alloc) {
+            assert!(rt; copy == letters);
+        }
+        if let Ok(both) = letters.intersect(alloc, &letters) {
+            assert!(rt; both == letters);
+        }
+        assert!(rt; letters.as_inner() == [97, 98].as_slice());
+    }
 }

@@ -1,4 +1,5 @@
 use super::*;
+use crate::table::ConstraintTable;
 use asn1_ranges::Bounded;
 use std::process::Abort;
 
@@ -90,4 +91,35 @@ fn sees_an_extensible_alphabet(rt: HostRuntime) {
     let part = Extensible::new_extensible(alphabet(&rt, alloc, &[65, 66]), &more);
     let set = Constraints::new(alloc, &[Constraint::from(part)]).expect(&rt, "memory");
     assert!(rt; set.extensible() && !set.per_visibly_extensible());
+}
+
+/// Also where an allocation fails: what a call was asked of stays as it was.
+#[test]
+fn a_refused_set_leaves_its_arguments(rt: HostRuntime) {
+    let alloc = rt.alloc();
+    if let Ok(letters) = ConstraintTable::NONE
+        .with_permitted_alphabet(&[97, 98])
+        .to_constraints(alloc)
+    {
+        if let Ok(copy) = letters.try_clone(alloc) {
+            assert_characters(&rt, &copy, &[97, 98]);
+        }
+        if let Ok(both) = letters.intersect(alloc, &letters) {
+            assert_characters(&rt, &both, &[97, 98]);
+        }
+        assert_characters(&rt, &letters, &[97, 98]);
+    }
+}
+
+/// Also where an allocation fails.
+#[test]
+fn a_refused_set_leaves_the_constraints(rt: HostRuntime) {
+    let alloc = rt.alloc();
+    if let Ok(letters) = PermittedAlphabet::new(alloc, &[97, 98]) {
+        let constraints = [Constraint::from(letters)];
+        if let Ok(set) = Constraints::new(alloc, &constraints) {
+            assert_characters(&rt, &set, &[97, 98]);
+        }
+        assert!(rt; constraints[0].as_permitted_alphabet().is_some());
+    }
 }

@@ -1,29 +1,40 @@
-//! What the derived comparisons, hashes, copies and defaults of this crate's types answer.
-ghost use Rattle.std.specs.Prelude.{◌≡◌, ◌↔◌, ◌&&◌, IsTrue, Some, None};
+//! What the derives of this crate's types answer, and the ghost members that an impl states for itself.
+ghost use Rattle.std.specs.Prelude.{◌≡◌, ◌↔◌, ◌&&◌, ℕ, pos, IsTrue, Some, None, Result};
+ghost use Rattle.std.specs.Result.{OkIff};
+ghost use Rattle.std.specs.declared.alloc.AllocError.{AllocError};
 ghost use Rattle.std.specs.Cmp.Lexicographic.{pointwise, slice_cmp};
 ghost use Rattle.std.specs.Hash as fed;
 ghost use Rattle.std.specs.Option.{option_copied, option_eq};
 ghost use Rattle.std.specs.Ordering.{nat_cmp};
+ghost use Rattle.asn1_ranges.specs.declared.bounded.Bounded.{Bounded};
 ghost use Rattle.asn1_ranges.specs.Compared.{TellsApart, ClonesExactly};
+ghost use Rattle.asn1_bounds.specs.Admitted.{numbers, HasNarrowEnds};
 ghost use Rattle.asn1_bounds.specs.ConstraintKind.{kind_of};
-ghost use Rattle.asn1_bounds.specs.InnerSubtype.{refusal_of};
+ghost use Rattle.asn1_bounds.specs.InnerSubtype.{refusal_of, no_memory};
+ghost use Rattle.asn1_bounds.specs.Sets.{fixed, set_of, no_constraints};
+ghost use Rattle.asn1_bounds.specs.Tables.{owned};
 ghost use Rattle.asn1_bounds.specs.declared.alphabet.PermittedAlphabet.{PermittedAlphabet};
 ghost use Rattle.asn1_bounds.specs.declared.constraint.Constraint.{Constraint};
 ghost use Rattle.asn1_bounds.specs.declared.constraint.Constraint.TheVariants as constraint;
+ghost use Rattle.asn1_bounds.specs.declared.constraints.Constraints.{Constraints};
+ghost use Rattle.asn1_bounds.specs.declared.error.TooWide.{TooWide};
 ghost use Rattle.asn1_bounds.specs.declared.error.InnerSubtypeConstraintError.{InnerSubtypeConstraintError};
 ghost use Rattle.asn1_bounds.specs.declared.extensible.Extensible.{Extensible};
 ghost use Rattle.asn1_bounds.specs.declared.size.Size.{Size};
+ghost use Rattle.asn1_bounds.specs.declared.table.ConstraintTable.{ConstraintTable};
 ghost use Rattle.asn1_bounds.specs.declared.value.Value.{Value};
 
 use crate::alphabet::PermittedAlphabet;
 use crate::codec::Codec;
 use crate::constraint::{Constraint, ConstraintDiscriminant};
+use crate::constraints::Constraints;
 use crate::error::{InnerSubtypeConstraintError, TooWide};
 use crate::extensible::Extensible;
 use crate::size::Size;
 use crate::table::ConstraintTable;
 use crate::value::Value;
-use asn1_ranges::Bounded;
+use asn1_ranges::{Bounded, FitsI128};
+use std::alloc::AllocError;
 use std::hash::Hash;
 
 /// Constraints of values are equal if and only if they have the same bound; they go in the order of their bounds, and
@@ -104,4 +115,35 @@ pub fn names_are_compared_by_case()
         ⟦<InnerSubtypeConstraintError as Clone>⟧.is_infallible }
     ensures table_clones { ClonesExactly ⟦<ConstraintTable<'static> as Clone>⟧.is_clone
         ⟦<ConstraintTable<'static> as Clone>⟧.is_infallible }
+{}
+
+/// A conversion keeps the bound, or the part, that it converts. A part that is made of a kind of constraint alone is not
+/// extensible. A bound of lengths with an end above the greatest `i128` is refused. The default set has no constraints.
+pub fn conversions_keep_the_constraint<'a, T: FitsI128, U: 'a>()
+    ensures bounds { (bound : Bounded T) (value : Value) →
+        ⟦<Value as From<Bounded<T>>>⟧.from_gives bound value → value.bound ≡ numbers T.number bound }
+    ensures lengths { (bound : Bounded ℕ) (answer : Result Value TooWide) →
+        ⟦<Value as TryFrom<Bounded<usize>>>⟧.try_from_gives bound answer →
+        OkIff answer (HasNarrowEnds bound) (record { bound = numbers pos bound }) }
+    ensures parts { (kind : U) (part : Extensible U) →
+        ⟦<Extensible<'a, U> as From<U>>⟧.from_gives kind part → part ≡ fixed kind }
+    ensures value_parts { (part : Extensible Value) (one : Constraint) →
+        ⟦<Constraint<'a> as From<Extensible<'a, Value>>>⟧.from_gives part one → one ≡ constraint.Value part }
+    ensures values { (kind : Value) (one : Constraint) →
+        ⟦<Constraint<'a> as From<Value>>⟧.from_gives kind one → one ≡ constraint.Value (fixed kind) }
+    ensures size_parts { (part : Extensible Size) (one : Constraint) →
+        ⟦<Constraint<'a> as From<Extensible<'a, Size>>>⟧.from_gives part one → one ≡ constraint.Size part }
+    ensures sizes { (kind : Size) (one : Constraint) →
+        ⟦<Constraint<'a> as From<Size>>⟧.from_gives kind one → one ≡ constraint.Size (fixed kind) }
+    ensures alphabet_parts { (part : Extensible PermittedAlphabet) (one : Constraint) →
+        ⟦<Constraint<'a> as From<Extensible<'a, PermittedAlphabet>>>⟧.from_gives part one → one ≡ constraint.PermittedAlphabet part }
+    ensures alphabets { (kind : PermittedAlphabet) (one : Constraint) →
+        ⟦<Constraint<'a> as From<PermittedAlphabet>>⟧.from_gives kind one → one ≡ constraint.PermittedAlphabet (fixed kind) }
+    ensures value_tables { (kind : Value) (table : ConstraintTable) →
+        ⟦<ConstraintTable<'a> as From<Value>>⟧.from_gives kind table → owned table ≡ set_of (constraint.Value (fixed kind)) }
+    ensures size_tables { (kind : Size) (table : ConstraintTable) →
+        ⟦<ConstraintTable<'a> as From<Size>>⟧.from_gives kind table → owned table ≡ set_of (constraint.Size (fixed kind)) }
+    ensures memory { (refused : AllocError) (error : InnerSubtypeConstraintError) →
+        ⟦<InnerSubtypeConstraintError as From<AllocError>>⟧.from_gives refused error → refusal_of error ≡ no_memory }
+    ensures default_set { (set : Constraints) → ⟦<Constraints<'a> as Default>⟧.is_default set → set ≡ no_constraints }
 {}
