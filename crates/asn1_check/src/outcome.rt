@@ -1,21 +1,70 @@
 //! How the program ends.
-ghost use Rattle.std.specs.Prelude.{◌≡◌, ◌≢◌, ◌↔◌, true, false, IfSome, IsSome};
-ghost use Rattle.asn1_report.specs.Report.{all_understood};
+ghost use Rattle.std.specs.Prelude.{◌≡◌, ◌≢◌, ◌↔◌, ◌++◌, ◌∷◌, [], true, false, codes, option_map, Some, IfErr, IfSome, IsErr, IsOk};
+ghost use Rattle.std.specs.Io.KnownBytes.{Appends};
+ghost use Rattle.std.specs.Option.{option_map_or};
+ghost use Rattle.asn1_report.specs.Errors.{error_text};
+ghost use Rattle.asn1_report.specs.Report.{all_understood, report};
 
 use asn1_report::{CheckError, check};
 use std::alloc::Global;
-use std::io::{Read, Write};
+use std::fmt;
+use std::io::{BufWriter, Read, Write};
 
-/// How a check ended: the status of the program, and the error that it tells of.
+/// How the program ends: with a status, and with what `{}` shows of it on standard error.
 #[derive(Clone, Copy)]
 pub(crate) struct Outcome {
     /// 0 if all was understood, 1 if not, 2 after an error.
     pub(crate) status: u8,
-    /// The error, if there was one.
-    pub(crate) error: Option<CheckError>,
+    error: Option<CheckError>,
 }
 
-/// Checks what the reader gives, and writes the report.
+impl Outcome {
+    /// How the program ends after a check with that answer.
+    pub(crate) fn of(answer: Result<bool, CheckError>) -> Self
+        ensures understood { (result.status ≡ 0) ↔ (answer ≡ Ok true) }
+        ensures not_understood { (result.status ≡ 1) ↔ (answer ≡ Ok false) }
+        ensures failed { (result.status ≡ 2) ↔ IsErr answer }
+
+        // What goes to standard error: nothing, or the text of the error on a line of its own.
+        ensures silent { IsOk answer → ⟦<Outcome as fmt::Display>⟧.output result ≡ Some [] }
+        ensures text { IfErr answer (λ error. ⟦<Outcome as fmt::Display>⟧.output result
+            ≡ option_map (λ text. text ++ 10 ∷ []) (⟦<CheckError as fmt::Display>⟧.output error)) }
+        ensures reading { answer ≡ Err CheckError.Reading →
+            ⟦<Outcome as fmt::Display>⟧.output result ≡ Some (codes "check: reading failed" ++ 10 ∷ []) }
+        ensures writing { answer ≡ Err CheckError.Writing →
+            ⟦<Outcome as fmt::Display>⟧.output result ≡ Some (codes "check: writing failed" ++ 10 ∷ []) }
+        ensures memory { answer ≡ Err CheckError.Memory →
+            ⟦<Outcome as fmt::Display>⟧.output result ≡ Some (codes "check: no memory" ++ 10 ∷ []) }
+    {
+        match answer {
+            Ok(true) => Outcome {
+                status: 0,
+                error: None,
+            },
+            Ok(false) => Outcome {
+                status: 1,
+                error: None,
+            },
+            Err(error) => Outcome {
+                status: 2,
+                error: Some(error),
+            },
+        }
+    }
+}
+
+impl fmt::Display for Outcome {
+    ghost output = { λ outcome. Some (option_map_or (λ error. error_text error ++ 10 ∷ []) outcome.error []) };
+
+    fn fmt<W: fmt::Write>(&self, f: &mut fmt::Formatter<W>) -> fmt::Result {
+        match self.error {
+            Some(error) => writeln!(f, "{error}"),
+            None => Ok(()),
+        }
+    }
+}
+
+/// Checks what the reader gives, writes the report, and says how the program ends.
 pub(crate) fn outcome_of<R: Read, W: Write>(
     alloc: Global,
     reader: &mut R,
@@ -23,21 +72,23 @@ pub(crate) fn outcome_of<R: Read, W: Write>(
 ) -> Outcome
     ensures understood { result.status ≡ 0 → IfSome (R.remaining reader.old) (λ input. all_understood input ≡ true) }
     ensures not_understood { result.status ≡ 1 → IfSome (R.remaining reader.old) (λ input. all_understood input ≡ false) }
-    ensures error { IsSome result.error ↔ (result.status ≡ 2) }
+    ensures report { result.status ≢ 2 → IfSome (R.remaining reader.old) (λ input.
+        Appends (W.contents writer.old) (W.contents writer.new) (report input)) }
+    ensures failed { (result.status ≡ 2) ↔ (⟦<Outcome as fmt::Display>⟧.output result ≢ Some []) }
     ensures no_other { result.status ≢ 0 → result.status ≢ 1 → result.status ≡ 2 }
 {
-    match check(alloc, reader, writer) {
-        Ok(true) => Outcome {
-            status: 0,
-            error: None,
-        },
-        Ok(false) => Outcome {
-            status: 1,
-            error: None,
-        },
-        Err(error) => Outcome {
-            status: 2,
-            error: Some(error),
-        },
+    Outcome::of(check(alloc, reader, writer))
+}
+
+/// The same, through a buffer before the writer. Where there is no room for the buffer, that is the error.
+pub(crate) fn run<R: Read, W: Write + Drop>(alloc: Global, reader: &mut R, writer: W) -> Outcome
+    ensures understood { result.status ≡ 0 → IfSome (R.remaining reader.old) (λ input. all_understood input ≡ true) }
+    ensures not_understood { result.status ≡ 1 → IfSome (R.remaining reader.old) (λ input. all_understood input ≡ false) }
+    ensures failed { (result.status ≡ 2) ↔ (⟦<Outcome as fmt::Display>⟧.output result ≢ Some []) }
+    ensures no_other { result.status ≢ 0 → result.status ≢ 1 → result.status ≡ 2 }
+{
+    match BufWriter::new(alloc, writer) {
+        Ok(mut buffered) => outcome_of(alloc, reader, &mut buffered),
+        Err(_) => Outcome::of(Err(CheckError::Memory)),
     }
 }

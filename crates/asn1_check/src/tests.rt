@@ -1,22 +1,40 @@
-//! The status for each kind of input, and after an error.
-use crate::outcome::outcome_of;
-use asn1_report::CheckError;
+//! How the program ends after each kind of input, and after each error.
+use crate::outcome::{Outcome, run};
+use std::alloc::Global;
 use std::io;
-use std::io::{ErrorKind, Read};
+use std::io::{ErrorKind, Read, Write};
 use std::process::Abort;
 
-fn assert_status(rt: &(impl Abort + AllocGlobal), input: &[u8], status: u8) {
+fn assert_outcome(rt: &impl Abort, alloc: Global, outcome: Outcome, status: u8, text: &str) {
+    let shown = outcome.to_string(alloc).expect(rt, "memory");
+    assert!(rt; outcome.status == status && shown.as_str() == text);
+}
+
+// Takes all that is written.
+#[derive(Drop)]
+struct Sink;
+
+impl Write for Sink {
+    fn write(&mut self, bytes: &[u8]) -> io::Result<usize> {
+        Ok(bytes.len())
+    }
+
+    fn flush(&mut self) -> io::Result<()> {
+        Ok(())
+    }
+}
+
+fn assert_input(rt: &impl Abort, alloc: Global, input: &[u8], status: u8) {
     let mut reader = input;
-    let mut written = Vec::new(rt.alloc());
-    let outcome = outcome_of(rt.alloc(), &mut reader, &mut written);
-    assert!(rt; outcome.status == status && outcome.error.is_none());
+    assert_outcome(rt, alloc, run(alloc, &mut reader, Sink), status, "");
 }
 
 #[test]
-fn statuses(rt: HostRuntime) {
-    assert_status(&rt, b"tree t U0\n", 0);
-    assert_status(&rt, b"tree t\n", 1);
-    assert_status(&rt, b"set q\n", 1);
+fn an_input_is_understood_or_not(rt: HostRuntime) {
+    let alloc = rt.alloc();
+    assert_input(&rt, alloc, b"tree t U0\n", 0);
+    assert_input(&rt, alloc, b"tree t\n", 1);
+    assert_input(&rt, alloc, b"set q\n", 1);
 }
 
 // A reader that fails.
@@ -30,8 +48,8 @@ impl Read for Broken {
 }
 
 #[test]
-fn errors_are_told(rt: HostRuntime) {
-    let mut written = Vec::new(rt.alloc());
-    let outcome = outcome_of(rt.alloc(), &mut Broken, &mut written);
-    assert!(rt; outcome.status == 2 && outcome.error == Some(CheckError::Reading));
+fn an_error_is_told(rt: HostRuntime) {
+    let alloc = rt.alloc();
+    let outcome = run(alloc, &mut Broken, Sink);
+    assert_outcome(&rt, alloc, outcome, 2, "check: reading failed\n");
 }

@@ -10,3 +10,4 @@ pub mod Reading
 pub mod Seen
 pub mod Flattened
 pub mod Verdict
+pub mod Errors

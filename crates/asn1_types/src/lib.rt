@@ -31,7 +31,10 @@
 //!   last into its place (`taken`). `iter`, `to_vec` and `into_vec` have the elements in one order.
 //! - `SetOf::from_slice`, `from_array` and `try_clone` hold clones of the elements in their order (`clones`), which are
 //!   the elements themselves where a clone is (`same`).
-//! - `Any`, `Implicit` and `Explicit` give back what went in.
+//! - `Any`, `Implicit` and `Explicit` give back what went in. Equality, order, hash and clones of these and of `InstanceOf`
+//!   are those of what they hold (`values_are_compared_by_what_they_hold`).
+//! - The fields of an `InstanceOf` are the name of the type and then the value, and both are always there
+//!   (`instance_of_has_two_fields`).
 //! - What each type means is a word of `specs/Kinds.antt`: `set_of_type`, `any_type`, `implicit_type`, `explicit_type`
 //!   and `instance_of_components`.
 //! - The words for a type of your own are in `specs/Words.antt`, from all crates below.
@@ -45,6 +48,7 @@ pub mod examples;
 mod explicit;
 mod implicit;
 mod instance_of;
+mod laws;
 mod sequence_of;
 mod set_of;
 #[cfg(test)]
@@ -70,6 +74,7 @@ pub use asn1_model::{
 pub use asn1_tags::{Class, Identifier, Tag, TagTree};
 pub use explicit::Explicit;
 pub use implicit::Implicit;
-pub use instance_of::InstanceOf;
+pub use instance_of::{InstanceOf, instance_of_has_two_fields};
+pub use laws::values_are_compared_by_what_they_hold;
 pub use sequence_of::SequenceOf;
 pub use set_of::{SetOf, equal_sets_have_the_same_elements};

@@ -179,6 +179,20 @@ impl<T: Eq> SetOf<T> {
     }
 }
 
+/// References to the elements, as those of [`SetOf::iter`].
+impl<'a, T> IntoIterator for &'a SetOf<T> {
+    type Item = &'a T;
+
+    type IntoIter = Iter<'a, T>;
+
+    ghost into_iter_gives = { λ set elements. (iter_rest elements ≡ set.now) × (length (iter_rest elements) < 2 ^ 64)
+        × IterYieldsInOrder T × IterYieldsInReverse T };
+
+    fn into_iter(self) -> Iter<'a, T> {
+        self.iter()
+    }
+}
+
 impl<T> From<Vec<T>> for SetOf<T> {
     ghost from_gives = { λ elements set. set ≡ elements.items };
 

@@ -1,29 +1,13 @@
-//! A type that holds itself in sets: the filters of LDAP (RFC 4511, 4.5.1), cut down.
-//!
-//! ```text
-//! Filter ::= CHOICE {
-//!     and     [0] SET OF filter Filter,
-//!     or      [1] SET OF filter Filter,
-//!     not     [2] Filter,
-//!     present [7] OCTET STRING
-//! }
-//! ```
+//! A type that holds itself in sets: filters are equal in any order, and a function may go down one.
 ghost use Rattle.std.specs.Prelude.{◌≡◌, ◌^◌, ◌-◌, min};
-ghost use Rattle.asn1_types.specs.declared.tests.filters.Filter.{size-Filter};
-ghost use Rattle.asn1_types.specs.declared.tests.filters.Filter.TheViews.{weight-Filter-And-0};
+ghost use Rattle.asn1_types.specs.declared.examples.filter.Filter.{size-Filter};
+ghost use Rattle.asn1_types.specs.declared.examples.filter.Filter.TheViews.{weight-Filter-And-0};
 
 use crate::SetOf;
+use crate::examples::Filter;
 use asn1_values::OctetString;
 use std::alloc::Global;
 use std::process::Abort;
-
-#[derive(PartialEq, Eq, Debug, Drop)]
-enum Filter {
-    And(SetOf<Filter>),
-    Or(SetOf<Filter>),
-    Not(Box<Filter>),
-    Present(OctetString),
-}
 
 /// How many levels the filter has, or the greatest number where there are more.
 #[cycle(depth)]
@@ -44,7 +28,7 @@ fn greatest_depth(filters: &SetOf<Filter>) -> usize
     ensures { result ≡ min (weight-Filter-And-0 filters.now) (2 ^ 64 - 1) }
 {
     let mut greatest = 0;
-    for filter in filters.iter() {
+    for filter in filters {
         greatest = greatest.max(depth(filter));
     }
     greatest

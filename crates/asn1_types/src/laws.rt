@@ -1,0 +1,37 @@
+//! Laws of the traits that are derived, or written beside a derive.
+ghost use Rattle.std.specs.Prelude.{◌≡◌, ◌↔◌, ◌++◌, ℕ, List, IsTrue};
+ghost use Rattle.std.specs.Cmp.Lexicographic.{slice_cmp};
+ghost use Rattle.std.specs.Hash as fed;
+ghost use Rattle.std.specs.Ordering.{nat_cmp, ordering_then};
+ghost use Rattle.asn1_types.specs.declared.explicit.Explicit.{Explicit};
+ghost use Rattle.asn1_types.specs.declared.implicit.Implicit.{Implicit};
+ghost use Rattle.asn1_types.specs.declared.instance_of.InstanceOf.{InstanceOf};
+
+use crate::any::Any;
+use crate::explicit::Explicit;
+use crate::implicit::Implicit;
+use crate::instance_of::InstanceOf;
+use std::hash::Hash;
+
+/// Laws of the derived traits. Values under another tag are compared, hashed and cloned as the values that they hold,
+/// values of open types are compared and hashed as their bytes, and those of an INSTANCE OF by the name of the type and then
+/// by the value.
+pub fn values_are_compared_by_what_they_hold<T, V: Ord + Hash + Clone>()
+    ensures implicit_equal { (v w : Implicit T V) → ⟦<Implicit<T, V> as PartialEq>⟧.eq v w ≡ V.eq v.value w.value }
+    ensures implicit_order { (v w : Implicit T V) → ⟦<Implicit<T, V> as Ord>⟧.cmp v w ≡ V.cmp v.value w.value }
+    ensures implicit_hash { (v : Implicit T V) → ⟦<Implicit<T, V> as Hash>⟧.hash_input v ≡ V.hash_input v.value }
+    ensures implicit_clone { (v w : Implicit T V) → ⟦<Implicit<T, V> as Clone>⟧.is_clone v w → V.is_clone v.value w.value }
+    ensures explicit_equal { (v w : Explicit T V) → ⟦<Explicit<T, V> as PartialEq>⟧.eq v w ≡ V.eq v.value w.value }
+    ensures explicit_order { (v w : Explicit T V) → ⟦<Explicit<T, V> as Ord>⟧.cmp v w ≡ V.cmp v.value w.value }
+    ensures explicit_hash { (v : Explicit T V) → ⟦<Explicit<T, V> as Hash>⟧.hash_input v ≡ V.hash_input v.value }
+    ensures explicit_clone { (v w : Explicit T V) → ⟦<Explicit<T, V> as Clone>⟧.is_clone v w → V.is_clone v.value w.value }
+    ensures any_equal { (v w : List ℕ) → IsTrue (⟦<Any as PartialEq>⟧.eq v w) ↔ (v ≡ w) }
+    ensures any_order { (v w : List ℕ) → ⟦<Any as Ord>⟧.cmp v w ≡ slice_cmp nat_cmp v w }
+    ensures any_hash { (v : List ℕ) → ⟦<Any as Hash>⟧.hash_input v ≡ fed.slice fed.u8 v }
+    ensures instance_equal { (v w : InstanceOf V) →
+        IsTrue (⟦<InstanceOf<V> as PartialEq>⟧.eq v w) ↔ ((v.type_id ≡ w.type_id) × IsTrue (V.eq v.value w.value)) }
+    ensures instance_order { (v w : InstanceOf V) →
+        ⟦<InstanceOf<V> as Ord>⟧.cmp v w ≡ ordering_then (slice_cmp nat_cmp v.type_id w.type_id) (V.cmp v.value w.value) }
+    ensures instance_hash { (v : InstanceOf V) →
+        ⟦<InstanceOf<V> as Hash>⟧.hash_input v ≡ fed.slice fed.u32 v.type_id ++ V.hash_input v.value }
+{}
