@@ -86,6 +86,10 @@ sorted_from_fits tags table d fits =
     sorted_from_all_adjacent entry_total table d
     (λ i lt. subst (λ j. entry_cmp (get_or table i d) (get_or table j d) ≡ Less) (omega arith) (less_from_fit tags table i d (omega arith) (fits.each_fits (suc i) (omega arith))))
 
+pub sorted_fits : (tags : List Tag) (table : List Entry) → TableFits tags table → IsStrictlySortedBy entry_cmp table
+sorted_fits tags [] fits = unfold IsStrictlySortedBy in tt
+sorted_fits tags (d ∷ rest) fits = sorted_from_fits tags (d ∷ rest) d fits
+
 less≢equal : Less ≢ Equal
 less≢equal e = false≢true (sym (ap is_lt e))
 

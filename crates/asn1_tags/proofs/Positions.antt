@@ -9,7 +9,7 @@ use Rattle.std.proofs.lemmas.List.{get_or-append-add, get_or_append_left}
 use Rattle.std.proofs.lemmas.List.Sums.{prefix_len-le-length, passes_at_first, position_or_len_is}
 use Rattle.std.proofs.lemmas.Option.{slice_get-get_or, slice_get_past, slice_get_within, get_or_from_slice_get}
 use Rattle.asn1_tags.specs.Tags.{has, tag_eq, position_of}
-use Rattle.asn1_tags.specs.Walks.{IsTagBehind}
+use Rattle.asn1_tags.specs.Walks.{IsTagAfter}
 use Rattle.asn1_tags.specs.Trees.{shape, shapes, leaves, leaves_of}
 use Rattle.asn1_tags.specs.declared.tags.Tag.{Tag}
 use Rattle.asn1_tags.specs.declared.trees.TagTree.{TagTree}
@@ -26,12 +26,12 @@ first_in_front q (y ∷ ys) zs here = by_test (q y) (first_in_front q ys zs) her
     by_test false f h = ap (λ n. 1 + n) (f h)
 
 -- the first place after a list that has none
-first_behind : (q : Tag → Bool) (xs ys : List Tag) → list_any q xs ≡ false → length xs + position_or_len q ys ≡ position_or_len q (xs ++ ys)
-first_behind q [] ys none = zero-add (position_or_len q ys)
-first_behind q (x ∷ xs) ys none =
+first_after : (q : Tag → Bool) (xs ys : List Tag) → list_any q xs ≡ false → length xs + position_or_len q ys ≡ position_or_len q (xs ++ ys)
+first_after q [] ys none = zero-add (position_or_len q ys)
+first_after q (x ∷ xs) ys none =
     let off : q x ≡ false = grind (arith, common_steps) in
     let rest : list_any q xs ≡ false = grind (arith, common_steps) in
-    let ih = first_behind q xs ys rest in
+    let ih = first_after q xs ys rest in
     rw off (omega arith)
 
 -- a place is within the list, or just past it
@@ -49,7 +49,7 @@ place_at t ts i p d lt none here e =
     let ys = leaves (shape (get_or ts i d)) in
     let zs = leaves_of (shapes (drop (i + 1) ts)) in
     let whole : leaves_of (shapes ts) ≡ xs ++ (ys ++ zs) = leaves_of-split ts i ∙ ap (λ ls. xs ++ ls) (leaves_of-drop ts i d lt) in
-    ap (λ n. length xs + n) (e ∙ first_in_front q ys zs here) ∙ first_behind q xs (ys ++ zs) none ∙ sym (ap (position_or_len q) whole)
+    ap (λ n. length xs + n) (e ∙ first_in_front q ys zs here) ∙ first_after q xs (ys ++ zs) none ∙ sym (ap (position_or_len q) whole)
 
 -- a tag that is found in the tree at i, after n leaves that are others
 pub found_at : (t : Tag) (ts : List TagTree) (i n p : ℕ) (d : TagTree) → i < length ts →
@@ -75,9 +75,9 @@ passed_at t ts i n m d lt passed absent fits =
     (omega arith, grind (arith, common_steps, step))
 
 -- the leaf after so many others of the tree at i
-pub leaf_behind_at : (ts : List TagTree) (i k : ℕ) (d : TagTree) (t : Tag) → i < length ts → k < length (leaves (shape (get_or ts i d))) →
+pub leaf_after_at : (ts : List TagTree) (i k : ℕ) (d : TagTree) (t : Tag) → i < length ts → k < length (leaves (shape (get_or ts i d))) →
     get_or (leaves_of (shapes ts)) (length (leaves_of (shapes (take i ts))) + k) t ≡ get_or (leaves (shape (get_or ts i d))) k t
-leaf_behind_at ts i k d t lt within =
+leaf_after_at ts i k d t lt within =
     let xs = leaves_of (shapes (take i ts)) in
     let ys = leaves (shape (get_or ts i d)) in
     let zs = leaves_of (shapes (drop (i + 1) ts)) in
@@ -137,9 +137,9 @@ position_of-unique t ts k apart e =
     before true j f lt here within = absurd (apart j k t lt within (tag_eq-true (get_or ts j t) t f ∙ sym here))
 
 -- the tag after k others stands at k
-pub IsTagBehind-is : (ts : List Tag) (k : ℕ) (r : Result Tag ℕ) → IsTagBehind ts k r → result_ok r ≡ slice_get ts k
-IsTagBehind-is ts k (Ok t) h = sym (slice_get-get_or ts k t h.0 ∙ ap Some (sym h.1))
-IsTagBehind-is ts k (Err left) h = sym (slice_get_past ts k (omega arith))
+pub IsTagAfter-is : (ts : List Tag) (k : ℕ) (r : Result Tag ℕ) → IsTagAfter ts k r → result_ok r ≡ slice_get ts k
+IsTagAfter-is ts k (Ok t) h = sym (slice_get-get_or ts k t h.0 ∙ ap Some (sym h.1))
+IsTagAfter-is ts k (Err left) h = sym (slice_get_past ts k (omega arith))
 
 -- what stands at a place has that first place, where each tag stands once
 pub position_of-slice_get : (ts : List Tag) (k : ℕ) (r : Option Tag) → r ≡ slice_get ts k → AllPairs (λ s u. s ≢ u) ts →
@@ -148,7 +148,7 @@ position_of-slice_get ts k None e apart = tt
 position_of-slice_get ts k (Some t) e apart = position_of-unique t ts k apart (sym e)
 
 -- the steps of the walks that number leaves
-pub ruleset steps = (count_more, count_upto, leaf_behind_at)
+pub ruleset steps = (count_more, count_upto, leaf_after_at)
 
 -- how a place and a tag answer each other
-pub ruleset places = (position_of-none, position_of-some, slice_get-position, IsTagBehind-is)
+pub ruleset places = (position_of-none, position_of-some, slice_get-position, IsTagAfter-is)

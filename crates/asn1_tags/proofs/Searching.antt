@@ -15,7 +15,7 @@ use Rattle.std.proofs.lemmas.List.Sums.{fails_before_first, passes_at_first, pos
 use Rattle.std.proofs.lemmas.Map.Keys.{Less-from_sorted}
 use Rattle.std.proofs.lemmas.Option.{get_or_from_slice_get, slice_get-get_or, slice_get_past, slice_get_within}
 use Rattle.asn1_tags.proofs.Distinct.{tag_eq-true, tag_eq-refl}
-use Rattle.asn1_tags.proofs.Fitting.{entry_of_place, sorted_from_fits, tag_at_position, tag_from_fit}
+use Rattle.asn1_tags.proofs.Fitting.{entry_of_place, sorted_fits, sorted_from_fits, tag_at_position, tag_from_fit}
 use Rattle.asn1_tags.specs.OrderLaws.{structure_cmp-Equal, tag_total}
 use Rattle.asn1_tags.specs.Tables.{Entry, TableFits, binary_digits, entry_cmp, first_position}
 use Rattle.asn1_tags.specs.Tags.{position_of, smallest, tag_cmp, tag_eq}
@@ -354,3 +354,11 @@ position_from_fits tags table t fits = elim (cases_lt (position_or_len (λ e. ta
             let entry = entry_of_tag tags table t fits k (t, 0) lt e in
             let passes : tag_eq (get_or table entry.0 (t, 0)).0 t ≡ true = subst (λ s. tag_eq s t ≡ true) (sym entry.3) (tag_eq-refl t) in
             absurd (false≢true (sym (nowhere entry.0 entry.1) ∙ passes))
+
+-- at most all tags are compared
+pub few_from_fits : (tags : List Tag) (table : List Entry) (count : ℕ) → TableFits tags table → count ≤ binary_digits (length table) →
+    count ≤ length tags
+few_from_fits tags table count fits few = omega (arith, few, digits_within (length table), fits.same_length)
+
+-- what a search of a table that fits says of the list
+pub ruleset searches = (sorted_fits, position_from_fits, few_from_fits)

@@ -17,8 +17,8 @@ IsFirstPlaceOf t ts r =
     (λ count. (has t ts ≡ false) × (count ≡ length ts))
 
 -- the tag after so many others, or how many more there would have to be
-abbrev pub IsTagBehind : List Tag → ℕ → Result Tag ℕ → Type 0
-IsTagBehind ts skipped r =
+abbrev pub IsTagAfter : List Tag → ℕ → Result Tag ℕ → Type 0
+IsTagAfter ts skipped r =
     MatchResult
     r
     (λ t. (skipped < length ts) × (t ≡ slice_index_or ts skipped t))

@@ -127,6 +127,7 @@ impl Variants {
     ///
     /// Where there is a table, each comparison halves the entries that are left, and else the list is
     /// searched from the left.
+    #[tactic(auto, using(crate::proofs::Searching::searches))]
     pub fn find_counted(&self, tag: &Tag) -> (Option<usize>, usize)
         ensures place { result.0 ≡ position_of tag.now self.now.tags }
         ensures few { IsSome self.now.table → result.1 ≤ binary_digits (length self.now.tags) }

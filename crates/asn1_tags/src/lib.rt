@@ -9,7 +9,8 @@
 //! | [`Class`] | one of the four classes of tags |
 //! | [`Tag`] | a class and a number, with a constant for each type of X.680 |
 //! | [`TagTree`] | the tags with which a type's encoding can begin: a tag, or the trees of a CHOICE |
-//! | [`Variants`] | the tags of trees in one list |
+//! | [`Variants`] | the tags of trees in one list, with a table for quick look-ups or none |
+//! | [`VariantsError`] | why there is no list with a table |
 //! | [`Identifier`] | the name of a type, with a constant for each type of X.680, or no name |
 //!
 //! What the contracts promise, and the words that they use:
@@ -21,23 +22,31 @@
 //! - A tree is seen as its `shape`, a tree of tags apart from where it lies in memory, and is asked
 //!   about its `leaves`, the tags from left to right; `specs/Trees.antt` defines both.
 //! - `TagTree::smallest_tag` is the smallest of the leaves; `is_unique` and `is_unique_set` are true
-//!   exactly where no tag stands at two leaves; `tag_contains` is true exactly for a leaf;
+//!   if and only if no tag is at two leaves; `tag_contains` is true if and only if a leaf is the tag;
 //!   `leaf_count` is the number of leaves wherever it fits. `has_empty_choice` says whether a choice of
-//!   nothing stands anywhere (`is_open`), and `shares_leaf` whether two trees have a leaf in common.
+//!   nothing is anywhere (`is_open`), and `shares_leaf` whether two trees have a leaf in common.
 //! - `TagTree::leaf_position` is the first place of a tag among the leaves, and `leaf_at` the leaf at
 //!   a place. Each gives back what the other was asked (the clauses `back`), `leaf_at` where no tag
-//!   stands at two leaves. Both require that the number of leaves fits, which `leaf_count` tests.
+//!   is at two leaves. Both require that the number of leaves fits, which `leaf_count` tests.
 //! - `Ord` of trees is `tree_cmp` of `specs/Order.antt`, a total order by smallest tag and then by
 //!   structure, which answers `Equal` for trees of one shape alone (the clauses `same` and `equal`).
-//! - A `Variants` is the list of the leaves. An `Identifier` is its text, `name_of` in
-//!   `specs/Names.antt`: `or` keeps a name and takes the other in place of none.
+//! - A `Variants` is seen as the list of the leaves (`tags`) and a `table` or none. `with_table`
+//!   succeeds, memory aside, if and only if the table fits (`TableFits`), and else says where it fails
+//!   first (`FailsFirstAt`, the clause `mismatch`). `position_of` and `find_counted` give the first
+//!   place of a tag. `find_counted` also counts its comparisons of tags: with a table at most as many
+//!   as the length of the list has binary digits (the clause `few`), at most one for each tag in any
+//!   case, and at least one where the list is not empty. `specs/Tables.antt` defines these words.
+//! - An `Identifier` is its text, `name_of` in `specs/Names.antt`: `or` keeps a name and takes the
+//!   other in place of none.
+//! - `derives_take_every_part` does nothing. Its contract says what the derived equality, order, hash
+//!   and clone of these types are, in the words of `specs/Derives.antt`.
 //!
-//! Only the constructors of `Variants` and its `try_clone` take memory. Each answers an error only
-//! where the allocator refused.
+//! Only the constructors of `Variants` and its `try_clone` take memory. `with_table` also fails where
+//! its table does not fit, and each of the others only where the allocator refused.
 //!
 //! For proofs in other crates, `proofs/` has the leaves of trees that follow one another
 //! (`Leaves`), the laws of the order of tags (`Smallest`), the tests of lists of tags (`Distinct`),
-//! and places among leaves (`Positions`).
+//! places among leaves (`Positions`), and tables that fit (`Fitting`, `Searching`).
 #![tactic(auto)]
 
 mod classes;

@@ -2,7 +2,7 @@
 #![tactic(auto, using(crate::proofs::Leaves::tree_shapes, crate::proofs::Positions::steps))]
 
 ghost use Rattle.std.specs.Prelude.{◌<◌, ◌^◌, length};
-ghost use Rattle.asn1_tags.specs.Walks.{IsFirstPlaceOf, IsTagBehind};
+ghost use Rattle.asn1_tags.specs.Walks.{IsFirstPlaceOf, IsTagAfter};
 ghost use Rattle.asn1_tags.specs.Trees.{leaves, leaves_of, shape, shapes};
 
 use crate::tags::Tag;
@@ -35,23 +35,23 @@ pub(crate) fn first_place(nodes: &[TagTree<'_>], tag: &Tag) -> Result<usize, usi
 }
 
 // The leaf of the tree after `skipped` others, or how many more there would have to be.
-#[cycle(behind)]
+#[cycle(after)]
 fn leaf_in(tree: &TagTree<'_>, skipped: usize) -> Result<Tag, usize>
-    ensures { IsTagBehind (leaves (shape tree.now)) skipped result }
+    ensures { IsTagAfter (leaves (shape tree.now)) skipped result }
 {
     match tree {
         TagTree::Leaf(leaf) => match skipped.checked_sub(1) {
             None => Ok(*leaf),
             Some(left) => Err(left),
         },
-        TagTree::Choice(nodes) => leaf_behind(nodes, skipped),
+        TagTree::Choice(nodes) => leaf_after(nodes, skipped),
     }
 }
 
 // The leaf of the trees after `skipped` others, or how many more there would have to be.
-#[cycle(behind)]
-pub(crate) fn leaf_behind(nodes: &[TagTree<'_>], skipped: usize) -> Result<Tag, usize>
-    ensures { IsTagBehind (leaves_of (shapes nodes.now)) skipped result }
+#[cycle(after)]
+pub(crate) fn leaf_after(nodes: &[TagTree<'_>], skipped: usize) -> Result<Tag, usize>
+    ensures { IsTagAfter (leaves_of (shapes nodes.now)) skipped result }
 {
     let mut left = skipped;
     for node in nodes {

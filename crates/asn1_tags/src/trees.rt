@@ -101,7 +101,7 @@ impl TagTree<'_> {
         // Where each tag stands once, the place of the leaf is the place that was asked for.
         ensures back { let tags = leaves_of (shapes nodes.now) in AllPairs (λ s t. s ≢ t) tags → IfSome result (λ tag. position_of tag tags ≡ Some place) }
     {
-        places::leaf_behind(nodes, place).ok()
+        places::leaf_after(nodes, place).ok()
     }
 }
 

@@ -1,10 +1,10 @@
 use Rattle.std.proofs.Common.{◌∙◌}
 use Rattle.asn1_tags.specs.Trees.{leaves_of, shapes}
-use Rattle.asn1_tags.proofs.Positions.{IsTagBehind-is, position_of-slice_get}
+use Rattle.asn1_tags.proofs.Positions.{IsTagAfter-is, position_of-slice_get}
 use Rattle.asn1_tags.proofs.trees.TagTree.leaf_at.Goals as goal
 
 pub returns-clause-back : goal.returns-clause-back
 returns-clause-back c =
     let tags = leaves_of (shapes c.args.nodes.now) in
-    let there = IsTagBehind-is tags c.args.place c.leaf_behind.result c.leaf_behind.ensures in
+    let there = IsTagAfter-is tags c.args.place c.leaf_after.result c.leaf_after.ensures in
     position_of-slice_get tags c.args.place c.ok.result (c.ok.ensures.value ∙ there)
