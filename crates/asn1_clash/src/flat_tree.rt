@@ -108,7 +108,7 @@ fn smallest_of(first: Tag, others: &[Tag]) -> Tag
 fn lesser(first: Tag, second: Tag) -> Tag
     ensures { result ≡ lesser first second }
 {
-    if second.const_less_than(&first) {
+    if second.const_less_than(first) {
         second
     } else {
         first

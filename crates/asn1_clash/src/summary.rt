@@ -1,7 +1,8 @@
 //! What there is to say of a tree of tags.
-ghost use Rattle.std.specs.Prelude.{◌≡◌, length};
+ghost use Rattle.std.specs.Prelude.{◌≡◌, ◌↔◌, IsTrue, length};
 ghost use Rattle.std.specs.List.Sorted.{IsPermutation};
-ghost use Rattle.asn1_tags.specs.Tags.{distinct, smallest};
+ghost use Rattle.std.specs.declared.cmp.Ordering.TheVariants.{Less};
+ghost use Rattle.asn1_tags.specs.Tags.{distinct, smallest, tag_cmp};
 
 use crate::flat_tree::GREATEST;
 use asn1_tags::Tag;
@@ -27,9 +28,16 @@ impl TreeSummary {
     {
         leaves.sort_unstable_by(Tag::const_cmp);
         TreeSummary {
-            is_unique: leaves.is_sorted_by(Tag::const_less_than),
+            is_unique: leaves.is_sorted_by(comes_before),
             smallest_tag: leaves.first().copied().unwrap_or(GREATEST),
             leaf_count: leaves.len(),
         }
     }
+}
+
+// Whether the first tag comes before the second in the canonical order.
+fn comes_before(first: &Tag, second: &Tag) -> bool
+    ensures { IsTrue result ↔ (tag_cmp first.now second.now ≡ Less) }
+{
+    first.const_less_than(*second)
 }
