@@ -26,21 +26,20 @@ fn letter(rt: &impl Abort, alloc: Global) -> PermittedAlphabet {
 
 #[test]
 fn tells_kinds(rt: HostRuntime) {
+    use ConstraintDiscriminant as Kind;
     let alloc = rt.alloc();
-    let value = Constraint::from(Value::new(Bounded::const_new(1, 2)));
-    let size = Constraint::from(Size::default());
-    let alphabet = Constraint::from(letter(&rt, alloc));
-    let marker = Constraint::Extensible;
-    assert_kind(&rt, alloc, value, ConstraintDiscriminant::Value, 0);
-    assert_kind(&rt, alloc, size, ConstraintDiscriminant::Size, 1);
+    let value = Value::new(Bounded::const_new(1, 2));
+    assert_kind(&rt, alloc, Constraint::from(value), Kind::Value, 0);
+    assert_kind(&rt, alloc, Constraint::from(Size::default()), Kind::Size, 1);
+    let alphabet = letter(&rt, alloc);
     assert_kind(
         &rt,
         alloc,
-        alphabet,
-        ConstraintDiscriminant::PermittedAlphabet,
+        Constraint::from(alphabet),
+        Kind::PermittedAlphabet,
         2,
     );
-    assert_kind(&rt, alloc, marker, ConstraintDiscriminant::Extensible, 3);
+    assert_kind(&rt, alloc, Constraint::Extensible, Kind::Extensible, 3);
 }
 
 #[test]

@@ -7,54 +7,74 @@ fn value(start: i128, end: i128) -> Value {
     Value::new(Bounded::const_new(start, end))
 }
 
-fn alphabet(rt: &impl Abort, alloc: Global, characters: &[u32]) -> PermittedAlphabet {
-    PermittedAlphabet::new(alloc, characters).expect(rt, "memory")
+/// The set of the two constraints.
+fn joined<'a>(
+    rt: &impl Abort,
+    alloc: Global,
+    left: Constraint<'a>,
+    right: Constraint<'a>,
+) -> Constraints<'a> {
+    Constraints::new(alloc, &[left, right]).expect(rt, "memory")
 }
 
-fn of_characters(rt: &impl Abort, alloc: Global, characters: &[u32]) -> Constraint<'static> {
-    Constraint::from(alphabet(rt, alloc, characters))
-}
-
-/// Asserts that the set has these parts alone, which are not extensible, and the extension marker.
-fn assert_parts(rt: &impl Abort, set: &Constraints, value: Value, size: Size) {
-    assert!(rt; set.value().copied() == Some(Extensible::new(value)));
-    assert!(rt; set.size().copied() == Some(Extensible::new(size)));
+/// Asserts what a set has of values and of lengths, not extensible, and whether it has the extension marker.
+fn assert_parts(
+    rt: &impl Abort,
+    set: &Constraints,
+    value: Option<Value>,
+    size: Option<Size>,
+    is_extensible: bool,
+) {
+    assert!(rt; set.value().copied() == value.map(Extensible::new));
+    assert!(rt; set.size().copied() == size.map(Extensible::new));
     assert!(rt; set.permitted_alphabet().is_none());
-    assert!(rt; set.extensible() && set.per_visibly_extensible());
+    assert!(rt; set.extensible() == is_extensible && set.per_visibly_extensible() == is_extensible);
+}
+
+fn assert_values(rt: &impl Abort, alloc: Global, left: Value, right: Value, both: Value) {
+    let set = joined(rt, alloc, Constraint::from(left), Constraint::from(right));
+    assert_parts(rt, &set, Some(both), None, false);
+}
+
+fn assert_sizes(rt: &impl Abort, alloc: Global, left: Size, right: Size, both: Size) {
+    let set = joined(rt, alloc, Constraint::from(left), Constraint::from(right));
+    assert_parts(rt, &set, None, Some(both), false);
 }
 
 #[test]
 fn joins_constraints(rt: HostRuntime) {
+    let alloc = rt.alloc();
+    assert_values(&rt, alloc, value(1, 10), value(5, 15), value(5, 10));
     let none = Size::new(Bounded::const_new(1, 0));
-    let constraints = [
-        Constraint::from(value(1, 10)),
-        Constraint::from(Size::fixed(3)),
-        Constraint::from(value(5, 15)),
-        Constraint::from(Size::fixed(5)),
-        Constraint::Extensible,
-    ];
-    let set = Constraints::new(rt.alloc(), &constraints).expect(&rt, "memory");
-    assert_parts(&rt, &set, value(5, 10), none);
+    assert_sizes(&rt, alloc, Size::fixed(3), Size::fixed(5), none);
 }
 
-/// Asserts that the set has this part on characters, not extensible.
-fn assert_characters(rt: &impl Abort, set: &Constraints, characters: &[u32]) {
-    let is_as_wanted = match set.permitted_alphabet() {
+#[test]
+fn joins_a_marker(rt: HostRuntime) {
+    let size = Constraint::from(Size::fixed(3));
+    let set = joined(&rt, rt.alloc(), size, Constraint::Extensible);
+    assert_parts(&rt, &set, None, Some(Size::fixed(3)), true);
+    assert_parts(&rt, &Constraints::default(), None, None, false);
+}
+
+/// Whether the set has this part on characters, not extensible.
+fn has_characters(set: &Constraints, characters: &[u32]) -> bool {
+    match set.permitted_alphabet() {
         Some(part) => part.constraint.as_inner() == characters && part.extensible.is_none(),
         None => false,
-    };
-    assert!(rt; is_as_wanted);
+    }
+}
+
+fn of_characters(rt: &impl Abort, alloc: Global, characters: &[u32]) -> Constraint<'static> {
+    Constraint::from(PermittedAlphabet::new(alloc, characters).expect(rt, "memory"))
 }
 
 #[test]
 fn joins_alphabets(rt: HostRuntime) {
     let alloc = rt.alloc();
-    let constraints = [
-        of_characters(&rt, alloc, &[97, 98, 99]),
-        of_characters(&rt, alloc, &[99, 100]),
-    ];
-    let set = Constraints::new(alloc, &constraints).expect(&rt, "memory");
-    assert_characters(&rt, &set, &[99]);
+    let left = of_characters(&rt, alloc, &[97, 98, 99]);
+    let right = of_characters(&rt, alloc, &[99, 100]);
+    assert!(rt; has_characters(&joined(&rt, alloc, left, right), &[99]));
 }
 
 /// The set of a constraint of values and one of characters.
@@ -64,11 +84,12 @@ fn of_both(
     value: Value,
     characters: &[u32],
 ) -> Constraints<'static> {
-    let constraints = [
+    joined(
+        rt,
+        alloc,
         Constraint::from(value),
         of_characters(rt, alloc, characters),
-    ];
-    Constraints::new(alloc, &constraints).expect(rt, "memory")
+    )
 }
 
 #[test]
@@ -77,37 +98,23 @@ fn intersects_sets(rt: HostRuntime) {
     let left = of_both(&rt, alloc, value(1, 10), &[65, 66]);
     let right = of_both(&rt, alloc, value(5, 15), &[66, 48]);
     let both = left.intersect(alloc, &right).expect(&rt, "memory");
-    let copy = both.try_clone(alloc).expect(&rt, "memory");
-    assert!(rt; copy.value().copied() == Some(Extensible::new(value(5, 10))));
-    assert_characters(&rt, &copy, &[66]);
-    assert!(rt; copy.size().is_none() && !copy.extensible());
-    assert!(rt; Constraints::default().value().is_none());
-}
-
-#[test]
-fn sees_an_extensible_alphabet(rt: HostRuntime) {
-    let alloc = rt.alloc();
-    let more = [alphabet(&rt, alloc, &[67])];
-    let part = Extensible::new_extensible(alphabet(&rt, alloc, &[65, 66]), &more);
-    let set = Constraints::new(alloc, &[Constraint::from(part)]).expect(&rt, "memory");
-    assert!(rt; set.extensible() && !set.per_visibly_extensible());
+    assert!(rt; both.value().copied() == Some(Extensible::new(value(5, 10))));
+    assert!(rt; has_characters(&both, &[66]) && both.size().is_none() && !both.extensible());
 }
 
 /// Also where an allocation fails: what a call was asked of stays as it was.
 #[test]
 fn a_refused_set_leaves_its_arguments(rt: HostRuntime) {
     let alloc = rt.alloc();
-    if let Ok(letters) = ConstraintTable::NONE
-        .with_permitted_alphabet(&[97, 98])
-        .to_constraints(alloc)
-    {
+    let table = ConstraintTable::NONE.with_permitted_alphabet(&[97, 98]);
+    if let Ok(letters) = table.to_constraints(alloc) {
         if let Ok(copy) = letters.try_clone(alloc) {
-            assert_characters(&rt, &copy, &[97, 98]);
+            assert!(rt; has_characters(&copy, &[97, 98]));
         }
         if let Ok(both) = letters.intersect(alloc, &letters) {
-            assert_characters(&rt, &both, &[97, 98]);
+            assert!(rt; has_characters(&both, &[97, 98]));
         }
-        assert_characters(&rt, &letters, &[97, 98]);
+        assert!(rt; has_characters(&letters, &[97, 98]));
     }
 }
 
@@ -118,7 +125,7 @@ fn a_refused_set_leaves_the_constraints(rt: HostRuntime) {
     if let Ok(letters) = PermittedAlphabet::new(alloc, &[97, 98]) {
         let constraints = [Constraint::from(letters)];
         if let Ok(set) = Constraints::new(alloc, &constraints) {
-            assert_characters(&rt, &set, &[97, 98]);
+            assert!(rt; has_characters(&set, &[97, 98]));
         }
         assert!(rt; constraints[0].as_permitted_alphabet().is_some());
     }

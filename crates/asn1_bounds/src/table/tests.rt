@@ -40,6 +40,7 @@ fn own_characters(rt: HostRuntime) {
     let alloc = rt.alloc();
     let digits = BITS.with_permitted_alphabet(&[48, 49]);
     assert!(rt; !set(&rt, alloc, digits).extensible());
-    let more = BITS.with_extensible_alphabet(&[48, 49], &[]);
-    assert_characters(&rt, alloc, more, &[48, 49]);
+    let more = [PermittedAlphabet::new(alloc, &[50]).expect(&rt, "memory")];
+    let bits = BITS.with_extensible_alphabet(&[48, 49], &more);
+    assert_characters(&rt, alloc, bits, &[48, 49]);
 }
