@@ -46,11 +46,6 @@ pub use constraints::Constraints;
 pub use error::{InnerSubtypeConstraintError, TooWide};
 pub use extensible::Extensible;
 pub use inner_subtype::InnerSubtypeConstraint;
-pub use laws::{
-    alphabets_are_compared_by_characters, constraints_are_compared_by_parts,
-    conversions_keep_the_constraint, extensible_constraints_are_compared_by_parts,
-    names_are_compared_by_case, sizes_are_compared_by_bound, values_are_compared_by_bound,
-};
 pub use size::Size;
 pub use table::ConstraintTable;
 pub use value::Value;
@@ -62,7 +57,7 @@ mod constraints;
 mod error;
 mod extensible;
 mod inner_subtype;
-mod laws;
+pub mod laws;
 mod size;
 mod table;
 mod value;

@@ -17,7 +17,7 @@ use crate::presence::FieldPresence;
 /// Laws of the derived traits. Presences are equal if they are the same, and go as they are listed. Fields are equal if
 /// they say the same, and go by what they say, part after part. A clone is its source: one of an iterator has the same
 /// items left.
-pub fn derived_traits_say_what_they_should()
+pub fn derives_take_every_part()
     ensures presence_equal { (p q : FieldPresence) → IsTrue (⟦<FieldPresence as PartialEq>⟧.eq p q) ↔ (p ≡ q) }
     ensures presence_order { (p q : FieldPresence) → ⟦<FieldPresence as Ord>⟧.cmp p q ≡ presence_cmp p q }
     ensures presence_default { (p : FieldPresence) → ⟦<FieldPresence as Default>⟧.is_default p → p ≡ presences.Default }

@@ -10,7 +10,7 @@
 //! | [`FieldPresence`] | whether a component is always there, OPTIONAL or has a DEFAULT | `presence.rt` | `Entries` |
 //! | [`Fields`] | a table of a known number of fields | `fields.rt` | `FieldLists` |
 //! | [`FieldIter`] and its kin | its fields, those that may be absent, and its names | `iterators.rt` | `FieldLists` |
-//! | [`derived_traits_say_what_they_should`] | laws of equality, order, default and clones | `laws.rt` | `EntryOrder` |
+//! | [`laws`] | laws of equality, order, default and clones | `laws.rt` | `EntryOrder` |
 //! | [`first_sequence_clash`], [`first_set_clash`] | the rules on distinct tags | `distinct_tags.rt` | `DistinctTags` |
 //! | [`is_canonical`] | the canonical order | `canonical_order.rt` | `CanonicalOrder` |
 //!
@@ -45,7 +45,7 @@ mod distinct_tags;
 mod field;
 mod fields;
 mod iterators;
-mod laws;
+pub mod laws;
 mod presence;
 #[cfg(test)]
 mod tests;
@@ -55,5 +55,4 @@ pub use distinct_tags::{first_sequence_clash, first_set_clash};
 pub use field::Field;
 pub use fields::Fields;
 pub use iterators::{FieldIter, IdentifierIter, OptionalFieldIter};
-pub use laws::derived_traits_say_what_they_should;
 pub use presence::FieldPresence;

@@ -27,15 +27,11 @@
 #![tactic(auto)]
 
 pub use bounded::Bounded;
-pub use compared::{
-    bounds_are_compared_by_ends, bounds_are_printed_by_ends, bounds_of_numbers_are_told_apart,
-    whole_numbers_are_their_values,
-};
 pub use number::{FitsI128, WholeNumber};
 
 mod bounded;
-mod compared;
 mod integers;
 mod intersection;
+pub mod laws;
 mod number;
 mod octets;

@@ -38,7 +38,7 @@
 //!   case, and at least one where the list is not empty. `specs/Tables.antt` defines these words.
 //! - An `Identifier` is its text, `name_of` in `specs/Names.antt`: `or` keeps a name and takes the
 //!   other in place of none.
-//! - `derives_take_every_part` does nothing. Its contract says what the derived equality, order, hash
+//! - `laws::derives_take_every_part` does nothing. Its contract says what the derived equality, order, hash
 //!   and clone of these types are, in the words of `specs/Derives.antt`.
 //!
 //! Only the constructors of `Variants` and its `try_clone` take memory. `with_table` also fails where
@@ -52,7 +52,7 @@
 mod classes;
 mod error;
 mod flattened;
-mod laws;
+pub mod laws;
 mod names;
 mod order;
 mod places;
@@ -68,7 +68,6 @@ mod walks;
 pub use classes::Class;
 pub use error::VariantsError;
 pub use flattened::Variants;
-pub use laws::derives_take_every_part;
 pub use names::Identifier;
 pub use tags::Tag;
 pub use trees::TagTree;

@@ -48,7 +48,7 @@ pub mod examples;
 mod explicit;
 mod implicit;
 mod instance_of;
-mod laws;
+pub mod laws;
 mod sequence_of;
 mod set_of;
 #[cfg(test)]
@@ -75,6 +75,5 @@ pub use asn1_tags::{Class, Identifier, Tag, TagTree};
 pub use explicit::Explicit;
 pub use implicit::Implicit;
 pub use instance_of::{InstanceOf, instance_of_has_two_fields};
-pub use laws::values_are_compared_by_what_they_hold;
 pub use sequence_of::SequenceOf;
 pub use set_of::{SetOf, equal_sets_have_the_same_elements};

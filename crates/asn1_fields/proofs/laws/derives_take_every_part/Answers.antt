@@ -1,5 +1,5 @@
 use Rattle.asn1_fields.proofs.Compared.{field_order, field_same}
-use Rattle.asn1_fields.proofs.laws.derived_traits_say_what_they_should.Goals as goal
+use Rattle.asn1_fields.proofs.laws.derives_take_every_part.Goals as goal
 
 pub returns-clause-field_equal : goal.returns-clause-field_equal
 returns-clause-field_equal c = field_same
