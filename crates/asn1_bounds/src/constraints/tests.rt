@@ -17,28 +17,28 @@ fn joined<'a>(
     Constraints::new(alloc, &[left, right]).expect(rt, "memory")
 }
 
-/// Asserts what a set has of values and of lengths, not extensible, and whether it has the extension marker.
+/// Asserts what a set has of values and of lengths, and whether it is extensible.
 fn assert_parts(
     rt: &impl Abort,
     set: &Constraints,
-    value: Option<Value>,
-    size: Option<Size>,
+    value: Option<Extensible<Value>>,
+    size: Option<Extensible<Size>>,
     is_extensible: bool,
 ) {
-    assert!(rt; set.value().copied() == value.map(Extensible::new));
-    assert!(rt; set.size().copied() == size.map(Extensible::new));
+    assert!(rt; set.value().copied() == value);
+    assert!(rt; set.size().copied() == size);
     assert!(rt; set.permitted_alphabet().is_none());
     assert!(rt; set.extensible() == is_extensible && set.per_visibly_extensible() == is_extensible);
 }
 
 fn assert_values(rt: &impl Abort, alloc: Global, left: Value, right: Value, both: Value) {
     let set = joined(rt, alloc, Constraint::from(left), Constraint::from(right));
-    assert_parts(rt, &set, Some(both), None, false);
+    assert_parts(rt, &set, Some(Extensible::new(both)), None, false);
 }
 
 fn assert_sizes(rt: &impl Abort, alloc: Global, left: Size, right: Size, both: Size) {
     let set = joined(rt, alloc, Constraint::from(left), Constraint::from(right));
-    assert_parts(rt, &set, None, Some(both), false);
+    assert_parts(rt, &set, None, Some(Extensible::new(both)), false);
 }
 
 #[test]
@@ -53,7 +53,8 @@ fn joins_constraints(rt: HostRuntime) {
 fn joins_a_marker(rt: HostRuntime) {
     let size = Constraint::from(Size::fixed(3));
     let set = joined(&rt, rt.alloc(), size, Constraint::Extensible);
-    assert_parts(&rt, &set, None, Some(Size::fixed(3)), true);
+    let part = Extensible::new(Size::fixed(3));
+    assert_parts(&rt, &set, None, Some(part), true);
     assert_parts(&rt, &Constraints::default(), None, None, false);
 }
 
