@@ -1,5 +1,6 @@
 //! Laws of the traits that are derived, or written beside a derive.
 ghost use Rattle.std.specs.Prelude.{◌≡◌, ◌↔◌, IsTrue};
+ghost use Rattle.asn1_tags.specs.Derives.{ClonesAll};
 ghost use Rattle.asn1_fields.specs.Entries.{entry_of};
 ghost use Rattle.asn1_fields.specs.EntryOrder.{entry_cmp, presence_cmp};
 ghost use Rattle.asn1_fields.specs.FieldLists.{fields_left, names_left, optional_left};
@@ -15,17 +16,20 @@ use crate::iterators::{FieldIter, IdentifierIter, OptionalFieldIter};
 use crate::presence::FieldPresence;
 
 /// Laws of the derived traits. Presences are equal if they are the same, and go as they are listed. Fields are equal if
-/// they say the same, and go by what they say, part after part. A clone is its source: one of an iterator has the same
-/// items left.
+/// they say the same, and go by what they say, part after part. A clone is its source, and none fails; one of an
+/// iterator has the same items left.
 pub fn derives_take_every_part()
     ensures presence_equal { (p q : FieldPresence) → IsTrue (⟦<FieldPresence as PartialEq>⟧.eq p q) ↔ (p ≡ q) }
     ensures presence_order { (p q : FieldPresence) → ⟦<FieldPresence as Ord>⟧.cmp p q ≡ presence_cmp p q }
     ensures presence_default { (p : FieldPresence) → ⟦<FieldPresence as Default>⟧.is_default p → p ≡ presences.Default }
-    ensures presence_clone { (p q : FieldPresence) → ⟦<FieldPresence as Clone>⟧.is_clone p q → q ≡ p }
+    ensures presence_clone { ClonesAll ⟦<FieldPresence as Clone>⟧.is_clone ⟦<FieldPresence as Clone>⟧.is_infallible }
     ensures field_equal { (f g : Field) → IsTrue (⟦<Field<'static> as PartialEq>⟧.eq f g) ↔ (entry_of f ≡ entry_of g) }
     ensures field_order { (f g : Field) → ⟦<Field<'static> as Ord>⟧.cmp f g ≡ entry_cmp (entry_of f) (entry_of g) }
-    ensures field_clone { (f g : Field) → ⟦<Field<'static> as Clone>⟧.is_clone f g → g ≡ f }
+    ensures field_clone { ClonesAll ⟦<Field<'static> as Clone>⟧.is_clone ⟦<Field<'static> as Clone>⟧.is_infallible }
     ensures iter_clone { (i j : FieldIter) → ⟦<FieldIter<'static> as Clone>⟧.is_clone i j → fields_left j ≡ fields_left i }
     ensures optional_iter_clone { (i j : OptionalFieldIter) → ⟦<OptionalFieldIter<'static> as Clone>⟧.is_clone i j → optional_left j ≡ optional_left i }
     ensures identifier_iter_clone { (i j : IdentifierIter) → ⟦<IdentifierIter<'static> as Clone>⟧.is_clone i j → names_left j ≡ names_left i }
+    ensures iter_clone_succeeds { (i : FieldIter) → ⟦<FieldIter<'static> as Clone>⟧.is_infallible i }
+    ensures optional_iter_clone_succeeds { (i : OptionalFieldIter) → ⟦<OptionalFieldIter<'static> as Clone>⟧.is_infallible i }
+    ensures identifier_iter_clone_succeeds { (i : IdentifierIter) → ⟦<IdentifierIter<'static> as Clone>⟧.is_infallible i }
 {}

@@ -41,8 +41,9 @@
 //! - `laws::derives_take_every_part` does nothing. Its contract says what the derived equality, order, hash
 //!   and clone of these types are, in the words of `specs/Derives.antt`.
 //!
-//! Only the constructors of `Variants` and its `try_clone` take memory. `with_table` also fails where
-//! its table does not fit, and each of the others only where the allocator refused.
+//! Of the calls of this crate `new`, `from_static`, `from_slice`, `with_table` and `try_clone` of
+//! `Variants` take memory. `with_table` also fails where its table does not fit, and each of the others
+//! only where the allocator refused.
 //!
 //! For proofs in other crates, `proofs/` has the leaves of trees that follow one another
 //! (`Leaves`), the laws of the order of tags (`Smallest`), the tests of lists of tags (`Distinct`),

@@ -21,10 +21,12 @@ pub fn values_are_compared_by_what_they_hold<T, V: Ord + Hash + Clone>()
     ensures implicit_order { (v w : Implicit T V) → ⟦<Implicit<T, V> as Ord>⟧.cmp v w ≡ V.cmp v.value w.value }
     ensures implicit_hash { (v : Implicit T V) → ⟦<Implicit<T, V> as Hash>⟧.hash_input v ≡ V.hash_input v.value }
     ensures implicit_clone { (v w : Implicit T V) → ⟦<Implicit<T, V> as Clone>⟧.is_clone v w → V.is_clone v.value w.value }
+    ensures implicit_clone_succeeds { (v : Implicit T V) → V.is_infallible v.value → ⟦<Implicit<T, V> as Clone>⟧.is_infallible v }
     ensures explicit_equal { (v w : Explicit T V) → ⟦<Explicit<T, V> as PartialEq>⟧.eq v w ≡ V.eq v.value w.value }
     ensures explicit_order { (v w : Explicit T V) → ⟦<Explicit<T, V> as Ord>⟧.cmp v w ≡ V.cmp v.value w.value }
     ensures explicit_hash { (v : Explicit T V) → ⟦<Explicit<T, V> as Hash>⟧.hash_input v ≡ V.hash_input v.value }
     ensures explicit_clone { (v w : Explicit T V) → ⟦<Explicit<T, V> as Clone>⟧.is_clone v w → V.is_clone v.value w.value }
+    ensures explicit_clone_succeeds { (v : Explicit T V) → V.is_infallible v.value → ⟦<Explicit<T, V> as Clone>⟧.is_infallible v }
     ensures any_equal { (v w : List ℕ) → IsTrue (⟦<Any as PartialEq>⟧.eq v w) ↔ (v ≡ w) }
     ensures any_order { (v w : List ℕ) → ⟦<Any as Ord>⟧.cmp v w ≡ slice_cmp nat_cmp v w }
     ensures any_hash { (v : List ℕ) → ⟦<Any as Hash>⟧.hash_input v ≡ fed.slice fed.u8 v }

@@ -11,7 +11,8 @@ ghost use Rattle.std.specs.List.{AllPass};
 ghost use Rattle.std.specs.Ordering.{as_partial_cmp, int_cmp, int_eq};
 ghost use Rattle.std.specs.Result.{OkIff};
 ghost use Rattle.asn1_values.specs.declared.error.OutOfRangeError.{OutOfRangeError};
-ghost use Rattle.asn1_values.specs.Text.{integer_text};
+ghost use Rattle.std.specs.Fmt.{styled_signed_decimal};
+ghost use Rattle.asn1_values.specs.Text.{integer_text, is_narrow};
 ghost use Rattle.asn1_values.specs.Alphabets.{is_among, is_ia5, is_numeric, is_printable, is_visible};
 
 use crate::constrained::{ConstrainedInteger, LimitedInteger, Limits};
@@ -163,13 +164,15 @@ pub fn integers_are_their_numbers()
     ensures of_integer { (z : ℤ) → ⟦<Integer as IntegerType>⟧.number z ≡ z }
 {}
 
-/// An `Integer` is made of its number, its default is 0, and its text is that of its number.
+/// An `Integer` is made of its number, its default is 0, and its text is that of its number, with options such as a width
+/// where an `i128` holds it.
 pub fn integers_are_made_and_written_by_number()
     ensures default { (z : ℤ) → ⟦<Integer as Default>⟧.is_default z ↔ (z ≡ pos 0) }
     ensures of_i128 { (n z : ℤ) → ⟦<Integer as From<i128>>⟧.from_gives n z ↔ (z ≡ n) }
     ensures of_u64 { (n : ℕ) (z : ℤ) → ⟦<Integer as From<u64>>⟧.from_gives n z ↔ (z ≡ pos n) }
     ensures of_u8 { (n : ℕ) (z : ℤ) → ⟦<Integer as From<u8>>⟧.from_gives n z ↔ (z ≡ pos n) }
     ensures text { (z : ℤ) → ⟦<Integer as Display>⟧.output z ≡ Some (integer_text z) }
+    ensures styled { (z : ℤ) (options : _) → IsTrue (is_narrow z) → ⟦<Integer as Display>⟧.styled_output z options ≡ Some (styled_signed_decimal options z) }
 {}
 
 /// A built-in integer is made of an `Integer` if and only if the number is from its least to its greatest one, and then
@@ -189,18 +192,20 @@ pub fn built_in_integers_are_made_of_numbers_that_fit()
     ensures to_isize { (z : ℤ) (made : Result ℤ OutOfRangeError) → ⟦<isize as TryFrom<Integer>>⟧.try_from_gives z made ↔ OkIff made ((isize.MIN ≤ℤ z) × (z ≤ℤ isize.MAX)) z }
 {}
 
-/// Whether the errors are the same, which they are if they name the same unit. A clone is its source.
+/// Whether the errors are the same, which they are if they name the same unit. A clone is its source, and none fails.
 pub fn alphabet_errors_are_compared_by_index(a: &AlphabetError, b: &AlphabetError) -> bool
     ensures same { IsTrue result ↔ (a.now ≡ b.now) }
     ensures clone { ⟦<AlphabetError as Clone>⟧.is_clone a.now b.now ↔ (b.now ≡ a.now) }
+    ensures clone_succeeds { ⟦<AlphabetError as Clone>⟧.is_infallible a.now }
 {
     a == b
 }
 
-/// There is one such error.
+/// There is one such error. A clone of it never fails.
 pub fn out_of_range_errors_are_equal(a: &OutOfRangeError, b: &OutOfRangeError) -> bool
     ensures same { IsTrue result }
     ensures clone { ⟦<OutOfRangeError as Clone>⟧.is_clone a.now b.now ↔ (b.now ≡ a.now) }
+    ensures clone_succeeds { ⟦<OutOfRangeError as Clone>⟧.is_infallible a.now }
 {
     a == b
 }
