@@ -111,6 +111,7 @@ pub fn names_are_compared_by_case()
         IsTrue (⟦<InnerSubtypeConstraintError as PartialEq>⟧.eq a b) ↔ (refusal_of a ≡ refusal_of b) }
     ensures discriminant_clones { ClonesExactly ⟦<ConstraintDiscriminant as Clone>⟧.is_clone ⟦<ConstraintDiscriminant as Clone>⟧.is_infallible }
     ensures codec_clones { ClonesExactly ⟦<Codec as Clone>⟧.is_clone ⟦<Codec as Clone>⟧.is_infallible }
+    ensures width_clones { ClonesExactly ⟦<TooWide as Clone>⟧.is_clone ⟦<TooWide as Clone>⟧.is_infallible }
     ensures error_clones { ClonesExactly ⟦<InnerSubtypeConstraintError as Clone>⟧.is_clone
         ⟦<InnerSubtypeConstraintError as Clone>⟧.is_infallible }
     ensures table_clones { ClonesExactly ⟦<ConstraintTable<'static> as Clone>⟧.is_clone

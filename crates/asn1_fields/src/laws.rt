@@ -1,9 +1,9 @@
-//! Laws of the traits that are derived, or written beside a derive.
+//! Laws of the traits that are derived, or written beside a derive, and of loops.
 ghost use Rattle.std.specs.Prelude.{◌≡◌, ◌↔◌, IsTrue};
 ghost use Rattle.asn1_tags.specs.Derives.{ClonesAll};
 ghost use Rattle.asn1_fields.specs.Entries.{entry_of};
 ghost use Rattle.asn1_fields.specs.EntryOrder.{entry_cmp, presence_cmp};
-ghost use Rattle.asn1_fields.specs.FieldLists.{fields_left, names_left, optional_left};
+ghost use Rattle.asn1_fields.specs.FieldLists.{fields_left, fields_of, names_left, optional_left};
 ghost use Rattle.asn1_fields.specs.declared.field.Field.{Field};
 ghost use Rattle.asn1_fields.specs.declared.iterators.FieldIter.{FieldIter};
 ghost use Rattle.asn1_fields.specs.declared.iterators.IdentifierIter.{IdentifierIter};
@@ -12,13 +12,14 @@ ghost use Rattle.asn1_fields.specs.declared.presence.FieldPresence.{FieldPresenc
 ghost use Rattle.asn1_fields.specs.declared.presence.FieldPresence.TheVariants as presences;
 
 use crate::field::Field;
+use crate::fields::Fields;
 use crate::iterators::{FieldIter, IdentifierIter, OptionalFieldIter};
 use crate::presence::FieldPresence;
 
 /// Laws of the derived traits. Presences are equal if they are the same, and go as they are listed. Fields are equal if
 /// they say the same, and go by what they say, part after part. A clone is its source, and none fails; one of an
 /// iterator has the same items left.
-pub fn derives_take_every_part()
+pub fn derives_take_every_part<'a, const N: usize>()
     ensures presence_equal { (p q : FieldPresence) → IsTrue (⟦<FieldPresence as PartialEq>⟧.eq p q) ↔ (p ≡ q) }
     ensures presence_order { (p q : FieldPresence) → ⟦<FieldPresence as Ord>⟧.cmp p q ≡ presence_cmp p q }
     ensures presence_default { (p : FieldPresence) → ⟦<FieldPresence as Default>⟧.is_default p → p ≡ presences.Default }
@@ -26,10 +27,19 @@ pub fn derives_take_every_part()
     ensures field_equal { (f g : Field) → IsTrue (⟦<Field<'static> as PartialEq>⟧.eq f g) ↔ (entry_of f ≡ entry_of g) }
     ensures field_order { (f g : Field) → ⟦<Field<'static> as Ord>⟧.cmp f g ≡ entry_cmp (entry_of f) (entry_of g) }
     ensures field_clone { ClonesAll ⟦<Field<'static> as Clone>⟧.is_clone ⟦<Field<'static> as Clone>⟧.is_infallible }
+    ensures table_clone { ClonesAll ⟦<Fields<'a, N> as Clone>⟧.is_clone ⟦<Fields<'a, N> as Clone>⟧.is_infallible }
     ensures iter_clone { (i j : FieldIter) → ⟦<FieldIter<'static> as Clone>⟧.is_clone i j → fields_left j ≡ fields_left i }
     ensures optional_iter_clone { (i j : OptionalFieldIter) → ⟦<OptionalFieldIter<'static> as Clone>⟧.is_clone i j → optional_left j ≡ optional_left i }
     ensures identifier_iter_clone { (i j : IdentifierIter) → ⟦<IdentifierIter<'static> as Clone>⟧.is_clone i j → names_left j ≡ names_left i }
     ensures iter_clone_succeeds { (i : FieldIter) → ⟦<FieldIter<'static> as Clone>⟧.is_infallible i }
     ensures optional_iter_clone_succeeds { (i : OptionalFieldIter) → ⟦<OptionalFieldIter<'static> as Clone>⟧.is_infallible i }
     ensures identifier_iter_clone_succeeds { (i : IdentifierIter) → ⟦<IdentifierIter<'static> as Clone>⟧.is_infallible i }
+{}
+
+/// A law of loops: `for` over a table, or over a reference to it, gives its fields in order, each once.
+pub fn loops_give_every_field<'a, const N: usize>(_table: &'a Fields<'a, N>)
+    ensures by_value { (fields : FieldIter) → ⟦<Fields<'a, N> as IntoIterator>⟧.into_iter_gives _table.entry.now fields →
+        fields_left fields ≡ fields_of _table.entry.now }
+    ensures by_reference { (fields : FieldIter) → ⟦<&'a Fields<'a, N> as IntoIterator>⟧.into_iter_gives _table.entry fields →
+        fields_left fields ≡ fields_of _table.entry.now }
 {}

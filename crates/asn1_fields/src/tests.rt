@@ -242,9 +242,7 @@ fn assert_loops<const N: usize>(rt: &impl Abort, table: Fields<'_, N>) {
         assert!(rt; table.as_slice().get(place) == Some(&field));
         place += 1;
     }
-    for field in table {
-        assert!(rt; field.index < place);
-    }
+    assert!(rt; place == N && table.into_iter().len() == N);
 }
 
 #[test]

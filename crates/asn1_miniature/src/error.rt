@@ -5,7 +5,7 @@ ghost use Rattle.asn1_miniature.specs.declared.error.EncodeError.TheVariants.{Me
 use std::alloc::AllocError;
 
 /// Why a value was not written.
-#[derive(Clone, Copy, Debug)]
+#[derive(Clone, Copy, Debug, PartialEq, Eq)]
 pub enum EncodeError {
     /// There is no memory left.
     Memory,

@@ -25,7 +25,7 @@
 //!   form: the records follow by a fold, and what a value has by its type is said of all labels inside it.
 //! - `Node` and `Profile` can be inside other types (`node_can_stand_inside`, `profile_can_stand_inside`).
 //!
-//! No call takes memory, but a codec's own may.
+//! A call takes memory where it makes the constraints of a type with a permitted alphabet, and a codec's own may.
 #![tactic(auto, using(asn1_tags::proofs::Leaves::tree_shapes))]
 
 mod encode;

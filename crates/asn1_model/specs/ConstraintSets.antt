@@ -47,6 +47,10 @@ unconstrained = record { value = None; size = None; permitted_alphabet = None; e
 abbrev pub values_of : Bounded ℤ → ConstraintSet
 values_of bound = record unconstrained { value = Some (record { root = record { bound = bound }; additions = None }) }
 
+-- the characters of the alphabet
+abbrev pub characters_of : List ℕ → ConstraintSet
+characters_of alphabet = record unconstrained { permitted_alphabet = Some (record { root = alphabet; additions = None }) }
+
 -- so many elements
 abbrev pub size_of : ℕ → ConstraintSet
 size_of n = record unconstrained { size = Some (record { root = record { bound = bounded.Single n }; additions = None }) }

@@ -1,5 +1,5 @@
 -- What a type means to every codec.
-use Rattle.std.specs.Prelude.{ℕ, Bool, List}
+use Rattle.std.specs.Prelude.{◌≡◌, ℕ, Bool, List}
 use Rattle.asn1_tags.specs.declared.tags.Tag.{Tag}
 use Rattle.asn1_tags.specs.Trees.{Tree}
 use Rattle.asn1_model.specs.ConstraintSets.{ConstraintSet}
@@ -46,6 +46,10 @@ module _ {V : Type 0} (m : Meaning V) where
   -- what a value is under the type's own tag, constraints and name
   abbrev pub own_records : V → List Record
   own_records v = m.records v m.tag m.constraints m.name
+
+  -- these are the type's own tag, constraints and name
+  abbrev pub HasOwn : Tag → ConstraintSet → Name → Type 0
+  HasOwn t c n = (m.tag ≡ t) × (m.constraints ≡ c) × (m.name ≡ n)
 
   -- the type can be inside another, under this tag
   abbrev pub CanStandInsideUnder : Tag → Type 0

@@ -3,10 +3,13 @@
 ghost use Rattle.std.specs.Prelude.{◌≡◌, ◌↔◌, ℕ, ℤ, ◌<◌, ◌^◌, Bool, IsTrue, FitsSigned, List, [], ◌∷◌, All, None, Some, codes};
 ghost use Rattle.std.specs.Int.{w8, w16, w32, w64, w128};
 ghost use Rattle.asn1_values.specs.Alphabets.{is_visible, is_ia5, is_numeric, is_printable};
+ghost use Rattle.asn1_tags.specs.Derives.{ClonesAll};
 ghost use Rattle.asn1_model.specs.ConstraintSets.{unconstrained};
 ghost use Rattle.asn1_model.specs.Meaning.{own_records};
 ghost use Rattle.asn1_model.specs.Records.{arcs, bits, units, octet, visible, general, graphic, ia5, printable, numeric, teletex, bmp, null, scalar};
 ghost use Rattle.asn1_model.specs.Tags.{universal};
+
+mod records;
 
 use crate::asn_type::AsnType;
 use crate::tag::{
@@ -16,9 +19,14 @@ use crate::tag::{
     RELATIVE_OID, SEQUENCE, SET, TELETEX_STRING, UNIVERSAL_STRING, UTC_TIME, UTF8_STRING,
     VIDEOTEX_STRING, VISIBLE_STRING,
 };
+use crate::type_table::{TreeForm, TypeTable};
 use asn1_values::{
     BitString, BmpString, GeneralString, GraphicString, Ia5String, NumericString, ObjectIdentifier,
     OctetString, PrintableString, TeletexString, VisibleString,
+};
+pub use records::{
+    holders_have_the_records_of_their_contents, numbers_have_their_records,
+    strings_have_their_records,
 };
 
 /// A law of the markers: each name is that of the number that X.680 gives its type (8.4, table 1), and the marker of a
@@ -84,8 +92,9 @@ pub fn strings_have_the_records_of_their_kinds()
         scalar (universal 30) unconstrained (Some (codes "BMPString")) (units bmp s) ∷ [] }
 {}
 
-/// A law of the kinds of string: which units a string of each kind can have (X.680, 41).
+/// A law of the kinds of string: which units a string of each kind can have (X.680, 22, 23, 32 and 41).
 pub fn strings_have_the_units_of_their_kinds()
+    ensures bit_string { (s : List Bool) → ⟦<BitString as AsnType>⟧.meaning.IsOfType s }
     ensures octet_string { (s : List ℕ) → ⟦<OctetString as AsnType>⟧.meaning.IsOfType s ↔ All (λ unit. unit < 2 ^ 8) s }
     ensures object_identifier { (s : List ℕ) → ⟦<ObjectIdentifier as AsnType>⟧.meaning.IsOfType s ↔ All (λ unit. unit < 2 ^ 32) s }
     ensures numeric_string { (s : List ℕ) → ⟦<NumericString as AsnType>⟧.meaning.IsOfType s ↔ All (λ unit. IsTrue (is_numeric unit)) s }
@@ -138,4 +147,10 @@ pub fn built_in_integers_are_numbers_of_their_widths(
     ensures i64_range { (n : ℤ) → ⟦<i64 as AsnType>⟧.meaning.IsOfType n ↔ FitsSigned w64 n }
     ensures isize_range { (n : ℤ) → ⟦<isize as AsnType>⟧.meaning.IsOfType n ↔ FitsSigned w64 n }
     ensures i128_range { (n : ℤ) → ⟦<i128 as AsnType>⟧.meaning.IsOfType n ↔ FitsSigned w128 n }
+{}
+
+/// A law of tables: a clone is its source, and none fails.
+pub fn tables_are_cloned_as_they_are()
+    ensures tables { ClonesAll ⟦<TypeTable as Clone>⟧.is_clone ⟦<TypeTable as Clone>⟧.is_infallible }
+    ensures forms { ClonesAll ⟦<TreeForm as Clone>⟧.is_clone ⟦<TreeForm as Clone>⟧.is_infallible }
 {}

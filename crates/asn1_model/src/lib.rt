@@ -34,7 +34,11 @@
 //!   has that of each kind of type: `scalar_type`, `list_type`, `option_type` and so on. `specs/OneRecord.antt` has what
 //!   the law of types rests on.
 //!
-//! No call takes memory.
+//! `AsnType::constraints` takes memory where the type has a permitted alphabet, and is refused nowhere else
+//! (`without_alphabet`). No other call takes any.
+//!
+//! The module [`laws`] says what aliases come to, and the words by which types state their meaning: the records of a value
+//! of each type of this crate, the units of each kind of string, the numbers of each built-in integer.
 #![tactic(auto, using(asn1_tags::proofs::Leaves::tree_shapes))]
 
 mod asn_type;

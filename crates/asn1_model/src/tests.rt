@@ -5,19 +5,21 @@ ghost use Rattle.std.specs.Prelude.{◌≡◌, ◌^◌, ℕ, Bool, pos, true, fa
 ghost use Rattle.std.specs.String.{string_bytes};
 ghost use Rattle.asn1_ranges.specs.declared.bounded.Bounded.TheVariants.{Range};
 ghost use Rattle.asn1_model.specs.Composites.{sequence_records, set_records, default_records, group_records, option_records, choice_records, prefix_records};
-ghost use Rattle.asn1_model.specs.ConstraintSets.{unconstrained, values_of, size_of};
-ghost use Rattle.asn1_model.specs.Kinds.{enumerated_type};
+ghost use Rattle.asn1_model.specs.ConstraintSets.{characters_of, unconstrained, values_of, size_of};
+ghost use Rattle.asn1_model.specs.Kinds.{enumerated_type, scalar_type, under_own_name};
 ghost use Rattle.asn1_model.specs.Meaning.{own_records};
 ghost use Rattle.asn1_model.specs.Orders.{Same};
-ghost use Rattle.asn1_model.specs.Records.{Record, scalar, raw, mark, holding, sequence, set as set_head, set_of, sequence_of, prefix, alternative, present, absent, group_start, group_absent, group_end, null, number, discriminant, units, utf8, ia5, highest};
+ghost use Rattle.asn1_model.specs.Records.{Record, scalar, raw, mark, holding, sequence, set as set_head, set_of, sequence_of, prefix, alternative, present, absent, group_start, group_absent, group_end, null, number, discriminant, units, utf8, visible, ia5, highest};
 ghost use Rattle.asn1_model.specs.Tags.{universal, context, CHOICE, every, among, only, first_tags};
 
 use crate::asn_type::AsnType;
 use crate::tag;
-use asn1_bounds::{Bounded, Size};
-use asn1_tags::{Tag, TagTree};
+use crate::type_table::TypeTable;
+use asn1_bounds::{Bounded, ConstraintTable, Constraints, Size};
+use asn1_tags::{Identifier, Tag, TagTree};
 use asn1_values::{
     ConstrainedInteger, Ia5String, Integer, NumericString, ObjectIdentifier, OctetString,
+    VisibleString,
 };
 use std::borrow::Cow;
 use std::marker::PhantomData;
@@ -288,6 +290,44 @@ fn lists_are_sequences(rt: HostRuntime) {
     let constraints = <[bool; 3]>::constraints(rt.alloc()).expect(&rt, "memory");
     let size = constraints.size().map(|part| part.constraint);
     assert!(rt; size == Some(Size::fixed(3)));
+}
+
+/// A VisibleString of the letters A, B and C.
+#[derive(Drop)]
+struct Plate(VisibleString);
+
+impl AsnType for Plate {
+    ghost meaning = { under_own_name (scalar_type (universal 26) (characters_of (codes "ABC")) (Some (codes "Plate")) (λ plate. units visible plate.0)) };
+
+    fn table() -> TypeTable {
+        let letters = ConstraintTable::NONE.with_permitted_alphabet(&[65, 66, 67]);
+        TypeTable::new(Tag::VISIBLE_STRING, Identifier(Some("Plate"))).with_constraints(letters)
+    }
+
+    fn is_present(&self) -> bool {
+        true
+    }
+}
+
+/// Asserts that the set permits the letters A, B and C alone.
+fn assert_letters(rt: &impl Abort, constraints: &Constraints<'_>) {
+    match constraints.permitted_alphabet() {
+        Some(part) => assert!(rt; part.constraint.as_inner() == [65, 66, 67].as_slice()),
+        None => assert!(rt; false),
+    }
+}
+
+#[test]
+fn an_alphabet_takes_memory(rt: HostRuntime) {
+    let constraints = Plate::constraints(rt.alloc()).expect(&rt, "memory");
+    assert_letters(&rt, &constraints);
+}
+
+#[test]
+fn a_refused_alphabet_is_an_error(rt: HostRuntime) {
+    if let Ok(constraints) = Plate::constraints(rt.alloc()) {
+        assert_letters(&rt, &constraints);
+    }
 }
 
 #[test]

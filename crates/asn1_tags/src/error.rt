@@ -13,7 +13,7 @@ pub enum VariantsError {
     Memory,
     /// The table does not fit the tags. The index is that of the first entry that fails, or the
     /// shorter length where the lengths differ and no entry below it fails.
-    #[error("table does not fit at {0}")]
+    #[error("table entry {0} does not fit")]
     TableMismatch(usize),
 }
 

@@ -20,5 +20,5 @@ pub use Rattle.asn1_model.specs.Records.{holding, scalar, raw, mark, null, truth
 pub use Rattle.asn1_model.specs.Records.{sequence as sequence_head, set as set_head, sequence_of, set_of, prefix, alternative as alternative_head}
 pub use Rattle.asn1_model.specs.Records.{present, absent, group_start, group_absent, group_end}
 -- the constraints in records
-pub use Rattle.asn1_model.specs.ConstraintSets.{unconstrained, values_of}
+pub use Rattle.asn1_model.specs.ConstraintSets.{unconstrained, values_of, size_of, characters_of}
 pub use Rattle.asn1_ranges.specs.declared.bounded.Bounded.TheVariants.{Range}

@@ -9,7 +9,6 @@ use asn1_components::{ConstructedType, FieldTable};
 use asn1_model::{AsnType, TypeTable};
 use asn1_tags::{Identifier, Tag};
 use asn1_values::ObjectIdentifier;
-pub use fields::instance_of_has_two_fields;
 
 /// A value beside the name of its type.
 #[derive(Debug, PartialEq, Eq, PartialOrd, Ord, Hash, Drop)]

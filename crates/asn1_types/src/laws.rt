@@ -1,8 +1,11 @@
-//! Laws of the traits that are derived, or written beside a derive.
-ghost use Rattle.std.specs.Prelude.{◌≡◌, ◌↔◌, ◌++◌, ℕ, List, IsTrue};
+//! Laws of what no other contract names: derives, conversions, loops, and the fields of INSTANCE OF.
+ghost use Rattle.std.specs.Prelude.{◌≡◌, ◌↔◌, ◌++◌, ◌∷◌, [], ℕ, List, IsTrue, codes, false};
 ghost use Rattle.std.specs.Cmp.Lexicographic.{slice_cmp};
 ghost use Rattle.std.specs.Hash as fed;
 ghost use Rattle.std.specs.Ordering.{nat_cmp, ordering_then};
+ghost use Rattle.asn1_components.specs.Components.{has_marker, table};
+ghost use Rattle.asn1_model.specs.Tags.{context, universal};
+ghost use Rattle.asn1_tags.specs.Trees.{leaf};
 ghost use Rattle.asn1_types.specs.declared.explicit.Explicit.{Explicit};
 ghost use Rattle.asn1_types.specs.declared.implicit.Implicit.{Implicit};
 ghost use Rattle.asn1_types.specs.declared.instance_of.InstanceOf.{InstanceOf};
@@ -11,6 +14,10 @@ use crate::any::Any;
 use crate::explicit::Explicit;
 use crate::implicit::Implicit;
 use crate::instance_of::InstanceOf;
+use crate::set_of::SetOf;
+use asn1_components::FieldTable;
+use asn1_fields::FieldPresence;
+use asn1_model::AsnType;
 use std::hash::Hash;
 
 /// Laws of the derived traits. Values under another tag are compared, hashed and cloned as the values that they hold,
@@ -36,4 +43,27 @@ pub fn values_are_compared_by_what_they_hold<T, V: Ord + Hash + Clone>()
         ⟦<InstanceOf<V> as Ord>⟧.cmp v w ≡ ordering_then (slice_cmp nat_cmp v.type_id w.type_id) (V.cmp v.value w.value) }
     ensures instance_hash { (v : InstanceOf V) →
         ⟦<InstanceOf<V> as Hash>⟧.hash_input v ≡ fed.slice fed.u32 v.type_id ++ V.hash_input v.value }
+{}
+
+/// A law of INSTANCE OF: its fields are the name of the type and then the value, at the places 0 and 1, and both are
+/// always there; and it has no extension marker.
+pub fn instance_of_has_two_fields<T: AsnType>()
+    ensures fields { table ⟦<InstanceOf<T> as FieldTable>⟧.components ≡
+        record { index = 0; tag = universal 6; tree = leaf (universal 6); presence = FieldPresence.Required; name = codes "type_id" } ∷
+        record { index = 1; tag = context 0; tree = leaf (context 0); presence = FieldPresence.Required; name = codes "value" } ∷ [] }
+    ensures marker { has_marker ⟦<InstanceOf<T> as FieldTable>⟧.components.extension ≡ false }
+{}
+
+/// A law of conversions: an open type is made of its bytes, a set of the elements of a vector, and a value under another tag
+/// of the value. A loop over a reference to a set gives its elements, each once.
+pub fn conversions_keep_what_they_are_given<'a, T, V>(
+    _bytes: &Vec<u8>,
+    _elements: &Vec<V>,
+    _set: &'a SetOf<V>,
+)
+    ensures any { (any : List ℕ) → ⟦<Any as From<Vec<u8>>>⟧.from_gives _bytes.now any → any ≡ _bytes.now.items }
+    ensures set { (set : List V) → ⟦<SetOf<V> as From<Vec<V>>>⟧.from_gives _elements.now set → set ≡ _elements.now.items }
+    ensures each { (elements : _) → ⟦<&'a SetOf<V> as IntoIterator>⟧.into_iter_gives _set.entry elements → iter_rest elements ≡ _set.entry.now }
+    ensures implicit { (value : V) (v : Implicit T V) → ⟦<Implicit<T, V> as From<V>>⟧.from_gives value v → v.value ≡ value }
+    ensures explicit { (value : V) (v : Explicit T V) → ⟦<Explicit<T, V> as From<V>>⟧.from_gives value v → v.value ≡ value }
 {}

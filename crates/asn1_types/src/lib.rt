@@ -32,15 +32,16 @@
 //! - `SetOf::from_slice`, `from_array` and `try_clone` hold clones of the elements in their order (`clones`), which are
 //!   the elements themselves where a clone is (`same`).
 //! - `Any`, `Implicit` and `Explicit` give back what went in. Equality, order, hash and clones of these and of `InstanceOf`
-//!   are those of what they hold (`values_are_compared_by_what_they_hold`).
+//!   are those of what they hold (`laws::values_are_compared_by_what_they_hold`).
 //! - The fields of an `InstanceOf` are the name of the type and then the value, and both are always there
-//!   (`instance_of_has_two_fields`).
+//!   (`laws::instance_of_has_two_fields`).
 //! - What each type means is a word of `specs/Kinds.antt`: `set_of_type`, `any_type`, `implicit_type`, `explicit_type`
 //!   and `instance_of_components`.
 //! - The words for a type of your own are in `specs/Words.antt`, from all crates below.
 //!
 //! `SetOf::with_capacity`, `insert`, `to_vec`, `from_slice`, `from_array` and `try_clone`, and `Any::try_clone` may want
-//! memory, and fail only where there is none. No other call takes any.
+//! memory, and fail only where there is none; so may `AsnType::constraints`, of a type with a permitted alphabet. No other call
+//! takes any.
 #![tactic(auto, using(asn1_tags::proofs::Leaves::tree_shapes))]
 
 mod any;
@@ -55,6 +56,9 @@ mod set_of;
 mod tests;
 
 pub use any::Any;
+pub use asn1_bounds::{
+    Bounded, ConstraintTable, Constraints, Extensible, PermittedAlphabet, Size, Value,
+};
 pub use asn1_choices::{Choice, ChoiceType, the_chosen_tag_tells_the_alternative};
 pub use asn1_components::{
     Constructed, ConstructedType, FieldTable, components_are_told_apart, field_in,
@@ -74,6 +78,6 @@ pub use asn1_model::{
 pub use asn1_tags::{Class, Identifier, Tag, TagTree};
 pub use explicit::Explicit;
 pub use implicit::Implicit;
-pub use instance_of::{InstanceOf, instance_of_has_two_fields};
+pub use instance_of::InstanceOf;
 pub use sequence_of::SequenceOf;
 pub use set_of::{SetOf, equal_sets_have_the_same_elements};

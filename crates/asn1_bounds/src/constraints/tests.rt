@@ -50,6 +50,21 @@ fn joins_constraints(rt: HostRuntime) {
 }
 
 #[test]
+fn joins_a_list_of_constraints(rt: HostRuntime) {
+    let constraints = [
+        Constraint::from(value(1, 10)),
+        Constraint::from(Size::fixed(3)),
+        Constraint::from(value(5, 15)),
+        Constraint::from(Size::fixed(5)),
+        Constraint::Extensible,
+    ];
+    let set = Constraints::new(rt.alloc(), &constraints).expect(&rt, "memory");
+    let values = Extensible::new(value(5, 10));
+    let sizes = Extensible::new(Size::new(Bounded::const_new(1, 0)));
+    assert_parts(&rt, &set, Some(values), Some(sizes), true);
+}
+
+#[test]
 fn joins_a_marker(rt: HostRuntime) {
     let size = Constraint::from(Size::fixed(3));
     let set = joined(&rt, rt.alloc(), size, Constraint::Extensible);
@@ -76,6 +91,14 @@ fn joins_alphabets(rt: HostRuntime) {
     let left = of_characters(&rt, alloc, &[97, 98, 99]);
     let right = of_characters(&rt, alloc, &[99, 100]);
     assert!(rt; has_characters(&joined(&rt, alloc, left, right), &[99]));
+}
+
+#[test]
+fn sees_an_extensible_alphabet(rt: HostRuntime) {
+    let letters = PermittedAlphabet::new(rt.alloc(), &[65, 66]).expect(&rt, "memory");
+    let part = Constraint::from(Extensible::new(letters).set_extensible(true));
+    let set = Constraints::new(rt.alloc(), &[part]).expect(&rt, "memory");
+    assert!(rt; set.extensible() && !set.per_visibly_extensible());
 }
 
 /// The set of a constraint of values and one of characters.

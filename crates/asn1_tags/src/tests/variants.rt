@@ -169,5 +169,5 @@ fn errors_say_what_is_wrong(rt: HostRuntime) {
     let alloc = rt.alloc();
     assert_error_text(&rt, alloc, VariantsError::Memory, "no memory");
     let mismatch = VariantsError::TableMismatch(7);
-    assert_error_text(&rt, alloc, mismatch, "table does not fit at 7");
+    assert_error_text(&rt, alloc, mismatch, "table entry 7 does not fit");
 }

@@ -1,8 +1,5 @@
 //! The fields of INSTANCE OF: the name of the type, and the value [0] (X.681, annex C).
-ghost use Rattle.std.specs.Prelude.{◌≡◌, ◌∷◌, [], codes, refl};
-ghost use Rattle.asn1_components.specs.Components.{root_entries};
-ghost use Rattle.asn1_model.specs.Tags.{context, universal};
-ghost use Rattle.asn1_tags.specs.Trees.{leaf};
+ghost use Rattle.std.specs.Prelude.{refl};
 ghost use Rattle.asn1_types.specs.Kinds.{instance_of_components};
 
 use crate::instance_of::InstanceOf;
@@ -62,14 +59,6 @@ impl<T: AsnType> Constructed<2, 0> for InstanceOf<T> {
 
     ghost additions_length = { refl };
 }
-
-/// A law of INSTANCE OF: its fields are the name of the type and then the value, at the places 0 and 1, and both are
-/// always there.
-pub fn instance_of_has_two_fields<T: AsnType>()
-    ensures { root_entries ⟦<InstanceOf<T> as FieldTable>⟧.components ≡
-        record { index = 0; tag = universal 6; tree = leaf (universal 6); presence = FieldPresence.Required; name = codes "type_id" } ∷
-        record { index = 1; tag = context 0; tree = leaf (context 0); presence = FieldPresence.Required; name = codes "value" } ∷ [] }
-{}
 
 #[cfg(test)]
 mod tests {
