@@ -3,6 +3,7 @@ ghost use Rattle.std.specs.Prelude.{◌≡◌, ◌↔◌, ◌++◌, ◌∷◌, [
 ghost use Rattle.std.specs.Cmp.Lexicographic.{slice_cmp};
 ghost use Rattle.std.specs.Hash as fed;
 ghost use Rattle.std.specs.Ordering.{nat_cmp, ordering_then};
+ghost use Rattle.std.specs.Slice.Iter.{iter_rest};
 ghost use Rattle.asn1_components.specs.Components.{has_marker, table};
 ghost use Rattle.asn1_model.specs.Tags.{context, universal};
 ghost use Rattle.asn1_tags.specs.Trees.{leaf};
