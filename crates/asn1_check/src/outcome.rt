@@ -1,9 +1,9 @@
 //! How the program ends.
-ghost use Rattle.std.specs.Prelude.{◌≡◌, ◌≢◌, ◌↔◌, ◌++◌, ◌∷◌, [], true, false, codes, option_map, Some, IfErr, IfSome, IsErr, IsOk};
-ghost use Rattle.std.specs.Io.KnownBytes.{Appends};
+ghost use Rattle.std.specs.Prelude.{◌≡◌, ◌↔◌, ◌++◌, ◌∷◌, [], ℕ, List, true, false, codes, option_map, Some, IfErr, IfOk, IfSome, IsErr, IsErrOf, IsOk, OnOk};
+ghost use Rattle.std.specs.Io.KnownBytes.{Consumes, IsAtEnd};
 ghost use Rattle.std.specs.Option.{option_map_or};
 ghost use Rattle.asn1_report.specs.Errors.{error_text};
-ghost use Rattle.asn1_report.specs.Report.{all_understood, report};
+ghost use Rattle.asn1_report.specs.Report.{all_understood};
 
 use asn1_report::{CheckError, check};
 use std::alloc::Global;
@@ -64,31 +64,24 @@ impl fmt::Display for Outcome {
     }
 }
 
-/// Checks what the reader gives, writes the report, and says how the program ends.
-pub(crate) fn outcome_of<R: Read, W: Write>(
+/// Checks what the reader gives, through a buffer before the writer, and hands on the answer of [`check`]. Where there is no
+/// room for the buffer, nothing is read, and that is [`CheckError::Memory`].
+pub(crate) fn run<R: Read, W: Write + Drop>(
     alloc: Global,
     reader: &mut R,
-    writer: &mut W,
-) -> Outcome
-    ensures understood { result.status ≡ 0 → IfSome (R.remaining reader.old) (λ input. all_understood input ≡ true) }
-    ensures not_understood { result.status ≡ 1 → IfSome (R.remaining reader.old) (λ input. all_understood input ≡ false) }
-    ensures report { result.status ≢ 2 → IfSome (R.remaining reader.old) (λ input.
-        Appends (W.contents writer.old) (W.contents writer.new) (report input)) }
-    ensures failed { (result.status ≡ 2) ↔ (⟦<Outcome as fmt::Display>⟧.output result ≢ Some []) }
-    ensures no_other { result.status ≢ 0 → result.status ≢ 1 → result.status ≡ 2 }
-{
-    Outcome::of(check(alloc, reader, writer))
-}
+    writer: W,
+) -> Result<bool, CheckError>
+    ensures understood { IfOk result (λ answer. IfSome (R.remaining reader.old) (λ input. answer ≡ all_understood input)) }
+    ensures read { OnOk result (IsAtEnd (R.remaining reader.new)) }
 
-/// The same, through a buffer before the writer. Where there is no room for the buffer, that is the error.
-pub(crate) fn run<R: Read, W: Write + Drop>(alloc: Global, reader: &mut R, writer: W) -> Outcome
-    ensures understood { result.status ≡ 0 → IfSome (R.remaining reader.old) (λ input. all_understood input ≡ true) }
-    ensures not_understood { result.status ≡ 1 → IfSome (R.remaining reader.old) (λ input. all_understood input ≡ false) }
-    ensures failed { (result.status ≡ 2) ↔ (⟦<Outcome as fmt::Display>⟧.output result ≢ Some []) }
-    ensures no_other { result.status ≢ 0 → result.status ≢ 1 → result.status ≡ 2 }
+    // After an error that is not of the writer, bytes were taken from the front of what was left to read.
+    ensures reading { IsErrOf result CheckError.Reading → (given : List ℕ)
+        × Consumes (R.remaining reader.old) (R.remaining reader.new) given }
+    ensures memory { IsErrOf result CheckError.Memory → (given : List ℕ)
+        × Consumes (R.remaining reader.old) (R.remaining reader.new) given }
 {
     match BufWriter::new(alloc, writer) {
-        Ok(mut buffered) => outcome_of(alloc, reader, &mut buffered),
-        Err(_) => Outcome::of(Err(CheckError::Memory)),
+        Ok(mut buffered) => check(alloc, reader, &mut buffered),
+        Err(_) => Err(CheckError::Memory),
     }
 }

@@ -26,7 +26,8 @@ impl Write for Sink {
 
 fn assert_input(rt: &impl Abort, alloc: Global, input: &[u8], status: u8) {
     let mut reader = input;
-    assert_outcome(rt, alloc, run(alloc, &mut reader, Sink), status, "");
+    let answer = run(alloc, &mut reader, Sink);
+    assert_outcome(rt, alloc, Outcome::of(answer), status, "");
 }
 
 #[test]
@@ -48,8 +49,30 @@ impl Read for Broken {
 }
 
 #[test]
-fn an_error_is_told(rt: HostRuntime) {
+fn a_failed_read_is_told(rt: HostRuntime) {
     let alloc = rt.alloc();
-    let outcome = run(alloc, &mut Broken, Sink);
+    let outcome = Outcome::of(run(alloc, &mut Broken, Sink));
     assert_outcome(&rt, alloc, outcome, 2, "check: reading failed\n");
+}
+
+// A writer that fails.
+#[derive(Drop)]
+struct Closed;
+
+impl Write for Closed {
+    fn write(&mut self, _bytes: &[u8]) -> io::Result<usize> {
+        Err(io::Error::from(ErrorKind::BrokenPipe))
+    }
+
+    fn flush(&mut self) -> io::Result<()> {
+        Ok(())
+    }
+}
+
+#[test]
+fn a_failed_write_is_told(rt: HostRuntime) {
+    let alloc = rt.alloc();
+    let mut reader = b"set q\n".as_slice();
+    let outcome = Outcome::of(run(alloc, &mut reader, Closed));
+    assert_outcome(&rt, alloc, outcome, 2, "check: writing failed\n");
 }

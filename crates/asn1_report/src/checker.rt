@@ -55,7 +55,7 @@ impl Checker {
         ensures memory { IsErrOf result CheckError.Memory → Keeps (W.contents writer.old) (W.contents writer.new) }
         ensures no_read { ¬ IsErrOf result CheckError.Reading }
     {
-        self.answer_line().map_err(|_| CheckError::Memory)?;
+        self.answer_line()?;
         writer
             .write_all(self.reporter.text())
             .map_err(|_| CheckError::Writing)
@@ -79,7 +79,7 @@ impl Checker {
         ensures memory { IsErrOf result CheckError.Memory → Keeps (W.contents writer.old) (W.contents writer.new) }
         ensures no_read { ¬ IsErrOf result CheckError.Reading }
     {
-        self.answer_last_line().map_err(|_| CheckError::Memory)?;
+        self.answer_last_line()?;
         writer
             .write_all(self.reporter.text())
             .map_err(|_| CheckError::Writing)
@@ -90,10 +90,8 @@ impl Checker {
         ensures state { OnOk result (state_seen self.new ≡ on_line (state_seen self.old) bytes.now) }
         ensures no_read { ¬ IsErrOf result CheckError.Reading }
     {
-        match self.line.extend(bytes) {
-            Ok(()) => Ok(()),
-            Err(_) => Err(CheckError::Memory),
-        }
+        self.line.extend(bytes)?;
+        Ok(())
     }
 
     // Puts the last bytes on the line, writes the text for it, and begins the next. Where memory runs out, nothing is

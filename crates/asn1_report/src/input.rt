@@ -49,7 +49,7 @@ pub fn check<R: Read, W: Write>(
         return Err(CheckError::Memory);
     };
     let outcome = checker.read_to_end(reader, &mut buffer, writer);
-    if outcome == Err(CheckError::Writing) || writer.flush().is_err() {
+    if matches!(outcome, Err(CheckError::Writing)) || writer.flush().is_err() {
         return Err(CheckError::Writing);
     }
     match outcome {

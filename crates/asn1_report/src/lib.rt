@@ -16,7 +16,8 @@
 //! `specs/Names.antt` names and numbers, `specs/Grammar.antt` tags, trees, bounds and what a line may say, `specs/Tables.antt` tables
 //! and what is said of them; clashes and the canonical order are words of asn1_fields. Laws of the definition:
 //! [`trees_are_read_of_their_texts`] (a text is read as a tree if and only if it is that tree's text, as `specs/Spelling.antt`
-//! writes it, and stays within the limits) and [`verdicts_mean_what_they_say`].
+//! writes it, and stays within the limits) and [`verdicts_mean_what_they_say`]. What the derived members of the error say is
+//! the contract of the function in [`laws`].
 //!
 //! What the program keeps of a tree is its flat form, of `asn1_clash`. `specs/Reading.antt` says what is remembered between two
 //! bytes, `specs/Seen.antt` what the types of this crate stand for.
@@ -28,6 +29,7 @@ mod component;
 mod error;
 mod input;
 mod kind;
+pub mod laws;
 mod line;
 mod names;
 mod number;
