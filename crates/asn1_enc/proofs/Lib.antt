@@ -1,0 +1,4 @@
+pub mod Components
+pub mod Lists
+pub mod Names
+pub mod Steps
