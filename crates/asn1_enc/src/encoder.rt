@@ -13,13 +13,13 @@ ghost use Rattle.asn1_tags.specs.Names.{name_of};
 ghost use Rattle.asn1_values.specs.Alphabets.{is_ia5, is_numeric, is_printable, is_visible};
 ghost use Rattle.std.specs.List.{flat_map};
 ghost use Rattle.std.specs.Option.{option_copied, option_map};
-ghost use Rattle.std.specs.Prelude.{◌≡◌, ◌<◌, ◌^◌, [], ◌∷◌, ⊤, All, IfSome, IsTrue, Ok, false, true};
+ghost use Rattle.std.specs.Prelude.{◌≡◌, ◌<◌, ◌^◌, [], ◌∷◌, ⊤, All, Bool, IfSome, IsTrue, None, Ok, Some, false};
 ghost use Rattle.std.specs.Str.{IsUtf8};
 
 use crate::encode::{Encode, EncodeChoice, EncodeFields};
 use crate::error::EncodeError;
 use asn1_bounds::{Codec, Constraints};
-use asn1_choices::Choice;
+use asn1_choices::{Choice, ChoiceType};
 use asn1_components::{ConstructedType, FieldTable};
 use asn1_enumerations::Enumerated;
 use asn1_model::AsnType;
@@ -29,7 +29,7 @@ use asn1_values::{
     BmpString, GeneralString, GraphicString, Ia5String, IntegerType, NumericString,
     PrintableString, TeletexString, VisibleString,
 };
-use std::alloc::Global;
+use std::alloc::{AllocError, Global};
 
 /// A codec that writes records: by calls of its own, on which those for whole types rest.
 ///
@@ -352,9 +352,317 @@ pub trait Encoder {
     ) -> Result<(), EncodeError>
     where
         Self: Sized,
-        ensures { Writes writer self.old (mark (present tag) ∷ T.meaning.records value.now tag (constraint_set constraints.now) (name_of name)) (T.meaning.IsOfType value.now) self.new result }
+        ensures { Writes writer self.old (option_records tag (Some (T.meaning.records value.now tag (constraint_set constraints.now) (name_of name)))) (T.meaning.IsOfType value.now) self.new result }
     {
         self.mark_present(tag)?;
         value.encode_with_tag_and_constraints(self, tag, constraints, name)
+    }
+
+    /// A SET, by its components in the order of their definition. Of a type that is one it writes the records of the type.
+    final fn encode_set<C: EncodeFields + ConstructedType>(
+        &mut self,
+        tag: Tag,
+        value: &C,
+        name: Identifier,
+    ) -> Result<(), EncodeError>
+    where
+        Self: Sized,
+        ensures components { Writes writer self.old (set_records tag (name_of name) (component_records C.components value.now)) (EachIsOfType (all_components C.components) value.now) self.new result }
+        ensures as_meant { C.components.kind ≡ is_set → (c : ConstraintSet) → Writes writer self.old (C.meaning.records value.now tag c (name_of name)) (C.meaning.IsOfType value.now) self.new result }
+    {
+        self.open_set::<C>(tag, name)?;
+        value.encode_fields(self)?;
+        self.close()
+    }
+
+    /// A SET OF, by its elements.
+    final fn encode_set_of<T: Encode>(
+        &mut self,
+        tag: Tag,
+        elements: &SetOf<T>,
+        constraints: &Constraints<'_>,
+        name: Identifier,
+    ) -> Result<(), EncodeError>
+    where
+        Self: Sized,
+        ensures { Writes writer self.old (set_of_records tag (constraint_set constraints.now) (name_of name) (flat_map (own_records T.meaning) elements.now)) (All T.meaning.IsOfType elements.now) self.new result }
+    {
+        self.open_set_of(tag, constraints, name, elements.len())?;
+        for element in elements.iter() {
+            element.encode(self)?;
+        }
+        self.close()
+    }
+
+    /// A CHOICE that has no tag of its own, by its chosen alternative.
+    final fn encode_choice<T: EncodeChoice>(
+        &mut self,
+        constraints: &Constraints<'_>,
+        value: &T,
+        name: Identifier,
+    ) -> Result<(), EncodeError>
+    where
+        Self: Sized,
+        ensures { Writes writer self.old (alternative_records (tag_of_chosen (all_of T.alternatives) (T.pick value.now)) (constraint_set constraints.now) (name_of name) (chosen_meaning (all_of T.alternatives) (T.pick value.now)).records) (chosen_meaning (all_of T.alternatives) (T.pick value.now)).IsOfType self.new result }
+    {
+        self.open_choice::<T>(value.chosen_tag(), constraints, name)?;
+        value.encode_alternative(self)?;
+        self.close()
+    }
+
+    /// A CHOICE under a tag: untagged under the tag that stands for none, and else after the tag, with its own constraints and name
+    /// (X.680, 31.2.7). Without a name it is written under the type's own.
+    final fn encode_choice_with_tag<T: EncodeChoice + ChoiceType>(
+        &mut self,
+        tag: Tag,
+        constraints: &Constraints<'_>,
+        value: &T,
+        name: Identifier,
+    ) -> Result<(), EncodeError>
+    where
+        Self: Sized,
+        ensures { Writes writer self.old (T.meaning.records value.now tag (constraint_set constraints.now) (name_of name)) (T.meaning.IsOfType value.now) self.new result }
+    {
+        let name = name.or(T::identifier());
+        if tag.is_choice() {
+            return self.encode_choice(constraints, value, name);
+        }
+        let Ok(own_constraints) = T::constraints(self.global()) else {
+            return Err(self.refuse_memory());
+        };
+        self.open_explicit_prefix(tag, name)?;
+        self.encode_choice(&own_constraints, value, T::identifier())?;
+        self.close()
+    }
+
+    /// A component that may be absent, and is there, under a name.
+    final fn encode_some<T: Encode>(
+        &mut self,
+        value: &T,
+        name: Identifier,
+    ) -> Result<(), EncodeError>
+    where
+        Self: Sized,
+        ensures { Writes writer self.old (option_records T.meaning.tag (Some (T.meaning.records value.now T.meaning.tag T.meaning.constraints (name_of name)))) (T.meaning.IsOfType value.now) self.new result }
+    {
+        self.encode_some_with_tag(T::tag(), value, name)
+    }
+
+    /// A component that may be absent, and is there, under a tag and a name.
+    final fn encode_some_with_tag<T: Encode>(
+        &mut self,
+        tag: Tag,
+        value: &T,
+        name: Identifier,
+    ) -> Result<(), EncodeError>
+    where
+        Self: Sized,
+        ensures { Writes writer self.old (option_records tag (Some (T.meaning.records value.now tag T.meaning.constraints (name_of name)))) (T.meaning.IsOfType value.now) self.new result }
+    {
+        let Ok(constraints) = T::constraints(self.global()) else {
+            return Err(self.refuse_memory());
+        };
+        self.encode_some_with_tag_and_constraints(tag, &constraints, value, name)
+    }
+
+    /// A component that may be absent, and is there, after an explicit tag.
+    final fn encode_some_with_explicit_prefix<T: Encode>(
+        &mut self,
+        tag: Tag,
+        value: &T,
+        name: Identifier,
+    ) -> Result<(), EncodeError>
+    where
+        Self: Sized,
+        ensures { Writes writer self.old (option_records tag (Some (prefix_records tag (name_of name) (own_records T.meaning value.now)))) (T.meaning.IsOfType value.now) self.new result }
+    {
+        self.mark_present(tag)?;
+        self.encode_explicit_prefix(tag, value, name)
+    }
+
+    /// A component of a type that may be absent, and is.
+    final fn encode_none<T: AsnType>(&mut self, name: Identifier) -> Result<(), EncodeError>
+    where
+        Self: Sized,
+        ensures { Writes writer self.old (option_records T.meaning.tag None) ⊤ self.new result }
+    {
+        self.encode_none_with_tag(T::tag(), name)
+    }
+
+    /// A component that may be absent, and is, under a tag.
+    final fn encode_none_with_tag(&mut self, tag: Tag, _name: Identifier) -> Result<(), EncodeError>
+    where
+        Self: Sized,
+        ensures { Writes writer self.old (option_records tag None) ⊤ self.new result }
+    {
+        self.mark_absent(tag)
+    }
+
+    /// A component with a default, which is what the closure answers: absent where it equals that. The codec does not see a
+    /// default, so a success tells what another value has by its type.
+    final fn encode_default<
+        T: Encode + PartialEq + Drop,
+        F: FnOnce(Global) -> Result<T, AllocError>,
+    >(&mut self, value: &T, default: F, name: Identifier) -> Result<(), EncodeError>
+    where
+        Self: Sized,
+        requires { F.IsAlwaysCallable default }
+        ensures { (equal : Bool) → ((a : _) (usual : T) → F.post default a (Ok usual) → T.eq value.now usual ≡ equal) → Writes writer self.old (default_records equal T.meaning.tag (T.meaning.records value.now T.meaning.tag T.meaning.constraints (name_of name))) (equal ≡ false → T.meaning.IsOfType value.now) self.new result }
+    {
+        self.encode_default_with_tag(T::tag(), value, default, name)
+    }
+
+    /// The same as `encode_default`, under a tag.
+    final fn encode_default_with_tag<
+        T: Encode + PartialEq + Drop,
+        F: FnOnce(Global) -> Result<T, AllocError>,
+    >(&mut self, tag: Tag, value: &T, default: F, name: Identifier) -> Result<(), EncodeError>
+    where
+        Self: Sized,
+        requires { F.IsAlwaysCallable default }
+        ensures { (equal : Bool) → ((a : _) (usual : T) → F.post default a (Ok usual) → T.eq value.now usual ≡ equal) → Writes writer self.old (default_records equal tag (T.meaning.records value.now tag T.meaning.constraints (name_of name))) (equal ≡ false → T.meaning.IsOfType value.now) self.new result }
+    {
+        let Ok(constraints) = T::constraints(self.global()) else {
+            return Err(self.refuse_memory());
+        };
+        self.encode_default_with_tag_and_constraints(tag, &constraints, value, default, name)
+    }
+
+    /// The same as `encode_default`, under constraints.
+    final fn encode_default_with_constraints<
+        T: Encode + PartialEq + Drop,
+        F: FnOnce(Global) -> Result<T, AllocError>,
+    >(
+        &mut self,
+        constraints: &Constraints<'_>,
+        value: &T,
+        default: F,
+        name: Identifier,
+    ) -> Result<(), EncodeError>
+    where
+        Self: Sized,
+        requires { F.IsAlwaysCallable default }
+        ensures { (equal : Bool) → ((a : _) (usual : T) → F.post default a (Ok usual) → T.eq value.now usual ≡ equal) → Writes writer self.old (default_records equal T.meaning.tag (T.meaning.records value.now T.meaning.tag (constraint_set constraints.now) (name_of name))) (equal ≡ false → T.meaning.IsOfType value.now) self.new result }
+    {
+        self.encode_default_with_tag_and_constraints(T::tag(), constraints, value, default, name)
+    }
+
+    /// The same as `encode_default`, under a tag and constraints.
+    final fn encode_default_with_tag_and_constraints<
+        T: Encode + PartialEq + Drop,
+        F: FnOnce(Global) -> Result<T, AllocError>,
+    >(
+        &mut self,
+        tag: Tag,
+        constraints: &Constraints<'_>,
+        value: &T,
+        default: F,
+        name: Identifier,
+    ) -> Result<(), EncodeError>
+    where
+        Self: Sized,
+        requires { F.IsAlwaysCallable default }
+        ensures { (equal : Bool) → ((a : _) (usual : T) → F.post default a (Ok usual) → T.eq value.now usual ≡ equal) → Writes writer self.old (default_records equal tag (T.meaning.records value.now tag (constraint_set constraints.now) (name_of name))) (equal ≡ false → T.meaning.IsOfType value.now) self.new result }
+    {
+        let Ok(usual) = default(self.global()) else {
+            return Err(self.refuse_memory());
+        };
+        if *value == usual {
+            self.encode_none_with_tag(tag, name)
+        } else {
+            self.encode_some_with_tag_and_constraints(tag, constraints, value, name)
+        }
+    }
+
+    /// The same as `encode_default`, after an explicit tag.
+    final fn encode_default_with_explicit_prefix<
+        T: Encode + PartialEq + Drop,
+        F: FnOnce(Global) -> Result<T, AllocError>,
+    >(&mut self, tag: Tag, value: &T, default: F, name: Identifier) -> Result<(), EncodeError>
+    where
+        Self: Sized,
+        requires { F.IsAlwaysCallable default }
+        ensures { (equal : Bool) → ((a : _) (usual : T) → F.post default a (Ok usual) → T.eq value.now usual ≡ equal) → Writes writer self.old (default_records equal tag (prefix_records tag (name_of name) (own_records T.meaning value.now))) (equal ≡ false → T.meaning.IsOfType value.now) self.new result }
+    {
+        let Ok(usual) = default(self.global()) else {
+            return Err(self.refuse_memory());
+        };
+        if *value == usual {
+            self.encode_none_with_tag(tag, name)
+        } else {
+            self.encode_some_with_explicit_prefix(tag, value, name)
+        }
+    }
+
+    /// The same as `encode_default`, with the default of the type.
+    final fn encode_or_default<T: Encode + Default + PartialEq + Drop>(
+        &mut self,
+        value: &T,
+        name: Identifier,
+    ) -> Result<(), EncodeError>
+    where
+        Self: Sized,
+        ensures { (equal : Bool) → ((usual : T) → T.is_default usual → T.eq value.now usual ≡ equal) → Writes writer self.old (default_records equal T.meaning.tag (T.meaning.records value.now T.meaning.tag T.meaning.constraints (name_of name))) (equal ≡ false → T.meaning.IsOfType value.now) self.new result }
+    {
+        self.encode_with_tag_or_default(T::tag(), value, name)
+    }
+
+    /// The same as `encode_or_default`, under a tag.
+    final fn encode_with_tag_or_default<T: Encode + Default + PartialEq + Drop>(
+        &mut self,
+        tag: Tag,
+        value: &T,
+        name: Identifier,
+    ) -> Result<(), EncodeError>
+    where
+        Self: Sized,
+        ensures { (equal : Bool) → ((usual : T) → T.is_default usual → T.eq value.now usual ≡ equal) → Writes writer self.old (default_records equal tag (T.meaning.records value.now tag T.meaning.constraints (name_of name))) (equal ≡ false → T.meaning.IsOfType value.now) self.new result }
+    {
+        if *value == T::default() {
+            self.encode_none_with_tag(tag, name)
+        } else {
+            self.encode_some_with_tag(tag, value, name)
+        }
+    }
+
+    /// An addition, which may be absent, under a tag, constraints and a name.
+    final fn encode_extension_addition<T: Encode>(
+        &mut self,
+        tag: Tag,
+        constraints: &Constraints<'_>,
+        value: Option<&T>,
+        name: Identifier,
+    ) -> Result<(), EncodeError>
+    where
+        Self: Sized,
+        ensures { Writes writer self.old (option_records tag (option_map (λ v. T.meaning.records v tag (constraint_set constraints.now) (name_of name)) (option_copied value.entry))) (IfSome (option_copied value.entry) T.meaning.IsOfType) self.new result }
+    {
+        match value {
+            None => self.mark_addition_absent(tag),
+            Some(value) => {
+                self.mark_addition_present(tag)?;
+                value.encode_with_tag_and_constraints(self, tag, constraints, name)
+            }
+        }
+    }
+
+    /// A group of additions: absent where there is none, and where its components are marks alone.
+    final fn encode_extension_addition_group<C: EncodeFields>(
+        &mut self,
+        value: Option<&C>,
+        _name: Identifier,
+    ) -> Result<(), EncodeError>
+    where
+        Self: Sized,
+        ensures { Writes writer self.old (group_records (option_map (component_records C.components) (option_copied value.entry))) (IfSome (option_copied value.entry) (EachIsOfType (all_components C.components))) self.new result }
+    {
+        match value {
+            None => self.mark_group_absent(),
+            Some(group) => {
+                self.open_group::<C>()?;
+                group.encode_fields(self)?;
+                self.close_group()
+            }
+        }
     }
 }
