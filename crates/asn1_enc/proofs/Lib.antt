@@ -2,4 +2,5 @@ pub mod Choices
 pub mod Components
 pub mod Lists
 pub mod Names
+pub mod Numbers
 pub mod Steps

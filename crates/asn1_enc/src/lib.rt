@@ -4,6 +4,7 @@
 mod encode;
 mod encoder;
 mod error;
+mod impls;
 
 pub use encode::{Encode, EncodeChoice, EncodeFields};
 pub use encoder::Encoder;
