@@ -6,7 +6,7 @@ ghost use Rattle.asn1_components.specs.Components.{all_components, component_rec
 ghost use Rattle.asn1_enc.specs.Writing.{Closes, ClosesGroup, IsLawful, Opens, OpensGroup, Refuses, Writer, Writes};
 ghost use Rattle.asn1_enumerations.specs.Enumerations.{number_of};
 ghost use Rattle.asn1_model.specs.Composites.{alternative_records, default_records, group_records, list_records, option_records, prefix_records, raw_records, sequence_records, set_of_records, set_records};
-ghost use Rattle.asn1_model.specs.ConstraintSets.{ConstraintSet, constraint_set, unconstrained};
+ghost use Rattle.asn1_model.specs.ConstraintSets.{constraint_set, unconstrained};
 ghost use Rattle.asn1_model.specs.Meaning.{own_records};
 ghost use Rattle.asn1_model.specs.Records.{absent, alternative, arcs, bits, bmp, discriminant, general, graphic, group_absent, ia5, mark, null, number, numeric, octet, prefix, present, printable, scalar, sequence, sequence_of, set, set_of, teletex, truth, units, utf8, visible};
 ghost use Rattle.asn1_tags.specs.Names.{name_of};
@@ -306,7 +306,8 @@ pub trait Encoder {
         self.close()
     }
 
-    /// A SEQUENCE, by its components. Of a type that is one it writes the records of the type.
+    /// A SEQUENCE, by its components. Of a type that is one it writes the records of the type, which are the same under all
+    /// constraints.
     final fn encode_sequence<C: EncodeFields + ConstructedType>(
         &mut self,
         tag: Tag,
@@ -316,7 +317,7 @@ pub trait Encoder {
     where
         Self: Sized,
         ensures components { Writes writer self.old (sequence_records tag (name_of name) (component_records C.components value.now)) (EachIsOfType (all_components C.components) value.now) self.new result }
-        ensures as_meant { C.components.kind ≡ is_sequence → (c : ConstraintSet) → Writes writer self.old (C.meaning.records value.now tag c (name_of name)) (C.meaning.IsOfType value.now) self.new result }
+        ensures as_meant { C.components.kind ≡ is_sequence → Writes writer self.old (C.meaning.records value.now tag unconstrained (name_of name)) (C.meaning.IsOfType value.now) self.new result }
     {
         self.open_sequence::<C>(tag, name)?;
         value.encode_fields(self)?;
@@ -358,7 +359,8 @@ pub trait Encoder {
         value.encode_with_tag_and_constraints(self, tag, constraints, name)
     }
 
-    /// A SET, by its components in the order of their definition. Of a type that is one it writes the records of the type.
+    /// A SET, by its components in the order of their definition. Of a type that is one it writes the records of the type, which
+    /// are the same under all constraints.
     final fn encode_set<C: EncodeFields + ConstructedType>(
         &mut self,
         tag: Tag,
@@ -368,7 +370,7 @@ pub trait Encoder {
     where
         Self: Sized,
         ensures components { Writes writer self.old (set_records tag (name_of name) (component_records C.components value.now)) (EachIsOfType (all_components C.components) value.now) self.new result }
-        ensures as_meant { C.components.kind ≡ is_set → (c : ConstraintSet) → Writes writer self.old (C.meaning.records value.now tag c (name_of name)) (C.meaning.IsOfType value.now) self.new result }
+        ensures as_meant { C.components.kind ≡ is_set → Writes writer self.old (C.meaning.records value.now tag unconstrained (name_of name)) (C.meaning.IsOfType value.now) self.new result }
     {
         self.open_set::<C>(tag, name)?;
         value.encode_fields(self)?;

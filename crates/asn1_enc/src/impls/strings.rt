@@ -176,3 +176,15 @@ impl Encode for String {
         )
     }
 }
+
+impl Encode for &str {
+    fn encode_with_tag_and_constraints<E: Encoder>(
+        &self,
+        encoder: &mut E,
+        tag: Tag,
+        constraints: &Constraints<'_>,
+        name: Identifier,
+    ) -> Result<(), EncodeError> {
+        encoder.encode_utf8_string(tag, constraints, *self, name.or(Identifier::UTF8_STRING))
+    }
+}
