@@ -17,6 +17,7 @@ ghost use Rattle.std.specs.Prelude.{◌≡◌, ◌<◌, ◌^◌, [], ◌∷◌, 
 ghost use Rattle.std.specs.Str.{IsUtf8};
 
 use crate::encode::{Encode, EncodeChoice, EncodeFields};
+use crate::enumerated_value::EnumeratedValue;
 use crate::error::EncodeError;
 use asn1_bounds::{Codec, Constraints};
 use asn1_choices::{Choice, ChoiceType};
@@ -67,14 +68,14 @@ pub trait Encoder {
     fn encode_null(&mut self, tag: Tag, name: Identifier) -> Result<(), EncodeError>
         ensures { Writes writer self.old (scalar tag unconstrained (name_of name) null ∷ []) ⊤ self.new result };
 
-    /// A value of an ENUMERATED type, by its number.
-    fn encode_enumerated<T: Enumerated>(
+    /// A value of an ENUMERATED type, whose number is its content.
+    fn encode_enumerated_value(
         &mut self,
         tag: Tag,
-        value: &T,
+        value: EnumeratedValue,
         name: Identifier,
     ) -> Result<(), EncodeError>
-        ensures { Writes writer self.old (scalar tag unconstrained (name_of name) (discriminant (number_of T.eq T.enumeration value.now)) ∷ []) ⊤ self.new result };
+        ensures { Writes writer self.old (scalar tag unconstrained (name_of name) (discriminant value.number) ∷ []) ⊤ self.new result };
 
     /// An OBJECT IDENTIFIER, by its arcs.
     fn encode_object_identifier(
@@ -289,6 +290,20 @@ pub trait Encoder {
 
     // The law of a codec.
     ghost lawful: { IsLawful writer };
+
+    /// A value of an ENUMERATED type, by its number.
+    final fn encode_enumerated<T: Enumerated>(
+        &mut self,
+        tag: Tag,
+        value: &T,
+        name: Identifier,
+    ) -> Result<(), EncodeError>
+    where
+        Self: Sized,
+        ensures { Writes writer self.old (scalar tag unconstrained (name_of name) (discriminant (number_of T.eq T.enumeration value.now)) ∷ []) ⊤ self.new result }
+    {
+        self.encode_enumerated_value(tag, EnumeratedValue::new(value), name)
+    }
 
     /// A value after an explicit tag.
     final fn encode_explicit_prefix<T: Encode>(

@@ -48,13 +48,8 @@ impl<T: Encode> Encode for Box<T> {
         constraints: &Constraints<'_>,
         name: Identifier,
     ) -> Result<(), EncodeError> {
-        T::encode_with_tag_and_constraints(
-            &**self,
-            encoder,
-            tag,
-            constraints,
-            name.or(T::identifier()),
-        )
+        let name = name.or(T::identifier());
+        T::encode_with_tag_and_constraints(&**self, encoder, tag, constraints, name)
     }
 }
 
