@@ -1,0 +1,6 @@
+pub mod Choices
+pub mod Components
+pub mod Lists
+pub mod Names
+pub mod Numbers
+pub mod Steps

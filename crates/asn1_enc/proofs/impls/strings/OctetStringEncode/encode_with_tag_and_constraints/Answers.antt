@@ -1,0 +1,8 @@
+use Rattle.std.specs.Prelude.{Some, codes}
+use Rattle.asn1_tags.specs.Names.{name_of}
+use Rattle.asn1_enc.proofs.Names.{named_or}
+use Rattle.asn1_enc.proofs.impls.strings.OctetStringEncode.encode_with_tag_and_constraints.Goals as goal
+
+pub returns : goal.returns
+returns g c =
+    rw (← c.as_slice.ensures.units, ← named_or (name_of c.args.name) (Some (codes "OCTET_STRING")) (name_of c.or.result) c.or.ensures.named c.or.ensures.empty) c.encode_octet_string.ensures

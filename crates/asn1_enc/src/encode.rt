@@ -1,0 +1,131 @@
+//! Types that are written.
+ghost use Rattle.asn1_choices.specs.Alternatives.{all_of, chosen_meaning};
+ghost use Rattle.asn1_choices.specs.ChosenTags.{chosen_tag as tag_of_chosen};
+ghost use Rattle.asn1_components.specs.ComponentLists.{EachIsOfType};
+ghost use Rattle.asn1_components.specs.Components.{all_components, component_records};
+ghost use Rattle.asn1_enc.specs.Places.{IsOfTypeAt, records_at};
+ghost use Rattle.asn1_enc.specs.Writing.{Writes};
+ghost use Rattle.asn1_model.specs.ConstraintSets.{constraint_set};
+ghost use Rattle.asn1_model.specs.Meaning.{own_records};
+ghost use Rattle.asn1_tags.specs.Names.{name_of};
+ghost use Rattle.std.specs.Prelude.{◌≡◌};
+
+use crate::encoder::Encoder;
+use crate::error::EncodeError;
+use asn1_bounds::Constraints;
+use asn1_choices::Choice;
+use asn1_components::FieldTable;
+use asn1_model::AsnType;
+use asn1_tags::{Identifier, Tag};
+
+/// A type whose values are written.
+///
+/// Each entry point appends exactly the value's records under what it is given: a tag, constraints, a name. What it is not
+/// given is the type's own. A success also tells that the value has what each value of its type has. An error is one of the
+/// encoder's calls, and comes only where the encoder has failed.
+pub trait Encode: AsnType {
+    /// Writes the value under a tag, constraints and a name.
+    fn encode_with_tag_and_constraints<E: Encoder>(
+        &self,
+        encoder: &mut E,
+        tag: Tag,
+        constraints: &Constraints<'_>,
+        name: Identifier,
+    ) -> Result<(), EncodeError>
+        ensures { Writes E.writer encoder.old (Self.meaning.records self.now tag (constraint_set constraints.now) (name_of name)) (Self.meaning.IsOfType self.now) encoder.new result };
+
+    /// Writes the value under the type's own tag, constraints and name.
+    final fn encode<E: Encoder>(&self, encoder: &mut E) -> Result<(), EncodeError>
+        ensures { Writes E.writer encoder.old (own_records Self.meaning self.now) (Self.meaning.IsOfType self.now) encoder.new result }
+    {
+        self.encode_with_tag_and_identifier(encoder, Self::tag(), Self::identifier())
+    }
+
+    /// Writes the value under a tag.
+    final fn encode_with_tag<E: Encoder>(
+        &self,
+        encoder: &mut E,
+        tag: Tag,
+    ) -> Result<(), EncodeError>
+        ensures { Writes E.writer encoder.old (Self.meaning.records self.now tag Self.meaning.constraints Self.meaning.name) (Self.meaning.IsOfType self.now) encoder.new result }
+    {
+        self.encode_with_tag_and_identifier(encoder, tag, Self::identifier())
+    }
+
+    /// Writes the value under a name.
+    final fn encode_with_identifier<E: Encoder>(
+        &self,
+        encoder: &mut E,
+        name: Identifier,
+    ) -> Result<(), EncodeError>
+        ensures { Writes E.writer encoder.old (Self.meaning.records self.now Self.meaning.tag Self.meaning.constraints (name_of name)) (Self.meaning.IsOfType self.now) encoder.new result }
+    {
+        self.encode_with_tag_and_identifier(encoder, Self::tag(), name)
+    }
+
+    /// Writes the value under a tag and a name.
+    final fn encode_with_tag_and_identifier<E: Encoder>(
+        &self,
+        encoder: &mut E,
+        tag: Tag,
+        name: Identifier,
+    ) -> Result<(), EncodeError>
+        ensures { Writes E.writer encoder.old (Self.meaning.records self.now tag Self.meaning.constraints (name_of name)) (Self.meaning.IsOfType self.now) encoder.new result }
+    {
+        let Ok(constraints) = Self::constraints(encoder.global()) else {
+            return Err(encoder.refuse_memory());
+        };
+        self.encode_with_tag_and_constraints(encoder, tag, &constraints, name)
+    }
+
+    /// Writes the value under constraints.
+    final fn encode_with_constraints<E: Encoder>(
+        &self,
+        encoder: &mut E,
+        constraints: &Constraints<'_>,
+    ) -> Result<(), EncodeError>
+        ensures { Writes E.writer encoder.old (Self.meaning.records self.now Self.meaning.tag (constraint_set constraints.now) Self.meaning.name) (Self.meaning.IsOfType self.now) encoder.new result }
+    {
+        self.encode_with_tag_and_constraints(encoder, Self::tag(), constraints, Self::identifier())
+    }
+
+    /// Writes the value under constraints and a name.
+    final fn encode_with_constraints_and_identifier<E: Encoder>(
+        &self,
+        encoder: &mut E,
+        constraints: &Constraints<'_>,
+        name: Identifier,
+    ) -> Result<(), EncodeError>
+        ensures { Writes E.writer encoder.old (Self.meaning.records self.now Self.meaning.tag (constraint_set constraints.now) (name_of name)) (Self.meaning.IsOfType self.now) encoder.new result }
+    {
+        self.encode_with_tag_and_constraints(encoder, Self::tag(), constraints, name)
+    }
+}
+
+/// A type whose components are written one by one, each by its place: a SEQUENCE, a SET or a group of additions.
+pub trait EncodeFields: FieldTable {
+    /// Writes the component at a place of the definition, and nothing at a place after the last.
+    fn encode_field<E: Encoder>(&self, place: usize, encoder: &mut E) -> Result<(), EncodeError>
+        ensures { Writes E.writer encoder.old (records_at (all_components Self.components) place self.now) (IsOfTypeAt (all_components Self.components) place self.now) encoder.new result };
+
+    /// Writes all components, in the order of their definition.
+    final fn encode_fields<E: Encoder>(&self, encoder: &mut E) -> Result<(), EncodeError>
+        ensures { Writes E.writer encoder.old (component_records Self.components self.now) (EachIsOfType (all_components Self.components) self.now) encoder.new result }
+    {
+        for place in 0..Self::field_count() {
+            self.encode_field(place, encoder)?;
+        }
+        Ok(())
+    }
+}
+
+/// A CHOICE whose chosen alternative is written.
+pub trait EncodeChoice: AsnType + Choice {
+    /// The tag of the chosen alternative: the first of its record.
+    fn chosen_tag(&self) -> Tag
+        ensures { result ≡ tag_of_chosen (all_of Self.alternatives) (Self.pick self.now) };
+
+    /// Writes the chosen alternative.
+    fn encode_alternative<E: Encoder>(&self, encoder: &mut E) -> Result<(), EncodeError>
+        ensures { Writes E.writer encoder.old (chosen_meaning (all_of Self.alternatives) (Self.pick self.now)).records (chosen_meaning (all_of Self.alternatives) (Self.pick self.now)).IsOfType encoder.new result };
+}

@@ -1,0 +1,685 @@
+//! What a codec writes with.
+ghost use Rattle.asn1_choices.specs.Alternatives.{all_of, chosen_meaning};
+ghost use Rattle.asn1_choices.specs.ChosenTags.{chosen_tag as tag_of_chosen};
+ghost use Rattle.asn1_components.specs.ComponentLists.{EachIsOfType};
+ghost use Rattle.asn1_components.specs.Components.{all_components, component_records, is_sequence, is_set};
+ghost use Rattle.asn1_enc.specs.Writing.{Closes, ClosesGroup, IsLawful, Opens, OpensGroup, Refuses, Writer, Writes};
+ghost use Rattle.asn1_enumerations.specs.Enumerations.{number_of};
+ghost use Rattle.asn1_model.specs.Composites.{alternative_records, default_records, group_records, list_records, option_records, prefix_records, raw_records, sequence_records, set_of_records, set_records};
+ghost use Rattle.asn1_model.specs.ConstraintSets.{constraint_set, unconstrained};
+ghost use Rattle.asn1_model.specs.Meaning.{own_records};
+ghost use Rattle.asn1_model.specs.Records.{absent, alternative, arcs, bits, bmp, discriminant, general, graphic, group_absent, ia5, mark, null, number, numeric, octet, prefix, present, printable, scalar, sequence, sequence_of, set, set_of, teletex, truth, units, utf8, visible};
+ghost use Rattle.asn1_tags.specs.Names.{name_of};
+ghost use Rattle.asn1_values.specs.Alphabets.{is_ia5, is_numeric, is_printable, is_visible};
+ghost use Rattle.std.specs.List.{flat_map};
+ghost use Rattle.std.specs.Option.{option_copied, option_map};
+ghost use Rattle.std.specs.Prelude.{◌≡◌, ◌<◌, ◌^◌, [], ◌∷◌, ⊤, All, Bool, IfSome, IsTrue, None, Ok, Some, false};
+ghost use Rattle.std.specs.Str.{IsUtf8};
+
+use crate::encode::{Encode, EncodeChoice, EncodeFields};
+use crate::enumerated_value::EnumeratedValue;
+use crate::error::EncodeError;
+use asn1_bounds::{Codec, Constraints};
+use asn1_choices::{Choice, ChoiceType};
+use asn1_components::{ConstructedType, FieldTable};
+use asn1_enumerations::Enumerated;
+use asn1_model::AsnType;
+use asn1_tags::{Identifier, Tag};
+use asn1_types::{Any, SetOf};
+use asn1_values::{
+    BmpString, GeneralString, GraphicString, Ia5String, IntegerType, NumericString,
+    PrintableString, TeletexString, VisibleString,
+};
+use std::alloc::{AllocError, Global};
+
+/// A codec that writes records: by calls of its own, on which those for whole types rest.
+///
+/// The calls before the law are a codec's own. Each that succeeds appends its record or presence mark to the innermost list
+/// that is open, and leaves those outside it; and tells that the value has what each value of its type has, such as that a
+/// `u8` is below 256. Each that fails makes the encoder failed. An encoder that has failed answers [`EncodeError::Failed`],
+/// and no other does. [`EncodeError::Depth`] comes only from opening a scope where there is no allowance, and is answered
+/// there before anything else but `Failed`. [`EncodeError::Custom`] comes only where the codec does not take the records.
+///
+/// The calls after the law are the same for every codec.
+pub trait Encoder {
+    // What has been written, and what may be.
+    ghost writer: { Writer Self };
+
+    /// The codec's name.
+    fn codec(&self) -> Codec;
+
+    /// How many scopes may still be opened in one another.
+    fn depth(&self) -> usize
+        ensures { result ≡ writer.allowance self.now };
+
+    /// The allocator, with which a type makes its constraints.
+    fn global(&self) -> Global;
+
+    /// Makes the encoder failed, and answers [`EncodeError::Memory`], or [`EncodeError::Failed`] if it had failed before. For a
+    /// type whose own constraints could not be made for want of memory.
+    fn refuse_memory(&mut self) -> EncodeError
+        ensures { Refuses writer self.old self.new result };
+
+    /// A BOOLEAN.
+    fn encode_bool(&mut self, tag: Tag, value: bool, name: Identifier) -> Result<(), EncodeError>
+        ensures { Writes writer self.old (scalar tag unconstrained (name_of name) (truth value) ∷ []) ⊤ self.new result };
+
+    /// A NULL.
+    fn encode_null(&mut self, tag: Tag, name: Identifier) -> Result<(), EncodeError>
+        ensures { Writes writer self.old (scalar tag unconstrained (name_of name) null ∷ []) ⊤ self.new result };
+
+    /// A value of an ENUMERATED type, whose number is its content.
+    fn encode_enumerated_value(
+        &mut self,
+        tag: Tag,
+        value: EnumeratedValue,
+        name: Identifier,
+    ) -> Result<(), EncodeError>
+        ensures { Writes writer self.old (scalar tag unconstrained (name_of name) (discriminant value.number) ∷ []) ⊤ self.new result };
+
+    /// An OBJECT IDENTIFIER, by its arcs.
+    fn encode_object_identifier(
+        &mut self,
+        tag: Tag,
+        value: &[u32],
+        name: Identifier,
+    ) -> Result<(), EncodeError>
+        ensures { Writes writer self.old (scalar tag unconstrained (name_of name) (arcs value.now) ∷ []) (All (λ arc. arc < 2 ^ 32) value.now) self.new result };
+
+    /// An INTEGER, of any type of whole numbers.
+    fn encode_integer<T: IntegerType>(
+        &mut self,
+        tag: Tag,
+        constraints: &Constraints<'_>,
+        value: &T,
+        name: Identifier,
+    ) -> Result<(), EncodeError>
+        ensures { Writes writer self.old (scalar tag (constraint_set constraints.now) (name_of name) (number (T.number value.now)) ∷ []) (T.fits (T.number value.now)) self.new result };
+
+    /// A BIT STRING.
+    fn encode_bit_string(
+        &mut self,
+        tag: Tag,
+        constraints: &Constraints<'_>,
+        value: &[bool],
+        name: Identifier,
+    ) -> Result<(), EncodeError>
+        ensures { Writes writer self.old (scalar tag (constraint_set constraints.now) (name_of name) (bits value.now) ∷ []) ⊤ self.new result };
+
+    /// An OCTET STRING.
+    fn encode_octet_string(
+        &mut self,
+        tag: Tag,
+        constraints: &Constraints<'_>,
+        value: &[u8],
+        name: Identifier,
+    ) -> Result<(), EncodeError>
+        ensures { Writes writer self.old (scalar tag (constraint_set constraints.now) (name_of name) (units octet value.now) ∷ []) (All (λ unit. unit < 2 ^ 8) value.now) self.new result };
+
+    /// A UTF8String.
+    fn encode_utf8_string(
+        &mut self,
+        tag: Tag,
+        constraints: &Constraints<'_>,
+        value: &str,
+        name: Identifier,
+    ) -> Result<(), EncodeError>
+        ensures { Writes writer self.old (scalar tag (constraint_set constraints.now) (name_of name) (units utf8 value.now) ∷ []) (IsUtf8 value.now) self.new result };
+
+    /// A GeneralString.
+    fn encode_general_string(
+        &mut self,
+        tag: Tag,
+        constraints: &Constraints<'_>,
+        value: &GeneralString,
+        name: Identifier,
+    ) -> Result<(), EncodeError>
+        ensures { Writes writer self.old (scalar tag (constraint_set constraints.now) (name_of name) (units general value.now) ∷ []) (All (λ unit. unit < 2 ^ 8) value.now) self.new result };
+
+    /// A GraphicString.
+    fn encode_graphic_string(
+        &mut self,
+        tag: Tag,
+        constraints: &Constraints<'_>,
+        value: &GraphicString,
+        name: Identifier,
+    ) -> Result<(), EncodeError>
+        ensures { Writes writer self.old (scalar tag (constraint_set constraints.now) (name_of name) (units graphic value.now) ∷ []) (All (λ unit. unit < 2 ^ 8) value.now) self.new result };
+
+    /// A VisibleString.
+    fn encode_visible_string(
+        &mut self,
+        tag: Tag,
+        constraints: &Constraints<'_>,
+        value: &VisibleString,
+        name: Identifier,
+    ) -> Result<(), EncodeError>
+        ensures { Writes writer self.old (scalar tag (constraint_set constraints.now) (name_of name) (units visible value.now) ∷ []) (All (λ unit. IsTrue (is_visible unit)) value.now) self.new result };
+
+    /// An IA5String.
+    fn encode_ia5_string(
+        &mut self,
+        tag: Tag,
+        constraints: &Constraints<'_>,
+        value: &Ia5String,
+        name: Identifier,
+    ) -> Result<(), EncodeError>
+        ensures { Writes writer self.old (scalar tag (constraint_set constraints.now) (name_of name) (units ia5 value.now) ∷ []) (All (λ unit. IsTrue (is_ia5 unit)) value.now) self.new result };
+
+    /// A PrintableString.
+    fn encode_printable_string(
+        &mut self,
+        tag: Tag,
+        constraints: &Constraints<'_>,
+        value: &PrintableString,
+        name: Identifier,
+    ) -> Result<(), EncodeError>
+        ensures { Writes writer self.old (scalar tag (constraint_set constraints.now) (name_of name) (units printable value.now) ∷ []) (All (λ unit. IsTrue (is_printable unit)) value.now) self.new result };
+
+    /// A NumericString.
+    fn encode_numeric_string(
+        &mut self,
+        tag: Tag,
+        constraints: &Constraints<'_>,
+        value: &NumericString,
+        name: Identifier,
+    ) -> Result<(), EncodeError>
+        ensures { Writes writer self.old (scalar tag (constraint_set constraints.now) (name_of name) (units numeric value.now) ∷ []) (All (λ unit. IsTrue (is_numeric unit)) value.now) self.new result };
+
+    /// A TeletexString.
+    fn encode_teletex_string(
+        &mut self,
+        tag: Tag,
+        constraints: &Constraints<'_>,
+        value: &TeletexString,
+        name: Identifier,
+    ) -> Result<(), EncodeError>
+        ensures { Writes writer self.old (scalar tag (constraint_set constraints.now) (name_of name) (units teletex value.now) ∷ []) (All (λ unit. unit < 2 ^ 32) value.now) self.new result };
+
+    /// A BMPString.
+    fn encode_bmp_string(
+        &mut self,
+        tag: Tag,
+        constraints: &Constraints<'_>,
+        value: &BmpString,
+        name: Identifier,
+    ) -> Result<(), EncodeError>
+        ensures { Writes writer self.old (scalar tag (constraint_set constraints.now) (name_of name) (units bmp value.now) ∷ []) (All (λ unit. unit < 2 ^ 16) value.now) self.new result };
+
+    /// A value of an open type, by its bytes, under whatever tag.
+    fn encode_any(&mut self, tag: Tag, value: &Any, name: Identifier) -> Result<(), EncodeError>
+        ensures { Writes writer self.old (raw_records (name_of name) value.now) ⊤ self.new result };
+
+    /// The mark of a component of the root that is there.
+    fn mark_present(&mut self, tag: Tag) -> Result<(), EncodeError>
+        ensures { Writes writer self.old (mark (present tag) ∷ []) ⊤ self.new result };
+
+    /// The mark of a component of the root that is absent.
+    fn mark_absent(&mut self, tag: Tag) -> Result<(), EncodeError>
+        ensures { Writes writer self.old (mark (absent tag) ∷ []) ⊤ self.new result };
+
+    /// The mark of an addition that is there.
+    fn mark_addition_present(&mut self, tag: Tag) -> Result<(), EncodeError>
+        ensures { Writes writer self.old (mark (present tag) ∷ []) ⊤ self.new result };
+
+    /// The mark of an addition that is absent.
+    fn mark_addition_absent(&mut self, tag: Tag) -> Result<(), EncodeError>
+        ensures { Writes writer self.old (mark (absent tag) ∷ []) ⊤ self.new result };
+
+    /// The mark of a group of additions that is absent.
+    fn mark_group_absent(&mut self) -> Result<(), EncodeError>
+        ensures { Writes writer self.old (mark group_absent ∷ []) ⊤ self.new result };
+
+    /// Opens a SEQUENCE, whose components are those of the table of `C`.
+    fn open_sequence<C: FieldTable>(
+        &mut self,
+        tag: Tag,
+        name: Identifier,
+    ) -> Result<(), EncodeError>
+        ensures { Opens writer self.old (sequence tag (name_of name)) self.new result };
+
+    /// Opens a SET, whose components are those of the table of `C`.
+    fn open_set<C: FieldTable>(&mut self, tag: Tag, name: Identifier) -> Result<(), EncodeError>
+        ensures { Opens writer self.old (set tag (name_of name)) self.new result };
+
+    /// Opens a SEQUENCE OF so many elements.
+    fn open_sequence_of(
+        &mut self,
+        tag: Tag,
+        constraints: &Constraints<'_>,
+        name: Identifier,
+        count: usize,
+    ) -> Result<(), EncodeError>
+        ensures { Opens writer self.old (sequence_of tag (constraint_set constraints.now) (name_of name)) self.new result };
+
+    /// Opens a SET OF so many elements.
+    fn open_set_of(
+        &mut self,
+        tag: Tag,
+        constraints: &Constraints<'_>,
+        name: Identifier,
+        count: usize,
+    ) -> Result<(), EncodeError>
+        ensures { Opens writer self.old (set_of tag (constraint_set constraints.now) (name_of name)) self.new result };
+
+    /// Opens what follows an explicit tag.
+    fn open_explicit_prefix(&mut self, tag: Tag, name: Identifier) -> Result<(), EncodeError>
+        ensures { Opens writer self.old (prefix tag (name_of name)) self.new result };
+
+    /// Opens a CHOICE, whose alternatives are those of `T`, by the tag of the chosen one.
+    fn open_choice<T: Choice>(
+        &mut self,
+        chosen: Tag,
+        constraints: &Constraints<'_>,
+        name: Identifier,
+    ) -> Result<(), EncodeError>
+        ensures { Opens writer self.old (alternative chosen (constraint_set constraints.now) (name_of name)) self.new result };
+
+    /// Closes the innermost scope.
+    fn close(&mut self) -> Result<(), EncodeError>
+        ensures { Closes writer self.old self.new result };
+
+    /// Opens a group of additions, whose components are those of the table of `C`. It is no scope, and takes nothing from the
+    /// allowance.
+    fn open_group<C: FieldTable>(&mut self) -> Result<(), EncodeError>
+        ensures { OpensGroup writer self.old self.new result };
+
+    /// Closes the innermost group, which is absent where it holds marks alone.
+    fn close_group(&mut self) -> Result<(), EncodeError>
+        ensures { ClosesGroup writer self.old self.new result };
+
+    // The law of a codec.
+    ghost lawful: { IsLawful writer };
+
+    /// A value of an ENUMERATED type, by its number.
+    final fn encode_enumerated<T: Enumerated>(
+        &mut self,
+        tag: Tag,
+        value: &T,
+        name: Identifier,
+    ) -> Result<(), EncodeError>
+    where
+        Self: Sized,
+        ensures { Writes writer self.old (scalar tag unconstrained (name_of name) (discriminant (number_of T.eq T.enumeration value.now)) ∷ []) ⊤ self.new result }
+    {
+        self.encode_enumerated_value(tag, EnumeratedValue::new(value), name)
+    }
+
+    /// A value after an explicit tag.
+    final fn encode_explicit_prefix<T: Encode>(
+        &mut self,
+        tag: Tag,
+        value: &T,
+        name: Identifier,
+    ) -> Result<(), EncodeError>
+    where
+        Self: Sized,
+        ensures { Writes writer self.old (prefix_records tag (name_of name) (own_records T.meaning value.now)) (T.meaning.IsOfType value.now) self.new result }
+    {
+        self.open_explicit_prefix(tag, name)?;
+        value.encode(self)?;
+        self.close()
+    }
+
+    /// A SEQUENCE, by its components. Of a type that is one it writes the records of the type, which are the same under all
+    /// constraints.
+    final fn encode_sequence<C: EncodeFields + ConstructedType>(
+        &mut self,
+        tag: Tag,
+        value: &C,
+        name: Identifier,
+    ) -> Result<(), EncodeError>
+    where
+        Self: Sized,
+        ensures components { Writes writer self.old (sequence_records tag (name_of name) (component_records C.components value.now)) (EachIsOfType (all_components C.components) value.now) self.new result }
+        ensures as_meant { C.components.kind ≡ is_sequence → Writes writer self.old (C.meaning.records value.now tag unconstrained (name_of name)) (C.meaning.IsOfType value.now) self.new result }
+    {
+        self.open_sequence::<C>(tag, name)?;
+        value.encode_fields(self)?;
+        self.close()
+    }
+
+    /// A SEQUENCE OF, by its elements.
+    final fn encode_sequence_of<T: Encode>(
+        &mut self,
+        tag: Tag,
+        elements: &[T],
+        constraints: &Constraints<'_>,
+        name: Identifier,
+    ) -> Result<(), EncodeError>
+    where
+        Self: Sized,
+        ensures { Writes writer self.old (list_records tag (constraint_set constraints.now) (name_of name) (flat_map (own_records T.meaning) elements.now)) (All T.meaning.IsOfType elements.now) self.new result }
+    {
+        self.open_sequence_of(tag, constraints, name, elements.len())?;
+        for element in elements {
+            element.encode(self)?;
+        }
+        self.close()
+    }
+
+    /// A component that may be absent, and is there, under a tag, constraints and a name.
+    final fn encode_some_with_tag_and_constraints<T: Encode>(
+        &mut self,
+        tag: Tag,
+        constraints: &Constraints<'_>,
+        value: &T,
+        name: Identifier,
+    ) -> Result<(), EncodeError>
+    where
+        Self: Sized,
+        ensures { Writes writer self.old (option_records tag (Some (T.meaning.records value.now tag (constraint_set constraints.now) (name_of name)))) (T.meaning.IsOfType value.now) self.new result }
+    {
+        self.mark_present(tag)?;
+        value.encode_with_tag_and_constraints(self, tag, constraints, name)
+    }
+
+    /// A SET, by its components in the order of their definition. Of a type that is one it writes the records of the type, which
+    /// are the same under all constraints.
+    final fn encode_set<C: EncodeFields + ConstructedType>(
+        &mut self,
+        tag: Tag,
+        value: &C,
+        name: Identifier,
+    ) -> Result<(), EncodeError>
+    where
+        Self: Sized,
+        ensures components { Writes writer self.old (set_records tag (name_of name) (component_records C.components value.now)) (EachIsOfType (all_components C.components) value.now) self.new result }
+        ensures as_meant { C.components.kind ≡ is_set → Writes writer self.old (C.meaning.records value.now tag unconstrained (name_of name)) (C.meaning.IsOfType value.now) self.new result }
+    {
+        self.open_set::<C>(tag, name)?;
+        value.encode_fields(self)?;
+        self.close()
+    }
+
+    /// A SET OF, by its elements.
+    final fn encode_set_of<T: Encode>(
+        &mut self,
+        tag: Tag,
+        elements: &SetOf<T>,
+        constraints: &Constraints<'_>,
+        name: Identifier,
+    ) -> Result<(), EncodeError>
+    where
+        Self: Sized,
+        ensures { Writes writer self.old (set_of_records tag (constraint_set constraints.now) (name_of name) (flat_map (own_records T.meaning) elements.now)) (All T.meaning.IsOfType elements.now) self.new result }
+    {
+        self.open_set_of(tag, constraints, name, elements.len())?;
+        for element in elements.iter() {
+            element.encode(self)?;
+        }
+        self.close()
+    }
+
+    /// A CHOICE that has no tag of its own, by its chosen alternative.
+    final fn encode_choice<T: EncodeChoice>(
+        &mut self,
+        constraints: &Constraints<'_>,
+        value: &T,
+        name: Identifier,
+    ) -> Result<(), EncodeError>
+    where
+        Self: Sized,
+        ensures { Writes writer self.old (alternative_records (tag_of_chosen (all_of T.alternatives) (T.pick value.now)) (constraint_set constraints.now) (name_of name) (chosen_meaning (all_of T.alternatives) (T.pick value.now)).records) (chosen_meaning (all_of T.alternatives) (T.pick value.now)).IsOfType self.new result }
+    {
+        self.open_choice::<T>(value.chosen_tag(), constraints, name)?;
+        value.encode_alternative(self)?;
+        self.close()
+    }
+
+    /// A CHOICE under a tag: untagged under the tag that stands for none, and else after the tag, with its own constraints and name
+    /// (X.680, 31.2.7). Without a name it is written under the type's own.
+    final fn encode_choice_with_tag<T: EncodeChoice + ChoiceType>(
+        &mut self,
+        tag: Tag,
+        constraints: &Constraints<'_>,
+        value: &T,
+        name: Identifier,
+    ) -> Result<(), EncodeError>
+    where
+        Self: Sized,
+        ensures { Writes writer self.old (T.meaning.records value.now tag (constraint_set constraints.now) (name_of name)) (T.meaning.IsOfType value.now) self.new result }
+    {
+        let name = name.or(T::identifier());
+        if tag.is_choice() {
+            return self.encode_choice(constraints, value, name);
+        }
+        let Ok(own_constraints) = T::constraints(self.global()) else {
+            return Err(self.refuse_memory());
+        };
+        self.open_explicit_prefix(tag, name)?;
+        self.encode_choice(&own_constraints, value, T::identifier())?;
+        self.close()
+    }
+
+    /// A component that may be absent, and is there, under a name.
+    final fn encode_some<T: Encode>(
+        &mut self,
+        value: &T,
+        name: Identifier,
+    ) -> Result<(), EncodeError>
+    where
+        Self: Sized,
+        ensures { Writes writer self.old (option_records T.meaning.tag (Some (T.meaning.records value.now T.meaning.tag T.meaning.constraints (name_of name)))) (T.meaning.IsOfType value.now) self.new result }
+    {
+        self.encode_some_with_tag(T::tag(), value, name)
+    }
+
+    /// A component that may be absent, and is there, under a tag and a name.
+    final fn encode_some_with_tag<T: Encode>(
+        &mut self,
+        tag: Tag,
+        value: &T,
+        name: Identifier,
+    ) -> Result<(), EncodeError>
+    where
+        Self: Sized,
+        ensures { Writes writer self.old (option_records tag (Some (T.meaning.records value.now tag T.meaning.constraints (name_of name)))) (T.meaning.IsOfType value.now) self.new result }
+    {
+        let Ok(constraints) = T::constraints(self.global()) else {
+            return Err(self.refuse_memory());
+        };
+        self.encode_some_with_tag_and_constraints(tag, &constraints, value, name)
+    }
+
+    /// A component that may be absent, and is there, after an explicit tag.
+    final fn encode_some_with_explicit_prefix<T: Encode>(
+        &mut self,
+        tag: Tag,
+        value: &T,
+        name: Identifier,
+    ) -> Result<(), EncodeError>
+    where
+        Self: Sized,
+        ensures { Writes writer self.old (option_records tag (Some (prefix_records tag (name_of name) (own_records T.meaning value.now)))) (T.meaning.IsOfType value.now) self.new result }
+    {
+        self.mark_present(tag)?;
+        self.encode_explicit_prefix(tag, value, name)
+    }
+
+    /// A component of a type that may be absent, and is.
+    final fn encode_none<T: AsnType>(&mut self, name: Identifier) -> Result<(), EncodeError>
+    where
+        Self: Sized,
+        ensures { Writes writer self.old (option_records T.meaning.tag None) ⊤ self.new result }
+    {
+        self.encode_none_with_tag(T::tag(), name)
+    }
+
+    /// A component that may be absent, and is, under a tag.
+    final fn encode_none_with_tag(&mut self, tag: Tag, _name: Identifier) -> Result<(), EncodeError>
+    where
+        Self: Sized,
+        ensures { Writes writer self.old (option_records tag None) ⊤ self.new result }
+    {
+        self.mark_absent(tag)
+    }
+
+    /// A component with a default, which is what the closure answers: absent where it equals that. The codec does not see a
+    /// default, so a success tells what another value has by its type.
+    final fn encode_default<
+        T: Encode + PartialEq + Drop,
+        F: FnOnce(Global) -> Result<T, AllocError>,
+    >(&mut self, value: &T, default: F, name: Identifier) -> Result<(), EncodeError>
+    where
+        Self: Sized,
+        requires { F.IsAlwaysCallable default }
+        ensures { (equal : Bool) → ((a : _) (usual : T) → F.post default a (Ok usual) → T.eq value.now usual ≡ equal) → Writes writer self.old (default_records equal T.meaning.tag (T.meaning.records value.now T.meaning.tag T.meaning.constraints (name_of name))) (equal ≡ false → T.meaning.IsOfType value.now) self.new result }
+    {
+        self.encode_default_with_tag(T::tag(), value, default, name)
+    }
+
+    /// The same as `encode_default`, under a tag.
+    final fn encode_default_with_tag<
+        T: Encode + PartialEq + Drop,
+        F: FnOnce(Global) -> Result<T, AllocError>,
+    >(&mut self, tag: Tag, value: &T, default: F, name: Identifier) -> Result<(), EncodeError>
+    where
+        Self: Sized,
+        requires { F.IsAlwaysCallable default }
+        ensures { (equal : Bool) → ((a : _) (usual : T) → F.post default a (Ok usual) → T.eq value.now usual ≡ equal) → Writes writer self.old (default_records equal tag (T.meaning.records value.now tag T.meaning.constraints (name_of name))) (equal ≡ false → T.meaning.IsOfType value.now) self.new result }
+    {
+        let Ok(constraints) = T::constraints(self.global()) else {
+            return Err(self.refuse_memory());
+        };
+        self.encode_default_with_tag_and_constraints(tag, &constraints, value, default, name)
+    }
+
+    /// The same as `encode_default`, under constraints.
+    final fn encode_default_with_constraints<
+        T: Encode + PartialEq + Drop,
+        F: FnOnce(Global) -> Result<T, AllocError>,
+    >(
+        &mut self,
+        constraints: &Constraints<'_>,
+        value: &T,
+        default: F,
+        name: Identifier,
+    ) -> Result<(), EncodeError>
+    where
+        Self: Sized,
+        requires { F.IsAlwaysCallable default }
+        ensures { (equal : Bool) → ((a : _) (usual : T) → F.post default a (Ok usual) → T.eq value.now usual ≡ equal) → Writes writer self.old (default_records equal T.meaning.tag (T.meaning.records value.now T.meaning.tag (constraint_set constraints.now) (name_of name))) (equal ≡ false → T.meaning.IsOfType value.now) self.new result }
+    {
+        self.encode_default_with_tag_and_constraints(T::tag(), constraints, value, default, name)
+    }
+
+    /// The same as `encode_default`, under a tag and constraints.
+    final fn encode_default_with_tag_and_constraints<
+        T: Encode + PartialEq + Drop,
+        F: FnOnce(Global) -> Result<T, AllocError>,
+    >(
+        &mut self,
+        tag: Tag,
+        constraints: &Constraints<'_>,
+        value: &T,
+        default: F,
+        name: Identifier,
+    ) -> Result<(), EncodeError>
+    where
+        Self: Sized,
+        requires { F.IsAlwaysCallable default }
+        ensures { (equal : Bool) → ((a : _) (usual : T) → F.post default a (Ok usual) → T.eq value.now usual ≡ equal) → Writes writer self.old (default_records equal tag (T.meaning.records value.now tag (constraint_set constraints.now) (name_of name))) (equal ≡ false → T.meaning.IsOfType value.now) self.new result }
+    {
+        let Ok(usual) = default(self.global()) else {
+            return Err(self.refuse_memory());
+        };
+        if *value == usual {
+            self.encode_none_with_tag(tag, name)
+        } else {
+            self.encode_some_with_tag_and_constraints(tag, constraints, value, name)
+        }
+    }
+
+    /// The same as `encode_default`, after an explicit tag.
+    final fn encode_default_with_explicit_prefix<
+        T: Encode + PartialEq + Drop,
+        F: FnOnce(Global) -> Result<T, AllocError>,
+    >(&mut self, tag: Tag, value: &T, default: F, name: Identifier) -> Result<(), EncodeError>
+    where
+        Self: Sized,
+        requires { F.IsAlwaysCallable default }
+        ensures { (equal : Bool) → ((a : _) (usual : T) → F.post default a (Ok usual) → T.eq value.now usual ≡ equal) → Writes writer self.old (default_records equal tag (prefix_records tag (name_of name) (own_records T.meaning value.now))) (equal ≡ false → T.meaning.IsOfType value.now) self.new result }
+    {
+        let Ok(usual) = default(self.global()) else {
+            return Err(self.refuse_memory());
+        };
+        if *value == usual {
+            self.encode_none_with_tag(tag, name)
+        } else {
+            self.encode_some_with_explicit_prefix(tag, value, name)
+        }
+    }
+
+    /// The same as `encode_default`, with the default of the type.
+    final fn encode_or_default<T: Encode + Default + PartialEq + Drop>(
+        &mut self,
+        value: &T,
+        name: Identifier,
+    ) -> Result<(), EncodeError>
+    where
+        Self: Sized,
+        ensures { (equal : Bool) → ((usual : T) → T.is_default usual → T.eq value.now usual ≡ equal) → Writes writer self.old (default_records equal T.meaning.tag (T.meaning.records value.now T.meaning.tag T.meaning.constraints (name_of name))) (equal ≡ false → T.meaning.IsOfType value.now) self.new result }
+    {
+        self.encode_with_tag_or_default(T::tag(), value, name)
+    }
+
+    /// The same as `encode_or_default`, under a tag.
+    final fn encode_with_tag_or_default<T: Encode + Default + PartialEq + Drop>(
+        &mut self,
+        tag: Tag,
+        value: &T,
+        name: Identifier,
+    ) -> Result<(), EncodeError>
+    where
+        Self: Sized,
+        ensures { (equal : Bool) → ((usual : T) → T.is_default usual → T.eq value.now usual ≡ equal) → Writes writer self.old (default_records equal tag (T.meaning.records value.now tag T.meaning.constraints (name_of name))) (equal ≡ false → T.meaning.IsOfType value.now) self.new result }
+    {
+        if *value == T::default() {
+            self.encode_none_with_tag(tag, name)
+        } else {
+            self.encode_some_with_tag(tag, value, name)
+        }
+    }
+
+    /// An addition, which may be absent, under a tag, constraints and a name.
+    final fn encode_extension_addition<T: Encode>(
+        &mut self,
+        tag: Tag,
+        constraints: &Constraints<'_>,
+        value: Option<&T>,
+        name: Identifier,
+    ) -> Result<(), EncodeError>
+    where
+        Self: Sized,
+        ensures { Writes writer self.old (option_records tag (option_map (λ v. T.meaning.records v tag (constraint_set constraints.now) (name_of name)) (option_copied value.entry))) (IfSome (option_copied value.entry) T.meaning.IsOfType) self.new result }
+    {
+        match value {
+            None => self.mark_addition_absent(tag),
+            Some(value) => {
+                self.mark_addition_present(tag)?;
+                value.encode_with_tag_and_constraints(self, tag, constraints, name)
+            }
+        }
+    }
+
+    /// A group of additions: absent where there is none, and where its components are marks alone.
+    final fn encode_extension_addition_group<C: EncodeFields>(
+        &mut self,
+        value: Option<&C>,
+        _name: Identifier,
+    ) -> Result<(), EncodeError>
+    where
+        Self: Sized,
+        ensures { Writes writer self.old (group_records (option_map (component_records C.components) (option_copied value.entry))) (IfSome (option_copied value.entry) (EachIsOfType (all_components C.components))) self.new result }
+    {
+        match value {
+            None => self.mark_group_absent(),
+            Some(group) => {
+                self.open_group::<C>()?;
+                group.encode_fields(self)?;
+                self.close_group()
+            }
+        }
+    }
+}

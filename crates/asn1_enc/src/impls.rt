@@ -1,0 +1,7 @@
+//! The types of the lower crates and of the language, written.
+mod holders;
+mod instance_of;
+mod lists;
+mod scalars;
+mod strings;
+mod tagged;

@@ -1,0 +1,43 @@
+//! Writing of lists and sets of elements (X.680, 26 and 28).
+use crate::encode::Encode;
+use crate::encoder::Encoder;
+use crate::error::EncodeError;
+use asn1_bounds::Constraints;
+use asn1_tags::{Identifier, Tag};
+use asn1_types::SetOf;
+
+impl<T: Encode> Encode for Vec<T> {
+    fn encode_with_tag_and_constraints<E: Encoder>(
+        &self,
+        encoder: &mut E,
+        tag: Tag,
+        constraints: &Constraints<'_>,
+        name: Identifier,
+    ) -> Result<(), EncodeError> {
+        encoder.encode_sequence_of(tag, self, constraints, name.or(Identifier::SEQUENCE_OF))
+    }
+}
+
+impl<T: Encode, const N: usize> Encode for [T; N] {
+    fn encode_with_tag_and_constraints<E: Encoder>(
+        &self,
+        encoder: &mut E,
+        tag: Tag,
+        constraints: &Constraints<'_>,
+        name: Identifier,
+    ) -> Result<(), EncodeError> {
+        encoder.encode_sequence_of(tag, self, constraints, name.or(Identifier::SEQUENCE_OF))
+    }
+}
+
+impl<T: Encode> Encode for SetOf<T> {
+    fn encode_with_tag_and_constraints<E: Encoder>(
+        &self,
+        encoder: &mut E,
+        tag: Tag,
+        constraints: &Constraints<'_>,
+        name: Identifier,
+    ) -> Result<(), EncodeError> {
+        encoder.encode_set_of(tag, self, constraints, name.or(Identifier::SET_OF))
+    }
+}

@@ -1,0 +1,190 @@
+//! Writing of strings of each kind, and of object identifiers (X.680, 22, 23, 32 and 41).
+use crate::encode::Encode;
+use crate::encoder::Encoder;
+use crate::error::EncodeError;
+use asn1_bounds::Constraints;
+use asn1_tags::{Identifier, Tag};
+use asn1_values::{
+    BitString, BmpString, GeneralString, GraphicString, Ia5String, NumericString, ObjectIdentifier,
+    OctetString, PrintableString, TeletexString, VisibleString,
+};
+
+impl Encode for ObjectIdentifier {
+    fn encode_with_tag_and_constraints<E: Encoder>(
+        &self,
+        encoder: &mut E,
+        tag: Tag,
+        _constraints: &Constraints<'_>,
+        name: Identifier,
+    ) -> Result<(), EncodeError> {
+        encoder.encode_object_identifier(
+            tag,
+            self.as_slice(),
+            name.or(Identifier::OBJECT_IDENTIFIER),
+        )
+    }
+}
+
+impl Encode for BitString {
+    fn encode_with_tag_and_constraints<E: Encoder>(
+        &self,
+        encoder: &mut E,
+        tag: Tag,
+        constraints: &Constraints<'_>,
+        name: Identifier,
+    ) -> Result<(), EncodeError> {
+        encoder.encode_bit_string(
+            tag,
+            constraints,
+            self.as_slice(),
+            name.or(Identifier::BIT_STRING),
+        )
+    }
+}
+
+impl Encode for OctetString {
+    fn encode_with_tag_and_constraints<E: Encoder>(
+        &self,
+        encoder: &mut E,
+        tag: Tag,
+        constraints: &Constraints<'_>,
+        name: Identifier,
+    ) -> Result<(), EncodeError> {
+        encoder.encode_octet_string(
+            tag,
+            constraints,
+            self.as_slice(),
+            name.or(Identifier::OCTET_STRING),
+        )
+    }
+}
+
+impl Encode for GeneralString {
+    fn encode_with_tag_and_constraints<E: Encoder>(
+        &self,
+        encoder: &mut E,
+        tag: Tag,
+        constraints: &Constraints<'_>,
+        name: Identifier,
+    ) -> Result<(), EncodeError> {
+        encoder.encode_general_string(tag, constraints, self, name.or(Identifier::GENERAL_STRING))
+    }
+}
+
+impl Encode for GraphicString {
+    fn encode_with_tag_and_constraints<E: Encoder>(
+        &self,
+        encoder: &mut E,
+        tag: Tag,
+        constraints: &Constraints<'_>,
+        name: Identifier,
+    ) -> Result<(), EncodeError> {
+        encoder.encode_graphic_string(tag, constraints, self, name.or(Identifier::GRAPHIC_STRING))
+    }
+}
+
+impl Encode for TeletexString {
+    fn encode_with_tag_and_constraints<E: Encoder>(
+        &self,
+        encoder: &mut E,
+        tag: Tag,
+        constraints: &Constraints<'_>,
+        name: Identifier,
+    ) -> Result<(), EncodeError> {
+        encoder.encode_teletex_string(tag, constraints, self, name.or(Identifier::TELETEX_STRING))
+    }
+}
+
+impl Encode for BmpString {
+    fn encode_with_tag_and_constraints<E: Encoder>(
+        &self,
+        encoder: &mut E,
+        tag: Tag,
+        constraints: &Constraints<'_>,
+        name: Identifier,
+    ) -> Result<(), EncodeError> {
+        encoder.encode_bmp_string(tag, constraints, self, name.or(Identifier::BMP_STRING))
+    }
+}
+
+impl Encode for VisibleString {
+    fn encode_with_tag_and_constraints<E: Encoder>(
+        &self,
+        encoder: &mut E,
+        tag: Tag,
+        constraints: &Constraints<'_>,
+        name: Identifier,
+    ) -> Result<(), EncodeError> {
+        encoder.encode_visible_string(tag, constraints, self, name.or(Identifier::VISIBLE_STRING))
+    }
+}
+
+impl Encode for Ia5String {
+    fn encode_with_tag_and_constraints<E: Encoder>(
+        &self,
+        encoder: &mut E,
+        tag: Tag,
+        constraints: &Constraints<'_>,
+        name: Identifier,
+    ) -> Result<(), EncodeError> {
+        encoder.encode_ia5_string(tag, constraints, self, name.or(Identifier::IA5_STRING))
+    }
+}
+
+impl Encode for NumericString {
+    fn encode_with_tag_and_constraints<E: Encoder>(
+        &self,
+        encoder: &mut E,
+        tag: Tag,
+        constraints: &Constraints<'_>,
+        name: Identifier,
+    ) -> Result<(), EncodeError> {
+        encoder.encode_numeric_string(tag, constraints, self, name.or(Identifier::NUMERIC_STRING))
+    }
+}
+
+impl Encode for PrintableString {
+    fn encode_with_tag_and_constraints<E: Encoder>(
+        &self,
+        encoder: &mut E,
+        tag: Tag,
+        constraints: &Constraints<'_>,
+        name: Identifier,
+    ) -> Result<(), EncodeError> {
+        encoder.encode_printable_string(
+            tag,
+            constraints,
+            self,
+            name.or(Identifier::PRINTABLE_STRING),
+        )
+    }
+}
+
+impl Encode for String {
+    fn encode_with_tag_and_constraints<E: Encoder>(
+        &self,
+        encoder: &mut E,
+        tag: Tag,
+        constraints: &Constraints<'_>,
+        name: Identifier,
+    ) -> Result<(), EncodeError> {
+        encoder.encode_utf8_string(
+            tag,
+            constraints,
+            self.as_str(),
+            name.or(Identifier::UTF8_STRING),
+        )
+    }
+}
+
+impl Encode for &str {
+    fn encode_with_tag_and_constraints<E: Encoder>(
+        &self,
+        encoder: &mut E,
+        tag: Tag,
+        constraints: &Constraints<'_>,
+        name: Identifier,
+    ) -> Result<(), EncodeError> {
+        encoder.encode_utf8_string(tag, constraints, *self, name.or(Identifier::UTF8_STRING))
+    }
+}

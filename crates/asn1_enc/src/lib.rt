@@ -1,0 +1,55 @@
+//! Writing: a value of a type of ASN.1, to a codec.
+//!
+//! A codec writes records ([`Encoder`]), and a type says by its meaning which records its values are ([`Encode`]). Neither
+//! looks into the other: so a type is written once for every codec, and a codec once for every type.
+//!
+//! | Item | What it is |
+//! |---|---|
+//! | [`Encoder`] | a codec: the calls of its own, and on these the calls for whole types |
+//! | [`Encode`] | a type whose values are written, by seven entry points; one of them is the type's own |
+//! | [`EncodeFields`] | a type whose components are written, each by its place: a SEQUENCE, a SET or a group of additions |
+//! | [`EncodeChoice`] | a CHOICE whose chosen alternative is written |
+//! | [`EnumeratedValue`] | a value of an ENUMERATED type, as a codec sees it |
+//! | [`EncodeError`] | why a value was not written |
+//! | [`laws`] | what the derives of the error give |
+//!
+//! The types of the lower crates and of the language are written: `()`, `bool`, the built-in integers, `Integer`,
+//! `ConstrainedInteger`, every kind of string, `&str`, `ObjectIdentifier`, `Option`, references, `Box`, `Cow`, `Vec`, arrays,
+//! `SetOf`, `Implicit`, `Explicit`, `Any`, `InstanceOf` and `PhantomData`.
+//!
+//! What the contracts promise, and the words that they use:
+//!
+//! - What a call writes is exactly the records of its value, after what was written before, in the innermost list that is open
+//!   (`Writes` of `specs/Writing.antt`). They are no higher than the allowance, which is then what it was. A success also
+//!   tells that the value has what each value of its type has (`IsOfType`), so that no caller has to show it.
+//! - An error comes only where the encoder has failed from then on (`IsError`), and it is `Failed` if and only if the encoder
+//!   had failed before. `Depth` comes only where the records are higher than the allowance, and `Custom` only where the codec
+//!   rejects them (`Fails`). A type whose own constraints could not be made for want of memory says so by `refuse_memory`.
+//! - A codec states what it has written, whether it has failed, its allowance, and which records it rejects (`Writer`). Its own
+//!   calls have the laws of these: opening a scope takes one from the allowance and closing gives it back (`Opens`, `Closes`),
+//!   a group is no scope (`OpensGroup`, `ClosesGroup`), and where there is no allowance the error is `Depth`, before any other
+//!   but `Failed`. What it rejects and has written keeps to `IsLawful`: a list is rejected where a part of it is, or what a
+//!   record of it holds, presence marks alone never are, and the order inside sets means nothing.
+//! - `EncodeFields::encode_fields` is a loop over the places of the field table, proved once for all types. A type states a
+//!   line for each component (`encode_field`, `specs/Places.antt`), and no proof.
+//! - `encode_sequence`, `encode_set` and `encode_choice_with_tag` write the records of the type (`as_meant`), by the law that
+//!   ties its meaning to its components or alternatives. So the writer of such a type is one call, without a proof, also of a
+//!   type that holds itself; such a type, its tables and its writer have to be in one crate.
+//! - A call that is given a default asks that each answer of the closure compares with the value alike.
+//!
+//! No call takes memory but those of a codec, and constraints with a permitted alphabet.
+#![tactic(auto, using(asn1_tags::proofs::Leaves::tree_shapes))]
+
+mod encode;
+mod encoder;
+mod enumerated_value;
+mod error;
+mod impls;
+pub mod laws;
+#[cfg(test)]
+mod tests;
+
+pub use encode::{Encode, EncodeChoice, EncodeFields};
+pub use encoder::Encoder;
+pub use enumerated_value::EnumeratedValue;
+pub use error::EncodeError;
