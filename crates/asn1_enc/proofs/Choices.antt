@@ -1,5 +1,5 @@
 -- A CHOICE under a tag.
-use Rattle.std.proofs.Common.{◌≡◌, Bool, true, false, List, [], ◌∷◌, if◌then◌else◌, sym, ap, ◌∙◌, subst, Result}
+use Rattle.std.proofs.Common.{◌≡◌, false, if◌then◌else◌, sym, ap, ◌∙◌, subst, Result}
 use Rattle.asn1_choices.specs.Alternatives.{Alternatives, OneOf, all_of, chosen_meaning}
 use Rattle.asn1_choices.specs.ChoiceTypes.{AgreesWithChoice}
 use Rattle.asn1_choices.specs.ChosenTags.{chosen_tag}

@@ -2,5 +2,4 @@ pub mod Choices
 pub mod Components
 pub mod Lists
 pub mod Names
-pub mod Numbers
 pub mod Steps

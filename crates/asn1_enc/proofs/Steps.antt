@@ -1,8 +1,8 @@
 -- How steps of writing follow one another.
-use Rattle.std.proofs.Common.{◌≡◌, ◌↔◌, ℕ, suc, ◌+◌, ◌≤◌, ◌<◌, max, Bool, true, false, ◌&&◌, List, [], ◌∷◌, ◌++◌, if◌then◌else◌, refl, sym, ap, ◌∙◌, subst, append_assoc, append-nil, zero-le, arith, Some, Result, Ok, Err}
+use Rattle.std.proofs.Common.{◌≡◌, ℕ, suc, max, Bool, true, false, ◌&&◌, List, [], ◌∷◌, ◌++◌, if◌then◌else◌, refl, sym, ap, ◌∙◌, subst, append_assoc, append-nil, zero-le, arith, Some, Result, Ok, Err}
 use Rattle.std.specs.Result.{IsErrAnd}
 use Rattle.asn1_components.specs.ComponentLists.{EachIsOfType}
-use Rattle.asn1_components.specs.Components.{Components, Kind, AgreesWithComponents, all_components, component_records, head_in, is_sequence, is_set}
+use Rattle.asn1_components.specs.Components.{Components, Kind, AgreesWithComponents, all_components, component_records, head_in}
 use Rattle.asn1_model.specs.Composites.{group_records}
 use Rattle.asn1_model.specs.ConstraintSets.{ConstraintSet}
 use Rattle.asn1_model.specs.Meaning.{Meaning}
@@ -11,7 +11,7 @@ use Rattle.asn1_model.proofs.Lists.{inner_height-held}
 use Rattle.asn1_tags.specs.declared.tags.Tag.{Tag}
 use Rattle.asn1_enc.specs.declared.error.EncodeError.{EncodeError}
 use Rattle.asn1_enc.specs.declared.error.EncodeError.TheVariants.{Memory, Depth, Failed}
-use Rattle.asn1_enc.specs.Writing.{Writer, Written, outermost, in_scope, in_group, followed_by, IsCustom, IsLawful, Appends, IsError, Fails, Writes, ScopeIsOpen, ScopeIsNotOpen, ScopeIsClosed, ScopeIsNotClosed, Closes, GroupIsOpen, GroupIsNotOpen, GroupIsClosed, GroupIsNotClosed, ClosesGroup, Refuses}
+use Rattle.asn1_enc.specs.Writing.{Writer, Written, outermost, in_scope, in_group, followed_by, IsCustom, IsLawful, Appends, IsError, Fails, Writes, ScopeIsOpen, ScopeIsNotOpen, Closes, GroupIsOpen, GroupIsNotOpen, ClosesGroup, Refuses}
 
 followed_twice : (w : Written) (rs ss : List Record) → followed_by (followed_by w rs) ss ≡ followed_by w (rs ++ ss)
 followed_twice (outermost done) rs ss = ap outermost (append_assoc done rs ss)

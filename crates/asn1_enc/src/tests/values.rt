@@ -12,7 +12,7 @@ use std::marker::PhantomData;
 use std::process::Abort;
 
 /// Asserts how many contents, presence marks and scopes a value has.
-fn assert_tally<T: Encode>(
+pub(super) fn assert_tally<T: Encode>(
     rt: &impl Abort,
     alloc: Global,
     value: &T,
@@ -102,7 +102,7 @@ fn an_instance_is_written(rt: HostRuntime) {
 }
 
 /// Asserts that a call succeeded, and what there was.
-fn assert_wrote(
+pub(super) fn assert_wrote(
     rt: &impl Abort,
     counter: &Counter,
     answer: Result<(), EncodeError>,
