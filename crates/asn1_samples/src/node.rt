@@ -1,12 +1,10 @@
 //! `Node ::= SEQUENCE { label UTF8String OPTIONAL, children SEQUENCE OF Node }`.
 ghost use Rattle.asn1_model.specs.Meaning.{CanStandInside};
-ghost use Rattle.asn1_miniature.specs.NodeComponents.{node_components, node_agrees, node_meaning};
+ghost use Rattle.asn1_samples.specs.NodeComponents.{node_components, node_agrees, node_meaning};
 
-use crate::encode::{Encode, EncodeFields};
-use crate::encoder::Encoder;
-use crate::error::EncodeError;
 use asn1_bounds::Constraints;
 use asn1_components::{ConstructedType, FieldTable};
+use asn1_enc::{Encode, EncodeError, EncodeFields, Encoder};
 use asn1_fields::Field;
 use asn1_model::{AsnType, TypeTable};
 use asn1_tags::{Identifier, Tag};
@@ -63,10 +61,10 @@ impl Encode for Node {
         &self,
         encoder: &mut E,
         tag: Tag,
-        constraints: &Constraints<'_>,
+        _constraints: &Constraints<'_>,
         name: Identifier,
     ) -> Result<(), EncodeError> {
-        encoder.encode_sequence(tag, constraints, self, name)
+        encoder.encode_sequence(tag, self, name)
     }
 }
 

@@ -17,11 +17,9 @@ ghost use Rattle.asn1_model.specs.TaggedTypes.{explicitly_tagged, tagged};
 ghost use Rattle.asn1_model.specs.Tags.{context};
 ghost use Rattle.asn1_tags.specs.Trees.{choice, shape, shapes};
 
-use crate::encode::{Encode, EncodeFields};
-use crate::encoder::Encoder;
-use crate::error::EncodeError;
 use asn1_bounds::Constraints;
 use asn1_components::{ConstructedType, FieldTable};
+use asn1_enc::{Encode, EncodeError, EncodeFields, Encoder};
 use asn1_fields::Field;
 use asn1_model::{AsnType, TypeTable};
 use asn1_tags::{Class, Identifier, Tag, TagTree};
@@ -146,10 +144,10 @@ impl Encode for Profile {
         &self,
         encoder: &mut E,
         tag: Tag,
-        constraints: &Constraints<'_>,
+        _constraints: &Constraints<'_>,
         name: Identifier,
     ) -> Result<(), EncodeError> {
-        encoder.encode_sequence(tag, constraints, self, name)
+        encoder.encode_sequence(tag, self, name)
     }
 }
 
@@ -158,8 +156,13 @@ impl EncodeFields for Profile {
         match place {
             0 => self.nick.encode_with_tag(encoder, NICK),
             1 => encoder.encode_explicit_prefix(LEVEL, &self.level, u8::identifier()),
-            2 => encoder.encode_default_with_tag(LOUD, &self.loud, !self.loud),
-            3 => encoder.encode_group(&self.reach),
+            2 => encoder.encode_default_with_tag(
+                LOUD,
+                &self.loud,
+                |_| Ok(false),
+                bool::identifier(),
+            ),
+            3 => encoder.encode_extension_addition_group(self.reach.as_ref(), Identifier::EMPTY),
             _ => Ok(()),
         }
     }

@@ -1,4 +1,0 @@
-pub mod Components
-pub mod Lists
-pub mod Names
-pub mod Steps

@@ -1,7 +1,0 @@
-use Rattle.std.specs.Prelude.{Some, codes}
-use Rattle.asn1_tags.specs.Names.{name_of}
-use Rattle.asn1_miniature.proofs.Names.{named_or}
-use Rattle.asn1_miniature.proofs.holders.StringEncode.encode_with_tag_and_constraints.Goals as goal
-
-pub returns : goal.returns
-returns g c = rw (← c.as_str.ensures.value, ← named_or (name_of c.args.name) (Some (codes "UTF8String")) (name_of c.or.result) c.or.ensures.named c.or.ensures.empty) c.encode_utf8_string.ensures

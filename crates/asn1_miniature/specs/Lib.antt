@@ -1,3 +1,0 @@
-pub mod NodeComponents
-pub mod Places
-pub mod Writing

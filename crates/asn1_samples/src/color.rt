@@ -1,0 +1,80 @@
+//! `Color ::= ENUMERATED { red(0), green(1), ..., blue(5) }`
+ghost use Rattle.std.specs.Prelude.{[], ◌∷◌, pos, codes, refl};
+ghost use Rattle.asn1_types.specs.Words.{item, by_test, extensible_enumeration, enumeration_type, enumeration_agrees, CanStandInside};
+ghost use Rattle.asn1_samples.specs.declared.color.Color.TheVariants.{Red, Green, Blue};
+
+use asn1_bounds::Constraints;
+use asn1_enc::{Encode, EncodeError, Encoder};
+use asn1_enumerations::item;
+use asn1_types::{
+    AsnType, Enumerated, EnumeratedType, EnumerationItem, Identifier, Tag, TypeTable,
+};
+
+/// One of three colors.
+#[derive(Clone, Copy, PartialEq, Eq, Debug)]
+pub enum Color {
+    /// `red(0)`
+    Red,
+    /// `green(1)`
+    Green,
+    /// `blue(5)`, after the extension marker
+    Blue,
+}
+
+const ROOT: &[EnumerationItem<Color>] = &[
+    item!(Color::Red, 0, "red"),
+    item!(Color::Green, 1, "green"),
+];
+
+const ADDITIONS: &[EnumerationItem<Color>] = &[item!(Color::Blue, 5, "blue")];
+
+impl Enumerated for Color {
+    ghost enumeration = { extensible_enumeration
+        (item Red (pos 0) (codes "red") ∷ item Green (pos 1) (codes "green") ∷ [])
+        (item Blue (pos 5) (codes "blue") ∷ []) };
+
+    ghost complete = { elim [ Red ↦ refl | Green ↦ refl | Blue ↦ refl ] };
+
+    ghost lawful = { by_test refl };
+
+    fn items() -> &'static [EnumerationItem<Color>] {
+        ROOT
+    }
+
+    fn added_items() -> Option<&'static [EnumerationItem<Color>]> {
+        Some(ADDITIONS)
+    }
+}
+
+impl AsnType for Color {
+    ghost meaning = { enumeration_type (codes "Color") ⟦<Color as Enumerated>⟧.enumeration ⟦<Color as PartialEq>⟧.eq };
+
+    fn table() -> TypeTable {
+        TypeTable::new(Tag::ENUMERATED, Identifier(Some("Color")))
+    }
+
+    fn is_present(&self) -> bool {
+        true
+    }
+}
+
+impl EnumeratedType for Color {
+    ghost agrees = { enumeration_agrees };
+}
+
+/// It can be a component or an alternative of another type.
+pub fn color_can_stand_inside()
+    ensures { CanStandInside ⟦<Color as AsnType>⟧.meaning }
+{}
+
+impl Encode for Color {
+    fn encode_with_tag_and_constraints<E: Encoder>(
+        &self,
+        encoder: &mut E,
+        tag: Tag,
+        _constraints: &Constraints<'_>,
+        name: Identifier,
+    ) -> Result<(), EncodeError> {
+        encoder.encode_enumerated(tag, self, name)
+    }
+}
