@@ -1,0 +1,149 @@
+-- Before what a decoder stands, and what a call of it does.
+use Rattle.std.specs.Prelude.{◌≡◌, ◌≢◌, ◌⊎◌, ℕ, suc, ◌≤◌, ◌<◌, Bool, true, false, List, [], ◌∷◌, ◌++◌, IsPermutation, Option, None, Some, Result, Err, MatchResult, OnOk, OnErr, if◌then◌else◌}
+use Rattle.asn1_tags.specs.declared.tags.Tag.{Tag}
+use Rattle.asn1_model.specs.ConstraintSets.{ConstraintSet}
+use Rattle.asn1_model.specs.Meaning.{Meaning, tags}
+use Rattle.asn1_model.specs.Orders.{SameAll}
+use Rattle.asn1_model.specs.Records.{Name, Record, Head, Mark, Content, scalar, mark, held, holding, highest, is_mark, marks_alone}
+use Rattle.asn1_model.specs.Tags.{Tags, BeginsWithin, Has, ShareNone, first_tags}
+use Rattle.asn1_dec.specs.declared.error.DecodeError.{DecodeError}
+use Rattle.asn1_dec.specs.declared.error.DecodeError.TheVariants.{Memory, Depth, Failed}
+
+-- What is left to be read of each list that is open: of the innermost scope, and so on to the outermost list.
+abbrev pub Ahead : Type 0
+Ahead = List (List Record)
+
+-- What is left is the same, list by list, up to the order inside sets.
+pub data SameAhead : Ahead → Ahead → Type 0 where
+  at_end : SameAhead [] []
+  next : {rs ss : List Record} {outer others : Ahead} → SameAll (held rs) (held ss) → SameAhead outer others → SameAhead (rs ∷ outer) (ss ∷ others)
+
+-- how many records there are, presence marks apart
+abbrev pub records_in : List Record → ℕ
+records_in [] = 0
+records_in (r ∷ rs) = if is_mark r then records_in rs else suc (records_in rs)
+
+-- what is left where the presence marks in front are passed over
+abbrev pub marks_passed : List Record → List Record
+marks_passed [] = []
+marks_passed (r ∷ rs) = if is_mark r then marks_passed rs else r ∷ rs
+
+-- Why a call may fail before records of this height: there is no memory, or they are higher than the allowance.
+abbrev pub MayFail : ℕ → ℕ → DecodeError → Type 0
+MayFail allowance height e = (e ≡ Memory) ⊎ ((e ≡ Depth) × (allowance < height))
+
+-- What may follow the records of a value under a tag: anything where each value of the type is a single record; and else,
+-- where they are presence marks alone, nothing that begins with a tag of the type.
+abbrev pub MayFollow : {V : Type 0} → Meaning V → Tag → List Record → List Record → Type 0
+MayFollow m t rs rest = m.IsSingleRecord ⊎ (marks_alone rs ≡ true → ShareNone (tags m t) (first_tags rest))
+
+-- What a decoder says of itself: before what it stands, whether it has failed, how many scopes may still be opened in one
+-- another, and which byte strings it takes as one value of an open type.
+pub record Reader (D : Type 0) : Type 1 where
+  pub stands : D → Ahead → Type 0
+  pub failed : D → Bool
+  pub allowance : D → ℕ
+  pub takes : List ℕ → Bool
+
+-- The tag with which the next record of a list begins; there is none where presence marks alone are left.
+pub record IsNextTag (items : List Record) (next : Option Tag) : Type 0 where
+  pub none : next ≡ None → marks_alone items ≡ true
+  pub some : (t : Tag) → next ≡ Some t → Has (first_tags items) t
+
+module _ {D : Type 0} (R : Reader D) where
+  -- What these relations keep to: the order inside sets means nothing.
+  pub record IsLawful : Type 0 where
+    pub in_any_order : (d : D) (before other : Ahead) → SameAhead before other → R.stands d before → R.stands d other
+
+  -- The call has succeeded: this holds of its answer, the decoder stands before these lists, and the allowance was enough.
+  pub record Moved (old new : D) (height : ℕ) (after : Ahead) (Answer : Type 0) : Type 0 where
+    pub answer : Answer
+    pub at : R.stands new after
+    pub within_allowance : height ≤ R.allowance old
+
+  -- a call that goes from before some open lists to before others, and opens so many scopes in one another
+  abbrev pub Moves : {V : Type 0} → D → D → ℕ → Ahead → Ahead → (V → Type 0) → Result V DecodeError → Type 0
+  Moves old new height before after Is result =
+      R.stands old before → MatchResult result (λ w. Moved old new height after (Is w)) (MayFail (R.allowance old) height)
+
+  -- a call that reads these records, before those
+  abbrev pub ReadsBack : {V : Type 0} → D → D → List Record → List Record → Ahead → (V → Type 0) → Result V DecodeError → Type 0
+  ReadsBack old new rs rest outer Is result = Moves old new (highest rs) ((rs ++ rest) ∷ outer) (rest ∷ outer) Is result
+
+  -- A call that reads a content, under this tag, these constraints and any name: of each that is of the type, it answers
+  -- what `Is` holds of.
+  abbrev pub ReadsContent : {X V : Type 0} → D → D → Tag → ConstraintSet → (X → Content) → (X → Type 0) → (V → X → Type 0) → Result V DecodeError → Type 0
+  ReadsContent {X = X} old new t c content IsOfType Is result =
+      (x : X) (n : Name) (rest : List Record) (outer : Ahead) → IsOfType x →
+      ReadsBack old new (scalar t c n (content x) ∷ []) rest outer (λ w. Is w x) result
+
+  -- A call that reads a value of a well-tagged type, under this tag, these constraints and any name: of each that is of the
+  -- type and valid, it answers one that is equal.
+  abbrev pub ReadsValue : {V : Type 0} → Meaning V → (V → V → Bool) → Tag → ConstraintSet → D → D → Result V DecodeError → Type 0
+  ReadsValue {V = V} m eq t c old new result =
+      (v : V) (n : Name) (rest : List Record) (outer : Ahead) →
+      m.IsWellTagged t → m.IsOfType v → m.IsValid R.takes v → MayFollow m t (m.records v t c n) rest →
+      ReadsBack old new (m.records v t c n) rest outer (λ w. eq w v ≡ true) result
+
+  -- A call that tells whether a component is there, which has these tags, and goes past the presence mark that says so. A
+  -- component that is there begins with one of its tags; what follows one that is absent begins with none.
+  pub record TellsPresence (old new : D) (present absent : Mark) (own : Tags) (result : Result Bool DecodeError) : Type 0 where
+    pub there : (rest : List Record) (outer : Ahead) → BeginsWithin own rest →
+        Moves old new 0 ((mark present ∷ rest) ∷ outer) (rest ∷ outer) (λ b. b ≡ true) result
+    pub away : (rest : List Record) (outer : Ahead) → ShareNone own (first_tags rest) →
+        Moves old new 0 ((mark absent ∷ rest) ∷ outer) (rest ∷ outer) (λ b. b ≡ false) result
+
+  -- A call that tells whether a record is left in the innermost scope, and stays before it.
+  pub record TellsMore (old new : D) (result : Result Bool DecodeError) : Type 0 where
+    pub some : (r : Record) (rest : List Record) (outer : Ahead) → is_mark r ≡ false →
+        Moves old new 0 ((r ∷ rest) ∷ outer) ((r ∷ rest) ∷ outer) (λ b. b ≡ true) result
+    pub none : (outer : Ahead) → Moves old new 0 ([] ∷ outer) ([] ∷ outer) (λ b. b ≡ false) result
+
+  -- a call that opens a record of this head and any name; this holds of its answer and what is inside
+  abbrev pub Opens : {V : Type 0} → D → D → (Name → Head) → (List Record → V → Type 0) → Result V DecodeError → Type 0
+  Opens old new head Is result =
+      (n : Name) (items rest : List Record) (outer : Ahead) →
+      Moves old new 1 ((holding (head n) items ∷ rest) ∷ outer) (items ∷ rest ∷ outer) (Is items) result
+
+  -- A set has been opened: the decoder stands before what is inside, in some order.
+  pub record SetIsOpen (old new : D) (items rest : List Record) (outer : Ahead) (Answer : Type 0) : Type 0 where
+    pub order : List Record
+    pub rearranged : IsPermutation order items
+    pub moved : Moved old new 1 (order ∷ rest ∷ outer) Answer
+
+  -- the same of a call that opens a set
+  abbrev pub OpensSet : {V : Type 0} → D → D → (Name → Head) → (List Record → V → Type 0) → Result V DecodeError → Type 0
+  OpensSet old new head Is result =
+      (n : Name) (items rest : List Record) (outer : Ahead) → R.stands old ((holding (head n) items ∷ rest) ∷ outer) →
+      MatchResult result (λ w. SetIsOpen old new items rest outer (Is items w)) (MayFail (R.allowance old) 1)
+
+  -- What a call does to the decoder that leaves as many scopes open as there were: an error makes it failed, and one that
+  -- has failed answers so.
+  pub record Keeps {V : Type 0} (old new : D) (result : Result V DecodeError) : Type 0 where
+    pub same_allowance : OnOk result (R.allowance new ≡ R.allowance old)
+    pub sound : OnOk result (R.failed new ≡ false)
+    pub failing : OnErr result (R.failed new ≡ true)
+    pub refused : R.failed old ≡ true → result ≡ Err Failed
+
+  -- A call that opens no scope is not too deep.
+  pub record Stays {V : Type 0} (old new : D) (result : Result V DecodeError) : Type 0 where
+    pub keeps : Keeps old new result
+    pub not_too_deep : result ≢ Err Depth
+
+  -- A call that opens a scope takes one from the allowance. It is too deep if and only if there is none, and says so before
+  -- anything but that the decoder has failed.
+  pub record Enters {V : Type 0} (old new : D) (result : Result V DecodeError) : Type 0 where
+    pub one_less : OnOk result (R.allowance old ≡ suc (R.allowance new))
+    pub sound : OnOk result (R.failed new ≡ false)
+    pub failing : OnErr result (R.failed new ≡ true)
+    pub refused : R.failed old ≡ true → result ≡ Err Failed
+    pub too_deep : result ≡ Err Depth → R.allowance old ≡ 0
+    pub depth_first : R.failed old ≡ false → R.allowance old ≡ 0 → result ≡ Err Depth
+
+  -- A call that closes a scope gives it back.
+  pub record Leaves {V : Type 0} (old new : D) (result : Result V DecodeError) : Type 0 where
+    pub one_more : OnOk result (R.allowance new ≡ suc (R.allowance old))
+    pub sound : OnOk result (R.failed new ≡ false)
+    pub failing : OnErr result (R.failed new ≡ true)
+    pub refused : R.failed old ≡ true → result ≡ Err Failed
+    pub not_too_deep : result ≢ Err Depth

@@ -1,0 +1,268 @@
+//! What a codec reads with.
+ghost use Rattle.asn1_components.specs.ComponentLists.{trees_of};
+ghost use Rattle.asn1_components.specs.Components.{all_components};
+ghost use Rattle.asn1_dec.specs.Reading.{Ahead, Enters, IsLawful, IsNextTag, Keeps, Leaves, Moves, Opens, OpensSet, Reader, ReadsBack, ReadsContent, Stays, TellsMore, TellsPresence, marks_passed, records_in};
+ghost use Rattle.asn1_enumerations.specs.Enumerations.{number_of};
+ghost use Rattle.asn1_model.specs.Composites.{list_records, prefix_records};
+ghost use Rattle.asn1_model.specs.ConstraintSets.{constraint_set, unconstrained};
+ghost use Rattle.asn1_model.specs.Meaning.{CanStandInside, own_records};
+ghost use Rattle.asn1_model.specs.Records.{Name, Record, absent, alternative, arcs, bits, bmp, discriminant, general, graphic, group_absent, group_end, group_start, ia5, mark, null, number, numeric, octet, prefix, present, printable, raw, sequence, sequence_of, set, set_of, teletex, truth, units, utf8, visible};
+ghost use Rattle.asn1_model.specs.Tags.{tree_tags};
+ghost use Rattle.asn1_tags.specs.Trees.{choice, shape};
+ghost use Rattle.asn1_tags.specs.declared.tags.Tag.{Tag};
+ghost use Rattle.asn1_values.specs.Alphabets.{is_ia5, is_numeric, is_printable, is_visible};
+ghost use Rattle.std.specs.List.{flat_map};
+ghost use Rattle.std.specs.Prelude.{◌≡◌, ◌≤◌, ◌<◌, ◌^◌, [], ◌∷◌, ⊤, All, IsTrue, List, ℕ, true};
+ghost use Rattle.std.specs.Str.{IsUtf8};
+ghost use Rattle.std.specs.String.{string_bytes};
+
+use crate::error::DecodeError;
+use asn1_bounds::{Codec, Constraints};
+use asn1_choices::Choice;
+use asn1_components::FieldTable;
+use asn1_enumerations::Enumerated;
+use asn1_tags::{Tag, TagTree};
+use asn1_types::Any;
+use asn1_values::{
+    BitString, BmpString, GeneralString, GraphicString, Ia5String, IntegerType, NumericString,
+    ObjectIdentifier, PrintableString, TeletexString, VisibleString,
+};
+use std::alloc::Global;
+
+/// A codec that reads records: by calls of its own, on which those for whole types rest.
+///
+/// The calls before the law are a codec's own. What a decoder stands before is what is left of each list that is open. Before
+/// the records that a call is for, it answers what was written, and stands before what follows; or it fails for want of memory,
+/// or, where it opens a scope, since there is no allowance. Before others it may answer what it likes. A call that fails makes
+/// the decoder failed, and a decoder that has failed answers [`DecodeError::Failed`]. [`DecodeError::Depth`] comes only from
+/// opening a scope where there is no allowance, and is answered there before anything else but `Failed`.
+///
+/// The calls after the law are the same for every codec.
+pub trait Decoder {
+    // Before what the decoder stands, and what it may open.
+    ghost reader: { Reader Self };
+
+    /// The codec's name.
+    fn codec(&self) -> Codec;
+
+    /// How many scopes may still be opened in one another.
+    fn depth(&self) -> usize
+        ensures { result ≡ reader.allowance self.now };
+
+    /// The allocator, with which a type makes its constraints and its values.
+    fn global(&self) -> Global;
+
+    /// Makes the decoder failed, and answers the error. For an error of a type inside what is read.
+    fn refuse(&mut self, error: DecodeError) -> DecodeError
+        ensures same { result ≡ error }
+        ensures failing { reader.failed self.new ≡ true };
+
+    /// A BOOLEAN.
+    fn decode_bool(&mut self, tag: Tag) -> Result<bool, DecodeError>
+        ensures read { ReadsContent reader self.old self.new tag unconstrained truth (λ _. ⊤) (λ w v. w ≡ v) result }
+        ensures stays { Stays reader self.old self.new result };
+
+    /// A NULL.
+    fn decode_null(&mut self, tag: Tag) -> Result<(), DecodeError>
+        ensures read { ReadsContent reader self.old self.new tag unconstrained (λ _. null) (λ _. ⊤) (λ w v. w ≡ v) result }
+        ensures stays { Stays reader self.old self.new result };
+
+    /// A value of an ENUMERATED type. Its content is its number, which some codecs know by the name of the item, or by its
+    /// place in the tables of `E`.
+    fn decode_enumerated<E: Enumerated>(&mut self, tag: Tag) -> Result<E, DecodeError>
+        ensures read { ReadsContent reader self.old self.new tag unconstrained (λ v. discriminant (number_of E.eq E.enumeration v)) (λ _. ⊤) (λ w v. w ≡ v) result }
+        ensures stays { Stays reader self.old self.new result };
+
+    /// An OBJECT IDENTIFIER.
+    fn decode_object_identifier(&mut self, tag: Tag) -> Result<ObjectIdentifier, DecodeError>
+        ensures read { ReadsContent reader self.old self.new tag unconstrained arcs (All (λ arc. arc < 2 ^ 32)) (λ w v. w ≡ v) result }
+        ensures stays { Stays reader self.old self.new result };
+
+    /// An INTEGER, as a value of any type of whole numbers that has it.
+    fn decode_integer<I: IntegerType>(
+        &mut self,
+        tag: Tag,
+        constraints: &Constraints<'_>,
+    ) -> Result<I, DecodeError>
+        ensures read { ReadsContent reader self.old self.new tag (constraint_set constraints.now) number I.fits (λ w z. I.number w ≡ z) result }
+        ensures stays { Stays reader self.old self.new result };
+
+    /// A BIT STRING.
+    fn decode_bit_string(
+        &mut self,
+        tag: Tag,
+        constraints: &Constraints<'_>,
+    ) -> Result<BitString, DecodeError>
+        ensures read { ReadsContent reader self.old self.new tag (constraint_set constraints.now) bits (λ _. ⊤) (λ w v. w ≡ v) result }
+        ensures stays { Stays reader self.old self.new result };
+
+    /// An OCTET STRING.
+    fn decode_octet_string(
+        &mut self,
+        tag: Tag,
+        constraints: &Constraints<'_>,
+    ) -> Result<Vec<u8>, DecodeError>
+        ensures read { ReadsContent reader self.old self.new tag (constraint_set constraints.now) (units octet) (All (λ unit. unit < 2 ^ 8)) (λ w v. w.items ≡ v) result }
+        ensures stays { Stays reader self.old self.new result };
+
+    /// A UTF8String.
+    fn decode_utf8_string(
+        &mut self,
+        tag: Tag,
+        constraints: &Constraints<'_>,
+    ) -> Result<String, DecodeError>
+        ensures read { ReadsContent reader self.old self.new tag (constraint_set constraints.now) (units utf8) IsUtf8 (λ w v. string_bytes w ≡ v) result }
+        ensures stays { Stays reader self.old self.new result };
+
+    /// A GeneralString.
+    fn decode_general_string(
+        &mut self,
+        tag: Tag,
+        constraints: &Constraints<'_>,
+    ) -> Result<GeneralString, DecodeError>
+        ensures read { ReadsContent reader self.old self.new tag (constraint_set constraints.now) (units general) (All (λ unit. unit < 2 ^ 8)) (λ w v. w ≡ v) result }
+        ensures stays { Stays reader self.old self.new result };
+
+    /// A GraphicString.
+    fn decode_graphic_string(
+        &mut self,
+        tag: Tag,
+        constraints: &Constraints<'_>,
+    ) -> Result<GraphicString, DecodeError>
+        ensures read { ReadsContent reader self.old self.new tag (constraint_set constraints.now) (units graphic) (All (λ unit. unit < 2 ^ 8)) (λ w v. w ≡ v) result }
+        ensures stays { Stays reader self.old self.new result };
+
+    /// A VisibleString.
+    fn decode_visible_string(
+        &mut self,
+        tag: Tag,
+        constraints: &Constraints<'_>,
+    ) -> Result<VisibleString, DecodeError>
+        ensures read { ReadsContent reader self.old self.new tag (constraint_set constraints.now) (units visible) (All (λ unit. IsTrue (is_visible unit))) (λ w v. w ≡ v) result }
+        ensures stays { Stays reader self.old self.new result };
+
+    /// An IA5String.
+    fn decode_ia5_string(
+        &mut self,
+        tag: Tag,
+        constraints: &Constraints<'_>,
+    ) -> Result<Ia5String, DecodeError>
+        ensures read { ReadsContent reader self.old self.new tag (constraint_set constraints.now) (units ia5) (All (λ unit. IsTrue (is_ia5 unit))) (λ w v. w ≡ v) result }
+        ensures stays { Stays reader self.old self.new result };
+
+    /// A PrintableString.
+    fn decode_printable_string(
+        &mut self,
+        tag: Tag,
+        constraints: &Constraints<'_>,
+    ) -> Result<PrintableString, DecodeError>
+        ensures read { ReadsContent reader self.old self.new tag (constraint_set constraints.now) (units printable) (All (λ unit. IsTrue (is_printable unit))) (λ w v. w ≡ v) result }
+        ensures stays { Stays reader self.old self.new result };
+
+    /// A NumericString.
+    fn decode_numeric_string(
+        &mut self,
+        tag: Tag,
+        constraints: &Constraints<'_>,
+    ) -> Result<NumericString, DecodeError>
+        ensures read { ReadsContent reader self.old self.new tag (constraint_set constraints.now) (units numeric) (All (λ unit. IsTrue (is_numeric unit))) (λ w v. w ≡ v) result }
+        ensures stays { Stays reader self.old self.new result };
+
+    /// A TeletexString.
+    fn decode_teletex_string(
+        &mut self,
+        tag: Tag,
+        constraints: &Constraints<'_>,
+    ) -> Result<TeletexString, DecodeError>
+        ensures read { ReadsContent reader self.old self.new tag (constraint_set constraints.now) (units teletex) (All (λ unit. unit < 2 ^ 32)) (λ w v. w ≡ v) result }
+        ensures stays { Stays reader self.old self.new result };
+
+    /// A BMPString.
+    fn decode_bmp_string(
+        &mut self,
+        tag: Tag,
+        constraints: &Constraints<'_>,
+    ) -> Result<BmpString, DecodeError>
+        ensures read { ReadsContent reader self.old self.new tag (constraint_set constraints.now) (units bmp) (All (λ unit. unit < 2 ^ 16)) (λ w v. w ≡ v) result }
+        ensures stays { Stays reader self.old self.new result };
+
+    /// A value of an open type, by its bytes, under whatever tag.
+    fn decode_any(&mut self, tag: Tag) -> Result<Any, DecodeError>
+        ensures read { (bytes : List ℕ) (n : Name) (rest : List Record) (outer : Ahead) → IsTrue (reader.takes bytes) → ReadsBack reader self.old self.new (raw n bytes ∷ []) rest outer (λ w. w ≡ bytes) result }
+        ensures stays { Stays reader self.old self.new result };
+
+    /// Whether the component of the root is there that is written under this tag, and begins with a tag of the tree. A codec
+    /// without presence marks looks at the next tag.
+    fn presence(&mut self, tag: Tag, tree: TagTree<'static>) -> Result<bool, DecodeError>
+        ensures read { TellsPresence reader self.old self.new (present tag) (absent tag) (tree_tags (shape tree.entry)) result }
+        ensures stays { Stays reader self.old self.new result };
+
+    /// The same of an addition, which some codecs write in another way.
+    fn addition_presence(&mut self, tag: Tag, tree: TagTree<'static>) -> Result<bool, DecodeError>
+        ensures read { TellsPresence reader self.old self.new (present tag) (absent tag) (tree_tags (shape tree.entry)) result }
+        ensures stays { Stays reader self.old self.new result };
+
+    /// Whether the group of additions is there whose components are those of the table of `C`. If it is, the decoder then stands
+    /// before its components. A group is no scope, and takes nothing from the allowance.
+    fn open_group<C: FieldTable>(&mut self) -> Result<bool, DecodeError>
+        ensures read { TellsPresence reader self.old self.new group_start group_absent (tree_tags (choice (trees_of (all_components C.components)))) result }
+        ensures stays { Stays reader self.old self.new result };
+
+    /// Closes a group of which all components were read.
+    fn close_group(&mut self) -> Result<(), DecodeError>
+        ensures read { (rest : List Record) (outer : Ahead) → Moves reader self.old self.new 0 ((mark group_end ∷ rest) ∷ outer) (rest ∷ outer) (λ _. ⊤) result }
+        ensures stays { Stays reader self.old self.new result };
+
+    /// Opens a SEQUENCE, whose components are those of the table of `C`.
+    fn open_sequence<C: FieldTable>(&mut self, tag: Tag) -> Result<(), DecodeError>
+        ensures read { Opens reader self.old self.new (sequence tag) (λ _ _. ⊤) result }
+        ensures enters { Enters reader self.old self.new result };
+
+    /// Opens a SET, whose components are those of the table of `C`, and stand in any order. Answers a bound on the number of its
+    /// records.
+    fn open_set<C: FieldTable>(&mut self, tag: Tag) -> Result<usize, DecodeError>
+        ensures read { OpensSet reader self.old self.new (set tag) (λ items bound. records_in items ≤ bound) result }
+        ensures enters { Enters reader self.old self.new result };
+
+    /// The tag with which the next record of a SET begins, if one is left. Presence marks before it are passed over.
+    fn next_component(&mut self) -> Result<Option<Tag>, DecodeError>
+        ensures read { (items : List Record) (outer : Ahead) → Moves reader self.old self.new 0 (items ∷ outer) (marks_passed items ∷ outer) (IsNextTag items) result }
+        ensures stays { Stays reader self.old self.new result };
+
+    /// Opens a SEQUENCE OF, and answers a bound on the number of its elements.
+    fn open_sequence_of(
+        &mut self,
+        tag: Tag,
+        constraints: &Constraints<'_>,
+    ) -> Result<usize, DecodeError>
+        ensures read { Opens reader self.old self.new (sequence_of tag (constraint_set constraints.now)) (λ items bound. records_in items ≤ bound) result }
+        ensures enters { Enters reader self.old self.new result };
+
+    /// Opens a SET OF, whose elements stand in any order, and answers a bound on their number.
+    fn open_set_of(&mut self, tag: Tag, constraints: &Constraints<'_>) -> Result<usize, DecodeError>
+        ensures read { OpensSet reader self.old self.new (set_of tag (constraint_set constraints.now)) (λ items bound. records_in items ≤ bound) result }
+        ensures enters { Enters reader self.old self.new result };
+
+    /// Opens what follows an explicit tag.
+    fn open_explicit_prefix(&mut self, tag: Tag) -> Result<(), DecodeError>
+        ensures read { Opens reader self.old self.new (prefix tag) (λ _ _. ⊤) result }
+        ensures enters { Enters reader self.old self.new result };
+
+    /// Opens a CHOICE, whose alternatives are those of `T`, and answers the tag of the chosen one.
+    fn open_choice<T: Choice>(&mut self, constraints: &Constraints<'_>) -> Result<Tag, DecodeError>
+        ensures read { (chosen : Tag) → Opens reader self.old self.new (alternative chosen (constraint_set constraints.now)) (λ _ tag. tag ≡ chosen) result }
+        ensures enters { Enters reader self.old self.new result };
+
+    /// Whether a record is left in the innermost scope. Reads nothing.
+    fn more(&mut self) -> Result<bool, DecodeError>
+        ensures read { TellsMore reader self.old self.new result }
+        ensures stays { Stays reader self.old self.new result };
+
+    /// Closes the innermost scope, of which all was read.
+    fn close(&mut self) -> Result<(), DecodeError>
+        ensures read { (rest : List Record) (outer : Ahead) → Moves reader self.old self.new 0 ([] ∷ rest ∷ outer) (rest ∷ outer) (λ _. ⊤) result }
+        ensures leaves { Leaves reader self.old self.new result };
+
+    // The law of a codec.
+    ghost lawful: { IsLawful reader };
+}

@@ -1,0 +1,10 @@
+//! Reading: a value of a type of ASN.1, from a codec.
+#![tactic(auto, using(asn1_tags::proofs::Leaves::tree_shapes))]
+
+mod decoder;
+mod error;
+mod needed;
+
+pub use decoder::Decoder;
+pub use error::DecodeError;
+pub use needed::Needed;
