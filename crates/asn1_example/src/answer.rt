@@ -5,7 +5,10 @@ ghost use Rattle.std.specs.Prelude.{◌≡◌, [], ◌∷◌, Some, pos, codes};
 ghost use Rattle.asn1_types.specs.Words.{context, untagged, tagged, inl, inr, alternative, closed_choice, choice_of, choice_agrees, CanStandInside, own_records, holding, alternative_head, scalar, number, unconstrained, values_of, Range};
 ghost use Rattle.asn1_example.specs.declared.answer.Answer.TheVariants.{Accepted, Refused};
 
-use asn1_types::{AsnType, Choice, ChoiceType, Class, Identifier, Tag, TagTree, TypeTable};
+use asn1_enc::{Encode, EncodeChoice, EncodeError, Encoder};
+use asn1_types::{
+    AsnType, Choice, ChoiceType, Class, Constraints, Identifier, Tag, TagTree, TypeTable,
+};
 
 /// The answer to an order.
 #[derive(Drop)]
@@ -63,6 +66,34 @@ impl ChoiceType for Answer {
 pub fn answer_can_stand_inside()
     ensures { CanStandInside ⟦<Answer as AsnType>⟧.meaning }
 {}
+
+impl Encode for Answer {
+    fn encode_with_tag_and_constraints<E: Encoder>(
+        &self,
+        encoder: &mut E,
+        tag: Tag,
+        constraints: &Constraints<'_>,
+        name: Identifier,
+    ) -> Result<(), EncodeError> {
+        encoder.encode_choice_with_tag(tag, constraints, self, name)
+    }
+}
+
+impl EncodeChoice for Answer {
+    fn chosen_tag(&self) -> Tag {
+        match self {
+            Answer::Accepted(_) => Tag::INTEGER,
+            Answer::Refused(_) => REFUSED,
+        }
+    }
+
+    fn encode_alternative<E: Encoder>(&self, encoder: &mut E) -> Result<(), EncodeError> {
+        match self {
+            Answer::Accepted(order) => order.encode(encoder),
+            Answer::Refused(reason) => reason.encode_with_tag(encoder, REFUSED),
+        }
+    }
+}
 
 /// What `Answer::Refused(7)` is to every codec.
 pub fn answer_records(answer: &Answer)

@@ -3,9 +3,10 @@ ghost use Rattle.std.specs.Prelude.{[], ◌∷◌, pos, codes, refl};
 ghost use Rattle.asn1_types.specs.Words.{item, by_test, extensible_enumeration, enumeration_type, enumeration_agrees, CanStandInside};
 ghost use Rattle.asn1_example.specs.declared.color.Color.TheVariants.{Red, Green, Blue};
 
+use asn1_enc::{Encode, EncodeError, Encoder};
 use asn1_enumerations::item;
 use asn1_types::{
-    AsnType, Enumerated, EnumeratedType, EnumerationItem, Identifier, Tag, TypeTable,
+    AsnType, Constraints, Enumerated, EnumeratedType, EnumerationItem, Identifier, Tag, TypeTable,
 };
 
 /// One of three colors.
@@ -64,3 +65,15 @@ impl EnumeratedType for Color {
 pub fn color_can_stand_inside()
     ensures { CanStandInside ⟦<Color as AsnType>⟧.meaning }
 {}
+
+impl Encode for Color {
+    fn encode_with_tag_and_constraints<E: Encoder>(
+        &self,
+        encoder: &mut E,
+        tag: Tag,
+        _constraints: &Constraints<'_>,
+        name: Identifier,
+    ) -> Result<(), EncodeError> {
+        encoder.encode_enumerated(tag, self, name)
+    }
+}

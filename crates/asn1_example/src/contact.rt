@@ -3,7 +3,10 @@ ghost use Rattle.std.specs.Prelude.{◌≡◌, [], ◌∷◌, Some, true, pos, c
 ghost use Rattle.std.specs.String.{string_bytes};
 ghost use Rattle.asn1_types.specs.Words.{context, universal, tagged, explicitly_tagged, required, optional, sequence, constructed_type, constructed_agrees, CanStandInside, own_records, holding, scalar, mark, present, prefix, sequence_head, number, units, utf8, truth, unconstrained, values_of, Range};
 
-use asn1_types::{AsnType, ConstructedType, Field, FieldTable, Identifier, Tag, TypeTable};
+use asn1_enc::{Encode, EncodeError, EncodeFields, Encoder};
+use asn1_types::{
+    AsnType, Constraints, ConstructedType, Field, FieldTable, Identifier, Tag, TypeTable,
+};
 
 /// Whom to tell, and whether at once.
 #[derive(Drop)]
@@ -56,6 +59,36 @@ impl ConstructedType for Contact {
 pub fn contact_can_stand_inside()
     ensures { CanStandInside ⟦<Contact as AsnType>⟧.meaning }
 {}
+
+impl Encode for Contact {
+    fn encode_with_tag_and_constraints<E: Encoder>(
+        &self,
+        encoder: &mut E,
+        tag: Tag,
+        _constraints: &Constraints<'_>,
+        name: Identifier,
+    ) -> Result<(), EncodeError> {
+        encoder.encode_sequence(tag, self, name)
+    }
+}
+
+impl EncodeFields for Contact {
+    fn encode_field<E: Encoder>(&self, place: usize, encoder: &mut E) -> Result<(), EncodeError> {
+        match place {
+            0 => self.id.encode_with_tag(encoder, Tag::new_context(0)),
+            1 => match &self.urgent {
+                None => encoder.encode_none_with_tag(Tag::new_context(1), bool::identifier()),
+                Some(urgent) => encoder.encode_some_with_explicit_prefix(
+                    Tag::new_context(1),
+                    urgent,
+                    bool::identifier(),
+                ),
+            },
+            2 => self.name.encode_with_tag(encoder, Tag::new_context(2)),
+            _ => Ok(()),
+        }
+    }
+}
 
 /// What `Contact { id: 7, urgent: Some(true), name: "Ann" }` is to every codec.
 pub fn contact_records(contact: &Contact)

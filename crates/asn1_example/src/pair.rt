@@ -2,7 +2,10 @@
 ghost use Rattle.std.specs.Prelude.{[], ◌∷◌, codes};
 ghost use Rattle.asn1_types.specs.Words.{context, tagged, untagged, required, optional, sequence, constructed_type, constructed_agrees, CanStandInside, CanStandInsideUnder};
 
-use asn1_types::{AsnType, ConstructedType, Field, FieldTable, Identifier, Tag, TypeTable};
+use asn1_enc::{Encode, EncodeError, EncodeFields, Encoder};
+use asn1_types::{
+    AsnType, Constraints, ConstructedType, Field, FieldTable, Identifier, Tag, TypeTable,
+};
 
 /// A value of one type, and perhaps one of another.
 #[derive(Drop)]
@@ -53,3 +56,25 @@ pub fn pair_can_stand_inside<T: AsnType, U: AsnType>()
     ensures { CanStandInside T.meaning → CanStandInsideUnder U.meaning (context 0) →
         CanStandInside ⟦<Pair<T, U> as AsnType>⟧.meaning }
 {}
+
+impl<T: Encode, U: Encode> Encode for Pair<T, U> {
+    fn encode_with_tag_and_constraints<E: Encoder>(
+        &self,
+        encoder: &mut E,
+        tag: Tag,
+        _constraints: &Constraints<'_>,
+        name: Identifier,
+    ) -> Result<(), EncodeError> {
+        encoder.encode_sequence(tag, self, name)
+    }
+}
+
+impl<T: Encode, U: Encode> EncodeFields for Pair<T, U> {
+    fn encode_field<E: Encoder>(&self, place: usize, encoder: &mut E) -> Result<(), EncodeError> {
+        match place {
+            0 => self.first.encode(encoder),
+            1 => self.second.encode_with_tag(encoder, Tag::new_context(0)),
+            _ => Ok(()),
+        }
+    }
+}
