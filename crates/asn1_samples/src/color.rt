@@ -1,13 +1,12 @@
 //! `Color ::= ENUMERATED { red(0), green(1), ..., blue(5) }`
-ghost use Rattle.std.specs.Prelude.{[], ◌∷◌, pos, codes, refl};
-ghost use Rattle.asn1_types.specs.Words.{item, by_test, extensible_enumeration, enumeration_type, enumeration_agrees, CanStandInside};
+ghost use Rattle.std.specs.Prelude.{◌≡◌, [], ◌∷◌, Some, pos, codes, refl};
+ghost use Rattle.asn1_types.specs.Words.{universal, item, by_test, extensible_enumeration, enumeration_type, enumeration_agrees, CanStandInside, own_records, scalar, discriminant, unconstrained};
 ghost use Rattle.asn1_samples.specs.declared.color.Color.TheVariants.{Red, Green, Blue};
 
-use asn1_bounds::Constraints;
 use asn1_enc::{Encode, EncodeError, Encoder};
 use asn1_enumerations::item;
 use asn1_types::{
-    AsnType, Enumerated, EnumeratedType, EnumerationItem, Identifier, Tag, TypeTable,
+    AsnType, Constraints, Enumerated, EnumeratedType, EnumerationItem, Identifier, Tag, TypeTable,
 };
 
 /// One of three colors.
@@ -62,7 +61,7 @@ impl EnumeratedType for Color {
     ghost agrees = { enumeration_agrees };
 }
 
-/// It can be a component or an alternative of another type.
+/// A `Color` can be inside other types.
 pub fn color_can_stand_inside()
     ensures { CanStandInside ⟦<Color as AsnType>⟧.meaning }
 {}
@@ -78,3 +77,10 @@ impl Encode for Color {
         encoder.encode_enumerated(tag, self, name)
     }
 }
+
+/// What `Color::Blue` is to every codec.
+pub fn color_records(color: Color)
+    ensures { color ≡ Blue →
+        own_records ⟦<Color as AsnType>⟧.meaning color ≡
+        scalar (universal 10) unconstrained (Some (codes "Color")) (discriminant (pos 5)) ∷ [] }
+{}

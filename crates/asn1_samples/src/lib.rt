@@ -1,33 +1,58 @@
-//! Sample types, which are written: types that a codec has trouble with, and one of each kind.
+//! Sample types, which are written: one of each kind, and those that a codec has trouble with.
 //!
 //! | Type | What it is |
 //! |---|---|
-//! | [`Node`] | a SEQUENCE that holds itself |
-//! | [`Profile`], [`Reach`] | a SEQUENCE with an option, an explicit tag, a default and a group of additions |
-//! | [`Shape`] | a CHOICE |
+//! | [`Person`] | a SEQUENCE of two components |
+//! | [`Profile`], [`Contact`] | a SEQUENCE with an option, a default and a group of additions |
+//! | [`Badge`] | a SET |
+//! | [`Shape`], [`Corner`] | a CHOICE, and one that is an alternative of it without a tag |
 //! | [`Color`] | an ENUMERATED with an extension marker |
+//! | [`Node`] | a SEQUENCE that holds itself |
+//! | [`Envelope`] | a SEQUENCE with an open type |
+//! | [`Labelled`] | a SEQUENCE that is compared by one of its components |
+//! | [`Settings`] | a SEQUENCE whose default is such a value |
+//! | [`Plate`] | a string with a permitted alphabet |
 //!
-//! No other crate uses this one. It is the test of the traits of the crates below: a change of these can leave each of their
-//! own proofs whole, and yet shut out a type that holds itself, or one whose components are written by their places. Then
-//! this crate is not proved any more. The prover wants a type that holds itself and its writer in one crate, so both are here.
+//! What the contracts promise:
 //!
-//! - Each type states its components, alternatives or items once, and its tables, meaning and writer by that list: a line
-//!   for each component (`encode_field`) or alternative (`encode_alternative`), and no proof.
+//! - Each type states its components, alternatives or items once, and its tables, meaning and writer are proved to say the
+//!   same. The writer has a line for each component (`encode_field`) or alternative (`encode_alternative`), and no proof.
+//! - Each can be inside other types: `person_can_stand_inside` and its kin.
+//! - The records of some values are written out: `person_records` and its kin. `profile_is_valid` and `envelope_is_valid` say
+//!   which values are valid.
+//! - [`laws`] says when two values are equal.
 //! - A type that holds itself states its components by what is inside a value. `specs/NodeComponents.antt` has the form: the
-//!   records follow by a fold, and what a value has by its type is said of all labels inside it.
-//! - Each can be inside other types: `node_can_stand_inside` and its kin.
+//!   records follow by a fold, and what a value has by its type is said of all labels inside it. The prover wants such a type
+//!   and its writer in one crate.
 //!
-//! A call takes memory only where a codec does.
+//! A call takes memory only where a codec does, and for the alphabet of a `Plate`.
 #![tactic(auto, using(asn1_tags::proofs::Leaves::tree_shapes))]
 
+mod badge;
 mod color;
+mod contact;
+mod corner;
+mod envelope;
+mod labelled;
+pub mod laws;
 mod node;
+mod person;
+mod plate;
 mod profile;
+mod settings;
 mod shape;
 #[cfg(test)]
 mod tests;
 
-pub use color::{Color, color_can_stand_inside};
-pub use node::{Node, node_can_stand_inside};
-pub use profile::{Profile, Reach, profile_can_stand_inside};
-pub use shape::{Shape, shape_can_stand_inside};
+pub use badge::{Badge, badge_can_stand_inside, badge_records, badge_table_is_canonical};
+pub use color::{Color, color_can_stand_inside, color_records};
+pub use contact::Contact;
+pub use corner::{Corner, corner_can_stand_inside, corner_records};
+pub use envelope::{Envelope, envelope_can_stand_inside, envelope_is_valid, envelope_records};
+pub use labelled::{Labelled, labelled_can_stand_inside, labelled_records};
+pub use node::{Node, node_can_stand_inside, node_records};
+pub use person::{Person, person_can_stand_inside, person_records};
+pub use plate::{Plate, plate_can_stand_inside, plate_records};
+pub use profile::{Profile, profile_can_stand_inside, profile_is_valid, profile_records};
+pub use settings::{Settings, settings_can_stand_inside, settings_records};
+pub use shape::{Shape, shape_can_stand_inside, shape_records};

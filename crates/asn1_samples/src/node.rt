@@ -1,20 +1,22 @@
-//! `Node ::= SEQUENCE { label UTF8String OPTIONAL, children SEQUENCE OF Node }`.
-ghost use Rattle.asn1_model.specs.Meaning.{CanStandInside};
+//! `Node ::= SEQUENCE { label UTF8String OPTIONAL, children SEQUENCE OF Node }`
+ghost use Rattle.std.specs.Prelude.{◌≡◌, [], ◌∷◌, None, Some, codes};
+ghost use Rattle.std.specs.String.{string_bytes};
+ghost use Rattle.asn1_types.specs.Words.{universal, CanStandInside, own_records, holding, sequence_head, sequence_of, scalar, mark, absent, present, units, utf8, unconstrained};
 ghost use Rattle.asn1_samples.specs.NodeComponents.{node_components, node_agrees, node_meaning};
+ghost use Rattle.asn1_samples.specs.declared.node.Node.{out-Node};
 
-use asn1_bounds::Constraints;
-use asn1_components::{ConstructedType, FieldTable};
 use asn1_enc::{Encode, EncodeError, EncodeFields, Encoder};
-use asn1_fields::Field;
-use asn1_model::{AsnType, TypeTable};
-use asn1_tags::{Identifier, Tag};
+use asn1_types::{
+    AsnType, Constraints, ConstructedType, Field, FieldTable, Identifier, Tag, TypeTable,
+};
+use asn1_values::Utf8String;
 
 /// A tree of labels: a type that holds itself.
 #[derive(Drop)]
 pub struct Node {
-    /// Its own label.
-    pub label: Option<String>,
-    /// The nodes below it.
+    /// `label UTF8String OPTIONAL`
+    pub label: Option<Utf8String>,
+    /// `children SEQUENCE OF Node`
     pub children: Vec<Node>,
 }
 
@@ -27,7 +29,7 @@ impl FieldTable for Node {
 
     fn field_at(place: usize) -> Option<Field<'static>> {
         match place {
-            0 => Some(Field::new_optional_type::<String>(0, "label")),
+            0 => Some(Field::new_optional_type::<Utf8String>(0, "label")),
             1 => Some(Field::new_required_type::<Vec<Node>>(1, "children")),
             _ => None,
         }
@@ -78,3 +80,17 @@ impl EncodeFields for Node {
         }
     }
 }
+
+/// What `Node { label: None, children: [Node { label: Some(label), children: [] }] }` is to every codec.
+pub fn node_records(parent: &Node, child: &Node, label: &Utf8String)
+    ensures { (out-Node parent.now).label ≡ None → (out-Node parent.now).children.items ≡ child.now ∷ [] →
+        (out-Node child.now).label ≡ Some label.now → (out-Node child.now).children.items ≡ [] →
+        own_records ⟦<Node as AsnType>⟧.meaning parent.now ≡
+        holding (sequence_head (universal 16) (Some (codes "Node"))) (
+        mark (absent (universal 12)) ∷
+        holding (sequence_of (universal 16) unconstrained (Some (codes "SEQUENCE_OF"))) (
+        holding (sequence_head (universal 16) (Some (codes "Node"))) (
+        mark (present (universal 12)) ∷
+        scalar (universal 12) unconstrained (Some (codes "UTF8String")) (units utf8 (string_bytes label.now)) ∷
+        holding (sequence_of (universal 16) unconstrained (Some (codes "SEQUENCE_OF"))) [] ∷ []) ∷ []) ∷ []) ∷ [] }
+{}

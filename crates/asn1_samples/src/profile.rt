@@ -1,112 +1,46 @@
-//! A SEQUENCE with a component of each kind.
+//! A SEQUENCE with an option, a default, and a group of additions after an extension marker.
 //!
 //! ```text
 //! Profile ::= SEQUENCE {
 //!     nick  [0] UTF8String OPTIONAL,
-//!     level [1] EXPLICIT INTEGER (0..255),
-//!     loud  [2] BOOLEAN DEFAULT FALSE,
+//!     level [1] INTEGER (0..255),
+//!     color [2] Color DEFAULT red,
 //!     ...,
-//!     [[ phone [3] UTF8String OPTIONAL, mail [4] UTF8String OPTIONAL ]]
+//!     [[ phone [3] NumericString OPTIONAL, mail [4] IA5String OPTIONAL ]]
 //! }
 //! ```
-ghost use Rattle.std.specs.Prelude.{◌≡◌, [], ◌∷◌, codes, not};
-ghost use Rattle.asn1_components.specs.Components.{constructed_type, extensible_sequence, group, constructed_agrees, sequence};
-ghost use Rattle.asn1_components.specs.ComponentTypes.{optional, required, with_default};
-ghost use Rattle.asn1_model.specs.Meaning.{CanStandInside};
-ghost use Rattle.asn1_model.specs.TaggedTypes.{explicitly_tagged, tagged};
-ghost use Rattle.asn1_model.specs.Tags.{context};
-ghost use Rattle.asn1_tags.specs.Trees.{choice, shape, shapes};
+ghost use Rattle.std.specs.Prelude.{◌≡◌, ℕ, Bool, List, [], ◌∷◌, None, Some, pos, codes};
+ghost use Rattle.std.specs.String.{string_bytes};
+ghost use Rattle.asn1_types.specs.Words.{context, universal, tagged, required, optional, with_default, extensible_sequence, group, constructed_type, constructed_agrees, CanStandInside, own_records, holding, sequence_head, scalar, mark, absent, present, group_start, group_end, group_absent, number, discriminant, units, utf8, ia5, unconstrained, values_of, Range};
+ghost use Rattle.asn1_samples.specs.declared.color.Color.TheVariants.{Red, Blue};
 
-use asn1_bounds::Constraints;
-use asn1_components::{ConstructedType, FieldTable};
+use crate::color::Color;
+use crate::contact::{CONTACT, Contact};
 use asn1_enc::{Encode, EncodeError, EncodeFields, Encoder};
-use asn1_fields::Field;
-use asn1_model::{AsnType, TypeTable};
-use asn1_tags::{Class, Identifier, Tag, TagTree};
-
-const NICK: Tag = Tag {
-    class: Class::Context,
-    value: 0,
+use asn1_types::{
+    AsnType, Constraints, ConstructedType, Field, FieldTable, Identifier, Tag, TypeTable,
 };
+use asn1_values::{Ia5String, Utf8String};
 
-const LEVEL: Tag = Tag {
-    class: Class::Context,
-    value: 1,
-};
-
-const LOUD: Tag = Tag {
-    class: Class::Context,
-    value: 2,
-};
-
-const PHONE: Tag = Tag {
-    class: Class::Context,
-    value: 3,
-};
-
-const MAIL: Tag = Tag {
-    class: Class::Context,
-    value: 4,
-};
-
-const REACH: &[TagTree<'static>] = &[TagTree::Leaf(PHONE), TagTree::Leaf(MAIL)];
-
-/// How someone calls themselves.
-#[derive(Drop)]
+/// What is known of someone.
+#[derive(PartialEq, Eq, Debug, Drop)]
 pub struct Profile {
-    /// A short name.
-    pub nick: Option<String>,
-    /// How much they may do.
+    /// `nick [0] UTF8String OPTIONAL`
+    pub nick: Option<Utf8String>,
+    /// `level [1] INTEGER (0..255)`
     pub level: u8,
-    /// Whether they are told of all news.
-    pub loud: bool,
-    /// An addition.
-    pub reach: Option<Reach>,
-}
-
-/// How to reach them: a group of additions.
-#[derive(Drop)]
-pub struct Reach {
-    /// A telephone number.
-    pub phone: Option<String>,
-    /// An address for mail.
-    pub mail: Option<String>,
-}
-
-impl FieldTable for Reach {
-    ghost components = { sequence (
-        optional (codes "phone") (λ r. r.phone) (tagged (context 3) ⟦<String as AsnType>⟧.meaning) ∷
-        optional (codes "mail") (λ r. r.mail) (tagged (context 4) ⟦<String as AsnType>⟧.meaning) ∷ []) };
-
-    fn field_count() -> usize {
-        2
-    }
-
-    fn field_at(place: usize) -> Option<Field<'static>> {
-        match place {
-            0 => Some(Field::new_optional(0, PHONE, TagTree::Leaf(PHONE), "phone")),
-            1 => Some(Field::new_optional(1, MAIL, TagTree::Leaf(MAIL), "mail")),
-            _ => None,
-        }
-    }
-}
-
-impl EncodeFields for Reach {
-    fn encode_field<E: Encoder>(&self, place: usize, encoder: &mut E) -> Result<(), EncodeError> {
-        match place {
-            0 => self.phone.encode_with_tag(encoder, PHONE),
-            1 => self.mail.encode_with_tag(encoder, MAIL),
-            _ => Ok(()),
-        }
-    }
+    /// `color [2] Color DEFAULT red`
+    pub color: Color,
+    /// The group of additions.
+    pub contact: Option<Contact>,
 }
 
 impl FieldTable for Profile {
     ghost components = { extensible_sequence (
-        optional (codes "nick") (λ p. p.nick) (tagged (context 0) ⟦<String as AsnType>⟧.meaning) ∷
-        required (codes "level") (λ p. p.level) (explicitly_tagged (context 1) ⟦<u8 as AsnType>⟧.meaning) ∷
-        with_default (codes "loud") (λ p. p.loud) (λ p. not p.loud) (tagged (context 2) ⟦<bool as AsnType>⟧.meaning) ∷ []) (
-        group (codes "reach") (λ p. p.reach) ⟦<Reach as FieldTable>⟧.components ∷ []) };
+        optional (codes "nick") (λ p. p.nick) (tagged (context 0) ⟦<Utf8String as AsnType>⟧.meaning) ∷
+        required (codes "level") (λ p. p.level) (tagged (context 1) ⟦<u8 as AsnType>⟧.meaning) ∷
+        with_default (codes "color") (λ p. p.color) (λ p. ⟦<Color as PartialEq>⟧.eq p.color Red) (tagged (context 2) ⟦<Color as AsnType>⟧.meaning) ∷ []) (
+        group (codes "contact") (λ p. p.contact) ⟦<Contact as FieldTable>⟧.components ∷ []) };
 
     fn field_count() -> usize {
         4
@@ -114,10 +48,14 @@ impl FieldTable for Profile {
 
     fn field_at(place: usize) -> Option<Field<'static>> {
         match place {
-            0 => Some(Field::new_optional(0, NICK, TagTree::Leaf(NICK), "nick")),
-            1 => Some(Field::new_required(1, LEVEL, TagTree::Leaf(LEVEL), "level")),
-            2 => Some(Field::new_default(2, LOUD, TagTree::Leaf(LOUD), "loud")),
-            3 => Some(Field::new_optional(3, Tag::CHOICE, group_tree(REACH), "reach")),
+            0 => Some(Field::new_optional_type_with_tag::<Utf8String>(
+                0,
+                Tag::new_context(0),
+                "nick",
+            )),
+            1 => Some(Field::new_required_type_with_tag::<u8>(1, Tag::new_context(1), "level")),
+            2 => Some(Field::new_default_type_with_tag::<Color>(2, Tag::new_context(2), "color")),
+            3 => Some(Field::new_group(3, CONTACT, "contact")),
             _ => None,
         }
     }
@@ -139,6 +77,11 @@ impl ConstructedType for Profile {
     ghost agrees = { constructed_agrees };
 }
 
+/// A `Profile` can be inside other types: its tags are distinct, with those of the group.
+pub fn profile_can_stand_inside()
+    ensures { CanStandInside ⟦<Profile as AsnType>⟧.meaning }
+{}
+
 impl Encode for Profile {
     fn encode_with_tag_and_constraints<E: Encoder>(
         &self,
@@ -154,28 +97,59 @@ impl Encode for Profile {
 impl EncodeFields for Profile {
     fn encode_field<E: Encoder>(&self, place: usize, encoder: &mut E) -> Result<(), EncodeError> {
         match place {
-            0 => self.nick.encode_with_tag(encoder, NICK),
-            1 => encoder.encode_explicit_prefix(LEVEL, &self.level, u8::identifier()),
+            0 => self.nick.encode_with_tag(encoder, Tag::new_context(0)),
+            1 => self.level.encode_with_tag(encoder, Tag::new_context(1)),
             2 => encoder.encode_default_with_tag(
-                LOUD,
-                &self.loud,
-                |_| Ok(false),
-                bool::identifier(),
+                Tag::new_context(2),
+                &self.color,
+                |_| Ok(Color::Red),
+                Color::identifier(),
             ),
-            3 => encoder.encode_extension_addition_group(self.reach.as_ref(), Identifier::EMPTY),
+            3 => encoder.encode_extension_addition_group(self.contact.as_ref(), Identifier::EMPTY),
             _ => Ok(()),
         }
     }
 }
 
-/// The tags of a group are those of its components.
-fn group_tree(trees: &'static [TagTree<'static>]) -> TagTree<'static>
-    ensures { shape result ≡ choice (shapes trees.now) }
-{
-    TagTree::Choice(trees)
-}
+/// What a profile is to every codec: `Profile { nick: None, level: 7, color: Red, contact: None }` (`empty`), the same with a
+/// contact of nothing (`empty_contact`), and `Profile { nick: Some("Al"), level: 255, color: Blue, contact: Some(Contact {
+/// phone: None, mail: Some("a@b") }) }` (`full`).
+pub fn profile_records(profile: &Profile, nick: &Utf8String, mail: &Ia5String)
+    ensures empty { profile.now ≡ record { nick = None; level = 7; color = Red; contact = None } →
+        own_records ⟦<Profile as AsnType>⟧.meaning profile.now ≡
+        holding (sequence_head (universal 16) (Some (codes "Profile"))) (
+        mark (absent (context 0)) ∷
+        scalar (context 1) (values_of (Range (Some (pos 0)) (Some (pos 255)))) (Some (codes "INTEGER")) (number (pos 7)) ∷
+        mark (absent (context 2)) ∷
+        mark group_absent ∷ []) ∷ [] }
+    ensures empty_contact { profile.now ≡ record { nick = None; level = 7; color = Red; contact = Some (record { phone = None; mail = None }) } →
+        own_records ⟦<Profile as AsnType>⟧.meaning profile.now ≡
+        holding (sequence_head (universal 16) (Some (codes "Profile"))) (
+        mark (absent (context 0)) ∷
+        scalar (context 1) (values_of (Range (Some (pos 0)) (Some (pos 255)))) (Some (codes "INTEGER")) (number (pos 7)) ∷
+        mark (absent (context 2)) ∷
+        mark group_absent ∷ []) ∷ [] }
+    ensures full { string_bytes nick.now ≡ codes "Al" → mail.now ≡ codes "a@b" →
+        profile.now ≡ record { nick = Some nick.now; level = 255; color = Blue; contact = Some (record { phone = None; mail = Some mail.now }) } →
+        own_records ⟦<Profile as AsnType>⟧.meaning profile.now ≡
+        holding (sequence_head (universal 16) (Some (codes "Profile"))) (
+        mark (present (context 0)) ∷
+        scalar (context 0) unconstrained (Some (codes "UTF8String")) (units utf8 (codes "Al")) ∷
+        scalar (context 1) (values_of (Range (Some (pos 0)) (Some (pos 255)))) (Some (codes "INTEGER")) (number (pos 255)) ∷
+        mark (present (context 2)) ∷
+        scalar (context 2) unconstrained (Some (codes "Color")) (discriminant (pos 5)) ∷
+        mark group_start ∷
+        mark (absent (context 3)) ∷
+        mark (present (context 4)) ∷
+        scalar (context 4) unconstrained (Some (codes "IA5String")) (units ia5 (codes "a@b")) ∷
+        mark group_end ∷ []) ∷ [] }
+{}
 
-/// A `Profile` can be inside other types: its tags are distinct.
-pub fn profile_can_stand_inside()
-    ensures { CanStandInside ⟦<Profile as AsnType>⟧.meaning }
+/// A profile is valid where it has no contact, and is not where it has a contact of nothing: a group that is there writes a
+/// component.
+pub fn profile_is_valid(profile: &Profile)
+    ensures without_contact { profile.now.contact ≡ None → (takes : List ℕ → Bool) →
+        ⟦<Profile as AsnType>⟧.meaning.IsValid takes profile.now }
+    ensures empty_contact { profile.now.contact ≡ Some (record { phone = None; mail = None }) → (takes : List ℕ → Bool) →
+        ¬ ⟦<Profile as AsnType>⟧.meaning.IsValid takes profile.now }
 {}

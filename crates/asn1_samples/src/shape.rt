@@ -1,28 +1,24 @@
-//! `Shape ::= CHOICE { dot NULL, ring [0] INTEGER (0..65535), inner BOOLEAN }`
-ghost use Rattle.std.specs.Prelude.{[], ◌∷◌, codes, pos};
-ghost use Rattle.std.proofs.Common.{inl, inr};
-ghost use Rattle.asn1_model.specs.Meaning.{CanStandInside};
-ghost use Rattle.asn1_model.specs.Tags.{context};
-ghost use Rattle.asn1_model.specs.TaggedTypes.{tagged, untagged};
-ghost use Rattle.asn1_choices.specs.Alternatives.{alternative, closed};
-ghost use Rattle.asn1_choices.specs.ChoiceTypes.{choice_of, choice_agrees};
+//! `Shape ::= CHOICE { dot NULL, ring [0] INTEGER (0..65535), inner Corner }`
+ghost use Rattle.std.specs.Prelude.{◌≡◌, [], ◌∷◌, Some, true, pos, codes};
+ghost use Rattle.asn1_types.specs.Words.{context, universal, untagged, tagged, inl, inr, alternative, closed_choice, choice_of, choice_agrees, CanStandInside, own_records, holding, alternative_head, scalar, number, truth, unconstrained, values_of, Range};
+ghost use Rattle.asn1_samples.specs.declared.corner.Corner.TheVariants as corner;
 ghost use Rattle.asn1_samples.specs.declared.shape.Shape.TheVariants.{Dot, Ring, Inner};
 
-use asn1_bounds::Constraints;
-use asn1_choices::{Choice, ChoiceType};
+use crate::corner::{CORNER, Corner};
 use asn1_enc::{Encode, EncodeChoice, EncodeError, Encoder};
-use asn1_model::{AsnType, TypeTable};
-use asn1_tags::{Class, Identifier, Tag, TagTree};
+use asn1_types::{
+    AsnType, Choice, ChoiceType, Class, Constraints, Identifier, Tag, TagTree, TypeTable,
+};
 
-/// A figure.
-#[derive(Drop)]
+/// A figure: a CHOICE with an untagged CHOICE among its alternatives.
+#[derive(PartialEq, Eq, Debug, Drop)]
 pub enum Shape {
     /// `dot NULL`
-    Dot,
+    Dot(()),
     /// `ring [0] INTEGER (0..65535)`
     Ring(u16),
-    /// `inner BOOLEAN`
-    Inner(bool),
+    /// `inner Corner`
+    Inner(Corner),
 }
 
 const RING: Tag = Tag {
@@ -33,16 +29,16 @@ const RING: Tag = Tag {
 const SHAPE: &[TagTree<'static>] = &[
     TagTree::Leaf(Tag::NULL),
     TagTree::Leaf(RING),
-    TagTree::Leaf(Tag::BOOL),
+    TagTree::Choice(CORNER),
 ];
 
 impl Choice for Shape {
-    ghost alternatives = { closed (
+    ghost alternatives = { closed_choice (
         alternative (codes "dot") (untagged ⟦<() as AsnType>⟧.meaning) ∷
         alternative (codes "ring") (tagged (context 0) ⟦<u16 as AsnType>⟧.meaning) ∷
-        alternative (codes "inner") (untagged ⟦<bool as AsnType>⟧.meaning) ∷ []) };
+        alternative (codes "inner") (untagged ⟦<Corner as AsnType>⟧.meaning) ∷ []) };
 
-    ghost pick = { elim [ Dot ↦ inl tt | Ring n ↦ inr (inl n) | Inner b ↦ inr (inr (inl b)) ] };
+    ghost pick = { elim [ Dot u ↦ inl u | Ring n ↦ inr (inl n) | Inner c ↦ inr (inr (inl c)) ] };
 
     fn variants() -> &'static [TagTree<'static>] {
         SHAPE
@@ -73,7 +69,7 @@ impl ChoiceType for Shape {
     ghost agrees = { choice_agrees };
 }
 
-/// It can be a component or an alternative of another type.
+/// A `Shape` can be inside other types: no tag is twice among its alternatives, with those of a `Corner`.
 pub fn shape_can_stand_inside()
     ensures { CanStandInside ⟦<Shape as AsnType>⟧.meaning }
 {}
@@ -93,17 +89,31 @@ impl Encode for Shape {
 impl EncodeChoice for Shape {
     fn chosen_tag(&self) -> Tag {
         match self {
-            Shape::Dot => Tag::NULL,
+            Shape::Dot(_) => Tag::NULL,
             Shape::Ring(_) => RING,
-            Shape::Inner(_) => Tag::BOOL,
+            Shape::Inner(corner) => corner.chosen_tag(),
         }
     }
 
     fn encode_alternative<E: Encoder>(&self, encoder: &mut E) -> Result<(), EncodeError> {
         match self {
-            Shape::Dot => ().encode(encoder),
+            Shape::Dot(dot) => dot.encode(encoder),
             Shape::Ring(width) => width.encode_with_tag(encoder, RING),
-            Shape::Inner(flag) => flag.encode(encoder),
+            Shape::Inner(corner) => corner.encode(encoder),
         }
     }
 }
+
+/// What a shape is to every codec: `Shape::Ring(300)` (`ring`), and `Shape::Inner(Corner::Left(true))`, of which the chosen
+/// tag is that of the corner's alternative (`inner`).
+pub fn shape_records(shape: &Shape)
+    ensures ring { shape.now ≡ Ring 300 →
+        own_records ⟦<Shape as AsnType>⟧.meaning shape.now ≡
+        holding (alternative_head (context 0) unconstrained (Some (codes "Shape"))) (
+        scalar (context 0) (values_of (Range (Some (pos 0)) (Some (pos 65535)))) (Some (codes "INTEGER")) (number (pos 300)) ∷ []) ∷ [] }
+    ensures inner { shape.now ≡ Inner (corner.Left true) →
+        own_records ⟦<Shape as AsnType>⟧.meaning shape.now ≡
+        holding (alternative_head (universal 1) unconstrained (Some (codes "Shape"))) (
+        holding (alternative_head (universal 1) unconstrained (Some (codes "Corner"))) (
+        scalar (universal 1) unconstrained (Some (codes "BOOLEAN")) (truth true) ∷ []) ∷ []) ∷ [] }
+{}

@@ -1,0 +1,118 @@
+//! `Badge ::= SET { id INTEGER (0..4294967295), label VisibleString OPTIONAL, shape Shape }`
+ghost use Rattle.std.specs.Prelude.{◌≡◌, [], ◌∷◌, None, Some, map, pos, codes};
+ghost use Rattle.asn1_types.specs.Words.{context, universal, untagged, required, optional, set, constructed_type, constructed_agrees, CanStandInside, own_records, holding, set_head, alternative_head, scalar, mark, absent, present, number, null, units, visible, unconstrained, values_of, Range};
+ghost use Rattle.asn1_components.specs.Components.{root_entries, table};
+ghost use Rattle.asn1_fields.specs.CanonicalOrder.{IsCanonical};
+ghost use Rattle.asn1_fields.specs.Entries.{component_of};
+ghost use Rattle.asn1_samples.specs.declared.shape.Shape.TheVariants.{Dot, Ring};
+
+use crate::shape::Shape;
+use asn1_enc::{Encode, EncodeError, EncodeFields, Encoder};
+use asn1_types::{
+    AsnType, Constraints, ConstructedType, Field, FieldTable, Identifier, Tag, TypeTable,
+    tables_are_in_order,
+};
+use asn1_values::VisibleString;
+
+/// What someone wears: a SET, whose components may be written in any order.
+#[derive(PartialEq, Eq, Debug, Drop)]
+pub struct Badge {
+    /// `id INTEGER (0..4294967295)`
+    pub id: u32,
+    /// `label VisibleString OPTIONAL`
+    pub label: Option<VisibleString>,
+    /// `shape Shape`
+    pub shape: Shape,
+}
+
+impl FieldTable for Badge {
+    ghost components = { set (
+        required (codes "id") (λ b. b.id) (untagged ⟦<u32 as AsnType>⟧.meaning) ∷
+        optional (codes "label") (λ b. b.label) (untagged ⟦<VisibleString as AsnType>⟧.meaning) ∷
+        required (codes "shape") (λ b. b.shape) (untagged ⟦<Shape as AsnType>⟧.meaning) ∷ []) };
+
+    fn field_count() -> usize {
+        3
+    }
+
+    fn field_at(place: usize) -> Option<Field<'static>> {
+        match place {
+            0 => Some(Field::new_required_type::<Shape>(2, "shape")),
+            1 => Some(Field::new_required_type::<u32>(0, "id")),
+            2 => Some(Field::new_optional_type::<VisibleString>(1, "label")),
+            _ => None,
+        }
+    }
+}
+
+impl AsnType for Badge {
+    ghost meaning = { constructed_type (codes "Badge") ⟦<Badge as FieldTable>⟧.components };
+
+    fn table() -> TypeTable {
+        TypeTable::new(Tag::SET, Identifier(Some("Badge")))
+    }
+
+    fn is_present(&self) -> bool {
+        true
+    }
+}
+
+impl ConstructedType for Badge {
+    ghost agrees = { constructed_agrees };
+}
+
+/// A `Badge` can be inside other types: no two of its components share a tag, with those of a `Shape`.
+pub fn badge_can_stand_inside()
+    ensures { CanStandInside ⟦<Badge as AsnType>⟧.meaning }
+{}
+
+/// The table is in canonical order, by the smallest tag of each component: BOOLEAN of the shape, INTEGER, VisibleString.
+pub fn badge_table_is_canonical()
+    ensures indices { map (λ entry. entry.index) (table ⟦<Badge as FieldTable>⟧.components) ≡ 2 ∷ 0 ∷ 1 ∷ [] }
+    ensures canonical { IsCanonical (map component_of (root_entries ⟦<Badge as FieldTable>⟧.components)) }
+{
+    tables_are_in_order::<Badge>();
+}
+
+impl Encode for Badge {
+    fn encode_with_tag_and_constraints<E: Encoder>(
+        &self,
+        encoder: &mut E,
+        tag: Tag,
+        _constraints: &Constraints<'_>,
+        name: Identifier,
+    ) -> Result<(), EncodeError> {
+        encoder.encode_set(tag, self, name)
+    }
+}
+
+impl EncodeFields for Badge {
+    fn encode_field<E: Encoder>(&self, place: usize, encoder: &mut E) -> Result<(), EncodeError> {
+        match place {
+            0 => self.id.encode(encoder),
+            1 => self.label.encode(encoder),
+            2 => self.shape.encode(encoder),
+            _ => Ok(()),
+        }
+    }
+}
+
+/// What a badge is to every codec, its components in the order of the definition: `Badge { id: 7, label: Some("x"), shape:
+/// Ring(300) }` (`ring`), and `Badge { id: 7, label: None, shape: Dot }` (`dot`).
+pub fn badge_records(badge: &Badge, label: &VisibleString)
+    ensures ring { label.now ≡ codes "x" → badge.now ≡ record { id = 7; label = Some label.now; shape = Ring 300 } →
+        own_records ⟦<Badge as AsnType>⟧.meaning badge.now ≡
+        holding (set_head (universal 17) (Some (codes "Badge"))) (
+        scalar (universal 2) (values_of (Range (Some (pos 0)) (Some (pos 4294967295)))) (Some (codes "INTEGER")) (number (pos 7)) ∷
+        mark (present (universal 26)) ∷
+        scalar (universal 26) unconstrained (Some (codes "VisibleString")) (units visible (codes "x")) ∷
+        holding (alternative_head (context 0) unconstrained (Some (codes "Shape"))) (
+        scalar (context 0) (values_of (Range (Some (pos 0)) (Some (pos 65535)))) (Some (codes "INTEGER")) (number (pos 300)) ∷ []) ∷ []) ∷ [] }
+    ensures dot { badge.now ≡ record { id = 7; label = None; shape = Dot tt } →
+        own_records ⟦<Badge as AsnType>⟧.meaning badge.now ≡
+        holding (set_head (universal 17) (Some (codes "Badge"))) (
+        scalar (universal 2) (values_of (Range (Some (pos 0)) (Some (pos 4294967295)))) (Some (codes "INTEGER")) (number (pos 7)) ∷
+        mark (absent (universal 26)) ∷
+        holding (alternative_head (universal 5) unconstrained (Some (codes "Shape"))) (
+        scalar (universal 5) unconstrained (Some (codes "NULL")) null ∷ []) ∷ []) ∷ [] }
+{}

@@ -1,0 +1,57 @@
+//! `[[ phone [3] NumericString OPTIONAL, mail [4] IA5String OPTIONAL ]]`: the group of additions of a `Profile`.
+ghost use Rattle.std.specs.Prelude.{[], ◌∷◌, codes};
+ghost use Rattle.asn1_types.specs.Words.{context, tagged, optional, sequence};
+
+use asn1_enc::{Encode, EncodeError, EncodeFields, Encoder};
+use asn1_types::{AsnType, Class, Field, FieldTable, Tag, TagTree};
+use asn1_values::{Ia5String, NumericString};
+
+/// How to reach someone: a group of additions, which has no tag of its own.
+#[derive(PartialEq, Eq, Debug, Drop)]
+pub struct Contact {
+    /// `phone [3] NumericString OPTIONAL`
+    pub phone: Option<NumericString>,
+    /// `mail [4] IA5String OPTIONAL`
+    pub mail: Option<Ia5String>,
+}
+
+const PHONE: Tag = Tag {
+    class: Class::Context,
+    value: 3,
+};
+
+const MAIL: Tag = Tag {
+    class: Class::Context,
+    value: 4,
+};
+
+/// The trees of the components, which are those of the group.
+pub(crate) const CONTACT: &[TagTree<'static>] = &[TagTree::Leaf(PHONE), TagTree::Leaf(MAIL)];
+
+impl FieldTable for Contact {
+    ghost components = { sequence (
+        optional (codes "phone") (λ c. c.phone) (tagged (context 3) ⟦<NumericString as AsnType>⟧.meaning) ∷
+        optional (codes "mail") (λ c. c.mail) (tagged (context 4) ⟦<Ia5String as AsnType>⟧.meaning) ∷ []) };
+
+    fn field_count() -> usize {
+        2
+    }
+
+    fn field_at(place: usize) -> Option<Field<'static>> {
+        match place {
+            0 => Some(Field::new_optional_type_with_tag::<NumericString>(0, PHONE, "phone")),
+            1 => Some(Field::new_optional_type_with_tag::<Ia5String>(1, MAIL, "mail")),
+            _ => None,
+        }
+    }
+}
+
+impl EncodeFields for Contact {
+    fn encode_field<E: Encoder>(&self, place: usize, encoder: &mut E) -> Result<(), EncodeError> {
+        match place {
+            0 => self.phone.encode_with_tag(encoder, PHONE),
+            1 => self.mail.encode_with_tag(encoder, MAIL),
+            _ => Ok(()),
+        }
+    }
+}

@@ -1,0 +1,100 @@
+//! `Corner ::= CHOICE { left BOOLEAN, right OCTET STRING }`
+ghost use Rattle.std.specs.Prelude.{◌≡◌, [], ◌∷◌, Some, true, codes};
+ghost use Rattle.asn1_types.specs.Words.{universal, untagged, inl, inr, alternative, closed_choice, choice_of, choice_agrees, CanStandInside, own_records, holding, alternative_head, scalar, truth, unconstrained};
+ghost use Rattle.asn1_samples.specs.declared.corner.Corner.TheVariants.{Left, Right};
+
+use asn1_enc::{Encode, EncodeChoice, EncodeError, Encoder};
+use asn1_types::{AsnType, Choice, ChoiceType, Constraints, Identifier, Tag, TagTree, TypeTable};
+use asn1_values::OctetString;
+
+/// A corner of a figure.
+#[derive(PartialEq, Eq, Debug, Drop)]
+pub enum Corner {
+    /// `left BOOLEAN`
+    Left(bool),
+    /// `right OCTET STRING`
+    Right(OctetString),
+}
+
+/// The trees of the alternatives.
+pub(crate) const CORNER: &[TagTree<'static>] = &[
+    TagTree::Leaf(Tag::BOOL),
+    TagTree::Leaf(Tag::OCTET_STRING),
+];
+
+impl Choice for Corner {
+    ghost alternatives = { closed_choice (
+        alternative (codes "left") (untagged ⟦<bool as AsnType>⟧.meaning) ∷
+        alternative (codes "right") (untagged ⟦<OctetString as AsnType>⟧.meaning) ∷ []) };
+
+    ghost pick = { elim [ Left flag ↦ inl flag | Right octets ↦ inr (inl octets) ] };
+
+    fn variants() -> &'static [TagTree<'static>] {
+        CORNER
+    }
+
+    fn extended_variants() -> Option<&'static [TagTree<'static>]> {
+        None
+    }
+
+    fn identifiers() -> &'static [&'static str] {
+        &["left", "right"]
+    }
+}
+
+impl AsnType for Corner {
+    ghost meaning = { choice_of (codes "Corner") ⟦<Corner as Choice>⟧.alternatives ⟦<Corner as Choice>⟧.pick };
+
+    fn table() -> TypeTable {
+        TypeTable::choice(Identifier(Some("Corner")), CORNER)
+    }
+
+    fn is_present(&self) -> bool {
+        true
+    }
+}
+
+impl ChoiceType for Corner {
+    ghost agrees = { choice_agrees };
+}
+
+/// A `Corner` can be inside other types: no tag is twice among its alternatives.
+pub fn corner_can_stand_inside()
+    ensures { CanStandInside ⟦<Corner as AsnType>⟧.meaning }
+{}
+
+impl Encode for Corner {
+    fn encode_with_tag_and_constraints<E: Encoder>(
+        &self,
+        encoder: &mut E,
+        tag: Tag,
+        constraints: &Constraints<'_>,
+        name: Identifier,
+    ) -> Result<(), EncodeError> {
+        encoder.encode_choice_with_tag(tag, constraints, self, name)
+    }
+}
+
+impl EncodeChoice for Corner {
+    fn chosen_tag(&self) -> Tag {
+        match self {
+            Corner::Left(_) => Tag::BOOL,
+            Corner::Right(_) => Tag::OCTET_STRING,
+        }
+    }
+
+    fn encode_alternative<E: Encoder>(&self, encoder: &mut E) -> Result<(), EncodeError> {
+        match self {
+            Corner::Left(flag) => flag.encode(encoder),
+            Corner::Right(octets) => octets.encode(encoder),
+        }
+    }
+}
+
+/// What `Corner::Left(true)` is to every codec.
+pub fn corner_records(corner: &Corner)
+    ensures { corner.now ≡ Left true →
+        own_records ⟦<Corner as AsnType>⟧.meaning corner.now ≡
+        holding (alternative_head (universal 1) unconstrained (Some (codes "Corner"))) (
+        scalar (universal 1) unconstrained (Some (codes "BOOLEAN")) (truth true) ∷ []) ∷ [] }
+{}

@@ -1,0 +1,93 @@
+//! `Envelope ::= SEQUENCE { kind INTEGER (0..255), body ANY }`, where ANY is an open type.
+ghost use Rattle.std.specs.Prelude.{◌≡◌, ◌↔◌, ℕ, Bool, IsTrue, List, [], ◌∷◌, None, Some, pos, codes};
+ghost use Rattle.asn1_types.specs.Words.{universal, untagged, required, sequence, constructed_type, constructed_agrees, CanStandInside, own_records, holding, sequence_head, scalar, raw, number, values_of, Range};
+
+use asn1_enc::{Encode, EncodeError, EncodeFields, Encoder};
+use asn1_types::{
+    Any, AsnType, Constraints, ConstructedType, Field, FieldTable, Identifier, Tag, TypeTable,
+};
+
+/// A value of any type, and which kind it is.
+#[derive(PartialEq, Eq, Debug, Drop)]
+pub struct Envelope {
+    /// `kind INTEGER (0..255)`
+    pub kind: u8,
+    /// The open type.
+    pub body: Any,
+}
+
+impl FieldTable for Envelope {
+    ghost components = { sequence (
+        required (codes "kind") (λ e. e.kind) (untagged ⟦<u8 as AsnType>⟧.meaning) ∷
+        required (codes "body") (λ e. e.body) (untagged ⟦<Any as AsnType>⟧.meaning) ∷ []) };
+
+    fn field_count() -> usize {
+        2
+    }
+
+    fn field_at(place: usize) -> Option<Field<'static>> {
+        match place {
+            0 => Some(Field::new_required_type::<u8>(0, "kind")),
+            1 => Some(Field::new_required_type::<Any>(1, "body")),
+            _ => None,
+        }
+    }
+}
+
+impl AsnType for Envelope {
+    ghost meaning = { constructed_type (codes "Envelope") ⟦<Envelope as FieldTable>⟧.components };
+
+    fn table() -> TypeTable {
+        TypeTable::new(Tag::SEQUENCE, Identifier(Some("Envelope")))
+    }
+
+    fn is_present(&self) -> bool {
+        true
+    }
+}
+
+impl ConstructedType for Envelope {
+    ghost agrees = { constructed_agrees };
+}
+
+/// An `Envelope` can be inside other types: an open type can be a component that is always there.
+pub fn envelope_can_stand_inside()
+    ensures { CanStandInside ⟦<Envelope as AsnType>⟧.meaning }
+{}
+
+impl Encode for Envelope {
+    fn encode_with_tag_and_constraints<E: Encoder>(
+        &self,
+        encoder: &mut E,
+        tag: Tag,
+        _constraints: &Constraints<'_>,
+        name: Identifier,
+    ) -> Result<(), EncodeError> {
+        encoder.encode_sequence(tag, self, name)
+    }
+}
+
+impl EncodeFields for Envelope {
+    fn encode_field<E: Encoder>(&self, place: usize, encoder: &mut E) -> Result<(), EncodeError> {
+        match place {
+            0 => self.kind.encode(encoder),
+            1 => self.body.encode(encoder),
+            _ => Ok(()),
+        }
+    }
+}
+
+/// What `Envelope { kind: 1, body }` is to every codec.
+pub fn envelope_records(envelope: &Envelope)
+    ensures { envelope.now.kind ≡ 1 →
+        own_records ⟦<Envelope as AsnType>⟧.meaning envelope.now ≡
+        holding (sequence_head (universal 16) (Some (codes "Envelope"))) (
+        scalar (universal 2) (values_of (Range (Some (pos 0)) (Some (pos 255)))) (Some (codes "INTEGER")) (number (pos 1)) ∷
+        raw None envelope.now.body ∷ []) ∷ [] }
+{}
+
+/// An envelope is valid if and only if the codec takes the bytes of its body as one value.
+pub fn envelope_is_valid(envelope: &Envelope)
+    ensures { (takes : List ℕ → Bool) →
+        ⟦<Envelope as AsnType>⟧.meaning.IsValid takes envelope.now ↔ IsTrue (takes envelope.now.body) }
+{}

@@ -1,0 +1,116 @@
+//! `Labelled ::= SEQUENCE { key [0] INTEGER (0..255), note [1] INTEGER (0..255) }`, compared by its key.
+ghost use Rattle.std.specs.Prelude.{◌≡◌, [], ◌∷◌, Some, pos, codes, nat_eq};
+ghost use Rattle.std.specs.Cmp.{nat_eq_equiv, on_equiv, on_per, partial_equiv_from_equiv, unsigned_Decides};
+ghost use Rattle.std.specs.Hash as fed;
+ghost use Rattle.std.specs.Hash.{on_Alike, same_Alike};
+ghost use Rattle.std.specs.Ordering.{on};
+ghost use Rattle.asn1_types.specs.Words.{context, universal, tagged, required, sequence, constructed_type, constructed_agrees, CanStandInside, own_records, holding, sequence_head, scalar, number, values_of, Range};
+
+use asn1_enc::{Encode, EncodeError, EncodeFields, Encoder};
+use asn1_types::{
+    AsnType, Constraints, ConstructedType, Field, FieldTable, Identifier, Tag, TypeTable,
+};
+use std::hash::{Hash, Hasher};
+
+/// A number with a note. Two with one key are equal, whatever their notes.
+#[derive(Clone, Copy, Debug)]
+pub struct Labelled {
+    /// `key [0] INTEGER (0..255)`
+    pub key: u8,
+    /// `note [1] INTEGER (0..255)`
+    pub note: u8,
+}
+
+impl PartialEq for Labelled {
+    ghost eq = { on (λ labelled. labelled.key) nat_eq };
+
+    ghost laws = { on_per (λ labelled. labelled.key) (partial_equiv_from_equiv nat_eq_equiv) };
+
+    fn eq(&self, other: &Self) -> bool {
+        self.key == other.key
+    }
+}
+
+impl Eq for Labelled {
+    ghost laws = { on_equiv (λ labelled. labelled.key) nat_eq_equiv };
+}
+
+impl Hash for Labelled {
+    ghost hash_input = { λ labelled. fed.u8 labelled.key };
+
+    ghost respects_eq = { (on_Alike (λ labelled. labelled.key) (same_Alike fed.u8 unsigned_Decides)).fed };
+
+    fn hash<H: Hasher>(&self, state: &mut H) {
+        self.key.hash(state);
+    }
+}
+
+impl FieldTable for Labelled {
+    ghost components = { sequence (
+        required (codes "key") (λ l. l.key) (tagged (context 0) ⟦<u8 as AsnType>⟧.meaning) ∷
+        required (codes "note") (λ l. l.note) (tagged (context 1) ⟦<u8 as AsnType>⟧.meaning) ∷ []) };
+
+    fn field_count() -> usize {
+        2
+    }
+
+    fn field_at(place: usize) -> Option<Field<'static>> {
+        match place {
+            0 => Some(Field::new_required_type_with_tag::<u8>(0, Tag::new_context(0), "key")),
+            1 => Some(Field::new_required_type_with_tag::<u8>(1, Tag::new_context(1), "note")),
+            _ => None,
+        }
+    }
+}
+
+impl AsnType for Labelled {
+    ghost meaning = { constructed_type (codes "Labelled") ⟦<Labelled as FieldTable>⟧.components };
+
+    fn table() -> TypeTable {
+        TypeTable::new(Tag::SEQUENCE, Identifier(Some("Labelled")))
+    }
+
+    fn is_present(&self) -> bool {
+        true
+    }
+}
+
+impl ConstructedType for Labelled {
+    ghost agrees = { constructed_agrees };
+}
+
+/// A `Labelled` can be inside other types.
+pub fn labelled_can_stand_inside()
+    ensures { CanStandInside ⟦<Labelled as AsnType>⟧.meaning }
+{}
+
+impl Encode for Labelled {
+    fn encode_with_tag_and_constraints<E: Encoder>(
+        &self,
+        encoder: &mut E,
+        tag: Tag,
+        _constraints: &Constraints<'_>,
+        name: Identifier,
+    ) -> Result<(), EncodeError> {
+        encoder.encode_sequence(tag, self, name)
+    }
+}
+
+impl EncodeFields for Labelled {
+    fn encode_field<E: Encoder>(&self, place: usize, encoder: &mut E) -> Result<(), EncodeError> {
+        match place {
+            0 => self.key.encode_with_tag(encoder, Tag::new_context(0)),
+            1 => self.note.encode_with_tag(encoder, Tag::new_context(1)),
+            _ => Ok(()),
+        }
+    }
+}
+
+/// What `Labelled { key: 1, note: 9 }` is to every codec: the note is written too.
+pub fn labelled_records(labelled: Labelled)
+    ensures { labelled ≡ record { key = 1; note = 9 } →
+        own_records ⟦<Labelled as AsnType>⟧.meaning labelled ≡
+        holding (sequence_head (universal 16) (Some (codes "Labelled"))) (
+        scalar (context 0) (values_of (Range (Some (pos 0)) (Some (pos 255)))) (Some (codes "INTEGER")) (number (pos 1)) ∷
+        scalar (context 1) (values_of (Range (Some (pos 0)) (Some (pos 255)))) (Some (codes "INTEGER")) (number (pos 9)) ∷ []) ∷ [] }
+{}

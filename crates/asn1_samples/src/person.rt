@@ -1,0 +1,89 @@
+//! `Person ::= SEQUENCE { age INTEGER, name UTF8String }`
+ghost use Rattle.std.specs.Prelude.{◌≡◌, [], ◌∷◌, Some, pos, codes};
+ghost use Rattle.std.specs.String.{string_bytes};
+ghost use Rattle.asn1_types.specs.Words.{universal, untagged, required, sequence, constructed_type, constructed_agrees, CanStandInside, own_records, holding, sequence_head, scalar, number, units, utf8, unconstrained};
+
+use asn1_enc::{Encode, EncodeError, EncodeFields, Encoder};
+use asn1_types::{
+    AsnType, Constraints, ConstructedType, Field, FieldTable, Identifier, Tag, TypeTable,
+};
+use asn1_values::{Integer, Utf8String};
+
+/// How old someone is, and their name.
+#[derive(PartialEq, Eq, Debug, Drop)]
+pub struct Person {
+    /// `age INTEGER`
+    pub age: Integer,
+    /// `name UTF8String`
+    pub name: Utf8String,
+}
+
+impl FieldTable for Person {
+    ghost components = { sequence (
+        required (codes "age") (λ p. p.age) (untagged ⟦<Integer as AsnType>⟧.meaning) ∷
+        required (codes "name") (λ p. p.name) (untagged ⟦<Utf8String as AsnType>⟧.meaning) ∷ []) };
+
+    fn field_count() -> usize {
+        2
+    }
+
+    fn field_at(place: usize) -> Option<Field<'static>> {
+        match place {
+            0 => Some(Field::new_required_type::<Integer>(0, "age")),
+            1 => Some(Field::new_required_type::<Utf8String>(1, "name")),
+            _ => None,
+        }
+    }
+}
+
+impl AsnType for Person {
+    ghost meaning = { constructed_type (codes "Person") ⟦<Person as FieldTable>⟧.components };
+
+    fn table() -> TypeTable {
+        TypeTable::new(Tag::SEQUENCE, Identifier(Some("Person")))
+    }
+
+    fn is_present(&self) -> bool {
+        true
+    }
+}
+
+impl ConstructedType for Person {
+    ghost agrees = { constructed_agrees };
+}
+
+/// A `Person` can be inside other types: the types of its components can be there.
+pub fn person_can_stand_inside()
+    ensures { CanStandInside ⟦<Person as AsnType>⟧.meaning }
+{}
+
+impl Encode for Person {
+    fn encode_with_tag_and_constraints<E: Encoder>(
+        &self,
+        encoder: &mut E,
+        tag: Tag,
+        _constraints: &Constraints<'_>,
+        name: Identifier,
+    ) -> Result<(), EncodeError> {
+        encoder.encode_sequence(tag, self, name)
+    }
+}
+
+impl EncodeFields for Person {
+    fn encode_field<E: Encoder>(&self, place: usize, encoder: &mut E) -> Result<(), EncodeError> {
+        match place {
+            0 => self.age.encode(encoder),
+            1 => self.name.encode(encoder),
+            _ => Ok(()),
+        }
+    }
+}
+
+/// What `Person { age: 30, name: "Ann" }` is to every codec.
+pub fn person_records(person: &Person)
+    ensures { person.now.age ≡ pos 30 → string_bytes person.now.name ≡ codes "Ann" →
+        own_records ⟦<Person as AsnType>⟧.meaning person.now ≡
+        holding (sequence_head (universal 16) (Some (codes "Person"))) (
+        scalar (universal 2) unconstrained (Some (codes "INTEGER")) (number (pos 30)) ∷
+        scalar (universal 12) unconstrained (Some (codes "UTF8String")) (units utf8 (codes "Ann")) ∷ []) ∷ [] }
+{}

@@ -1,0 +1,52 @@
+//! `Plate ::= VisibleString (FROM ("A" | "B" | "C"))`
+ghost use Rattle.std.specs.Prelude.{◌≡◌, [], ◌∷◌, Some, IsTrue, All, codes};
+ghost use Rattle.asn1_model.specs.Kinds.{scalar_type, under_own_name};
+ghost use Rattle.asn1_types.specs.Words.{universal, characters_of, CanStandInside, own_records, scalar, units, visible};
+ghost use Rattle.asn1_values.specs.Alphabets.{is_visible};
+
+use asn1_enc::{Encode, EncodeError, Encoder};
+use asn1_types::{AsnType, ConstraintTable, Constraints, Identifier, Tag, TypeTable};
+use asn1_values::VisibleString;
+
+/// What is written on a plate: the letters A, B and C. That a value has these alone is left to whoever makes it.
+#[derive(PartialEq, Eq, Debug, Drop)]
+pub struct Plate(pub VisibleString);
+
+impl AsnType for Plate {
+    ghost meaning = { under_own_name (record (scalar_type (universal 26) (characters_of (codes "ABC")) (Some (codes "Plate")) (λ plate. units visible plate.0)) {
+      IsOfType = λ plate. All (λ unit. IsTrue (is_visible unit)) plate.0;
+    }) };
+
+    fn table() -> TypeTable {
+        let letters = ConstraintTable::NONE.with_permitted_alphabet(&[65, 66, 67]);
+        TypeTable::new(Tag::VISIBLE_STRING, Identifier(Some("Plate"))).with_constraints(letters)
+    }
+
+    fn is_present(&self) -> bool {
+        true
+    }
+}
+
+/// A `Plate` can be inside other types.
+pub fn plate_can_stand_inside()
+    ensures { CanStandInside ⟦<Plate as AsnType>⟧.meaning }
+{}
+
+impl Encode for Plate {
+    fn encode_with_tag_and_constraints<E: Encoder>(
+        &self,
+        encoder: &mut E,
+        tag: Tag,
+        constraints: &Constraints<'_>,
+        name: Identifier,
+    ) -> Result<(), EncodeError> {
+        encoder.encode_visible_string(tag, constraints, &self.0, name.or(Self::identifier()))
+    }
+}
+
+/// What the plate `AB` is to every codec.
+pub fn plate_records(plate: &Plate)
+    ensures { plate.now.0 ≡ codes "AB" →
+        own_records ⟦<Plate as AsnType>⟧.meaning plate.now ≡
+        scalar (universal 26) (characters_of (codes "ABC")) (Some (codes "Plate")) (units visible (codes "AB")) ∷ [] }
+{}

@@ -1,0 +1,99 @@
+//! `Settings ::= SEQUENCE { entry [0] Labelled DEFAULT { key 1, note 0 } }`
+ghost use Rattle.std.specs.Prelude.{◌≡◌, [], ◌∷◌, Some, pos, codes};
+ghost use Rattle.asn1_types.specs.Words.{context, universal, tagged, with_default, sequence, constructed_type, constructed_agrees, CanStandInside, own_records, holding, sequence_head, scalar, mark, absent, present, number, values_of, Range};
+
+use crate::labelled::Labelled;
+use asn1_enc::{Encode, EncodeError, EncodeFields, Encoder};
+use asn1_types::{
+    AsnType, Constraints, ConstructedType, Field, FieldTable, Identifier, Tag, TypeTable,
+};
+
+/// What is set, unless it is as usual. An entry with the key of the default is the default, and its note is not written.
+#[derive(PartialEq, Eq, Debug, Drop)]
+pub struct Settings {
+    /// `entry [0] Labelled DEFAULT { key 1, note 0 }`
+    pub entry: Labelled,
+}
+
+impl FieldTable for Settings {
+    ghost components = { sequence (
+        with_default (codes "entry") (λ s. s.entry) (λ s. ⟦<Labelled as PartialEq>⟧.eq s.entry (record { key = 1; note = 0 })) (tagged (context 0) ⟦<Labelled as AsnType>⟧.meaning) ∷ []) };
+
+    fn field_count() -> usize {
+        1
+    }
+
+    fn field_at(place: usize) -> Option<Field<'static>> {
+        match place {
+            0 => Some(Field::new_default_type_with_tag::<Labelled>(
+                0,
+                Tag::new_context(0),
+                "entry",
+            )),
+            _ => None,
+        }
+    }
+}
+
+impl AsnType for Settings {
+    ghost meaning = { constructed_type (codes "Settings") ⟦<Settings as FieldTable>⟧.components };
+
+    fn table() -> TypeTable {
+        TypeTable::new(Tag::SEQUENCE, Identifier(Some("Settings")))
+    }
+
+    fn is_present(&self) -> bool {
+        true
+    }
+}
+
+impl ConstructedType for Settings {
+    ghost agrees = { constructed_agrees };
+}
+
+/// A `Settings` can be inside other types.
+pub fn settings_can_stand_inside()
+    ensures { CanStandInside ⟦<Settings as AsnType>⟧.meaning }
+{}
+
+impl Encode for Settings {
+    fn encode_with_tag_and_constraints<E: Encoder>(
+        &self,
+        encoder: &mut E,
+        tag: Tag,
+        _constraints: &Constraints<'_>,
+        name: Identifier,
+    ) -> Result<(), EncodeError> {
+        encoder.encode_sequence(tag, self, name)
+    }
+}
+
+impl EncodeFields for Settings {
+    fn encode_field<E: Encoder>(&self, place: usize, encoder: &mut E) -> Result<(), EncodeError> {
+        match place {
+            0 => encoder.encode_default_with_tag(
+                Tag::new_context(0),
+                &self.entry,
+                |_| Ok(Labelled { key: 1, note: 0 }),
+                Labelled::identifier(),
+            ),
+            _ => Ok(()),
+        }
+    }
+}
+
+/// What settings are to every codec: an entry with the key 1 and the note 9, which equals the default (`default`), and one
+/// with the key 2 (`another`).
+pub fn settings_records(settings: &Settings)
+    ensures default { settings.now.entry ≡ record { key = 1; note = 9 } →
+        own_records ⟦<Settings as AsnType>⟧.meaning settings.now ≡
+        holding (sequence_head (universal 16) (Some (codes "Settings"))) (
+        mark (absent (context 0)) ∷ []) ∷ [] }
+    ensures another { settings.now.entry ≡ record { key = 2; note = 9 } →
+        own_records ⟦<Settings as AsnType>⟧.meaning settings.now ≡
+        holding (sequence_head (universal 16) (Some (codes "Settings"))) (
+        mark (present (context 0)) ∷
+        holding (sequence_head (context 0) (Some (codes "Labelled"))) (
+        scalar (context 0) (values_of (Range (Some (pos 0)) (Some (pos 255)))) (Some (codes "INTEGER")) (number (pos 2)) ∷
+        scalar (context 1) (values_of (Range (Some (pos 0)) (Some (pos 255)))) (Some (codes "INTEGER")) (number (pos 9)) ∷ []) ∷ []) ∷ [] }
+{}
