@@ -3,3 +3,4 @@ pub mod Components
 pub mod Lists
 pub mod Names
 pub mod Steps
+pub mod UpToOrder

@@ -1,8 +1,11 @@
-//! Laws of what no other contract names: what the derives of the error and its conversion give.
+//! Laws of what no other contract names: what the derives of the error and its conversion give, and what is the same of what
+//! has been written.
 ghost use Rattle.asn1_enc.specs.Errors.{reason};
+ghost use Rattle.asn1_enc.specs.Writing.{SameRecords, SameWritten, Written, followed_by};
 ghost use Rattle.asn1_enc.specs.declared.error.EncodeError.TheVariants.{Memory};
+ghost use Rattle.asn1_model.specs.Records.{Record};
 ghost use Rattle.asn1_tags.specs.Derives.{ClonesAll};
-ghost use Rattle.std.specs.Prelude.{◌≡◌, ◌↔◌, IsTrue};
+ghost use Rattle.std.specs.Prelude.{◌≡◌, ◌↔◌, IsTrue, List};
 
 use crate::error::EncodeError;
 use std::alloc::AllocError;
@@ -21,3 +24,13 @@ pub fn refused_memory_is_an_error_of_memory(refused: AllocError) -> EncodeError
 {
     EncodeError::from(refused)
 }
+
+/// A law of writing: what has been written is compared up to the order inside sets by an equivalence, and more records that
+/// are the same keep it the same.
+#[tactic(auto, using(crate::proofs::UpToOrder::same_writing))]
+pub fn sameness_of_what_is_written_is_an_equivalence()
+    ensures reflexive { (w : Written) → SameWritten w w }
+    ensures symmetric { (w x : Written) → SameWritten w x → SameWritten x w }
+    ensures transitive { (w x y : Written) → SameWritten w x → SameWritten x y → SameWritten w y }
+    ensures followed { (w x : Written) (rs ss : List Record) → SameWritten w x → SameRecords rs ss → SameWritten (followed_by w rs) (followed_by x ss) }
+{}

@@ -1,4 +1,5 @@
 pub mod FirstTags
 pub mod Lists
 pub mod SameRecords
+pub mod SameUpToOrder
 pub mod TagSets

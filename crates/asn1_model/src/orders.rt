@@ -1,7 +1,7 @@
 //! What the order inside sets means.
 ghost use Rattle.std.specs.Prelude.{◌≡◌};
-ghost use Rattle.asn1_model.specs.Orders.{Same};
-ghost use Rattle.asn1_model.specs.Records.{Record, height, is_mark};
+ghost use Rattle.asn1_model.specs.Orders.{Same, SameAll};
+ghost use Rattle.asn1_model.specs.Records.{Record, Records, height, is_mark};
 ghost use Rattle.asn1_model.specs.Tags.{record_tags};
 
 /// A law of the model: records that are the same up to the order inside sets begin with the same tags, are marks alike,
@@ -10,4 +10,15 @@ pub fn order_inside_sets_is_not_seen()
     ensures tags { (r s : Record) → Same r s → record_tags r ≡ record_tags s }
     ensures marks { (r s : Record) → Same r s → is_mark r ≡ is_mark s }
     ensures heights { (r s : Record) → Same r s → height r ≡ height s }
+{}
+
+/// A law of the model: sameness up to the order inside sets is an equivalence, of records and of lists.
+#[tactic(auto, using(crate::proofs::SameUpToOrder::sameness))]
+pub fn sameness_is_an_equivalence()
+    ensures reflexive { (r : Record) → Same r r }
+    ensures symmetric { (r s : Record) → Same r s → Same s r }
+    ensures transitive { (r s t : Record) → Same r s → Same s t → Same r t }
+    ensures reflexive_of_lists { (rs : Records) → SameAll rs rs }
+    ensures symmetric_of_lists { (rs ss : Records) → SameAll rs ss → SameAll ss rs }
+    ensures transitive_of_lists { (rs ss ts : Records) → SameAll rs ss → SameAll ss ts → SameAll rs ts }
 {}
