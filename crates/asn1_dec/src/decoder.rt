@@ -11,11 +11,14 @@ ghost use Rattle.asn1_model.specs.Tags.{tree_tags};
 ghost use Rattle.asn1_tags.specs.Trees.{choice, shape};
 ghost use Rattle.asn1_tags.specs.declared.tags.Tag.{Tag};
 ghost use Rattle.asn1_values.specs.Alphabets.{is_ia5, is_numeric, is_printable, is_visible};
+ghost use Rattle.std.specs.Cmp.Lexicographic.{pointwise};
 ghost use Rattle.std.specs.List.{flat_map};
 ghost use Rattle.std.specs.Prelude.{◌≡◌, ◌≤◌, ◌<◌, ◌^◌, [], ◌∷◌, ⊤, All, IsTrue, List, ℕ, true};
 ghost use Rattle.std.specs.Str.{IsUtf8};
 ghost use Rattle.std.specs.String.{string_bytes};
 
+use crate::decode::Decode;
+use crate::elements::read_elements;
 use crate::error::DecodeError;
 use asn1_bounds::{Codec, Constraints};
 use asn1_choices::Choice;
@@ -265,4 +268,37 @@ pub trait Decoder {
 
     // The law of a codec.
     ghost lawful: { IsLawful reader };
+
+    /// A value after an explicit tag.
+    final fn decode_explicit_prefix<T: Decode>(&mut self, tag: Tag) -> Result<T, DecodeError>
+    where
+        Self: Sized,
+        ensures read { (v : T) (n : Name) (rest : List Record) (outer : Ahead) → CanStandInside T.meaning → T.meaning.IsOfType v → T.meaning.IsValid reader.takes v → ReadsBack reader self.old self.new (prefix_records tag n (own_records T.meaning v)) rest outer (λ w. T.eq w v ≡ true) result }
+        ensures keeps { Keeps reader self.old self.new result }
+    {
+        self.open_explicit_prefix(tag)?;
+        let value = match T::decode(self) {
+            Ok(value) => value,
+            Err(error) => return Err(self.refuse(error)),
+        };
+        self.close()?;
+        Ok(value)
+    }
+
+    /// A SEQUENCE OF, by its elements.
+    final fn decode_sequence_of<T: Decode>(
+        &mut self,
+        tag: Tag,
+        constraints: &Constraints<'_>,
+    ) -> Result<Vec<T>, DecodeError>
+    where
+        Self: Sized,
+        ensures read { (vs : List T) (n : Name) (rest : List Record) (outer : Ahead) → CanStandInside T.meaning → All T.meaning.IsOfType vs → All (T.meaning.IsValid reader.takes) vs → ReadsBack reader self.old self.new (list_records tag (constraint_set constraints.now) n (flat_map (own_records T.meaning) vs)) rest outer (λ w. pointwise T.eq w.items vs ≡ true) result }
+        ensures keeps { Keeps reader self.old self.new result }
+    {
+        let bound = self.open_sequence_of(tag, constraints)?;
+        let elements = read_elements(self, bound)?;
+        self.close()?;
+        Ok(elements)
+    }
 }

@@ -1,0 +1,58 @@
+//! Types that are read.
+ghost use Rattle.asn1_dec.specs.Reading.{ReadsValue};
+ghost use Rattle.asn1_model.specs.ConstraintSets.{constraint_set};
+ghost use Rattle.std.specs.Prelude.{◌≡◌, OnOk};
+
+use crate::decoder::Decoder;
+use crate::error::DecodeError;
+use asn1_bounds::Constraints;
+use asn1_model::AsnType;
+use asn1_tags::Tag;
+
+/// A type whose values are read.
+///
+/// Before the records of a valid value of a well-tagged type, under what the entry point is given, a tag and constraints, and
+/// any name, the answer is an equal value, and the decoder stands before what follows. It fails there only for want of memory,
+/// or where the records are higher than the allowance. What an entry point is not given is the type's own. A success leaves the
+/// allowance as it was.
+///
+/// An error is one of the decoder's calls, after which the decoder has failed, or one of the type itself.
+pub trait Decode: AsnType + Eq + Sized + Drop {
+    /// Reads a value under a tag and constraints.
+    fn decode_with_tag_and_constraints<D: Decoder>(
+        decoder: &mut D,
+        tag: Tag,
+        constraints: &Constraints<'_>,
+    ) -> Result<Self, DecodeError>
+        ensures read { ReadsValue D.reader Self.meaning Self.eq tag (constraint_set constraints.now) decoder.old decoder.new result }
+        ensures same_allowance { OnOk result (D.reader.allowance decoder.new ≡ D.reader.allowance decoder.old) };
+
+    /// Reads a value under the type's own tag and constraints. Where there is no memory for these, the error is
+    /// [`DecodeError::Memory`], and the decoder is as it was.
+    final fn decode<D: Decoder>(decoder: &mut D) -> Result<Self, DecodeError>
+        ensures read { ReadsValue D.reader Self.meaning Self.eq Self.meaning.tag Self.meaning.constraints decoder.old decoder.new result }
+        ensures same_allowance { OnOk result (D.reader.allowance decoder.new ≡ D.reader.allowance decoder.old) }
+    {
+        Self::decode_with_tag(decoder, Self::tag())
+    }
+
+    /// Reads a value under a tag.
+    final fn decode_with_tag<D: Decoder>(decoder: &mut D, tag: Tag) -> Result<Self, DecodeError>
+        ensures read { ReadsValue D.reader Self.meaning Self.eq tag Self.meaning.constraints decoder.old decoder.new result }
+        ensures same_allowance { OnOk result (D.reader.allowance decoder.new ≡ D.reader.allowance decoder.old) }
+    {
+        let constraints = Self::constraints(decoder.global())?;
+        Self::decode_with_tag_and_constraints(decoder, tag, &constraints)
+    }
+
+    /// Reads a value under constraints.
+    final fn decode_with_constraints<D: Decoder>(
+        decoder: &mut D,
+        constraints: &Constraints<'_>,
+    ) -> Result<Self, DecodeError>
+        ensures read { ReadsValue D.reader Self.meaning Self.eq Self.meaning.tag (constraint_set constraints.now) decoder.old decoder.new result }
+        ensures same_allowance { OnOk result (D.reader.allowance decoder.new ≡ D.reader.allowance decoder.old) }
+    {
+        Self::decode_with_tag_and_constraints(decoder, Self::tag(), constraints)
+    }
+}

@@ -1,0 +1,16 @@
+//! Reading of lists of elements (X.680, 26).
+use crate::decode::Decode;
+use crate::decoder::Decoder;
+use crate::error::DecodeError;
+use asn1_bounds::Constraints;
+use asn1_tags::Tag;
+
+impl<T: Decode> Decode for Vec<T> {
+    fn decode_with_tag_and_constraints<D: Decoder>(
+        decoder: &mut D,
+        tag: Tag,
+        constraints: &Constraints<'_>,
+    ) -> Result<Vec<T>, DecodeError> {
+        decoder.decode_sequence_of(tag, constraints)
+    }
+}

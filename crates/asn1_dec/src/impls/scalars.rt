@@ -1,0 +1,158 @@
+//! Reading of NULL, BOOLEAN and INTEGER (X.680, 18, 19 and 24).
+use crate::decode::Decode;
+use crate::decoder::Decoder;
+use crate::error::DecodeError;
+use asn1_bounds::Constraints;
+use asn1_tags::Tag;
+use asn1_values::{Integer, LimitedInteger, Limits};
+
+impl Decode for () {
+    fn decode_with_tag_and_constraints<D: Decoder>(
+        decoder: &mut D,
+        tag: Tag,
+        _constraints: &Constraints<'_>,
+    ) -> Result<(), DecodeError> {
+        decoder.decode_null(tag)
+    }
+}
+
+impl Decode for bool {
+    fn decode_with_tag_and_constraints<D: Decoder>(
+        decoder: &mut D,
+        tag: Tag,
+        _constraints: &Constraints<'_>,
+    ) -> Result<bool, DecodeError> {
+        decoder.decode_bool(tag)
+    }
+}
+
+impl Decode for u8 {
+    fn decode_with_tag_and_constraints<D: Decoder>(
+        decoder: &mut D,
+        tag: Tag,
+        constraints: &Constraints<'_>,
+    ) -> Result<u8, DecodeError> {
+        decoder.decode_integer(tag, constraints)
+    }
+}
+
+impl Decode for u16 {
+    fn decode_with_tag_and_constraints<D: Decoder>(
+        decoder: &mut D,
+        tag: Tag,
+        constraints: &Constraints<'_>,
+    ) -> Result<u16, DecodeError> {
+        decoder.decode_integer(tag, constraints)
+    }
+}
+
+impl Decode for u32 {
+    fn decode_with_tag_and_constraints<D: Decoder>(
+        decoder: &mut D,
+        tag: Tag,
+        constraints: &Constraints<'_>,
+    ) -> Result<u32, DecodeError> {
+        decoder.decode_integer(tag, constraints)
+    }
+}
+
+impl Decode for u64 {
+    fn decode_with_tag_and_constraints<D: Decoder>(
+        decoder: &mut D,
+        tag: Tag,
+        constraints: &Constraints<'_>,
+    ) -> Result<u64, DecodeError> {
+        decoder.decode_integer(tag, constraints)
+    }
+}
+
+impl Decode for usize {
+    fn decode_with_tag_and_constraints<D: Decoder>(
+        decoder: &mut D,
+        tag: Tag,
+        constraints: &Constraints<'_>,
+    ) -> Result<usize, DecodeError> {
+        decoder.decode_integer(tag, constraints)
+    }
+}
+
+impl Decode for i8 {
+    fn decode_with_tag_and_constraints<D: Decoder>(
+        decoder: &mut D,
+        tag: Tag,
+        constraints: &Constraints<'_>,
+    ) -> Result<i8, DecodeError> {
+        decoder.decode_integer(tag, constraints)
+    }
+}
+
+impl Decode for i16 {
+    fn decode_with_tag_and_constraints<D: Decoder>(
+        decoder: &mut D,
+        tag: Tag,
+        constraints: &Constraints<'_>,
+    ) -> Result<i16, DecodeError> {
+        decoder.decode_integer(tag, constraints)
+    }
+}
+
+impl Decode for i32 {
+    fn decode_with_tag_and_constraints<D: Decoder>(
+        decoder: &mut D,
+        tag: Tag,
+        constraints: &Constraints<'_>,
+    ) -> Result<i32, DecodeError> {
+        decoder.decode_integer(tag, constraints)
+    }
+}
+
+impl Decode for i64 {
+    fn decode_with_tag_and_constraints<D: Decoder>(
+        decoder: &mut D,
+        tag: Tag,
+        constraints: &Constraints<'_>,
+    ) -> Result<i64, DecodeError> {
+        decoder.decode_integer(tag, constraints)
+    }
+}
+
+impl Decode for isize {
+    fn decode_with_tag_and_constraints<D: Decoder>(
+        decoder: &mut D,
+        tag: Tag,
+        constraints: &Constraints<'_>,
+    ) -> Result<isize, DecodeError> {
+        decoder.decode_integer(tag, constraints)
+    }
+}
+
+impl Decode for i128 {
+    fn decode_with_tag_and_constraints<D: Decoder>(
+        decoder: &mut D,
+        tag: Tag,
+        constraints: &Constraints<'_>,
+    ) -> Result<i128, DecodeError> {
+        decoder.decode_integer(tag, constraints)
+    }
+}
+
+impl Decode for Integer {
+    fn decode_with_tag_and_constraints<D: Decoder>(
+        decoder: &mut D,
+        tag: Tag,
+        constraints: &Constraints<'_>,
+    ) -> Result<Integer, DecodeError> {
+        decoder.decode_integer(tag, constraints)
+    }
+}
+
+impl<L: Limits> Decode for LimitedInteger<L> {
+    fn decode_with_tag_and_constraints<D: Decoder>(
+        decoder: &mut D,
+        tag: Tag,
+        constraints: &Constraints<'_>,
+    ) -> Result<LimitedInteger<L>, DecodeError> {
+        let number = decoder.decode_integer::<Integer>(tag, constraints)?;
+        LimitedInteger::new(number).ok_or(DecodeError::OutOfRange)
+    }
+}
