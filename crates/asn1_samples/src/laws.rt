@@ -1,32 +1,60 @@
 //! Laws of what no other contract names: which values of a type are equal.
-ghost use Rattle.std.specs.Prelude.{◌≡◌, ◌↔◌, IsTrue};
+ghost use Rattle.std.specs.Cmp.Lexicographic.{pointwise};
 ghost use Rattle.std.specs.Hash as fed;
-ghost use Rattle.std.specs.String.{string_bytes};
+ghost use Rattle.std.specs.Option.{option_eq};
+ghost use Rattle.std.specs.Prelude.{◌≡◌, ◌↔◌, ◌&&◌, IsTrue, nat_eq};
+ghost use Rattle.std.specs.String.{string_bytes, string_eq};
 ghost use Rattle.asn1_samples.specs.declared.labelled.Labelled.{Labelled};
+ghost use Rattle.asn1_samples.specs.declared.node.Node.{out-Node};
 ghost use Rattle.asn1_tags.specs.Derives.{ComparesAll};
 
+use crate::badge::Badge;
 use crate::color::Color;
+use crate::contact::Contact;
+use crate::corner::Corner;
 use crate::envelope::Envelope;
 use crate::labelled::Labelled;
+use crate::node::Node;
 use crate::person::Person;
+use crate::plate::Plate;
+use crate::profile::Profile;
 use crate::settings::Settings;
+use crate::shape::Shape;
 use std::hash::Hash;
 
-/// Whether two persons have one age and one name.
+/// A law of the derived equalities: two values of these types are equal if and only if they are the same.
+pub fn values_are_compared_by_all_that_they_are()
+    ensures contact { ComparesAll ⟦<Contact as PartialEq>⟧.eq }
+    ensures badge { ComparesAll ⟦<Badge as PartialEq>⟧.eq }
+    ensures shape { ComparesAll ⟦<Shape as PartialEq>⟧.eq }
+    ensures corner { ComparesAll ⟦<Corner as PartialEq>⟧.eq }
+    ensures color { ComparesAll ⟦<Color as PartialEq>⟧.eq }
+    ensures envelope { ComparesAll ⟦<Envelope as PartialEq>⟧.eq }
+    ensures plate { ComparesAll ⟦<Plate as PartialEq>⟧.eq }
+{}
+
+/// Whether two persons have the same age and the same name.
 pub fn persons_are_compared_by_age_and_name(a: &Person, b: &Person) -> bool
     ensures { IsTrue result ↔ ((a.now.age ≡ b.now.age) × (string_bytes a.now.name ≡ string_bytes b.now.name)) }
 {
     a == b
 }
 
-/// Whether two envelopes are of one kind, and have the same bytes as their bodies.
-pub fn envelopes_are_compared_by_kind_and_bytes(a: &Envelope, b: &Envelope) -> bool
-    ensures { IsTrue result ↔ ((a.now.kind ≡ b.now.kind) × (a.now.body ≡ b.now.body)) }
+/// Whether two profiles have the same nick, level, color and contact.
+pub fn profiles_are_compared_by_their_components(a: &Profile, b: &Profile) -> bool
+    ensures { result ≡ (option_eq string_eq a.now.nick b.now.nick && (nat_eq a.now.level b.now.level && (⟦<Color as PartialEq>⟧.eq a.now.color b.now.color && option_eq ⟦<Contact as PartialEq>⟧.eq a.now.contact b.now.contact))) }
 {
     a == b
 }
 
-/// Whether two have one key. Their notes are not looked at, and a hasher is fed the key alone.
+/// Whether two nodes have the same label, and equal children in the same order.
+pub fn nodes_are_compared_by_label_and_children(a: &Node, b: &Node) -> bool
+    ensures { result ≡ (option_eq string_eq (out-Node a.now).label (out-Node b.now).label && pointwise ⟦<Node as PartialEq>⟧.eq (out-Node a.now).children.items (out-Node b.now).children.items) }
+{
+    a == b
+}
+
+/// Whether two of them have the same key. Their notes are not looked at, and a hasher is fed the key alone.
 pub fn labelled_are_compared_by_key(a: &Labelled, b: &Labelled) -> bool
     ensures same { IsTrue result ↔ (a.now.key ≡ b.now.key) }
     ensures hash { (l : Labelled) → ⟦<Labelled as Hash>⟧.hash_input l ≡ fed.u8 l.key }
@@ -34,14 +62,9 @@ pub fn labelled_are_compared_by_key(a: &Labelled, b: &Labelled) -> bool
     a == b
 }
 
-/// Whether two settings have entries with one key.
+/// Whether two settings have entries with the same key.
 pub fn settings_are_compared_by_key(a: &Settings, b: &Settings) -> bool
     ensures { IsTrue result ↔ (a.now.entry.key ≡ b.now.entry.key) }
 {
     a == b
 }
-
-/// Two colors are equal if and only if they are the same.
-pub fn colors_are_compared_by_what_they_are()
-    ensures { ComparesAll ⟦<Color as PartialEq>⟧.eq }
-{}

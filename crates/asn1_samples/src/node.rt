@@ -12,7 +12,7 @@ use asn1_types::{
 use asn1_values::Utf8String;
 
 /// A tree of labels: a type that holds itself.
-#[derive(Drop)]
+#[derive(PartialEq, Eq, Debug, Drop)]
 pub struct Node {
     /// `label UTF8String OPTIONAL`
     pub label: Option<Utf8String>,
