@@ -1,0 +1,4 @@
+mod Groups
+mod Records
+mod WithoutConstraints
+mod Writing

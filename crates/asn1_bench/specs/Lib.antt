@@ -1,0 +1,4 @@
+pub mod Encoder
+pub mod Frames
+pub mod Records
+pub mod WithoutConstraints
