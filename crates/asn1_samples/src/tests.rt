@@ -68,6 +68,20 @@ fn choices_have_a_constraint_on_their_places(rt: HostRuntime) {
     assert_variance::<Corner>(&rt, rt.alloc(), 2);
 }
 
+/// Asserts that a type's constraints permit these characters.
+fn assert_characters<T: AsnType>(rt: &impl Abort, alloc: Global, characters: &[u32]) {
+    let constraints = T::constraints(alloc).expect(rt, "memory");
+    match constraints.permitted_alphabet() {
+        Some(part) => assert!(rt; part.constraint.as_inner() == characters),
+        None => panic!(rt; "no alphabet"),
+    }
+}
+
+#[test]
+fn plates_have_three_letters(rt: HostRuntime) {
+    assert_characters::<Plate>(&rt, rt.alloc(), &[65, 66, 67]);
+}
+
 #[test]
 fn colors_are_found_by_number(rt: HostRuntime) {
     assert!(rt; Color::from_discriminant(5) == Some(Color::Blue));
