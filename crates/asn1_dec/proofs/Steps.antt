@@ -1,5 +1,6 @@
 -- How steps of reading follow one another.
-use Rattle.std.proofs.Common.{◌≡◌, ℕ, suc, max, ◌<◌, ◌≤◌, List, [], ◌∷◌, ◌++◌, ◌⊎◌, inl, inr, arith, ap, sym, ◌∙◌, subst, append-nil, Result, Ok, Err}
+use Rattle.std.proofs.Common.{◌≡◌, Bool, true, ℕ, suc, max, ◌<◌, ◌≤◌, List, [], ◌∷◌, ◌++◌, ◌⊎◌, inl, inr, arith, ap, sym, ◌∙◌, subst, append-nil, Result, Ok, Err}
+use Rattle.std.specs.Cmp.{IsEquivalence}
 use Rattle.asn1_model.specs.Records.{Record, Head, height, highest, held, holding, inner_height}
 use Rattle.asn1_model.proofs.Lists.{inner_height-held}
 use Rattle.asn1_dec.specs.declared.error.DecodeError.{DecodeError}
@@ -14,6 +15,10 @@ max-zero n = omega arith
 
 pub highest-holding : (h : Head) (rs : List Record) → highest (holding h rs ∷ []) ≡ suc (highest rs)
 highest-holding h rs = max-zero (height (holding h rs)) ∙ ap suc (inner_height-held rs)
+
+-- what is the same is equal
+pub same_is_equal : {V : Type 0} {eq : V → V → Bool} → IsEquivalence eq → (w v : V) → w ≡ v → eq w v ≡ true
+same_is_equal {eq = eq} law w v is = subst (λ x. eq x v ≡ true) (sym is) (law.refl v)
 
 -- a failure before records of no height is one before any others
 pub flat_failure : {a : ℕ} (b h : ℕ) (e : DecodeError) → MayFail a 0 e → MayFail b h e

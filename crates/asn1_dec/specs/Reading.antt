@@ -85,6 +85,18 @@ module _ {D : Type 0} (R : Reader D) where
       m.IsWellTagged t → m.IsOfType v → m.IsValid R.takes v → MayFollow m t (m.records v t c n) rest →
       ReadsBack old new (m.records v t c n) rest outer (λ w. eq w v ≡ true) result
 
+  -- A type's own error: the decoder has not failed, and stands before what follows the records.
+  pub record IsOwnError (new : D) (rest : List Record) (outer : Ahead) (own e : DecodeError) : Type 0 where
+    pub error : e ≡ own
+    pub sound : R.failed new ≡ false
+    pub at : R.stands new (rest ∷ outer)
+
+  -- a call that reads these records, before those, and refuses what they say by an error of its type's own
+  abbrev pub ReadsAndRefuses : {V : Type 0} → D → D → List Record → List Record → Ahead → DecodeError → Result V DecodeError → Type 0
+  ReadsAndRefuses old new rs rest outer own result =
+      R.stands old ((rs ++ rest) ∷ outer) →
+      MatchResult result (λ _. ⊥) (λ e. MayFail (R.allowance old) (highest rs) e ⊎ IsOwnError new rest outer own e)
+
   -- A call that tells whether a component is there, which has these tags, and goes past the presence mark that says so. A
   -- component that is there begins with one of its tags; what follows one that is absent begins with none.
   pub record TellsPresence (old new : D) (present absent : Mark) (own : Tags) (result : Result Bool DecodeError) : Type 0 where
