@@ -43,8 +43,8 @@ impl RecordEncoder {
     ghost use Rattle.asn1_tags.specs.Names.{name_of};
     ghost use Rattle.std.specs.Prelude.{◌≡◌, [], ◌∷◌, ⊤, IfOk, List, false};
 
-    #[tactic(auto, using(crate::proofs::Writing::begins))]
     /// An encoder that may open so many scopes in one another, and has written nothing.
+    #[tactic(auto, using(crate::proofs::Writing::begins))]
     pub fn new(alloc: Global, depth: usize) -> RecordEncoder
         ensures nothing_written { record_writer.wrote result (outermost []) }
         ensures allowance { record_writer.allowance result ≡ depth }

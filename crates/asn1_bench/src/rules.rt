@@ -18,7 +18,9 @@ pub struct BenchRules {
 
 impl BenchRules {
     /// The rules, with the allocator that outputs are made by.
-    pub fn new(alloc: Global) -> BenchRules {
+    pub fn new(alloc: Global) -> BenchRules
+        ensures { result.alloc ≡ alloc }
+    {
         BenchRules { alloc }
     }
 

@@ -10,6 +10,6 @@ invariant_of-self-in_default c = record { counted = room_with_scope _ _ (record 
 
 pub returns : goal.returns
 returns c = λ h is.
-    let one_less : c.args.self.now.allowance ≡ suc (c.args.self.now.allowance - 1) = omega (arith, c.if-self-eq0.false) in
+    let one_less : c.args.self.now.allowance ≡ suc (c.args.self.now.allowance - 1) = omega arith in
     scope_is_open in_one_order
     (scope_opened _ _ (record { records = c.replace-records.result; inner = Scope c.args.head }) c.args.head h refl is c.in_default.ensures.items (ap (λ v. v.items) c.replace-records.ensures.value) (ap (λ v. v.items) c.replace-records.ensures.after ∙ c.new.ensures.items) one_less c.if-self.false c.if-self.false)

@@ -1,0 +1,5 @@
+//! What is written, as text.
+mod calls;
+mod failures;
+mod samples;
+mod text;
