@@ -1,0 +1,44 @@
+-- What a codec as a whole says of itself, and what writing and reading a value answer.
+use Rattle.std.specs.Prelude.{◌≡◌, ◌≢◌, ◌⊎◌, ℕ, ◌≤◌, ◌<◌, Bool, List, MatchResult, Result}
+use Rattle.asn1_enc.specs.Writing.{IsCustom, SameRecords}
+use Rattle.asn1_enc.specs.declared.error.EncodeError.{EncodeError}
+use Rattle.asn1_enc.specs.declared.error.EncodeError.TheVariants as writing
+use Rattle.asn1_dec.specs.declared.error.DecodeError.{DecodeError}
+use Rattle.asn1_dec.specs.declared.error.DecodeError.TheVariants as reading
+use Rattle.asn1_model.specs.Records.{Record, highest}
+
+-- What the outputs of a codec are: which records an output carries, which records may be refused, and which byte strings are
+-- one value each of an open type. One output may carry many lists of records.
+pub record Format (O : Type 0) : Type 1 where
+  pub carries : O → List Record → Type 0
+  pub rejects : List Record → Type 0
+  pub takes : List ℕ → Bool
+
+module _ {O : Type 0} (F : Format O) where
+  -- What these keep to: the order inside sets means nothing.
+  pub record IsLawful : Type 0 where
+    pub carries_in_any_order : (output : O) (rs ss : List Record) → SameRecords rs ss → F.carries output rs → F.carries output ss
+    pub rejects_in_any_order : (rs ss : List Record) → SameRecords rs ss → F.rejects rs → F.rejects ss
+
+  -- The output carries the records, which are no higher than the depth, and the value that they are of has what it has by its
+  -- type.
+  pub record IsWritten (rs : List Record) (IsOfType : Type 0) (depth : ℕ) (output : O) : Type 0 where
+    pub carried : F.carries output rs
+    pub within_depth : highest rs ≤ depth
+    pub of_type : IsOfType
+
+  -- There was no memory, or the records are higher than the depth, or rejected.
+  pub record IsNotWritten (rs : List Record) (depth : ℕ) (e : EncodeError) : Type 0 where
+    pub too_high : e ≡ writing.Depth → depth < highest rs
+    pub rejected : IsCustom e → F.rejects rs
+    pub not_failed : e ≢ writing.Failed
+
+  -- a call that writes records as a whole output
+  abbrev pub WritesWhole : List Record → Type 0 → ℕ → Result O EncodeError → Type 0
+  WritesWhole rs IsOfType depth result = MatchResult result (IsWritten rs IsOfType depth) (IsNotWritten rs depth)
+
+-- The answer is one that this holds of, and the records are no higher than the depth; or there was no memory; or they are
+-- higher.
+abbrev pub ReadsWhole : {V : Type 0} → ℕ → ℕ → (V → Type 0) → Result V DecodeError → Type 0
+ReadsWhole height depth Is result =
+    MatchResult result (λ w. Is w × (height ≤ depth)) (λ e. (e ≡ reading.Memory) ⊎ ((e ≡ reading.Depth) × (depth < height)))
