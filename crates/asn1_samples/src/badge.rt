@@ -10,7 +10,6 @@ use crate::shape::Shape;
 use asn1_enc::{Encode, EncodeError, EncodeFields, Encoder};
 use asn1_types::{
     AsnType, Constraints, ConstructedType, Field, FieldTable, Identifier, Tag, TypeTable,
-    tables_are_in_order,
 };
 use asn1_values::VisibleString;
 
@@ -70,9 +69,7 @@ pub fn badge_can_stand_inside()
 pub fn badge_table_is_canonical()
     ensures indices { map (λ entry. entry.index) (table ⟦<Badge as FieldTable>⟧.components) ≡ 2 ∷ 0 ∷ 1 ∷ [] }
     ensures canonical { IsCanonical (map component_of (root_entries ⟦<Badge as FieldTable>⟧.components)) }
-{
-    tables_are_in_order::<Badge>();
-}
+{}
 
 impl Encode for Badge {
     fn encode_with_tag_and_constraints<E: Encoder>(

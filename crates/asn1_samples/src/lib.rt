@@ -19,7 +19,7 @@
 //!   same. The writer has a line for each component (`encode_field`) or alternative (`encode_alternative`), and no proof.
 //! - Each can be inside other types: `person_can_stand_inside` and its kin.
 //! - The records of some values are written out: `person_records` and its kin. `profile_is_valid` and `envelope_is_valid` say
-//!   which values are valid.
+//!   which values are valid, and `node_is_two_higher_than_its_children` how many scopes a node needs.
 //! - [`laws`] says when two values are equal.
 //! - A type that holds itself states its components by what is inside a value. `specs/NodeComponents.antt` has the form: the
 //!   records follow by a fold, and what a value has by its type is said of all labels inside it. The prover wants such a type
@@ -50,7 +50,7 @@ pub use contact::Contact;
 pub use corner::{Corner, corner_can_stand_inside, corner_records};
 pub use envelope::{Envelope, envelope_can_stand_inside, envelope_is_valid, envelope_records};
 pub use labelled::{Labelled, labelled_can_stand_inside, labelled_records};
-pub use node::{Node, node_can_stand_inside, node_records};
+pub use node::{Node, node_can_stand_inside, node_is_two_higher_than_its_children, node_records};
 pub use person::{Person, person_can_stand_inside, person_records};
 pub use plate::{Plate, plate_can_stand_inside, plate_records};
 pub use profile::{Profile, profile_can_stand_inside, profile_is_valid, profile_records};

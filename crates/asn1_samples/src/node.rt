@@ -1,7 +1,9 @@
 //! `Node ::= SEQUENCE { label UTF8String OPTIONAL, children SEQUENCE OF Node }`
-ghost use Rattle.std.specs.Prelude.{◌≡◌, [], ◌∷◌, None, Some, codes};
+ghost use Rattle.std.specs.List.{flat_map};
+ghost use Rattle.std.specs.Prelude.{◌≡◌, ◌+◌, [], ◌∷◌, None, Some, codes};
 ghost use Rattle.std.specs.String.{string_bytes};
 ghost use Rattle.asn1_types.specs.Words.{universal, CanStandInside, own_records, holding, sequence_head, sequence_of, scalar, mark, absent, present, units, utf8, unconstrained};
+ghost use Rattle.asn1_model.specs.Records.{highest};
 ghost use Rattle.asn1_samples.specs.NodeComponents.{node_components, node_agrees, node_meaning};
 ghost use Rattle.asn1_samples.specs.declared.node.Node.{out-Node};
 
@@ -93,4 +95,14 @@ pub fn node_records(parent: &Node, child: &Node, label: &Utf8String)
         mark (present (universal 12)) ∷
         scalar (universal 12) unconstrained (Some (codes "UTF8String")) (units utf8 (string_bytes label.now)) ∷
         holding (sequence_of (universal 16) unconstrained (Some (codes "SEQUENCE_OF"))) [] ∷ []) ∷ []) ∷ []) ∷ [] }
+{}
+
+/// How many records are in one another in a node: two more than in its children, which are in a SEQUENCE and in a SEQUENCE OF.
+/// So many scopes have to be open at once to write it.
+#[tactic(auto, using(crate::proofs::NodeHeights::node_height))]
+pub fn node_is_two_higher_than_its_children(node: &Node)
+    ensures height { highest (own_records ⟦<Node as AsnType>⟧.meaning node.now) ≡
+        highest (flat_map (own_records ⟦<Node as AsnType>⟧.meaning) (out-Node node.now).children.items) + 2 }
+    ensures without_children { (out-Node node.now).children.items ≡ [] →
+        highest (own_records ⟦<Node as AsnType>⟧.meaning node.now) ≡ 2 }
 {}
