@@ -1,17 +1,11 @@
 -- How records without constraints are put together.
-use Rattle.std.proofs.Common.{◌≡◌, Bool, true, false, ◌&&◌, List, [], ◌∷◌, ◌++◌, map, if◌then◌else◌, refl, sym, ap, ◌∙◌, subst, Some}
-use Rattle.std.specs.Prelude.{IsPermutation}
+use Rattle.std.proofs.Common.{◌≡◌, Bool, true, false, ◌&&◌, List, [], ◌∷◌, ◌++◌, if◌then◌else◌, refl, sym, ap, ◌∙◌, Some}
 use Rattle.std.proofs.lemmas.List.{map-append}
-use Rattle.std.proofs.lemmas.List.Sorted.{IsPermutation-map}
 use Rattle.asn1_enc.specs.Writing.{Written, outermost, in_scope, in_group, followed_by}
 use Rattle.asn1_model.specs.Composites.{group_records}
-use Rattle.asn1_model.specs.Records.{Record, Records, none, more, held, listed, scalar, scope, raw, mark, Head, sequence, set, sequence_of, set_of, prefix, alternative, holding, is_mark, marks_alone, group_start, group_absent, group_end}
-use Rattle.asn1_model.specs.Orders.{Same, SameAll, is_unordered, equal, in_place, in_any_order, at_end, next}
-use Rattle.asn1_bench.specs.WithoutConstraints.{head_without, record_without, inner_without, without_constraints, written_without}
-
-pub inner_without-held : (rs : List Record) → inner_without (held rs) ≡ held (without_constraints rs)
-inner_without-held [] = refl
-inner_without-held (r ∷ rs) = ap (λ l. more (record_without r) l) (inner_without-held rs)
+use Rattle.asn1_model.specs.Records.{Record, scalar, scope, raw, mark, Head, holding, is_mark, marks_alone, group_start, group_absent, group_end}
+use Rattle.asn1_bench.specs.AnyOrder.{inner_without-held}
+use Rattle.asn1_bench.specs.WithoutConstraints.{head_without, record_without, without_constraints, written_without}
 
 pub record_without-holding : (h : Head) (rs : List Record) → record_without (holding h rs) ≡ holding (head_without h) (without_constraints rs)
 record_without-holding h rs = ap (λ l. scope (head_without h) l) (inner_without-held rs)
@@ -44,39 +38,3 @@ pub written_without-followed : (w : Written) (rs : List Record) → written_with
 written_without-followed (outermost done) rs = ap outermost (map-append record_without done rs)
 written_without-followed (in_scope h done outer) rs = ap (λ l. in_scope (head_without h) l (written_without outer)) (map-append record_without done rs)
 written_without-followed (in_group done outer) rs = ap (λ l. in_group l (written_without outer)) (map-append record_without done rs)
-
--- Order.
-
-is_unordered-without : (h : Head) → is_unordered (head_without h) ≡ is_unordered h
-is_unordered-without (sequence t n) = refl
-is_unordered-without (set t n) = refl
-is_unordered-without (sequence_of t c n) = refl
-is_unordered-without (set_of t c n) = refl
-is_unordered-without (prefix t n) = refl
-is_unordered-without (alternative t c n) = refl
-
-listed-without : (rs : Records) → listed (inner_without rs) ≡ map record_without (listed rs)
-listed-without none = refl
-listed-without (more r rs) = ap (λ l. record_without r ∷ l) (listed-without rs)
-
-moved-without : (qs ss : Records) → IsPermutation (listed qs) (listed ss) → IsPermutation (listed (inner_without qs)) (listed (inner_without ss))
-moved-without qs ss moved =
-    subst (λ l. IsPermutation l (listed (inner_without ss))) (sym (listed-without qs))
-    (subst (λ l. IsPermutation (map record_without (listed qs)) l) (sym (listed-without ss)) (IsPermutation-map record_without (listed qs) (listed ss) moved))
-
--- what is the same up to order is so without constraints
-mutual
-  same_record-without : {r s : Record} → Same r s → Same (record_without r) (record_without s)
-  same_record-without (equal r) = equal (record_without r)
-  same_record-without (in_place h all) = in_place (head_without h) (same_inner-without all)
-  same_record-without (in_any_order h {qs = qs} {ss = ss} unordered all moved) =
-      in_any_order (head_without h) (is_unordered-without h ∙ unordered) (same_inner-without all) (moved-without qs ss moved)
-
-  same_inner-without : {rs ss : Records} → SameAll rs ss → SameAll (inner_without rs) (inner_without ss)
-  same_inner-without at_end = at_end
-  same_inner-without (next same all) = next (same_record-without same) (same_inner-without all)
-
-pub same-without : (rs ss : List Record) → SameAll (held rs) (held ss) → SameAll (held (without_constraints rs)) (held (without_constraints ss))
-same-without rs ss all =
-    subst (λ l. SameAll l (held (without_constraints ss))) (inner_without-held rs)
-    (subst (λ l. SameAll (inner_without (held rs)) l) (inner_without-held ss) (same_inner-without all))

@@ -15,7 +15,8 @@ use Rattle.asn1_model.specs.Orders.{SameAll}
 use Rattle.asn1_bench.specs.WithoutConstraints.{record_without, without_constraints, written_without, head_without}
 use Rattle.asn1_bench.specs.Encoder.{inside, inside_all, written_so_far, in_one_order, record_writer}
 use Rattle.asn1_bench.specs.Frames.{counted, scopes_in}
-use Rattle.asn1_bench.proofs.WithoutConstraints.{record_without-holding, written_without-followed, group_records-without, same-without}
+use Rattle.asn1_bench.proofs.WithoutConstraints.{record_without-holding, written_without-followed, group_records-without}
+use Rattle.asn1_bench.specs.AnyOrder.{same-without}
 use Rattle.asn1_bench.specs.declared.record.Record.{Record}
 use Rattle.asn1_bench.specs.declared.record.Head.{Head}
 use Rattle.asn1_bench.specs.declared.frame.Frame.{Frame}

@@ -1,3 +1,4 @@
+pub mod AnyOrder
 pub mod Encoder
 pub mod Frames
 pub mod Records

@@ -16,6 +16,7 @@
 //! - Where `write_value` succeeds, its output is the value's own records without constraints, up to the order inside sets
 //!   (`carries`), which are no higher than the depth (`within_depth`), and the value has what each value of its type has
 //!   (`of_type`). `Depth` comes only where they are higher (`too_high`), and else the error is `Memory` (`no_other_error`).
+//! - What an output carries it carries in any order of what its sets hold (`carries_in_any_order`; [`laws`]).
 //! - `specs/Records.antt` says what a record of a program is to a codec (`record_of`).
 #![tactic(auto)]
 
@@ -23,6 +24,7 @@ mod content;
 mod encoder;
 mod frame;
 mod group;
+pub mod laws;
 mod record;
 mod rules;
 #[cfg(test)]
