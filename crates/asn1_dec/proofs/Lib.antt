@@ -1,2 +1,3 @@
+pub mod Absence
 pub mod Midway
 pub mod Steps

@@ -1,11 +1,13 @@
 -- Before what a decoder stands, and what a call of it does.
-use Rattle.std.specs.Prelude.{◌≡◌, ◌≢◌, ◌⊎◌, ℕ, suc, ◌≤◌, ◌<◌, Bool, true, false, List, [], ◌∷◌, ◌++◌, IsPermutation, Option, None, Some, Result, Err, MatchResult, OnOk, OnErr, if◌then◌else◌}
+use Rattle.std.specs.Prelude.{◌≡◌, ◌≢◌, ◌⊎◌, ℕ, suc, ◌≤◌, ◌<◌, Bool, true, false, List, [], ◌∷◌, ◌++◌, IsPermutation, Option, None, Some, IfSome, Result, Err, MatchResult, OnOk, OnErr, if◌then◌else◌}
+use Rattle.std.specs.Option.{option_eq, option_map}
 use Rattle.asn1_tags.specs.declared.tags.Tag.{Tag}
+use Rattle.asn1_model.specs.Composites.{default_records, option_records, prefix_records}
 use Rattle.asn1_model.specs.ConstraintSets.{ConstraintSet}
-use Rattle.asn1_model.specs.Meaning.{Meaning, tags}
+use Rattle.asn1_model.specs.Meaning.{Meaning, CanStandInside, CanStandInsideUnder, tags}
 use Rattle.asn1_model.specs.Orders.{SameAll}
 use Rattle.asn1_model.specs.Records.{Name, Record, Head, Mark, Content, scalar, mark, held, holding, highest, is_mark, marks_alone}
-use Rattle.asn1_model.specs.Tags.{Tags, BeginsWithin, Has, ShareNone, first_tags}
+use Rattle.asn1_model.specs.Tags.{Tags, only, BeginsWithin, Has, ShareNone, first_tags}
 use Rattle.asn1_dec.specs.declared.error.DecodeError.{DecodeError}
 use Rattle.asn1_dec.specs.declared.error.DecodeError.TheVariants.{Memory, Depth, Failed}
 
@@ -85,10 +87,37 @@ module _ {D : Type 0} (R : Reader D) where
       m.IsWellTagged t → m.IsOfType v → m.IsValid R.takes v → MayFollow m t (m.records v t c n) rest →
       ReadsBack old new (m.records v t c n) rest outer (λ w. eq w v ≡ true) result
 
-  -- A type's own error: the decoder has not failed, and stands before what follows the records.
+  -- A call that reads a component that may be absent, which is written under this tag and begins with one of these tags, by
+  -- the records of a value under any name. What follows one that is absent begins with none of its tags.
+  abbrev pub ReadsOptional : {V : Type 0} → Tag → Tags → (Name → V → List Record) → (CanStandInside : Type 0) → (V → Type 0) → (V → Type 0) → (V → V → Bool) → D → D → Result (Option V) DecodeError → Type 0
+  ReadsOptional {V = V} t own records CanStandInside IsOfType IsValid eq old new result =
+      (v : Option V) (n : Name) (rest : List Record) (outer : Ahead) →
+      CanStandInside → IfSome v IsOfType → IfSome v IsValid → (v ≡ None → ShareNone own (first_tags rest)) →
+      ReadsBack old new (option_records t (option_map (records n) v)) rest outer (λ w. option_eq eq w v ≡ true) result
+
+  -- the same of a value of this type, under these constraints
+  abbrev pub ReadsOption : {V : Type 0} → Meaning V → (V → V → Bool) → Tag → ConstraintSet → D → D → Result (Option V) DecodeError → Type 0
+  ReadsOption m eq t c old new result =
+      ReadsOptional t (tags m t) (λ n v. m.records v t c n) (CanStandInsideUnder m t) m.IsOfType (m.IsValid R.takes) eq old new result
+
+  -- the same after an explicit tag, with the type's own constraints and name
+  abbrev pub ReadsOptionAfterTag : {V : Type 0} → Meaning V → (V → V → Bool) → Tag → ConstraintSet → D → D → Result (Option V) DecodeError → Type 0
+  ReadsOptionAfterTag m eq t c old new result =
+      ReadsOptional t (only t) (λ n v. prefix_records t n (m.records v m.tag c m.name)) (CanStandInside m) m.IsOfType (m.IsValid R.takes) eq old new result
+
+  -- A call that reads a component with a default, which `IsUsual` holds of: it is absent where it equals that. Of an absent
+  -- one nothing is asked, but that what follows begins with none of its tags.
+  abbrev pub ReadsDefault : {V : Type 0} → (V → Type 0) → Meaning V → (V → V → Bool) → Tag → ConstraintSet → D → D → Result V DecodeError → Type 0
+  ReadsDefault {V = V} IsUsual m eq t c old new result =
+      (v : V) (equal : Bool) (n : Name) (rest : List Record) (outer : Ahead) →
+      ((usual : V) → IsUsual usual → eq v usual ≡ equal) →
+      CanStandInsideUnder m t → (equal ≡ false → m.IsOfType v) → (equal ≡ false → m.IsValid R.takes v) →
+      (equal ≡ true → ShareNone (tags m t) (first_tags rest)) →
+      ReadsBack old new (default_records equal t (m.records v t c n)) rest outer (λ w. eq w v ≡ true) result
+
+  -- A type's own error: the decoder stands before what follows the records.
   pub record IsOwnError (new : D) (rest : List Record) (outer : Ahead) (own e : DecodeError) : Type 0 where
     pub error : e ≡ own
-    pub sound : R.failed new ≡ false
     pub at : R.stands new (rest ∷ outer)
 
   -- a call that reads these records, before those, and refuses what they say by an error of its type's own
@@ -133,13 +162,13 @@ module _ {D : Type 0} (R : Reader D) where
   -- has failed answers so.
   pub record Keeps {V : Type 0} (old new : D) (result : Result V DecodeError) : Type 0 where
     pub same_allowance : OnOk result (R.allowance new ≡ R.allowance old)
-    pub sound : OnOk result (R.failed new ≡ false)
     pub failing : OnErr result (R.failed new ≡ true)
     pub refused : R.failed old ≡ true → result ≡ Err Failed
 
   -- A call that opens no scope is not too deep.
   pub record Stays {V : Type 0} (old new : D) (result : Result V DecodeError) : Type 0 where
     pub keeps : Keeps old new result
+    pub sound : OnOk result (R.failed new ≡ false)
     pub not_too_deep : result ≢ Err Depth
 
   -- A call that opens a scope takes one from the allowance. It is too deep if and only if there is none, and says so before

@@ -1,7 +1,7 @@
 //! What a codec reads with.
 ghost use Rattle.asn1_components.specs.ComponentLists.{trees_of};
 ghost use Rattle.asn1_components.specs.Components.{all_components};
-ghost use Rattle.asn1_dec.specs.Reading.{Ahead, Enters, IsLawful, IsNextTag, Keeps, Leaves, Moves, Opens, OpensSet, Reader, ReadsBack, ReadsContent, Stays, TellsMore, TellsPresence, marks_passed, records_in};
+ghost use Rattle.asn1_dec.specs.Reading.{Ahead, Enters, IsLawful, IsNextTag, Keeps, Leaves, Moves, Opens, OpensSet, Reader, ReadsBack, ReadsContent, ReadsDefault, ReadsOption, ReadsOptionAfterTag, Stays, TellsMore, TellsPresence, marks_passed, records_in};
 ghost use Rattle.asn1_enumerations.specs.Enumerations.{number_of};
 ghost use Rattle.asn1_model.specs.Composites.{list_records, prefix_records};
 ghost use Rattle.asn1_model.specs.ConstraintSets.{constraint_set, unconstrained};
@@ -13,11 +13,12 @@ ghost use Rattle.asn1_tags.specs.declared.tags.Tag.{Tag};
 ghost use Rattle.asn1_values.specs.Alphabets.{is_ia5, is_numeric, is_printable, is_visible};
 ghost use Rattle.std.specs.Cmp.Lexicographic.{pointwise};
 ghost use Rattle.std.specs.List.{flat_map};
-ghost use Rattle.std.specs.Prelude.{◌≡◌, ◌≤◌, ◌<◌, ◌^◌, [], ◌∷◌, ⊤, All, IsTrue, List, ℕ, true};
+ghost use Rattle.std.specs.Prelude.{◌≡◌, ◌≤◌, ◌<◌, ◌^◌, [], ◌∷◌, ⊤, All, IsTrue, List, Ok, ℕ, true};
 ghost use Rattle.std.specs.Str.{IsUtf8};
 ghost use Rattle.std.specs.String.{string_bytes};
 
 use crate::decode::Decode;
+use crate::defaults::or_default;
 use crate::elements::read_elements;
 use crate::error::DecodeError;
 use asn1_bounds::{Codec, Constraints};
@@ -30,7 +31,7 @@ use asn1_values::{
     BitString, BmpString, GeneralString, GraphicString, Ia5String, IntegerType, NumericString,
     ObjectIdentifier, PrintableString, TeletexString, VisibleString,
 };
-use std::alloc::Global;
+use std::alloc::{AllocError, Global};
 
 /// A codec that reads records: by calls of its own, on which those for whole types rest.
 ///
@@ -300,5 +301,276 @@ pub trait Decoder {
         let elements = read_elements(self, bound)?;
         self.close()?;
         Ok(elements)
+    }
+
+    /// A component that may be absent.
+    final fn decode_optional<T: Decode>(
+        &mut self,
+        
+    ) -> Result<Option<T>, DecodeError>
+    where
+        Self: Sized,
+        ensures read { ReadsOption reader T.meaning T.eq T.meaning.tag T.meaning.constraints self.old self.new result }
+        ensures keeps { Keeps reader self.old self.new result }
+    {
+        self.decode_optional_with_tag(T::tag())
+    }
+
+    /// The same as `decode_optional`, under a tag.
+    final fn decode_optional_with_tag<T: Decode>(
+        &mut self,
+        tag: Tag,
+    ) -> Result<Option<T>, DecodeError>
+    where
+        Self: Sized,
+        ensures read { ReadsOption reader T.meaning T.eq tag T.meaning.constraints self.old self.new result }
+        ensures keeps { Keeps reader self.old self.new result }
+    {
+        if !self.presence(tag, T::tag_tree_under(tag))? {
+            return Ok(None);
+        }
+        match T::decode_with_tag(self, tag) {
+            Ok(value) => Ok(Some(value)),
+            Err(error) => Err(self.refuse(error)),
+        }
+    }
+
+    /// The same as `decode_optional`, under constraints.
+    final fn decode_optional_with_constraints<T: Decode>(
+        &mut self,
+        constraints: &Constraints<'_>,
+    ) -> Result<Option<T>, DecodeError>
+    where
+        Self: Sized,
+        ensures read { ReadsOption reader T.meaning T.eq T.meaning.tag (constraint_set constraints.now) self.old self.new result }
+        ensures keeps { Keeps reader self.old self.new result }
+    {
+        self.decode_optional_with_tag_and_constraints(T::tag(), constraints)
+    }
+
+    /// The same as `decode_optional`, under a tag and constraints.
+    final fn decode_optional_with_tag_and_constraints<T: Decode>(
+        &mut self,
+        tag: Tag,
+        constraints: &Constraints<'_>,
+    ) -> Result<Option<T>, DecodeError>
+    where
+        Self: Sized,
+        ensures read { ReadsOption reader T.meaning T.eq tag (constraint_set constraints.now) self.old self.new result }
+        ensures keeps { Keeps reader self.old self.new result }
+    {
+        if !self.presence(tag, T::tag_tree_under(tag))? {
+            return Ok(None);
+        }
+        match T::decode_with_tag_and_constraints(self, tag, constraints) {
+            Ok(value) => Ok(Some(value)),
+            Err(error) => Err(self.refuse(error)),
+        }
+    }
+
+    /// The same as `decode_optional`, after an explicit tag.
+    final fn decode_optional_with_explicit_prefix<T: Decode>(
+        &mut self,
+        tag: Tag,
+    ) -> Result<Option<T>, DecodeError>
+    where
+        Self: Sized,
+        ensures read { ReadsOptionAfterTag reader T.meaning T.eq tag T.meaning.constraints self.old self.new result }
+        ensures keeps { Keeps reader self.old self.new result }
+    {
+        if !self.presence(tag, TagTree::Leaf(tag))? {
+            return Ok(None);
+        }
+        let value = self.decode_explicit_prefix(tag)?;
+        Ok(Some(value))
+    }
+
+    /// An addition, which may be absent.
+    final fn decode_extension_addition<T: Decode>(
+        &mut self,
+        
+    ) -> Result<Option<T>, DecodeError>
+    where
+        Self: Sized,
+        ensures read { ReadsOption reader T.meaning T.eq T.meaning.tag T.meaning.constraints self.old self.new result }
+        ensures keeps { Keeps reader self.old self.new result }
+    {
+        self.decode_extension_addition_with_tag(T::tag())
+    }
+
+    /// The same as `decode_extension_addition`, under a tag.
+    final fn decode_extension_addition_with_tag<T: Decode>(
+        &mut self,
+        tag: Tag,
+    ) -> Result<Option<T>, DecodeError>
+    where
+        Self: Sized,
+        ensures read { ReadsOption reader T.meaning T.eq tag T.meaning.constraints self.old self.new result }
+        ensures keeps { Keeps reader self.old self.new result }
+    {
+        if !self.addition_presence(tag, T::tag_tree_under(tag))? {
+            return Ok(None);
+        }
+        match T::decode_with_tag(self, tag) {
+            Ok(value) => Ok(Some(value)),
+            Err(error) => Err(self.refuse(error)),
+        }
+    }
+
+    /// The same as `decode_extension_addition`, under constraints.
+    final fn decode_extension_addition_with_constraints<T: Decode>(
+        &mut self,
+        constraints: &Constraints<'_>,
+    ) -> Result<Option<T>, DecodeError>
+    where
+        Self: Sized,
+        ensures read { ReadsOption reader T.meaning T.eq T.meaning.tag (constraint_set constraints.now) self.old self.new result }
+        ensures keeps { Keeps reader self.old self.new result }
+    {
+        self.decode_extension_addition_with_tag_and_constraints(T::tag(), constraints)
+    }
+
+    /// The same as `decode_extension_addition`, under a tag and constraints.
+    final fn decode_extension_addition_with_tag_and_constraints<T: Decode>(
+        &mut self,
+        tag: Tag,
+        constraints: &Constraints<'_>,
+    ) -> Result<Option<T>, DecodeError>
+    where
+        Self: Sized,
+        ensures read { ReadsOption reader T.meaning T.eq tag (constraint_set constraints.now) self.old self.new result }
+        ensures keeps { Keeps reader self.old self.new result }
+    {
+        if !self.addition_presence(tag, T::tag_tree_under(tag))? {
+            return Ok(None);
+        }
+        match T::decode_with_tag_and_constraints(self, tag, constraints) {
+            Ok(value) => Ok(Some(value)),
+            Err(error) => Err(self.refuse(error)),
+        }
+    }
+
+    /// A component with a default, which is what the closure answers where the component is absent.
+    final fn decode_default<T: Decode, F: FnOnce(Global) -> Result<T, AllocError>>(
+        &mut self,
+        default: F,
+    ) -> Result<T, DecodeError>
+    where
+        Self: Sized,
+        requires { F.IsAlwaysCallable default }
+        ensures read { ReadsDefault reader (λ usual. (a : _) × F.post default a (Ok usual)) T.meaning T.eq T.meaning.tag T.meaning.constraints self.old self.new result }
+        ensures keeps { Keeps reader self.old self.new result }
+    {
+        self.decode_default_with_tag(T::tag(), default)
+    }
+
+    /// The same as `decode_default`, under a tag.
+    final fn decode_default_with_tag<T: Decode, F: FnOnce(Global) -> Result<T, AllocError>>(
+        &mut self,
+        tag: Tag,
+        default: F,
+    ) -> Result<T, DecodeError>
+    where
+        Self: Sized,
+        requires { F.IsAlwaysCallable default }
+        ensures read { ReadsDefault reader (λ usual. (a : _) × F.post default a (Ok usual)) T.meaning T.eq tag T.meaning.constraints self.old self.new result }
+        ensures keeps { Keeps reader self.old self.new result }
+    {
+        let value = self.decode_optional_with_tag::<T>(tag)?;
+        or_default(self, value, default)
+    }
+
+    /// The same as `decode_default`, under constraints.
+    final fn decode_default_with_constraints<T: Decode, F: FnOnce(Global) -> Result<T, AllocError>>(
+        &mut self,
+        default: F,
+        constraints: &Constraints<'_>,
+    ) -> Result<T, DecodeError>
+    where
+        Self: Sized,
+        requires { F.IsAlwaysCallable default }
+        ensures read { ReadsDefault reader (λ usual. (a : _) × F.post default a (Ok usual)) T.meaning T.eq T.meaning.tag (constraint_set constraints.now) self.old self.new result }
+        ensures keeps { Keeps reader self.old self.new result }
+    {
+        self.decode_default_with_tag_and_constraints(T::tag(), default, constraints)
+    }
+
+    /// The same as `decode_default`, under a tag and constraints.
+    final fn decode_default_with_tag_and_constraints<T: Decode, F: FnOnce(Global) -> Result<T, AllocError>>(
+        &mut self,
+        tag: Tag,
+        default: F,
+        constraints: &Constraints<'_>,
+    ) -> Result<T, DecodeError>
+    where
+        Self: Sized,
+        requires { F.IsAlwaysCallable default }
+        ensures read { ReadsDefault reader (λ usual. (a : _) × F.post default a (Ok usual)) T.meaning T.eq tag (constraint_set constraints.now) self.old self.new result }
+        ensures keeps { Keeps reader self.old self.new result }
+    {
+        let value = self.decode_optional_with_tag_and_constraints::<T>(tag, constraints)?;
+        or_default(self, value, default)
+    }
+
+    /// An addition with a default, which is what the closure answers where the addition is absent.
+    final fn decode_extension_addition_with_default<T: Decode, F: FnOnce(Global) -> Result<T, AllocError>>(
+        &mut self,
+        default: F,
+    ) -> Result<T, DecodeError>
+    where
+        Self: Sized,
+        requires { F.IsAlwaysCallable default }
+        ensures read { ReadsDefault reader (λ usual. (a : _) × F.post default a (Ok usual)) T.meaning T.eq T.meaning.tag T.meaning.constraints self.old self.new result }
+        ensures keeps { Keeps reader self.old self.new result }
+    {
+        self.decode_extension_addition_with_default_and_tag(T::tag(), default)
+    }
+
+    /// The same as `decode_extension_addition_with_default`, under a tag.
+    final fn decode_extension_addition_with_default_and_tag<T: Decode, F: FnOnce(Global) -> Result<T, AllocError>>(
+        &mut self,
+        tag: Tag,
+        default: F,
+    ) -> Result<T, DecodeError>
+    where
+        Self: Sized,
+        requires { F.IsAlwaysCallable default }
+        ensures read { ReadsDefault reader (λ usual. (a : _) × F.post default a (Ok usual)) T.meaning T.eq tag T.meaning.constraints self.old self.new result }
+        ensures keeps { Keeps reader self.old self.new result }
+    {
+        let value = self.decode_extension_addition_with_tag::<T>(tag)?;
+        or_default(self, value, default)
+    }
+
+    /// The same as `decode_extension_addition_with_default`, under constraints.
+    final fn decode_extension_addition_with_default_and_constraints<T: Decode, F: FnOnce(Global) -> Result<T, AllocError>>(
+        &mut self,
+        default: F,
+        constraints: &Constraints<'_>,
+    ) -> Result<T, DecodeError>
+    where
+        Self: Sized,
+        requires { F.IsAlwaysCallable default }
+        ensures read { ReadsDefault reader (λ usual. (a : _) × F.post default a (Ok usual)) T.meaning T.eq T.meaning.tag (constraint_set constraints.now) self.old self.new result }
+        ensures keeps { Keeps reader self.old self.new result }
+    {
+        self.decode_extension_addition_with_default_and_tag_and_constraints(T::tag(), default, constraints)
+    }
+
+    /// The same as `decode_extension_addition_with_default`, under a tag and constraints.
+    final fn decode_extension_addition_with_default_and_tag_and_constraints<T: Decode, F: FnOnce(Global) -> Result<T, AllocError>>(
+        &mut self,
+        tag: Tag,
+        default: F,
+        constraints: &Constraints<'_>,
+    ) -> Result<T, DecodeError>
+    where
+        Self: Sized,
+        requires { F.IsAlwaysCallable default }
+        ensures read { ReadsDefault reader (λ usual. (a : _) × F.post default a (Ok usual)) T.meaning T.eq tag (constraint_set constraints.now) self.old self.new result }
+        ensures keeps { Keeps reader self.old self.new result }
+    {
+        let value = self.decode_extension_addition_with_tag_and_constraints::<T>(tag, constraints)?;
+        or_default(self, value, default)
     }
 }

@@ -1,6 +1,7 @@
 //! The types of the lower crates and of the language, read.
 mod holders;
 mod lists;
+mod option;
 mod scalars;
 mod strings;
 mod tagged;

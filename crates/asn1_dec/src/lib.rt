@@ -4,6 +4,7 @@
 mod array;
 mod decode;
 mod decoder;
+mod defaults;
 mod elements;
 mod error;
 mod impls;

@@ -1,0 +1,8 @@
+use Rattle.std.proofs.Common.{ap}
+use Rattle.asn1_model.specs.Tags.{tree_tags}
+use Rattle.asn1_dec.proofs.Absence.{fails_in_component}
+use Rattle.asn1_dec.proofs.decoder.Decoder.decode_extension_addition_with_tag.Goals as goal
+
+pub returns-in-Err-clause-read : goal.returns-in-Err-clause-read
+returns-in-Err-clause-read g c = rw c.refuse.ensures.same
+    (fails_in_component g.Self.Decoder.reader g.T.AsnType.meaning g.T.PartialEq.eq c.args.tag g.T.AsnType.meaning.constraints c.args.self.now c.addition_presence.new.self c.args.self.now _ (ap tree_tags c.tag_tree_under.ensures) c.in_ok-addition_presence.ensures.read c.if-not-branch.false c.in_ok-addition_presence.ensures.stays.keeps.same_allowance c.in-Err.ensures.read)
