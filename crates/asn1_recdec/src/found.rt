@@ -1,0 +1,135 @@
+//! What is found in a record.
+ghost use Rattle.asn1_model.specs.ConstraintSets.{ConstraintSet};
+ghost use Rattle.asn1_model.specs.Records as model;
+ghost use Rattle.asn1_model.specs.Records.{Name, absent, group_absent, group_end, group_start, holding, is_mark, mark, present, raw, scalar};
+ghost use Rattle.asn1_model.specs.Tags.{Has, head_tag, record_tags};
+ghost use Rattle.asn1_dec.specs.declared.error.DecodeError.TheVariants.{Depth, Memory};
+ghost use Rattle.asn1_recdec.specs.Found.{FoundIn, HoldsRecords, IsRecord, Meets};
+ghost use Rattle.asn1_recdec.specs.Records.{content_of, head_of, record_of};
+ghost use Rattle.std.specs.Prelude.{◌≡◌, ◌≢◌, ⊤, Err, IsSomeAnd, List, MatchResult, ℕ, false, true};
+
+use crate::content::Content;
+use crate::record::{Head, Mark, Record};
+use crate::wanted::Wanted;
+use asn1_dec::DecodeError;
+use asn1_tags::Tag;
+use asn1_types::Any;
+use std::alloc::Global;
+
+/// A record is not what it was read as.
+pub(crate) const BAD_ITEM: DecodeError = DecodeError::Custom("bad item");
+
+/// A scope that is opened: the tag of its head, and what is in it.
+#[derive(Drop)]
+pub(crate) struct Scope<'a> {
+    pub(crate) tag: Tag,
+    pub(crate) records: &'a [Record],
+}
+
+impl Head {
+    /// The tag.
+    fn tag(&self) -> Tag
+        ensures { result ≡ head_tag (head_of self.now) }
+    {
+        match self {
+            Head::Sequence(tag, _) => *tag,
+            Head::Set(tag, _) => *tag,
+            Head::SequenceOf(tag, _) => *tag,
+            Head::SetOf(tag, _) => *tag,
+            Head::Prefix(tag, _) => *tag,
+            Head::Alternative(tag, _) => *tag,
+        }
+    }
+}
+
+impl Record {
+    /// Whether it is a presence mark.
+    pub(crate) fn is_mark(&self) -> bool
+        ensures { result ≡ is_mark (record_of self.now) }
+    {
+        matches!(self, Record::Mark(_))
+    }
+
+    /// A tag with which the record begins, if it is no presence mark.
+    pub(crate) fn first_tag(&self) -> Tag
+        ensures { is_mark (record_of self.now) ≡ false → Has (record_tags (record_of self.now)) result }
+    {
+        match self {
+            Record::Scalar(tag, _, _) => *tag,
+            Record::Scope(head, _) => head.tag(),
+            Record::Raw(_, _) | Record::Mark(_) => Tag::EOC,
+        }
+    }
+
+    /// The content under a tag.
+    pub(crate) fn content(&self, tag: Tag) -> Option<&Content>
+        ensures { (c : ConstraintSet) (n : Name) (x : model.Content) → IsRecord self.now (scalar tag c n x) → IsSomeAnd result (λ content. content_of content.now ≡ x) }
+    {
+        match self {
+            Record::Scalar(own, _, content) if *own == tag => Some(content),
+            _ => None,
+        }
+    }
+
+    /// The bytes of an open type.
+    pub(crate) fn bytes(&self, alloc: Global) -> Result<Any, DecodeError>
+        ensures found { (n : Name) (bytes : List ℕ) → FoundIn self.now (raw n bytes) (λ w. w ≡ bytes) result }
+        ensures not_too_deep { result ≢ Err Depth }
+    {
+        match self {
+            Record::Raw(_, any) => Ok(any.try_clone(alloc)?),
+            _ => Err(BAD_ITEM),
+        }
+    }
+
+    /// Whether the component of this tag is there, by the mark that says so.
+    pub(crate) fn presence(&self, tag: Tag) -> Result<bool, DecodeError>
+        ensures there { FoundIn self.now (mark (present tag)) (λ b. b ≡ true) result }
+        ensures away { FoundIn self.now (mark (absent tag)) (λ b. b ≡ false) result }
+        ensures not_too_deep { result ≢ Err Depth }
+    {
+        match self {
+            Record::Mark(Mark::Present(own)) if *own == tag => Ok(true),
+            Record::Mark(Mark::Absent(own)) if *own == tag => Ok(false),
+            _ => Err(BAD_ITEM),
+        }
+    }
+
+    /// Whether a group is there, by the mark that says so.
+    pub(crate) fn group(&self) -> Result<bool, DecodeError>
+        ensures there { FoundIn self.now (mark group_start) (λ b. b ≡ true) result }
+        ensures away { FoundIn self.now (mark group_absent) (λ b. b ≡ false) result }
+        ensures not_too_deep { result ≢ Err Depth }
+    {
+        match self {
+            Record::Mark(Mark::GroupStart) => Ok(true),
+            Record::Mark(Mark::GroupAbsent) => Ok(false),
+            _ => Err(BAD_ITEM),
+        }
+    }
+
+    /// That a group ends here.
+    pub(crate) fn end_of_group(&self) -> Result<(), DecodeError>
+        ensures found { FoundIn self.now (mark group_end) (λ _. ⊤) result }
+        ensures not_too_deep { result ≢ Err Depth }
+    {
+        match self {
+            Record::Mark(Mark::GroupEnd) => Ok(()),
+            _ => Err(BAD_ITEM),
+        }
+    }
+
+    /// What is in a scope that is as it is wanted.
+    pub(crate) fn scope(&self, wanted: Wanted) -> Option<Scope<'_>>
+        ensures tag { (h : model.Head) (items : List model.Record) → Meets wanted h → IsRecord self.now (holding h items) → IsSomeAnd result (λ scope. scope.tag ≡ head_tag h) }
+        ensures records { (h : model.Head) (items : List model.Record) → Meets wanted h → IsRecord self.now (holding h items) → IsSomeAnd result (λ scope. HoldsRecords scope.records.now h items) }
+    {
+        match self {
+            Record::Scope(head, records) if wanted.is_met_by(head) => Some(Scope {
+                tag: head.tag(),
+                records,
+            }),
+            _ => None,
+        }
+    }
+}
