@@ -663,6 +663,43 @@ pub trait Encoder {
         }
     }
 
+    /// The same as `encode_extension_addition`, under the constraints of the type.
+    final fn encode_extension_addition_with_tag<T: Encode>(
+        &mut self,
+        tag: Tag,
+        value: Option<&T>,
+        name: Identifier,
+    ) -> Result<(), EncodeError>
+    where
+        Self: Sized,
+        ensures { Writes writer self.old (option_records tag (option_map (λ v. T.meaning.records v tag T.meaning.constraints (name_of name)) (option_copied value.entry))) (IfSome (option_copied value.entry) T.meaning.IsOfType) self.new result }
+    {
+        let Ok(constraints) = T::constraints(self.global()) else {
+            return Err(self.refuse_memory());
+        };
+        self.encode_extension_addition(tag, &constraints, value, name)
+    }
+
+    /// An addition, which may be absent, after an explicit tag.
+    final fn encode_extension_addition_with_explicit_prefix<T: Encode>(
+        &mut self,
+        tag: Tag,
+        value: Option<&T>,
+        name: Identifier,
+    ) -> Result<(), EncodeError>
+    where
+        Self: Sized,
+        ensures { Writes writer self.old (option_records tag (option_map (λ v. prefix_records tag (name_of name) (own_records T.meaning v)) (option_copied value.entry))) (IfSome (option_copied value.entry) T.meaning.IsOfType) self.new result }
+    {
+        match value {
+            None => self.mark_addition_absent(tag),
+            Some(value) => {
+                self.mark_addition_present(tag)?;
+                self.encode_explicit_prefix(tag, value, name)
+            }
+        }
+    }
+
     /// A group of additions: absent where there is none, and where its components are marks alone.
     final fn encode_extension_addition_group<C: EncodeFields>(
         &mut self,

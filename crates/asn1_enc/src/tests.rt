@@ -1,6 +1,7 @@
-//! A codec that counts what it is given, and calls of each kind.
+//! What a codec is told beside the records, and the texts of errors. The records of each type and of each call are tested
+//! over a codec that keeps them, in `asn1_bench`.
 mod color;
-mod counter;
 mod errors;
 mod examples;
-mod values;
+mod listener;
+mod told;

@@ -2,7 +2,6 @@
 use crate::encode::Encode;
 use crate::encoder::Encoder;
 use crate::error::EncodeError;
-use crate::tests::values::assert_tally;
 use asn1_bounds::Constraints;
 use asn1_enumerations::{Enumerated, EnumerationItem, item};
 use asn1_model::{AsnType, TypeTable};
@@ -10,7 +9,7 @@ use asn1_tags::{Identifier, Tag};
 
 /// One of two colors.
 #[derive(Clone, Copy, PartialEq, Eq, Debug)]
-enum Color {
+pub(super) enum Color {
     Red,
     Blue,
 }
@@ -65,10 +64,4 @@ impl Encode for Color {
     ) -> Result<(), EncodeError> {
         encoder.encode_enumerated(tag, self, name)
     }
-}
-
-#[test]
-fn an_enumerated_value_is_written(rt: HostRuntime) {
-    assert_tally(&rt, rt.alloc(), &Color::Red, 1, 0, 0);
-    assert_tally(&rt, rt.alloc(), &Color::Blue, 1, 0, 0);
 }

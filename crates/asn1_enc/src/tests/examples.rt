@@ -1,9 +1,7 @@
-//! Types of the lower crates' examples, written: a SET and CHOICE types.
+//! Types of the lower crates' examples, written: a SET and a CHOICE.
 use crate::encode::{Encode, EncodeChoice, EncodeFields};
 use crate::encoder::Encoder;
 use crate::error::EncodeError;
-use crate::tests::counter::Counter;
-use crate::tests::values::{assert_tally, assert_wrote};
 use asn1_bounds::Constraints;
 use asn1_choices::examples::Reply;
 use asn1_components::examples::Badge;
@@ -65,23 +63,4 @@ impl EncodeChoice for Reply {
             Reply::Later(days) => days.encode_with_tag(encoder, LATER),
         }
     }
-}
-
-#[test]
-fn a_set_is_written(rt: HostRuntime) {
-    let badge = Badge {
-        id: 7,
-        label: None,
-        note: true,
-    };
-    assert_tally(&rt, rt.alloc(), &badge, 2, 1, 1);
-}
-
-#[test]
-fn choices_are_written(rt: HostRuntime) {
-    assert_tally(&rt, rt.alloc(), &Reply::Accepted(true), 1, 0, 1);
-    assert_tally(&rt, rt.alloc(), &Reply::Refused, 1, 0, 1);
-    let mut counter = Counter::new(rt.alloc(), 2);
-    let answer = Reply::Later(3).encode_with_tag(&mut counter, LATER);
-    assert_wrote(&rt, &counter, answer, 1, 0, 2);
 }

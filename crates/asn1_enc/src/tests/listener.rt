@@ -1,4 +1,5 @@
-//! A codec that keeps nothing of what it is given but how much there was.
+//! A codec that keeps nothing of records, and what else it is told: how many elements there are, which table, which item, and
+//! whether a presence mark is that of an addition.
 ghost use Rattle.asn1_enc.specs.Writing.{Opens};
 ghost use Rattle.asn1_model.specs.Records.{Head};
 ghost use Rattle.std.specs.Prelude.{◌≡◌, ⊤, MatchResult, false, true};
@@ -18,31 +19,39 @@ use asn1_values::{
 };
 use std::alloc::Global;
 
-/// How many contents, presence marks and scopes there were.
+/// What the codec was told last.
 #[derive(Clone, Copy, PartialEq)]
-pub(super) struct Tally {
-    pub(super) contents: u32,
-    pub(super) marks: u32,
-    pub(super) scopes: u32,
+pub(super) enum Told {
+    /// Nothing beside records.
+    Nothing,
+    /// A list of so many elements.
+    Count(usize),
+    /// The alternatives of a type that has so many.
+    Alternatives(usize),
+    /// An item: its number, its name, its place, whether it is an addition, and how many the root has.
+    Item(isize, &'static str, usize, bool, usize),
+    /// The presence mark of a component of the root, and whether it is there.
+    Component(bool),
+    /// The presence mark of an addition, and whether it is there.
+    Addition(bool),
 }
 
-/// The codec that counts.
+/// The codec that listens.
 #[derive(Drop)]
-pub(super) struct Counter {
-    pub(super) tally: Tally,
+pub(super) struct Listener {
+    pub(super) told: Told,
+    /// The name in the first line of the table that came last.
+    pub(super) opened: Option<&'static str>,
     depth: usize,
     has_failed: bool,
     alloc: Global,
 }
 
-impl Counter {
-    pub(super) fn new(alloc: Global, depth: usize) -> Counter {
-        Counter {
-            tally: Tally {
-                contents: 0,
-                marks: 0,
-                scopes: 0,
-            },
+impl Listener {
+    pub(super) fn new(alloc: Global, depth: usize) -> Listener {
+        Listener {
+            told: Told::Nothing,
+            opened: None,
             depth,
             has_failed: false,
             alloc,
@@ -61,7 +70,7 @@ impl Counter {
     }
 }
 
-impl Counter {
+impl Listener {
     /// Opens a scope of any kind.
     fn open_scope(&mut self) -> Result<(), EncodeError>
         ensures { (h : Head) → Opens (record { wrote = λ _ _. ⊤; failed = λ c. c.has_failed; allowance = λ c. c.depth; rejects = λ _. ⊥ }) self.old h self.new result }
@@ -70,7 +79,6 @@ impl Counter {
         match self.depth.checked_sub(1) {
             Some(depth) => {
                 self.depth = depth;
-                self.tally.scopes = self.tally.scopes.saturating_add(1);
                 Ok(())
             }
             None => {
@@ -81,7 +89,7 @@ impl Counter {
     }
 }
 
-impl Encoder for Counter {
+impl Encoder for Listener {
     ghost writer = { record { wrote = λ _ _. ⊤; failed = λ c. c.has_failed; allowance = λ c. c.depth; rejects = λ _. ⊥ } };
 
     fn codec(&self) -> Codec {
@@ -111,25 +119,27 @@ impl Encoder for Counter {
         _value: bool,
         _name: Identifier,
     ) -> Result<(), EncodeError> {
-        self.may_write()?;
-        self.tally.contents = self.tally.contents.saturating_add(1);
-        Ok(())
+        self.may_write()
     }
 
     fn encode_null(&mut self, _tag: Tag, _name: Identifier) -> Result<(), EncodeError> {
-        self.may_write()?;
-        self.tally.contents = self.tally.contents.saturating_add(1);
-        Ok(())
+        self.may_write()
     }
 
     fn encode_enumerated_value(
         &mut self,
         _tag: Tag,
-        _value: EnumeratedValue,
+        value: EnumeratedValue,
         _name: Identifier,
     ) -> Result<(), EncodeError> {
         self.may_write()?;
-        self.tally.contents = self.tally.contents.saturating_add(1);
+        self.told = Told::Item(
+            value.number,
+            value.name,
+            value.index,
+            value.is_extended,
+            value.variance,
+        );
         Ok(())
     }
 
@@ -139,9 +149,7 @@ impl Encoder for Counter {
         _value: &[u32],
         _name: Identifier,
     ) -> Result<(), EncodeError> {
-        self.may_write()?;
-        self.tally.contents = self.tally.contents.saturating_add(1);
-        Ok(())
+        self.may_write()
     }
 
     fn encode_integer<T: IntegerType>(
@@ -152,9 +160,7 @@ impl Encoder for Counter {
         _name: Identifier,
     ) -> Result<(), EncodeError> {
         let _ = value.to_integer(self.alloc);
-        self.may_write()?;
-        self.tally.contents = self.tally.contents.saturating_add(1);
-        Ok(())
+        self.may_write()
     }
 
     fn encode_bit_string(
@@ -164,9 +170,7 @@ impl Encoder for Counter {
         _value: &[bool],
         _name: Identifier,
     ) -> Result<(), EncodeError> {
-        self.may_write()?;
-        self.tally.contents = self.tally.contents.saturating_add(1);
-        Ok(())
+        self.may_write()
     }
 
     fn encode_octet_string(
@@ -176,9 +180,7 @@ impl Encoder for Counter {
         _value: &[u8],
         _name: Identifier,
     ) -> Result<(), EncodeError> {
-        self.may_write()?;
-        self.tally.contents = self.tally.contents.saturating_add(1);
-        Ok(())
+        self.may_write()
     }
 
     fn encode_utf8_string(
@@ -188,9 +190,7 @@ impl Encoder for Counter {
         _value: &str,
         _name: Identifier,
     ) -> Result<(), EncodeError> {
-        self.may_write()?;
-        self.tally.contents = self.tally.contents.saturating_add(1);
-        Ok(())
+        self.may_write()
     }
 
     fn encode_general_string(
@@ -201,9 +201,7 @@ impl Encoder for Counter {
         _name: Identifier,
     ) -> Result<(), EncodeError> {
         let _ = value.as_slice();
-        self.may_write()?;
-        self.tally.contents = self.tally.contents.saturating_add(1);
-        Ok(())
+        self.may_write()
     }
 
     fn encode_graphic_string(
@@ -214,9 +212,7 @@ impl Encoder for Counter {
         _name: Identifier,
     ) -> Result<(), EncodeError> {
         let _ = value.as_slice();
-        self.may_write()?;
-        self.tally.contents = self.tally.contents.saturating_add(1);
-        Ok(())
+        self.may_write()
     }
 
     fn encode_visible_string(
@@ -227,9 +223,7 @@ impl Encoder for Counter {
         _name: Identifier,
     ) -> Result<(), EncodeError> {
         let _ = value.as_slice();
-        self.may_write()?;
-        self.tally.contents = self.tally.contents.saturating_add(1);
-        Ok(())
+        self.may_write()
     }
 
     fn encode_ia5_string(
@@ -240,9 +234,7 @@ impl Encoder for Counter {
         _name: Identifier,
     ) -> Result<(), EncodeError> {
         let _ = value.as_slice();
-        self.may_write()?;
-        self.tally.contents = self.tally.contents.saturating_add(1);
-        Ok(())
+        self.may_write()
     }
 
     fn encode_printable_string(
@@ -253,9 +245,7 @@ impl Encoder for Counter {
         _name: Identifier,
     ) -> Result<(), EncodeError> {
         let _ = value.as_slice();
-        self.may_write()?;
-        self.tally.contents = self.tally.contents.saturating_add(1);
-        Ok(())
+        self.may_write()
     }
 
     fn encode_numeric_string(
@@ -266,9 +256,7 @@ impl Encoder for Counter {
         _name: Identifier,
     ) -> Result<(), EncodeError> {
         let _ = value.as_slice();
-        self.may_write()?;
-        self.tally.contents = self.tally.contents.saturating_add(1);
-        Ok(())
+        self.may_write()
     }
 
     fn encode_teletex_string(
@@ -279,9 +267,7 @@ impl Encoder for Counter {
         _name: Identifier,
     ) -> Result<(), EncodeError> {
         let _ = value.as_slice();
-        self.may_write()?;
-        self.tally.contents = self.tally.contents.saturating_add(1);
-        Ok(())
+        self.may_write()
     }
 
     fn encode_bmp_string(
@@ -292,9 +278,7 @@ impl Encoder for Counter {
         _name: Identifier,
     ) -> Result<(), EncodeError> {
         let _ = value.as_slice();
-        self.may_write()?;
-        self.tally.contents = self.tally.contents.saturating_add(1);
-        Ok(())
+        self.may_write()
     }
 
     fn encode_any(
@@ -303,39 +287,35 @@ impl Encoder for Counter {
         _value: &Any,
         _name: Identifier,
     ) -> Result<(), EncodeError> {
-        self.may_write()?;
-        self.tally.contents = self.tally.contents.saturating_add(1);
-        Ok(())
+        self.may_write()
     }
 
     fn mark_present(&mut self, _tag: Tag) -> Result<(), EncodeError> {
         self.may_write()?;
-        self.tally.marks = self.tally.marks.saturating_add(1);
+        self.told = Told::Component(true);
         Ok(())
     }
 
     fn mark_absent(&mut self, _tag: Tag) -> Result<(), EncodeError> {
         self.may_write()?;
-        self.tally.marks = self.tally.marks.saturating_add(1);
+        self.told = Told::Component(false);
         Ok(())
     }
 
     fn mark_addition_present(&mut self, _tag: Tag) -> Result<(), EncodeError> {
         self.may_write()?;
-        self.tally.marks = self.tally.marks.saturating_add(1);
+        self.told = Told::Addition(true);
         Ok(())
     }
 
     fn mark_addition_absent(&mut self, _tag: Tag) -> Result<(), EncodeError> {
         self.may_write()?;
-        self.tally.marks = self.tally.marks.saturating_add(1);
+        self.told = Told::Addition(false);
         Ok(())
     }
 
     fn mark_group_absent(&mut self) -> Result<(), EncodeError> {
-        self.may_write()?;
-        self.tally.marks = self.tally.marks.saturating_add(1);
-        Ok(())
+        self.may_write()
     }
 
     fn open_sequence<C: FieldTable>(
@@ -343,10 +323,12 @@ impl Encoder for Counter {
         _tag: Tag,
         _name: Identifier,
     ) -> Result<(), EncodeError> {
+        self.opened = first_name::<C>();
         self.open_scope()
     }
 
     fn open_set<C: FieldTable>(&mut self, _tag: Tag, _name: Identifier) -> Result<(), EncodeError> {
+        self.opened = first_name::<C>();
         self.open_scope()
     }
 
@@ -355,8 +337,9 @@ impl Encoder for Counter {
         _tag: Tag,
         _constraints: &Constraints<'_>,
         _name: Identifier,
-        _count: usize,
+        count: usize,
     ) -> Result<(), EncodeError> {
+        self.told = Told::Count(count);
         self.open_scope()
     }
 
@@ -365,8 +348,9 @@ impl Encoder for Counter {
         _tag: Tag,
         _constraints: &Constraints<'_>,
         _name: Identifier,
-        _count: usize,
+        count: usize,
     ) -> Result<(), EncodeError> {
+        self.told = Told::Count(count);
         self.open_scope()
     }
 
@@ -380,6 +364,7 @@ impl Encoder for Counter {
         _constraints: &Constraints<'_>,
         _name: Identifier,
     ) -> Result<(), EncodeError> {
+        self.told = Told::Alternatives(T::variance());
         self.open_scope()
     }
 
@@ -399,14 +384,12 @@ impl Encoder for Counter {
 
     fn open_group<C: FieldTable>(&mut self) -> Result<(), EncodeError> {
         self.may_write()?;
-        self.tally.marks = self.tally.marks.saturating_add(1);
+        self.opened = first_name::<C>();
         Ok(())
     }
 
     fn close_group(&mut self) -> Result<(), EncodeError> {
-        self.may_write()?;
-        self.tally.marks = self.tally.marks.saturating_add(1);
-        Ok(())
+        self.may_write()
     }
 
     ghost lawful = { record {
@@ -416,4 +399,12 @@ impl Encoder for Counter {
       wrote_in_any_order = λ _ _ _ _ h. h;
       rejects_in_any_order = λ _ _ _ h. h;
     } };
+}
+
+/// The name in the first line of the table.
+fn first_name<C: FieldTable>() -> Option<&'static str> {
+    match C::field_at(0) {
+        Some(field) => Some(field.name),
+        None => None,
+    }
 }
