@@ -24,7 +24,7 @@
 //!   tells that the value has what each value of its type has (`IsOfType`), so that no caller has to show it.
 //! - An error comes only where the encoder has failed from then on (`IsError`), and it is `Failed` if and only if the encoder
 //!   had failed before. `Depth` comes only where the records are higher than the allowance, and `Custom` only where the codec
-//!   rejects them (`Fails`). A type whose own constraints could not be made for want of memory says so by `refuse_memory`.
+//!   rejects them (`Fails`); both are said of an encoder that has written something, as `wrote` says it. A type whose own constraints could not be made for want of memory says so by `refuse_memory`.
 //! - A codec states what it has written, whether it has failed, its allowance, and which records it rejects (`Writer`). Its own
 //!   calls have the laws of these: opening a scope takes one from the allowance and closing gives it back (`Opens`, `Closes`),
 //!   a group is no scope (`OpensGroup`, `ClosesGroup`), and where there is no allowance the error is `Depth`, before any other
@@ -32,12 +32,12 @@
 //!   record of it holds, presence marks alone never are, and the order inside sets means nothing.
 //! - `EncodeFields::encode_fields` is a loop over the places of the field table, proved once for all types. A type states a
 //!   line for each component (`encode_field`, `specs/Places.antt`), and no proof.
-//! - `encode_sequence`, `encode_set` and `encode_choice_with_tag` write the records of the type (`as_meant`), by the law that
+//! - `encode_sequence` and `encode_set` (`as_meant`) and `encode_choice_with_tag` write the records of the type, by the law that
 //!   ties its meaning to its components or alternatives. So the writer of such a type is one call, without a proof, also of a
 //!   type that holds itself; such a type, its tables and its writer have to be in one crate.
 //! - A call that is given a default asks that each answer of the closure compares with the value alike.
 //!
-//! No call takes memory but those of a codec, and constraints with a permitted alphabet.
+//! No call takes memory but those of a codec, closures that make a default, and constraints with a permitted alphabet.
 #![tactic(auto, using(asn1_tags::proofs::Leaves::tree_shapes))]
 
 mod encode;
