@@ -24,7 +24,8 @@
 //!   tells that the value has what each value of its type has (`IsOfType`), so that no caller has to show it.
 //! - An error comes only where the encoder has failed from then on (`IsError`), and it is `Failed` if and only if the encoder
 //!   had failed before. `Depth` comes only where the records are higher than the allowance, and `Custom` only where the codec
-//!   rejects them (`Fails`); both are said of an encoder that has written something, as `wrote` says it. A type whose own constraints could not be made for want of memory says so by `refuse_memory`.
+//!   rejects them, of an encoder that has written something (`Fails`). A type whose own constraints could not be made for want
+//!   of memory says so by `refuse_memory`.
 //! - A codec states what it has written, whether it has failed, its allowance, and which records it rejects (`Writer`). Its own
 //!   calls have the laws of these: opening a scope takes one from the allowance and closing gives it back (`Opens`, `Closes`),
 //!   a group is no scope (`OpensGroup`, `ClosesGroup`), and where there is no allowance the error is `Depth`, before any other
