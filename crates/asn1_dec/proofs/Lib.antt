@@ -1,3 +1,4 @@
 pub mod Absence
+pub mod Following
 pub mod Midway
 pub mod Steps

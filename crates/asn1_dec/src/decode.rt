@@ -1,11 +1,19 @@
 //! Types that are read.
-ghost use Rattle.asn1_dec.specs.Reading.{ReadsValue};
+ghost use Rattle.asn1_choices.specs.Alternatives.{CanBeChosen, Each, HaveDistinctTags, all_of, chosen_meaning};
+ghost use Rattle.asn1_choices.specs.ChosenTags.{chosen_tag};
+ghost use Rattle.asn1_components.specs.ComponentLists.{CanBeInSequence, EachIsOfType, EachIsValid};
+ghost use Rattle.asn1_components.specs.Components.{all_components, component_records};
+ghost use Rattle.asn1_components.specs.Following.{EndsApart};
+ghost use Rattle.asn1_dec.specs.Reading.{Ahead, ReadsBack, ReadsValue};
 ghost use Rattle.asn1_model.specs.ConstraintSets.{constraint_set};
-ghost use Rattle.std.specs.Prelude.{◌≡◌, OnOk};
+ghost use Rattle.asn1_model.specs.Records.{Record};
+ghost use Rattle.std.specs.Prelude.{◌≡◌, List, OnOk, true};
 
 use crate::decoder::Decoder;
 use crate::error::DecodeError;
 use asn1_bounds::Constraints;
+use asn1_choices::Choice;
+use asn1_components::FieldTable;
 use asn1_model::AsnType;
 use asn1_tags::Tag;
 
@@ -55,4 +63,20 @@ pub trait Decode: AsnType + Eq + Sized + Drop {
     {
         Self::decode_with_tag_and_constraints(decoder, Self::tag(), constraints)
     }
+}
+
+/// A type whose components are read in the order of their definition: a SEQUENCE or a group of additions.
+pub trait DecodeFields: FieldTable + Eq + Sized + Drop {
+    /// Reads all components. What follows them begins with no tag of those after the last that is always there.
+    fn decode_fields<D: Decoder>(decoder: &mut D) -> Result<Self, DecodeError>
+        ensures read { (v : Self) (rest : List Record) (outer : Ahead) → CanBeInSequence (all_components Self.components) → EachIsOfType (all_components Self.components) v → EachIsValid (all_components Self.components) D.reader.takes v → EndsApart (all_components Self.components) rest → ReadsBack D.reader decoder.old decoder.new (component_records Self.components v) rest outer (λ w. Self.eq w v ≡ true) result }
+        ensures same_allowance { OnOk result (D.reader.allowance decoder.new ≡ D.reader.allowance decoder.old) };
+}
+
+/// A CHOICE whose alternatives are read.
+pub trait DecodeChoice: AsnType + Choice + Eq + Sized + Drop {
+    /// Reads the alternative that begins with the tag.
+    fn from_tag<D: Decoder>(decoder: &mut D, tag: Tag) -> Result<Self, DecodeError>
+        ensures read { (v : Self) (rest : List Record) (outer : Ahead) → HaveDistinctTags (all_of Self.alternatives) → Each CanBeChosen (all_of Self.alternatives) → (chosen_meaning (all_of Self.alternatives) (Self.pick v)).IsOfType → (chosen_meaning (all_of Self.alternatives) (Self.pick v)).IsValid D.reader.takes → tag ≡ chosen_tag (all_of Self.alternatives) (Self.pick v) → ReadsBack D.reader decoder.old decoder.new (chosen_meaning (all_of Self.alternatives) (Self.pick v)).records rest outer (λ w. Self.eq w v ≡ true) result }
+        ensures same_allowance { OnOk result (D.reader.allowance decoder.new ≡ D.reader.allowance decoder.old) };
 }

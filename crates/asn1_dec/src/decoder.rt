@@ -1,9 +1,11 @@
 //! What a codec reads with.
-ghost use Rattle.asn1_components.specs.ComponentLists.{trees_of};
-ghost use Rattle.asn1_components.specs.Components.{all_components};
+ghost use Rattle.asn1_choices.specs.Alternatives.{CanBeChosen, Each, HaveDistinctTags, all_of, chosen_meaning};
+ghost use Rattle.asn1_choices.specs.ChosenTags.{chosen_tag};
+ghost use Rattle.asn1_components.specs.ComponentLists.{CanBeInSequence, EachIsOfType, EachIsValid, trees_of};
+ghost use Rattle.asn1_components.specs.Components.{all_components, component_records};
 ghost use Rattle.asn1_dec.specs.Reading.{Ahead, Enters, IsLawful, IsNextTag, Keeps, Leaves, Moves, Opens, OpensSet, Reader, ReadsBack, ReadsContent, ReadsDefault, ReadsOption, ReadsOptionAfterTag, Stays, TellsMore, TellsPresence, marks_passed, records_in};
 ghost use Rattle.asn1_enumerations.specs.Enumerations.{number_of};
-ghost use Rattle.asn1_model.specs.Composites.{list_records, prefix_records};
+ghost use Rattle.asn1_model.specs.Composites.{alternative_records, list_records, prefix_records, sequence_records};
 ghost use Rattle.asn1_model.specs.ConstraintSets.{constraint_set, unconstrained};
 ghost use Rattle.asn1_model.specs.Meaning.{CanStandInside, own_records};
 ghost use Rattle.asn1_model.specs.Records.{Name, Record, absent, alternative, arcs, bits, bmp, discriminant, general, graphic, group_absent, group_end, group_start, ia5, mark, null, number, numeric, octet, prefix, present, printable, raw, sequence, sequence_of, set, set_of, teletex, truth, units, utf8, visible};
@@ -17,7 +19,7 @@ ghost use Rattle.std.specs.Prelude.{◌≡◌, ◌≤◌, ◌<◌, ◌^◌, [], 
 ghost use Rattle.std.specs.Str.{IsUtf8};
 ghost use Rattle.std.specs.String.{string_bytes};
 
-use crate::decode::Decode;
+use crate::decode::{Decode, DecodeChoice, DecodeFields};
 use crate::defaults::or_default;
 use crate::elements::read_elements;
 use crate::error::DecodeError;
@@ -572,5 +574,40 @@ pub trait Decoder {
     {
         let value = self.decode_extension_addition_with_tag_and_constraints::<T>(tag, constraints)?;
         or_default(self, value, default)
+    }
+
+    /// A SEQUENCE, by its components.
+    final fn decode_sequence<C: DecodeFields>(&mut self, tag: Tag) -> Result<C, DecodeError>
+    where
+        Self: Sized,
+        ensures read { (v : C) (n : Name) (rest : List Record) (outer : Ahead) → CanBeInSequence (all_components C.components) → EachIsOfType (all_components C.components) v → EachIsValid (all_components C.components) reader.takes v → ReadsBack reader self.old self.new (sequence_records tag n (component_records C.components v)) rest outer (λ w. C.eq w v ≡ true) result }
+        ensures keeps { Keeps reader self.old self.new result }
+    {
+        self.open_sequence::<C>(tag)?;
+        let value = match C::decode_fields(self) {
+            Ok(value) => value,
+            Err(error) => return Err(self.refuse(error)),
+        };
+        self.close()?;
+        Ok(value)
+    }
+
+    /// A CHOICE that has no tag of its own, by its chosen alternative.
+    final fn decode_choice<T: DecodeChoice>(
+        &mut self,
+        constraints: &Constraints<'_>,
+    ) -> Result<T, DecodeError>
+    where
+        Self: Sized,
+        ensures read { (v : T) (n : Name) (rest : List Record) (outer : Ahead) → HaveDistinctTags (all_of T.alternatives) → Each CanBeChosen (all_of T.alternatives) → (chosen_meaning (all_of T.alternatives) (T.pick v)).IsOfType → (chosen_meaning (all_of T.alternatives) (T.pick v)).IsValid reader.takes → ReadsBack reader self.old self.new (alternative_records (chosen_tag (all_of T.alternatives) (T.pick v)) (constraint_set constraints.now) n (chosen_meaning (all_of T.alternatives) (T.pick v)).records) rest outer (λ w. T.eq w v ≡ true) result }
+        ensures keeps { Keeps reader self.old self.new result }
+    {
+        let chosen = self.open_choice::<T>(constraints)?;
+        let value = match T::from_tag(self, chosen) {
+            Ok(value) => value,
+            Err(error) => return Err(self.refuse(error)),
+        };
+        self.close()?;
+        Ok(value)
     }
 }

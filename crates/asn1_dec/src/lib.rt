@@ -10,9 +10,11 @@ mod error;
 mod impls;
 pub mod laws;
 mod needed;
+#[cfg(test)]
+mod tests;
 
 pub use array::Array;
-pub use decode::Decode;
+pub use decode::{Decode, DecodeChoice, DecodeFields};
 pub use decoder::Decoder;
 pub use error::DecodeError;
 pub use needed::Needed;

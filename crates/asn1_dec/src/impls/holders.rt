@@ -14,8 +14,8 @@ impl<T: Decode> Decode for Box<T> {
         tag: Tag,
         constraints: &Constraints<'_>,
     ) -> Result<Box<T>, DecodeError> {
-        let value = T::decode_with_tag_and_constraints(decoder, tag, constraints)?;
-        match Box::new(decoder.global(), value) {
+        let content = T::decode_with_tag_and_constraints(decoder, tag, constraints)?;
+        match Box::new(decoder.global(), content) {
             Ok(boxed) => Ok(boxed),
             Err(_) => Err(DecodeError::Memory),
         }

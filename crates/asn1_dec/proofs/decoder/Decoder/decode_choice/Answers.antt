@@ -1,0 +1,31 @@
+use Rattle.std.proofs.Common.{[], ◌∷◌, refl}
+use Rattle.std.proofs.lemmas.Result.{err_from_is_err_and}
+use Rattle.asn1_choices.specs.Alternatives.{all_of, chosen_meaning}
+use Rattle.asn1_choices.specs.ChosenTags.{chosen_tag}
+use Rattle.asn1_model.specs.ConstraintSets.{constraint_set}
+use Rattle.asn1_model.specs.Records.{alternative}
+use Rattle.asn1_dec.proofs.Steps.{to_end, fails_inside, flat_failure, within_scope}
+use Rattle.asn1_dec.proofs.decoder.Decoder.decode_choice.Goals as goal
+
+pub returns-in-Err-clause-read : goal.returns-in-Err-clause-read
+returns-in-Err-clause-read g c = λ v n rest outer distinct can of_type valid at.
+    let rs = (chosen_meaning (all_of g.T.Choice.alternatives) (g.T.Choice.pick v)).records in
+    let s = c.in_ok-chosen.ensures.read (chosen_tag (all_of g.T.Choice.alternatives) (g.T.Choice.pick v)) n rs rest outer at in
+    let r = c.in-Err.ensures.read v [] (rest ∷ outer) distinct can of_type valid s.answer (to_end g.Self.Decoder.reader _ rs (rest ∷ outer) s.at) in
+    rw c.refuse.ensures.same (fails_inside (alternative (chosen_tag (all_of g.T.Choice.alternatives) (g.T.Choice.pick v)) (constraint_set c.args.constraints.now) n) rs _ _ c.in_ok-chosen.ensures.enters.one_less r)
+
+pub returns-in_err-close-clause-read : goal.returns-in_err-close-clause-read
+returns-in_err-close-clause-read g c = λ v n rest outer distinct can of_type valid at.
+    let p = err_from_is_err_and c.from_residual-in_err-close.result c.from_residual-in_err-close.ensures.1 in
+    let rs = (chosen_meaning (all_of g.T.Choice.alternatives) (g.T.Choice.pick v)).records in
+    let s = c.in_ok-chosen.ensures.read (chosen_tag (all_of g.T.Choice.alternatives) (g.T.Choice.pick v)) n rs rest outer at in
+    let r = c.in-Ok.ensures.read v [] (rest ∷ outer) distinct can of_type valid s.answer (to_end g.Self.Decoder.reader _ rs (rest ∷ outer) s.at) in
+    rw (p.1, p.2) (flat_failure _ _ _ (c.in_err-close.ensures.read rest outer r.at))
+
+pub returns-clause-read : goal.returns-clause-read
+returns-clause-read g c = λ v n rest outer distinct can of_type valid at.
+    let rs = (chosen_meaning (all_of g.T.Choice.alternatives) (g.T.Choice.pick v)).records in
+    let s = c.in_ok-chosen.ensures.read (chosen_tag (all_of g.T.Choice.alternatives) (g.T.Choice.pick v)) n rs rest outer at in
+    let r = c.in-Ok.ensures.read v [] (rest ∷ outer) distinct can of_type valid s.answer (to_end g.Self.Decoder.reader _ rs (rest ∷ outer) s.at) in
+    let k = c.in_ok-close.ensures.read rest outer r.at in
+    record { answer = r.answer; at = k.at; within_allowance = within_scope (alternative (chosen_tag (all_of g.T.Choice.alternatives) (g.T.Choice.pick v)) (constraint_set c.args.constraints.now) n) rs _ _ c.in_ok-chosen.ensures.enters.one_less r.within_allowance }
