@@ -1,15 +1,15 @@
 -- The record decoder keeps the laws of a codec.
-use Rattle.std.proofs.Common.{◌≡◌, ℕ, suc, ◌≤◌, Bool, true, false, List, [], ◌∷◌, ◌++◌, refl, sym, ap, subst, ◌∙◌, arith, length, map, inl}
+use Rattle.std.proofs.Common.{◌≡◌, ℕ, suc, ◌≤◌, Bool, true, false, List, [], ◌∷◌, ◌++◌, refl, sym, ap, subst, ◌∙◌, arith, length, map, inl, get_or, Some, None}
 use Rattle.std.specs.Prelude.{if◌then◌else◌, ◌&&◌, Result, Ok, Err, MatchResult, OnOk, IfOk, IfErr}
 use Rattle.std.proofs.lemmas.List.Sorted.{length_permutation}
 use Rattle.asn1_model.specs.Orders.{Same, SameAll, is_unordered}
 use Rattle.asn1_model.specs.Records as model
 use Rattle.asn1_model.specs.Records.{held, is_mark, holding, highest, marks_alone}
-use Rattle.asn1_model.specs.Tags.{record_tags, first_tags, only, head_tag}
+use Rattle.asn1_model.specs.Tags.{Has, record_tags, first_tags, only, head_tag}
 use Rattle.asn1_tags.specs.declared.tags.Tag.{Tag}
 use Rattle.asn1_model.proofs.SameRecords.{same-tags, same-mark}
 use Rattle.asn1_model.proofs.SameUpToOrder.{SameAll-cons, SameAll-sym, same-length, same_as_none}
-use Rattle.asn1_dec.specs.Reading.{Ahead, SameAhead, next, records_in, marks_passed, Moved, MayFail, SetIsOpen}
+use Rattle.asn1_dec.specs.Reading.{Ahead, SameAhead, next, records_in, marks_passed, Moved, MayFail, SetIsOpen, IsNextTag}
 use Rattle.asn1_dec.specs.declared.error.DecodeError.{DecodeError}
 use Rattle.asn1_dec.specs.declared.error.DecodeError.TheVariants.{Memory}
 use Rattle.asn1_recdec.specs.declared.record.Record.{Record}
@@ -278,3 +278,24 @@ in_some_order h items rest outer tag bound old new o = record {
   rearranged = o.moved;
   moved = record { answer = o.is_bound; at = o.at; within_allowance = o.had_allowance };
 }
+
+-- Whether a record is left.
+pub empty_list : {A : Type 0} (xs : List A) → length xs ≡ 0 → xs ≡ []
+empty_list [] h = refl
+empty_list (x ∷ xs) h = absurd (omega arith)
+
+pub some_view : (xs : List Record) → 1 ≤ length xs → records_of xs ≡ [] → ⊥
+some_view xs long none = omega (arith, long, records_long xs, ap length none)
+
+pub first_view : (xs : List Record) (x : Record) → x ≡ get_or xs 0 x → 1 ≤ length xs → (ys : List model.Record) × (records_of xs ≡ record_of x ∷ ys)
+first_view [] x is long = absurd (omega (arith, long))
+first_view (y ∷ xs) x is long = (records_of xs, ap (λ r. r ∷ records_of xs) (ap record_of (sym is)))
+
+pub is_next : (items : List model.Record) (r : model.Record) (t : Tag) → (is_mark r ≡ false) × (first_tags items ≡ record_tags r) → Has (record_tags r) t → IsNextTag items (Some t)
+is_next items r t f has = record {
+  none = λ e. cc;
+  some = λ u e. let same : t ≡ u = cc in subst (λ v. Has (first_tags items) v) same (subst (λ q. Has q t) (sym f.1) has);
+}
+
+pub no_next : (items : List model.Record) → marks_alone items ≡ true → IsNextTag items None
+no_next items alone = record { none = λ _. alone; some = λ t e. cc }

@@ -423,22 +423,27 @@ impl<'a> Decoder for RecordDecoder<'a> {
         if self.failed {
             return Err(DecodeError::Failed);
         }
-        Ok(!self.left.is_empty())
+        match self.left {
+            [_, ..] => Ok(true),
+            [] => Ok(false),
+        }
     }
 
     fn close(&mut self) -> Result<(), DecodeError> {
         if self.failed {
             return Err(DecodeError::Failed);
         }
-        if !self.left.is_empty() {
-            return Err(self.fail(BAD_ITEM));
+        match self.left {
+            [_, ..] => Err(self.fail(BAD_ITEM)),
+            [] => match self.outer.pop() {
+                Some(Rest { records }) => {
+                    self.left = records;
+                    self.allowance += 1;
+                    Ok(())
+                }
+                None => Err(self.fail(BAD_ITEM)),
+            },
         }
-        let Some(Rest { records }) = self.outer.pop() else {
-            return Err(self.fail(BAD_ITEM));
-        };
-        self.left = records;
-        self.allowance += 1;
-        Ok(())
     }
 
     ghost lawful = { record { in_any_order = stands_in_any_order } };

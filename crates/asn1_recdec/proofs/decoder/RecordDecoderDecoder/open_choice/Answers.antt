@@ -5,12 +5,12 @@ use Rattle.asn1_model.specs.Records.{sequence, set, sequence_of, set_of, prefix,
 use Rattle.asn1_recdec.proofs.Standing.{in_order, in_some_order}
 use Rattle.asn1_recdec.proofs.decoder.RecordDecoderDecoder.open_choice.Goals as goal
 
-pub returns-in_err-open-clause-read : goal.returns-in_err-open-clause-read
-returns-in_err-open-clause-read g c = λ chosen n items rest outer at.
+pub returns-in_err-opened-clause-read : goal.returns-in_err-opened-clause-read
+returns-in_err-opened-clause-read g c = λ chosen n items rest outer at.
     let p = err_from_is_err_and c.from_residual.result c.from_residual.ensures.1 in
-    rw (p.1, p.2) (c.in_err-open.ensures.read (alternative chosen (constraint_set c.args._constraints.now) n) items rest outer tt at)
+    rw (p.1, p.2) (c.in_err-opened.ensures.read (alternative chosen (constraint_set c.args._constraints.now) n) items rest outer tt at)
 
 pub returns-clause-read : goal.returns-clause-read
 returns-clause-read g c = λ chosen n items rest outer at.
-    let o = c.in_ok-open.ensures.read (alternative chosen (constraint_set c.args._constraints.now) n) items rest outer tt at in
+    let o = c.in_ok-opened.ensures.read (alternative chosen (constraint_set c.args._constraints.now) n) items rest outer tt at in
     in_order (alternative chosen (constraint_set c.args._constraints.now) n) items rest outer _ _ c.args.self.now c.open.new.self _ refl o o.has_tag
