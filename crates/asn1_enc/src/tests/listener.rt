@@ -26,6 +26,8 @@ pub(super) enum Told {
     Nothing,
     /// A list of so many elements.
     Count(usize),
+    /// The components of a type, by the name in the first line of its table.
+    Components(Option<&'static str>),
     /// The alternatives of a type that has so many.
     Alternatives(usize),
     /// An item: its number, its name, its place, whether it is an addition, and how many the root has.
@@ -40,7 +42,7 @@ pub(super) enum Told {
 #[derive(Drop)]
 pub(super) struct Listener {
     pub(super) told: Told,
-    /// The name in the first line of the table that came last.
+    /// The table that came last with a group or a scope, by the name in its first line.
     pub(super) opened: Option<&'static str>,
     depth: usize,
     has_failed: bool,
@@ -72,13 +74,18 @@ impl Listener {
 
 impl Listener {
     /// Opens a scope of any kind.
-    fn open_scope(&mut self) -> Result<(), EncodeError>
+    fn open_scope(&mut self, told: Option<Told>) -> Result<(), EncodeError>
         ensures { (h : Head) → Opens (record { wrote = λ _ _. ⊤; failed = λ c. c.has_failed; allowance = λ c. c.depth; rejects = λ _. ⊥ }) self.old h self.new result }
     {
         self.may_write()?;
         match self.depth.checked_sub(1) {
             Some(depth) => {
                 self.depth = depth;
+                match told {
+                    Some(Told::Components(name)) => self.opened = name,
+                    Some(told) => self.told = told,
+                    None => {}
+                }
                 Ok(())
             }
             None => {
@@ -323,13 +330,11 @@ impl Encoder for Listener {
         _tag: Tag,
         _name: Identifier,
     ) -> Result<(), EncodeError> {
-        self.opened = first_name::<C>();
-        self.open_scope()
+        self.open_scope(Some(Told::Components(first_name::<C>())))
     }
 
     fn open_set<C: FieldTable>(&mut self, _tag: Tag, _name: Identifier) -> Result<(), EncodeError> {
-        self.opened = first_name::<C>();
-        self.open_scope()
+        self.open_scope(Some(Told::Components(first_name::<C>())))
     }
 
     fn open_sequence_of(
@@ -339,8 +344,7 @@ impl Encoder for Listener {
         _name: Identifier,
         count: usize,
     ) -> Result<(), EncodeError> {
-        self.told = Told::Count(count);
-        self.open_scope()
+        self.open_scope(Some(Told::Count(count)))
     }
 
     fn open_set_of(
@@ -350,12 +354,11 @@ impl Encoder for Listener {
         _name: Identifier,
         count: usize,
     ) -> Result<(), EncodeError> {
-        self.told = Told::Count(count);
-        self.open_scope()
+        self.open_scope(Some(Told::Count(count)))
     }
 
     fn open_explicit_prefix(&mut self, _tag: Tag, _name: Identifier) -> Result<(), EncodeError> {
-        self.open_scope()
+        self.open_scope(None)
     }
 
     fn open_choice<T: Choice>(
@@ -364,8 +367,7 @@ impl Encoder for Listener {
         _constraints: &Constraints<'_>,
         _name: Identifier,
     ) -> Result<(), EncodeError> {
-        self.told = Told::Alternatives(T::variance());
-        self.open_scope()
+        self.open_scope(Some(Told::Alternatives(T::variance())))
     }
 
     fn close(&mut self) -> Result<(), EncodeError> {
