@@ -1,4 +1,4 @@
 pub mod Absence
-pub mod Following
+pub mod Constructed
 pub mod Midway
 pub mod Steps

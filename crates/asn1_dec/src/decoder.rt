@@ -2,11 +2,11 @@
 ghost use Rattle.asn1_choices.specs.Alternatives.{CanBeChosen, Each, HaveDistinctTags, all_of, chosen_meaning};
 ghost use Rattle.asn1_choices.specs.ChosenTags.{chosen_tag};
 ghost use Rattle.asn1_components.specs.ComponentLists.{CanBeInSequence, EachIsOfType, EachIsValid, trees_of};
-ghost use Rattle.asn1_components.specs.Components.{all_components, component_records};
-ghost use Rattle.asn1_dec.specs.Reading.{Ahead, Enters, IsLawful, IsNextTag, Keeps, Leaves, Moves, Opens, OpensSet, Reader, ReadsBack, ReadsContent, ReadsDefault, ReadsOption, ReadsOptionAfterTag, Stays, TellsMore, TellsPresence, marks_passed, records_in};
+ghost use Rattle.asn1_components.specs.Components.{all_components, component_records, is_sequence};
+ghost use Rattle.asn1_dec.specs.Reading.{Ahead, Enters, IsLawful, IsNextTag, Keeps, Leaves, Moves, Opens, OpensSet, Reader, ReadsBack, ReadsContent, ReadsDefault, ReadsOption, ReadsOptionAfterTag, ReadsValue, Stays, TellsMore, TellsPresence, marks_passed, records_in};
 ghost use Rattle.asn1_enumerations.specs.Enumerations.{number_of};
 ghost use Rattle.asn1_model.specs.Composites.{alternative_records, list_records, prefix_records, sequence_records};
-ghost use Rattle.asn1_model.specs.ConstraintSets.{constraint_set, unconstrained};
+ghost use Rattle.asn1_model.specs.ConstraintSets.{ConstraintSet, constraint_set, unconstrained};
 ghost use Rattle.asn1_model.specs.Meaning.{CanStandInside, own_records};
 ghost use Rattle.asn1_model.specs.Records.{Name, Record, absent, alternative, arcs, bits, bmp, discriminant, general, graphic, group_absent, group_end, group_start, ia5, mark, null, number, numeric, octet, prefix, present, printable, raw, sequence, sequence_of, set, set_of, teletex, truth, units, utf8, visible};
 ghost use Rattle.asn1_model.specs.Tags.{tree_tags};
@@ -23,9 +23,10 @@ use crate::decode::{Decode, DecodeChoice, DecodeFields};
 use crate::defaults::or_default;
 use crate::elements::read_elements;
 use crate::error::DecodeError;
+use crate::sequences::read_sequence;
 use asn1_bounds::{Codec, Constraints};
 use asn1_choices::Choice;
-use asn1_components::FieldTable;
+use asn1_components::{ConstructedType, FieldTable};
 use asn1_enumerations::Enumerated;
 use asn1_tags::{Tag, TagTree};
 use asn1_types::Any;
@@ -306,10 +307,7 @@ pub trait Decoder {
     }
 
     /// A component that may be absent.
-    final fn decode_optional<T: Decode>(
-        &mut self,
-        
-    ) -> Result<Option<T>, DecodeError>
+    final fn decode_optional<T: Decode>(&mut self) -> Result<Option<T>, DecodeError>
     where
         Self: Sized,
         ensures read { ReadsOption reader T.meaning T.eq T.meaning.tag T.meaning.constraints self.old self.new result }
@@ -388,10 +386,7 @@ pub trait Decoder {
     }
 
     /// An addition, which may be absent.
-    final fn decode_extension_addition<T: Decode>(
-        &mut self,
-        
-    ) -> Result<Option<T>, DecodeError>
+    final fn decode_extension_addition<T: Decode>(&mut self) -> Result<Option<T>, DecodeError>
     where
         Self: Sized,
         ensures read { ReadsOption reader T.meaning T.eq T.meaning.tag T.meaning.constraints self.old self.new result }
@@ -498,12 +493,10 @@ pub trait Decoder {
     }
 
     /// The same as `decode_default`, under a tag and constraints.
-    final fn decode_default_with_tag_and_constraints<T: Decode, F: FnOnce(Global) -> Result<T, AllocError>>(
-        &mut self,
-        tag: Tag,
-        default: F,
-        constraints: &Constraints<'_>,
-    ) -> Result<T, DecodeError>
+    final fn decode_default_with_tag_and_constraints<
+        T: Decode,
+        F: FnOnce(Global) -> Result<T, AllocError>,
+    >(&mut self, tag: Tag, default: F, constraints: &Constraints<'_>) -> Result<T, DecodeError>
     where
         Self: Sized,
         requires { F.IsAlwaysCallable default }
@@ -515,10 +508,10 @@ pub trait Decoder {
     }
 
     /// An addition with a default, which is what the closure answers where the addition is absent.
-    final fn decode_extension_addition_with_default<T: Decode, F: FnOnce(Global) -> Result<T, AllocError>>(
-        &mut self,
-        default: F,
-    ) -> Result<T, DecodeError>
+    final fn decode_extension_addition_with_default<
+        T: Decode,
+        F: FnOnce(Global) -> Result<T, AllocError>,
+    >(&mut self, default: F) -> Result<T, DecodeError>
     where
         Self: Sized,
         requires { F.IsAlwaysCallable default }
@@ -529,11 +522,10 @@ pub trait Decoder {
     }
 
     /// The same as `decode_extension_addition_with_default`, under a tag.
-    final fn decode_extension_addition_with_default_and_tag<T: Decode, F: FnOnce(Global) -> Result<T, AllocError>>(
-        &mut self,
-        tag: Tag,
-        default: F,
-    ) -> Result<T, DecodeError>
+    final fn decode_extension_addition_with_default_and_tag<
+        T: Decode,
+        F: FnOnce(Global) -> Result<T, AllocError>,
+    >(&mut self, tag: Tag, default: F) -> Result<T, DecodeError>
     where
         Self: Sized,
         requires { F.IsAlwaysCallable default }
@@ -545,27 +537,28 @@ pub trait Decoder {
     }
 
     /// The same as `decode_extension_addition_with_default`, under constraints.
-    final fn decode_extension_addition_with_default_and_constraints<T: Decode, F: FnOnce(Global) -> Result<T, AllocError>>(
-        &mut self,
-        default: F,
-        constraints: &Constraints<'_>,
-    ) -> Result<T, DecodeError>
+    final fn decode_extension_addition_with_default_and_constraints<
+        T: Decode,
+        F: FnOnce(Global) -> Result<T, AllocError>,
+    >(&mut self, default: F, constraints: &Constraints<'_>) -> Result<T, DecodeError>
     where
         Self: Sized,
         requires { F.IsAlwaysCallable default }
         ensures read { ReadsDefault reader (λ usual. (a : _) × F.post default a (Ok usual)) T.meaning T.eq T.meaning.tag (constraint_set constraints.now) self.old self.new result }
         ensures keeps { Keeps reader self.old self.new result }
     {
-        self.decode_extension_addition_with_default_and_tag_and_constraints(T::tag(), default, constraints)
+        self.decode_extension_addition_with_default_and_tag_and_constraints(
+            T::tag(),
+            default,
+            constraints,
+        )
     }
 
     /// The same as `decode_extension_addition_with_default`, under a tag and constraints.
-    final fn decode_extension_addition_with_default_and_tag_and_constraints<T: Decode, F: FnOnce(Global) -> Result<T, AllocError>>(
-        &mut self,
-        tag: Tag,
-        default: F,
-        constraints: &Constraints<'_>,
-    ) -> Result<T, DecodeError>
+    final fn decode_extension_addition_with_default_and_tag_and_constraints<
+        T: Decode,
+        F: FnOnce(Global) -> Result<T, AllocError>,
+    >(&mut self, tag: Tag, default: F, constraints: &Constraints<'_>) -> Result<T, DecodeError>
     where
         Self: Sized,
         requires { F.IsAlwaysCallable default }
@@ -576,20 +569,18 @@ pub trait Decoder {
         or_default(self, value, default)
     }
 
-    /// A SEQUENCE, by its components.
-    final fn decode_sequence<C: DecodeFields>(&mut self, tag: Tag) -> Result<C, DecodeError>
+    /// A SEQUENCE, by its components. Of a type that is one it reads a value of the type, under whatever constraints.
+    final fn decode_sequence<C: DecodeFields + ConstructedType>(
+        &mut self,
+        tag: Tag,
+    ) -> Result<C, DecodeError>
     where
         Self: Sized,
-        ensures read { (v : C) (n : Name) (rest : List Record) (outer : Ahead) → CanBeInSequence (all_components C.components) → EachIsOfType (all_components C.components) v → EachIsValid (all_components C.components) reader.takes v → ReadsBack reader self.old self.new (sequence_records tag n (component_records C.components v)) rest outer (λ w. C.eq w v ≡ true) result }
+        ensures components { (v : C) (n : Name) (rest : List Record) (outer : Ahead) → CanBeInSequence (all_components C.components) → EachIsOfType (all_components C.components) v → EachIsValid (all_components C.components) reader.takes v → ReadsBack reader self.old self.new (sequence_records tag n (component_records C.components v)) rest outer (λ w. C.eq w v ≡ true) result }
+        ensures as_meant { C.components.kind ≡ is_sequence → (c : ConstraintSet) → ReadsValue reader C.meaning C.eq tag c self.old self.new result }
         ensures keeps { Keeps reader self.old self.new result }
     {
-        self.open_sequence::<C>(tag)?;
-        let value = match C::decode_fields(self) {
-            Ok(value) => value,
-            Err(error) => return Err(self.refuse(error)),
-        };
-        self.close()?;
-        Ok(value)
+        read_sequence(self, tag)
     }
 
     /// A CHOICE that has no tag of its own, by its chosen alternative.

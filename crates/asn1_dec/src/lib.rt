@@ -1,4 +1,42 @@
 //! Reading: a value of a type of ASN.1, from a codec.
+//!
+//! A codec reads records ([`Decoder`]), and a type says by its meaning which records its values are ([`Decode`]). Neither
+//! looks into the other: so a type is read once for every codec, and a codec once for every type.
+//!
+//! | Item | What it is |
+//! |---|---|
+//! | [`Decoder`] | a codec: the calls of its own, and on these the calls for whole types |
+//! | [`Decode`] | a type whose values are read, by four entry points; one of them is the type's own |
+//! | [`DecodeFields`] | a type whose components are read in their order: a SEQUENCE or a group of additions |
+//! | [`DecodeChoice`] | a CHOICE whose alternatives are read |
+//! | [`Array`] | an array, as it is read |
+//! | [`DecodeError`], [`Needed`] | why a value was not read |
+//! | [`laws`] | what the derives of the errors give |
+//!
+//! The types of the lower crates and of the language are read: `()`, `bool`, the built-in integers but `u128`, `Integer`,
+//! `LimitedInteger`, every kind of string, `ObjectIdentifier`, `Option`, `Box`, `Cow`, `Vec`, `Implicit`, `Explicit`, `Any` and
+//! `PhantomData`. An array is read as an [`Array`]: the borrow checker does not cover a function that answers an array, of a
+//! length that is a parameter, or an error with a text.
+//!
+//! What the contracts promise, and the words that they use:
+//!
+//! - What a decoder stands before is what is left of each list that is open (`stands` of `Reader`, in `specs/Reading.antt`). Before
+//!   the records of a valid value of a well-tagged type, under the asked tag and constraints and any name, a call answers an
+//!   equal value, and then stands before what follows (`ReadsValue`, `ReadsBack`). It fails there only for want of memory, or
+//!   where the records are higher than the allowance (`MayFail`). A success is within the allowance (`within_allowance`).
+//! - Before other records nothing is said of the answer, but for the errors of a type's own: a number outside its limits, and
+//!   a list of another length than the array's, are read, and refused after that (`ReadsAndRefuses`).
+//! - A decoder's call that fails makes the decoder failed, and a failed one answers `Failed` (`Keeps`). `Depth` comes only from
+//!   opening a scope, if and only if there is no allowance (`Enters`); opening takes one from the allowance, and closing gives it
+//!   back (`Leaves`). A type's own error leaves the decoder as it is, and the call around it makes it failed (`refuse`).
+//! - Whether a component is there, a codec knows by a presence mark or by the next tag. So a component that is absent is read only
+//!   where what follows begins with none of its tags (`TellsPresence`, `ReadsOption`, `ReadsDefault`), which distinct tags
+//!   give: `EachApart` of `asn1_components`. Where each value of a type is a single record, anything may follow (`MayFollow`).
+//! - A codec states before what it stands, whether it has failed, its allowance, and which byte strings it takes as one value of
+//!   an open type (`Reader`). The order inside sets means nothing to it (`IsLawful`): so it opens a set before some
+//!   rearrangement of what was written.
+//!
+//! Calls that make values take memory, and those with constraints that have a permitted alphabet.
 #![tactic(auto, using(asn1_tags::proofs::Leaves::tree_shapes))]
 
 mod array;
@@ -10,6 +48,7 @@ mod error;
 mod impls;
 pub mod laws;
 mod needed;
+mod sequences;
 #[cfg(test)]
 mod tests;
 

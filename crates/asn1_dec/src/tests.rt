@@ -1,3 +1,2 @@
-//! A decoder that has nothing to read, and what errors say.
+//! What errors say.
 mod errors;
-mod nothing;

@@ -1,8 +1,6 @@
-//! The texts of errors, and what a decoder answers after one.
-use crate::decode::Decode;
+//! The texts of errors.
 use crate::error::DecodeError;
 use crate::needed::Needed;
-use crate::tests::nothing::Nothing;
 use asn1_tags::Tag;
 use std::alloc::Global;
 use std::process::Abort;
@@ -82,22 +80,4 @@ fn errors_say_what_was_found(rt: HostRuntime) {
     assert_text(&rt, alloc, DecodeError::Depth, "nested too deep");
     assert_text(&rt, alloc, DecodeError::Failed, "the decoder has failed");
     assert_text(&rt, alloc, DecodeError::OutOfRange, "value out of range");
-}
-
-/// Asserts what a list of numbers is read as where there is nothing to read, with an allowance, and the answer to the next call.
-fn assert_answers(rt: &impl Abort, alloc: Global, allowance: usize, answer: DecodeError) {
-    let mut decoder = Nothing::new(alloc, allowance);
-    assert!(rt; <Vec<u8>>::decode(&mut decoder).err() == Some(answer));
-    assert!(rt; bool::decode(&mut decoder).err() == Some(DecodeError::Failed));
-}
-
-#[test]
-fn a_decoder_that_has_failed_answers_so(rt: HostRuntime) {
-    assert_answers(&rt, rt.alloc(), 0, DecodeError::Depth);
-    assert_answers(
-        &rt,
-        rt.alloc(),
-        1,
-        DecodeError::Incomplete(Needed::Unknown),
-    );
 }

@@ -1,30 +1,6 @@
-use Rattle.std.proofs.Common.{[], ◌∷◌, refl}
-use Rattle.std.proofs.lemmas.Result.{err_from_is_err_and}
-use Rattle.asn1_components.specs.Components.{all_components, component_records}
-use Rattle.asn1_model.specs.Records.{sequence}
-use Rattle.asn1_dec.proofs.Following.{nothing_follows}
-use Rattle.asn1_dec.proofs.Steps.{to_end, fails_inside, flat_failure, within_scope}
+use Rattle.asn1_dec.proofs.Constructed.{as_sequence}
 use Rattle.asn1_dec.proofs.decoder.Decoder.decode_sequence.Goals as goal
 
-pub returns-in-Err-clause-read : goal.returns-in-Err-clause-read
-returns-in-Err-clause-read g c = λ v n rest outer can of_type valid at.
-    let rs = component_records g.C.FieldTable.components v in
-    let s = c.in_ok-open_sequence.ensures.read n rs rest outer at in
-    let r = c.in-Err.ensures.read v [] (rest ∷ outer) can of_type valid (nothing_follows (all_components g.C.FieldTable.components)) (to_end g.Self.Decoder.reader _ rs (rest ∷ outer) s.at) in
-    rw c.refuse.ensures.same (fails_inside (sequence c.args.tag n) rs _ _ c.in_ok-open_sequence.ensures.enters.one_less r)
-
-pub returns-in_err-close-clause-read : goal.returns-in_err-close-clause-read
-returns-in_err-close-clause-read g c = λ v n rest outer can of_type valid at.
-    let p = err_from_is_err_and c.from_residual-in_err-close.result c.from_residual-in_err-close.ensures.1 in
-    let rs = component_records g.C.FieldTable.components v in
-    let s = c.in_ok-open_sequence.ensures.read n rs rest outer at in
-    let r = c.in-Ok.ensures.read v [] (rest ∷ outer) can of_type valid (nothing_follows (all_components g.C.FieldTable.components)) (to_end g.Self.Decoder.reader _ rs (rest ∷ outer) s.at) in
-    rw (p.1, p.2) (flat_failure _ _ _ (c.in_err-close.ensures.read rest outer r.at))
-
-pub returns-clause-read : goal.returns-clause-read
-returns-clause-read g c = λ v n rest outer can of_type valid at.
-    let rs = component_records g.C.FieldTable.components v in
-    let s = c.in_ok-open_sequence.ensures.read n rs rest outer at in
-    let r = c.in-Ok.ensures.read v [] (rest ∷ outer) can of_type valid (nothing_follows (all_components g.C.FieldTable.components)) (to_end g.Self.Decoder.reader _ rs (rest ∷ outer) s.at) in
-    let k = c.in_ok-close.ensures.read rest outer r.at in
-    record { answer = r.answer; at = k.at; within_allowance = within_scope (sequence c.args.tag n) rs _ _ c.in_ok-open_sequence.ensures.enters.one_less r.within_allowance }
+pub returns-clause-as_meant : goal.returns-clause-as_meant
+returns-clause-as_meant g c = λ kind constraints.
+    as_sequence g.Self.Decoder.reader g.C.AsnType.meaning g.C.FieldTable.components g.C.PartialEq.eq c.args.tag constraints _ _ c.read_sequence.result g.met.C.ConstructedType.agrees kind c.read_sequence.ensures.read
