@@ -4,7 +4,8 @@ ghost use Rattle.asn1_model.specs.Records.{arcs, bits, bmp, discriminant, genera
 ghost use Rattle.asn1_dec.specs.declared.error.DecodeError.TheVariants.{Depth, Memory};
 ghost use Rattle.asn1_recdec.specs.Records.{content_of};
 ghost use Rattle.asn1_values.specs.Alphabets.{is_ia5, is_numeric, is_printable, is_visible};
-ghost use Rattle.std.specs.Prelude.{◌≡◌, ◌≢◌, ◌<◌, ◌^◌, ⊤, All, Bool, Err, IfOk, IsTrue, List, MatchResult, ℕ, ℤ};
+ghost use Rattle.std.specs.Prelude.{◌≡◌, ◌≢◌, ◌<◌, ◌^◌, ⊤, All, Bool, Err, FitsSigned, IfOk, IsTrue, List, MatchResult, ℕ, ℤ};
+ghost use Rattle.std.specs.Int.{w64};
 ghost use Rattle.std.specs.Str.{IsUtf8};
 ghost use Rattle.std.specs.String.{string_bytes};
 
@@ -81,7 +82,7 @@ impl FromContent for Discriminant {
 
     ghost IsOfType = { λ _. ⊤ };
 
-    ghost Is = { λ w z. w.0 ≡ z };
+    ghost Is = { λ w z. (w.0 ≡ z) × FitsSigned w64 w.0 };
 
     fn from_content(_alloc: Global, kept: &Content) -> Result<Self, DecodeError> {
         match kept {

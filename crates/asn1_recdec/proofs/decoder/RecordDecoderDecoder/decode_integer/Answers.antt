@@ -16,4 +16,5 @@ returns-in-Some-clause-read g c = λ z n rest outer fits at.
 pub returns-in-None-clause-read : goal.returns-in-None-clause-read
 returns-in-None-clause-read g c = λ z n rest outer fits at.
     let m = c.in_ok-number.ensures.read (constraint_set c.args._constraints.now) z n rest outer tt at in
-    absurd (c.in-None.ensures.fitting.1 (subst g.I.IntegerType.fits (sym m.answer) fits))
+    let found = c.in-None.ensures.fitting.1 (subst g.I.IntegerType.fits (sym m.answer) fits) in
+    cc
