@@ -1,5 +1,5 @@
 -- A component that may be absent, or has a default.
-use Rattle.std.proofs.Common.{◌≡◌, Bool, true, false, List, ◌∷◌, ◌++◌, Option, None, Some, Result, Ok, Err, refl, inl, inr, arith, ap, sym, ◌∙◌, subst}
+use Rattle.std.proofs.Common.{◌≡◌, Bool, true, false, List, ◌∷◌, ◌++◌, Option, None, Some, Result, Ok, Err, refl, inl, inr, arith, sym, ◌∙◌, subst}
 use Rattle.std.specs.Cmp.{IsEquivalence}
 use Rattle.std.specs.Option.{IfSome, IfNone, option_map}
 use Rattle.std.specs.Result.{MatchResult}
@@ -8,12 +8,12 @@ use Rattle.asn1_model.specs.Composites.{option_records}
 use Rattle.asn1_model.specs.ConstraintSets.{ConstraintSet}
 use Rattle.asn1_model.specs.Kinds.{option_type}
 use Rattle.asn1_model.specs.Meaning.{Meaning, CanStandInsideUnder, tags}
-use Rattle.asn1_model.specs.Records.{Name, Record, absent, highest, present}
+use Rattle.asn1_model.specs.Records.{Name, Record, absent, present}
 use Rattle.asn1_model.specs.Tags.{Tags, BeginsWithin, ShareNone, first_tags}
 use Rattle.asn1_model.proofs.FirstTags.{begins_before, one_begins}
 use Rattle.asn1_dec.specs.declared.error.DecodeError.{DecodeError}
 use Rattle.asn1_dec.specs.declared.error.DecodeError.TheVariants.{Memory}
-use Rattle.asn1_dec.specs.Reading.{Ahead, Reader, MayFail, MayFollow, ReadsDefault, ReadsOption, ReadsValue, TellsPresence}
+use Rattle.asn1_dec.specs.Reading.{Reader, MayFollow, ReadsDefault, ReadsOption, ReadsValue, TellsPresence}
 use Rattle.asn1_dec.proofs.Steps.{fails_below}
 
 pub after_option : {V : Type 0} (m : Meaning V) (t : Tag) (c : ConstraintSet) (n : Name) (v : Option V) (rest : List Record) →

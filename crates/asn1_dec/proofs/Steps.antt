@@ -1,10 +1,10 @@
 -- How steps of reading follow one another.
-use Rattle.std.proofs.Common.{◌≡◌, Bool, true, ℕ, suc, max, ◌<◌, ◌≤◌, List, [], ◌∷◌, ◌++◌, ◌⊎◌, inl, inr, arith, ap, sym, ◌∙◌, subst, append-nil, Result, Ok, Err}
+use Rattle.std.proofs.Common.{◌≡◌, Bool, true, ℕ, suc, max, ◌≤◌, List, [], ◌∷◌, ◌++◌, inl, inr, arith, ap, sym, ◌∙◌, subst, append-nil, Result, Ok, Err}
 use Rattle.std.specs.Cmp.{IsEquivalence}
-use Rattle.asn1_model.specs.Records.{Record, Head, height, highest, held, holding, inner_height}
+use Rattle.asn1_model.specs.Records.{Record, Head, height, highest, holding}
 use Rattle.asn1_model.proofs.Lists.{inner_height-held}
 use Rattle.asn1_dec.specs.declared.error.DecodeError.{DecodeError}
-use Rattle.asn1_dec.specs.Reading.{Ahead, Reader, MayFail, Moved, Moves}
+use Rattle.asn1_dec.specs.Reading.{Ahead, Reader, MayFail, Moves}
 
 pub highest-append : (rs ss : List Record) → highest (rs ++ ss) ≡ max (highest rs) (highest ss)
 highest-append [] ss = omega arith

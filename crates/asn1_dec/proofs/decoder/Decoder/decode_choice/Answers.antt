@@ -1,4 +1,4 @@
-use Rattle.std.proofs.Common.{[], ◌∷◌, refl}
+use Rattle.std.proofs.Common.{[], ◌∷◌}
 use Rattle.std.proofs.lemmas.Result.{err_from_is_err_and}
 use Rattle.asn1_choices.specs.Alternatives.{all_of, chosen_meaning}
 use Rattle.asn1_choices.specs.ChosenTags.{chosen_tag}
