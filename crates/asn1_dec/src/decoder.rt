@@ -5,17 +5,18 @@ ghost use Rattle.asn1_components.specs.ComponentLists.{CanBeInSequence, EachIsOf
 ghost use Rattle.asn1_components.specs.Components.{all_components, component_records, is_sequence};
 ghost use Rattle.asn1_dec.specs.Reading.{Ahead, Enters, IsLawful, IsNextTag, Keeps, Leaves, Moves, Opens, OpensSet, Reader, ReadsBack, ReadsContent, ReadsDefault, ReadsOption, ReadsOptionAfterTag, ReadsValue, Stays, TellsMore, TellsPresence, marks_passed, records_in};
 ghost use Rattle.asn1_enumerations.specs.Enumerations.{number_of};
-ghost use Rattle.asn1_model.specs.Composites.{alternative_records, list_records, prefix_records, sequence_records};
+ghost use Rattle.asn1_model.specs.Composites.{alternative_records, group_records, list_records, prefix_records, sequence_records};
 ghost use Rattle.asn1_model.specs.ConstraintSets.{ConstraintSet, constraint_set, unconstrained};
 ghost use Rattle.asn1_model.specs.Meaning.{CanStandInside, own_records};
-ghost use Rattle.asn1_model.specs.Records.{Name, Record, absent, alternative, arcs, bits, bmp, discriminant, general, graphic, group_absent, group_end, group_start, ia5, mark, null, number, numeric, octet, prefix, present, printable, raw, sequence, sequence_of, set, set_of, teletex, truth, units, utf8, visible};
-ghost use Rattle.asn1_model.specs.Tags.{tree_tags};
+ghost use Rattle.asn1_model.specs.Records.{Name, Record, absent, alternative, arcs, bits, bmp, discriminant, general, graphic, group_absent, group_end, group_start, ia5, mark, marks_alone, null, number, numeric, octet, prefix, present, printable, raw, sequence, sequence_of, set, set_of, teletex, truth, units, utf8, visible};
+ghost use Rattle.asn1_model.specs.Tags.{ShareNone, first_tags, tree_tags};
 ghost use Rattle.asn1_tags.specs.Trees.{choice, shape};
 ghost use Rattle.asn1_tags.specs.declared.tags.Tag.{Tag};
 ghost use Rattle.asn1_values.specs.Alphabets.{is_ia5, is_numeric, is_printable, is_visible};
 ghost use Rattle.std.specs.Cmp.Lexicographic.{pointwise};
 ghost use Rattle.std.specs.List.{flat_map};
-ghost use Rattle.std.specs.Prelude.{◌≡◌, ◌≤◌, ◌<◌, ◌^◌, [], ◌∷◌, ⊤, All, IsTrue, List, Ok, ℕ, true};
+ghost use Rattle.std.specs.Option.{option_eq, option_map};
+ghost use Rattle.std.specs.Prelude.{◌≡◌, ◌≤◌, ◌<◌, ◌^◌, [], ◌∷◌, ⊤, All, IfSome, IsTrue, List, Ok, Option, false, ℕ, true};
 ghost use Rattle.std.specs.Str.{IsUtf8};
 ghost use Rattle.std.specs.String.{string_bytes};
 
@@ -567,6 +568,27 @@ pub trait Decoder {
     {
         let value = self.decode_extension_addition_with_tag_and_constraints::<T>(tag, constraints)?;
         or_default(self, value, default)
+    }
+
+    /// A group of additions, which may be absent. One that is there writes a component. What follows it begins with no tag of its
+    /// components.
+    final fn decode_extension_addition_group<C: DecodeFields>(
+        &mut self,
+    ) -> Result<Option<C>, DecodeError>
+    where
+        Self: Sized,
+        ensures read { (v : Option C) (rest : List Record) (outer : Ahead) → CanBeInSequence (all_components C.components) → IfSome v (EachIsOfType (all_components C.components)) → IfSome v (λ w. EachIsValid (all_components C.components) reader.takes w × (marks_alone (component_records C.components w) ≡ false)) → ShareNone (tree_tags (choice (trees_of (all_components C.components)))) (first_tags rest) → ReadsBack reader self.old self.new (group_records (option_map (component_records C.components) v)) rest outer (λ w. option_eq C.eq w v ≡ true) result }
+        ensures keeps { Keeps reader self.old self.new result }
+    {
+        if !self.open_group::<C>()? {
+            return Ok(None);
+        }
+        let value = match C::decode_fields(self) {
+            Ok(value) => value,
+            Err(error) => return Err(self.refuse(error)),
+        };
+        self.close_group()?;
+        Ok(Some(value))
     }
 
     /// A SEQUENCE, by its components. Of a type that is one it reads a value of the type, under whatever constraints.
