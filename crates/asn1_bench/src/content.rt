@@ -3,7 +3,6 @@ ghost use Rattle.asn1_bench.specs.Records.{content_of};
 ghost use Rattle.asn1_model.specs.Records.{arcs as arcs_content, bits as bits_content, bmp, general, graphic, ia5, number, numeric, octet, printable, teletex, units, utf8 as utf8_kind, visible};
 ghost use Rattle.asn1_values.specs.Alphabets.{is_ia5, is_numeric, is_printable, is_visible};
 ghost use Rattle.std.specs.Prelude.{◌≡◌, ◌<◌, ◌^◌, All, IfOk, IsTrue};
-ghost use Rattle.std.specs.Str.{IsUtf8};
 
 use asn1_values::{
     Alphabet, AlphabetString, BmpString, GeneralString, GraphicString, Ia5String, Integer,

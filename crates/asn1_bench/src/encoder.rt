@@ -32,11 +32,10 @@ pub struct RecordEncoder {
 
 impl RecordEncoder {
     ghost use Rattle.asn1_bench.specs.Encoder.{carries, record_writer};
-    ghost use Rattle.asn1_bench.specs.Records.{content_of, head_of, mark_of, record_of, records_of};
+    ghost use Rattle.asn1_bench.specs.Records.{content_of, head_of, mark_of, record_of};
     ghost use Rattle.asn1_bench.specs.WithoutConstraints.{head_without, record_without};
     ghost use Rattle.asn1_enc.specs.declared.error.EncodeError.TheVariants.{Memory};
     ghost use Rattle.asn1_enc.specs.Writing.{Closes, ClosesGroup, Opens, OpensGroup, Refuses, Writes, outermost};
-    ghost use Rattle.asn1_model.specs.Composites.{group_records, raw_records};
     ghost use Rattle.asn1_model.specs.ConstraintSets.{ConstraintSet};
     ghost use Rattle.asn1_model.specs.Records as model;
     ghost use Rattle.asn1_model.specs.Records.{height, mark, scalar};
