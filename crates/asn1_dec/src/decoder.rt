@@ -75,10 +75,9 @@ pub trait Decoder {
         ensures read { ReadsContent reader self.old self.new tag unconstrained (λ _. null) (λ _. ⊤) (λ w v. w ≡ v) result }
         ensures stays { Stays reader self.old self.new result };
 
-    /// A value of an ENUMERATED type. Its content is its number, which some codecs know by the name of the item, or by its
-    /// place in the tables of `E`.
-    fn decode_enumerated<E: Enumerated>(&mut self, tag: Tag) -> Result<E, DecodeError>
-        ensures read { ReadsContent reader self.old self.new tag unconstrained (λ v. discriminant (number_of E.eq E.enumeration v)) (λ _. ⊤) (λ w v. w ≡ v) result }
+    /// The number of a value of an ENUMERATED type, which is its content.
+    fn decode_enumerated_number(&mut self, tag: Tag) -> Result<isize, DecodeError>
+        ensures read { ReadsContent reader self.old self.new tag unconstrained discriminant (λ _. ⊤) (λ w z. w ≡ z) result }
         ensures stays { Stays reader self.old self.new result };
 
     /// An OBJECT IDENTIFIER.
@@ -273,6 +272,21 @@ pub trait Decoder {
 
     // The law of a codec.
     ghost lawful: { IsLawful reader };
+
+    /// A value of an ENUMERATED type, by its number. Where no item of the type has the number, the error is
+    /// [`DecodeError::Custom`].
+    final fn decode_enumerated<E: Enumerated>(&mut self, tag: Tag) -> Result<E, DecodeError>
+    where
+        Self: Sized,
+        ensures read { ReadsContent reader self.old self.new tag unconstrained (λ v. discriminant (number_of E.eq E.enumeration v)) (λ _. ⊤) (λ w v. w ≡ v) result }
+        ensures keeps { Keeps reader self.old self.new result }
+    {
+        let number = self.decode_enumerated_number(tag)?;
+        match E::from_discriminant(number) {
+            Some(value) => Ok(value),
+            None => Err(self.refuse(DecodeError::Custom("no item has this number"))),
+        }
+    }
 
     /// A value after an explicit tag.
     final fn decode_explicit_prefix<T: Decode>(&mut self, tag: Tag) -> Result<T, DecodeError>
