@@ -304,6 +304,26 @@ pub trait Decoder {
         Ok(value)
     }
 
+    /// The same as `decode_explicit_prefix`, with constraints of the value.
+    final fn decode_explicit_prefix_with_constraints<T: Decode>(
+        &mut self,
+        tag: Tag,
+        constraints: &Constraints<'_>,
+    ) -> Result<T, DecodeError>
+    where
+        Self: Sized,
+        ensures read { (v : T) (n : Name) (rest : List Record) (outer : Ahead) → CanStandInside T.meaning → T.meaning.IsOfType v → T.meaning.IsValid reader.takes v → ReadsBack reader self.old self.new (prefix_records tag n (T.meaning.records v T.meaning.tag (constraint_set constraints.now) T.meaning.name)) rest outer (λ w. T.eq w v ≡ true) result }
+        ensures keeps { Keeps reader self.old self.new result }
+    {
+        self.open_explicit_prefix(tag)?;
+        let value = match T::decode_with_constraints(self, constraints) {
+            Ok(value) => value,
+            Err(error) => return Err(self.refuse(error)),
+        };
+        self.close()?;
+        Ok(value)
+    }
+
     /// A SEQUENCE OF, by its elements.
     final fn decode_sequence_of<T: Decode>(
         &mut self,
@@ -460,6 +480,24 @@ pub trait Decoder {
             Ok(value) => Ok(Some(value)),
             Err(error) => Err(self.refuse(error)),
         }
+    }
+
+    /// The same as `decode_extension_addition`, after an explicit tag, with constraints of the value.
+    final fn decode_extension_addition_with_explicit_tag_and_constraints<T: Decode>(
+        &mut self,
+        tag: Tag,
+        constraints: &Constraints<'_>,
+    ) -> Result<Option<T>, DecodeError>
+    where
+        Self: Sized,
+        ensures read { ReadsOptionAfterTag reader T.meaning T.eq tag (constraint_set constraints.now) self.old self.new result }
+        ensures keeps { Keeps reader self.old self.new result }
+    {
+        if !self.addition_presence(tag, TagTree::Leaf(tag))? {
+            return Ok(None);
+        }
+        let value = self.decode_explicit_prefix_with_constraints(tag, constraints)?;
+        Ok(Some(value))
     }
 
     /// A component with a default, which is what the closure answers where the component is absent.
