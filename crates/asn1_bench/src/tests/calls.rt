@@ -236,6 +236,8 @@ fn write_additions(
     let constraints = &Constraints::NONE;
     encoder.encode_extension_addition(FIRST, constraints, Some(&9u8), NAME)?;
     encoder.encode_extension_addition(FIRST, constraints, None::<&u8>, NAME)?;
+    encoder.encode_extension_addition_with_tag(FIRST, Some(&9u8), NAME)?;
+    encoder.encode_extension_addition_with_explicit_prefix(FIRST, Some(&9u8), NAME)?;
     encoder.encode_extension_addition_group(None::<&Contact>, NAME)?;
     write_group(encoder, contact(rt, alloc, false))?;
     write_group(encoder, contact(rt, alloc, true))
@@ -243,14 +245,15 @@ fn write_additions(
 
 #[test]
 fn additions_are_written(rt: HostRuntime) {
-    let mut encoder = RecordEncoder::new(rt.alloc(), 0);
+    let mut encoder = RecordEncoder::new(rt.alloc(), 1);
     let answer = write_additions(&rt, rt.alloc(), &mut encoder);
     assert_written(
         &rt,
         rt.alloc(),
         encoder,
         answer,
-        "present Context 0 Context 0 n 9 absent Context 0 group absent group absent \
+        "present Context 0 Context 0 n 9 absent Context 0 present Context 0 Context 0 n 9 \
+         present Context 0 prefix Context 0 n { Universal 2 INTEGER 9 } group absent group absent \
          group { absent Context 3 present Context 4 Context 4 IA5String ia5 [97, 64] } ",
     );
 }
