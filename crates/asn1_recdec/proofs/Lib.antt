@@ -1,4 +1,0 @@
-mod InRecords
-mod Shapes
-mod Standing
-mod WithoutConstraints
