@@ -1,0 +1,4 @@
+mod InRecords
+mod Shapes
+mod Standing
+mod WithoutConstraints

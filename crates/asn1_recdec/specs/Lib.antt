@@ -1,0 +1,5 @@
+pub mod Ahead
+pub mod Carried
+pub mod Found
+pub mod Laws
+pub mod Reading
