@@ -1,11 +1,10 @@
 -- What a record of the program is, by what it is in the model.
-use Rattle.std.proofs.Common.{◌≡◌, ℕ, List, [], ◌∷◌, ap, ◌∙◌, sym, refl}
+use Rattle.std.proofs.Common.{◌≡◌, ℕ, List, ap, ◌∙◌, sym, refl}
 use Rattle.asn1_tags.specs.declared.tags.Tag.{Tag}
 use Rattle.asn1_model.specs.ConstraintSets.{ConstraintSet, unconstrained}
 use Rattle.asn1_model.specs.Records as model
 use Rattle.asn1_model.specs.Records.{Name, Content, Mark, scalar, raw, mark, holding, listed, held, sequence, set, sequence_of, set_of, prefix, alternative}
 use Rattle.asn1_model.specs.Tags.{head_tag}
-use Rattle.asn1_model.specs.Orders.{Same}
 use Rattle.asn1_model.proofs.Lists.{listed-held}
 use Rattle.asn1_model.proofs.SameUpToOrder.{same_as_scalar, same_as_raw, same_as_mark, same_as_holding}
 use Rattle.asn1_bench.specs.declared.record.Record.{Record}

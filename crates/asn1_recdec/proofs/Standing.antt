@@ -1,22 +1,23 @@
 -- The record decoder keeps the laws of a codec.
-use Rattle.std.proofs.Common.{◌≡◌, ℕ, suc, ◌≤◌, Bool, true, false, List, [], ◌∷◌, ◌++◌, refl, sym, ap, subst, ◌∙◌, arith, length, map, inl, get_or, Some, None}
+use Rattle.std.proofs.Common.{◌≡◌, ℕ, suc, ◌≤◌, Bool, true, false, List, [], ◌∷◌, ◌++◌, refl, sym, ap, subst, ◌∙◌, arith, length, inl, get_or, Some, None, append-nil}
 use Rattle.std.specs.Prelude.{if◌then◌else◌, ◌&&◌, Result, Ok, Err, MatchResult, OnOk, IfOk, IfErr}
 use Rattle.std.proofs.lemmas.List.Sorted.{length_permutation}
-use Rattle.asn1_model.specs.Orders.{Same, SameAll, is_unordered}
+use Rattle.asn1_model.specs.Orders.{SameAll, is_unordered}
 use Rattle.asn1_model.specs.Records as model
 use Rattle.asn1_model.specs.Records.{held, is_mark, holding, highest, marks_alone}
-use Rattle.asn1_model.specs.Tags.{Has, record_tags, first_tags, only, head_tag}
+use Rattle.asn1_model.specs.Tags.{Has, ShareNone, Tags, record_tags, first_tags, only, head_tag}
 use Rattle.asn1_tags.specs.declared.tags.Tag.{Tag}
 use Rattle.asn1_model.proofs.SameRecords.{same-tags, same-mark}
 use Rattle.asn1_model.proofs.SameUpToOrder.{SameAll-cons, SameAll-sym, same-length, same_as_none}
-use Rattle.asn1_dec.specs.Reading.{Ahead, SameAhead, next, records_in, marks_passed, Moved, MayFail, SetIsOpen, IsNextTag}
+use Rattle.asn1_dec.specs.Reading.{Ahead, SameAhead, at_end, next, records_in, marks_passed, Moved, MayFail, SetIsOpen, IsNextTag}
 use Rattle.asn1_dec.specs.declared.error.DecodeError.{DecodeError}
 use Rattle.asn1_dec.specs.declared.error.DecodeError.TheVariants.{Memory}
 use Rattle.asn1_bench.specs.declared.record.Record.{Record}
 use Rattle.asn1_recdec.specs.declared.decoder.Rest.{Rest}
 use Rattle.asn1_recdec.specs.declared.decoder.RecordDecoder.{RecordDecoder}
 use Rattle.asn1_recdec.specs.declared.decoder.Opened.{Opened}
-use Rattle.asn1_recdec.specs.Found.{IsRecord, HoldsRecords, Took, OpenedAs}
+use Rattle.asn1_recdec.specs.Carried.{Carries}
+use Rattle.asn1_recdec.specs.Found.{HoldsRecords, Took, OpenedAs}
 use Rattle.asn1_recdec.specs.Reading.{left_of, sees, ahead_without, StandsBefore, record_reader}
 use Rattle.asn1_bench.specs.Records.{record_of, records_of}
 use Rattle.asn1_bench.specs.WithoutConstraints.{record_without, without_constraints}
@@ -87,8 +88,15 @@ fewer_records (r ∷ rs) = one_counts (is_mark r) (records_in rs) (length rs) (f
 -- as many records as there are inside
 pub as_many : (xs : List Record) (h : model.Head) (items : List model.Record) → HoldsRecords xs h items → records_in items ≤ length xs
 as_many xs h items holds =
-    omega (arith, fewer_records items, length_permutation holds.order items holds.moved, same-length holds.exactly holds.order holds.same,
-      without_long holds.exactly, records_long xs, ap length holds.are)
+    omega (
+      arith,
+      fewer_records items,
+      length_permutation holds.order items holds.moved,
+      same-length holds.exactly holds.order holds.same,
+      without_long holds.exactly,
+      records_long xs,
+      ap length holds.are,
+    )
 
 -- a scope was closed
 pub closed : (d e : RecordDecoder) (r : Rest) → d.outer.items ≡ e.outer.items ++ r ∷ [] → e.left ≡ r.records → e.failed ≡ false → d.left.now ≡ [] →
@@ -171,8 +179,8 @@ passed d e is kept sound items outer at =
       no_failure = sound;
       exactly = marks_passed a.records ∷ a.others;
       sees_them =
-        ap (λ l. l ∷ left_of [] e.outer.items) (is ∙ ap marks_passed (first_is seen) ∙ marks_passed-without a.records)
-        ∙ ap (λ l. without_constraints (marks_passed a.records) ∷ l) (ap (λ o. left_of [] o.items) kept ∙ rest_is seen);
+          ap (λ l. l ∷ left_of [] e.outer.items) (is ∙ ap marks_passed (first_is seen) ∙ marks_passed-without a.records)
+          ∙ ap (λ l. without_constraints (marks_passed a.records) ∷ l) (ap (λ o. left_of [] o.items) kept ∙ rest_is seen);
       same = next (same_passed a.records items a.same) a.same_outer;
     }
 
@@ -299,3 +307,16 @@ is_next items r t f has = record {
 
 pub no_next : (items : List model.Record) → marks_alone items ≡ true → IsNextTag items None
 no_next items alone = record { none = λ _. alone; some = λ t e. cc }
+
+-- where a reading begins
+pub begins : (d : RecordDecoder) (xs : List Record) (rs : List model.Record) → sees d ≡ records_of xs ∷ [] → d.failed ≡ false → Carries xs rs → StandsBefore d ((rs ++ []) ∷ [])
+begins d xs rs at sound c = record {
+  no_failure = sound;
+  exactly = c.exactly ∷ [];
+  sees_them = at ∙ ap (λ l. l ∷ []) c.are;
+  same = next (subst (λ l. SameAll (held c.exactly) (held l)) (sym (append-nil rs)) c.same) at_end;
+}
+
+-- nothing follows
+pub nothing_follows : (a : Tags) → ShareNone a (first_tags [])
+nothing_follows a t has (k, below, same) = omega arith

@@ -1,6 +1,6 @@
 -- Records without constraints.
 use Rattle.std.proofs.Common.{◌≡◌, List, [], ◌∷◌, refl, ap}
-use Rattle.asn1_model.specs.Records.{Record, Records, more, held, scope, Head, holding}
+use Rattle.asn1_model.specs.Records.{Record, more, held, scope, Head, holding}
 use Rattle.asn1_bench.specs.WithoutConstraints.{head_without, record_without, inner_without, without_constraints}
 
 pub inner_without-held : (rs : List Record) → inner_without (held rs) ≡ held (without_constraints rs)

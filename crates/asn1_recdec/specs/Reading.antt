@@ -1,6 +1,5 @@
 -- Before what a record decoder stands.
-use Rattle.std.specs.Prelude.{◌≡◌, ℕ, Bool, true, false, List, [], ◌∷◌, map}
-use Rattle.asn1_model.specs.Records as model
+use Rattle.std.specs.Prelude.{◌≡◌, true, false, List, [], ◌∷◌, map}
 use Rattle.asn1_dec.specs.Reading.{Ahead, Reader, SameAhead}
 use Rattle.asn1_bench.specs.Records.{records_of}
 use Rattle.asn1_bench.specs.WithoutConstraints.{without_constraints}

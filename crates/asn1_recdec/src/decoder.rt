@@ -116,7 +116,9 @@ impl<'a> RecordDecoder<'a> {
         }
         match self.advance() {
             Some(record) => Ok(record),
-            None if self.outer.is_empty() => Err(self.fail(DecodeError::Incomplete(Needed::Unknown))),
+            None if self.outer.is_empty() => Err(self.fail(DecodeError::Incomplete(
+                Needed::Unknown,
+            ))),
             None => Err(self.fail(BAD_ITEM)),
         }
     }
@@ -411,7 +413,10 @@ impl<'a> Decoder for RecordDecoder<'a> {
         Ok(())
     }
 
-    fn open_choice<T: Choice>(&mut self, _constraints: &Constraints<'_>) -> Result<Tag, DecodeError> {
+    fn open_choice<T: Choice>(
+        &mut self,
+        _constraints: &Constraints<'_>,
+    ) -> Result<Tag, DecodeError> {
         let opened = self.open(Wanted::Alternative)?;
         Ok(opened.tag)
     }

@@ -1,8 +1,6 @@
-use Rattle.std.proofs.Common.{◌≡◌, List, refl, sym, ap, ◌∙◌}
-use Rattle.asn1_model.specs.Records as model
-use Rattle.asn1_model.specs.Records.{holding}
+use Rattle.std.proofs.Common.{ap, ◌∙◌}
 use Rattle.asn1_model.specs.Tags.{head_tag}
-use Rattle.asn1_recdec.specs.Found.{IsRecord, HoldsRecords}
+use Rattle.asn1_recdec.specs.Found.{HoldsRecords}
 use Rattle.asn1_bench.specs.Records.{record_of}
 use Rattle.asn1_recdec.proofs.Shapes.{scope_of}
 use Rattle.asn1_recdec.proofs.InRecords.{scope_is, head_tag-without}

@@ -1,4 +1,4 @@
-use Rattle.std.proofs.Common.{◌∷◌, arith}
+use Rattle.std.proofs.Common.{arith}
 use Rattle.asn1_model.specs.Records.{holding}
 use Rattle.asn1_recdec.proofs.Standing.{scope_opened}
 use Rattle.asn1_recdec.proofs.decoder.RecordDecoder.open.Goals as goal
@@ -15,5 +15,5 @@ pub returns-in-Some-clause-read : goal.returns-in-Some-clause-read
 returns-in-Some-clause-read c = λ h items rest outer meets at.
     let t = c.in_ok-record.ensures.took (holding h items) rest outer at in
     scope_opened c.args.self.now c.next.new.self c.enter.new.self c.in-Some.scope.records.now h items rest outer c.in-Some.scope.tag c.enter.result
-      (c.in-Some.ensures.records h items meets t.is) (c.in-Some.ensures.tag h items meets t.is) t.at (omega arith)
-      c.enter.ensures.inside c.enter.ensures.opened c.enter.ensures.failed c.enter.ensures.memory
+    (c.in-Some.ensures.records h items meets t.is) (c.in-Some.ensures.tag h items meets t.is) t.at (omega arith)
+    c.enter.ensures.inside c.enter.ensures.opened c.enter.ensures.failed c.enter.ensures.memory

@@ -6,7 +6,7 @@ use Rattle.asn1_recdec.proofs.decoder.RecordDecoderDecoder.next_component.Goals 
 pub returns-in-empty-clause-read : goal.returns-in-empty-clause-read
 returns-in-empty-clause-read c = λ items outer at. record {
   answer = no_next items (next_none c.args.self.now items outer at
-    (ap records_of (sym (empty_list c.skip_marks-self.result.now (omega (arith, c.in-empty.len_below)))) ∙ c.skip_marks-self.ensures));
+      (ap records_of (sym (empty_list c.skip_marks-self.result.now (omega (arith, c.in-empty.len_below)))) ∙ c.skip_marks-self.ensures));
   at = passed c.args.self.now _ c.skip_marks-self.ensures refl c.if-self.false items outer at;
   within_allowance = omega arith;
 }

@@ -1,8 +1,8 @@
 use Rattle.std.proofs.Common.{refl}
 use Rattle.std.proofs.lemmas.Result.{err_from_is_err_and}
 use Rattle.asn1_model.specs.ConstraintSets.{constraint_set}
-use Rattle.asn1_model.specs.Records.{sequence, set, sequence_of, set_of, prefix, alternative}
-use Rattle.asn1_recdec.proofs.Standing.{in_order, in_some_order}
+use Rattle.asn1_model.specs.Records.{alternative}
+use Rattle.asn1_recdec.proofs.Standing.{in_order}
 use Rattle.asn1_recdec.proofs.decoder.RecordDecoderDecoder.open_choice.Goals as goal
 
 pub returns-in_err-opened-clause-read : goal.returns-in_err-opened-clause-read
