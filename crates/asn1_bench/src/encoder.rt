@@ -58,7 +58,7 @@ impl RecordEncoder {
         }
     }
 
-    /// The records that have been written, where no scope and no group is open.
+    /// The records that have been written, where no scope and no group is open and no call has failed.
     pub fn finish(self) -> Vec<Record>
         ensures { (rs : List model.Record) → record_writer.wrote self (outermost rs) → carries result.items rs }
     {

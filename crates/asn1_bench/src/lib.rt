@@ -12,7 +12,7 @@
 //!   constraints (`specs/WithoutConstraints.antt`), in the scopes and groups that are open (`written_so_far` of
 //!   `specs/Encoder.antt`). As types see it, the order inside sets means nothing (`record_writer`).
 //! - It rejects nothing. So an error of a type's writing is `Memory`, `Depth` or, after another error, `Failed`. The errors of
-//!   its own, `Custom`, come only where a scope is closed and none is innermost, or a group.
+//!   its own, `Custom`, come only where a scope or a group is closed and no such is innermost.
 //! - Where `write_value` succeeds, its output is the value's own records without constraints, up to the order inside sets
 //!   (`carries`), which are no higher than the depth (`within_depth`), and the value has what each value of its type has
 //!   (`of_type`). `Depth` comes only where they are higher (`too_high`), and else the error is `Memory` (`no_other_error`).

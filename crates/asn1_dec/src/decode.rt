@@ -23,8 +23,6 @@ use asn1_tags::Tag;
 /// any name, the answer is an equal value, and the decoder stands before what follows. It fails there only for want of memory,
 /// or where the records are higher than the allowance. What an entry point is not given is the type's own. A success leaves the
 /// allowance as it was.
-///
-/// An error is one of the decoder's calls, after which the decoder has failed, or one of the type itself.
 pub trait Decode: AsnType + Eq + Sized + Drop {
     /// Reads a value under a tag and constraints.
     fn decode_with_tag_and_constraints<D: Decoder>(
@@ -36,7 +34,7 @@ pub trait Decode: AsnType + Eq + Sized + Drop {
         ensures same_allowance { OnOk result (D.reader.allowance decoder.new ≡ D.reader.allowance decoder.old) };
 
     /// Reads a value under the type's own tag and constraints. Where there is no memory for these, the error is
-    /// [`DecodeError::Memory`], and the decoder is as it was.
+    /// [`DecodeError::Memory`].
     final fn decode<D: Decoder>(decoder: &mut D) -> Result<Self, DecodeError>
         ensures read { ReadsValue D.reader Self.meaning Self.eq Self.meaning.tag Self.meaning.constraints decoder.old decoder.new result }
         ensures same_allowance { OnOk result (D.reader.allowance decoder.new ≡ D.reader.allowance decoder.old) }

@@ -10,7 +10,7 @@ use thiserror::Error;
 /// Why a value was not read.
 ///
 /// After an error of a decoder's call the decoder has failed: each later call of it answers [`DecodeError::Failed`]. A type
-/// may have errors of its own, which leave the decoder as it was; the call that reads what is around makes it failed.
+/// may have errors of its own, after which the decoder has not failed; the call that reads what is around makes it failed.
 #[derive(Clone, Copy, Debug, Drop, PartialEq, Eq, Error)]
 pub enum DecodeError {
     /// The codec does not understand the input, by a message of its own.

@@ -28,7 +28,7 @@
 //!   a list of another length than the array's, are read, and refused after that (`ReadsAndRefuses`).
 //! - A decoder's call that fails makes the decoder failed, and a failed one answers `Failed` (`Keeps`). `Depth` comes only from
 //!   opening a scope, if and only if there is no allowance (`Enters`); opening takes one from the allowance, and closing gives it
-//!   back (`Leaves`). A type's own error leaves the decoder as it is, and the call around it makes it failed (`refuse`).
+//!   back (`Leaves`). An error of a type's own does not make the decoder failed; the call around it does (`refuse`).
 //! - Whether a component is there, a codec knows by a presence mark or by the next tag. So a component that is absent is read only
 //!   where what follows begins with none of its tags (`TellsPresence`, `ReadsOption`, `ReadsDefault`), which distinct tags
 //!   give: `EachApart` of `asn1_components`. Where each value of a type is a single record, anything may follow (`MayFollow`).

@@ -18,8 +18,8 @@
 //! - Each type states its components, alternatives or items once, and its tables, meaning and writer are proved to say the
 //!   same. The writer has a line for each component (`encode_field`) or alternative (`encode_alternative`), and no proof.
 //! - Each can be inside other types: `person_can_stand_inside` and its kin.
-//! - The records of some values are written out: `person_records` and its kin. `profile_is_valid` and `envelope_is_valid` say
-//!   which values are valid, and `node_is_two_higher_than_its_children` how many scopes a node needs.
+//! - The records of some values are written out: `person_records` and its kin. `profile_is_valid` and `envelope_is_valid` say of
+//!   some values whether they are valid.
 //! - [`laws`] says when two values are equal.
 //! - A type that holds itself states its components by what is inside a value. `specs/NodeComponents.antt` has the form: the
 //!   records follow by a fold, and what a value has by its type is said of all labels inside it. The prover wants such a type

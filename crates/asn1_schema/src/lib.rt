@@ -1,4 +1,4 @@
-//! ASN.1 types, written and read by any codec: all names of the layer, codecs as a whole, and the round trip.
+//! ASN.1 types, written and read by any codec: codecs as a whole, the round trip, and the names of the layer.
 //!
 //! | Item | What it is |
 //! |---|---|
@@ -8,7 +8,8 @@
 //! | [`UniversalString`] | the kind of string that is a tagged UTF8String |
 //! | [`laws`] | what the derives of the error give |
 //!
-//! The types and traits of the crates below are handed on, so that a user names this crate alone in code.
+//! The types and traits of the crates below that an author of types or of a codec needs are handed on, so that code names this
+//! crate alone.
 //!
 //! What the contracts promise, and the words that they use:
 //!
@@ -31,7 +32,7 @@ mod universal_string;
 pub use asn1_bounds::{
     Codec, Constraint, ConstraintDiscriminant, InnerSubtypeConstraint, InnerSubtypeConstraintError,
 };
-pub use asn1_dec::{Decode, DecodeError, Decoder, Needed};
+pub use asn1_dec::{Array, Decode, DecodeChoice, DecodeError, DecodeFields, Decoder, Needed};
 pub use asn1_enc::{Encode, EncodeChoice, EncodeError, EncodeFields, Encoder, EnumeratedValue};
 pub use asn1_types::{
     Any, AsnType, Bounded, Choice, ChoiceType, Class, ConstraintTable, Constraints, Constructed,

@@ -4,8 +4,9 @@ use crate::rules::BenchRules;
 use crate::tests::samples::ann;
 use asn1_bounds::{Codec, Constraints};
 use asn1_enc::{Encode, EncodeError, Encoder};
-use asn1_samples::Contact;
+use asn1_samples::{Contact, Plate};
 use asn1_tags::{Identifier, Tag};
+use asn1_values::VisibleString;
 use std::alloc::Global;
 use std::process::Abort;
 
@@ -99,7 +100,28 @@ fn write_all(encoder: &mut RecordEncoder) -> Result<(), EncodeError> {
 fn memory_runs_out(rt: HostRuntime) {
     let mut encoder = RecordEncoder::new(rt.alloc(), 1);
     let answer = write_all(&mut encoder);
-    if answer.is_err() {
-        assert_error(&rt, encoder, answer, EncodeError::Memory);
+    match answer {
+        Ok(()) => assert!(rt; encoder.finish().len() == 5),
+        Err(_) => assert_error(&rt, encoder, answer, EncodeError::Memory),
+    }
+}
+
+/// The same of a type whose own constraints want memory.
+fn assert_plate(rt: &impl Abort, alloc: Global, plate: Plate) {
+    let mut encoder = RecordEncoder::new(alloc, 0);
+    let answer = plate.encode(&mut encoder);
+    match answer {
+        Ok(()) => assert!(rt; encoder.finish().len() == 1),
+        Err(_) => assert_error(rt, encoder, answer, EncodeError::Memory),
+    }
+}
+
+#[test]
+fn memory_for_an_alphabet_runs_out(rt: HostRuntime) {
+    let Ok(letters) = Vec::from_slice(rt.alloc(), b"AB") else {
+        return;
+    };
+    if let Ok(letters) = VisibleString::new(letters) {
+        assert_plate(&rt, rt.alloc(), Plate(letters));
     }
 }

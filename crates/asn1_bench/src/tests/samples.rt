@@ -7,7 +7,7 @@ use asn1_samples::{
     Shape,
 };
 use asn1_types::Any;
-use asn1_values::{Ia5String, Integer, VisibleString};
+use asn1_values::{Ia5String, Integer, NumericString, VisibleString};
 use std::alloc::Global;
 use std::process::Abort;
 
@@ -117,6 +117,26 @@ fn settings_are_written(rt: HostRuntime) {
         2,
         "sequence Universal 16 Settings { present Context 0 \
          sequence Context 0 Labelled { Context 0 INTEGER 2 Context 1 INTEGER 9 } } ",
+    );
+}
+
+/// A contact with a telephone number.
+fn phone(rt: &impl Abort, alloc: Global) -> Contact {
+    Contact {
+        phone: Some(NumericString::new(own(rt, alloc, b"12")).expect(rt, "a text")),
+        mail: None,
+    }
+}
+
+#[test]
+fn a_profile_with_a_phone_is_written(rt: HostRuntime) {
+    assert_value(
+        &rt,
+        rt.alloc(),
+        profile(Some(phone(&rt, rt.alloc()))),
+        1,
+        "sequence Universal 16 Profile { absent Context 0 Context 1 INTEGER 7 absent Context 2 \
+         group { present Context 3 Context 3 NumericString numeric [49, 50] absent Context 4 } } ",
     );
 }
 

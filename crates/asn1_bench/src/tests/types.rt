@@ -3,8 +3,9 @@ use crate::encoder::RecordEncoder;
 use crate::tests::text::assert_written;
 use asn1_bounds::Constraints;
 use asn1_enc::{Encode, EncodeError, Encoder};
+use asn1_samples::{Corner, Shape};
 use asn1_tags::{Class, Identifier, Tag};
-use asn1_types::{Explicit, Implicit, SetOf, tag};
+use asn1_types::{Explicit, Implicit, InstanceOf, SetOf, tag};
 use asn1_values::{BitString, ConstrainedInteger, Integer, ObjectIdentifier, OctetString};
 use std::alloc::{AllocError, Global};
 use std::borrow::Cow;
@@ -13,7 +14,7 @@ use std::process::Abort;
 
 /// Asserts what is written of a value under what its type has of its own.
 fn assert_own<T: Encode + Drop>(rt: &impl Abort, alloc: Global, value: T, expected: &str) {
-    let mut encoder = RecordEncoder::new(alloc, 1);
+    let mut encoder = RecordEncoder::new(alloc, 2);
     let answer = value.encode(&mut encoder);
     assert_written(rt, alloc, encoder, answer, expected);
 }
@@ -115,6 +116,7 @@ fn holders_have_what_is_in_them(rt: HostRuntime) {
     assert_own(&rt, alloc, None::<u8>, "absent Universal 2 ");
     assert_own(&rt, alloc, &7u8, "Universal 2 INTEGER 7 ");
     assert_own(&rt, alloc, Cow::<u8>::Owned(7), "Universal 2 INTEGER 7 ");
+    assert_own(&rt, alloc, Cow::Borrowed(&7u8), "Universal 2 INTEGER 7 ");
     assert_own(
         &rt,
         alloc,
@@ -129,6 +131,51 @@ fn holders_have_what_is_in_them(rt: HostRuntime) {
     );
 }
 
+fn instance(rt: &impl Abort, alloc: Global) -> InstanceOf<u8> {
+    InstanceOf {
+        type_id: ObjectIdentifier::new(own(rt, alloc, &[1, 3])),
+        value: 9,
+    }
+}
+
+#[test]
+fn an_instance_has_its_type_and_its_value(rt: HostRuntime) {
+    assert_own(
+        &rt,
+        rt.alloc(),
+        instance(&rt, rt.alloc()),
+        "sequence Universal 8 SEQUENCE { Universal 6 OBJECT_IDENTIFIER arcs [1, 3] \
+         prefix Context 0 SEQUENCE { Universal 2 INTEGER 9 } } ",
+    );
+}
+
+#[test]
+fn a_choice_is_after_a_tag(rt: HostRuntime) {
+    let mut encoder = RecordEncoder::new(rt.alloc(), 2);
+    let answer = Shape::Ring(3).encode_with_tag(&mut encoder, Tag::new_context(7));
+    assert_written(
+        &rt,
+        rt.alloc(),
+        encoder,
+        answer,
+        "prefix Context 7 Shape { alternative Context 0 Shape { Context 0 INTEGER 3 } } ",
+    );
+}
+
+fn right(rt: &impl Abort, alloc: Global) -> Corner {
+    Corner::Right(OctetString::new(own(rt, alloc, &[7])))
+}
+
+#[test]
+fn an_untagged_choice_is_its_alternative(rt: HostRuntime) {
+    assert_own(
+        &rt,
+        rt.alloc(),
+        right(&rt, rt.alloc()),
+        "alternative Universal 4 Corner { Universal 4 OCTET_STRING octets [7] } ",
+    );
+}
+
 const FIRST: Tag = Tag {
     class: Class::Context,
     value: 0,
@@ -136,7 +183,7 @@ const FIRST: Tag = Tag {
 
 const NAME: Identifier = Identifier(Some("n"));
 
-fn enter(encoder: &mut RecordEncoder) -> Result<(), EncodeError> {
+fn write_by_each_entry(encoder: &mut RecordEncoder) -> Result<(), EncodeError> {
     let constraints = &Constraints::NONE;
     7u8.encode_with_tag(encoder, FIRST)?;
     7u8.encode_with_identifier(encoder, NAME)?;
@@ -149,7 +196,7 @@ fn enter(encoder: &mut RecordEncoder) -> Result<(), EncodeError> {
 #[test]
 fn each_entry_point_takes_what_it_is_given(rt: HostRuntime) {
     let mut encoder = RecordEncoder::new(rt.alloc(), 0);
-    let answer = enter(&mut encoder);
+    let answer = write_by_each_entry(&mut encoder);
     assert_written(
         &rt,
         rt.alloc(),

@@ -1,4 +1,5 @@
 //! What a codec is told beside the records, which no contract says.
+use crate::encode::Encode;
 use crate::encoder::Encoder;
 use crate::error::EncodeError;
 use crate::tests::color::Color;
@@ -93,12 +94,34 @@ fn an_item_tells_its_place(rt: HostRuntime) {
 }
 
 #[test]
-fn components_have_their_marks(rt: HostRuntime) {
+fn options_have_their_marks(rt: HostRuntime) {
     let mut listener = Listener::new(rt.alloc(), 1);
     let answer = listener.encode_some(&true, NAME);
     assert_told(&rt, &listener, answer, Told::Component(true));
     let answer = listener.encode_none::<bool>(NAME);
     assert_told(&rt, &listener, answer, Told::Component(false));
+    let answer = Some(true).encode(&mut listener);
+    assert_told(&rt, &listener, answer, Told::Component(true));
+    let answer = None::<bool>.encode(&mut listener);
+    assert_told(&rt, &listener, answer, Told::Component(false));
+    let answer = listener.encode_some_with_explicit_prefix(Tag::NULL, &true, NAME);
+    assert_told(&rt, &listener, answer, Told::Component(true));
+}
+
+#[test]
+fn defaults_have_their_marks(rt: HostRuntime) {
+    let mut listener = Listener::new(rt.alloc(), 1);
+    let answer = listener.encode_default(&true, |_| Ok(false), NAME);
+    assert_told(&rt, &listener, answer, Told::Component(true));
+    let answer = listener.encode_default(&true, |_| Ok(true), NAME);
+    assert_told(&rt, &listener, answer, Told::Component(false));
+    let answer = listener.encode_default_with_explicit_prefix(
+        Tag::NULL,
+        &true,
+        |_| Ok(false),
+        NAME,
+    );
+    assert_told(&rt, &listener, answer, Told::Component(true));
 }
 
 /// Asserts which mark each call for additions gives.

@@ -1,5 +1,0 @@
-use Rattle.asn1_model.specs.ConstraintSets.{unconstrained}
-use Rattle.asn1_recdec.proofs.decoder.RecordDecoderDecoder.decode_object_identifier.Goals as goal
-
-pub returns-clause-read : goal.returns-clause-read
-returns-clause-read c = c.scalar.ensures.read unconstrained

@@ -1,0 +1,14 @@
+use Rattle.std.proofs.Common.{◌∷◌}
+use Rattle.std.specs.Prelude.{⊤}
+use Rattle.asn1_model.specs.Records.{mark, group_end}
+use Rattle.asn1_record_decoder.proofs.Standing.{finished}
+use Rattle.asn1_record_decoder.proofs.decoder.RecordDecoderDecoder.close_group.Goals as goal
+
+pub returns-in_err-record-clause-read : goal.returns-in_err-record-clause-read
+returns-in_err-record-clause-read c = λ rest outer at. absurd (c.in_err-record.ensures.took _ rest outer at)
+
+pub returns-clause-read : goal.returns-clause-read
+returns-clause-read c = λ rest outer at.
+    let t = c.in_ok-record.ensures.took (mark group_end) rest outer at in
+    let found = c.end_of_group-found.ensures.found t.is in
+    finished c.args.self.now c.next.new.self c.finish.new.self (rest ∷ outer) (λ _. ⊤) c.finish.result (rw c.finish.ensures.same found) c.finish.ensures.kept t.at

@@ -1,0 +1,13 @@
+use Rattle.std.proofs.Common.{◌≡◌, ◌∷◌}
+use Rattle.asn1_model.specs.Records.{raw}
+use Rattle.asn1_record_decoder.proofs.Standing.{finished}
+use Rattle.asn1_record_decoder.proofs.decoder.RecordDecoderDecoder.decode_any.Goals as goal
+
+pub returns-in_err-record-clause-read : goal.returns-in_err-record-clause-read
+returns-in_err-record-clause-read c = λ bytes n rest outer takes at. absurd (c.in_err-record.ensures.took _ rest outer at)
+
+pub returns-clause-read : goal.returns-clause-read
+returns-clause-read c = λ bytes n rest outer takes at.
+    let t = c.in_ok-record.ensures.took (raw n bytes) rest outer at in
+    let found = c.bytes-found.ensures.found n bytes t.is in
+    finished c.args.self.now c.next.new.self c.finish.new.self (rest ∷ outer) (λ w. w ≡ bytes) c.finish.result (rw c.finish.ensures.same found) c.finish.ensures.kept t.at

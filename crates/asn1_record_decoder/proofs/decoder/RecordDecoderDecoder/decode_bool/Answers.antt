@@ -1,0 +1,5 @@
+use Rattle.asn1_model.specs.ConstraintSets.{unconstrained}
+use Rattle.asn1_record_decoder.proofs.decoder.RecordDecoderDecoder.decode_bool.Goals as goal
+
+pub returns-clause-read : goal.returns-clause-read
+returns-clause-read c = c.scalar.ensures.read unconstrained

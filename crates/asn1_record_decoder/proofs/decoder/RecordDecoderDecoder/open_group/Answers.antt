@@ -1,0 +1,22 @@
+use Rattle.std.proofs.Common.{◌≡◌, ◌∷◌, true, false}
+use Rattle.asn1_model.specs.Records.{mark, group_start, group_absent}
+use Rattle.asn1_record_decoder.proofs.Standing.{finished}
+use Rattle.asn1_record_decoder.proofs.decoder.RecordDecoderDecoder.open_group.Goals as goal
+
+pub returns-in_err-record-clause-read : goal.returns-in_err-record-clause-read
+returns-in_err-record-clause-read g c = record {
+  there = λ rest outer begins at. absurd (c.in_err-record.ensures.took _ rest outer at);
+  away = λ rest outer apart at. absurd (c.in_err-record.ensures.took _ rest outer at);
+}
+
+pub returns-clause-read : goal.returns-clause-read
+returns-clause-read g c = record {
+  there = λ rest outer begins at.
+      let t = c.in_ok-record.ensures.took (mark group_start) rest outer at in
+      let found = c.group-found.ensures.there t.is in
+      finished c.args.self.now c.next.new.self c.finish.new.self (rest ∷ outer) (λ b. b ≡ true) c.finish.result (rw c.finish.ensures.same found) c.finish.ensures.kept t.at;
+  away = λ rest outer apart at.
+      let t = c.in_ok-record.ensures.took (mark group_absent) rest outer at in
+      let found = c.group-found.ensures.away t.is in
+      finished c.args.self.now c.next.new.self c.finish.new.self (rest ∷ outer) (λ b. b ≡ false) c.finish.result (rw c.finish.ensures.same found) c.finish.ensures.kept t.at;
+}

@@ -1,0 +1,36 @@
+-- Before what a record decoder stands.
+use Rattle.std.specs.Prelude.{◌≡◌, true, false, List, [], ◌∷◌, map}
+use Rattle.asn1_dec.specs.Reading.{Ahead, Reader, SameAhead}
+use Rattle.asn1_bench.specs.Records.{records_of}
+use Rattle.asn1_bench.specs.WithoutConstraints.{without_constraints}
+use Rattle.asn1_record_decoder.specs.declared.decoder.Rest.{Rest}
+use Rattle.asn1_record_decoder.specs.declared.decoder.RecordDecoder.{RecordDecoder}
+
+-- what is left of the lists that are outside, which come outermost first, inside those that are given
+abbrev pub left_of : Ahead → List Rest → Ahead
+left_of outer [] = outer
+left_of outer (r ∷ rs) = left_of (records_of r.records.now ∷ outer) rs
+
+-- what is left of each list
+abbrev pub sees : RecordDecoder → Ahead
+sees d = records_of d.left.now ∷ left_of [] d.outer.items
+
+-- the lists, without constraints
+abbrev pub ahead_without : Ahead → Ahead
+ahead_without = map without_constraints
+
+-- The decoder is before these lists: up to the order inside sets, and apart from constraints, they are what is left.
+pub record StandsBefore (d : RecordDecoder) (ahead : Ahead) : Type 0 where
+  pub no_failure : d.failed ≡ false
+  pub exactly : Ahead
+  pub sees_them : sees d ≡ ahead_without exactly
+  pub same : SameAhead exactly ahead
+
+-- what the decoder says of itself: it takes any bytes as one value of an open type
+abbrev pub record_reader : Reader RecordDecoder
+record_reader = record {
+  stands = λ d a. StandsBefore d a;
+  failed = λ d. d.failed;
+  allowance = λ d. d.allowance;
+  takes = λ _. true;
+}

@@ -1,0 +1,452 @@
+//! The decoder that reads from records.
+ghost use Rattle.std.specs.Prelude.{◌+◌, ◌<◌, ◌^◌, vec_len};
+
+use crate::found::{self, BAD_ITEM};
+use crate::from_content::FromContent;
+use crate::marks::skip_marks;
+use crate::wanted::Wanted;
+use asn1_bench::Record;
+use asn1_bounds::{Codec, Constraints};
+use asn1_choices::Choice;
+use asn1_components::FieldTable;
+use asn1_dec::{DecodeError, Decoder, Needed};
+use asn1_tags::{Tag, TagTree};
+use asn1_types::Any;
+use asn1_values::{
+    BitString, BmpString, GeneralString, GraphicString, Ia5String, Integer, IntegerType,
+    NumericString, ObjectIdentifier, PrintableString, TeletexString, VisibleString,
+};
+use std::alloc::Global;
+
+/// What is left of a list outside the innermost one.
+#[derive(Drop)]
+struct Rest<'a> {
+    records: &'a [Record],
+}
+
+/// A decoder that reads from records, in the order in which they are.
+///
+/// Where none is left outside all scopes the error is [`DecodeError::Incomplete`], and where what is next is not what is asked
+/// for [`DecodeError::Custom`].
+#[derive(Drop)]
+pub struct RecordDecoder<'a> {
+    alloc: Global,
+    allowance: usize,
+    failed: bool,
+    left: &'a [Record],
+    outer: Vec<Rest<'a>>,
+    ghost counted: { allowance + vec_len outer < 2 ^ 64 },
+}
+
+/// A scope that was opened: the tag of its head, and how many records and marks are in it.
+#[derive(Clone, Copy)]
+struct Opened {
+    tag: Tag,
+    bound: usize,
+}
+
+impl<'a> RecordDecoder<'a> {
+    ghost use Rattle.asn1_dec.specs.declared.error.DecodeError.TheVariants.{Memory};
+    ghost use Rattle.asn1_dec.specs.Reading.{Ahead, Enters, MayFail, ReadsContent, Stays, TellsPresence};
+    ghost use Rattle.asn1_model.specs.ConstraintSets.{ConstraintSet};
+    ghost use Rattle.asn1_model.specs.Records as model;
+    ghost use Rattle.asn1_model.specs.Records.{absent, holding, present};
+    ghost use Rattle.asn1_model.specs.Tags.{Tags};
+    ghost use Rattle.asn1_record_decoder.specs.Found.{Meets, OpenedAs, Took};
+    ghost use Rattle.asn1_record_decoder.specs.Reading.{StandsBefore, record_reader, sees};
+    ghost use Rattle.asn1_bench.specs.Records.{record_of, records_of};
+    ghost use Rattle.std.specs.Prelude.{◌≡◌, ◌∷◌, [], IfErr, IfOk, IfSome, IsOk, List, MatchResult, None, OnErr, OnOk, false, length, suc, true};
+
+    /// A decoder that is before these records, and may open so many scopes in one another.
+    pub fn new(alloc: Global, records: &'a [Record], depth: usize) -> RecordDecoder<'a>
+        ensures before { sees result ≡ records_of records.now ∷ [] }
+        ensures allowance { record_reader.allowance result ≡ depth }
+        ensures no_failure { record_reader.failed result ≡ false }
+    {
+        RecordDecoder {
+            alloc,
+            allowance: depth,
+            failed: false,
+            left: records,
+            outer: Vec::new(alloc),
+        }
+    }
+
+    /// That nothing is left of the list that is innermost.
+    pub(crate) fn at_end(&self) -> Result<(), DecodeError>
+        ensures { StandsBefore self.now ([] ∷ []) → IsOk result }
+    {
+        match self.left {
+            [_, ..] => Err(BAD_ITEM),
+            [] => Ok(()),
+        }
+    }
+
+    /// Makes the decoder failed, and answers the error.
+    fn fail(&mut self, error: DecodeError) -> DecodeError
+        ensures same { result ≡ error }
+        ensures failing { self.new.failed ≡ true }
+    {
+        self.failed = true;
+        error
+    }
+
+    /// Takes the next record, if one is left.
+    fn advance(&mut self) -> Option<&'a Record>
+        ensures taken { IfSome result (λ x. records_of self.old.left.now ≡ record_of x.now ∷ records_of self.new.left.now) }
+        ensures none { result ≡ None → records_of self.old.left.now ≡ [] }
+        ensures allowance { self.new.allowance ≡ self.old.allowance }
+        ensures failed { self.new.failed ≡ self.old.failed }
+        ensures outer { self.new.outer ≡ self.old.outer }
+    {
+        let [record, rest @ ..] = self.left else {
+            return None;
+        };
+        self.left = rest;
+        Some(record)
+    }
+
+    /// The next record.
+    fn next(&mut self) -> Result<&'a Record, DecodeError>
+        ensures took { (r : model.Record) (rest : List model.Record) (outer : Ahead) → StandsBefore self.old ((r ∷ rest) ∷ outer) → MatchResult result (λ x. Took x.now self.new r rest outer) (λ _. ⊥) }
+        ensures stays { Stays record_reader self.old self.new result }
+    {
+        if self.failed {
+            return Err(DecodeError::Failed);
+        }
+        match self.advance() {
+            Some(record) => Ok(record),
+            None if self.outer.is_empty() => Err(self.fail(DecodeError::Incomplete(
+                Needed::Unknown,
+            ))),
+            None => Err(self.fail(BAD_ITEM)),
+        }
+    }
+
+    /// What was found in a record; an error makes the decoder failed.
+    fn finish<V>(&mut self, found: Result<V, DecodeError>) -> Result<V, DecodeError>
+        ensures same { result ≡ found }
+        ensures kept { OnOk result (self.new ≡ self.old) }
+        ensures failing { OnErr result (self.new.failed ≡ true) }
+    {
+        if found.is_err() {
+            self.failed = true;
+        }
+        found
+    }
+
+    /// A content under a tag.
+    fn scalar<V: FromContent>(&mut self, tag: Tag) -> Result<V, DecodeError>
+        ensures read { (c : ConstraintSet) → ReadsContent record_reader self.old self.new tag c V.content V.IsOfType V.Is result }
+        ensures stays { Stays record_reader self.old self.new result }
+    {
+        let record = self.next()?;
+        match found::content(record, tag) {
+            Some(content) => {
+                let found = V::from_content(self.alloc, content);
+                self.finish(found)
+            }
+            None => Err(self.fail(BAD_ITEM)),
+        }
+    }
+
+    /// Whether the component of this tag is there.
+    fn tell_presence(&mut self, tag: Tag) -> Result<bool, DecodeError>
+        ensures read { (own : Tags) → TellsPresence record_reader self.old self.new (present tag) (absent tag) own result }
+        ensures stays { Stays record_reader self.old self.new result }
+    {
+        let record = self.next()?;
+        let found = found::presence(record, tag);
+        self.finish(found)
+    }
+
+    /// Goes into a scope.
+    fn enter(&mut self, tag: Tag, inner: &'a [Record]) -> Result<Opened, DecodeError>
+        requires room { 0 < self.now.allowance }
+        ensures inside { OnOk result (sees self.new ≡ records_of inner.now ∷ sees self.old) }
+        ensures opened { IfOk result (λ opened. (opened.tag ≡ tag) × (opened.bound ≡ length inner.now)) }
+        ensures one_less { OnOk result (self.old.allowance ≡ suc self.new.allowance) }
+        ensures failed { OnOk result (self.new.failed ≡ self.old.failed) }
+        ensures memory { IfErr result (λ e. e ≡ Memory) }
+        ensures failing { OnErr result (self.new.failed ≡ true) }
+    {
+        let records = self.left;
+        self.allowance -= 1;
+        if let Err(_) = self.outer.push(Rest { records }) {
+            return Err(self.fail(DecodeError::Memory));
+        }
+        self.left = inner;
+        Ok(Opened {
+            tag,
+            bound: inner.len(),
+        })
+    }
+
+    /// Opens a scope.
+    fn open(&mut self, wanted: Wanted) -> Result<Opened, DecodeError>
+        ensures read { (h : model.Head) (items rest : List model.Record) (outer : Ahead) → Meets wanted h → StandsBefore self.old ((holding h items ∷ rest) ∷ outer) → MatchResult result (λ w. OpenedAs h items rest outer w.tag w.bound self.old self.new) (MayFail self.old.allowance 1) }
+        ensures enters { Enters record_reader self.old self.new result }
+    {
+        if self.failed {
+            return Err(DecodeError::Failed);
+        }
+        if self.allowance == 0 {
+            return Err(self.fail(DecodeError::Depth));
+        }
+        let record = self.next()?;
+        match found::inner_scope(record, wanted) {
+            Some(scope) => self.enter(scope.tag, scope.records),
+            None => Err(self.fail(BAD_ITEM)),
+        }
+    }
+}
+
+impl<'a> Decoder for RecordDecoder<'a> {
+    ghost use Rattle.asn1_record_decoder.specs.Laws.{stands_in_any_order};
+    ghost use Rattle.asn1_record_decoder.specs.Reading.{record_reader};
+
+    ghost reader = { record_reader };
+
+    fn codec(&self) -> Codec {
+        Codec::Other(0)
+    }
+
+    fn depth(&self) -> usize {
+        self.allowance
+    }
+
+    fn global(&self) -> Global {
+        self.alloc
+    }
+
+    fn refuse(&mut self, error: DecodeError) -> DecodeError {
+        self.fail(error)
+    }
+
+    fn decode_bool(&mut self, tag: Tag) -> Result<bool, DecodeError> {
+        self.scalar(tag)
+    }
+
+    fn decode_null(&mut self, tag: Tag) -> Result<(), DecodeError> {
+        self.scalar(tag)
+    }
+
+    fn decode_enumerated_number(&mut self, tag: Tag) -> Result<isize, DecodeError> {
+        self.scalar(tag)
+    }
+
+    fn decode_object_identifier(&mut self, tag: Tag) -> Result<ObjectIdentifier, DecodeError> {
+        self.scalar(tag)
+    }
+
+    fn decode_integer<I: IntegerType>(
+        &mut self,
+        tag: Tag,
+        _constraints: &Constraints<'_>,
+    ) -> Result<I, DecodeError> {
+        let number: Integer = self.scalar(tag)?;
+        match I::try_from_integer(number) {
+            Some(value) => Ok(value),
+            None => Err(self.fail(BAD_ITEM)),
+        }
+    }
+
+    fn decode_bit_string(
+        &mut self,
+        tag: Tag,
+        _constraints: &Constraints<'_>,
+    ) -> Result<BitString, DecodeError> {
+        self.scalar(tag)
+    }
+
+    fn decode_octet_string(
+        &mut self,
+        tag: Tag,
+        _constraints: &Constraints<'_>,
+    ) -> Result<Vec<u8>, DecodeError> {
+        self.scalar(tag)
+    }
+
+    fn decode_utf8_string(
+        &mut self,
+        tag: Tag,
+        _constraints: &Constraints<'_>,
+    ) -> Result<String, DecodeError> {
+        self.scalar(tag)
+    }
+
+    fn decode_general_string(
+        &mut self,
+        tag: Tag,
+        _constraints: &Constraints<'_>,
+    ) -> Result<GeneralString, DecodeError> {
+        self.scalar(tag)
+    }
+
+    fn decode_graphic_string(
+        &mut self,
+        tag: Tag,
+        _constraints: &Constraints<'_>,
+    ) -> Result<GraphicString, DecodeError> {
+        self.scalar(tag)
+    }
+
+    fn decode_visible_string(
+        &mut self,
+        tag: Tag,
+        _constraints: &Constraints<'_>,
+    ) -> Result<VisibleString, DecodeError> {
+        self.scalar(tag)
+    }
+
+    fn decode_ia5_string(
+        &mut self,
+        tag: Tag,
+        _constraints: &Constraints<'_>,
+    ) -> Result<Ia5String, DecodeError> {
+        self.scalar(tag)
+    }
+
+    fn decode_printable_string(
+        &mut self,
+        tag: Tag,
+        _constraints: &Constraints<'_>,
+    ) -> Result<PrintableString, DecodeError> {
+        self.scalar(tag)
+    }
+
+    fn decode_numeric_string(
+        &mut self,
+        tag: Tag,
+        _constraints: &Constraints<'_>,
+    ) -> Result<NumericString, DecodeError> {
+        self.scalar(tag)
+    }
+
+    fn decode_teletex_string(
+        &mut self,
+        tag: Tag,
+        _constraints: &Constraints<'_>,
+    ) -> Result<TeletexString, DecodeError> {
+        self.scalar(tag)
+    }
+
+    fn decode_bmp_string(
+        &mut self,
+        tag: Tag,
+        _constraints: &Constraints<'_>,
+    ) -> Result<BmpString, DecodeError> {
+        self.scalar(tag)
+    }
+
+    fn decode_any(&mut self, _tag: Tag) -> Result<Any, DecodeError> {
+        let record = self.next()?;
+        let found = found::bytes(record, self.alloc);
+        self.finish(found)
+    }
+
+    fn presence(&mut self, tag: Tag, _tree: TagTree<'static>) -> Result<bool, DecodeError> {
+        self.tell_presence(tag)
+    }
+
+    fn addition_presence(
+        &mut self,
+        tag: Tag,
+        _tree: TagTree<'static>,
+    ) -> Result<bool, DecodeError> {
+        self.tell_presence(tag)
+    }
+
+    fn open_group<C: FieldTable>(&mut self) -> Result<bool, DecodeError> {
+        let record = self.next()?;
+        let found = found::group(record);
+        self.finish(found)
+    }
+
+    fn close_group(&mut self) -> Result<(), DecodeError> {
+        let record = self.next()?;
+        let found = found::end_of_group(record);
+        self.finish(found)
+    }
+
+    fn open_sequence<C: FieldTable>(&mut self, tag: Tag) -> Result<(), DecodeError> {
+        self.open(Wanted::Sequence(tag))?;
+        Ok(())
+    }
+
+    fn open_set<C: FieldTable>(&mut self, tag: Tag) -> Result<usize, DecodeError> {
+        let opened = self.open(Wanted::Set(tag))?;
+        Ok(opened.bound)
+    }
+
+    fn next_component(&mut self) -> Result<Option<Tag>, DecodeError> {
+        if self.failed {
+            return Err(DecodeError::Failed);
+        }
+        self.left = skip_marks(self.left);
+        match self.left {
+            [record, ..] => Ok(Some(found::first_tag(record))),
+            [] => Ok(None),
+        }
+    }
+
+    fn open_sequence_of(
+        &mut self,
+        tag: Tag,
+        _constraints: &Constraints<'_>,
+    ) -> Result<usize, DecodeError> {
+        let opened = self.open(Wanted::SequenceOf(tag))?;
+        Ok(opened.bound)
+    }
+
+    fn open_set_of(
+        &mut self,
+        tag: Tag,
+        _constraints: &Constraints<'_>,
+    ) -> Result<usize, DecodeError> {
+        let opened = self.open(Wanted::SetOf(tag))?;
+        Ok(opened.bound)
+    }
+
+    fn open_explicit_prefix(&mut self, tag: Tag) -> Result<(), DecodeError> {
+        self.open(Wanted::Prefix(tag))?;
+        Ok(())
+    }
+
+    fn open_choice<T: Choice>(
+        &mut self,
+        _constraints: &Constraints<'_>,
+    ) -> Result<Tag, DecodeError> {
+        let opened = self.open(Wanted::Alternative)?;
+        Ok(opened.tag)
+    }
+
+    fn more(&mut self) -> Result<bool, DecodeError> {
+        if self.failed {
+            return Err(DecodeError::Failed);
+        }
+        match self.left {
+            [_, ..] => Ok(true),
+            [] => Ok(false),
+        }
+    }
+
+    fn close(&mut self) -> Result<(), DecodeError> {
+        if self.failed {
+            return Err(DecodeError::Failed);
+        }
+        match self.left {
+            [_, ..] => Err(self.fail(BAD_ITEM)),
+            [] => match self.outer.pop() {
+                Some(Rest { records }) => {
+                    self.left = records;
+                    self.allowance += 1;
+                    Ok(())
+                }
+                None => Err(self.fail(BAD_ITEM)),
+            },
+        }
+    }
+
+    ghost lawful = { record { in_any_order = stands_in_any_order } };
+}

@@ -1,0 +1,130 @@
+//! What is found in a record.
+ghost use Rattle.asn1_model.specs.ConstraintSets.{ConstraintSet};
+ghost use Rattle.asn1_model.specs.Records as model;
+ghost use Rattle.asn1_model.specs.Records.{Name, absent, group_absent, group_end, group_start, holding, is_mark, mark, present, raw, scalar};
+ghost use Rattle.asn1_model.specs.Tags.{Has, head_tag, record_tags};
+ghost use Rattle.asn1_dec.specs.declared.error.DecodeError.TheVariants.{Depth, Memory};
+ghost use Rattle.asn1_record_decoder.specs.Found.{FoundIn, HoldsRecords, IsRecord, Meets};
+ghost use Rattle.asn1_bench.specs.Records.{content_of, head_of, record_of};
+ghost use Rattle.std.specs.Prelude.{◌≡◌, ◌≢◌, ⊤, Err, IsSomeAnd, List, MatchResult, ℕ, false, true};
+
+use crate::wanted::Wanted;
+use asn1_bench::{Content, Head, Mark, Record};
+use asn1_dec::DecodeError;
+use asn1_tags::Tag;
+use asn1_types::Any;
+use std::alloc::Global;
+
+/// A record is not what it was read as.
+pub(crate) const BAD_ITEM: DecodeError = DecodeError::Custom("bad item");
+
+/// A scope that is opened: the tag of its head, and what is in it.
+#[derive(Drop)]
+pub(crate) struct Scope<'a> {
+    pub(crate) tag: Tag,
+    pub(crate) records: &'a [Record],
+}
+
+/// The tag of a head.
+fn tag_of(head: &Head) -> Tag
+    ensures { result ≡ head_tag (head_of head.now) }
+{
+    match head {
+        Head::Sequence(tag, _)
+        | Head::Set(tag, _)
+        | Head::SequenceOf(tag, _)
+        | Head::SetOf(tag, _)
+        | Head::Prefix(tag, _)
+        | Head::Alternative(tag, _) => *tag,
+    }
+}
+
+/// Whether the record is a presence mark.
+pub(crate) fn is_a_mark(item: &Record) -> bool
+    ensures { result ≡ is_mark (record_of item.now) }
+{
+    matches!(item, Record::Mark(_))
+}
+
+/// A tag with which the record begins, if it is no presence mark.
+pub(crate) fn first_tag(item: &Record) -> Tag
+    ensures { is_mark (record_of item.now) ≡ false → Has (record_tags (record_of item.now)) result }
+{
+    match item {
+        Record::Scalar(tag, _, _) => *tag,
+        Record::Scope(head, _) => tag_of(head),
+        Record::Raw(_, _) | Record::Mark(_) => Tag::EOC,
+    }
+}
+
+/// The content under a tag.
+pub(crate) fn content(item: &Record, tag: Tag) -> Option<&Content>
+    ensures { (c : ConstraintSet) (n : Name) (x : model.Content) → IsRecord item.now (scalar tag c n x) → IsSomeAnd result (λ content. content_of content.now ≡ x) }
+{
+    match item {
+        Record::Scalar(own, _, content) if *own == tag => Some(content),
+        _ => None,
+    }
+}
+
+/// The bytes of an open type.
+pub(crate) fn bytes(item: &Record, alloc: Global) -> Result<Any, DecodeError>
+    ensures found { (n : Name) (bytes : List ℕ) → FoundIn item.now (raw n bytes) (λ w. w ≡ bytes) result }
+    ensures not_too_deep { result ≢ Err Depth }
+{
+    match item {
+        Record::Raw(_, any) => Ok(any.try_clone(alloc)?),
+        _ => Err(BAD_ITEM),
+    }
+}
+
+/// Whether the component of this tag is there, by the mark that says so.
+pub(crate) fn presence(item: &Record, tag: Tag) -> Result<bool, DecodeError>
+    ensures there { FoundIn item.now (mark (present tag)) (λ b. b ≡ true) result }
+    ensures away { FoundIn item.now (mark (absent tag)) (λ b. b ≡ false) result }
+    ensures not_too_deep { result ≢ Err Depth }
+{
+    match item {
+        Record::Mark(Mark::Present(own)) if *own == tag => Ok(true),
+        Record::Mark(Mark::Absent(own)) if *own == tag => Ok(false),
+        _ => Err(BAD_ITEM),
+    }
+}
+
+/// Whether a group is there, by the mark that says so.
+pub(crate) fn group(item: &Record) -> Result<bool, DecodeError>
+    ensures there { FoundIn item.now (mark group_start) (λ b. b ≡ true) result }
+    ensures away { FoundIn item.now (mark group_absent) (λ b. b ≡ false) result }
+    ensures not_too_deep { result ≢ Err Depth }
+{
+    match item {
+        Record::Mark(Mark::GroupStart) => Ok(true),
+        Record::Mark(Mark::GroupAbsent) => Ok(false),
+        _ => Err(BAD_ITEM),
+    }
+}
+
+/// That a group ends here.
+pub(crate) fn end_of_group(item: &Record) -> Result<(), DecodeError>
+    ensures found { FoundIn item.now (mark group_end) (λ _. ⊤) result }
+    ensures not_too_deep { result ≢ Err Depth }
+{
+    match item {
+        Record::Mark(Mark::GroupEnd) => Ok(()),
+        _ => Err(BAD_ITEM),
+    }
+}
+
+/// What is in a scope that is as it is wanted.
+pub(crate) fn inner_scope(item: &Record, wanted: Wanted) -> Option<Scope<'_>>
+    ensures tag { (h : model.Head) (items : List model.Record) → Meets wanted h → IsRecord item.now (holding h items) → IsSomeAnd result (λ scope. scope.tag ≡ head_tag h) }
+    ensures records { (h : model.Head) (items : List model.Record) → Meets wanted h → IsRecord item.now (holding h items) → IsSomeAnd result (λ scope. HoldsRecords scope.records.now h items) }
+{
+    match item {
+        Record::Scope(head, records) if wanted.is_met_by(head) => Some(Scope {
+            tag: tag_of(head),
+            records,
+        }),
+        _ => None,
+    }
+}

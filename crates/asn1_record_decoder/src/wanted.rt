@@ -1,0 +1,38 @@
+//! What a scope has to be that is opened.
+ghost use Rattle.asn1_model.specs.Records as model;
+ghost use Rattle.asn1_model.specs.Tags.{head_tag};
+ghost use Rattle.asn1_record_decoder.specs.Found.{Meets};
+ghost use Rattle.asn1_bench.specs.Records.{head_of};
+ghost use Rattle.asn1_bench.specs.WithoutConstraints.{head_without};
+ghost use Rattle.std.specs.Prelude.{◌≡◌, true};
+
+use asn1_bench::Head;
+use asn1_tags::Tag;
+
+/// What a scope has to be that is opened: of a kind, and of a tag that is known, but for an alternative.
+#[derive(Clone, Copy)]
+pub(crate) enum Wanted {
+    Sequence(Tag),
+    Set(Tag),
+    SequenceOf(Tag),
+    SetOf(Tag),
+    Prefix(Tag),
+    Alternative,
+}
+
+impl Wanted {
+    /// Whether the head is what is wanted.
+    pub(crate) fn is_met_by(self, head: &Head) -> bool
+        ensures { (h : model.Head) → head_of head.now ≡ head_without h → Meets self h → result ≡ true }
+    {
+        match (self, head) {
+            (Wanted::Sequence(wanted), Head::Sequence(tag, _)) => wanted == *tag,
+            (Wanted::Set(wanted), Head::Set(tag, _)) => wanted == *tag,
+            (Wanted::SequenceOf(wanted), Head::SequenceOf(tag, _)) => wanted == *tag,
+            (Wanted::SetOf(wanted), Head::SetOf(tag, _)) => wanted == *tag,
+            (Wanted::Prefix(wanted), Head::Prefix(tag, _)) => wanted == *tag,
+            (Wanted::Alternative, Head::Alternative(_, _)) => true,
+            _ => false,
+        }
+    }
+}
