@@ -1,4 +1,4 @@
-//! Laws of what no other contract names: which values of a type are equal.
+//! Laws of what no other contract names: which values of a type are equal, and what a clone is.
 ghost use Rattle.std.specs.Cmp.Lexicographic.{pointwise};
 ghost use Rattle.std.specs.Hash as fed;
 ghost use Rattle.std.specs.Option.{option_eq};
@@ -6,7 +6,7 @@ ghost use Rattle.std.specs.Prelude.{◌≡◌, ◌↔◌, ◌&&◌, IsTrue, nat_
 ghost use Rattle.std.specs.String.{string_bytes, string_eq};
 ghost use Rattle.asn1_samples.specs.declared.labelled.Labelled.{Labelled};
 ghost use Rattle.asn1_samples.specs.declared.node.Node.{out-Node};
-ghost use Rattle.asn1_tags.specs.Derives.{ComparesAll};
+ghost use Rattle.asn1_tags.specs.Derives.{ClonesAll, ComparesAll};
 
 use crate::badge::Badge;
 use crate::color::Color;
@@ -68,3 +68,9 @@ pub fn settings_are_compared_by_key(a: &Settings, b: &Settings) -> bool
 {
     a == b
 }
+
+/// A law of the derived clones: a clone is its source.
+pub fn clones_are_their_sources()
+    ensures color { ClonesAll ⟦<Color as Clone>⟧.is_clone ⟦<Color as Clone>⟧.is_infallible }
+    ensures labelled { ClonesAll ⟦<Labelled as Clone>⟧.is_clone ⟦<Labelled as Clone>⟧.is_infallible }
+{}
