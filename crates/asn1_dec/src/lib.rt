@@ -49,8 +49,6 @@ mod impls;
 pub mod laws;
 mod needed;
 mod sequences;
-#[cfg(test)]
-mod tests;
 
 pub use array::Array;
 pub use decode::{Decode, DecodeChoice, DecodeFields};

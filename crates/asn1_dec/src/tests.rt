@@ -1,2 +1,0 @@
-//! What errors say.
-mod errors;
