@@ -153,7 +153,7 @@ pub trait Enumerated: Sized + Copy + Eq + 'static {
 }
 
 // The items after the extension marker, none where there is no marker.
-fn added_lines<T: Enumerated>() -> &'static [EnumerationItem<T>]
+pub(crate) fn added_lines<T: Enumerated>() -> &'static [EnumerationItem<T>]
     ensures { table_items result.now ≡ added T.enumeration }
 {
     match T::added_items() {

@@ -8,6 +8,7 @@
 //! |---|---|
 //! | [`EnumerationItem`], `item!` | a value with its number and its name: a line of a type's table; a macro that writes one |
 //! | [`Enumerated`] | a type with such tables, and all calls on them |
+//! | [`EnumeratedTable`] | the numbers and names of such a type's items, in their places: what a codec may know of the type |
 //! | [`VariantIter`], [`DiscriminantIter`], [`ItemIdentifierIter`] | the values of a table, these with their numbers, and the names |
 //! | [`EnumeratedType`], [`written_number`] | an `Enumerated` type of ASN.1 whose meaning is that of its items, and the number in the records of a value |
 //!
@@ -22,6 +23,8 @@
 //! - `enumeration_index` is the place of a value in its own table (`root`, `extended`), and `from_enumeration_index` and
 //!   `from_extended_enumeration_index` answer the value at a place.
 //! - The iterators give what the items say, in order.
+//! - A codec sees the items without their values, as `Labels` (`specs/Labels.antt`): `EnumeratedTable` answers by them, and each
+//!   `Enumerated` type has it.
 //! - `specs/Meanings.antt` says what an ENUMERATED type means (`enumeration_type`), and what it is for a type to mean the
 //!   same (`AgreesWithEnumeration`, the law of `EnumeratedType`). `enumeration_agrees` proves the law of each
 //!   `enumeration_type`. `written_number` ensures that the records of a value have the number that `discriminant` answers.
@@ -30,6 +33,7 @@
 #![tactic(auto)]
 
 mod enumerated;
+mod enumerated_table;
 mod enumerated_type;
 mod items;
 mod iterators;
@@ -37,6 +41,7 @@ mod iterators;
 mod tests;
 
 pub use enumerated::Enumerated;
+pub use enumerated_table::EnumeratedTable;
 pub use enumerated_type::{EnumeratedType, written_number};
 pub use items::EnumerationItem;
 pub use iterators::{DiscriminantIter, ItemIdentifierIter, VariantIter};

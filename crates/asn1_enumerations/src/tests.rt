@@ -1,5 +1,5 @@
 //! An ENUMERATED type with a value after the extension marker.
-use crate::{Enumerated, EnumeratedType, EnumerationItem, item, written_number};
+use crate::{Enumerated, EnumeratedTable, EnumeratedType, EnumerationItem, item, written_number};
 use asn1_model::{AsnType, TypeTable};
 use asn1_tags::{Identifier, Tag};
 use std::process::Abort;
@@ -121,4 +121,25 @@ fn colors_have_places_in_two_tables(rt: HostRuntime) {
     assert!(rt; Color::from_enumeration_index(2).is_none());
     assert!(rt; Color::from_extended_enumeration_index(0) == Some(Color::Blue));
     assert!(rt; Color::from_extended_enumeration_index(1).is_none());
+}
+
+// The place of the item of that number and that name, in the root or after the extension marker.
+fn assert_label<E: EnumeratedTable>(
+    rt: &impl Abort,
+    number: isize,
+    name: &str,
+    in_root: Option<usize>,
+    added: Option<usize>,
+) {
+    assert!(rt; E::name_of_number(number) == Some(name) && E::number_of_name(name) == Some(number));
+    assert!(rt; E::root_place(number) == in_root && E::added_place(number) == added);
+}
+
+#[test]
+fn codecs_see_a_table_without_values(rt: HostRuntime) {
+    assert_label::<Color>(&rt, 1, "green", Some(1), None);
+    assert_label::<Color>(&rt, 5, "blue", None, Some(0));
+    assert!(rt; Color::root_count() == 2 && Color::added_count() == Some(1));
+    assert!(rt; Color::root_number(1) == Some(1) && Color::root_number(2).is_none());
+    assert!(rt; Color::added_number(0) == Some(5) && Color::added_number(1).is_none());
 }
