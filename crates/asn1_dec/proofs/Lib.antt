@@ -1,4 +1,5 @@
 pub mod Absence
+pub mod Ahead
 pub mod Constructed
 pub mod Groups
 pub mod Midway

@@ -93,20 +93,20 @@ module _ {D V : Type 0} (R : Reader D) (m : Meaning V) (eq : V → V → Bool) w
   comes can d x xs outer at = subst (λ l. R.stands d ((l ++ flat_map (own_records m) xs) ∷ outer)) (one m can x).alone at
 
   -- where whether an element comes could not be told
-  pub not_told : (can : CanStandInside m) {d e : D} {read vs : List V} {outer : Ahead} {error : DecodeError} (b h : ℕ) → Midway d read vs outer →
+  pub not_told : (can : CanStandInside m) {d e : D} {read vs : List V} {rest : List Record} {outer : Ahead} {error : DecodeError} (b h : ℕ) → Midway d read vs (rest ∷ outer) →
       TellsMore R d e (Err error) → MayFail b h error
-  not_told can {d} {e} {read} {vs} {outer} {error} b h mid tells =
-      elim mid.todo as (λ todo. R.stands d (flat_map (own_records m) todo ∷ outer) → MayFail b h error) [
-        | [] ↦ λ at. flat_failure b h error (tells.none outer at)
-        | x ∷ xs ↦ λ at. flat_failure b h error (tells.some (one m can x).item (flat_map (own_records m) xs) outer (one m can x).no_mark (comes can d x xs outer at))
+  not_told can {d} {e} {read} {vs} {rest} {outer} {error} b h mid tells =
+      elim mid.todo as (λ todo. R.stands d (flat_map (own_records m) todo ∷ rest ∷ outer) → MayFail b h error) [
+        | [] ↦ λ at. flat_failure b h error (tells.none rest outer at)
+        | x ∷ xs ↦ λ at. flat_failure b h error (tells.some (one m can x).item (flat_map (own_records m) xs) rest outer (one m can x).no_mark (comes can d x xs (rest ∷ outer) at))
       ]
       mid.at
 
-  pub another : (can : CanStandInside m) {d e : D} {read vs : List V} {outer : Ahead} (b : Bool) → Midway d read vs outer → TellsMore R d e (Ok b) → b ≡ true →
-      R.allowance e ≡ R.allowance d → AnotherComes e read vs outer
-  another can {d} {e} {read} {vs} {outer} b mid tells hit kept =
-      elim mid.todo as (λ todo. vs ≡ mid.done ++ todo → All m.IsOfType todo → All (m.IsValid R.takes) todo → R.stands d (flat_map (own_records m) todo ∷ outer) → AnotherComes e read vs outer) [
-        | [] ↦ λ _ _ _ at. let wrong = (tells.none outer at).answer in cc
+  pub another : (can : CanStandInside m) {d e : D} {read vs : List V} {rest : List Record} {outer : Ahead} (b : Bool) → Midway d read vs (rest ∷ outer) → TellsMore R d e (Ok b) → b ≡ true →
+      R.allowance e ≡ R.allowance d → AnotherComes e read vs (rest ∷ outer)
+  another can {d} {e} {read} {vs} {rest} {outer} b mid tells hit kept =
+      elim mid.todo as (λ todo. vs ≡ mid.done ++ todo → All m.IsOfType todo → All (m.IsValid R.takes) todo → R.stands d (flat_map (own_records m) todo ∷ rest ∷ outer) → AnotherComes e read vs (rest ∷ outer)) [
+        | [] ↦ λ _ _ _ at. let wrong = (tells.none rest outer at).answer in cc
         | x ∷ xs ↦ λ split of_type valid at. record {
           done = mid.done;
           next = x;
@@ -118,22 +118,22 @@ module _ {D V : Type 0} (R : Reader D) (m : Meaning V) (eq : V → V → Bool) w
           next_valid = All-head (m.IsValid R.takes) x xs valid;
           of_type = All-tail m.IsOfType x xs of_type;
           valid = All-tail (m.IsValid R.takes) x xs valid;
-          at = subst (λ l. R.stands e ((l ++ flat_map (own_records m) xs) ∷ outer)) (sym (one m can x).alone)
-              (tells.some (one m can x).item (flat_map (own_records m) xs) outer (one m can x).no_mark (comes can d x xs outer at)).at;
+          at = subst (λ l. R.stands e ((l ++ flat_map (own_records m) xs) ∷ rest ∷ outer)) (sym (one m can x).alone)
+              (tells.some (one m can x).item (flat_map (own_records m) xs) rest outer (one m can x).no_mark (comes can d x xs (rest ∷ outer) at)).at;
         }
       ]
       mid.split mid.of_type mid.valid mid.at
 
-  pub through : (can : CanStandInside m) {d e : D} {read vs : List V} {outer : Ahead} (b : Bool) → Midway d read vs outer → TellsMore R d e (Ok b) → b ≡ false →
-      R.allowance e ≡ R.allowance d → Through e read vs outer
-  through can {d} {e} {read} {vs} {outer} b mid tells miss kept =
-      elim mid.todo as (λ todo. vs ≡ mid.done ++ todo → R.stands d (flat_map (own_records m) todo ∷ outer) → Through e read vs outer) [
+  pub through : (can : CanStandInside m) {d e : D} {read vs : List V} {rest : List Record} {outer : Ahead} (b : Bool) → Midway d read vs (rest ∷ outer) → TellsMore R d e (Ok b) → b ≡ false →
+      R.allowance e ≡ R.allowance d → Through e read vs (rest ∷ outer)
+  through can {d} {e} {read} {vs} {rest} {outer} b mid tells miss kept =
+      elim mid.todo as (λ todo. vs ≡ mid.done ++ todo → R.stands d (flat_map (own_records m) todo ∷ rest ∷ outer) → Through e read vs (rest ∷ outer)) [
         | [] ↦ λ split at. let all : vs ≡ mid.done = split ∙ append-nil mid.done in record {
           same = subst (λ l. pointwise eq read l ≡ true) (sym all) mid.same;
           low = omega (arith, mid.low, kept, ap (λ l. highest (flat_map (own_records m) l)) all);
-          at = (tells.none outer at).at;
+          at = (tells.none rest outer at).at;
         }
-        | x ∷ xs ↦ λ split at. let wrong = (tells.some (one m can x).item (flat_map (own_records m) xs) outer (one m can x).no_mark (comes can d x xs outer at)).answer in cc
+        | x ∷ xs ↦ λ split at. let wrong = (tells.some (one m can x).item (flat_map (own_records m) xs) rest outer (one m can x).no_mark (comes can d x xs (rest ∷ outer) at)).answer in cc
       ]
       mid.split mid.at
 

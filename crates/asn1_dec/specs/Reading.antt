@@ -134,11 +134,11 @@ module _ {D : Type 0} (R : Reader D) where
     pub away : (rest : List Record) (outer : Ahead) → ShareNone own (first_tags rest) →
         Moves old new 0 ((mark absent ∷ rest) ∷ outer) (rest ∷ outer) (λ b. b ≡ false) result
 
-  -- A call that tells whether a record is left in the innermost scope, and stays before it.
+  -- A call that tells whether a record is left in the innermost scope, and stays before it. Inside no scope it tells nothing.
   pub record TellsMore (old new : D) (result : Result Bool DecodeError) : Type 0 where
-    pub some : (r : Record) (rest : List Record) (outer : Ahead) → is_mark r ≡ false →
-        Moves old new 0 ((r ∷ rest) ∷ outer) ((r ∷ rest) ∷ outer) (λ b. b ≡ true) result
-    pub none : (outer : Ahead) → Moves old new 0 ([] ∷ outer) ([] ∷ outer) (λ b. b ≡ false) result
+    pub some : (r : Record) (items rest : List Record) (outer : Ahead) → is_mark r ≡ false →
+        Moves old new 0 ((r ∷ items) ∷ rest ∷ outer) ((r ∷ items) ∷ rest ∷ outer) (λ b. b ≡ true) result
+    pub none : (rest : List Record) (outer : Ahead) → Moves old new 0 ([] ∷ rest ∷ outer) ([] ∷ rest ∷ outer) (λ b. b ≡ false) result
 
   -- a call that opens a record of this head and any name; this holds of its answer and what is inside
   abbrev pub Opens : {V : Type 0} → D → D → (Name → Head) → (List Record → V → Type 0) → Result V DecodeError → Type 0
@@ -171,15 +171,19 @@ module _ {D : Type 0} (R : Reader D) where
     pub sound : OnOk result (R.failed new ≡ false)
     pub not_too_deep : result ≢ Err Depth
 
-  -- A call that opens a scope takes one from the allowance. It is too deep if and only if there is none, and says so before
-  -- anything but that the decoder has failed.
+  -- A call that opens a scope, before anything else: where there is no allowance it says so, and so before anything but that the
+  -- decoder has failed.
+  abbrev pub NeedsAllowance : {V : Type 0} → D → Result V DecodeError → Type 0
+  NeedsAllowance old result = R.failed old ≡ false → R.allowance old ≡ 0 → result ≡ Err Depth
+
+  -- A call that opens a scope takes one from the allowance. It is too deep if and only if there is none.
   pub record Enters {V : Type 0} (old new : D) (result : Result V DecodeError) : Type 0 where
     pub one_less : OnOk result (R.allowance old ≡ suc (R.allowance new))
     pub sound : OnOk result (R.failed new ≡ false)
     pub failing : OnErr result (R.failed new ≡ true)
     pub refused : R.failed old ≡ true → result ≡ Err Failed
     pub too_deep : result ≡ Err Depth → R.allowance old ≡ 0
-    pub depth_first : R.failed old ≡ false → R.allowance old ≡ 0 → result ≡ Err Depth
+    pub depth_first : NeedsAllowance old result
 
   -- A call that closes a scope gives it back.
   pub record Leaves {V : Type 0} (old new : D) (result : Result V DecodeError) : Type 0 where

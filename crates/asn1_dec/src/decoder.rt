@@ -3,8 +3,9 @@ ghost use Rattle.asn1_choices.specs.Alternatives.{CanBeChosen, Each, HaveDistinc
 ghost use Rattle.asn1_choices.specs.ChosenTags.{chosen_tag};
 ghost use Rattle.asn1_components.specs.ComponentLists.{CanBeInSequence, EachIsOfType, EachIsValid, trees_of};
 ghost use Rattle.asn1_components.specs.Components.{all_components, component_records, is_sequence};
-ghost use Rattle.asn1_dec.specs.Reading.{Ahead, Enters, IsLawful, IsNextTag, Keeps, Leaves, Moves, Opens, OpensSet, Reader, ReadsBack, ReadsContent, ReadsDefault, ReadsOption, ReadsOptionAfterTag, ReadsValue, Stays, TellsMore, TellsPresence, marks_passed, records_in};
+ghost use Rattle.asn1_dec.specs.Reading.{Ahead, Enters, IsLawful, IsNextTag, Keeps, Leaves, Moves, NeedsAllowance, Opens, OpensSet, Reader, ReadsBack, ReadsContent, ReadsDefault, ReadsOption, ReadsOptionAfterTag, ReadsValue, Stays, TellsMore, TellsPresence, marks_passed, records_in};
 ghost use Rattle.asn1_enumerations.specs.Enumerations.{number_of};
+ghost use Rattle.asn1_enumerations.specs.Labels.{HasNumber};
 ghost use Rattle.asn1_model.specs.Composites.{alternative_records, group_records, list_records, prefix_records, sequence_records};
 ghost use Rattle.asn1_model.specs.ConstraintSets.{ConstraintSet, constraint_set, unconstrained};
 ghost use Rattle.asn1_model.specs.Meaning.{CanStandInside, own_records};
@@ -28,7 +29,7 @@ use crate::sequences::read_sequence;
 use asn1_bounds::{Codec, Constraints};
 use asn1_choices::Choice;
 use asn1_components::{ConstructedType, FieldTable};
-use asn1_enumerations::Enumerated;
+use asn1_enumerations::{Enumerated, EnumeratedTable};
 use asn1_tags::{Tag, TagTree};
 use asn1_types::Any;
 use asn1_values::{
@@ -75,9 +76,13 @@ pub trait Decoder {
         ensures read { ReadsContent reader self.old self.new tag unconstrained (λ _. null) (λ _. ⊤) (λ w v. w ≡ v) result }
         ensures stays { Stays reader self.old self.new result };
 
-    /// The number of a value of an ENUMERATED type, which is its content.
-    fn decode_enumerated_number(&mut self, tag: Tag) -> Result<isize, DecodeError>
-        ensures read { ReadsContent reader self.old self.new tag unconstrained discriminant (λ _. ⊤) (λ w z. w ≡ z) result }
+    /// The number of a value of an ENUMERATED type, which is its content: a number of the table of `E`. A codec may have written
+    /// the number's place in the table or its name in its stead, and looks the number up in the table.
+    fn decode_enumerated_number<E: EnumeratedTable>(
+        &mut self,
+        tag: Tag,
+    ) -> Result<isize, DecodeError>
+        ensures read { ReadsContent reader self.old self.new tag unconstrained discriminant (HasNumber E.labels) (λ w z. w ≡ z) result }
         ensures stays { Stays reader self.old self.new result };
 
     /// An OBJECT IDENTIFIER.
@@ -231,9 +236,10 @@ pub trait Decoder {
         ensures read { OpensSet reader self.old self.new (set tag) (λ items bound. records_in items ≤ bound) result }
         ensures enters { Enters reader self.old self.new result };
 
-    /// The tag with which the next record of a SET begins, if one is left. Presence marks before it are passed over.
+    /// The tag with which the next record of a SET begins, if one is left. Presence marks before it are passed over. It is asked
+    /// inside a scope: at the outermost list a codec need not know whether all was read.
     fn next_component(&mut self) -> Result<Option<Tag>, DecodeError>
-        ensures read { (items : List Record) (outer : Ahead) → Moves reader self.old self.new 0 (items ∷ outer) (marks_passed items ∷ outer) (IsNextTag items) result }
+        ensures read { (items rest : List Record) (outer : Ahead) → Moves reader self.old self.new 0 (items ∷ rest ∷ outer) (marks_passed items ∷ rest ∷ outer) (IsNextTag items) result }
         ensures stays { Stays reader self.old self.new result };
 
     /// Opens a SEQUENCE OF, and answers a bound on the number of its elements.
@@ -260,7 +266,8 @@ pub trait Decoder {
         ensures read { (chosen : Tag) → Opens reader self.old self.new (alternative chosen (constraint_set constraints.now)) (λ _ tag. tag ≡ chosen) result }
         ensures enters { Enters reader self.old self.new result };
 
-    /// Whether a record is left in the innermost scope. Reads nothing.
+    /// Whether a record is left in the innermost scope. Reads nothing. It is asked inside a scope: at the outermost list a codec
+    /// need not know whether all was read.
     fn more(&mut self) -> Result<bool, DecodeError>
         ensures read { TellsMore reader self.old self.new result }
         ensures stays { Stays reader self.old self.new result };
@@ -279,9 +286,9 @@ pub trait Decoder {
     where
         Self: Sized,
         ensures read { ReadsContent reader self.old self.new tag unconstrained (λ v. discriminant (number_of E.eq E.enumeration v)) (λ _. ⊤) (λ w v. w ≡ v) result }
-        ensures keeps { Keeps reader self.old self.new result }
+        ensures stays { Stays reader self.old self.new result }
     {
-        let number = self.decode_enumerated_number(tag)?;
+        let number = self.decode_enumerated_number::<E>(tag)?;
         match E::from_discriminant(number) {
             Some(value) => Ok(value),
             None => Err(self.refuse(DecodeError::Custom("no item has this number"))),
@@ -294,6 +301,7 @@ pub trait Decoder {
         Self: Sized,
         ensures read { (v : T) (n : Name) (rest : List Record) (outer : Ahead) → CanStandInside T.meaning → T.meaning.IsOfType v → T.meaning.IsValid reader.takes v → ReadsBack reader self.old self.new (prefix_records tag n (own_records T.meaning v)) rest outer (λ w. T.eq w v ≡ true) result }
         ensures keeps { Keeps reader self.old self.new result }
+        ensures depth_first { NeedsAllowance reader self.old result }
     {
         self.open_explicit_prefix(tag)?;
         let value = match T::decode(self) {
@@ -314,6 +322,7 @@ pub trait Decoder {
         Self: Sized,
         ensures read { (v : T) (n : Name) (rest : List Record) (outer : Ahead) → CanStandInside T.meaning → T.meaning.IsOfType v → T.meaning.IsValid reader.takes v → ReadsBack reader self.old self.new (prefix_records tag n (T.meaning.records v T.meaning.tag (constraint_set constraints.now) T.meaning.name)) rest outer (λ w. T.eq w v ≡ true) result }
         ensures keeps { Keeps reader self.old self.new result }
+        ensures depth_first { NeedsAllowance reader self.old result }
     {
         self.open_explicit_prefix(tag)?;
         let value = match T::decode_with_constraints(self, constraints) {
@@ -334,6 +343,7 @@ pub trait Decoder {
         Self: Sized,
         ensures read { (vs : List T) (n : Name) (rest : List Record) (outer : Ahead) → CanStandInside T.meaning → All T.meaning.IsOfType vs → All (T.meaning.IsValid reader.takes) vs → ReadsBack reader self.old self.new (list_records tag (constraint_set constraints.now) n (flat_map (own_records T.meaning) vs)) rest outer (λ w. pointwise T.eq w.items vs ≡ true) result }
         ensures keeps { Keeps reader self.old self.new result }
+        ensures depth_first { NeedsAllowance reader self.old result }
     {
         let bound = self.open_sequence_of(tag, constraints)?;
         let elements = read_elements(self, bound)?;
@@ -653,6 +663,7 @@ pub trait Decoder {
         ensures components { (v : C) (n : Name) (rest : List Record) (outer : Ahead) → CanBeInSequence (all_components C.components) → EachIsOfType (all_components C.components) v → EachIsValid (all_components C.components) reader.takes v → ReadsBack reader self.old self.new (sequence_records tag n (component_records C.components v)) rest outer (λ w. C.eq w v ≡ true) result }
         ensures as_meant { C.components.kind ≡ is_sequence → (c : ConstraintSet) → ReadsValue reader C.meaning C.eq tag c self.old self.new result }
         ensures keeps { Keeps reader self.old self.new result }
+        ensures depth_first { NeedsAllowance reader self.old result }
     {
         read_sequence(self, tag)
     }
@@ -666,6 +677,7 @@ pub trait Decoder {
         Self: Sized,
         ensures read { (v : T) (n : Name) (rest : List Record) (outer : Ahead) → HaveDistinctTags (all_of T.alternatives) → Each CanBeChosen (all_of T.alternatives) → (chosen_meaning (all_of T.alternatives) (T.pick v)).IsOfType → (chosen_meaning (all_of T.alternatives) (T.pick v)).IsValid reader.takes → ReadsBack reader self.old self.new (alternative_records (chosen_tag (all_of T.alternatives) (T.pick v)) (constraint_set constraints.now) n (chosen_meaning (all_of T.alternatives) (T.pick v)).records) rest outer (λ w. T.eq w v ≡ true) result }
         ensures keeps { Keeps reader self.old self.new result }
+        ensures depth_first { NeedsAllowance reader self.old result }
     {
         let chosen = self.open_choice::<T>(constraints)?;
         let value = match T::from_tag(self, chosen) {

@@ -21,7 +21,7 @@ use Rattle.asn1_record_decoder.specs.Found.{HoldsRecords, Took, OpenedAs}
 use Rattle.asn1_record_decoder.specs.Reading.{left_of, sees, ahead_without, StandsBefore, record_reader}
 use Rattle.asn1_bench.specs.Records.{record_of, records_of}
 use Rattle.asn1_bench.specs.WithoutConstraints.{record_without, without_constraints}
-use Rattle.asn1_record_decoder.specs.Ahead.{same_as_list, same_as_record, same_as_end}
+use Rattle.asn1_dec.proofs.Ahead.{same_as_list, same_as_record, same_as_end}
 use Rattle.asn1_record_decoder.proofs.InRecords.{head_tag-without}
 
 pub left_of-last : (outer : Ahead) (rs : List Rest) (r : Rest) → left_of outer (rs ++ r ∷ []) ≡ records_of r.records.now ∷ left_of outer rs

@@ -1,6 +1,6 @@
 -- The law of the record decoder.
 use Rattle.asn1_dec.specs.Reading.{Ahead, SameAhead}
-use Rattle.asn1_record_decoder.specs.Ahead.{SameAhead-trans}
+use Rattle.asn1_dec.proofs.Ahead.{SameAhead-trans}
 use Rattle.asn1_record_decoder.specs.Reading.{StandsBefore}
 use Rattle.asn1_record_decoder.specs.declared.decoder.RecordDecoder.{RecordDecoder}
 

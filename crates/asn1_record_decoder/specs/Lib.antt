@@ -1,4 +1,3 @@
-pub mod Ahead
 pub mod Carried
 pub mod Found
 pub mod Laws

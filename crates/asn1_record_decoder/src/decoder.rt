@@ -10,6 +10,7 @@ use asn1_bounds::{Codec, Constraints};
 use asn1_choices::Choice;
 use asn1_components::FieldTable;
 use asn1_dec::{DecodeError, Decoder, Needed};
+use asn1_enumerations::EnumeratedTable;
 use asn1_tags::{Tag, TagTree};
 use asn1_types::Any;
 use asn1_values::{
@@ -231,7 +232,10 @@ impl<'a> Decoder for RecordDecoder<'a> {
         self.scalar(tag)
     }
 
-    fn decode_enumerated_number(&mut self, tag: Tag) -> Result<isize, DecodeError> {
+    fn decode_enumerated_number<E: EnumeratedTable>(
+        &mut self,
+        tag: Tag,
+    ) -> Result<isize, DecodeError> {
         self.scalar(tag)
     }
 
