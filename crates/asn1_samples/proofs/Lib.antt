@@ -1,1 +1,2 @@
 pub mod NodeHeights
+pub mod PartWays
