@@ -15,7 +15,7 @@
 //!
 //! The types of the lower crates and of the language are written: `()`, `bool`, the built-in integers, `Integer`,
 //! `ConstrainedInteger`, every kind of string, `&str`, `ObjectIdentifier`, `Option`, references, `Box`, `Cow`, `Vec`, arrays,
-//! `SetOf`, `Implicit`, `Explicit`, `Any`, `InstanceOf` and `PhantomData`.
+//! `Array`, `SetOf`, `Implicit`, `Explicit`, `Any`, `InstanceOf` and `PhantomData`.
 //!
 //! What the contracts promise, and the words that they use:
 //!

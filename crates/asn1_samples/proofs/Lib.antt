@@ -1,1 +1,3 @@
 pub mod NodeHeights
+pub mod PartWays
+pub mod CornerTags

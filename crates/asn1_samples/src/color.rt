@@ -3,6 +3,7 @@ ghost use Rattle.std.specs.Prelude.{◌≡◌, [], ◌∷◌, Some, pos, codes, 
 ghost use Rattle.asn1_types.specs.Words.{universal, item, by_test, extensible_enumeration, enumeration_type, enumeration_agrees, CanStandInside, own_records, scalar, discriminant, unconstrained};
 ghost use Rattle.asn1_samples.specs.declared.color.Color.TheVariants.{Red, Green, Blue};
 
+use asn1_dec::{Decode, DecodeError, Decoder};
 use asn1_enc::{Encode, EncodeError, Encoder};
 use asn1_enumerations::item;
 use asn1_types::{
@@ -75,6 +76,16 @@ impl Encode for Color {
         name: Identifier,
     ) -> Result<(), EncodeError> {
         encoder.encode_enumerated(tag, self, name)
+    }
+}
+
+impl Decode for Color {
+    fn decode_with_tag_and_constraints<D: Decoder>(
+        decoder: &mut D,
+        tag: Tag,
+        _constraints: &Constraints<'_>,
+    ) -> Result<Color, DecodeError> {
+        decoder.decode_enumerated(tag)
     }
 }
 

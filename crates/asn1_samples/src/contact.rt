@@ -2,6 +2,7 @@
 ghost use Rattle.std.specs.Prelude.{[], ◌∷◌, codes};
 ghost use Rattle.asn1_types.specs.Words.{context, tagged, optional, sequence};
 
+use asn1_dec::{DecodeError, DecodeFields, Decoder};
 use asn1_enc::{Encode, EncodeError, EncodeFields, Encoder};
 use asn1_types::{AsnType, Class, Field, FieldTable, Tag, TagTree};
 use asn1_values::{Ia5String, NumericString};
@@ -53,5 +54,13 @@ impl EncodeFields for Contact {
             1 => self.mail.encode_with_tag(encoder, MAIL),
             _ => Ok(()),
         }
+    }
+}
+
+impl DecodeFields for Contact {
+    fn decode_fields<D: Decoder>(decoder: &mut D) -> Result<Contact, DecodeError> {
+        let phone = decoder.decode_optional_with_tag(PHONE)?;
+        let mail = decoder.decode_optional_with_tag(MAIL)?;
+        Ok(Contact { phone, mail })
     }
 }

@@ -3,7 +3,9 @@ ghost use Rattle.std.specs.Prelude.{◌≡◌, [], ◌∷◌, Some, true, codes}
 ghost use Rattle.asn1_types.specs.Words.{universal, untagged, inl, inr, alternative, closed_choice, choice_of, choice_agrees, CanStandInside, own_records, holding, alternative_head, scalar, truth, unconstrained};
 ghost use Rattle.asn1_samples.specs.declared.corner.Corner.TheVariants.{Left, Right};
 
+use asn1_dec::{Decode, DecodeChoice, DecodeError, Decoder};
 use asn1_enc::{Encode, EncodeChoice, EncodeError, Encoder};
+use asn1_set_reading::read_choice;
 use asn1_types::{AsnType, Choice, ChoiceType, Constraints, Identifier, Tag, TagTree, TypeTable};
 use asn1_values::OctetString;
 
@@ -87,6 +89,32 @@ impl EncodeChoice for Corner {
         match self {
             Corner::Left(flag) => flag.encode(encoder),
             Corner::Right(octets) => octets.encode(encoder),
+        }
+    }
+}
+
+impl Decode for Corner {
+    fn decode_with_tag_and_constraints<D: Decoder>(
+        decoder: &mut D,
+        tag: Tag,
+        constraints: &Constraints<'_>,
+    ) -> Result<Corner, DecodeError> {
+        read_choice(decoder, tag, constraints)
+    }
+}
+
+impl DecodeChoice for Corner {
+    fn from_tag<D: Decoder>(decoder: &mut D, tag: Tag) -> Result<Corner, DecodeError> {
+        match tag {
+            Tag::BOOL => {
+                let flag = bool::decode(decoder)?;
+                Ok(Corner::Left(flag))
+            }
+            Tag::OCTET_STRING => {
+                let octets = OctetString::decode(decoder)?;
+                Ok(Corner::Right(octets))
+            }
+            _ => Err(DecodeError::NoValidChoice("Corner")),
         }
     }
 }

@@ -2,6 +2,7 @@
 ghost use Rattle.std.specs.Prelude.{◌≡◌, ◌↔◌, ℕ, Bool, IsTrue, List, [], ◌∷◌, None, Some, pos, codes};
 ghost use Rattle.asn1_types.specs.Words.{universal, untagged, required, sequence, constructed_type, constructed_agrees, CanStandInside, own_records, holding, sequence_head, scalar, raw, number, values_of, Range};
 
+use asn1_dec::{Decode, DecodeError, DecodeFields, Decoder};
 use asn1_enc::{Encode, EncodeError, EncodeFields, Encoder};
 use asn1_types::{
     Any, AsnType, Constraints, ConstructedType, Field, FieldTable, Identifier, Tag, TypeTable,
@@ -74,6 +75,24 @@ impl EncodeFields for Envelope {
             1 => self.body.encode(encoder),
             _ => Ok(()),
         }
+    }
+}
+
+impl Decode for Envelope {
+    fn decode_with_tag_and_constraints<D: Decoder>(
+        decoder: &mut D,
+        tag: Tag,
+        _constraints: &Constraints<'_>,
+    ) -> Result<Envelope, DecodeError> {
+        decoder.decode_sequence(tag)
+    }
+}
+
+impl DecodeFields for Envelope {
+    fn decode_fields<D: Decoder>(decoder: &mut D) -> Result<Envelope, DecodeError> {
+        let kind = u8::decode(decoder)?;
+        let body = Any::decode(decoder)?;
+        Ok(Envelope { kind, body })
     }
 }
 

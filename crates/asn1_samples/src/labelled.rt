@@ -6,9 +6,10 @@ ghost use Rattle.std.specs.Hash.{on_Alike, same_Alike};
 ghost use Rattle.std.specs.Ordering.{on};
 ghost use Rattle.asn1_types.specs.Words.{context, universal, tagged, required, sequence, constructed_type, constructed_agrees, CanStandInside, own_records, holding, sequence_head, scalar, number, values_of, Range};
 
+use asn1_dec::{Decode, DecodeError, DecodeFields, Decoder};
 use asn1_enc::{Encode, EncodeError, EncodeFields, Encoder};
 use asn1_types::{
-    AsnType, Constraints, ConstructedType, Field, FieldTable, Identifier, Tag, TypeTable,
+    AsnType, Class, Constraints, ConstructedType, Field, FieldTable, Identifier, Tag, TypeTable,
 };
 use std::hash::{Hash, Hasher};
 
@@ -45,6 +46,16 @@ impl Hash for Labelled {
     }
 }
 
+const KEY: Tag = Tag {
+    class: Class::Context,
+    value: 0,
+};
+
+const NOTE: Tag = Tag {
+    class: Class::Context,
+    value: 1,
+};
+
 impl FieldTable for Labelled {
     ghost components = { sequence (
         required (codes "key") (λ l. l.key) (tagged (context 0) ⟦<u8 as AsnType>⟧.meaning) ∷
@@ -56,8 +67,8 @@ impl FieldTable for Labelled {
 
     fn field_at(place: usize) -> Option<Field<'static>> {
         match place {
-            0 => Some(Field::new_required_type_with_tag::<u8>(0, Tag::new_context(0), "key")),
-            1 => Some(Field::new_required_type_with_tag::<u8>(1, Tag::new_context(1), "note")),
+            0 => Some(Field::new_required_type_with_tag::<u8>(0, KEY, "key")),
+            1 => Some(Field::new_required_type_with_tag::<u8>(1, NOTE, "note")),
             _ => None,
         }
     }
@@ -99,10 +110,28 @@ impl Encode for Labelled {
 impl EncodeFields for Labelled {
     fn encode_field<E: Encoder>(&self, place: usize, encoder: &mut E) -> Result<(), EncodeError> {
         match place {
-            0 => self.key.encode_with_tag(encoder, Tag::new_context(0)),
-            1 => self.note.encode_with_tag(encoder, Tag::new_context(1)),
+            0 => self.key.encode_with_tag(encoder, KEY),
+            1 => self.note.encode_with_tag(encoder, NOTE),
             _ => Ok(()),
         }
+    }
+}
+
+impl Decode for Labelled {
+    fn decode_with_tag_and_constraints<D: Decoder>(
+        decoder: &mut D,
+        tag: Tag,
+        _constraints: &Constraints<'_>,
+    ) -> Result<Labelled, DecodeError> {
+        decoder.decode_sequence(tag)
+    }
+}
+
+impl DecodeFields for Labelled {
+    fn decode_fields<D: Decoder>(decoder: &mut D) -> Result<Labelled, DecodeError> {
+        let key = u8::decode_with_tag(decoder, KEY)?;
+        let note = u8::decode_with_tag(decoder, NOTE)?;
+        Ok(Labelled { key, note })
     }
 }
 

@@ -3,6 +3,7 @@ ghost use Rattle.std.specs.Prelude.{◌≡◌, [], ◌∷◌, Some, pos, codes};
 ghost use Rattle.std.specs.String.{string_bytes};
 ghost use Rattle.asn1_types.specs.Words.{universal, untagged, required, sequence, constructed_type, constructed_agrees, CanStandInside, own_records, holding, sequence_head, scalar, number, units, utf8, unconstrained};
 
+use asn1_dec::{Decode, DecodeError, DecodeFields, Decoder};
 use asn1_enc::{Encode, EncodeError, EncodeFields, Encoder};
 use asn1_types::{
     AsnType, Constraints, ConstructedType, Field, FieldTable, Identifier, Tag, TypeTable,
@@ -76,6 +77,24 @@ impl EncodeFields for Person {
             1 => self.name.encode(encoder),
             _ => Ok(()),
         }
+    }
+}
+
+impl Decode for Person {
+    fn decode_with_tag_and_constraints<D: Decoder>(
+        decoder: &mut D,
+        tag: Tag,
+        _constraints: &Constraints<'_>,
+    ) -> Result<Person, DecodeError> {
+        decoder.decode_sequence(tag)
+    }
+}
+
+impl DecodeFields for Person {
+    fn decode_fields<D: Decoder>(decoder: &mut D) -> Result<Person, DecodeError> {
+        let age = Integer::decode(decoder)?;
+        let name = Utf8String::decode(decoder)?;
+        Ok(Person { age, name })
     }
 }
 

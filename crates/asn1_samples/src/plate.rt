@@ -4,6 +4,7 @@ ghost use Rattle.asn1_model.specs.Kinds.{scalar_type, under_own_name};
 ghost use Rattle.asn1_types.specs.Words.{universal, characters_of, CanStandInside, own_records, scalar, units, visible};
 ghost use Rattle.asn1_values.specs.Alphabets.{is_visible};
 
+use asn1_dec::{Decode, DecodeError, Decoder};
 use asn1_enc::{Encode, EncodeError, Encoder};
 use asn1_types::{AsnType, ConstraintTable, Constraints, Identifier, Tag, TypeTable};
 use asn1_values::VisibleString;
@@ -41,6 +42,17 @@ impl Encode for Plate {
         name: Identifier,
     ) -> Result<(), EncodeError> {
         encoder.encode_visible_string(tag, constraints, &self.0, name.or(Self::identifier()))
+    }
+}
+
+impl Decode for Plate {
+    fn decode_with_tag_and_constraints<D: Decoder>(
+        decoder: &mut D,
+        tag: Tag,
+        constraints: &Constraints<'_>,
+    ) -> Result<Plate, DecodeError> {
+        let letters = decoder.decode_visible_string(tag, constraints)?;
+        Ok(Plate(letters))
     }
 }
 

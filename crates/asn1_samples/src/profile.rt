@@ -16,9 +16,10 @@ ghost use Rattle.asn1_samples.specs.declared.color.Color.TheVariants.{Red, Blue}
 
 use crate::color::Color;
 use crate::contact::{CONTACT, Contact};
+use asn1_dec::{Decode, DecodeError, DecodeFields, Decoder};
 use asn1_enc::{Encode, EncodeError, EncodeFields, Encoder};
 use asn1_types::{
-    AsnType, Constraints, ConstructedType, Field, FieldTable, Identifier, Tag, TypeTable,
+    AsnType, Class, Constraints, ConstructedType, Field, FieldTable, Identifier, Tag, TypeTable,
 };
 use asn1_values::{Ia5String, Utf8String};
 
@@ -35,6 +36,21 @@ pub struct Profile {
     pub contact: Option<Contact>,
 }
 
+const NICK: Tag = Tag {
+    class: Class::Context,
+    value: 0,
+};
+
+const LEVEL: Tag = Tag {
+    class: Class::Context,
+    value: 1,
+};
+
+const COLOR: Tag = Tag {
+    class: Class::Context,
+    value: 2,
+};
+
 impl FieldTable for Profile {
     ghost components = { extensible_sequence (
         optional (codes "nick") (λ p. p.nick) (tagged (context 0) ⟦<Utf8String as AsnType>⟧.meaning) ∷
@@ -48,13 +64,9 @@ impl FieldTable for Profile {
 
     fn field_at(place: usize) -> Option<Field<'static>> {
         match place {
-            0 => Some(Field::new_optional_type_with_tag::<Utf8String>(
-                0,
-                Tag::new_context(0),
-                "nick",
-            )),
-            1 => Some(Field::new_required_type_with_tag::<u8>(1, Tag::new_context(1), "level")),
-            2 => Some(Field::new_default_type_with_tag::<Color>(2, Tag::new_context(2), "color")),
+            0 => Some(Field::new_optional_type_with_tag::<Utf8String>(0, NICK, "nick")),
+            1 => Some(Field::new_required_type_with_tag::<u8>(1, LEVEL, "level")),
+            2 => Some(Field::new_default_type_with_tag::<Color>(2, COLOR, "color")),
             3 => Some(Field::new_group(3, CONTACT, "contact")),
             _ => None,
         }
@@ -97,10 +109,10 @@ impl Encode for Profile {
 impl EncodeFields for Profile {
     fn encode_field<E: Encoder>(&self, place: usize, encoder: &mut E) -> Result<(), EncodeError> {
         match place {
-            0 => self.nick.encode_with_tag(encoder, Tag::new_context(0)),
-            1 => self.level.encode_with_tag(encoder, Tag::new_context(1)),
+            0 => self.nick.encode_with_tag(encoder, NICK),
+            1 => self.level.encode_with_tag(encoder, LEVEL),
             2 => encoder.encode_default_with_tag(
-                Tag::new_context(2),
+                COLOR,
                 &self.color,
                 |_| Ok(Color::Red),
                 Color::identifier(),
@@ -108,6 +120,31 @@ impl EncodeFields for Profile {
             3 => encoder.encode_extension_addition_group(self.contact.as_ref(), Identifier::EMPTY),
             _ => Ok(()),
         }
+    }
+}
+
+impl Decode for Profile {
+    fn decode_with_tag_and_constraints<D: Decoder>(
+        decoder: &mut D,
+        tag: Tag,
+        _constraints: &Constraints<'_>,
+    ) -> Result<Profile, DecodeError> {
+        decoder.decode_sequence(tag)
+    }
+}
+
+impl DecodeFields for Profile {
+    fn decode_fields<D: Decoder>(decoder: &mut D) -> Result<Profile, DecodeError> {
+        let nick = decoder.decode_optional_with_tag(NICK)?;
+        let level = u8::decode_with_tag(decoder, LEVEL)?;
+        let color = decoder.decode_default_with_tag(COLOR, |_| Ok(Color::Red))?;
+        let contact = decoder.decode_extension_addition_group()?;
+        Ok(Profile {
+            nick,
+            level,
+            color,
+            contact,
+        })
     }
 }
 

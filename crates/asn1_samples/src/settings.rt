@@ -3,9 +3,10 @@ ghost use Rattle.std.specs.Prelude.{◌≡◌, [], ◌∷◌, Some, pos, codes};
 ghost use Rattle.asn1_types.specs.Words.{context, universal, tagged, with_default, sequence, constructed_type, constructed_agrees, CanStandInside, own_records, holding, sequence_head, scalar, mark, absent, present, number, values_of, Range};
 
 use crate::labelled::Labelled;
+use asn1_dec::{Decode, DecodeError, DecodeFields, Decoder};
 use asn1_enc::{Encode, EncodeError, EncodeFields, Encoder};
 use asn1_types::{
-    AsnType, Constraints, ConstructedType, Field, FieldTable, Identifier, Tag, TypeTable,
+    AsnType, Class, Constraints, ConstructedType, Field, FieldTable, Identifier, Tag, TypeTable,
 };
 
 /// What is set, unless it is as usual. An entry with the key of the default is the default, and its note is not written.
@@ -14,6 +15,11 @@ pub struct Settings {
     /// `entry [0] Labelled DEFAULT { key 1, note 0 }`
     pub entry: Labelled,
 }
+
+const ENTRY: Tag = Tag {
+    class: Class::Context,
+    value: 0,
+};
 
 impl FieldTable for Settings {
     ghost components = { sequence (
@@ -25,11 +31,7 @@ impl FieldTable for Settings {
 
     fn field_at(place: usize) -> Option<Field<'static>> {
         match place {
-            0 => Some(Field::new_default_type_with_tag::<Labelled>(
-                0,
-                Tag::new_context(0),
-                "entry",
-            )),
+            0 => Some(Field::new_default_type_with_tag::<Labelled>(0, ENTRY, "entry")),
             _ => None,
         }
     }
@@ -72,13 +74,30 @@ impl EncodeFields for Settings {
     fn encode_field<E: Encoder>(&self, place: usize, encoder: &mut E) -> Result<(), EncodeError> {
         match place {
             0 => encoder.encode_default_with_tag(
-                Tag::new_context(0),
+                ENTRY,
                 &self.entry,
                 |_| Ok(Labelled { key: 1, note: 0 }),
                 Labelled::identifier(),
             ),
             _ => Ok(()),
         }
+    }
+}
+
+impl Decode for Settings {
+    fn decode_with_tag_and_constraints<D: Decoder>(
+        decoder: &mut D,
+        tag: Tag,
+        _constraints: &Constraints<'_>,
+    ) -> Result<Settings, DecodeError> {
+        decoder.decode_sequence(tag)
+    }
+}
+
+impl DecodeFields for Settings {
+    fn decode_fields<D: Decoder>(decoder: &mut D) -> Result<Settings, DecodeError> {
+        let entry = decoder.decode_default_with_tag(ENTRY, |_| Ok(Labelled { key: 1, note: 0 }))?;
+        Ok(Settings { entry })
     }
 }
 

@@ -5,7 +5,9 @@ ghost use Rattle.asn1_samples.specs.declared.corner.Corner.TheVariants as corner
 ghost use Rattle.asn1_samples.specs.declared.shape.Shape.TheVariants.{Dot, Ring, Inner};
 
 use crate::corner::{CORNER, Corner};
+use asn1_dec::{Decode, DecodeChoice, DecodeError, Decoder};
 use asn1_enc::{Encode, EncodeChoice, EncodeError, Encoder};
+use asn1_set_reading::read_choice;
 use asn1_types::{
     AsnType, Choice, ChoiceType, Class, Constraints, Identifier, Tag, TagTree, TypeTable,
 };
@@ -100,6 +102,36 @@ impl EncodeChoice for Shape {
             Shape::Dot(dot) => dot.encode(encoder),
             Shape::Ring(width) => width.encode_with_tag(encoder, RING),
             Shape::Inner(corner) => corner.encode(encoder),
+        }
+    }
+}
+
+impl Decode for Shape {
+    fn decode_with_tag_and_constraints<D: Decoder>(
+        decoder: &mut D,
+        tag: Tag,
+        constraints: &Constraints<'_>,
+    ) -> Result<Shape, DecodeError> {
+        read_choice(decoder, tag, constraints)
+    }
+}
+
+impl DecodeChoice for Shape {
+    fn from_tag<D: Decoder>(decoder: &mut D, tag: Tag) -> Result<Shape, DecodeError> {
+        match tag {
+            Tag::NULL => {
+                let dot = <()>::decode(decoder)?;
+                Ok(Shape::Dot(dot))
+            }
+            RING => {
+                let width = u16::decode_with_tag(decoder, RING)?;
+                Ok(Shape::Ring(width))
+            }
+            Tag::BOOL | Tag::OCTET_STRING => {
+                let corner = Corner::decode(decoder)?;
+                Ok(Shape::Inner(corner))
+            }
+            _ => Err(DecodeError::NoValidChoice("Shape")),
         }
     }
 }

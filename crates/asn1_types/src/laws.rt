@@ -1,17 +1,23 @@
 //! Laws of what no other contract names: derives, conversions, loops, and the fields of INSTANCE OF.
-ghost use Rattle.std.specs.Prelude.{◌≡◌, ◌↔◌, ◌++◌, ◌∷◌, [], ℕ, List, IsTrue, codes, false};
-ghost use Rattle.std.specs.Cmp.Lexicographic.{slice_cmp};
+ghost use Rattle.std.specs.Prelude.{◌≡◌, ◌↔◌, ◌++◌, ◌∷◌, [], ℕ, Bool, List, IsTrue, codes, false, length};
+ghost use Rattle.std.specs.Cmp.Lexicographic.{pointwise, slice_cmp};
 ghost use Rattle.std.specs.Hash as fed;
 ghost use Rattle.std.specs.Ordering.{nat_cmp, ordering_then};
 ghost use Rattle.std.specs.Slice.Iter.{iter_rest};
 ghost use Rattle.asn1_components.specs.Components.{has_marker, table};
+ghost use Rattle.asn1_model.specs.ConstraintSets.{ConstraintSet};
+ghost use Rattle.asn1_model.specs.Meaning.{own_records};
+ghost use Rattle.asn1_model.specs.Records.{Name};
 ghost use Rattle.asn1_model.specs.Tags.{context, universal};
 ghost use Rattle.asn1_tags.specs.Trees.{leaf};
+ghost use Rattle.asn1_tags.specs.declared.tags.Tag.{Tag};
+ghost use Rattle.asn1_types.specs.declared.array.Array.{Array};
 ghost use Rattle.asn1_types.specs.declared.explicit.Explicit.{Explicit};
 ghost use Rattle.asn1_types.specs.declared.implicit.Implicit.{Implicit};
 ghost use Rattle.asn1_types.specs.declared.instance_of.InstanceOf.{InstanceOf};
 
 use crate::any::Any;
+use crate::array::Array;
 use crate::explicit::Explicit;
 use crate::implicit::Implicit;
 use crate::instance_of::InstanceOf;
@@ -44,6 +50,24 @@ pub fn values_are_compared_by_what_they_hold<T, V: Ord + Hash + Clone>()
         ⟦<InstanceOf<V> as Ord>⟧.cmp v w ≡ ordering_then (slice_cmp nat_cmp v.type_id w.type_id) (V.cmp v.value w.value) }
     ensures instance_hash { (v : InstanceOf V) →
         ⟦<InstanceOf<V> as Hash>⟧.hash_input v ≡ fed.slice fed.u32 v.type_id ++ V.hash_input v.value }
+{}
+
+/// Laws of an array in a struct of its own. It means what the array means, it is made of the array, and two are equal if
+/// and only if their elements are, in their order. A clone has clones of the elements, so it is its source where each of
+/// these is.
+pub fn arrays_are_their_elements<T: AsnType + PartialEq + Clone, const N: usize>(_elements: [T; N])
+    ensures records { (array : Array T N) (t : Tag) (c : ConstraintSet) (n : Name) →
+        ⟦<Array<T, N> as AsnType>⟧.meaning.records array t c n ≡ ⟦<[T; N] as AsnType>⟧.meaning.records array.elements t c n }
+    ensures own_records { (array : Array T N) →
+        own_records ⟦<Array<T, N> as AsnType>⟧.meaning array ≡ own_records ⟦<[T; N] as AsnType>⟧.meaning array.elements }
+    ensures of_type { (array : Array T N) →
+        ⟦<Array<T, N> as AsnType>⟧.meaning.IsOfType array ↔ ⟦<[T; N] as AsnType>⟧.meaning.IsOfType array.elements }
+    ensures valid { (takes : List ℕ → Bool) (array : Array T N) →
+        ⟦<Array<T, N> as AsnType>⟧.meaning.IsValid takes array ↔ ⟦<[T; N] as AsnType>⟧.meaning.IsValid takes array.elements }
+    ensures made { (array : Array T N) → ⟦<Array<T, N> as From<[T; N]>>⟧.from_gives _elements array → array.elements ≡ _elements }
+    ensures equal { (a b : Array T N) → ⟦<Array<T, N> as PartialEq>⟧.eq a b ≡ pointwise T.eq a.elements b.elements }
+    ensures clone { ((x y : T) → T.is_clone x y → y ≡ x) → (a b : Array T N) → length a.elements ≡ N → length b.elements ≡ N →
+        ⟦<Array<T, N> as Clone>⟧.is_clone a b → b ≡ a }
 {}
 
 /// A law of INSTANCE OF: its fields are the name of the type and then the value, at the places 0 and 1, and both are

@@ -7,6 +7,7 @@
 //! |---|---|---|
 //! | [`SetOf`] | a SET OF: elements, each as often as it stands there, in no order | the list of its elements |
 //! | [`SequenceOf`] | a SEQUENCE OF: a vector | the list of its elements |
+//! | [`Array`] | a SEQUENCE OF so many elements: an array, in a struct of its own | its field |
 //! | [`Any`] | a value of an open type, as the bytes that a codec makes of it | the list of its bytes |
 //! | [`Implicit`] | a value under another tag, which replaces its own | its fields |
 //! | [`Explicit`] | a value under another tag, which stands before its own | its fields |
@@ -33,6 +34,8 @@
 //!   the elements themselves where a clone is (`same`).
 //! - `Any`, `Implicit` and `Explicit` give back what went in. Equality, order, hash and clones of these and of `InstanceOf`
 //!   are those of what they hold (`laws::values_are_compared_by_what_they_hold`).
+//! - An `Array` means what the array means; it is compared and cloned as that, and gives its elements back
+//!   (`laws::arrays_are_their_elements`).
 //! - The fields of an `InstanceOf` are the name of the type and then the value, and both are always there
 //!   (`laws::instance_of_has_two_fields`).
 //! - What each type means is a word of `specs/Kinds.antt`: `set_of_type`, `any_type`, `implicit_type`, `explicit_type`
@@ -45,6 +48,7 @@
 #![tactic(auto, using(asn1_tags::proofs::Leaves::tree_shapes))]
 
 mod any;
+mod array;
 pub mod examples;
 mod explicit;
 mod implicit;
@@ -56,6 +60,7 @@ mod set_of;
 mod tests;
 
 pub use any::Any;
+pub use array::Array;
 pub use asn1_bounds::{
     Bounded, ConstraintTable, Constraints, Extensible, PermittedAlphabet, Size, Value,
 };

@@ -4,7 +4,7 @@ use crate::encoder::Encoder;
 use crate::error::EncodeError;
 use asn1_bounds::Constraints;
 use asn1_tags::{Identifier, Tag};
-use asn1_types::SetOf;
+use asn1_types::{Array, SetOf};
 
 impl<T: Encode> Encode for Vec<T> {
     fn encode_with_tag_and_constraints<E: Encoder>(
@@ -27,6 +27,19 @@ impl<T: Encode, const N: usize> Encode for [T; N] {
         name: Identifier,
     ) -> Result<(), EncodeError> {
         encoder.encode_sequence_of(tag, self, constraints, name.or(Identifier::SEQUENCE_OF))
+    }
+}
+
+impl<T: Encode, const N: usize> Encode for Array<T, N> {
+    fn encode_with_tag_and_constraints<E: Encoder>(
+        &self,
+        encoder: &mut E,
+        tag: Tag,
+        constraints: &Constraints<'_>,
+        name: Identifier,
+    ) -> Result<(), EncodeError> {
+        self.elements
+            .encode_with_tag_and_constraints(encoder, tag, constraints, name)
     }
 }
 

@@ -1,0 +1,88 @@
+-- How the components of a SEQUENCE or of a group are read, one after another.
+use Rattle.std.proofs.Common.{◌≡◌, ℕ, max, ◌≤◌, List, [], ◌∷◌, ◌++◌, refl, arith, subst, ◌∙◌}
+use Rattle.asn1_components.proofs.Apart.{all_then, sequence_apart}
+use Rattle.asn1_components.specs.ComponentLists.{CanBeInSequence, EachCanStandInside, EachIsOfType, EachIsValid, all_records}
+use Rattle.asn1_components.specs.ComponentTypes.{ComponentType}
+use Rattle.asn1_components.specs.Following.{BeginsApart, EachApart, EndsApart, Where, records_then}
+use Rattle.asn1_fields.specs.Entries.{may_be_absent}
+use Rattle.asn1_model.specs.Records.{Record, highest}
+use Rattle.asn1_dec.specs.declared.error.DecodeError.{DecodeError}
+use Rattle.asn1_dec.specs.Reading.{Ahead, MayFail, Moved, Reader}
+use Rattle.asn1_dec.proofs.Steps.{fails_below, highest-append}
+
+module _ {D V : Type 0} (R : Reader D) where
+  -- The decoder stands before these components of a value, the last of those with which it began: so high are all together,
+  -- and those that were read are within the allowance.
+  pub record PartWay (began now : D) (cs : List (ComponentType V)) (v : V) (height : ℕ) (rest : List Record) (outer : Ahead) : Type 0 where
+    pub can : EachCanStandInside cs
+    pub of_type : EachIsOfType cs v
+    pub valid : EachIsValid cs R.takes v
+    pub apart : EachApart cs v rest
+    pub read : ℕ
+    pub within_allowance : read ≤ R.allowance began
+    pub no_higher : highest (all_records cs v) ≤ height
+    pub highest_of_both : height ≤ max read (highest (all_records cs v))
+    pub same_allowance : R.allowance now ≡ R.allowance began
+    pub at : R.stands now (records_then cs v rest ∷ outer)
+
+  -- before all components
+  pub begin : (d : D) (cs : List (ComponentType V)) (v : V) (rest : List Record) (outer : Ahead) →
+      CanBeInSequence cs → EachIsOfType cs v → EachIsValid cs R.takes v → EndsApart cs rest → R.stands d ((all_records cs v ++ rest) ∷ outer) →
+      PartWay d d cs v (highest (all_records cs v)) rest outer
+  begin d cs v rest outer can of_type valid ends at = record {
+    can = can.0;
+    of_type = of_type;
+    valid = valid;
+    apart = sequence_apart cs can v rest ends;
+    read = 0;
+    within_allowance = omega arith;
+    no_higher = omega arith;
+    highest_of_both = omega arith;
+    same_allowance = refl;
+    at = subst (λ l. R.stands d (l ∷ outer)) (all_then cs v rest) at;
+  }
+
+  -- The first of some components was read, with this answer.
+  pub record Stepped (began now : D) (cs : List (ComponentType V)) (v : V) (height : ℕ) (rest : List Record) (outer : Ahead) (Answer : Type 0) : Type 0 where
+    pub answer : Answer
+    pub next : PartWay began now cs v height rest outer
+
+module _ {D V : Type 0} {R : Reader D} {began now : D} {c : ComponentType V} {cs : List (ComponentType V)} {v : V} {height : ℕ} {rest : List Record} {outer : Ahead} where
+  pub step : {then : D} {Answer : Type 0} → PartWay R began now (c ∷ cs) v height rest outer → R.allowance then ≡ R.allowance now →
+      (c.CanStandInside → c.IsOfType v → c.IsValid R.takes v → Where (may_be_absent c.presence) (BeginsApart c.tree (records_then cs v rest)) →
+      R.stands now ((c.records v ++ records_then cs v rest) ∷ outer) → Moved R now then (highest (c.records v)) (records_then cs v rest ∷ outer) Answer) →
+      Stepped R began then cs v height rest outer Answer
+  step part same reads =
+      let moved = reads part.can.0 part.of_type.0 part.valid.0 part.apart.0 part.at in record {
+        answer = moved.answer;
+        next = record {
+          can = part.can.1;
+          of_type = part.of_type.1;
+          valid = part.valid.1;
+          apart = part.apart.1;
+          read = max part.read (highest (c.records v));
+          within_allowance = omega (arith, part.within_allowance, moved.within_allowance, part.same_allowance);
+          no_higher = omega (arith, part.no_higher, highest-append (c.records v) (all_records cs v));
+          highest_of_both = omega (arith, part.highest_of_both, highest-append (c.records v) (all_records cs v));
+          same_allowance = same ∙ part.same_allowance;
+          at = moved.at;
+        };
+      }
+
+  -- the first component was not read
+  pub stops : {e : DecodeError} → PartWay R began now (c ∷ cs) v height rest outer →
+      (c.CanStandInside → c.IsOfType v → c.IsValid R.takes v → Where (may_be_absent c.presence) (BeginsApart c.tree (records_then cs v rest)) →
+      R.stands now ((c.records v ++ records_then cs v rest) ∷ outer) → MayFail (R.allowance now) (highest (c.records v)) e) →
+      MayFail (R.allowance began) height e
+  stops part reads =
+      fails_below _ _ _ (omega (arith, part.same_allowance)) (omega (arith, part.no_higher, highest-append (c.records v) (all_records cs v)))
+      (reads part.can.0 part.of_type.0 part.valid.0 part.apart.0 part.at)
+
+-- all components were read
+pub through : {D V : Type 0} {R : Reader D} {began now : D} {v : V} {height : ℕ} {rest : List Record} {outer : Ahead} {Answer : Type 0} →
+    PartWay R began now [] v height rest outer → Answer → Moved R began now height (rest ∷ outer) Answer
+through part answer = record {
+  answer = answer;
+  at = part.at;
+  within_allowance = omega (arith, part.within_allowance, part.highest_of_both);
+}

@@ -1,0 +1,3 @@
+pub mod Bags
+pub mod Chosen
+pub mod Rearrangements

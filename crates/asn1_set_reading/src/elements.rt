@@ -1,0 +1,35 @@
+//! The elements of a list.
+ghost use Rattle.asn1_dec.specs.Reading.{Ahead, Moves};
+ghost use Rattle.asn1_model.specs.Meaning.{CanStandInside, own_records};
+ghost use Rattle.asn1_model.specs.Records.{Record, highest};
+ghost use Rattle.std.specs.Cmp.Lexicographic.{pointwise};
+ghost use Rattle.std.specs.List.{flat_map};
+ghost use Rattle.std.specs.Prelude.{◌≡◌, ◌≤◌, [], ◌∷◌, All, List, OnErr, OnOk, length, true};
+
+use asn1_dec::{Decode, DecodeError, Decoder};
+
+/// The elements that are left in the innermost scope, of which there are at most so many.
+pub(crate) fn read_elements<T: Decode, D: Decoder>(
+    decoder: &mut D,
+    bound: usize,
+) -> Result<Vec<T>, DecodeError>
+    ensures read { (vs : List T) (next : List Record) (outer : Ahead) → CanStandInside T.meaning → All T.meaning.IsOfType vs → All (T.meaning.IsValid D.reader.takes) vs → length vs ≤ bound → Moves D.reader decoder.old decoder.new (highest (flat_map (own_records T.meaning) vs)) (flat_map (own_records T.meaning) vs ∷ next ∷ outer) ([] ∷ next ∷ outer) (λ w. pointwise T.eq w.items vs ≡ true) result }
+    ensures same_allowance { OnOk result (D.reader.allowance decoder.new ≡ D.reader.allowance decoder.old) }
+    ensures failing { OnErr result (D.reader.failed decoder.new ≡ true) }
+{
+    let mut elements = Vec::new(decoder.global());
+    for _index in 0..bound {
+        if !decoder.more()? {
+            return Ok(elements);
+        }
+        let element = match T::decode(decoder) {
+            Ok(element) => element,
+            Err(error) => return Err(decoder.refuse(error)),
+        };
+        match elements.push(element) {
+            Ok(()) => {}
+            Err(_) => return Err(decoder.refuse(DecodeError::Memory)),
+        }
+    }
+    Ok(elements)
+}

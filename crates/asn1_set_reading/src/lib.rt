@@ -1,0 +1,14 @@
+//! Reading of what has no order, and of a CHOICE under whatever tag: a SET, a SET OF and a CHOICE.
+//!
+//! | Item | What it is |
+//! |---|---|
+//! | [`read_choice`] | a CHOICE under a tag, or untagged |
+//! | [`read_set_of`] | a SET OF, in whatever order its elements come; [`decode_set_of`] is the same as a type's own entry point |
+#![tactic(auto, using(asn1_tags::proofs::Leaves::tree_shapes))]
+
+mod choices;
+mod elements;
+mod set_of;
+
+pub use choices::read_choice;
+pub use set_of::{decode_set_of, read_set_of};

@@ -1,0 +1,45 @@
+//! Arrays, in a struct of their own.
+ghost use Rattle.std.specs.Prelude.{◌≡◌};
+ghost use Rattle.asn1_model.specs.Kinds.{array_type, through};
+
+use asn1_model::{AsnType, TypeTable};
+
+/// A SEQUENCE OF so many elements (X.680, 26). It means what the array means.
+///
+/// An array can be written as it is; what is both written and read is this.
+#[derive(Drop)]
+#[derive_where(Clone, Copy, Debug, PartialEq, Eq; T)]
+pub struct Array<T, const N: usize> {
+    /// The elements.
+    pub elements: [T; N],
+}
+
+impl<T, const N: usize> Array<T, N> {
+    /// The elements.
+    pub fn into_elements(self) -> [T; N]
+        ensures { result ≡ self.elements }
+    {
+        let Array { elements } = self;
+        elements
+    }
+}
+
+impl<T, const N: usize> From<[T; N]> for Array<T, N> {
+    ghost from_gives = { λ elements array. array.elements ≡ elements };
+
+    fn from(elements: [T; N]) -> Self {
+        Array { elements }
+    }
+}
+
+impl<T: AsnType, const N: usize> AsnType for Array<T, N> {
+    ghost meaning = { through (λ array. array.elements) (array_type N T.meaning) };
+
+    fn table() -> TypeTable {
+        <[T; N]>::table()
+    }
+
+    fn is_present(&self) -> bool {
+        true
+    }
+}
