@@ -1,3 +1,2 @@
-pub mod NodeHeights
-pub mod PartWays
 pub mod CornerTags
+pub mod PartWays

@@ -1,11 +1,9 @@
 //! Laws of what no other contract names: which values of a type are equal, and what a clone is.
-ghost use Rattle.std.specs.Cmp.Lexicographic.{pointwise};
 ghost use Rattle.std.specs.Hash as fed;
 ghost use Rattle.std.specs.Option.{option_eq};
 ghost use Rattle.std.specs.Prelude.{◌≡◌, ◌↔◌, ◌&&◌, IsTrue, nat_eq};
 ghost use Rattle.std.specs.String.{string_bytes, string_eq};
 ghost use Rattle.asn1_samples.specs.declared.labelled.Labelled.{Labelled};
-ghost use Rattle.asn1_samples.specs.declared.node.Node.{out-Node};
 ghost use Rattle.asn1_tags.specs.Derives.{ClonesAll, ComparesAll};
 
 use crate::badge::Badge;
@@ -14,7 +12,6 @@ use crate::contact::Contact;
 use crate::corner::Corner;
 use crate::envelope::Envelope;
 use crate::labelled::Labelled;
-use crate::node::Node;
 use crate::person::Person;
 use crate::plate::Plate;
 use crate::profile::Profile;
@@ -43,13 +40,6 @@ pub fn persons_are_compared_by_age_and_name(a: &Person, b: &Person) -> bool
 /// Whether two profiles have the same nick, level, color and contact.
 pub fn profiles_are_compared_by_their_components(a: &Profile, b: &Profile) -> bool
     ensures { result ≡ (option_eq string_eq a.now.nick b.now.nick && (nat_eq a.now.level b.now.level && (⟦<Color as PartialEq>⟧.eq a.now.color b.now.color && option_eq ⟦<Contact as PartialEq>⟧.eq a.now.contact b.now.contact))) }
-{
-    a == b
-}
-
-/// Whether two nodes have the same label, and equal children in the same order.
-pub fn nodes_are_compared_by_label_and_children(a: &Node, b: &Node) -> bool
-    ensures { result ≡ (option_eq string_eq (out-Node a.now).label (out-Node b.now).label && pointwise ⟦<Node as PartialEq>⟧.eq (out-Node a.now).children.items (out-Node b.now).children.items) }
 {
     a == b
 }

@@ -7,7 +7,6 @@
 //! | [`Badge`] | a SET |
 //! | [`Shape`], [`Corner`] | a CHOICE, and one that is an alternative of it without a tag |
 //! | [`Color`] | an ENUMERATED with an extension marker |
-//! | [`Node`] | a SEQUENCE that holds itself |
 //! | [`Envelope`] | a SEQUENCE with an open type |
 //! | [`Labelled`] | a SEQUENCE that is compared by one of its components |
 //! | [`Settings`] | a SEQUENCE whose default is such a value |
@@ -21,9 +20,6 @@
 //! - The records of some values are written out: `person_records` and its kin. `profile_is_valid` and `envelope_is_valid` say of
 //!   some values whether they are valid.
 //! - [`laws`] says when two values are equal.
-//! - A type that holds itself states its components by what is inside a value. `specs/NodeComponents.antt` has the form: the
-//!   records follow by a fold, and what a value has by its type is said of all labels inside it. The prover wants such a type
-//!   and its writer in one crate.
 //!
 //! A call takes memory only where a codec does, and for the alphabet of a `Plate`.
 #![tactic(auto, using(asn1_tags::proofs::Leaves::tree_shapes))]
@@ -35,7 +31,6 @@ mod corner;
 mod envelope;
 mod labelled;
 pub mod laws;
-mod node;
 mod person;
 mod plate;
 mod profile;
@@ -50,7 +45,6 @@ pub use contact::Contact;
 pub use corner::{Corner, corner_can_stand_inside, corner_records};
 pub use envelope::{Envelope, envelope_can_stand_inside, envelope_is_valid, envelope_records};
 pub use labelled::{Labelled, labelled_can_stand_inside, labelled_records};
-pub use node::{Node, node_can_stand_inside, node_is_two_higher_than_its_children, node_records};
 pub use person::{Person, person_can_stand_inside, person_records};
 pub use plate::{Plate, plate_can_stand_inside, plate_records};
 pub use profile::{Profile, profile_can_stand_inside, profile_is_valid, profile_records};

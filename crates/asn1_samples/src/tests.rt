@@ -5,7 +5,6 @@ use crate::contact::Contact;
 use crate::corner::Corner;
 use crate::envelope::Envelope;
 use crate::labelled::Labelled;
-use crate::node::Node;
 use crate::person::Person;
 use crate::plate::Plate;
 use crate::profile::Profile;
@@ -41,7 +40,6 @@ fn tables_have_a_line_for_each_component(rt: HostRuntime) {
     assert_places::<Profile>(&rt, 4);
     assert_places::<Contact>(&rt, 2);
     assert_places::<Badge>(&rt, 3);
-    assert_places::<Node>(&rt, 2);
     assert_places::<Envelope>(&rt, 2);
     assert_places::<Labelled>(&rt, 2);
     assert_places::<Settings>(&rt, 1);
@@ -55,7 +53,6 @@ fn types_have_tags_and_names(rt: HostRuntime) {
     assert_type::<Shape>(&rt, Tag::CHOICE, "Shape");
     assert_type::<Corner>(&rt, Tag::CHOICE, "Corner");
     assert_type::<Color>(&rt, Tag::ENUMERATED, "Color");
-    assert_type::<Node>(&rt, Tag::SEQUENCE, "Node");
     assert_type::<Envelope>(&rt, Tag::SEQUENCE, "Envelope");
     assert_type::<Labelled>(&rt, Tag::SEQUENCE, "Labelled");
     assert_type::<Settings>(&rt, Tag::SEQUENCE, "Settings");

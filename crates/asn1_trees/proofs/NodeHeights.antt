@@ -12,13 +12,13 @@ use Rattle.asn1_model.specs.ConstraintSets.{unconstrained}
 use Rattle.asn1_model.specs.Meaning.{own_records}
 use Rattle.asn1_model.specs.Records.{Record, highest, sequence, sequence_of}
 use Rattle.asn1_model.specs.Tags.{universal}
-use Rattle.asn1_samples.specs.NodeComponents.{node_agrees, node_meaning, text}
-use Rattle.asn1_samples.specs.declared.node.Node.{Node, out-Node}
+use Rattle.asn1_trees.specs.NodeComponents.{node_agrees, node_meaning, text}
+use Rattle.asn1_trees.specs.declared.node.Node.{Node, out-Node}
 
-abbrev label_records : Option (String Global) → List Record
+abbrev pub label_records : Option (String Global) → List Record
 label_records label = option_records (universal 12) (option_map (own_records text) label)
 
-label_height : (label : Option (String Global)) → highest (label_records label) ≡ 0
+pub label_height : (label : Option (String Global)) → highest (label_records label) ≡ 0
 label_height None = refl
 label_height (Some _) = refl
 

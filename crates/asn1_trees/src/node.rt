@@ -4,9 +4,11 @@ ghost use Rattle.std.specs.Prelude.{◌≡◌, ◌+◌, [], ◌∷◌, None, Som
 ghost use Rattle.std.specs.String.{string_bytes};
 ghost use Rattle.asn1_types.specs.Words.{universal, CanStandInside, own_records, holding, sequence_head, sequence_of, scalar, mark, absent, present, units, utf8, unconstrained};
 ghost use Rattle.asn1_model.specs.Records.{highest};
-ghost use Rattle.asn1_samples.specs.NodeComponents.{node_components, node_agrees, node_meaning};
-ghost use Rattle.asn1_samples.specs.declared.node.Node.{out-Node};
+ghost use Rattle.asn1_trees.specs.NodeComponents.{node_components, node_agrees, node_meaning};
+ghost use Rattle.asn1_trees.specs.declared.node.Node.{out-Node};
 
+use crate::node_reader::read_node;
+use asn1_dec::{Decode, DecodeError, Decoder};
 use asn1_enc::{Encode, EncodeError, EncodeFields, Encoder};
 use asn1_types::{
     AsnType, Constraints, ConstructedType, Field, FieldTable, Identifier, Tag, TypeTable,
@@ -80,6 +82,16 @@ impl EncodeFields for Node {
             1 => self.children.encode(encoder),
             _ => Ok(()),
         }
+    }
+}
+
+impl Decode for Node {
+    fn decode_with_tag_and_constraints<D: Decoder>(
+        decoder: &mut D,
+        tag: Tag,
+        _constraints: &Constraints<'_>,
+    ) -> Result<Node, DecodeError> {
+        read_node(decoder, tag)
     }
 }
 

@@ -10,7 +10,7 @@ use Rattle.std.specs.declared.string.String.{String}
 use Rattle.asn1_components.proofs.HeldInside.{all_own_and_inside}
 use Rattle.asn1_components.specs.Components.{AgreesWithComponents, Components, component_records, head_in, holding_itself, inside_itself, is_sequence, sequence}
 use Rattle.asn1_components.specs.ComponentTypes.{optional, required}
-use Rattle.asn1_samples.specs.declared.node.Node.{Node, Node-F, out-Node, fold-Node, fold_out-Node}
+use Rattle.asn1_trees.specs.declared.node.Node.{Node, Node-F, out-Node, fold-Node, fold_out-Node}
 use Rattle.asn1_model.specs.Composites.{list_records, option_records}
 use Rattle.asn1_model.specs.ConstraintSets.{unconstrained}
 use Rattle.asn1_model.specs.Kinds.{list_type, utf8_string}

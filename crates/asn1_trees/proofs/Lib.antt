@@ -1,0 +1,2 @@
+pub mod NodeHeights
+pub mod NodeLaws
