@@ -1,5 +1,4 @@
 pub mod Ahead
-pub mod Carried
 pub mod Found
 pub mod Laws
 pub mod Reading

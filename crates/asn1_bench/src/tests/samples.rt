@@ -6,6 +6,7 @@ use asn1_samples::{
     Badge, Color, Contact, Corner, Envelope, Labelled, Node, Person, Plate, Profile, Settings,
     Shape,
 };
+use asn1_schema::Rules;
 use asn1_types::Any;
 use asn1_values::{Ia5String, Integer, NumericString, VisibleString};
 use std::alloc::Global;
