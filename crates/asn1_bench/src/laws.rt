@@ -1,32 +1,25 @@
-//! Laws of what no other contract names: what holds of outputs whatever is written, and what derives give.
-ghost use Rattle.asn1_bench.specs.Encoder.{carries};
-ghost use Rattle.asn1_bench.specs.Records.{head_of};
-ghost use Rattle.asn1_enc.specs.Writing.{SameRecords};
-ghost use Rattle.asn1_model.specs.Records as model;
-ghost use Rattle.asn1_tags.specs.Derives.{ClonesAll, ComparesAll};
-ghost use Rattle.std.specs.Prelude.{◌≡◌, ◌↔◌, IsTrue, List};
+//! Laws of what no other contract names: what is written by these rules, and what derives give.
+ghost use Rattle.asn1_enc.specs.declared.error.EncodeError.{EncodeError};
+ghost use Rattle.asn1_enc.specs.declared.error.EncodeError.TheVariants.{Depth, Memory};
+ghost use Rattle.asn1_model.specs.Records.{Record as Written};
+ghost use Rattle.asn1_records.specs.Carried.{Carries};
+ghost use Rattle.asn1_schema.specs.Rules.{IsNotWritten};
+ghost use Rattle.asn1_tags.specs.Derives.{ClonesAll};
+ghost use Rattle.std.specs.Prelude.{◌≡◌, ◌↔◌, ◌⊎◌, List, ℕ, true};
 
-use crate::record::{Head, Mark, Record};
 use crate::rules::BenchRules;
+use asn1_records::Record;
+use asn1_schema::Rules;
 
-/// An output that carries records carries them with what a SET or a SET OF holds in any order.
-#[tactic(auto, using(crate::specs::AnyOrder::carries_in_any_order))]
-pub fn outputs_carry_records_in_any_order(output: &[Record])
-    ensures { (rs ss : List model.Record) → SameRecords rs ss → carries output.now rs → carries output.now ss }
+/// A law of the codec: an output carries records as `asn1_records` says, any bytes are one value of an open type, and the errors
+/// of writing are `Memory` and `Depth`.
+pub fn the_codec_rejects_nothing(output: &Vec<Record>)
+    ensures carries { (rs : List Written) → ⟦<BenchRules as Rules>⟧.format.carries output.now rs ↔ Carries output.now.items rs }
+    ensures takes { (bytes : List ℕ) → ⟦<BenchRules as Rules>⟧.format.takes bytes ≡ true }
+    ensures errors { (rs : List Written) (depth : ℕ) (e : EncodeError) → IsNotWritten ⟦<BenchRules as Rules>⟧.format rs depth e → (e ≡ Memory) ⊎ (e ≡ Depth) }
 {}
 
-/// Whether two heads are the same: of one kind, with one tag and one name.
-pub fn heads_are_compared_by_what_they_are(a: &Head, b: &Head) -> bool
-    ensures { IsTrue result ↔ (head_of a.now ≡ head_of b.now) }
-{
-    a == b
-}
-
-/// A law of the derives: two presence marks are equal if and only if they are the same, and clones of marks, heads and rules
-/// are their sources.
-pub fn derives_keep_what_a_value_is()
-    ensures marks { ComparesAll ⟦<Mark as PartialEq>⟧.eq }
-    ensures clones_of_marks { ClonesAll ⟦<Mark as Clone>⟧.is_clone ⟦<Mark as Clone>⟧.is_infallible }
-    ensures clones_of_heads { ClonesAll ⟦<Head as Clone>⟧.is_clone ⟦<Head as Clone>⟧.is_infallible }
-    ensures clones_of_rules { ClonesAll ⟦<BenchRules as Clone>⟧.is_clone ⟦<BenchRules as Clone>⟧.is_infallible }
+/// A law of the derive: clones of the rules are their sources.
+pub fn clones_are_their_sources()
+    ensures { ClonesAll ⟦<BenchRules as Clone>⟧.is_clone ⟦<BenchRules as Clone>⟧.is_infallible }
 {}

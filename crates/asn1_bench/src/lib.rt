@@ -1,36 +1,25 @@
-//! A codec for tests and examples: its output is the records of a value themselves, without their constraints.
+//! A codec for tests and examples: what it makes of a value are the records of the value themselves, without their constraints.
 //!
 //! | Item | What it is |
 //! |---|---|
-//! | [`BenchRules`] | the rules of the codec: a value becomes its records (`write_value`) |
-//! | [`RecordEncoder`] | the encoder of these rules, to which a type is written |
-//! | [`Record`], [`Head`], [`Content`], [`Mark`] | a record as a program has it |
+//! | [`BenchRules`] | the rules of the codec: values become records, and are read from them |
+//! | [`laws`] | what these rules come to |
+//!
+//! `asn1_records` has the records and the encoder, and `asn1_record_decoder` the decoder. What holds of all codecs holds of this
+//! one: see `Rules` and `round_trip` of `asn1_schema`.
 //!
 //! What the contracts promise, and the words that they use:
 //!
-//! - The encoder keeps the laws of every encoder (`Encoder`). What it has written are the records that it was given, without
-//!   constraints (`specs/WithoutConstraints.antt`), in the scopes and groups that are open (`written_so_far` of
-//!   `specs/Encoder.antt`). As types see it, the order inside sets means nothing (`record_writer`).
-//! - It rejects nothing. So an error of a type's writing is `Memory`, `Depth` or, after another error, `Failed`. The errors of
-//!   its own, `Custom`, come only where a scope or a group is closed and no such is innermost.
-//! - Where `write_value` succeeds, its output is the value's own records without constraints, up to the order inside sets
-//!   (`carries`), which are no higher than the depth (`within_depth`), and the value has what each value of its type has
-//!   (`of_type`). `Depth` comes only where they are higher (`too_high`), and else the error is `Memory` (`no_other_error`).
-//! - What an output carries it carries in any order of what its sets hold (`carries_in_any_order`; [`laws`]).
-//! - `specs/Records.antt` says what a record of a program is to a codec (`record_of`).
+//! - An output carries records that are it without constraints, up to the order inside sets (`Carries` of `asn1_records`).
+//! - Nothing is rejected: a value that is not written is too high, or memory was short (`errors` of [`laws`]).
+//! - Any bytes are one value of an open type (`takes`).
+//!
+//! The tests of this crate are those of the whole codec, the types of the crates below, and the round trip.
 #![tactic(auto)]
 
-mod content;
-mod encoder;
-mod frame;
-mod group;
 pub mod laws;
-mod record;
 mod rules;
 #[cfg(test)]
 mod tests;
 
-pub use content::Content;
-pub use encoder::RecordEncoder;
-pub use record::{Head, Mark, Record};
 pub use rules::BenchRules;

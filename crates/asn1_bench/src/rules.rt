@@ -1,47 +1,60 @@
 //! The record codec as a whole.
-ghost use Rattle.asn1_bench.specs.Encoder.{carries};
-ghost use Rattle.asn1_enc.specs.declared.error.EncodeError.TheVariants.{Depth, Memory};
-ghost use Rattle.asn1_model.specs.Meaning.{own_records};
-ghost use Rattle.asn1_model.specs.Records.{highest};
-ghost use Rattle.std.specs.Prelude.{◌≡◌, ◌⊎◌, ◌≤◌, ◌<◌, IfErr, IfOk, OnOk};
-
-use crate::encoder::RecordEncoder;
-use crate::record::Record;
+use asn1_dec::{Decode, DecodeError};
 use asn1_enc::{Encode, EncodeError};
+use asn1_record_decoder::RecordDecoder;
+use asn1_records::{Record, RecordEncoder};
+use asn1_schema::Rules;
 use std::alloc::Global;
 
 /// The rules of the record codec: a value becomes its records, without constraints.
+///
+/// They reject nothing, and take any bytes as one value of an open type. So `write_value` fails for want of memory, or where the
+/// value's records are higher than the depth, and for no other reason.
+///
+/// Of records that are not those of the type, `read_value` answers an error or a value. [`DecodeError::Incomplete`] comes where
+/// no record is left outside all scopes, and [`DecodeError::Custom`], with the text `bad item`, where one is not what is asked
+/// for or some are left. An error of the type's own is answered as it is.
 #[derive(Clone, Copy, Debug)]
 pub struct BenchRules {
     alloc: Global,
 }
 
 impl BenchRules {
-    /// The rules, with the allocator that outputs are made by.
+    ghost use Rattle.std.specs.Prelude.{◌≡◌};
+
+    /// The rules, with the allocator that records and values are made by.
     pub fn new(alloc: Global) -> BenchRules
         ensures { result.alloc ≡ alloc }
     {
         BenchRules { alloc }
     }
+}
 
-    /// Writes a value, with at most so many scopes in one another.
-    ///
-    /// # Errors
-    /// [`EncodeError::Depth`] where the value's records are higher than the depth, and [`EncodeError::Memory`] where there was
-    /// no memory. There is no other error.
-    pub fn write_value<T: Encode>(
-        &self,
-        value: &T,
-        depth: usize,
-    ) -> Result<Vec<Record>, EncodeError>
-        ensures carries { IfOk result (λ output. carries output.items (own_records T.meaning value.now)) }
-        ensures within_depth { OnOk result (highest (own_records T.meaning value.now) ≤ depth) }
-        ensures of_type { OnOk result (T.meaning.IsOfType value.now) }
-        ensures too_high { IfErr result (λ e. e ≡ Depth → depth < highest (own_records T.meaning value.now)) }
-        ensures no_other_error { IfErr result (λ e. (e ≡ Memory) ⊎ (e ≡ Depth)) }
-    {
+impl Rules for BenchRules {
+    ghost use Rattle.asn1_bench.specs.Outputs.{record_format};
+    ghost use Rattle.asn1_records.proofs.Carrying.{carries_in_any_order};
+
+    type Output = Vec<Record>;
+
+    ghost format = { record_format };
+
+    fn write_value<T: Encode>(&self, value: &T, depth: usize) -> Result<Vec<Record>, EncodeError> {
         let mut encoder = RecordEncoder::new(self.alloc, depth);
         value.encode(&mut encoder)?;
         Ok(encoder.finish())
     }
+
+    fn read_value<T: Decode>(&self, output: &Vec<Record>, depth: usize) -> Result<T, DecodeError> {
+        let mut decoder = RecordDecoder::new(self.alloc, output.as_slice(), depth);
+        let value = T::decode(&mut decoder)?;
+        decoder.finish()?;
+        Ok(value)
+    }
+
+    ghost lawful = { record {
+      carries_in_any_order = λ output rs ss same carried. carries_in_any_order output.items rs ss same carried;
+      rejects_in_any_order = λ rs ss same no. no;
+      part = λ before rs after no. no;
+      inner = λ h rs no. no;
+    } };
 }

@@ -1,6 +1,8 @@
-//! What is written, as text.
+//! The record codec as a whole: what is written, as text, and what is read back.
 mod calls;
+mod errors;
 mod failures;
+mod round_trips;
 mod samples;
 mod text;
 mod types;

@@ -7,12 +7,12 @@ use Rattle.asn1_model.specs.Records.{Name, Content, Mark, scalar, raw, mark, hol
 use Rattle.asn1_model.specs.Tags.{head_tag}
 use Rattle.asn1_model.proofs.Lists.{listed-held}
 use Rattle.asn1_model.proofs.SameUpToOrder.{same_as_scalar, same_as_raw, same_as_mark, same_as_holding}
-use Rattle.asn1_bench.specs.declared.record.Record.{Record}
-use Rattle.asn1_bench.specs.declared.record.Head.{Head}
+use Rattle.asn1_records.specs.declared.record.Record.{Record}
+use Rattle.asn1_records.specs.declared.record.Head.{Head}
 use Rattle.asn1_record_decoder.specs.Found.{IsRecord, HoldsRecords}
-use Rattle.asn1_bench.specs.Records.{record_of, records_of, head_of}
-use Rattle.asn1_bench.specs.WithoutConstraints.{record_without, head_without, without_constraints}
-use Rattle.asn1_record_decoder.proofs.WithoutConstraints.{record_without-holding}
+use Rattle.asn1_records.specs.Records.{record_of, records_of, head_of}
+use Rattle.asn1_records.specs.WithoutConstraints.{record_without, head_without, without_constraints}
+use Rattle.asn1_records.proofs.WithoutConstraints.{record_without-holding}
 
 -- a content, the bytes of an open type, a presence mark
 pub is_scalar : (x : Record) (t : Tag) (c : ConstraintSet) (n : Name) (v : Content) → IsRecord x (scalar t c n v) → record_of x ≡ scalar t unconstrained n v

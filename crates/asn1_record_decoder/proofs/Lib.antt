@@ -1,4 +1,2 @@
 mod InRecords
-mod Shapes
 mod Standing
-mod WithoutConstraints

@@ -1,27 +1,27 @@
 -- The record decoder keeps the laws of a codec.
-use Rattle.std.proofs.Common.{◌≡◌, ℕ, suc, ◌≤◌, Bool, true, false, List, [], ◌∷◌, ◌++◌, refl, sym, ap, subst, ◌∙◌, arith, length, inl, get_or, Some, None, append-nil}
+use Rattle.std.proofs.Common.{◌≡◌, ℕ, suc, ◌+◌, ◌≤◌, Bool, true, false, List, [], ◌∷◌, ◌++◌, refl, sym, ap, subst, ◌∙◌, arith, length, inl, get_or, Some, None}
 use Rattle.std.specs.Prelude.{if◌then◌else◌, ◌&&◌, Result, Ok, Err, MatchResult, OnOk, IfOk, IfErr}
 use Rattle.std.proofs.lemmas.List.Sorted.{length_permutation}
 use Rattle.asn1_model.specs.Orders.{SameAll, is_unordered}
 use Rattle.asn1_model.specs.Records as model
 use Rattle.asn1_model.specs.Records.{held, is_mark, holding, highest, marks_alone}
-use Rattle.asn1_model.specs.Tags.{Has, ShareNone, Tags, record_tags, first_tags, only, head_tag}
+use Rattle.asn1_model.specs.Tags.{Has, record_tags, first_tags, only, head_tag}
 use Rattle.asn1_tags.specs.declared.tags.Tag.{Tag}
 use Rattle.asn1_model.proofs.SameRecords.{same-tags, same-mark}
 use Rattle.asn1_model.proofs.SameUpToOrder.{SameAll-cons, SameAll-sym, same-length, same_as_none}
 use Rattle.asn1_dec.specs.Reading.{Ahead, SameAhead, at_end, next, records_in, marks_passed, Moved, MayFail, SetIsOpen, IsNextTag}
 use Rattle.asn1_dec.specs.declared.error.DecodeError.{DecodeError}
 use Rattle.asn1_dec.specs.declared.error.DecodeError.TheVariants.{Memory}
-use Rattle.asn1_bench.specs.declared.record.Record.{Record}
+use Rattle.asn1_records.specs.declared.record.Record.{Record}
 use Rattle.asn1_record_decoder.specs.declared.decoder.Rest.{Rest}
 use Rattle.asn1_record_decoder.specs.declared.decoder.RecordDecoder.{RecordDecoder}
 use Rattle.asn1_record_decoder.specs.declared.decoder.Opened.{Opened}
-use Rattle.asn1_record_decoder.specs.Carried.{Carries}
+use Rattle.asn1_records.specs.Carried.{Carries}
 use Rattle.asn1_record_decoder.specs.Found.{HoldsRecords, Took, OpenedAs}
 use Rattle.asn1_record_decoder.specs.Reading.{left_of, sees, ahead_without, StandsBefore, record_reader}
-use Rattle.asn1_bench.specs.Records.{record_of, records_of}
-use Rattle.asn1_bench.specs.WithoutConstraints.{record_without, without_constraints}
-use Rattle.asn1_dec.proofs.Ahead.{same_as_list, same_as_record, same_as_end}
+use Rattle.asn1_records.specs.Records.{record_of, records_of}
+use Rattle.asn1_records.specs.WithoutConstraints.{record_without, without_constraints}
+use Rattle.asn1_dec.proofs.Ahead.{SameAhead-refl, same_as_list, same_as_record, same_as_end}
 use Rattle.asn1_record_decoder.proofs.InRecords.{head_tag-without}
 
 pub left_of-last : (outer : Ahead) (rs : List Rest) (r : Rest) → left_of outer (rs ++ r ∷ []) ≡ records_of r.records.now ∷ left_of outer rs
@@ -309,14 +309,37 @@ pub no_next : (items : List model.Record) → marks_alone items ≡ true → IsN
 no_next items alone = record { none = λ _. alone; some = λ t e. cc }
 
 -- where a reading begins
-pub begins : (d : RecordDecoder) (xs : List Record) (rs : List model.Record) → sees d ≡ records_of xs ∷ [] → d.failed ≡ false → Carries xs rs → StandsBefore d ((rs ++ []) ∷ [])
+pub begins : (d : RecordDecoder) (xs : List Record) (rs : List model.Record) → sees d ≡ records_of xs ∷ [] → d.failed ≡ false → Carries xs rs → StandsBefore d (rs ∷ [])
 begins d xs rs at sound c = record {
   no_failure = sound;
   exactly = c.exactly ∷ [];
   sees_them = at ∙ ap (λ l. l ∷ []) c.are;
-  same = next (subst (λ l. SameAll (held c.exactly) (held l)) (sym (append-nil rs)) c.same) at_end;
+  same = next c.same at_end;
 }
 
--- nothing follows
-pub nothing_follows : (a : Tags) → ShareNone a (first_tags [])
-nothing_follows a t has (k, below, same) = omega arith
+-- where it ends
+pub all_is_read : (d : RecordDecoder) → length d.left.now ≡ 0 → length d.outer.items ≡ 0 → d.failed ≡ false → StandsBefore d ([] ∷ [])
+all_is_read d none closed sound = record {
+  no_failure = sound;
+  exactly = [] ∷ [];
+  sees_them = ap (λ l. records_of l ∷ left_of [] d.outer.items) (empty_list d.left.now none) ∙ ap (λ o. [] ∷ left_of [] o) (empty_list d.outer.items closed);
+  same = SameAhead-refl ([] ∷ []);
+}
+
+left_of-long : (outer : Ahead) (rs : List Rest) → length (left_of outer rs) ≡ length outer + length rs
+left_of-long outer [] = omega arith
+left_of-long outer (r ∷ rs) = let inner = left_of-long (records_of r.records.now ∷ outer) rs in omega (arith, inner)
+
+none_outside : {outer : Ahead} → SameAhead outer [] → outer ≡ []
+none_outside at_end = refl
+
+-- no scope is open where nothing is left
+pub no_scope_is_open : (d : RecordDecoder) → StandsBefore d ([] ∷ []) → length d.outer.items ≡ 0
+no_scope_is_open d at =
+    let a = same_as_end at.same in
+    let seen : left_of [] d.outer.items ≡ [] = rest_is (at.sees_them ∙ ap ahead_without a.is) ∙ ap ahead_without (none_outside a.same) in
+    omega (arith, left_of-long [] d.outer.items, ap length seen)
+
+-- no record is left there
+pub no_record_is_left : (d : RecordDecoder) → StandsBefore d ([] ∷ []) → length d.left.now ≡ 0
+no_record_is_left d at = omega (arith, records_long d.left.now, ap length (nothing_left d [] at))

@@ -9,10 +9,10 @@ use Rattle.asn1_dec.specs.Reading.{Ahead, records_in}
 use Rattle.asn1_dec.specs.declared.error.DecodeError.{DecodeError}
 use Rattle.asn1_dec.specs.declared.error.DecodeError.TheVariants.{Memory}
 use Rattle.asn1_record_decoder.specs.Reading.{StandsBefore}
-use Rattle.asn1_bench.specs.Records.{record_of, records_of}
-use Rattle.asn1_bench.specs.WithoutConstraints.{record_without, without_constraints}
+use Rattle.asn1_records.specs.Records.{record_of, records_of}
+use Rattle.asn1_records.specs.WithoutConstraints.{record_without, without_constraints}
 use Rattle.asn1_record_decoder.specs.declared.decoder.RecordDecoder.{RecordDecoder}
-use Rattle.asn1_bench.specs.declared.record.Record.{Record}
+use Rattle.asn1_records.specs.declared.record.Record.{Record}
 use Rattle.asn1_record_decoder.specs.declared.wanted.Wanted.{Wanted}
 use Rattle.asn1_record_decoder.specs.declared.wanted.Wanted.TheVariants.{Sequence, Set, SequenceOf, SetOf, Prefix, Alternative}
 

@@ -1,8 +1,8 @@
 -- Before what a record decoder stands.
 use Rattle.std.specs.Prelude.{◌≡◌, true, false, List, [], ◌∷◌, map}
 use Rattle.asn1_dec.specs.Reading.{Ahead, Reader, SameAhead}
-use Rattle.asn1_bench.specs.Records.{records_of}
-use Rattle.asn1_bench.specs.WithoutConstraints.{without_constraints}
+use Rattle.asn1_records.specs.Records.{records_of}
+use Rattle.asn1_records.specs.WithoutConstraints.{without_constraints}
 use Rattle.asn1_record_decoder.specs.declared.decoder.Rest.{Rest}
 use Rattle.asn1_record_decoder.specs.declared.decoder.RecordDecoder.{RecordDecoder}
 

@@ -5,12 +5,12 @@ use crate::found::{self, BAD_ITEM};
 use crate::from_content::FromContent;
 use crate::marks::skip_marks;
 use crate::wanted::Wanted;
-use asn1_bench::Record;
 use asn1_bounds::{Codec, Constraints};
 use asn1_choices::Choice;
 use asn1_components::FieldTable;
 use asn1_dec::{DecodeError, Decoder, Needed};
 use asn1_enumerations::EnumeratedTable;
+use asn1_records::Record;
 use asn1_tags::{Tag, TagTree};
 use asn1_types::Any;
 use asn1_values::{
@@ -47,7 +47,7 @@ struct Opened {
 }
 
 impl<'a> RecordDecoder<'a> {
-    ghost use Rattle.asn1_dec.specs.declared.error.DecodeError.TheVariants.{Memory};
+    ghost use Rattle.asn1_dec.specs.declared.error.DecodeError.TheVariants.{Failed, Memory};
     ghost use Rattle.asn1_dec.specs.Reading.{Ahead, Enters, MayFail, ReadsContent, Stays, TellsPresence};
     ghost use Rattle.asn1_model.specs.ConstraintSets.{ConstraintSet};
     ghost use Rattle.asn1_model.specs.Records as model;
@@ -55,12 +55,13 @@ impl<'a> RecordDecoder<'a> {
     ghost use Rattle.asn1_model.specs.Tags.{Tags};
     ghost use Rattle.asn1_record_decoder.specs.Found.{Meets, OpenedAs, Took};
     ghost use Rattle.asn1_record_decoder.specs.Reading.{StandsBefore, record_reader, sees};
-    ghost use Rattle.asn1_bench.specs.Records.{record_of, records_of};
-    ghost use Rattle.std.specs.Prelude.{◌≡◌, ◌∷◌, [], IfErr, IfOk, IfSome, IsOk, List, MatchResult, None, OnErr, OnOk, false, length, suc, true};
+    ghost use Rattle.asn1_records.specs.Carried.{Carries};
+    ghost use Rattle.asn1_records.specs.Records.{record_of, records_of};
+    ghost use Rattle.std.specs.Prelude.{◌≡◌, ◌↔◌, ◌∷◌, [], Err, IfErr, IfOk, IfSome, IsOk, List, MatchResult, None, OnErr, OnOk, false, length, suc, true};
 
     /// A decoder that is before these records, and may open so many scopes in one another.
     pub fn new(alloc: Global, records: &'a [Record], depth: usize) -> RecordDecoder<'a>
-        ensures before { sees result ≡ records_of records.now ∷ [] }
+        ensures before { (rs : List model.Record) → Carries records.now rs → StandsBefore result (rs ∷ []) }
         ensures allowance { record_reader.allowance result ≡ depth }
         ensures no_failure { record_reader.failed result ≡ false }
     {
@@ -73,14 +74,22 @@ impl<'a> RecordDecoder<'a> {
         }
     }
 
-    /// That nothing is left of the list that is innermost.
-    pub(crate) fn at_end(&self) -> Result<(), DecodeError>
-        ensures { StandsBefore self.now ([] ∷ []) → IsOk result }
+    /// Ends the reading, which succeeds if and only if all has been read: no call has failed, no scope is open, and no record is
+    /// left.
+    ///
+    /// # Errors
+    /// [`DecodeError::Failed`] where a call has failed before, and else [`DecodeError::Custom`], with the text `bad item`.
+    pub fn finish(self) -> Result<(), DecodeError>
+        ensures all_read { IsOk result ↔ StandsBefore self.entry ([] ∷ []) }
+        ensures failed { result ≡ Err Failed ↔ (record_reader.failed self.entry ≡ true) }
     {
-        match self.left {
-            [_, ..] => Err(BAD_ITEM),
-            [] => Ok(()),
+        if self.failed {
+            return Err(DecodeError::Failed);
         }
+        if !self.left.is_empty() || !self.outer.is_empty() {
+            return Err(BAD_ITEM);
+        }
+        Ok(())
     }
 
     /// Makes the decoder failed, and answers the error.
@@ -125,7 +134,7 @@ impl<'a> RecordDecoder<'a> {
     }
 
     /// What was found in a record; an error makes the decoder failed.
-    fn finish<V>(&mut self, found: Result<V, DecodeError>) -> Result<V, DecodeError>
+    fn answer<V>(&mut self, found: Result<V, DecodeError>) -> Result<V, DecodeError>
         ensures same { result ≡ found }
         ensures kept { OnOk result (self.new ≡ self.old) }
         ensures failing { OnErr result (self.new.failed ≡ true) }
@@ -145,7 +154,7 @@ impl<'a> RecordDecoder<'a> {
         match found::content(record, tag) {
             Some(content) => {
                 let found = V::from_content(self.alloc, content);
-                self.finish(found)
+                self.answer(found)
             }
             None => Err(self.fail(BAD_ITEM)),
         }
@@ -158,7 +167,7 @@ impl<'a> RecordDecoder<'a> {
     {
         let record = self.next()?;
         let found = found::presence(record, tag);
-        self.finish(found)
+        self.answer(found)
     }
 
     /// Goes into a scope.
@@ -346,7 +355,7 @@ impl<'a> Decoder for RecordDecoder<'a> {
     fn decode_any(&mut self, _tag: Tag) -> Result<Any, DecodeError> {
         let record = self.next()?;
         let found = found::bytes(record, self.alloc);
-        self.finish(found)
+        self.answer(found)
     }
 
     fn presence(&mut self, tag: Tag, _tree: TagTree<'static>) -> Result<bool, DecodeError> {
@@ -364,13 +373,13 @@ impl<'a> Decoder for RecordDecoder<'a> {
     fn open_group<C: FieldTable>(&mut self) -> Result<bool, DecodeError> {
         let record = self.next()?;
         let found = found::group(record);
-        self.finish(found)
+        self.answer(found)
     }
 
     fn close_group(&mut self) -> Result<(), DecodeError> {
         let record = self.next()?;
         let found = found::end_of_group(record);
-        self.finish(found)
+        self.answer(found)
     }
 
     fn open_sequence<C: FieldTable>(&mut self, tag: Tag) -> Result<(), DecodeError> {

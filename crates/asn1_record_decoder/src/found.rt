@@ -5,12 +5,12 @@ ghost use Rattle.asn1_model.specs.Records.{Name, absent, group_absent, group_end
 ghost use Rattle.asn1_model.specs.Tags.{Has, head_tag, record_tags};
 ghost use Rattle.asn1_dec.specs.declared.error.DecodeError.TheVariants.{Depth, Memory};
 ghost use Rattle.asn1_record_decoder.specs.Found.{FoundIn, HoldsRecords, IsRecord, Meets};
-ghost use Rattle.asn1_bench.specs.Records.{content_of, head_of, record_of};
+ghost use Rattle.asn1_records.specs.Records.{content_of, head_of, record_of};
 ghost use Rattle.std.specs.Prelude.{◌≡◌, ◌≢◌, ⊤, Err, IsSomeAnd, List, MatchResult, ℕ, false, true};
 
 use crate::wanted::Wanted;
-use asn1_bench::{Content, Head, Mark, Record};
 use asn1_dec::DecodeError;
+use asn1_records::{Content, Head, Mark, Record};
 use asn1_tags::Tag;
 use asn1_types::Any;
 use std::alloc::Global;

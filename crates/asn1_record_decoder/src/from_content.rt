@@ -2,15 +2,15 @@
 ghost use Rattle.asn1_model.specs.Records as model;
 ghost use Rattle.asn1_model.specs.Records.{arcs, bits, bmp, discriminant, general, graphic, ia5, null, number, numeric, octet, printable, teletex, truth, units, utf8, visible};
 ghost use Rattle.asn1_dec.specs.declared.error.DecodeError.TheVariants.{Depth, Memory};
-ghost use Rattle.asn1_bench.specs.Records.{content_of};
+ghost use Rattle.asn1_records.specs.Records.{content_of};
 ghost use Rattle.asn1_values.specs.Alphabets.{is_ia5, is_numeric, is_printable, is_visible};
 ghost use Rattle.std.specs.Prelude.{◌≡◌, ◌≢◌, ◌<◌, ◌^◌, ⊤, All, Bool, Err, IfOk, IsTrue, List, MatchResult, ℕ, ℤ};
 ghost use Rattle.std.specs.Str.{IsUtf8};
 ghost use Rattle.std.specs.String.{string_bytes};
 
 use crate::found::BAD_ITEM;
-use asn1_bench::Content;
 use asn1_dec::DecodeError;
+use asn1_records::Content;
 use asn1_values::{
     Alphabet, AlphabetString, BitString, BmpString, GeneralString, GraphicString, Ia5String,
     Integer, IntegerType, NumericString, ObjectIdentifier, PrintableString, TeletexString,

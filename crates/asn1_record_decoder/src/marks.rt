@@ -1,10 +1,10 @@
 //! Presence marks before a record.
 ghost use Rattle.asn1_dec.specs.Reading.{marks_passed};
-ghost use Rattle.asn1_bench.specs.Records.{records_of};
+ghost use Rattle.asn1_records.specs.Records.{records_of};
 ghost use Rattle.std.specs.Prelude.{◌≡◌};
 
 use crate::found::is_a_mark;
-use asn1_bench::Record;
+use asn1_records::Record;
 
 /// The records after the presence marks in front.
 pub(crate) fn skip_marks(records: &[Record]) -> &[Record]

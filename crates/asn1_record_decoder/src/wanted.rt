@@ -2,11 +2,11 @@
 ghost use Rattle.asn1_model.specs.Records as model;
 ghost use Rattle.asn1_model.specs.Tags.{head_tag};
 ghost use Rattle.asn1_record_decoder.specs.Found.{Meets};
-ghost use Rattle.asn1_bench.specs.Records.{head_of};
-ghost use Rattle.asn1_bench.specs.WithoutConstraints.{head_without};
+ghost use Rattle.asn1_records.specs.Records.{head_of};
+ghost use Rattle.asn1_records.specs.WithoutConstraints.{head_without};
 ghost use Rattle.std.specs.Prelude.{◌≡◌, true};
 
-use asn1_bench::Head;
+use asn1_records::Head;
 use asn1_tags::Tag;
 
 /// What a scope has to be that is opened: of a kind, and of a tag that is known, but for an alternative.

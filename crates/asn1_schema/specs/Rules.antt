@@ -1,11 +1,11 @@
 -- What a codec as a whole says of itself, and what writing and reading a value answer.
-use Rattle.std.specs.Prelude.{◌≡◌, ◌≢◌, ◌⊎◌, ℕ, ◌≤◌, ◌<◌, Bool, List, MatchResult, Result}
+use Rattle.std.specs.Prelude.{◌≡◌, ◌≢◌, ◌⊎◌, ℕ, ◌≤◌, ◌<◌, Bool, List, [], ◌∷◌, ◌++◌, MatchResult, Result}
 use Rattle.asn1_enc.specs.Writing.{IsCustom, SameRecords}
 use Rattle.asn1_enc.specs.declared.error.EncodeError.{EncodeError}
 use Rattle.asn1_enc.specs.declared.error.EncodeError.TheVariants as writing
 use Rattle.asn1_dec.specs.declared.error.DecodeError.{DecodeError}
 use Rattle.asn1_dec.specs.declared.error.DecodeError.TheVariants as reading
-use Rattle.asn1_model.specs.Records.{Record, highest}
+use Rattle.asn1_model.specs.Records.{Record, Head, highest, holding}
 
 -- What the outputs of a codec are: which records an output carries, which records may be refused, and which byte strings are
 -- one value each of an open type. One output may carry many lists of records.
@@ -15,10 +15,13 @@ pub record Format (O : Type 0) : Type 1 where
   pub takes : List ℕ → Bool
 
 module _ {O : Type 0} (F : Format O) where
-  -- What these keep to: the order inside sets means nothing.
+  -- What these keep to: the order inside sets means nothing, and records are rejected where a part of them is, or what one of
+  -- them holds.
   pub record IsLawful : Type 0 where
     pub carries_in_any_order : (output : O) (rs ss : List Record) → SameRecords rs ss → F.carries output rs → F.carries output ss
     pub rejects_in_any_order : (rs ss : List Record) → SameRecords rs ss → F.rejects rs → F.rejects ss
+    pub part : (before rs after : List Record) → F.rejects rs → F.rejects (before ++ (rs ++ after))
+    pub inner : (h : Head) (rs : List Record) → F.rejects rs → F.rejects (holding h rs ∷ [])
 
   -- The output carries the records, which are no higher than the depth, and the value that they are of has what it has by its
   -- type.

@@ -1,8 +1,8 @@
 //! Each call of an encoder once, with ample memory.
-use crate::encoder::RecordEncoder;
 use crate::tests::text::assert_written;
 use asn1_bounds::Constraints;
 use asn1_enc::{Encode, EncodeError, Encoder};
+use asn1_records::RecordEncoder;
 use asn1_samples::{Badge, Color, Contact, Shape};
 use asn1_tags::{Class, Identifier, Tag};
 use asn1_types::{Any, InstanceOf, SetOf};

@@ -1,10 +1,11 @@
 //! Errors, and an encoder after an error.
-use crate::encoder::RecordEncoder;
 use crate::rules::BenchRules;
 use crate::tests::samples::ann;
 use asn1_bounds::{Codec, Constraints};
 use asn1_enc::{Encode, EncodeError, Encoder};
+use asn1_records::RecordEncoder;
 use asn1_samples::{Contact, Plate};
+use asn1_schema::Rules;
 use asn1_tags::{Identifier, Tag};
 use asn1_values::VisibleString;
 use std::alloc::Global;

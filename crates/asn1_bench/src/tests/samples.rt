@@ -3,9 +3,11 @@ use crate::rules::BenchRules;
 use crate::tests::text::assert_records;
 use asn1_enc::Encode;
 use asn1_samples::{
-    Badge, Color, Contact, Corner, Envelope, Labelled, Node, Person, Plate, Profile, Settings,
+    Badge, Color, Contact, Corner, Envelope, Labelled, Person, Plate, Profile, Settings,
     Shape,
 };
+use asn1_trees::Node;
+use asn1_schema::Rules;
 use asn1_types::Any;
 use asn1_values::{Ia5String, Integer, NumericString, VisibleString};
 use std::alloc::Global;

@@ -1,8 +1,6 @@
 //! Records as text, so that a test names what it expects in one line.
-use crate::content::Content;
-use crate::encoder::RecordEncoder;
-use crate::record::{Head, Mark, Record};
 use asn1_enc::EncodeError;
+use asn1_records::{Content, Head, Mark, Record, RecordEncoder};
 use asn1_tags::{Identifier, Tag};
 use std::alloc::{AllocError, Global};
 use std::process::Abort;

@@ -1,8 +1,8 @@
 //! A value of each type that is written, and each entry point.
-use crate::encoder::RecordEncoder;
 use crate::tests::text::assert_written;
 use asn1_bounds::Constraints;
 use asn1_enc::{Encode, EncodeError, Encoder};
+use asn1_records::RecordEncoder;
 use asn1_samples::{Corner, Shape};
 use asn1_tags::{Class, Identifier, Tag};
 use asn1_types::{Explicit, Implicit, InstanceOf, SetOf, tag};

@@ -1,18 +1,18 @@
 use Rattle.std.proofs.Common.{ap, ◌∙◌}
 use Rattle.asn1_model.specs.Tags.{head_tag}
 use Rattle.asn1_record_decoder.specs.Found.{HoldsRecords}
-use Rattle.asn1_bench.specs.Records.{record_of}
-use Rattle.asn1_record_decoder.proofs.Shapes.{scope_of}
+use Rattle.asn1_records.specs.Records.{record_of}
+use Rattle.asn1_records.proofs.Records.{scope_is as shape_of_scope}
 use Rattle.asn1_record_decoder.proofs.InRecords.{scope_is, head_tag-without}
 use Rattle.asn1_record_decoder.proofs.found.inner_scope.Goals as goal
 
 pub returns-in-Scope-clause-tag : goal.returns-in-Scope-clause-tag
 returns-in-Scope-clause-tag c = λ h items meets is.
-    let s = scope_is c.args.item.now c.in-Scope.head c.in-Scope.records.items h items (ap record_of c.in-Scope.is ∙ scope_of c.in-Scope.head c.in-Scope.records) is in
+    let s = scope_is c.args.item.now c.in-Scope.head c.in-Scope.records.items h items (ap record_of c.in-Scope.is ∙ shape_of_scope c.in-Scope.head c.in-Scope.records) is in
     c.tag_of.ensures ∙ ap head_tag s.0 ∙ head_tag-without h
 
 pub returns-in-Scope-clause-records : goal.returns-in-Scope-clause-records
 returns-in-Scope-clause-records c = λ h items meets is.
-    let s = scope_is c.args.item.now c.in-Scope.head c.in-Scope.records.items h items (ap record_of c.in-Scope.is ∙ scope_of c.in-Scope.head c.in-Scope.records) is in
+    let s = scope_is c.args.item.now c.in-Scope.head c.in-Scope.records.items h items (ap record_of c.in-Scope.is ∙ shape_of_scope c.in-Scope.head c.in-Scope.records) is in
     let P = λ (rs : _). HoldsRecords rs h items in
     rw c.deref.ensures.value s.1

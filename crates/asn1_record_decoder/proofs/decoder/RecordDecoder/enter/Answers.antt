@@ -1,6 +1,6 @@
 use Rattle.std.proofs.Common.{[], ◌∷◌, ap, ◌∙◌}
 use Rattle.asn1_record_decoder.specs.Reading.{left_of}
-use Rattle.asn1_bench.specs.Records.{records_of}
+use Rattle.asn1_records.specs.Records.{records_of}
 use Rattle.asn1_record_decoder.proofs.Standing.{left_of-last}
 use Rattle.asn1_record_decoder.proofs.decoder.RecordDecoder.enter.Goals as goal
 

@@ -15,4 +15,4 @@ pub returns-in-Some-clause-read : goal.returns-in-Some-clause-read
 returns-in-Some-clause-read g c = λ k x n rest outer of_type at.
     let t = c.in_ok-record.ensures.took (scalar c.args.tag k n (g.V.FromContent.content x)) rest outer at in
     let found = c.from_content-found.ensures.read x of_type (c.in-Some.ensures k n (g.V.FromContent.content x) t.is) in
-    finished c.args.self.now c.next.new.self c.finish.new.self (rest ∷ outer) (λ w. g.V.FromContent.Is w x) c.finish.result (rw c.finish.ensures.same found) c.finish.ensures.kept t.at
+    finished c.args.self.now c.next.new.self c.answer.new.self (rest ∷ outer) (λ w. g.V.FromContent.Is w x) c.answer.result (rw c.answer.ensures.same found) c.answer.ensures.kept t.at

@@ -11,4 +11,4 @@ pub returns-clause-read : goal.returns-clause-read
 returns-clause-read c = λ rest outer at.
     let t = c.in_ok-record.ensures.took (mark group_end) rest outer at in
     let found = c.end_of_group-found.ensures.found t.is in
-    finished c.args.self.now c.next.new.self c.finish.new.self (rest ∷ outer) (λ _. ⊤) c.finish.result (rw c.finish.ensures.same found) c.finish.ensures.kept t.at
+    finished c.args.self.now c.next.new.self c.answer.new.self (rest ∷ outer) (λ _. ⊤) c.answer.result (rw c.answer.ensures.same found) c.answer.ensures.kept t.at

@@ -10,4 +10,4 @@ pub returns-clause-read : goal.returns-clause-read
 returns-clause-read c = λ bytes n rest outer takes at.
     let t = c.in_ok-record.ensures.took (raw n bytes) rest outer at in
     let found = c.bytes-found.ensures.found n bytes t.is in
-    finished c.args.self.now c.next.new.self c.finish.new.self (rest ∷ outer) (λ w. w ≡ bytes) c.finish.result (rw c.finish.ensures.same found) c.finish.ensures.kept t.at
+    finished c.args.self.now c.next.new.self c.answer.new.self (rest ∷ outer) (λ w. w ≡ bytes) c.answer.result (rw c.answer.ensures.same found) c.answer.ensures.kept t.at

@@ -1,5 +1,5 @@
 use Rattle.std.proofs.Common.{◌∷◌, refl, ap, arith}
-use Rattle.asn1_bench.specs.Records.{records_of}
+use Rattle.asn1_records.specs.Records.{records_of}
 use Rattle.asn1_record_decoder.proofs.Standing.{nothing_left, not_empty, some_view, empty_list}
 use Rattle.asn1_record_decoder.proofs.decoder.RecordDecoderDecoder.more.Goals as goal
 

@@ -1,5 +1,5 @@
 use Rattle.std.proofs.Common.{◌∷◌, refl, sym, ap, arith, ◌∙◌}
-use Rattle.asn1_bench.specs.Records.{record_of, records_of}
+use Rattle.asn1_records.specs.Records.{record_of, records_of}
 use Rattle.asn1_record_decoder.proofs.Standing.{passed, next_first, next_none, is_next, no_next, first_view, empty_list}
 use Rattle.asn1_record_decoder.proofs.decoder.RecordDecoderDecoder.next_component.Goals as goal
 

@@ -14,9 +14,9 @@ returns-clause-read g c = record {
   there = λ rest outer begins at.
       let t = c.in_ok-record.ensures.took (mark group_start) rest outer at in
       let found = c.group-found.ensures.there t.is in
-      finished c.args.self.now c.next.new.self c.finish.new.self (rest ∷ outer) (λ b. b ≡ true) c.finish.result (rw c.finish.ensures.same found) c.finish.ensures.kept t.at;
+      finished c.args.self.now c.next.new.self c.answer.new.self (rest ∷ outer) (λ b. b ≡ true) c.answer.result (rw c.answer.ensures.same found) c.answer.ensures.kept t.at;
   away = λ rest outer apart at.
       let t = c.in_ok-record.ensures.took (mark group_absent) rest outer at in
       let found = c.group-found.ensures.away t.is in
-      finished c.args.self.now c.next.new.self c.finish.new.self (rest ∷ outer) (λ b. b ≡ false) c.finish.result (rw c.finish.ensures.same found) c.finish.ensures.kept t.at;
+      finished c.args.self.now c.next.new.self c.answer.new.self (rest ∷ outer) (λ b. b ≡ false) c.answer.result (rw c.answer.ensures.same found) c.answer.ensures.kept t.at;
 }

@@ -1,0 +1,27 @@
+-- A value as a whole, written and read.
+use Rattle.std.proofs.Common.{◌≡◌, ℕ, true, false, List, [], ◌∷◌, ◌++◌, sym, subst, ◌∙◌, append-nil}
+use Rattle.asn1_enc.specs.declared.error.EncodeError.{EncodeError}
+use Rattle.asn1_enc.specs.Writing.{Fails, outermost}
+use Rattle.asn1_model.specs.Records.{Record}
+use Rattle.asn1_schema.specs.Rules.{IsNotWritten}
+use Rattle.asn1_records.specs.Encoder.{record_writer}
+use Rattle.asn1_records.specs.declared.encoder.RecordEncoder.{RecordEncoder}
+use Rattle.asn1_record_decoder.specs.Reading.{StandsBefore}
+use Rattle.asn1_record_decoder.specs.declared.decoder.RecordDecoder.{RecordDecoder}
+use Rattle.asn1_bench.specs.Outputs.{record_format}
+
+not_both : (b : _) → b ≡ false → b ≡ true → ⊥
+not_both b f t = let x : false ≡ true = sym f ∙ t in cc
+
+-- why a value was not written
+pub not_written : (old new : RecordEncoder) (rs : List Record) (depth : ℕ) (e : EncodeError) →
+    record_writer.wrote old (outermost []) → record_writer.allowance old ≡ depth → record_writer.failed old ≡ false → Fails record_writer old rs new e → IsNotWritten record_format rs depth e
+not_written old new rs depth e began allowed was fails = record {
+  too_high = λ is. rw (← allowed) (fails.too_high is);
+  rejected = λ is. (fails.rejected is (outermost []) began).rejects;
+  not_failed = λ is. not_both (record_writer.failed old) was (fails.error.failed_before.0 is);
+}
+
+-- nothing follows a value
+pub alone : (d : RecordDecoder) (rs : List Record) → StandsBefore d (rs ∷ []) → StandsBefore d ((rs ++ []) ∷ [])
+alone d rs at = subst (λ l. StandsBefore d (l ∷ [])) (sym (append-nil rs)) at

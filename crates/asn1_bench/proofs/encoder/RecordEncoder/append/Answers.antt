@@ -1,8 +1,0 @@
-use Rattle.std.proofs.Common.{refl}
-use Rattle.asn1_enc.proofs.UpToOrder.{appends}
-use Rattle.asn1_bench.specs.Encoder.{in_one_order}
-use Rattle.asn1_bench.proofs.Writing.{appended}
-use Rattle.asn1_bench.proofs.encoder.RecordEncoder.append.Goals as goal
-
-pub returns : goal.returns
-returns c = λ r is flat. appends in_one_order (appended _ _ c.args.added r is flat c.in_default.ensures.items refl refl c.if-self.false c.if-self.false)

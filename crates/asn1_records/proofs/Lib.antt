@@ -1,0 +1,5 @@
+pub mod Carrying
+mod Groups
+pub mod Records
+pub mod WithoutConstraints
+mod Writing
