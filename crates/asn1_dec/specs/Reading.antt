@@ -87,6 +87,29 @@ module _ {D : Type 0} (R : Reader D) where
       m.IsWellTagged t → m.IsOfType v → m.IsValid R.takes v → MayFollow m t (m.records v t c n) rest →
       ReadsBack old new (m.records v t c n) rest outer (λ w. eq w v ≡ true) result
 
+  -- The decoder has read past the records of a value of a type: where it was before those of a valid one, it is after them.
+  pub record HasReadPast {V : Type 0} (m : Meaning V) (t : Tag) (c : ConstraintSet) (old new : D) : Type 0 where
+    pub same_allowance : R.allowance new ≡ R.allowance old
+    pub at : (v : V) (n : Name) (rest : List Record) (outer : Ahead) →
+        m.IsWellTagged t → m.IsOfType v → m.IsValid R.takes v → MayFollow m t (m.records v t c n) rest →
+        R.stands old ((m.records v t c n ++ rest) ∷ outer) → R.stands new (rest ∷ outer)
+
+  -- What a call leaves that reads a value of a type. After a success the allowance is as it was. An error makes the decoder
+  -- failed, or it is the type's own, and comes after the value's records were read.
+  pub record LeavesDecoder {V : Type 0} (m : Meaning V) (t : Tag) (c : ConstraintSet) (old new : D) (result : Result V DecodeError) : Type 0 where
+    pub same_allowance : OnOk result (R.allowance new ≡ R.allowance old)
+    pub after_error : OnErr result (R.failed new ≡ true) ⊎ HasReadPast m t c old new
+
+  -- There was no memory for the type's own constraints, and the decoder is as it was.
+  pub record HadNoMemory {V : Type 0} (old new : D) (result : Result V DecodeError) : Type 0 where
+    pub error : result ≡ Err Memory
+    pub same : new ≡ old
+
+  -- What a call leaves that makes the type's own constraints, and then reads a value.
+  pub record LeavesDecoderWithOwnConstraints {V : Type 0} (m : Meaning V) (t : Tag) (old new : D) (result : Result V DecodeError) : Type 0 where
+    pub same_allowance : OnOk result (R.allowance new ≡ R.allowance old)
+    pub after_error : OnErr result (R.failed new ≡ true) ⊎ (HasReadPast m t m.constraints old new ⊎ HadNoMemory old new result)
+
   -- A call that reads a component that may be absent, which is written under this tag and begins with one of these tags, by
   -- the records of a value under any name. What follows one that is absent begins with none of its tags.
   abbrev pub ReadsOptional : {V : Type 0} → Tag → Tags → (Name → V → List Record) → (CanStandInside : Type 0) → (V → Type 0) → (V → Type 0) → (V → V → Bool) → D → D → Result (Option V) DecodeError → Type 0
@@ -115,16 +138,17 @@ module _ {D : Type 0} (R : Reader D) where
       (equal ≡ true → ShareNone (tags m t) (first_tags rest)) →
       ReadsBack old new (default_records equal t (m.records v t c n)) rest outer (λ w. eq w v ≡ true) result
 
-  -- A type's own error: the decoder stands before what follows the records.
-  pub record IsOwnError (new : D) (rest : List Record) (outer : Ahead) (own e : DecodeError) : Type 0 where
+  -- A type's own error: the decoder stands before what follows the records, and the allowance is as it was.
+  pub record IsOwnError (old new : D) (rest : List Record) (outer : Ahead) (own e : DecodeError) : Type 0 where
     pub error : e ≡ own
     pub at : R.stands new (rest ∷ outer)
+    pub same_allowance : R.allowance new ≡ R.allowance old
 
   -- a call that reads these records, before those, and refuses what they say by an error of its type's own
   abbrev pub ReadsAndRefuses : {V : Type 0} → D → D → List Record → List Record → Ahead → DecodeError → Result V DecodeError → Type 0
   ReadsAndRefuses old new rs rest outer own result =
       R.stands old ((rs ++ rest) ∷ outer) →
-      MatchResult result (λ _. ⊥) (λ e. MayFail (R.allowance old) (highest rs) e ⊎ IsOwnError new rest outer own e)
+      MatchResult result (λ _. ⊥) (λ e. MayFail (R.allowance old) (highest rs) e ⊎ IsOwnError old new rest outer own e)
 
   -- A call that tells whether a component is there, which has these tags, and goes past the presence mark that says so. A
   -- component that is there begins with one of its tags; what follows one that is absent begins with none.

@@ -1,5 +1,5 @@
 //! Arrays that are read.
-ghost use Rattle.asn1_dec.specs.Reading.{Ahead, ReadsAndRefuses, ReadsValue};
+ghost use Rattle.asn1_dec.specs.Reading.{Ahead, LeavesDecoder, ReadsAndRefuses, ReadsValue};
 ghost use Rattle.asn1_dec.specs.declared.error.DecodeError.TheVariants.{IncorrectItemNumber};
 ghost use Rattle.asn1_model.specs.Composites.{list_records};
 ghost use Rattle.asn1_model.specs.ConstraintSets.{constraint_set};
@@ -8,7 +8,7 @@ ghost use Rattle.asn1_model.specs.Meaning.{CanStandInside, own_records};
 ghost use Rattle.asn1_model.specs.Records.{Name, Record};
 ghost use Rattle.std.specs.Cmp.Lexicographic.{pointwise};
 ghost use Rattle.std.specs.List.{flat_map};
-ghost use Rattle.std.specs.Prelude.{◌≡◌, ◌≢◌, All, List, OnOk, length};
+ghost use Rattle.std.specs.Prelude.{◌≡◌, ◌≢◌, All, List, length};
 
 use crate::decode::Decode;
 use crate::decoder::Decoder;
@@ -46,7 +46,7 @@ impl<T: Decode, const N: usize> Decode for Array<T, N> {
         constraints: &Constraints<'_>,
     ) -> Result<Array<T, N>, DecodeError>
         ensures read { ReadsValue D.reader (through (λ array. array.elements) (array_type N T.meaning)) (λ a b. pointwise T.eq a.elements b.elements) tag (constraint_set constraints.now) decoder.old decoder.new result }
-        ensures same_allowance { OnOk result (D.reader.allowance decoder.new ≡ D.reader.allowance decoder.old) }
+        ensures leaves { LeavesDecoder D.reader (through (λ array. array.elements) (array_type N T.meaning)) tag (constraint_set constraints.now) decoder.old decoder.new result }
         ensures other_length { (vs : List T) (n : Name) (rest : List Record) (outer : Ahead) → CanStandInside T.meaning → All T.meaning.IsOfType vs → All (T.meaning.IsValid D.reader.takes) vs → length vs ≢ N → ReadsAndRefuses D.reader decoder.old decoder.new (list_records tag (constraint_set constraints.now) n (flat_map (own_records T.meaning) vs)) rest outer (IncorrectItemNumber N (length vs)) result }
     {
         let elements = decoder.decode_sequence_of::<T>(tag, constraints)?;

@@ -4,7 +4,7 @@ ghost use Rattle.asn1_choices.specs.ChosenTags.{chosen_tag};
 ghost use Rattle.asn1_components.specs.ComponentLists.{CanBeInSequence, EachIsOfType, EachIsValid};
 ghost use Rattle.asn1_components.specs.Components.{all_components, component_records};
 ghost use Rattle.asn1_components.specs.Following.{EndsApart};
-ghost use Rattle.asn1_dec.specs.Reading.{Ahead, ReadsBack, ReadsValue};
+ghost use Rattle.asn1_dec.specs.Reading.{Ahead, LeavesDecoder, LeavesDecoderWithOwnConstraints, ReadsBack, ReadsValue};
 ghost use Rattle.asn1_model.specs.ConstraintSets.{constraint_set};
 ghost use Rattle.asn1_model.specs.Records.{Record};
 ghost use Rattle.std.specs.Prelude.{◌≡◌, List, OnOk, true};
@@ -21,8 +21,12 @@ use asn1_tags::Tag;
 ///
 /// Before the records of a valid value of a well-tagged type, under what the entry point is given, a tag and constraints, and
 /// any name, the answer is an equal value, and the decoder stands before what follows. It fails there only for want of memory,
-/// or where the records are higher than the allowance. What an entry point is not given is the type's own. A success leaves the
-/// allowance as it was.
+/// or where the records are higher than the allowance. What an entry point is not given is the type's own.
+///
+/// A success leaves the allowance as it was. An error either makes the decoder failed, or is the type's own: then the allowance
+/// is as it was, and the decoder stands after the value's records, as after [`DecodeError::OutOfRange`] of a number outside its
+/// limits, [`DecodeError::IncorrectItemNumber`] of an array, and [`DecodeError::Memory`] of a box; or it is as it was, where
+/// there was no memory for the type's own constraints.
 pub trait Decode: AsnType + Eq + Sized + Drop {
     /// Reads a value under a tag and constraints.
     fn decode_with_tag_and_constraints<D: Decoder>(
@@ -31,13 +35,13 @@ pub trait Decode: AsnType + Eq + Sized + Drop {
         constraints: &Constraints<'_>,
     ) -> Result<Self, DecodeError>
         ensures read { ReadsValue D.reader Self.meaning Self.eq tag (constraint_set constraints.now) decoder.old decoder.new result }
-        ensures same_allowance { OnOk result (D.reader.allowance decoder.new ≡ D.reader.allowance decoder.old) };
+        ensures leaves { LeavesDecoder D.reader Self.meaning tag (constraint_set constraints.now) decoder.old decoder.new result };
 
     /// Reads a value under the type's own tag and constraints. Where there is no memory for these, the error is
     /// [`DecodeError::Memory`].
     final fn decode<D: Decoder>(decoder: &mut D) -> Result<Self, DecodeError>
         ensures read { ReadsValue D.reader Self.meaning Self.eq Self.meaning.tag Self.meaning.constraints decoder.old decoder.new result }
-        ensures same_allowance { OnOk result (D.reader.allowance decoder.new ≡ D.reader.allowance decoder.old) }
+        ensures leaves { LeavesDecoderWithOwnConstraints D.reader Self.meaning Self.meaning.tag decoder.old decoder.new result }
     {
         Self::decode_with_tag(decoder, Self::tag())
     }
@@ -45,7 +49,7 @@ pub trait Decode: AsnType + Eq + Sized + Drop {
     /// Reads a value under a tag.
     final fn decode_with_tag<D: Decoder>(decoder: &mut D, tag: Tag) -> Result<Self, DecodeError>
         ensures read { ReadsValue D.reader Self.meaning Self.eq tag Self.meaning.constraints decoder.old decoder.new result }
-        ensures same_allowance { OnOk result (D.reader.allowance decoder.new ≡ D.reader.allowance decoder.old) }
+        ensures leaves { LeavesDecoderWithOwnConstraints D.reader Self.meaning tag decoder.old decoder.new result }
     {
         let constraints = Self::constraints(decoder.global())?;
         Self::decode_with_tag_and_constraints(decoder, tag, &constraints)
@@ -57,7 +61,7 @@ pub trait Decode: AsnType + Eq + Sized + Drop {
         constraints: &Constraints<'_>,
     ) -> Result<Self, DecodeError>
         ensures read { ReadsValue D.reader Self.meaning Self.eq Self.meaning.tag (constraint_set constraints.now) decoder.old decoder.new result }
-        ensures same_allowance { OnOk result (D.reader.allowance decoder.new ≡ D.reader.allowance decoder.old) }
+        ensures leaves { LeavesDecoder D.reader Self.meaning Self.meaning.tag (constraint_set constraints.now) decoder.old decoder.new result }
     {
         Self::decode_with_tag_and_constraints(decoder, Self::tag(), constraints)
     }

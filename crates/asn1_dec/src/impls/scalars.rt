@@ -1,12 +1,12 @@
 //! Reading of NULL, BOOLEAN and INTEGER (X.680, 18, 19 and 24).
-ghost use Rattle.asn1_dec.specs.Reading.{Ahead, ReadsAndRefuses, ReadsValue};
+ghost use Rattle.asn1_dec.specs.Reading.{Ahead, LeavesDecoder, ReadsAndRefuses, ReadsValue};
 ghost use Rattle.asn1_dec.specs.declared.error.DecodeError.TheVariants.{OutOfRange};
 ghost use Rattle.asn1_model.specs.ConstraintSets.{constraint_set};
 ghost use Rattle.asn1_model.specs.Kinds.{limited_integer_type, under_own_name};
 ghost use Rattle.asn1_model.specs.Records.{Name, Record, number, scalar};
 ghost use Rattle.asn1_ranges.specs.declared.bounded.Bounded.TheVariants.{Range};
 ghost use Rattle.std.specs.Ordering.{int_eq};
-ghost use Rattle.std.specs.Prelude.{◌≡◌, ◌≤ℤ◌, [], ◌∷◌, List, OnOk, Some, ℤ};
+ghost use Rattle.std.specs.Prelude.{◌≡◌, ◌≤ℤ◌, [], ◌∷◌, List, Some, ℤ};
 
 use crate::decode::Decode;
 use crate::decoder::Decoder;
@@ -164,7 +164,7 @@ impl<L: Limits> Decode for LimitedInteger<L> {
         constraints: &Constraints<'_>,
     ) -> Result<LimitedInteger<L>, DecodeError>
         ensures read { ReadsValue D.reader (under_own_name (limited_integer_type (Range (Some L.start) (Some L.end)))) int_eq tag (constraint_set constraints.now) decoder.old decoder.new result }
-        ensures same_allowance { OnOk result (D.reader.allowance decoder.new ≡ D.reader.allowance decoder.old) }
+        ensures leaves { LeavesDecoder D.reader (under_own_name (limited_integer_type (Range (Some L.start) (Some L.end)))) tag (constraint_set constraints.now) decoder.old decoder.new result }
         ensures out_of_range { (z : ℤ) (n : Name) (rest : List Record) (outer : Ahead) → ¬ ((L.start ≤ℤ z) × (z ≤ℤ L.end)) → ReadsAndRefuses D.reader decoder.old decoder.new (scalar tag (constraint_set constraints.now) n (number z) ∷ []) rest outer OutOfRange result }
     {
         let number = decoder.decode_integer::<Integer>(tag, constraints)?;
