@@ -1,4 +1,5 @@
 //! The types of the lower crates and of the language, read.
+mod arrays;
 mod holders;
 mod lists;
 mod option;

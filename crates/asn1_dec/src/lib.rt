@@ -9,14 +9,13 @@
 //! | [`Decode`] | a type whose values are read, by four entry points; one of them is the type's own |
 //! | [`DecodeFields`] | a type whose components are read in their order: a SEQUENCE or a group of additions |
 //! | [`DecodeChoice`] | a CHOICE whose alternatives are read |
-//! | [`Array`] | an array, as it is read |
 //! | [`DecodeError`], [`Needed`] | why a value was not read |
 //! | [`laws`] | what the derives of the errors give |
 //!
 //! The types of the lower crates and of the language are read: `()`, `bool`, the built-in integers but `u128`, `Integer`,
 //! `LimitedInteger`, every kind of string, `ObjectIdentifier`, `Option`, `Box`, `Cow`, `Vec`, `Implicit`, `Explicit`, `Any` and
-//! `PhantomData`. An array is read as an [`Array`]: the borrow checker does not cover a function that answers an array, of a
-//! length that is a parameter, or an error with a text.
+//! `PhantomData`. An array is read as an `Array` of `asn1_types`: the borrow checker does not cover a function that answers an
+//! array, of a length that is a parameter, or an error with a text.
 //!
 //! What the contracts promise, and the words that they use:
 //!
@@ -42,7 +41,6 @@
 //! Calls that make values take memory, and those with constraints that have a permitted alphabet.
 #![tactic(auto, using(asn1_tags::proofs::Leaves::tree_shapes))]
 
-mod array;
 mod decode;
 mod decoder;
 mod defaults;
@@ -53,7 +51,6 @@ pub mod laws;
 mod needed;
 mod sequences;
 
-pub use array::Array;
 pub use decode::{Decode, DecodeChoice, DecodeFields};
 pub use decoder::Decoder;
 pub use error::DecodeError;

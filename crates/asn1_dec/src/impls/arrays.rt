@@ -1,4 +1,4 @@
-//! Arrays that are read.
+//! Reading of arrays (X.680, 26).
 ghost use Rattle.asn1_dec.specs.Reading.{Ahead, LeavesDecoder, ReadsAndRefuses, ReadsValue};
 ghost use Rattle.asn1_dec.specs.declared.error.DecodeError.TheVariants.{IncorrectItemNumber};
 ghost use Rattle.asn1_model.specs.Composites.{list_records};
@@ -14,28 +14,8 @@ use crate::decode::Decode;
 use crate::decoder::Decoder;
 use crate::error::DecodeError;
 use asn1_bounds::Constraints;
-use asn1_model::{AsnType, TypeTable};
 use asn1_tags::Tag;
-
-/// An array, as it is read. It means what the array means.
-#[derive(Drop)]
-#[derive_where(Clone, Copy, Debug, PartialEq, Eq; T)]
-pub struct Array<T, const N: usize> {
-    /// The elements.
-    pub elements: [T; N],
-}
-
-impl<T: AsnType, const N: usize> AsnType for Array<T, N> {
-    ghost meaning = { through (λ array. array.elements) (array_type N T.meaning) };
-
-    fn table() -> TypeTable {
-        <[T; N]>::table()
-    }
-
-    fn is_present(&self) -> bool {
-        true
-    }
-}
+use asn1_types::Array;
 
 impl<T: Decode, const N: usize> Decode for Array<T, N> {
     /// Reads a value under a tag and constraints. A list of another number of elements is read, and the error is
