@@ -2,7 +2,8 @@
 mod calls;
 mod errors;
 mod failures;
-mod round_trips;
+mod refusals;
 mod samples;
 mod text;
 mod types;
+mod values;

@@ -1,100 +1,168 @@
-//! Each call of an encoder once, with ample memory.
-use crate::tests::text::assert_written;
-use asn1_bounds::Constraints;
-use asn1_enc::{Encode, EncodeError, Encoder};
-use asn1_records::RecordEncoder;
+//! Each call of an encoder and of a decoder once, with ample memory.
+use crate::tests::text::assert_records;
+use crate::tests::values::{FIRST, NAME, assert_end, assert_number, done, own};
+use asn1_bounds::{Codec, Constraints};
+use asn1_dec::{DecodeError, Decoder};
+use asn1_enc::{Encode, Encoder};
+use asn1_record_decoder::RecordDecoder;
+use asn1_records::{Record, RecordEncoder};
 use asn1_samples::{Badge, Color, Contact, Shape};
-use asn1_tags::{Class, Identifier, Tag};
+use asn1_tags::Tag;
 use asn1_types::{Any, InstanceOf, SetOf};
 use asn1_values::{
     BmpString, GeneralString, GraphicString, Ia5String, NumericString, ObjectIdentifier,
     PrintableString, TeletexString, VisibleString,
 };
-use std::alloc::Global;
+use std::alloc::{AllocError, Global};
 use std::process::Abort;
 
-const FIRST: Tag = Tag {
-    class: Class::Context,
-    value: 0,
-};
-
-const NAME: Identifier = Identifier(Some("n"));
-
-fn own<U: Copy>(rt: &impl Abort, alloc: Global, units: &[U]) -> Vec<U> {
-    Vec::from_slice(alloc, units).expect(rt, "memory")
+fn assert_option(rt: &impl Abort, answer: Result<Option<u8>, DecodeError>, expected: Option<u8>) {
+    assert!(rt; answer == Ok(expected));
 }
 
-fn write_scalars(encoder: &mut RecordEncoder) -> Result<(), EncodeError> {
+fn write_scalars(rt: &impl Abort, encoder: &mut RecordEncoder) {
     let constraints = &Constraints::NONE;
-    encoder.encode_bool(FIRST, true, NAME)?;
-    encoder.encode_null(FIRST, NAME)?;
-    encoder.encode_object_identifier(FIRST, &[1, 2, 840], NAME)?;
-    encoder.encode_integer(FIRST, constraints, &-9i128, NAME)?;
-    encoder.encode_bit_string(FIRST, constraints, &[true, false], NAME)?;
-    encoder.encode_octet_string(FIRST, constraints, &[0, 255], NAME)?;
-    encoder.encode_utf8_string(FIRST, constraints, "Ann", NAME)
+    done(rt, encoder.encode_bool(FIRST, true, NAME));
+    done(rt, encoder.encode_null(FIRST, NAME));
+    let arcs = [1, 2, 840];
+    done(rt, encoder.encode_object_identifier(FIRST, &arcs, NAME));
+    done(
+        rt,
+        encoder.encode_integer(FIRST, constraints, &-9i128, NAME),
+    );
+    let bits = [true, false];
+    done(
+        rt,
+        encoder.encode_bit_string(FIRST, constraints, &bits, NAME),
+    );
+    let octets = [0, 255];
+    done(
+        rt,
+        encoder.encode_octet_string(FIRST, constraints, &octets, NAME),
+    );
+    done(
+        rt,
+        encoder.encode_utf8_string(FIRST, constraints, "Ann", NAME),
+    );
 }
 
 #[test]
 fn scalars_are_written(rt: HostRuntime) {
     let mut encoder = RecordEncoder::new(rt.alloc(), 0);
-    let answer = write_scalars(&mut encoder);
-    assert_written(
+    write_scalars(&rt, &mut encoder);
+    assert_records(
         &rt,
         rt.alloc(),
-        encoder,
-        answer,
+        encoder.finish().as_slice(),
         "Context 0 n true Context 0 n null Context 0 n arcs [1, 2, 840] Context 0 n -9 \
          Context 0 n bits [true, false] Context 0 n octets [0, 255] Context 0 n utf8 Ann ",
     );
 }
 
 /// Writes a value under a tag and a name.
-fn write<T: Encode + Drop>(encoder: &mut RecordEncoder, value: T) -> Result<(), EncodeError> {
-    value.encode_with_tag_and_identifier(encoder, FIRST, NAME)
+fn write<T: Encode + Drop>(rt: &impl Abort, encoder: &mut RecordEncoder, value: T) {
+    done(
+        rt,
+        value.encode_with_tag_and_identifier(encoder, FIRST, NAME),
+    );
 }
 
-fn write_strings(
-    rt: &impl Abort,
-    alloc: Global,
-    encoder: &mut RecordEncoder,
-) -> Result<(), EncodeError> {
+fn visible(rt: &impl Abort, alloc: Global) -> VisibleString {
+    VisibleString::new(own(rt, alloc, b"A~")).expect(rt, "a text")
+}
+
+fn ia5(rt: &impl Abort, alloc: Global) -> Ia5String {
+    Ia5String::new(own(rt, alloc, b"\n")).expect(rt, "a text")
+}
+
+fn printable(rt: &impl Abort, alloc: Global) -> PrintableString {
+    PrintableString::new(own(rt, alloc, b"A")).expect(rt, "a text")
+}
+
+fn numeric(rt: &impl Abort, alloc: Global) -> NumericString {
+    NumericString::new(own(rt, alloc, b"1 2")).expect(rt, "a text")
+}
+
+fn write_strings(rt: &impl Abort, alloc: Global, encoder: &mut RecordEncoder) {
+    write(rt, encoder, visible(rt, alloc));
+    write(rt, encoder, GeneralString::new(own(rt, alloc, &[0, 255])));
+    write(rt, encoder, GraphicString::new(own(rt, alloc, &[1, 254])));
+    write(rt, encoder, ia5(rt, alloc));
+    write(rt, encoder, printable(rt, alloc));
+    write(rt, encoder, numeric(rt, alloc));
+    write(rt, encoder, TeletexString::new(own(rt, alloc, &[u32::MAX])));
     write(
+        rt,
         encoder,
-        VisibleString::new(own(rt, alloc, b"A~")).expect(rt, "a text"),
-    )?;
-    write(encoder, GeneralString::new(own(rt, alloc, &[0, 255])))?;
-    write(encoder, GraphicString::new(own(rt, alloc, &[1, 254])))?;
-    write(
-        encoder,
-        Ia5String::new(own(rt, alloc, b"\n")).expect(rt, "a text"),
-    )?;
-    write(
-        encoder,
-        PrintableString::new(own(rt, alloc, b"A")).expect(rt, "a text"),
-    )?;
-    write(
-        encoder,
-        NumericString::new(own(rt, alloc, b"1 2")).expect(rt, "a text"),
-    )?;
-    write(encoder, TeletexString::new(own(rt, alloc, &[u32::MAX])))?;
-    write(encoder, BmpString::new(own(rt, alloc, &[0xd83d, 0xde00])))?;
-    write(encoder, Any::new(own(rt, alloc, &[7, 8])))
+        BmpString::new(own(rt, alloc, &[0xd83d, 0xde00])),
+    );
+    write(rt, encoder, Any::new(own(rt, alloc, &[7, 8])));
 }
 
 #[test]
 fn strings_are_written(rt: HostRuntime) {
     let mut encoder = RecordEncoder::new(rt.alloc(), 0);
-    let answer = write_strings(&rt, rt.alloc(), &mut encoder);
-    assert_written(
+    write_strings(&rt, rt.alloc(), &mut encoder);
+    assert_records(
         &rt,
         rt.alloc(),
-        encoder,
-        answer,
+        encoder.finish().as_slice(),
         "Context 0 n visible [65, 126] Context 0 n general [0, 255] Context 0 n graphic [1, 254] \
          Context 0 n ia5 [10] Context 0 n printable [65] Context 0 n numeric [49, 32, 50] \
          Context 0 n teletex [4294967295] Context 0 n bmp [55357, 56832] n raw [7, 8] ",
     );
+}
+
+fn write_scopes(rt: &impl Abort, encoder: &mut RecordEncoder) {
+    let constraints = &Constraints::NONE;
+    done(rt, encoder.encode_enumerated(FIRST, &Color::Blue, NAME));
+    done(rt, encoder.encode_explicit_prefix(FIRST, &9u8, NAME));
+    done(rt, encoder.encode_explicit_prefix(FIRST, &9u8, NAME));
+    let numbers = [3u8, 1];
+    done(
+        rt,
+        encoder.encode_sequence_of(FIRST, &numbers, constraints, NAME),
+    );
+    done(
+        rt,
+        encoder.encode_choice(constraints, &Shape::Ring(3), NAME),
+    );
+}
+
+fn assert_list(rt: &impl Abort, answer: Result<Vec<u8>, DecodeError>) {
+    let numbers = answer.expect(rt, "a list");
+    assert!(rt; numbers.as_slice() == [3, 1].as_slice());
+}
+
+fn read_scopes(rt: &impl Abort, decoder: &mut RecordDecoder<'_>) {
+    let constraints = &Constraints::NONE;
+    assert!(rt; decoder.decode_enumerated(FIRST) == Ok(Color::Blue));
+    assert_number(rt, decoder.decode_explicit_prefix(FIRST), 9);
+    let prefixed = decoder.decode_explicit_prefix_with_constraints(FIRST, constraints);
+    assert_number(rt, prefixed, 9);
+    assert_list(rt, decoder.decode_sequence_of(FIRST, constraints));
+    assert!(rt; decoder.decode_choice(constraints) == Ok(Shape::Ring(3)));
+}
+
+#[test]
+fn scopes_are_written_and_read(rt: HostRuntime) {
+    let mut encoder = RecordEncoder::new(rt.alloc(), 2);
+    write_scopes(&rt, &mut encoder);
+    assert!(rt; encoder.codec() == Codec::Other(0) && encoder.depth() == 2);
+    let records = encoder.finish();
+    assert_records(
+        &rt,
+        rt.alloc(),
+        records.as_slice(),
+        "Context 0 n item 5 prefix Context 0 n { Universal 2 INTEGER 9 } \
+         prefix Context 0 n { Universal 2 INTEGER 9 } \
+         sequence of Context 0 n { Universal 2 INTEGER 3 Universal 2 INTEGER 1 } \
+         alternative Context 0 n { Context 0 INTEGER 3 } ",
+    );
+    let mut decoder = RecordDecoder::new(rt.alloc(), records.as_slice(), 2);
+    assert!(rt; decoder.codec() == Codec::Other(0) && decoder.depth() == 2);
+    read_scopes(&rt, &mut decoder);
+    assert_end(&rt, decoder);
 }
 
 /// The arcs 1 and 2, beside a number.
@@ -105,108 +173,278 @@ fn instance(rt: &impl Abort, alloc: Global) -> InstanceOf<u8> {
     }
 }
 
-fn write_scopes(
-    rt: &impl Abort,
-    alloc: Global,
-    encoder: &mut RecordEncoder,
-) -> Result<(), EncodeError> {
-    let constraints = &Constraints::NONE;
-    encoder.encode_enumerated(FIRST, &Color::Blue, NAME)?;
-    encoder.encode_explicit_prefix(FIRST, &true, NAME)?;
-    encoder.encode_sequence_of(FIRST, &[true, false], constraints, NAME)?;
-    encoder.encode_choice(constraints, &Shape::Ring(3), NAME)?;
-    encoder.encode_set_of(
-        FIRST,
-        &SetOf::from_vec(own(rt, alloc, &[2u8, 1])),
-        constraints,
-        NAME,
-    )?;
-    encoder.encode_sequence(FIRST, &instance(rt, alloc), NAME)
+fn write_sequence(rt: &impl Abort, encoder: &mut RecordEncoder, value: InstanceOf<u8>) {
+    done(rt, encoder.encode_sequence(FIRST, &value, NAME));
 }
 
 #[test]
-fn scopes_are_written(rt: HostRuntime) {
+fn a_sequence_is_written(rt: HostRuntime) {
     let mut encoder = RecordEncoder::new(rt.alloc(), 2);
-    let answer = write_scopes(&rt, rt.alloc(), &mut encoder);
-    assert!(rt; encoder.depth() == 2);
-    assert_written(
+    write_sequence(&rt, &mut encoder, instance(&rt, rt.alloc()));
+    assert_records(
         &rt,
         rt.alloc(),
-        encoder,
-        answer,
-        "Context 0 n item 5 prefix Context 0 n { Universal 1 BOOLEAN true } \
-         sequence of Context 0 n { Universal 1 BOOLEAN true Universal 1 BOOLEAN false } \
-         alternative Context 0 n { Context 0 INTEGER 3 } \
-         set of Context 0 n { Universal 2 INTEGER 2 Universal 2 INTEGER 1 } \
-         sequence Context 0 n { Universal 6 OBJECT_IDENTIFIER arcs [1, 2] \
+        encoder.finish().as_slice(),
+        "sequence Context 0 n { Universal 6 OBJECT_IDENTIFIER arcs [1, 2] \
          prefix Context 0 SEQUENCE { Universal 2 INTEGER 9 } } ",
     );
 }
 
-#[test]
-fn a_set_is_written(rt: HostRuntime) {
-    let mut encoder = RecordEncoder::new(rt.alloc(), 2);
+fn write_badge(rt: &impl Abort, encoder: &mut RecordEncoder) {
     let badge = Badge {
         id: 7,
         label: None,
         shape: Shape::Dot(()),
     };
-    let answer = encoder.encode_set(FIRST, &badge, NAME);
-    assert_written(
+    done(rt, encoder.encode_set(FIRST, &badge, NAME));
+}
+
+/// Asserts with which tag the next component of a SET begins.
+fn assert_next(rt: &impl Abort, decoder: &mut RecordDecoder<'_>, tag: Option<Tag>) {
+    assert!(rt; decoder.next_component() == Ok(tag));
+}
+
+fn read_badge(rt: &impl Abort, decoder: &mut RecordDecoder<'_>) {
+    let constraints = &Constraints::NONE;
+    assert!(rt; decoder.open_set::<Badge>(FIRST) == Ok(3));
+    assert_next(rt, decoder, Some(Tag::INTEGER));
+    assert_number(rt, decoder.decode_integer(Tag::INTEGER, constraints), 7);
+    assert_next(rt, decoder, Some(Tag::NULL));
+    assert!(rt; decoder.decode_choice(constraints) == Ok(Shape::Dot(())));
+    assert_next(rt, decoder, None);
+    assert!(rt; decoder.close().is_ok());
+}
+
+#[test]
+fn a_set_is_written_and_read(rt: HostRuntime) {
+    let mut encoder = RecordEncoder::new(rt.alloc(), 2);
+    write_badge(&rt, &mut encoder);
+    let records = encoder.finish();
+    assert_records(
         &rt,
         rt.alloc(),
-        encoder,
-        answer,
+        records.as_slice(),
         "set Context 0 n { Universal 2 INTEGER 7 absent Universal 26 \
          alternative Universal 5 Shape { Universal 5 NULL null } } ",
     );
+    let mut decoder = RecordDecoder::new(rt.alloc(), records.as_slice(), 2);
+    read_badge(&rt, &mut decoder);
+    assert_end(&rt, decoder);
 }
 
-fn write_options(encoder: &mut RecordEncoder) -> Result<(), EncodeError> {
-    encoder.encode_some(&9u8, NAME)?;
-    encoder.encode_some_with_tag(FIRST, &9u8, NAME)?;
-    encoder.encode_some_with_tag_and_constraints(FIRST, &Constraints::NONE, &9u8, NAME)?;
-    encoder.encode_some_with_explicit_prefix(FIRST, &9u8, NAME)?;
-    encoder.encode_none::<u8>(NAME)?;
-    encoder.encode_none_with_tag(FIRST, NAME)
+fn write_set_of(rt: &impl Abort, encoder: &mut RecordEncoder, numbers: SetOf<u8>) {
+    let constraints = &Constraints::NONE;
+    done(
+        rt,
+        encoder.encode_set_of(FIRST, &numbers, constraints, NAME),
+    );
+}
+
+fn read_set_of(rt: &impl Abort, decoder: &mut RecordDecoder<'_>) {
+    let constraints = &Constraints::NONE;
+    assert!(rt; decoder.open_set_of(FIRST, constraints) == Ok(2));
+    assert!(rt; decoder.more() == Ok(true));
+    assert_number(rt, decoder.decode_integer(Tag::INTEGER, constraints), 2);
+    assert!(rt; decoder.more() == Ok(true));
+    assert_number(rt, decoder.decode_integer(Tag::INTEGER, constraints), 1);
+    assert!(rt; decoder.more() == Ok(false));
+    assert!(rt; decoder.close().is_ok());
+}
+
+#[test]
+fn a_set_of_elements_is_written_and_read(rt: HostRuntime) {
+    let mut encoder = RecordEncoder::new(rt.alloc(), 1);
+    write_set_of(
+        &rt,
+        &mut encoder,
+        SetOf::from_vec(own(&rt, rt.alloc(), &[2, 1])),
+    );
+    let records = encoder.finish();
+    assert_records(
+        &rt,
+        rt.alloc(),
+        records.as_slice(),
+        "set of Context 0 n { Universal 2 INTEGER 2 Universal 2 INTEGER 1 } ",
+    );
+    let mut decoder = RecordDecoder::new(rt.alloc(), records.as_slice(), 1);
+    read_set_of(&rt, &mut decoder);
+    assert_end(&rt, decoder);
+}
+
+fn write_options(rt: &impl Abort, encoder: &mut RecordEncoder) {
+    let constraints = &Constraints::NONE;
+    done(rt, encoder.encode_some(&9u8, NAME));
+    done(rt, encoder.encode_none::<u8>(NAME));
+    done(rt, encoder.encode_some_with_tag(FIRST, &9u8, NAME));
+    done(rt, encoder.encode_none_with_tag(FIRST, NAME));
+    let some = encoder.encode_some_with_tag_and_constraints(FIRST, constraints, &9u8, NAME);
+    done(rt, some);
+    done(
+        rt,
+        encoder.encode_some_with_explicit_prefix(FIRST, &9u8, NAME),
+    );
+}
+
+/// What `write_options` writes, twice.
+fn two_options(rt: &impl Abort, alloc: Global) -> Vec<Record> {
+    let mut encoder = RecordEncoder::new(alloc, 1);
+    write_options(rt, &mut encoder);
+    write_options(rt, &mut encoder);
+    encoder.finish()
 }
 
 #[test]
 fn options_are_written(rt: HostRuntime) {
     let mut encoder = RecordEncoder::new(rt.alloc(), 1);
-    let answer = write_options(&mut encoder);
-    assert_written(
+    write_options(&rt, &mut encoder);
+    assert_records(
         &rt,
         rt.alloc(),
-        encoder,
-        answer,
-        "present Universal 2 Universal 2 n 9 present Context 0 Context 0 n 9 \
-         present Context 0 Context 0 n 9 \
-         present Context 0 prefix Context 0 n { Universal 2 INTEGER 9 } \
-         absent Universal 2 absent Context 0 ",
+        encoder.finish().as_slice(),
+        "present Universal 2 Universal 2 n 9 absent Universal 2 \
+         present Context 0 Context 0 n 9 absent Context 0 present Context 0 Context 0 n 9 \
+         present Context 0 prefix Context 0 n { Universal 2 INTEGER 9 } ",
     );
 }
 
-fn write_defaults(encoder: &mut RecordEncoder) -> Result<(), EncodeError> {
+fn read_options(rt: &impl Abort, decoder: &mut RecordDecoder<'_>) {
     let constraints = &Constraints::NONE;
-    encoder.encode_default(&9u8, |_| Ok(9), NAME)?;
-    encoder.encode_default_with_tag(FIRST, &9u8, |_| Ok(8), NAME)?;
-    encoder.encode_default_with_constraints(constraints, &9u8, |_| Ok(9), NAME)?;
-    encoder.encode_default_with_tag_and_constraints(FIRST, constraints, &9u8, |_| Ok(8), NAME)?;
-    encoder.encode_default_with_explicit_prefix(FIRST, &9u8, |_| Ok(8), NAME)?;
-    encoder.encode_or_default(&0u8, NAME)?;
-    encoder.encode_with_tag_or_default(FIRST, &9u8, NAME)
+    assert_option(rt, decoder.decode_optional(), Some(9));
+    assert_option(
+        rt,
+        decoder.decode_optional_with_constraints(constraints),
+        None,
+    );
+    assert_option(rt, decoder.decode_optional_with_tag(FIRST), Some(9));
+    assert_option(rt, decoder.decode_optional_with_tag(FIRST), None);
+    let some = decoder.decode_optional_with_tag_and_constraints(FIRST, constraints);
+    assert_option(rt, some, Some(9));
+    assert_option(
+        rt,
+        decoder.decode_optional_with_explicit_prefix(FIRST),
+        Some(9),
+    );
+}
+
+fn read_additions(rt: &impl Abort, decoder: &mut RecordDecoder<'_>) {
+    let constraints = &Constraints::NONE;
+    assert_option(rt, decoder.decode_extension_addition(), Some(9));
+    let none = decoder.decode_extension_addition_with_constraints(constraints);
+    assert_option(rt, none, None);
+    assert_option(
+        rt,
+        decoder.decode_extension_addition_with_tag(FIRST),
+        Some(9),
+    );
+    assert_option(rt, decoder.decode_extension_addition_with_tag(FIRST), None);
+    let some = decoder.decode_extension_addition_with_tag_and_constraints(FIRST, constraints);
+    assert_option(rt, some, Some(9));
+    let some = decoder.decode_extension_addition_with_explicit_tag_and_constraints(
+        FIRST,
+        constraints,
+    );
+    assert_option(rt, some, Some(9));
+}
+
+#[test]
+fn options_and_additions_are_read(rt: HostRuntime) {
+    let records = two_options(&rt, rt.alloc());
+    let mut decoder = RecordDecoder::new(rt.alloc(), records.as_slice(), 1);
+    read_options(&rt, &mut decoder);
+    read_additions(&rt, &mut decoder);
+    assert_end(&rt, decoder);
+}
+
+fn nine(_alloc: Global) -> Result<u8, AllocError> {
+    Ok(9)
+}
+
+fn eight(_alloc: Global) -> Result<u8, AllocError> {
+    Ok(8)
+}
+
+fn read_defaults(rt: &impl Abort, decoder: &mut RecordDecoder<'_>) {
+    let constraints = &Constraints::NONE;
+    assert_number(rt, decoder.decode_default(eight), 9);
+    let usual = decoder.decode_default_with_constraints(eight, constraints);
+    assert_number(rt, usual, 8);
+    assert_number(rt, decoder.decode_default_with_tag(FIRST, eight), 9);
+    assert_number(rt, decoder.decode_default_with_tag(FIRST, eight), 8);
+    let other = decoder.decode_default_with_tag_and_constraints(FIRST, eight, constraints);
+    assert_number(rt, other, 9);
+    assert_option(
+        rt,
+        decoder.decode_optional_with_explicit_prefix(FIRST),
+        Some(9),
+    );
+}
+
+fn read_additions_with_defaults(rt: &impl Abort, decoder: &mut RecordDecoder<'_>) {
+    let constraints = &Constraints::NONE;
+    assert_number(rt, decoder.decode_extension_addition_with_default(eight), 9);
+    let usual = decoder.decode_extension_addition_with_default_and_constraints(eight, constraints);
+    assert_number(rt, usual, 8);
+    let other = decoder.decode_extension_addition_with_default_and_tag(FIRST, eight);
+    assert_number(rt, other, 9);
+    let usual = decoder.decode_extension_addition_with_default_and_tag(FIRST, eight);
+    assert_number(rt, usual, 8);
+    let other = decoder.decode_extension_addition_with_default_and_tag_and_constraints(
+        FIRST,
+        eight,
+        constraints,
+    );
+    assert_number(rt, other, 9);
+    assert_option(
+        rt,
+        decoder.decode_optional_with_explicit_prefix(FIRST),
+        Some(9),
+    );
+}
+
+#[test]
+fn defaults_are_read(rt: HostRuntime) {
+    let records = two_options(&rt, rt.alloc());
+    let mut decoder = RecordDecoder::new(rt.alloc(), records.as_slice(), 1);
+    read_defaults(&rt, &mut decoder);
+    read_additions_with_defaults(&rt, &mut decoder);
+    assert_end(&rt, decoder);
+}
+
+fn write_defaults(rt: &impl Abort, encoder: &mut RecordEncoder) {
+    let constraints = &Constraints::NONE;
+    done(rt, encoder.encode_default(&9u8, nine, NAME));
+    done(
+        rt,
+        encoder.encode_default_with_tag(FIRST, &9u8, eight, NAME),
+    );
+    done(
+        rt,
+        encoder.encode_default_with_constraints(constraints, &9u8, nine, NAME),
+    );
+    let other = encoder.encode_default_with_tag_and_constraints(
+        FIRST,
+        constraints,
+        &9u8,
+        eight,
+        NAME,
+    );
+    done(rt, other);
+    done(
+        rt,
+        encoder.encode_default_with_explicit_prefix(FIRST, &9u8, eight, NAME),
+    );
+    done(rt, encoder.encode_or_default(&0u8, NAME));
+    done(rt, encoder.encode_with_tag_or_default(FIRST, &9u8, NAME));
 }
 
 #[test]
 fn defaults_are_written(rt: HostRuntime) {
     let mut encoder = RecordEncoder::new(rt.alloc(), 1);
-    let answer = write_defaults(&mut encoder);
-    assert_written(
+    write_defaults(&rt, &mut encoder);
+    assert_records(
         &rt,
         rt.alloc(),
-        encoder,
-        answer,
+        encoder.finish().as_slice(),
         "absent Universal 2 present Context 0 Context 0 n 9 absent Universal 2 \
          present Context 0 Context 0 n 9 \
          present Context 0 prefix Context 0 n { Universal 2 INTEGER 9 } \
@@ -214,54 +452,85 @@ fn defaults_are_written(rt: HostRuntime) {
     );
 }
 
-/// A contact with an address of two units, or with nothing.
-fn contact(rt: &impl Abort, alloc: Global, has_mail: bool) -> Contact {
-    let mail = if has_mail {
-        Some(Ia5String::new(own(rt, alloc, b"a@")).expect(rt, "a text"))
-    } else {
-        None
-    };
-    Contact { phone: None, mail }
-}
-
-fn write_group(encoder: &mut RecordEncoder, contact: Contact) -> Result<(), EncodeError> {
-    encoder.encode_extension_addition_group(Some(&contact), NAME)
-}
-
-fn write_additions(
-    rt: &impl Abort,
-    alloc: Global,
-    encoder: &mut RecordEncoder,
-) -> Result<(), EncodeError> {
+fn write_additions(rt: &impl Abort, encoder: &mut RecordEncoder) {
     let constraints = &Constraints::NONE;
-    encoder.encode_extension_addition(FIRST, constraints, Some(&9u8), NAME)?;
-    encoder.encode_extension_addition(FIRST, constraints, None::<&u8>, NAME)?;
-    encoder.encode_extension_addition_with_tag(FIRST, Some(&9u8), NAME)?;
-    encoder.encode_extension_addition_with_explicit_prefix(FIRST, Some(&9u8), NAME)?;
-    encoder.encode_extension_addition_group(None::<&Contact>, NAME)?;
-    write_group(encoder, contact(rt, alloc, false))?;
-    write_group(encoder, contact(rt, alloc, true))
+    let some = encoder.encode_extension_addition(FIRST, constraints, Some(&9u8), NAME);
+    done(rt, some);
+    let none = encoder.encode_extension_addition(FIRST, constraints, None::<&u8>, NAME);
+    done(rt, none);
+    done(
+        rt,
+        encoder.encode_extension_addition_with_tag(FIRST, Some(&9u8), NAME),
+    );
+    let some = encoder.encode_extension_addition_with_explicit_prefix(FIRST, Some(&9u8), NAME);
+    done(rt, some);
 }
 
 #[test]
 fn additions_are_written(rt: HostRuntime) {
     let mut encoder = RecordEncoder::new(rt.alloc(), 1);
-    let answer = write_additions(&rt, rt.alloc(), &mut encoder);
-    assert_written(
+    write_additions(&rt, &mut encoder);
+    assert_records(
         &rt,
         rt.alloc(),
-        encoder,
-        answer,
+        encoder.finish().as_slice(),
         "present Context 0 Context 0 n 9 absent Context 0 present Context 0 Context 0 n 9 \
-         present Context 0 prefix Context 0 n { Universal 2 INTEGER 9 } group absent group absent \
-         group { absent Context 3 present Context 4 Context 4 IA5String ia5 [97, 64] } ",
+         present Context 0 prefix Context 0 n { Universal 2 INTEGER 9 } ",
     );
 }
 
+/// A contact with an address of two units.
+fn contact(rt: &impl Abort, alloc: Global) -> Contact {
+    let mail = Ia5String::new(own(rt, alloc, b"a@")).expect(rt, "a text");
+    Contact {
+        phone: None,
+        mail: Some(mail),
+    }
+}
+
+/// A contact of which all is absent.
+fn no_contact() -> Contact {
+    Contact {
+        phone: None,
+        mail: None,
+    }
+}
+
+fn write_group(rt: &impl Abort, encoder: &mut RecordEncoder, contact: Option<Contact>) {
+    let group = encoder.encode_extension_addition_group(contact.as_ref(), NAME);
+    done(rt, group);
+}
+
+/// Asserts that a group is there, and what is in it; or that it is absent.
+fn assert_group(rt: &impl Abort, decoder: &mut RecordDecoder<'_>, expected: Option<Contact>) {
+    assert!(rt; decoder.decode_extension_addition_group() == Ok(expected));
+}
+
 #[test]
-fn a_box_is_written(rt: HostRuntime) {
+fn groups_are_written_and_read(rt: HostRuntime) {
     let mut encoder = RecordEncoder::new(rt.alloc(), 0);
-    let number = Box::new(rt.alloc(), 9u8).expect(&rt, "memory");
-    let answer = number.encode_with_tag_and_identifier(&mut encoder, Tag::new_context(3), NAME);
-    assert_written(&rt, rt.alloc(), encoder, answer, "Context 3 n 9 ");
+    write_group(&rt, &mut encoder, None);
+    write_group(&rt, &mut encoder, Some(no_contact()));
+    write_group(&rt, &mut encoder, Some(contact(&rt, rt.alloc())));
+    let records = encoder.finish();
+    assert_records(
+        &rt,
+        rt.alloc(),
+        records.as_slice(),
+        "group absent group absent \
+         group { absent Context 3 present Context 4 Context 4 IA5String ia5 [97, 64] } ",
+    );
+    let mut decoder = RecordDecoder::new(rt.alloc(), records.as_slice(), 0);
+    assert_group(&rt, &mut decoder, None);
+    assert_group(&rt, &mut decoder, None);
+    assert_group(&rt, &mut decoder, Some(contact(&rt, rt.alloc())));
+    assert_end(&rt, decoder);
+}
+
+#[test]
+fn a_decoder_that_refuses_has_failed(rt: HostRuntime) {
+    let mut decoder = RecordDecoder::new(rt.alloc(), &[], 0);
+    assert!(rt; decoder.refuse(DecodeError::OutOfRange) == DecodeError::OutOfRange);
+    assert!(rt; decoder.decode_null(Tag::NULL) == Err(DecodeError::Failed));
+    assert!(rt; decoder.finish() == Err(DecodeError::Failed));
 }

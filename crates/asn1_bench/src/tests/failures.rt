@@ -1,14 +1,15 @@
-//! Errors, and an encoder after an error.
+//! Errors of writing, and an encoder after an error.
 use crate::rules::BenchRules;
 use crate::tests::samples::ann;
-use asn1_bounds::{Codec, Constraints};
+use crate::tests::values::NAME;
+use asn1_bounds::Constraints;
 use asn1_enc::{Encode, EncodeError, Encoder};
 use asn1_records::RecordEncoder;
 use asn1_samples::{Contact, Plate};
 use asn1_schema::Rules;
 use asn1_tags::{Identifier, Tag};
 use asn1_values::VisibleString;
-use std::alloc::Global;
+use std::alloc::{AllocError, Global};
 use std::process::Abort;
 
 /// Asserts that a call failed by this error, and that the next call of the encoder says that it has failed.
@@ -27,7 +28,6 @@ fn assert_error(
 #[test]
 fn a_person_is_too_high(rt: HostRuntime) {
     let mut encoder = RecordEncoder::new(rt.alloc(), 0);
-    assert!(rt; encoder.codec() == Codec::Other(0) && encoder.depth() == 0);
     let answer = ann(&rt, rt.alloc()).encode(&mut encoder);
     assert_error(&rt, encoder, answer, EncodeError::Depth);
 }
@@ -86,8 +86,19 @@ fn something_else_is_open(rt: HostRuntime) {
     assert_error(&rt, encoder, answer, EncodeError::Custom("a scope is open"));
 }
 
+fn no_memory(_alloc: Global) -> Result<bool, AllocError> {
+    Err(AllocError)
+}
+
+#[test]
+fn a_refused_default_is_an_error_of_memory(rt: HostRuntime) {
+    let mut encoder = RecordEncoder::new(rt.alloc(), 0);
+    let answer = encoder.encode_default(&true, no_memory, NAME);
+    assert_error(&rt, encoder, answer, EncodeError::Memory);
+}
+
 /// A call of each kind that takes memory.
-fn write_all(encoder: &mut RecordEncoder) -> Result<(), EncodeError> {
+pub(super) fn write_all(encoder: &mut RecordEncoder) -> Result<(), EncodeError> {
     let constraints = &Constraints::NONE;
     encoder.encode_octet_string(Tag::OCTET_STRING, constraints, &[1], Identifier::EMPTY)?;
     encoder.encode_sequence_of(Tag::SEQUENCE, &[1u8, 2], constraints, Identifier::EMPTY)?;

@@ -1,42 +1,19 @@
-//! The sample types, as the rules write them.
-use crate::rules::BenchRules;
+//! The sample types, written and read back.
 use crate::tests::text::assert_records;
+use crate::tests::values::{assert_end, assert_round_trip, assert_written, done, own, text};
+use asn1_dec::{Decode, DecodeError};
 use asn1_enc::Encode;
+use asn1_record_decoder::RecordDecoder;
+use asn1_records::RecordEncoder;
 use asn1_samples::{
-    Badge, Color, Contact, Corner, Envelope, Labelled, Person, Plate, Profile, Settings,
-    Shape,
+    Badge, Color, Contact, Corner, Envelope, Labelled, Person, Plate, Profile, Settings, Shape,
 };
+use asn1_tags::Tag;
 use asn1_trees::Node;
-use asn1_schema::Rules;
 use asn1_types::Any;
-use asn1_values::{Ia5String, Integer, NumericString, VisibleString};
+use asn1_values::{Ia5String, Integer, NumericString, OctetString, VisibleString};
 use std::alloc::Global;
 use std::process::Abort;
-
-/// Asserts what the rules write of a value, with so many scopes in one another.
-fn assert_value<T: Encode + Drop>(
-    rt: &impl Abort,
-    alloc: Global,
-    value: T,
-    depth: usize,
-    expected: &str,
-) {
-    let written = BenchRules::new(alloc).write_value(&value, depth);
-    assert_records(
-        rt,
-        alloc,
-        written.expect(rt, "records").as_slice(),
-        expected,
-    );
-}
-
-fn text(rt: &impl Abort, alloc: Global, text: &str) -> String {
-    String::from_str(alloc, text).expect(rt, "memory")
-}
-
-fn own(rt: &impl Abort, alloc: Global, octets: &[u8]) -> Vec<u8> {
-    Vec::from_slice(alloc, octets).expect(rt, "memory")
-}
 
 /// Ann, who is 30.
 pub(super) fn ann(rt: &impl Abort, alloc: Global) -> Person {
@@ -47,12 +24,11 @@ pub(super) fn ann(rt: &impl Abort, alloc: Global) -> Person {
 }
 
 #[test]
-fn a_person_is_written(rt: HostRuntime) {
-    assert_value(
+fn a_person_is_written_and_read(rt: HostRuntime) {
+    assert_round_trip(
         &rt,
         rt.alloc(),
         ann(&rt, rt.alloc()),
-        1,
         "sequence Universal 16 Person { Universal 2 INTEGER 30 Universal 12 UTF8String utf8 Ann } ",
     );
 }
@@ -83,18 +59,17 @@ const BARE: &str =
     "sequence Universal 16 Profile { absent Context 0 Context 1 INTEGER 7 absent Context 2 group absent } ";
 
 #[test]
-fn profiles_are_written(rt: HostRuntime) {
-    assert_value(&rt, rt.alloc(), profile(None), 1, BARE);
+fn profiles_are_written_and_read(rt: HostRuntime) {
+    assert_round_trip(&rt, rt.alloc(), profile(None), BARE);
     let nothing = Contact {
         phone: None,
         mail: None,
     };
-    assert_value(&rt, rt.alloc(), profile(Some(nothing)), 1, BARE);
-    assert_value(
+    assert_written(&rt, rt.alloc(), &profile(Some(nothing)), BARE);
+    assert_round_trip(
         &rt,
         rt.alloc(),
         full_profile(&rt, rt.alloc()),
-        1,
         "sequence Universal 16 Profile { present Context 0 Context 0 UTF8String utf8 Al \
          Context 1 INTEGER 255 present Context 2 Context 2 Color item 5 \
          group { absent Context 3 present Context 4 Context 4 IA5String ia5 [97, 64, 98] } } ",
@@ -102,21 +77,19 @@ fn profiles_are_written(rt: HostRuntime) {
 }
 
 #[test]
-fn settings_are_written(rt: HostRuntime) {
+fn settings_are_written_and_read(rt: HostRuntime) {
     let entry = Labelled { key: 1, note: 9 };
-    assert_value(
+    assert_round_trip(
         &rt,
         rt.alloc(),
         Settings { entry },
-        1,
         "sequence Universal 16 Settings { absent Context 0 } ",
     );
     let entry = Labelled { key: 2, note: 9 };
-    assert_value(
+    assert_round_trip(
         &rt,
         rt.alloc(),
         Settings { entry },
-        2,
         "sequence Universal 16 Settings { present Context 0 \
          sequence Context 0 Labelled { Context 0 INTEGER 2 Context 1 INTEGER 9 } } ",
     );
@@ -131,12 +104,11 @@ fn phone(rt: &impl Abort, alloc: Global) -> Contact {
 }
 
 #[test]
-fn a_profile_with_a_phone_is_written(rt: HostRuntime) {
-    assert_value(
+fn a_profile_with_a_phone_is_written_and_read(rt: HostRuntime) {
+    assert_round_trip(
         &rt,
         rt.alloc(),
         profile(Some(phone(&rt, rt.alloc()))),
-        1,
         "sequence Universal 16 Profile { absent Context 0 Context 1 INTEGER 7 absent Context 2 \
          group { present Context 3 Context 3 NumericString numeric [49, 50] absent Context 4 } } ",
     );
@@ -152,11 +124,10 @@ fn badge(rt: &impl Abort, alloc: Global) -> Badge {
 
 #[test]
 fn a_badge_is_written(rt: HostRuntime) {
-    assert_value(
+    assert_written(
         &rt,
         rt.alloc(),
-        badge(&rt, rt.alloc()),
-        3,
+        &badge(&rt, rt.alloc()),
         "set Universal 17 Badge { Universal 2 INTEGER 7 \
          present Universal 26 Universal 26 VisibleString visible [120] \
          alternative Universal 1 Shape { alternative Universal 1 Corner { Universal 1 BOOLEAN true } } } ",
@@ -183,12 +154,11 @@ fn parent(rt: &impl Abort, alloc: Global) -> Node {
 }
 
 #[test]
-fn nodes_are_written(rt: HostRuntime) {
-    assert_value(
+fn nodes_are_written_and_read(rt: HostRuntime) {
+    assert_round_trip(
         &rt,
         rt.alloc(),
         parent(&rt, rt.alloc()),
-        4,
         "sequence Universal 16 Node { absent Universal 12 sequence of Universal 16 SEQUENCE_OF { \
          sequence Universal 16 Node { present Universal 12 Universal 12 UTF8String utf8 a \
          sequence of Universal 16 SEQUENCE_OF { } } } } ",
@@ -207,20 +177,65 @@ fn plate(rt: &impl Abort, alloc: Global) -> Plate {
 }
 
 #[test]
-fn open_types_and_plates_are_written(rt: HostRuntime) {
+fn open_types_and_plates_are_written_and_read(rt: HostRuntime) {
     let alloc = rt.alloc();
-    assert_value(
+    assert_round_trip(
         &rt,
         alloc,
         envelope(&rt, alloc),
-        1,
         "sequence Universal 16 Envelope { Universal 2 INTEGER 1 raw [1, 2] } ",
     );
-    assert_value(
+    assert_round_trip(
         &rt,
         alloc,
         plate(&rt, alloc),
-        0,
         "Universal 26 Plate visible [65, 66] ",
     );
+}
+
+fn right(rt: &impl Abort, alloc: Global) -> Corner {
+    Corner::Right(OctetString::new(own(rt, alloc, &[7])))
+}
+
+#[test]
+fn an_untagged_choice_is_its_alternative(rt: HostRuntime) {
+    let alloc = rt.alloc();
+    assert_round_trip(
+        &rt,
+        alloc,
+        right(&rt, alloc),
+        "alternative Universal 4 Corner { Universal 4 OCTET_STRING octets [7] } ",
+    );
+    assert_round_trip(
+        &rt,
+        alloc,
+        Shape::Inner(Corner::Left(true)),
+        "alternative Universal 1 Shape { alternative Universal 1 Corner { Universal 1 BOOLEAN true } } ",
+    );
+}
+
+fn assert_ring(rt: &impl Abort, answer: Result<Shape, DecodeError>) {
+    assert!(rt; answer == Ok(Shape::Ring(3)));
+}
+
+#[test]
+fn a_choice_is_after_a_tag(rt: HostRuntime) {
+    let mut encoder = RecordEncoder::new(rt.alloc(), 2);
+    done(
+        &rt,
+        Shape::Ring(3).encode_with_tag(&mut encoder, Tag::new_context(7)),
+    );
+    let records = encoder.finish();
+    assert_records(
+        &rt,
+        rt.alloc(),
+        records.as_slice(),
+        "prefix Context 7 Shape { alternative Context 0 Shape { Context 0 INTEGER 3 } } ",
+    );
+    let mut decoder = RecordDecoder::new(rt.alloc(), records.as_slice(), 2);
+    assert_ring(
+        &rt,
+        Shape::decode_with_tag(&mut decoder, Tag::new_context(7)),
+    );
+    assert_end(&rt, decoder);
 }

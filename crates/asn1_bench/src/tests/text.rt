@@ -1,21 +1,9 @@
 //! Records as text, so that a test names what it expects in one line.
-use asn1_enc::EncodeError;
-use asn1_records::{Content, Head, Mark, Record, RecordEncoder};
+use asn1_records::{Content, Head, Mark, Record};
 use asn1_tags::{Identifier, Tag};
 use std::alloc::{AllocError, Global};
+use std::fmt::{Debug, Display};
 use std::process::Abort;
-
-/// Asserts that a call succeeded, and what has been written.
-pub(super) fn assert_written(
-    rt: &impl Abort,
-    alloc: Global,
-    encoder: RecordEncoder,
-    answer: Result<(), EncodeError>,
-    expected: &str,
-) {
-    assert!(rt; answer.is_ok());
-    assert_records(rt, alloc, encoder.finish().as_slice(), expected);
-}
 
 /// Asserts what the records are.
 pub(super) fn assert_records(rt: &impl Abort, alloc: Global, records: &[Record], expected: &str) {
@@ -90,20 +78,32 @@ fn write_mark(text: &mut String, mark: Mark) -> Result<(), AllocError> {
 fn write_content(text: &mut String, content: &Content) -> Result<(), AllocError> {
     match content {
         Content::Null => text.push_str("null "),
-        Content::Truth(truth) => write!(text, "{truth} "),
+        Content::Truth(truth) => write_value(text, "", *truth),
         Content::Number(number) => write!(text, "{number} "),
-        Content::Discriminant(number) => write!(text, "item {number} "),
-        Content::Arcs(arcs) => write!(text, "arcs {arcs:?} "),
-        Content::Bits(bits) => write!(text, "bits {bits:?} "),
-        Content::Octets(octets) => write!(text, "octets {octets:?} "),
-        Content::Utf8(utf8) => write!(text, "utf8 {utf8} "),
-        Content::Visible(units) => write!(text, "visible {:?} ", units.as_slice()),
-        Content::General(units) => write!(text, "general {:?} ", units.as_slice()),
-        Content::Graphic(units) => write!(text, "graphic {:?} ", units.as_slice()),
-        Content::Ia5(units) => write!(text, "ia5 {:?} ", units.as_slice()),
-        Content::Printable(units) => write!(text, "printable {:?} ", units.as_slice()),
-        Content::Numeric(units) => write!(text, "numeric {:?} ", units.as_slice()),
-        Content::Teletex(units) => write!(text, "teletex {:?} ", units.as_slice()),
-        Content::Bmp(units) => write!(text, "bmp {:?} ", units.as_slice()),
+        Content::Discriminant(number) => write_value(text, "item ", *number),
+        Content::Arcs(arcs) => write_units(text, "arcs", arcs),
+        Content::Bits(bits) => write_units(text, "bits", bits),
+        Content::Octets(octets) => write_units(text, "octets", octets),
+        Content::Utf8(utf8) => write_value(text, "utf8 ", utf8.as_str()),
+        Content::Visible(units) => write_units(text, "visible", units.as_slice()),
+        Content::General(units) => write_units(text, "general", units.as_slice()),
+        Content::Graphic(units) => write_units(text, "graphic", units.as_slice()),
+        Content::Ia5(units) => write_units(text, "ia5", units.as_slice()),
+        Content::Printable(units) => write_units(text, "printable", units.as_slice()),
+        Content::Numeric(units) => write_units(text, "numeric", units.as_slice()),
+        Content::Teletex(units) => write_units(text, "teletex", units.as_slice()),
+        Content::Bmp(units) => write_units(text, "bmp", units.as_slice()),
     }
+}
+
+fn write_value<T: Display + Drop>(
+    text: &mut String,
+    kind: &str,
+    value: T,
+) -> Result<(), AllocError> {
+    write!(text, "{kind}{value} ")
+}
+
+fn write_units<U: Debug>(text: &mut String, kind: &str, units: &[U]) -> Result<(), AllocError> {
+    write!(text, "{kind} {units:?} ")
 }
