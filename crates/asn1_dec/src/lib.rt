@@ -39,7 +39,7 @@
 //!   rearrangement of what was written.
 //!
 //! Calls that make values take memory, and those with constraints that have a permitted alphabet.
-#![tactic(auto, using(asn1_tags::proofs::Leaves::tree_shapes))]
+#![tactic(auto)]
 
 mod decode;
 mod decoder;
