@@ -32,18 +32,20 @@ mod universal_string;
 pub use asn1_bounds::{
     Codec, Constraint, ConstraintDiscriminant, InnerSubtypeConstraint, InnerSubtypeConstraintError,
 };
-pub use asn1_dec::{Array, Decode, DecodeChoice, DecodeError, DecodeFields, Decoder, Needed};
+pub use asn1_dec::{Decode, DecodeChoice, DecodeError, DecodeFields, Decoder, Needed};
 pub use asn1_enc::{Encode, EncodeChoice, EncodeError, EncodeFields, Encoder, EnumeratedValue};
+pub use asn1_enumerations::{EnumeratedTable, item};
 pub use asn1_types::{
-    Any, AsnType, Bounded, Choice, ChoiceType, Class, ConstraintTable, Constraints, Constructed,
-    ConstructedType, Enumerated, EnumeratedType, EnumerationItem, Explicit, Extensible, Field,
-    FieldPresence, FieldTable, Fields, Identifier, Implicit, InstanceOf, PermittedAlphabet,
-    SequenceOf, SetOf, Size, Tag, TagTree, TypeTable, Value, tag,
+    Any, Array, AsnType, Bounded, Choice, ChoiceType, Class, ConstraintTable, Constraints,
+    Constructed, ConstructedType, Enumerated, EnumeratedType, EnumerationItem, Explicit,
+    Extensible, Field, FieldPresence, FieldTable, Fields, Identifier, Implicit, InstanceOf,
+    PermittedAlphabet, SequenceOf, SetOf, Size, Tag, TagTree, TypeTable, Value, tag,
 };
 pub use asn1_values::{
-    AlphabetError, BitString, BmpString, ConstrainedInteger, GeneralString, GraphicString,
-    Ia5String, Integer, IntegerType, NumericString, ObjectIdentifier, OctetString, PrintableString,
-    TeletexString, Utf8String, VisibleString,
+    Alphabet, AlphabetError, AlphabetString, BitString, BmpString, ConstrainedInteger,
+    GeneralString, GraphicString, Ia5String, Integer, IntegerType, LimitedInteger, Limits,
+    NumericString, ObjectIdentifier, OctetString, PrintableString, TeletexString, Utf8String,
+    VisibleString,
 };
 pub use round_trips::{RoundTripError, round_trip};
 pub use rules::Rules;
