@@ -6,7 +6,7 @@ use Rattle.asn1_components.specs.Components.{all_components}
 use Rattle.asn1_samples.specs.contracts.color.ColorPartialEq.TheImpl.{ghosts as color}
 use Rattle.asn1_samples.specs.declared.color.Color.TheVariants.{Red}
 use Rattle.asn1_samples.specs.contracts.profile.ProfileFieldTable.TheImpl.{ghosts as profile}
-use Rattle.asn1_samples.proofs.PartWays.{begin, step, stops, through}
+use Rattle.asn1_dec.proofs.PartWays.{begin, step, stops, through}
 use Rattle.asn1_samples.proofs.profile.ProfileDecodeFields.decode_fields.Goals as goal
 
 pub returns-in_err-nick-clause-read : goal.returns-in_err-nick-clause-read
