@@ -19,7 +19,7 @@
 //! - Each but `Badge` is read: from its records a codec gives an equal value (`Decode`), whatever the codec. The reader has a line
 //!   for each component (`decode_fields`) or alternative (`from_tag`). A component that may be absent is asked for under its own tag,
 //!   which what follows does not begin with; so it is in a group whose last components are absent, where what follows is after
-//!   the group. `proofs/PartWays.antt` has the steps: the proof has a line for each component too. A tag that no alternative
+//!   the group. The proof too has a line for each component, by the steps of `PartWays` of `asn1_dec`. A tag that no alternative
 //!   has is refused with the name of the CHOICE.
 //! - Each can be inside other types: `person_can_stand_inside` and its kin.
 //! - The records of some values are written out: `person_records` and its kin. `profile_is_valid` and `envelope_is_valid` say of

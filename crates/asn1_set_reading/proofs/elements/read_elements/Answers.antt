@@ -8,13 +8,13 @@ use Rattle.asn1_set_reading.proofs.elements.read_elements.Goals as goal
 
 pub loop-index-preserved : goal.loop-index-preserved
 loop-index-preserved g c = record {
-  kept = omega (arith, c.loop-index.invariant.kept, c.in_ok-more.ensures.stays.keeps.same_allowance, c.in-Ok.ensures.same_allowance);
+  kept = omega (arith, c.loop-index.invariant.kept, c.in_ok-more.ensures.stays.keeps.same_allowance, c.in-Ok.ensures.leaves.same_allowance);
   count = omega (arith, c.loop-index.invariant.count, ap length c.in-Ok-push.ensures.items, length-append c.loop-index.elements.items (c.in-Ok.element ∷ []));
   midway = λ vs next outer can of_type valid at.
       let mid = c.loop-index.invariant.midway vs next outer can of_type valid at in
       let a = another g.D.Decoder.reader g.T.AsnType.meaning g.T.PartialEq.eq can _ mid c.in_ok-more.ensures.read c.if-not-branch.false c.in_ok-more.ensures.stays.keeps.same_allowance in
       let r = c.in-Ok.ensures.read a.next g.T.AsnType.meaning.name (flat_map (own_records g.T.AsnType.meaning) a.todo) (next ∷ outer) can.1 a.next_of_type a.next_valid (inl can.0) a.at in
-      let f = further g.D.Decoder.reader g.T.AsnType.meaning g.T.PartialEq.eq c.decode.new.decoder c.in-Ok.element a r.within_allowance r.answer r.at c.in-Ok.ensures.same_allowance in
+      let f = further g.D.Decoder.reader g.T.AsnType.meaning g.T.PartialEq.eq c.decode.new.decoder c.in-Ok.element a r.within_allowance r.answer r.at c.in-Ok.ensures.leaves.same_allowance in
       rw c.in-Ok-push.ensures.items f;
 }
 

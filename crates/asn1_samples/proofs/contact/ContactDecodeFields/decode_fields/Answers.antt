@@ -3,7 +3,7 @@ use Rattle.std.proofs.lemmas.Bool.{and_from}
 use Rattle.std.proofs.lemmas.Result.{err_from_is_err_and}
 use Rattle.asn1_components.specs.Components.{all_components}
 use Rattle.asn1_samples.specs.contracts.contact.ContactFieldTable.TheImpl.{ghosts as contact}
-use Rattle.asn1_samples.proofs.PartWays.{begin, step, stops, through}
+use Rattle.asn1_dec.proofs.PartWays.{begin, step, stops, through}
 use Rattle.asn1_samples.proofs.contact.ContactDecodeFields.decode_fields.Goals as goal
 
 pub returns-in_err-phone-clause-read : goal.returns-in_err-phone-clause-read

@@ -4,7 +4,7 @@ use Rattle.std.proofs.lemmas.Result.{err_from_is_err_and}
 use Rattle.asn1_components.specs.Components.{all_components}
 use Rattle.asn1_samples.specs.contracts.labelled.LabelledPartialEq.TheImpl.{ghosts as labelled}
 use Rattle.asn1_samples.specs.contracts.settings.SettingsFieldTable.TheImpl.{ghosts as settings}
-use Rattle.asn1_samples.proofs.PartWays.{begin, step, stops, through}
+use Rattle.asn1_dec.proofs.PartWays.{begin, step, stops, through}
 use Rattle.asn1_samples.proofs.settings.SettingsDecodeFields.decode_fields.Goals as goal
 
 pub returns-in_err-entry-clause-read : goal.returns-in_err-entry-clause-read

@@ -1,4 +1,5 @@
--- How the components of a SEQUENCE or of a group are read, one after another.
+-- How the components of a SEQUENCE or of a group are read, one after another. For who proves a `decode_fields`: `begin` before the
+-- first, a `step` after each that was read, `stops` where one was not, and `through` after the last.
 use Rattle.std.proofs.Common.{◌≡◌, ℕ, max, ◌≤◌, List, [], ◌∷◌, ◌++◌, refl, arith, subst, ◌∙◌}
 use Rattle.asn1_components.proofs.Apart.{all_then, sequence_apart}
 use Rattle.asn1_components.specs.ComponentLists.{CanBeInSequence, EachCanStandInside, EachIsOfType, EachIsValid, all_records}
@@ -11,21 +12,21 @@ use Rattle.asn1_dec.specs.Reading.{Ahead, MayFail, Moved, Reader}
 use Rattle.asn1_dec.proofs.Steps.{fails_below, highest-append}
 
 module _ {D V : Type 0} (R : Reader D) where
-  -- The decoder stands before these components of a value, the last of those with which it began: so high are all together,
-  -- and those that were read are within the allowance.
-  pub record PartWay (began now : D) (cs : List (ComponentType V)) (v : V) (height : ℕ) (rest : List Record) (outer : Ahead) : Type 0 where
-    pub can : EachCanStandInside cs
-    pub of_type : EachIsOfType cs v
-    pub valid : EachIsValid cs R.takes v
-    pub apart : EachApart cs v rest
+  -- Some components of a value were read, and these are left. The height is that of all.
+  pub record PartWay (began now : D) (left : List (ComponentType V)) (v : V) (height : ℕ) (rest : List Record) (outer : Ahead) : Type 0 where
+    pub can : EachCanStandInside left
+    pub of_type : EachIsOfType left v
+    pub valid : EachIsValid left R.takes v
+    pub apart : EachApart left v rest
+    -- how high those are that were read
     pub read : ℕ
     pub within_allowance : read ≤ R.allowance began
-    pub no_higher : highest (all_records cs v) ≤ height
-    pub highest_of_both : height ≤ max read (highest (all_records cs v))
+    pub no_higher : highest (all_records left v) ≤ height
+    pub highest_of_both : height ≤ max read (highest (all_records left v))
     pub same_allowance : R.allowance now ≡ R.allowance began
-    pub at : R.stands now (records_then cs v rest ∷ outer)
+    pub at : R.stands now (records_then left v rest ∷ outer)
 
-  -- before all components
+  -- before the first
   pub begin : (d : D) (cs : List (ComponentType V)) (v : V) (rest : List Record) (outer : Ahead) →
       CanBeInSequence cs → EachIsOfType cs v → EachIsValid cs R.takes v → EndsApart cs rest → R.stands d ((all_records cs v ++ rest) ∷ outer) →
       PartWay d d cs v (highest (all_records cs v)) rest outer
@@ -42,12 +43,13 @@ module _ {D V : Type 0} (R : Reader D) where
     at = subst (λ l. R.stands d (l ∷ outer)) (all_then cs v rest) at;
   }
 
-  -- The first of some components was read, with this answer.
-  pub record Stepped (began now : D) (cs : List (ComponentType V)) (v : V) (height : ℕ) (rest : List Record) (outer : Ahead) (Answer : Type 0) : Type 0 where
+  -- One more was read, with this answer.
+  pub record Stepped (began now : D) (left : List (ComponentType V)) (v : V) (height : ℕ) (rest : List Record) (outer : Ahead) (Answer : Type 0) : Type 0 where
     pub answer : Answer
-    pub next : PartWay began now cs v height rest outer
+    pub next : PartWay began now left v height rest outer
 
 module _ {D V : Type 0} {R : Reader D} {began now : D} {c : ComponentType V} {cs : List (ComponentType V)} {v : V} {height : ℕ} {rest : List Record} {outer : Ahead} where
+  -- where the call that reads it succeeded
   pub step : {then : D} {Answer : Type 0} → PartWay R began now (c ∷ cs) v height rest outer → R.allowance then ≡ R.allowance now →
       (c.CanStandInside → c.IsOfType v → c.IsValid R.takes v → Where (may_be_absent c.presence) (BeginsApart c.tree (records_then cs v rest)) →
       R.stands now ((c.records v ++ records_then cs v rest) ∷ outer) → Moved R now then (highest (c.records v)) (records_then cs v rest ∷ outer) Answer) →
@@ -69,7 +71,7 @@ module _ {D V : Type 0} {R : Reader D} {began now : D} {c : ComponentType V} {cs
         };
       }
 
-  -- the first component was not read
+  -- where it failed
   pub stops : {e : DecodeError} → PartWay R began now (c ∷ cs) v height rest outer →
       (c.CanStandInside → c.IsOfType v → c.IsValid R.takes v → Where (may_be_absent c.presence) (BeginsApart c.tree (records_then cs v rest)) →
       R.stands now ((c.records v ++ records_then cs v rest) ∷ outer) → MayFail (R.allowance now) (highest (c.records v)) e) →
@@ -78,7 +80,7 @@ module _ {D V : Type 0} {R : Reader D} {began now : D} {c : ComponentType V} {cs
       fails_below _ _ _ (omega (arith, part.same_allowance)) (omega (arith, part.no_higher, highest-append (c.records v) (all_records cs v)))
       (reads part.can.0 part.of_type.0 part.valid.0 part.apart.0 part.at)
 
--- all components were read
+-- after the last
 pub through : {D V : Type 0} {R : Reader D} {began now : D} {v : V} {height : ℕ} {rest : List Record} {outer : Ahead} {Answer : Type 0} →
     PartWay R began now [] v height rest outer → Answer → Moved R began now height (rest ∷ outer) Answer
 through part answer = record {
