@@ -1,4 +1,4 @@
-//! Tests of the public calls of the crates from `asn1_values` to `asn1_choices`, and of `asn1_clash`.
+//! Tests of the public calls of the crates from `asn1_values` to `asn1_choices`, of `asn1_clash` and of `asn1_example`.
 //!
 //! A crate that has tests is proved twice, so those that need no private item are together here, and the crates below are
 //! proved once. They try what no contract says: values from outside (worked examples, a standard's tables, the ends of each
@@ -16,6 +16,7 @@
 //! | `components` | types with components that cannot be, a group inside a group, tables in static memory |
 //! | `choices` | CHOICE types and their tables, and the records of worked values |
 //! | `clash` | the search for components without distinct tags, against that of `asn1_fields` |
+//! | `example` | a generic type at two types, and the calls of types that their authors have stated |
 //!
 //! A test is a list of calls of helpers; a helper makes one value, asserts, and drops it, which is the form that takes least
 //! to prove.
@@ -29,6 +30,8 @@ mod choices;
 mod clash;
 #[cfg(test)]
 mod components;
+#[cfg(test)]
+mod example;
 #[cfg(test)]
 mod fields;
 #[cfg(test)]

@@ -1,5 +1,5 @@
-//! What the types can do once they are stated.
-use crate::{Answer, Color, Pair};
+//! What types can do once their authors have stated them.
+use asn1_example::{Answer, Color, Pair};
 use asn1_types::{AsnType, Choice, Enumerated, FieldTable, Tag};
 use std::process::Abort;
 
