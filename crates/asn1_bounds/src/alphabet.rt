@@ -123,5 +123,3 @@ impl Hash for PermittedAlphabet {
     }
 }
 
-#[cfg(test)]
-mod tests;

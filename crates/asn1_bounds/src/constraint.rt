@@ -170,5 +170,3 @@ impl<'a> From<PermittedAlphabet> for Constraint<'a> {
     }
 }
 
-#[cfg(test)]
-mod tests;

@@ -247,5 +247,3 @@ impl Default for Constraints<'_> {
     }
 }
 
-#[cfg(test)]
-mod tests;

@@ -129,5 +129,3 @@ impl<T> From<T> for Extensible<'_, T> {
     }
 }
 
-#[cfg(test)]
-mod tests;

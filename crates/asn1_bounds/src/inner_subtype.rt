@@ -37,5 +37,3 @@ pub trait InnerSubtypeConstraint: Sized {
     }
 }
 
-#[cfg(test)]
-mod tests;

@@ -153,5 +153,3 @@ impl From<Size> for ConstraintTable<'_> {
     }
 }
 
-#[cfg(test)]
-mod tests;

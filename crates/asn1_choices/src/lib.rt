@@ -30,7 +30,5 @@
 
 mod choices;
 pub mod examples;
-#[cfg(test)]
-mod tests;
 
 pub use choices::{Choice, ChoiceType, the_chosen_tag_tells_the_alternative};

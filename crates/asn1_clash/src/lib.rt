@@ -37,8 +37,6 @@ mod flat_tree;
 mod order;
 mod search;
 mod summary;
-#[cfg(test)]
-mod tests;
 
 pub use flat_component::FlatComponent;
 pub use flat_tree::FlatTree;

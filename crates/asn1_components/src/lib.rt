@@ -36,8 +36,6 @@ pub mod examples;
 mod field_table;
 mod following;
 mod table_order;
-#[cfg(test)]
-mod tests;
 
 pub use constructed::{Constructed, field_in};
 pub use field_table::{ConstructedType, FieldTable};

@@ -15,8 +15,6 @@ mod answer;
 mod color;
 mod contact;
 mod pair;
-#[cfg(test)]
-mod tests;
 
 pub use answer::{Answer, answer_can_stand_inside, answer_records};
 pub use color::{Color, color_can_stand_inside};

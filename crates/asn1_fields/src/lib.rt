@@ -47,8 +47,6 @@ mod fields;
 mod iterators;
 pub mod laws;
 mod presence;
-#[cfg(test)]
-mod tests;
 
 pub use canonical_order::{at_most_one_rearrangement_is_canonical, is_canonical};
 pub use distinct_tags::{first_sequence_clash, first_set_clash};

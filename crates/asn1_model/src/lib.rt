@@ -47,8 +47,6 @@ pub mod laws;
 mod orders;
 mod strings;
 pub mod tag;
-#[cfg(test)]
-mod tests;
 mod type_table;
 
 pub use asn_type::AsnType;

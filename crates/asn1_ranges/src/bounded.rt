@@ -197,5 +197,3 @@ impl<T: fmt::Display> fmt::Display for Bounded<T> {
     }
 }
 
-#[cfg(test)]
-mod tests;

@@ -36,8 +36,6 @@ mod number;
 mod parts;
 mod reporter;
 mod table;
-#[cfg(test)]
-mod tests;
 mod texts;
 mod tree;
 mod tree_line;

@@ -60,8 +60,6 @@ mod places;
 mod searches;
 mod tables;
 mod tags;
-#[cfg(test)]
-mod tests;
 mod trees;
 mod universal;
 mod walks;

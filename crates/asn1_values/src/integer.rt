@@ -137,5 +137,3 @@ impl Integer {
     }
 }
 
-#[cfg(test)]
-mod tests;

@@ -74,5 +74,3 @@ impl IntegerType for Integer {
     }
 }
 
-#[cfg(test)]
-mod tests;

@@ -1,0 +1,97 @@
+//! What the definitions give for a few CHOICE types, written out by hand, and their tables.
+//!
+//! The clauses of the functions without a body are worked examples: the prover computes the definitions on them.
+ghost use Rattle.std.specs.Prelude.{◌≡◌, pos, true, [], ◌∷◌, None, Some, codes};
+ghost use Rattle.asn1_ranges.specs.declared.bounded.Bounded.TheVariants.{Range};
+ghost use Rattle.asn1_model.specs.ConstraintSets.{unconstrained, values_of};
+ghost use Rattle.asn1_model.specs.Meaning.{CanStandInside, own_records};
+ghost use Rattle.asn1_model.specs.Records.{scalar, holding, prefix, alternative as chosen, number, truth};
+ghost use Rattle.asn1_model.specs.TaggedTypes.{tagged, untagged};
+ghost use Rattle.asn1_model.specs.Tags.{universal, context, only, first_tags};
+ghost use Rattle.asn1_choices.specs.Alternatives.{alternative, closed, extensible, variance_of};
+ghost use Rattle.asn1_choices.specs.ChoiceTypes.{choice_of};
+ghost use Rattle.asn1_choices.specs.declared.examples.open.Open.TheVariants.{Flag, Nested};
+ghost use Rattle.asn1_choices.specs.declared.examples.reply.Reply.TheVariants as reply;
+ghost use Rattle.asn1_choices.specs.declared.examples.shape.Corner.TheVariants as corner;
+ghost use Rattle.asn1_choices.specs.declared.examples.shape.Shape.TheVariants as shape;
+
+use asn1_bounds::Bounded;
+use asn1_choices::Choice;
+use asn1_choices::examples::{Corner, Open, Reply, Shape};
+use asn1_model::AsnType;
+use asn1_tags::{Tag, TagTree};
+use std::process::Abort;
+
+/// A CHOICE cannot be inside others with the same tag twice: in the root, on both sides of the extension marker, or in an
+/// untagged CHOICE and beside it.
+fn same_tag_twice()
+    ensures root { ¬ CanStandInside (choice_of (codes "Twice") (closed (
+        alternative (codes "a") (tagged (context 1) ⟦<bool as AsnType>⟧.meaning) ∷
+        alternative (codes "b") (tagged (context 1) ⟦<() as AsnType>⟧.meaning) ∷ [])) (λ x. x)) }
+    ensures added { ¬ CanStandInside (choice_of (codes "Twice") (extensible (
+        alternative (codes "a") (untagged ⟦<bool as AsnType>⟧.meaning) ∷ []) (
+        alternative (codes "b") (untagged ⟦<bool as AsnType>⟧.meaning) ∷ [])) (λ x. x)) }
+    ensures inside { ¬ CanStandInside (choice_of (codes "Twice") (closed (
+        alternative (codes "inner") (untagged ⟦<Corner as AsnType>⟧.meaning) ∷
+        alternative (codes "flag") (untagged ⟦<bool as AsnType>⟧.meaning) ∷ [])) (λ x. x)) }
+{}
+
+/// The records of a value of each.
+fn records()
+    ensures corner { own_records ⟦<Corner as AsnType>⟧.meaning (corner.Left true) ≡
+        holding (chosen (universal 1) unconstrained (Some (codes "Corner"))) (
+        scalar (universal 1) unconstrained (Some (codes "BOOLEAN")) (truth true) ∷ []) ∷ [] }
+    ensures ring { own_records ⟦<Shape as AsnType>⟧.meaning (shape.Ring 7) ≡
+        holding (chosen (context 0) unconstrained (Some (codes "Shape"))) (
+        scalar (context 0) (values_of (Range (Some (pos 0)) (Some (pos 65535)))) (Some (codes "INTEGER")) (number (pos 7)) ∷ []) ∷ [] }
+    ensures inner { own_records ⟦<Shape as AsnType>⟧.meaning (shape.Inner (corner.Left true)) ≡
+        holding (chosen (universal 1) unconstrained (Some (codes "Shape"))) (
+        holding (chosen (universal 1) unconstrained (Some (codes "Corner"))) (
+        scalar (universal 1) unconstrained (Some (codes "BOOLEAN")) (truth true) ∷ []) ∷ []) ∷ [] }
+    ensures later { own_records ⟦<Reply as AsnType>⟧.meaning (reply.Later 9) ≡
+        holding (chosen (context 0) unconstrained (Some (codes "Reply"))) (
+        scalar (context 0) (values_of (Range (Some (pos 0)) (Some (pos 255)))) (Some (codes "INTEGER")) (number (pos 9)) ∷ []) ∷ [] }
+{}
+
+/// `nested : flag : TRUE`, whose inner value is under an explicit tag.
+fn nested(inner: Box<Open>)
+    ensures { inner.value ≡ Flag true → own_records ⟦<Open as AsnType>⟧.meaning (Nested inner) ≡
+        holding (chosen (context 0) unconstrained (Some (codes "Open"))) (
+        holding (prefix (context 0) (Some (codes "Open"))) (
+        holding (chosen (universal 1) unconstrained (Some (codes "Open"))) (
+        scalar (universal 1) unconstrained (Some (codes "BOOLEAN")) (truth true) ∷ []) ∷ []) ∷ []) ∷ [] }
+{}
+
+/// The number that an alternative holds is within its type.
+fn values_of_types()
+    ensures within { ⟦<Shape as AsnType>⟧.meaning.IsOfType (shape.Ring 65535) }
+    ensures above { ¬ ⟦<Shape as AsnType>⟧.meaning.IsOfType (shape.Ring 65536) }
+{}
+
+/// Asserts what the tables of a CHOICE say: its tree, the number of its alternatives, and the constraint of their places.
+fn assert_tables<T: AsnType + Choice>(
+    rt: &(impl Abort + AllocGlobal),
+    tree: TagTree<'static>,
+    names: usize,
+    places: (i128, i128),
+    extensible: bool,
+) {
+    assert!(rt; T::tag_tree() == tree && T::is_choice() && T::tag() == Tag::CHOICE);
+    assert!(rt; T::identifiers().len() == names && T::complete_variance() == names);
+    let constraint = T::variance_constraint(rt.alloc()).expect(rt, "memory");
+    let bound = constraint.value().map(|part| part.constraint.bound);
+    assert!(rt; bound == Some(Bounded::const_new(places.0, places.1)));
+    assert!(rt; constraint.extensible() == extensible);
+}
+
+#[test]
+fn tables(rt: HostRuntime) {
+    assert_tables::<Corner>(&rt, TagTree::Choice(Corner::variants()), 2, (0, 1), false);
+    assert_tables::<Shape>(&rt, TagTree::Choice(Shape::variants()), 3, (0, 2), false);
+    assert_tables::<Open>(&rt, TagTree::Choice(Open::variants()), 3, (0, 2), false);
+    assert!(rt; Corner::tag_tree_under(Tag::new_context(1)) == TagTree::Leaf(Tag::new_context(1)));
+    assert!(rt; Reply::variance() == 2 && Reply::complete_variance() == 3);
+    let constraint = Reply::variance_constraint(rt.alloc());
+    assert!(rt; constraint.expect(&rt, "memory").extensible());
+    assert!(rt; Reply::extended_variants().is_some() && Open::extended_variants().is_none());
+}

@@ -1,0 +1,44 @@
+//! Tests of the public calls of the crates from `asn1_values` to `asn1_choices`, of `asn1_clash` and of `asn1_example`.
+//!
+//! A crate that has tests is proved twice, so those that need no private item are together here, and the crates below are
+//! proved once. They try what no contract says: values from outside (worked examples, a standard's tables, the ends of each
+//! built-in integer), printed texts, and that each call which takes memory succeeds where there is some. Tests whose names
+//! begin with `a_refused_` hold where an allocation fails too.
+//!
+//! | Module | What it tries |
+//! |---|---|
+//! | `values` | whole numbers, strings, names of objects, errors |
+//! | `tags` | classes, tags, names of types, trees of tags; lists of tags with a table or none |
+//! | `ranges` | bounds of whole numbers |
+//! | `bounds` | the kinds of constraint, constraint sets and their tables, constraints of components |
+//! | `model` | the tables of the language's types, and the records of worked values |
+//! | `fields` | field tables: canonical order, components with distinct tags, iterators |
+//! | `components` | types with components that cannot be, a group inside a group, tables in static memory |
+//! | `choices` | CHOICE types and their tables, and the records of worked values |
+//! | `clash` | the search for components without distinct tags, against that of `asn1_fields` |
+//! | `example` | a generic type at two types, and the calls of types that their authors have stated |
+//!
+//! A test is a list of calls of helpers; a helper makes one value, asserts, and drops it, which is the form that takes least
+//! to prove.
+#![tactic(auto)]
+
+#[cfg(test)]
+mod bounds;
+#[cfg(test)]
+mod choices;
+#[cfg(test)]
+mod clash;
+#[cfg(test)]
+mod components;
+#[cfg(test)]
+mod example;
+#[cfg(test)]
+mod fields;
+#[cfg(test)]
+mod model;
+#[cfg(test)]
+mod ranges;
+#[cfg(test)]
+mod tags;
+#[cfg(test)]
+mod values;

@@ -1,0 +1,3 @@
+//! Bounds of whole numbers.
+mod bounded;
+mod integers;

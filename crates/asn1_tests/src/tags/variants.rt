@@ -1,0 +1,179 @@
+//! Lists of tags, with a table or none.
+use super::A0_TWICE;
+use asn1_tags::{Class, Tag, TagTree, Variants, VariantsError};
+use std::alloc::{AllocError, Global};
+use std::process::Abort;
+
+fn assert_tags(rt: &impl Abort, variants: Variants, tags: &[Tag]) {
+    assert!(rt; variants.as_slice() == tags);
+}
+
+fn assert_variants(rt: &impl Abort, alloc: Global, nodes: &[TagTree<'_>], tags: &[Tag]) {
+    assert_tags(
+        rt,
+        Variants::from_slice(alloc, nodes).expect(rt, "memory"),
+        tags,
+    );
+    let variants = Variants::new(alloc, nodes).expect(rt, "memory");
+    assert_tags(rt, variants.try_clone(alloc).expect(rt, "memory"), tags);
+    assert_tags(rt, variants, tags);
+}
+
+#[test]
+fn variants_are_the_leaves_from_the_left(rt: HostRuntime) {
+    let alloc = rt.alloc();
+    let nodes = [TagTree::Leaf(Tag::INTEGER), TagTree::Choice(A0_TWICE)];
+    let tags = [
+        Tag::INTEGER,
+        Tag::new_application(0),
+        Tag::new_application(0),
+        Tag::new_context(2),
+    ];
+    assert_variants(&rt, alloc, &nodes, &tags);
+    assert_tags(
+        &rt,
+        Variants::from_static(alloc, A0_TWICE).expect(&rt, "memory"),
+        &tags[1..],
+    );
+    assert_tags(&rt, Variants::empty(alloc), &[]);
+}
+
+const C0: Tag = Tag {
+    class: Class::Context,
+    value: 0,
+};
+
+const C0_U3_U3: &[TagTree<'static>] = &[
+    TagTree::Leaf(C0),
+    TagTree::Leaf(Tag::BIT_STRING),
+    TagTree::Leaf(Tag::BIT_STRING),
+];
+
+const FITTING: &[(Tag, usize)] = &[(Tag::BIT_STRING, 1), (Tag::BIT_STRING, 2), (C0, 0)];
+
+const U5_C0_U1_U4: &[TagTree<'static>] = &[
+    TagTree::Leaf(Tag::NULL),
+    TagTree::Leaf(C0),
+    TagTree::Leaf(Tag::BOOL),
+    TagTree::Leaf(Tag::OCTET_STRING),
+];
+
+const OF_FOUR: &[(Tag, usize)] = &[
+    (Tag::BOOL, 2),
+    (Tag::OCTET_STRING, 3),
+    (Tag::NULL, 0),
+    (C0, 1),
+];
+
+fn copied(rt: &impl Abort, alloc: Global, entries: &[(Tag, usize)]) -> Vec<(Tag, usize)> {
+    Vec::from_slice(alloc, entries).expect(rt, "memory")
+}
+
+// The tag has that first place, which takes so many comparisons to find.
+fn assert_found(
+    rt: &impl Abort,
+    variants: &Variants,
+    tag: Tag,
+    place: Option<usize>,
+    count: usize,
+) {
+    assert!(rt; variants.find_counted(&tag) == (place, count));
+    assert!(rt; variants.position_of(&tag) == place);
+}
+
+// The table fails first at the index.
+fn assert_mismatch(rt: &impl Abort, alloc: Global, entries: &[(Tag, usize)], index: usize) {
+    let table = copied(rt, alloc, entries);
+    match Variants::with_table(alloc, C0_U3_U3, table) {
+        Ok(_) => assert!(rt; false),
+        Err(error) => assert!(rt; error == VariantsError::TableMismatch(index)),
+    }
+}
+
+#[test]
+fn a_table_that_does_not_fit_is_refused(rt: HostRuntime) {
+    let alloc = rt.alloc();
+    let u3 = Tag::BIT_STRING;
+    assert_mismatch(&rt, alloc, &[(u3, 1), (u3, 2)], 2);
+    assert_mismatch(&rt, alloc, &[(u3, 1), (u3, 2), (C0, 0), (C0, 0)], 3);
+    assert_mismatch(&rt, alloc, &[(u3, 1), (u3, 1), (C0, 0)], 1);
+    assert_mismatch(&rt, alloc, &[(u3, 1), (u3, 3), (C0, 0)], 1);
+    assert_mismatch(&rt, alloc, &[(u3, 2), (u3, 1), (C0, 0)], 1);
+    assert_mismatch(&rt, alloc, &[(u3, 0), (u3, 1), (C0, 2)], 0);
+    assert_mismatch(&rt, alloc, &[], 0);
+}
+
+fn assert_found_in_three(rt: &impl Abort, variants: &Variants) {
+    assert_found(rt, variants, Tag::BIT_STRING, Some(1), 2);
+    assert_found(rt, variants, C0, Some(0), 2);
+    assert_found(rt, variants, Tag::NULL, None, 2);
+}
+
+#[test]
+fn a_table_gives_the_first_place(rt: HostRuntime) {
+    let alloc = rt.alloc();
+    let table = copied(&rt, alloc, FITTING);
+    let variants = Variants::with_table(alloc, C0_U3_U3, table).expect(&rt, "a table that fits");
+    assert_found_in_three(&rt, &variants);
+    assert_found_in_three(&rt, &variants.try_clone(alloc).expect(&rt, "memory"));
+}
+
+#[test]
+fn a_table_of_four_takes_three_comparisons_at_most(rt: HostRuntime) {
+    let alloc = rt.alloc();
+    let table = copied(&rt, alloc, OF_FOUR);
+    let variants = Variants::with_table(alloc, U5_C0_U1_U4, table).expect(&rt, "a table that fits");
+    assert_found(&rt, &variants, Tag::OCTET_STRING, Some(3), 3);
+    assert_found(&rt, &variants, Tag::NULL, Some(0), 2);
+    assert_found(&rt, &variants, C0, Some(1), 2);
+    assert_found(&rt, &variants, Tag::BOOL, Some(2), 3);
+}
+
+#[test]
+fn a_list_without_a_table_is_searched_from_the_left(rt: HostRuntime) {
+    let alloc = rt.alloc();
+    let variants = Variants::new(alloc, C0_U3_U3).expect(&rt, "memory");
+    assert_found(&rt, &variants, Tag::BIT_STRING, Some(1), 2);
+    assert_found(&rt, &variants, Tag::NULL, None, 3);
+}
+
+// Asserts that the list, where there is memory for it, has all three.
+fn assert_whole(rt: &impl Abort, made: Result<Variants, AllocError>) {
+    if let Ok(variants) = made {
+        assert!(rt; variants.as_slice().len() == 3);
+    }
+}
+
+// Asserts that the list with a table, where there is memory for it, finds its tags, and its copy too.
+fn assert_table(rt: &impl Abort, alloc: Global, made: Result<Variants, VariantsError>) {
+    match made {
+        Ok(variants) => {
+            assert_found_in_three(rt, &variants);
+            assert_whole(rt, variants.try_clone(alloc));
+        }
+        Err(error) => assert!(rt; error == VariantsError::Memory),
+    }
+}
+
+// Also where an allocation fails: there are variants that are whole, or none.
+#[test]
+fn a_refused_growth_gives_no_variants(rt: HostRuntime) {
+    let alloc = rt.alloc();
+    assert_whole(&rt, Variants::new(alloc, C0_U3_U3));
+    if let Ok(table) = Vec::from_slice(alloc, FITTING) {
+        assert_table(&rt, alloc, Variants::with_table(alloc, C0_U3_U3, table));
+    }
+}
+
+// What the error prints.
+fn assert_error_text(rt: &impl Abort, alloc: Global, error: VariantsError, text: &str) {
+    assert!(rt; error.to_string(alloc).expect(rt, "memory").as_str() == text);
+}
+
+#[test]
+fn errors_say_what_is_wrong(rt: HostRuntime) {
+    let alloc = rt.alloc();
+    assert_error_text(&rt, alloc, VariantsError::Memory, "no memory");
+    let mismatch = VariantsError::TableMismatch(7);
+    assert_error_text(&rt, alloc, mismatch, "table entry 7 does not fit");
+}

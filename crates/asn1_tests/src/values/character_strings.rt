@@ -1,0 +1,122 @@
+//! Character strings and their alphabets.
+use asn1_values::kind::{Ia5, Numeric, Printable, Visible};
+use asn1_values::{
+    Alphabet, AlphabetError, AlphabetString, BmpString, GeneralString, GraphicString, Ia5String,
+    NumericString, PrintableString, StringUnit, TeletexString, UnitString, VisibleString,
+};
+use std::alloc::Global;
+use std::process::Abort;
+
+/// Asserts that of all units the alphabet has the characters of the text, and no others.
+fn assert_characters<A: Alphabet<u8>>(rt: &impl Abort, text: &[u8]) {
+    for unit in 0..=u8::MAX {
+        assert!(rt; A::allows(&unit) == text.contains(&unit), "unit {unit}");
+    }
+}
+
+#[test]
+fn alphabets_are_the_tables(rt: HostRuntime) {
+    assert_characters::<Visible>(
+        &rt,
+        b" !\"#$%&'()*+,-./0123456789:;<=>?@ABCDEFGHIJKLMNOPQRSTUVWXYZ[\\]^_`abcdefghijklmnopqrstuvwxyz{|}~",
+    );
+    assert_characters::<Numeric>(&rt, b"0123456789 ");
+    assert_characters::<Printable>(
+        &rt,
+        b"ABCDEFGHIJKLMNOPQRSTUVWXYZabcdefghijklmnopqrstuvwxyz0123456789 '()+,-./:=?",
+    );
+}
+
+#[test]
+fn ia5_is_ascii(rt: HostRuntime) {
+    for unit in 0..=u8::MAX {
+        assert!(rt; Ia5::allows(&unit) == (unit < 128), "unit {unit}");
+    }
+}
+
+fn own<U: Copy>(rt: &impl Abort, alloc: Global, units: &[U]) -> Vec<U> {
+    Vec::from_slice(alloc, units).expect(rt, "memory")
+}
+
+/// Asserts that no string was made, for the unit with this index.
+fn assert_refused<A: Alphabet<u8> + Drop>(
+    rt: &impl Abort,
+    made: Result<AlphabetString<u8, A>, AlphabetError>,
+    index: usize,
+) {
+    assert!(rt; made.err() == Some(AlphabetError(index)));
+}
+
+#[test]
+fn names_the_first_unit_that_is_not_allowed(rt: HostRuntime) {
+    let alloc = rt.alloc();
+    assert_refused(&rt, PrintableString::new(own(&rt, alloc, b"A*")), 1);
+    assert_refused(&rt, NumericString::new(own(&rt, alloc, b"1 2x3y")), 3);
+    assert_refused(&rt, VisibleString::new(own(&rt, alloc, b"\x1f~\x7f")), 0);
+    assert_refused(&rt, Ia5String::new(own(&rt, alloc, b"\x00\x7f\x80")), 2);
+}
+
+/// Asserts that the string was made, and gives these units back.
+fn assert_allowed<A: Alphabet<u8> + Drop>(
+    rt: &impl Abort,
+    made: Result<AlphabetString<u8, A>, AlphabetError>,
+    units: &[u8],
+) {
+    let text = made.expect(rt, "an allowed text");
+    assert!(rt; text.as_slice() == units);
+    assert!(rt; text.into_vec().as_slice() == units);
+}
+
+/// Asserts that the string gives these units back.
+fn assert_units<U: StringUnit + Copy + PartialEq, K: Drop>(
+    rt: &impl Abort,
+    text: UnitString<U, K>,
+    units: &[U],
+) {
+    assert!(rt; text.as_slice() == units);
+    assert!(rt; text.into_vec().as_slice() == units);
+}
+
+#[test]
+fn strings_give_their_units_back(rt: HostRuntime) {
+    let alloc = rt.alloc();
+    assert_allowed(
+        &rt,
+        PrintableString::new(own(&rt, alloc, b"Ann (1)")),
+        b"Ann (1)",
+    );
+    assert_allowed(&rt, NumericString::try_from(Vec::new(alloc)), &[]);
+    assert_units(
+        &rt,
+        BmpString::new(own(&rt, alloc, &[0xd83d, 0xde00])),
+        &[0xd83d, 0xde00],
+    );
+    assert_units(
+        &rt,
+        TeletexString::new(own(&rt, alloc, &[u32::MAX])),
+        &[u32::MAX],
+    );
+    assert_units(
+        &rt,
+        GeneralString::new(own(&rt, alloc, &[0, 0xff])),
+        &[0, 0xff],
+    );
+    assert_units(
+        &rt,
+        GraphicString::from(own(&rt, alloc, &[0, 0xff])),
+        &[0, 0xff],
+    );
+}
+
+/// Asserts that the text is less than the other, which it does not equal.
+fn assert_less(rt: &impl Abort, alloc: Global, text: &[u8], other: &[u8]) {
+    let text = VisibleString::new(own(rt, alloc, text)).expect(rt, "an allowed text");
+    let other = VisibleString::new(own(rt, alloc, other)).expect(rt, "an allowed text");
+    assert!(rt; text < other && text != other);
+}
+
+#[test]
+fn strings_go_lexicographically(rt: HostRuntime) {
+    assert_less(&rt, rt.alloc(), b"Ann", b"Anna");
+    assert_less(&rt, rt.alloc(), b"Anna", b"Bob");
+}
