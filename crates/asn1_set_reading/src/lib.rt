@@ -2,13 +2,20 @@
 //!
 //! | Item | What it is |
 //! |---|---|
+//! | [`DecodeSet`] | a SET whose components are read, in whatever order they come |
+//! | [`read_set`] | such a SET |
 //! | [`read_choice`] | a CHOICE under a tag, or untagged |
 //! | [`read_set_of`] | a SET OF, in whatever order its elements come; [`decode_set_of`] is the same as a type's own entry point |
 #![tactic(auto, using(asn1_tags::proofs::Leaves::tree_shapes))]
 
 mod choices;
+mod decode_set;
 mod elements;
+mod fields;
 mod set_of;
+mod sets;
 
 pub use choices::read_choice;
+pub use decode_set::DecodeSet;
 pub use set_of::{decode_set_of, read_set_of};
+pub use sets::read_set;
