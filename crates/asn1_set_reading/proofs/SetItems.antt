@@ -85,7 +85,7 @@ IsAll cs v i = is_mark i.1 ≡ false → written_of cs v i.0 ≡ i.1 ∷ []
 abbrev AllOf : List Record → Record → Type 0
 AllOf rs r = is_mark r ≡ false → rs ≡ r ∷ []
 
-pub nothing : (rs : List Record) → length rs ≡ 0 → rs ≡ []
+pub nothing : {X : Type 0} (rs : List X) → length rs ≡ 0 → rs ≡ []
 nothing [] h = refl
 nothing (r ∷ rs) h = absurd (omega arith)
 

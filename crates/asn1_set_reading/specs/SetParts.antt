@@ -1,9 +1,11 @@
 -- The components of a SET, as they are read: one by one, in whatever order.
-use Rattle.std.specs.Prelude.{◌≢◌, ℕ, zero, suc, ◌≤◌, ◌==◌, ⊤, List, [], ◌∷◌, All, if◌then◌else◌}
+use Rattle.std.specs.Prelude.{◌≡◌, ◌≢◌, ℕ, zero, suc, ◌≤◌, ◌==◌, ⊤, Bool, true, List, [], ◌∷◌, All, Result, MatchResult, if◌then◌else◌}
 use Rattle.std.specs.List.{count_by}
-use Rattle.asn1_components.specs.ComponentLists.{AreDistinctInSet, EachCanStandInside}
+use Rattle.asn1_components.specs.ComponentLists.{AreDistinctInSet, EachCanStandInside, EachIsOfType, EachIsValid}
 use Rattle.asn1_components.specs.ComponentTypes.{ComponentType}
-use Rattle.asn1_dec.specs.Reading.{records_in}
+use Rattle.asn1_dec.specs.Reading.{Ahead, Reader, ReadsBack, records_in}
+use Rattle.asn1_dec.specs.declared.error.DecodeError.{DecodeError}
+use Rattle.asn1_dec.specs.declared.error.DecodeError.TheVariants.{Memory}
 use Rattle.asn1_model.specs.Records.{Record, is_mark}
 use Rattle.asn1_model.specs.Tags.{Has, tree_tags}
 use Rattle.asn1_tags.specs.declared.tags.Tag.{Tag}
@@ -45,3 +47,16 @@ pub record ArePartsOf {V P : Type 0} (cs : List (ComponentType V)) (v : V) (inde
   pub each : All IsPart parts
   pub none_twice : (k : ℕ) → parts_at index_of k parts ≤ 1
   pub complete : (k : ℕ) → written_of cs v k ≢ [] → parts_at index_of k parts ≢ 0
+
+module _ {V P : Type 0} (cs : List (ComponentType V)) (index_of : P → ℕ) (IsPartOf : V → P → Type 0) where
+  -- A call that reads the component of this index of a valid value, where it is there, without its presence mark: the part is
+  -- that component.
+  abbrev pub ReadsPart : {D : Type 0} → Reader D → ℕ → D → D → Result P DecodeError → Type 0
+  ReadsPart R index old new result =
+      (v : V) (rest : List Record) (outer : Ahead) → EachCanStandInside cs → EachIsOfType cs v → EachIsValid cs R.takes v → written_of cs v index ≢ [] →
+      ReadsBack R old new (written_of cs v index) rest outer (λ part. (index_of part ≡ index) × IsPartOf v part) result
+
+  -- A call that makes a value of parts: of those of a value it makes one that is equal, and fails only for want of memory.
+  abbrev pub MakesValue : (V → V → Bool) → List P → Result V DecodeError → Type 0
+  MakesValue eq parts result =
+      (v : V) → ArePartsOf cs v index_of (IsPartOf v) parts → MatchResult result (λ w. eq w v ≡ true) (λ e. e ≡ Memory)

@@ -1,11 +1,9 @@
 //! SET types that are read.
-ghost use Rattle.asn1_components.specs.ComponentLists.{EachCanStandInside, EachIsOfType, EachIsValid};
+ghost use Rattle.asn1_components.specs.ComponentLists.{EachCanStandInside};
 ghost use Rattle.asn1_components.specs.Components.{all_components};
-ghost use Rattle.asn1_dec.specs.Reading.{Ahead, ReadsBack};
-ghost use Rattle.asn1_dec.specs.declared.error.DecodeError.TheVariants.{Memory, UnknownField};
-ghost use Rattle.asn1_model.specs.Records.{Record};
-ghost use Rattle.asn1_set_reading.specs.SetParts.{ArePartsOf, EachIsOneRecord, written_of};
-ghost use Rattle.std.specs.Prelude.{◌≡◌, ◌≢◌, ◌≤◌, [], Err, List, MatchResult, OnOk, length, true, ℕ};
+ghost use Rattle.asn1_dec.specs.declared.error.DecodeError.TheVariants.{UnknownField};
+ghost use Rattle.asn1_set_reading.specs.SetParts.{EachIsOneRecord, MakesValue, ReadsPart};
+ghost use Rattle.std.specs.Prelude.{◌≡◌, ◌≤◌, Err, OnOk, length, ℕ};
 
 use asn1_components::FieldTable;
 use asn1_dec::{DecodeError, Decoder};
@@ -34,7 +32,7 @@ pub trait DecodeSet: FieldTable + Eq + Sized + Drop {
         index: usize,
         tag: Tag,
     ) -> Result<Self::Part, DecodeError>
-        ensures read { (v : Self) (rest : List Record) (outer : Ahead) → EachCanStandInside (all_components Self.components) → EachIsOfType (all_components Self.components) v → EachIsValid (all_components Self.components) D.reader.takes v → written_of (all_components Self.components) v index ≢ [] → ReadsBack D.reader decoder.old decoder.new (written_of (all_components Self.components) v index) rest outer (λ part. (index_of part ≡ index) × is_part_of v part) result }
+        ensures read { ReadsPart (all_components Self.components) index_of is_part_of D.reader index decoder.old decoder.new result }
         ensures unknown { length (all_components Self.components) ≤ index → result ≡ Err (UnknownField index tag) }
         ensures same_allowance { OnOk result (D.reader.allowance decoder.new ≡ D.reader.allowance decoder.old) };
 
@@ -42,7 +40,7 @@ pub trait DecodeSet: FieldTable + Eq + Sized + Drop {
     /// of memory. Where a part's component came before, the error is [`DecodeError::DuplicateField`], and where one is missing that
     /// is always there, [`DecodeError::MissingField`].
     fn from_fields(alloc: Global, parts: Vec<Self::Part>) -> Result<Self, DecodeError>
-        ensures made { (v : Self) → ArePartsOf (all_components Self.components) v index_of (is_part_of v) parts.items → MatchResult result (λ w. Self.eq w v ≡ true) (λ e. e ≡ Memory) };
+        ensures { MakesValue (all_components Self.components) index_of is_part_of Self.eq parts.items result };
 
     // The law: no component is a group.
     ghost one_record_each: { (v : Self) → EachCanStandInside (all_components Self.components) → EachIsOneRecord (all_components Self.components) v };

@@ -11,11 +11,14 @@
 mod choices;
 mod decode_set;
 mod elements;
+pub mod examples;
 mod fields;
 mod set_of;
 mod sets;
+mod slots;
 
 pub use choices::read_choice;
 pub use decode_set::DecodeSet;
 pub use set_of::{decode_set_of, read_set_of};
 pub use sets::read_set;
+pub use slots::keep_once;
