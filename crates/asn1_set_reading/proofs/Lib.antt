@@ -7,3 +7,4 @@ pub mod Rearrangements
 pub mod SetItems
 pub mod SetMidway
 pub mod SlotLaws
+pub mod TwoComponents
