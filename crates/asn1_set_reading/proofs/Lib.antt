@@ -1,3 +1,10 @@
 pub mod Bags
 pub mod Chosen
+pub mod ComponentTags
+pub mod ConstructedSets
+pub mod ReadParts
 pub mod Rearrangements
+pub mod SetItems
+pub mod SetMidway
+pub mod SlotLaws
+pub mod TwoComponents

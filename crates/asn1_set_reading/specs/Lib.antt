@@ -1,0 +1,3 @@
+pub mod BadgeParts
+pub mod OneRecordEach
+pub mod SetParts
