@@ -2,11 +2,12 @@
 ghost use Rattle.asn1_choices.specs.Alternatives.{CanBeChosen, Each, HaveDistinctTags, all_of, chosen_meaning};
 ghost use Rattle.asn1_choices.specs.ChosenTags.{chosen_tag};
 ghost use Rattle.asn1_components.specs.ComponentLists.{CanBeInSequence, EachIsOfType, EachIsValid, trees_of};
-ghost use Rattle.asn1_components.specs.Components.{all_components, component_records, is_sequence};
+ghost use Rattle.asn1_components.specs.Components.{all_components, component_records, is_sequence, is_set};
 ghost use Rattle.asn1_dec.specs.Reading.{Ahead, Enters, IsLawful, IsNextTag, Keeps, Leaves, Moves, NeedsAllowance, Opens, OpensSet, Reader, ReadsBack, ReadsContent, ReadsDefault, ReadsOption, ReadsOptionAfterTag, ReadsValue, Stays, TellsMore, TellsPresence, marks_passed, records_in};
+ghost use Rattle.asn1_dec.specs.SetParts.{CanBeInSet};
 ghost use Rattle.asn1_enumerations.specs.Enumerations.{number_of};
 ghost use Rattle.asn1_enumerations.specs.Labels.{HasNumber};
-ghost use Rattle.asn1_model.specs.Composites.{alternative_records, group_records, list_records, prefix_records, sequence_records};
+ghost use Rattle.asn1_model.specs.Composites.{alternative_records, group_records, list_records, prefix_records, sequence_records, set_of_records, set_records};
 ghost use Rattle.asn1_model.specs.ConstraintSets.{ConstraintSet, constraint_set, unconstrained};
 ghost use Rattle.asn1_model.specs.Meaning.{CanStandInside, own_records};
 ghost use Rattle.asn1_model.specs.Records.{Name, Record, absent, alternative, arcs, bits, bmp, discriminant, general, graphic, group_absent, group_end, group_start, ia5, mark, marks_alone, null, number, numeric, octet, prefix, present, printable, raw, sequence, sequence_of, set, set_of, teletex, truth, units, utf8, visible};
@@ -21,17 +22,21 @@ ghost use Rattle.std.specs.Prelude.{◌≡◌, ◌≤◌, ◌<◌, ◌^◌, [], 
 ghost use Rattle.std.specs.Str.{IsUtf8};
 ghost use Rattle.std.specs.String.{string_bytes};
 
+use crate::choices::read_choice;
 use crate::decode::{Decode, DecodeChoice, DecodeFields};
+use crate::decode_set::DecodeSet;
 use crate::defaults::or_default;
 use crate::elements::read_elements;
 use crate::error::DecodeError;
 use crate::sequences::read_sequence;
+use crate::sets::read_set;
+use crate::sets_of::read_set_of;
 use asn1_bounds::{Codec, Constraints};
-use asn1_choices::Choice;
+use asn1_choices::{Choice, ChoiceType};
 use asn1_components::{ConstructedType, FieldTable};
 use asn1_enumerations::{Enumerated, EnumeratedTable};
 use asn1_tags::{Tag, TagTree};
-use asn1_types::Any;
+use asn1_types::{Any, SetOf};
 use asn1_values::{
     BitString, BmpString, GeneralString, GraphicString, Ia5String, IntegerType, NumericString,
     ObjectIdentifier, PrintableString, TeletexString, VisibleString,
@@ -686,5 +691,49 @@ pub trait Decoder {
         };
         self.close()?;
         Ok(value)
+    }
+
+    /// A CHOICE under a tag: the same as `decode_choice` under the tag that stands for none, and else after the tag, with its own
+    /// constraints inside (X.680, 31.2.7).
+    final fn decode_choice_with_tag<T: DecodeChoice + ChoiceType>(
+        &mut self,
+        tag: Tag,
+        constraints: &Constraints<'_>,
+    ) -> Result<T, DecodeError>
+    where
+        Self: Sized,
+        ensures read { ReadsValue reader T.meaning T.eq tag (constraint_set constraints.now) self.old self.new result }
+        ensures keeps { Keeps reader self.old self.new result }
+    {
+        read_choice(self, tag, constraints)
+    }
+
+    /// A SET OF, by its elements, in whatever order they come.
+    final fn decode_set_of<T: Decode>(
+        &mut self,
+        tag: Tag,
+        constraints: &Constraints<'_>,
+    ) -> Result<SetOf<T>, DecodeError>
+    where
+        Self: Sized,
+        ensures read { (vs : List T) (n : Name) (rest : List Record) (outer : Ahead) → CanStandInside T.meaning → All T.meaning.IsOfType vs → All (T.meaning.IsValid reader.takes) vs → ReadsBack reader self.old self.new (set_of_records tag (constraint_set constraints.now) n (flat_map (own_records T.meaning) vs)) rest outer (λ w. ⟦<SetOf<T> as PartialEq>⟧.eq w vs ≡ true) result }
+        ensures keeps { Keeps reader self.old self.new result }
+    {
+        read_set_of(self, tag, constraints)
+    }
+
+    /// A SET, by its components, in whatever order they come. Of a type that is one it reads a value of the type, under whatever
+    /// constraints. A record whose tag no component has is refused with [`DecodeError::UnknownField`], by its place.
+    final fn decode_set<S: DecodeSet + ConstructedType>(
+        &mut self,
+        tag: Tag,
+    ) -> Result<S, DecodeError>
+    where
+        Self: Sized,
+        ensures components { (v : S) (n : Name) (rest : List Record) (outer : Ahead) → CanBeInSet (all_components S.components) → EachIsOfType (all_components S.components) v → EachIsValid (all_components S.components) reader.takes v → ReadsBack reader self.old self.new (set_records tag n (component_records S.components v)) rest outer (λ w. S.eq w v ≡ true) result }
+        ensures as_meant { S.components.kind ≡ is_set → (c : ConstraintSet) → ReadsValue reader S.meaning S.eq tag c self.old self.new result }
+        ensures keeps { Keeps reader self.old self.new result }
+    {
+        read_set(self, tag)
     }
 }

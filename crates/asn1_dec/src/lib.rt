@@ -41,17 +41,25 @@
 //! Calls that make values take memory, and those with constraints that have a permitted alphabet.
 #![tactic(auto)]
 
+mod choices;
 mod decode;
+mod decode_set;
 mod decoder;
 mod defaults;
 mod elements;
 mod error;
+mod fields;
 mod impls;
 pub mod laws;
 mod needed;
 mod sequences;
+mod sets;
+mod sets_of;
+mod slots;
 
 pub use decode::{Decode, DecodeChoice, DecodeFields};
+pub use decode_set::DecodeSet;
 pub use decoder::Decoder;
 pub use error::DecodeError;
 pub use needed::Needed;
+pub use slots::keep_once;

@@ -1,9 +1,10 @@
-//! Reading of lists of elements (X.680, 26).
+//! Reading of lists of elements (X.680, 26 and 28).
 use crate::decode::Decode;
 use crate::decoder::Decoder;
 use crate::error::DecodeError;
 use asn1_bounds::Constraints;
 use asn1_tags::Tag;
+use asn1_types::SetOf;
 
 impl<T: Decode> Decode for Vec<T> {
     fn decode_with_tag_and_constraints<D: Decoder>(
@@ -12,5 +13,15 @@ impl<T: Decode> Decode for Vec<T> {
         constraints: &Constraints<'_>,
     ) -> Result<Vec<T>, DecodeError> {
         decoder.decode_sequence_of(tag, constraints)
+    }
+}
+
+impl<T: Decode> Decode for SetOf<T> {
+    fn decode_with_tag_and_constraints<D: Decoder>(
+        decoder: &mut D,
+        tag: Tag,
+        constraints: &Constraints<'_>,
+    ) -> Result<SetOf<T>, DecodeError> {
+        decoder.decode_set_of(tag, constraints)
     }
 }

@@ -1,0 +1,25 @@
+-- A SET type, whose meaning is that of its components.
+use Rattle.std.proofs.Common.{◌≡◌, Bool, true, List, [], ◌∷◌, Result, ap, sym, ◌∙◌, subst}
+use Rattle.asn1_tags.specs.declared.tags.Tag.{Tag}
+use Rattle.asn1_components.specs.ComponentLists.{EachIsOfType, EachIsValid}
+use Rattle.asn1_components.specs.Components.{AgreesWithComponents, AreDistinctIn, Components, all_components, component_records, head_in, is_set}
+use Rattle.asn1_model.specs.Composites.{set_records}
+use Rattle.asn1_model.specs.ConstraintSets.{ConstraintSet}
+use Rattle.asn1_model.specs.Meaning.{Meaning}
+use Rattle.asn1_model.specs.Records.{Name, Record, holding}
+use Rattle.asn1_dec.specs.declared.error.DecodeError.{DecodeError}
+use Rattle.asn1_dec.specs.Reading.{Ahead, Reader, ReadsBack, ReadsValue}
+use Rattle.asn1_dec.specs.SetParts.{CanBeInSet}
+
+-- what reads the components reads a value of the type
+pub as_set : {D V : Type 0} (R : Reader D) (m : Meaning V) (components : Components V) (eq : V → V → Bool) (t : Tag) (c : ConstraintSet) (old new : D) (result : Result V DecodeError) →
+    AgreesWithComponents components m → components.kind ≡ is_set →
+    ((v : V) (n : Name) (rest : List Record) (outer : Ahead) → CanBeInSet (all_components components) → EachIsOfType (all_components components) v → EachIsValid (all_components components) R.takes v →
+    ReadsBack R old new (set_records t n (component_records components v)) rest outer (λ w. eq w v ≡ true) result) →
+    ReadsValue R m eq t c old new result
+as_set R m components eq t c old new result agrees kind reads v n rest outer tagged of_type valid follow =
+    let together = ((agrees.well_tagged t).0 tagged).1 in
+    let distinct = subst (λ k. AreDistinctIn k (all_components components)) kind together.2 in
+    subst (λ rs. ReadsBack R old new rs rest outer (λ w. eq w v ≡ true) result)
+    (sym (agrees.records v t c n ∙ ap (λ k. holding (head_in k t n) (component_records components v) ∷ []) kind))
+    (reads v n rest outer (together.0, distinct) ((agrees.of_type v).0 of_type) ((agrees.valid R.takes v).0 valid))

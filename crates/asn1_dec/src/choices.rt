@@ -1,0 +1,32 @@
+//! A CHOICE under whatever tag.
+ghost use Rattle.asn1_dec.specs.Reading.{Keeps, ReadsValue};
+ghost use Rattle.asn1_model.specs.ConstraintSets.{constraint_set};
+
+use crate::decode::DecodeChoice;
+use crate::decoder::Decoder;
+use crate::error::DecodeError;
+use asn1_bounds::Constraints;
+use asn1_choices::ChoiceType;
+use asn1_tags::Tag;
+
+/// A CHOICE under a tag: untagged under the tag that stands for none, and else after the tag, with its own constraints inside
+/// (X.680, 31.2.7).
+pub(crate) fn read_choice<T: DecodeChoice + ChoiceType, D: Decoder>(
+    decoder: &mut D,
+    tag: Tag,
+    constraints: &Constraints<'_>,
+) -> Result<T, DecodeError>
+    ensures read { ReadsValue D.reader T.meaning T.eq tag (constraint_set constraints.now) decoder.old decoder.new result }
+    ensures keeps { Keeps D.reader decoder.old decoder.new result }
+{
+    if tag.is_choice() {
+        return decoder.decode_choice(constraints);
+    }
+    decoder.open_explicit_prefix(tag)?;
+    let Ok(own_constraints) = T::constraints(decoder.global()) else {
+        return Err(decoder.refuse(DecodeError::Memory));
+    };
+    let value = decoder.decode_choice(&own_constraints)?;
+    decoder.close()?;
+    Ok(value)
+}

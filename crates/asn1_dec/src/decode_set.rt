@@ -1,0 +1,48 @@
+//! SET types that are read.
+ghost use Rattle.asn1_components.specs.ComponentLists.{EachCanStandInside};
+ghost use Rattle.asn1_components.specs.Components.{all_components};
+ghost use Rattle.asn1_dec.specs.declared.error.DecodeError.TheVariants.{UnknownField};
+ghost use Rattle.asn1_dec.specs.SetParts.{EachIsOneRecord, MakesValue, ReadsPart};
+ghost use Rattle.std.specs.Prelude.{◌≡◌, ◌≤◌, Err, OnOk, length, ℕ};
+
+use crate::decoder::Decoder;
+use crate::error::DecodeError;
+use asn1_components::FieldTable;
+use asn1_tags::Tag;
+use std::alloc::Global;
+
+/// A SET whose components are read, in whatever order they come: each by itself, and then all are put together.
+///
+/// A part is a component that was read. The type says which component it is, by its index in the definition, and when it is
+/// that of a value. A component that is absent has no part. None of the components is a group: a group is as many records as its
+/// components, which may stand anywhere among the others.
+pub trait DecodeSet: FieldTable + Eq + Sized + Drop {
+    /// A component that was read.
+    type Part: Drop;
+
+    // The index of the component that a part is.
+    ghost index_of: { Self.Part → ℕ };
+
+    // The part is this component of the value, or one that is equal.
+    ghost is_part_of: { Self → Self.Part → Type 0 };
+
+    /// Reads the component of an index, whose record begins with the tag. A presence mark before it was passed over. Where there
+    /// is no such component, the error is [`DecodeError::UnknownField`].
+    fn decode_field<D: Decoder>(
+        decoder: &mut D,
+        index: usize,
+        tag: Tag,
+    ) -> Result<Self::Part, DecodeError>
+        ensures read { ReadsPart (all_components Self.components) index_of is_part_of D.reader index decoder.old decoder.new result }
+        ensures unknown { length (all_components Self.components) ≤ index → result ≡ Err (UnknownField index tag) }
+        ensures same_allowance { OnOk result (D.reader.allowance decoder.new ≡ D.reader.allowance decoder.old) };
+
+    /// The value of these parts, in whatever order they are. Of all parts of a value it makes an equal one, and fails only for want
+    /// of memory. Where a part's component came before, the error is [`DecodeError::DuplicateField`], and where one is missing that
+    /// is always there, [`DecodeError::MissingField`].
+    fn from_fields(alloc: Global, parts: Vec<Self::Part>) -> Result<Self, DecodeError>
+        ensures { MakesValue (all_components Self.components) index_of is_part_of Self.eq parts.items result };
+
+    // The law: no component is a group.
+    ghost one_record_each: { (v : Self) → EachCanStandInside (all_components Self.components) → EachIsOneRecord (all_components Self.components) v };
+}

@@ -1,0 +1,30 @@
+//! The component that begins with a tag.
+ghost use Rattle.asn1_components.specs.Components.{all_components};
+ghost use Rattle.asn1_model.specs.Tags.{Has, tree_tags};
+ghost use Rattle.asn1_dec.specs.SetParts.{CanBeginWith};
+ghost use Rattle.asn1_tags.specs.Trees.{shape};
+ghost use Rattle.std.specs.Prelude.{◌↔◌, IsTrue, MatchOption, ℕ};
+
+use asn1_components::FieldTable;
+use asn1_tags::{Tag, TagTree};
+
+/// Whether what has this tree can begin with the tag.
+fn can_begin_with(tree: TagTree<'static>, tag: Tag) -> bool
+    ensures { IsTrue result ↔ Has (tree_tags (shape tree.entry)) tag }
+{
+    tree.has_empty_choice() || TagTree::tag_contains(&tag, &[tree])
+}
+
+/// The index of a component that can begin with the tag; `None` where there is none.
+pub(crate) fn component_with_tag<C: FieldTable>(tag: Tag) -> Option<usize>
+    ensures { MatchOption result ((k : ℕ) → CanBeginWith (all_components C.components) k tag → ⊥) (λ k. CanBeginWith (all_components C.components) k tag) }
+{
+    for place in 0..C::field_count() {
+        if let Some(field) = C::field_at(place) {
+            if can_begin_with(field.tag_tree, tag) {
+                return Some(field.index);
+            }
+        }
+    }
+    None
+}

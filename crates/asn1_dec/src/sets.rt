@@ -1,0 +1,76 @@
+//! A SET, by its components.
+ghost use Rattle.asn1_components.specs.ComponentLists.{EachIsOfType, EachIsValid};
+ghost use Rattle.asn1_components.specs.Components.{all_components, component_records, is_set};
+ghost use Rattle.asn1_dec.specs.Reading.{Ahead, Keeps, Moves, ReadsBack, ReadsValue, records_in};
+ghost use Rattle.asn1_model.specs.Composites.{set_records};
+ghost use Rattle.asn1_model.specs.ConstraintSets.{ConstraintSet};
+ghost use Rattle.asn1_model.specs.Records.{Name, Record, highest};
+ghost use Rattle.asn1_dec.specs.SetParts.{ArePartsOf, CanBeInSet};
+ghost use Rattle.std.specs.Prelude.{◌≡◌, ◌≤◌, IsPermutation, List, OnErr, OnOk, [], ◌∷◌, true};
+
+use crate::decode_set::DecodeSet;
+use crate::decoder::Decoder;
+use crate::error::DecodeError;
+use crate::fields::component_with_tag;
+use asn1_components::ConstructedType;
+use asn1_tags::Tag;
+
+/// The components that are left in the innermost scope, of which there are at most so many records.
+fn read_parts<S: DecodeSet, D: Decoder>(
+    decoder: &mut D,
+    bound: usize,
+) -> Result<Vec<S::Part>, DecodeError>
+    ensures read { (v : S) (items : List Record) (next : List Record) (outer : Ahead) → CanBeInSet (all_components S.components) → EachIsOfType (all_components S.components) v → EachIsValid (all_components S.components) D.reader.takes v → IsPermutation items (component_records S.components v) → records_in items ≤ bound → Moves D.reader decoder.old decoder.new (highest items) (items ∷ next ∷ outer) ([] ∷ next ∷ outer) (λ parts. ArePartsOf (all_components S.components) v S.index_of (S.is_part_of v) parts.items) result }
+    ensures same_allowance { OnOk result (D.reader.allowance decoder.new ≡ D.reader.allowance decoder.old) }
+    ensures failing { OnErr result (D.reader.failed decoder.new ≡ true) }
+{
+    let mut parts = Vec::new(decoder.global());
+    for place in 0..bound {
+        let tag = match decoder.next_component()? {
+            Some(tag) => tag,
+            None => return Ok(parts),
+        };
+        let index = match component_with_tag::<S>(tag) {
+            Some(index) => index,
+            None => return Err(decoder.refuse(DecodeError::UnknownField { index: place, tag })),
+        };
+        let part = match S::decode_field(decoder, index, tag) {
+            Ok(part) => part,
+            Err(error) => return Err(decoder.refuse(error)),
+        };
+        match parts.push(part) {
+            Ok(()) => {}
+            Err(_) => return Err(decoder.refuse(DecodeError::Memory)),
+        }
+    }
+    let _ = decoder.next_component()?;
+    Ok(parts)
+}
+
+/// A SET under a tag.
+fn read_components<S: DecodeSet, D: Decoder>(decoder: &mut D, tag: Tag) -> Result<S, DecodeError>
+    ensures read { (v : S) (n : Name) (rest : List Record) (outer : Ahead) → CanBeInSet (all_components S.components) → EachIsOfType (all_components S.components) v → EachIsValid (all_components S.components) D.reader.takes v → ReadsBack D.reader decoder.old decoder.new (set_records tag n (component_records S.components v)) rest outer (λ w. S.eq w v ≡ true) result }
+    ensures keeps { Keeps D.reader decoder.old decoder.new result }
+{
+    let bound = decoder.open_set::<S>(tag)?;
+    let parts = read_parts::<S, D>(decoder, bound)?;
+    let value = match S::from_fields(decoder.global(), parts) {
+        Ok(value) => value,
+        Err(error) => return Err(decoder.refuse(error)),
+    };
+    decoder.close()?;
+    Ok(value)
+}
+
+/// A SET, by its components, in whatever order they come. Of a type that is one it reads a value of the type, under whatever
+/// constraints. A record whose tag no component has is refused with [`DecodeError::UnknownField`], by its place.
+pub(crate) fn read_set<S: DecodeSet + ConstructedType, D: Decoder>(
+    decoder: &mut D,
+    tag: Tag,
+) -> Result<S, DecodeError>
+    ensures components { (v : S) (n : Name) (rest : List Record) (outer : Ahead) → CanBeInSet (all_components S.components) → EachIsOfType (all_components S.components) v → EachIsValid (all_components S.components) D.reader.takes v → ReadsBack D.reader decoder.old decoder.new (set_records tag n (component_records S.components v)) rest outer (λ w. S.eq w v ≡ true) result }
+    ensures as_meant { S.components.kind ≡ is_set → (c : ConstraintSet) → ReadsValue D.reader S.meaning S.eq tag c decoder.old decoder.new result }
+    ensures keeps { Keeps D.reader decoder.old decoder.new result }
+{
+    read_components(decoder, tag)
+}

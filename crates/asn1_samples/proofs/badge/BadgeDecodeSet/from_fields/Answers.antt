@@ -1,0 +1,76 @@
+use Rattle.std.proofs.Common.{◌≡◌, ap, refl, sym, arith, length, eqb, eq-eqb}
+use Rattle.std.proofs.lemmas.Bool.{and_from}
+use Rattle.std.specs.Cmp.Lexicographic.{pointwise}
+use Rattle.std.specs.Prelude.{◌==◌}
+use Rattle.std.specs.Vec.Iter.{into_iter_items}
+use Rattle.asn1_dec.specs.BadgeParts.{badge_index, label_type}
+use Rattle.asn1_dec.specs.declared.examples.badge.BadgePart.TheVariants.{Id, Label, Figure}
+use Rattle.asn1_dec.proofs.SlotLaws.{none_yet, one_on, kept, passed, not_again, at_end, is_absent, is_component, optional_slot}
+use Rattle.asn1_dec.proofs.examples.badge.BadgeDecodeSet.from_fields.Goals as goal
+
+pub loop-part-init : goal.loop-part-init
+loop-part-init c = record {
+  all = sym c.into_iter-part-iterator.ensures.into_iter_gives.0;
+  id = none_yet badge_index 0 Id;
+  label = none_yet badge_index 1 Label;
+  shape = none_yet badge_index 2 Figure;
+}
+
+pub loop-part-preserved-in-Continue-1 : goal.loop-part-preserved-in-Continue-1
+loop-part-preserved-in-Continue-1 c = record {
+  all = one_on c.args.parts.items c.loop-part.yielded (into_iter_items c.loop-part.part-iterator) (into_iter_items c.next.new.self) c.in-Some.part c.loop-part.invariant.all c.in-Some.ensures.steps.0;
+  id = kept badge_index 0 Id c.keep_once.new.slot c.in-Id.value c.in-Some.part c.loop-part.invariant.id c.in_ok-keep_once-in-Id.ensures.kept.0 c.in_ok-keep_once-in-Id.ensures.kept.1 c.in-Id.is (ap (λ p. badge_index p == 0) c.in-Id.is);
+  label = passed badge_index 1 Label c.in-Some.part c.loop-part.invariant.label (ap (λ p. badge_index p == 1) c.in-Id.is);
+  shape = passed badge_index 2 Figure c.in-Some.part c.loop-part.invariant.shape (ap (λ p. badge_index p == 2) c.in-Id.is);
+}
+
+pub returns-in_err-keep_once-in-Id : goal.returns-in_err-keep_once-in-Id
+returns-in_err-keep_once-in-Id c = λ v are. absurd
+    (not_again badge_index 0 Id c.in-Some.part c.args.parts.items (into_iter_items c.next.new.self) c.loop-part.invariant.id c.in_err-keep_once-in-Id.ensures.twice.0 (ap (λ p. badge_index p == 0) c.in-Id.is)
+    (one_on c.args.parts.items c.loop-part.yielded (into_iter_items c.loop-part.part-iterator) (into_iter_items c.next.new.self) c.in-Some.part c.loop-part.invariant.all c.in-Some.ensures.steps.0) (are.none_twice 0))
+
+pub loop-part-preserved-in-Continue-branch-2 : goal.loop-part-preserved-in-Continue-branch-2
+loop-part-preserved-in-Continue-branch-2 c = record {
+  all = one_on c.args.parts.items c.loop-part.yielded (into_iter_items c.loop-part.part-iterator) (into_iter_items c.next.new.self) c.in-Some.part c.loop-part.invariant.all c.in-Some.ensures.steps.0;
+  id = passed badge_index 0 Id c.in-Some.part c.loop-part.invariant.id (ap (λ p. badge_index p == 0) c.in-Label.is);
+  label = kept badge_index 1 Label c.keep_once-in-Label.new.slot c.in-Label.value c.in-Some.part c.loop-part.invariant.label c.in_ok-keep_once-in-Label.ensures.kept.0 c.in_ok-keep_once-in-Label.ensures.kept.1 c.in-Label.is (ap (λ p. badge_index p == 1) c.in-Label.is);
+  shape = passed badge_index 2 Figure c.in-Some.part c.loop-part.invariant.shape (ap (λ p. badge_index p == 2) c.in-Label.is);
+}
+
+pub returns-in_err-keep_once-in-Label : goal.returns-in_err-keep_once-in-Label
+returns-in_err-keep_once-in-Label c = λ v are. absurd
+    (not_again badge_index 1 Label c.in-Some.part c.args.parts.items (into_iter_items c.next.new.self) c.loop-part.invariant.label c.in_err-keep_once-in-Label.ensures.twice.0 (ap (λ p. badge_index p == 1) c.in-Label.is)
+    (one_on c.args.parts.items c.loop-part.yielded (into_iter_items c.loop-part.part-iterator) (into_iter_items c.next.new.self) c.in-Some.part c.loop-part.invariant.all c.in-Some.ensures.steps.0) (are.none_twice 1))
+
+pub loop-part-preserved : goal.loop-part-preserved
+loop-part-preserved c = record {
+  all = one_on c.args.parts.items c.loop-part.yielded (into_iter_items c.loop-part.part-iterator) (into_iter_items c.next.new.self) c.in-Some.part c.loop-part.invariant.all c.in-Some.ensures.steps.0;
+  id = passed badge_index 0 Id c.in-Some.part c.loop-part.invariant.id (ap (λ p. badge_index p == 0) c.in-Figure.is);
+  label = passed badge_index 1 Label c.in-Some.part c.loop-part.invariant.label (ap (λ p. badge_index p == 1) c.in-Figure.is);
+  shape = kept badge_index 2 Figure c.keep_once-in-Figure.new.slot c.in-Figure.value c.in-Some.part c.loop-part.invariant.shape c.in_ok-keep_once-in-Figure.ensures.kept.0 c.in_ok-keep_once-in-Figure.ensures.kept.1 c.in-Figure.is (ap (λ p. badge_index p == 2) c.in-Figure.is);
+}
+
+pub returns-in_err-keep_once-in-Figure : goal.returns-in_err-keep_once-in-Figure
+returns-in_err-keep_once-in-Figure c = λ v are. absurd
+    (not_again badge_index 2 Figure c.in-Some.part c.args.parts.items (into_iter_items c.next.new.self) c.loop-part.invariant.shape c.in_err-keep_once-in-Figure.ensures.twice.0 (ap (λ p. badge_index p == 2) c.in-Figure.is)
+    (one_on c.args.parts.items c.loop-part.yielded (into_iter_items c.loop-part.part-iterator) (into_iter_items c.next.new.self) c.in-Some.part c.loop-part.invariant.all c.in-Some.ensures.steps.0) (are.none_twice 2))
+
+pub returns-in_default : goal.returns-in_default
+returns-in_default c = λ v are.
+    let id = at_end badge_index 0 Id c.args.parts.items (into_iter_items c.loop-part.part-iterator) c.loop-part.invariant.id c.loop-part.invariant.all (omega (arith, c.in-None.ensures.steps.0, c.loop-part.part-iterator.rest.ok.0)) in
+    absurd (is_absent badge_index 0 Id _ v _ _ are (rw c.in_default.is at id) refl)
+
+pub returns-in_default-shape : goal.returns-in_default-shape
+returns-in_default-shape c = λ v are.
+    let shape = at_end badge_index 2 Figure c.args.parts.items (into_iter_items c.loop-part.part-iterator) c.loop-part.invariant.shape c.loop-part.invariant.all (omega (arith, c.in-None.ensures.steps.0, c.loop-part.part-iterator.rest.ok.0)) in
+    absurd (is_absent badge_index 2 Figure _ v _ _ are (rw c.in_default-shape.is at shape) refl)
+
+pub returns : goal.returns
+returns c = λ v are.
+    let none = (let n : length (into_iter_items c.loop-part.part-iterator) ≡ 0 = omega (arith, c.in-None.ensures.steps.0, c.loop-part.part-iterator.rest.ok.0) in n) in
+    let id = at_end badge_index 0 Id c.args.parts.items (into_iter_items c.loop-part.part-iterator) c.loop-part.invariant.id c.loop-part.invariant.all none in
+    let label = at_end badge_index 1 Label c.args.parts.items (into_iter_items c.loop-part.part-iterator) c.loop-part.invariant.label c.loop-part.invariant.all none in
+    let shape = at_end badge_index 2 Figure c.args.parts.items (into_iter_items c.loop-part.part-iterator) c.loop-part.invariant.shape c.loop-part.invariant.all none in
+    and_from _ _ (eq-eqb c.in-Some-id.id v.id (is_component badge_index 0 Id _ v _ _ are c.in-Some-id.id (rw c.in-Some-id.is at id)))
+    (and_from _ _ (optional_slot badge_index 1 Label _ v _ _ are c.loop-part.label v.label label_type (pointwise eqb) label refl (λ x. refl) (λ x is. is))
+    (is_component badge_index 2 Figure _ v _ _ are c.in-Some-shape.shape (rw c.in-Some-shape.is at shape)))

@@ -1,0 +1,14 @@
+use Rattle.std.proofs.Common.{◌≡◌, ◌++◌}
+use Rattle.std.specs.Vec.Iter.{into_iter_items}
+use Rattle.asn1_dec.specs.BadgeParts.{badge_index}
+use Rattle.asn1_dec.specs.declared.examples.badge.BadgePart.TheVariants.{Id, Label, Figure}
+use Rattle.asn1_dec.proofs.SlotLaws.{Slot}
+use Rattle.asn1_dec.proofs.examples.badge.BadgeDecodeSet.from_fields.Given as goal
+
+abbrev pub invariant-loop-part : goal.invariant-loop-part
+invariant-loop-part l = record {
+  all : l.fn.parts.items ≡ l.yielded ++ into_iter_items l.part-iterator;
+  id : Slot badge_index 0 Id l.id l.yielded;
+  label : Slot badge_index 1 Label l.label l.yielded;
+  shape : Slot badge_index 2 Figure l.shape l.yielded;
+}

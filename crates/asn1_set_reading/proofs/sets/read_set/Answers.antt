@@ -1,6 +1,0 @@
-use Rattle.asn1_set_reading.proofs.ConstructedSets.{as_set}
-use Rattle.asn1_set_reading.proofs.sets.read_set.Goals as goal
-
-pub returns-clause-as_meant : goal.returns-clause-as_meant
-returns-clause-as_meant g c = λ kind constraints.
-    as_set g.D.Decoder.reader g.S.AsnType.meaning g.S.FieldTable.components g.S.PartialEq.eq c.args.tag constraints _ _ c.read_components.result g.met.S.ConstructedType.agrees kind c.read_components.ensures.read

@@ -1,3 +1,0 @@
-pub mod BadgeParts
-pub mod OneRecordEach
-pub mod SetParts
