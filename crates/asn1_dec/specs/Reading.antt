@@ -1,5 +1,5 @@
 -- Before what a decoder stands, and what a call of it does.
-use Rattle.std.specs.Prelude.{◌≡◌, ◌≢◌, ◌⊎◌, ℕ, suc, ◌≤◌, ◌<◌, Bool, true, false, List, [], ◌∷◌, ◌++◌, IsPermutation, Option, None, Some, IfSome, Result, Err, MatchResult, OnOk, OnErr, if◌then◌else◌}
+use Rattle.std.specs.Prelude.{◌≡◌, ◌≢◌, ◌⊎◌, ℕ, suc, ◌≤◌, ◌<◌, Bool, true, false, List, [], ◌∷◌, ◌++◌, IsPermutation, Option, None, Some, IfSome, IfErr, Result, Err, MatchResult, OnOk, OnErr, if◌then◌else◌}
 use Rattle.std.specs.Option.{option_eq, option_map}
 use Rattle.asn1_tags.specs.declared.tags.Tag.{Tag}
 use Rattle.asn1_model.specs.Composites.{default_records, option_records, prefix_records}
@@ -87,18 +87,22 @@ module _ {D : Type 0} (R : Reader D) where
       m.IsWellTagged t → m.IsOfType v → m.IsValid R.takes v → MayFollow m t (m.records v t c n) rest →
       ReadsBack old new (m.records v t c n) rest outer (λ w. eq w v ≡ true) result
 
-  -- The decoder has read past the records of a value of a type: where it was before those of a valid one, it is after them.
-  pub record HasReadPast {V : Type 0} (m : Meaning V) (t : Tag) (c : ConstraintSet) (old new : D) : Type 0 where
+  -- A type's own error, which is not one of depth, nor that of a failed decoder. The decoder has read past the records of a
+  -- value: where it was before those of a valid one, it is after them.
+  pub record HasReadPast {V : Type 0} (m : Meaning V) (t : Tag) (c : ConstraintSet) (old new : D) (result : Result V DecodeError) : Type 0 where
     pub same_allowance : R.allowance new ≡ R.allowance old
     pub at : (v : V) (n : Name) (rest : List Record) (outer : Ahead) →
         m.IsWellTagged t → m.IsOfType v → m.IsValid R.takes v → MayFollow m t (m.records v t c n) rest →
         R.stands old ((m.records v t c n ++ rest) ∷ outer) → R.stands new (rest ∷ outer)
+    pub not_too_deep : IfErr result (λ e. e ≢ Depth)
+    pub not_failed : IfErr result (λ e. e ≢ Failed)
 
   -- What a call leaves that reads a value of a type. After a success the allowance is as it was. An error makes the decoder
-  -- failed, or it is the type's own, and comes after the value's records were read.
+  -- failed, or it is the type's own. Where each value of the type is a record, a failed decoder answers so.
   pub record LeavesDecoder {V : Type 0} (m : Meaning V) (t : Tag) (c : ConstraintSet) (old new : D) (result : Result V DecodeError) : Type 0 where
     pub same_allowance : OnOk result (R.allowance new ≡ R.allowance old)
-    pub after_error : OnErr result (R.failed new ≡ true) ⊎ HasReadPast m t c old new
+    pub after_error : OnErr result (R.failed new ≡ true) ⊎ HasReadPast m t c old new result
+    pub refused : m.IsSingleRecord → R.failed old ≡ true → result ≡ Err Failed
 
   -- There was no memory for the type's own constraints, and the decoder is as it was.
   pub record HadNoMemory {V : Type 0} (old new : D) (result : Result V DecodeError) : Type 0 where
@@ -108,7 +112,8 @@ module _ {D : Type 0} (R : Reader D) where
   -- What a call leaves that makes the type's own constraints, and then reads a value.
   pub record LeavesDecoderWithOwnConstraints {V : Type 0} (m : Meaning V) (t : Tag) (old new : D) (result : Result V DecodeError) : Type 0 where
     pub same_allowance : OnOk result (R.allowance new ≡ R.allowance old)
-    pub after_error : OnErr result (R.failed new ≡ true) ⊎ (HasReadPast m t m.constraints old new ⊎ HadNoMemory old new result)
+    pub after_error : OnErr result (R.failed new ≡ true) ⊎ (HasReadPast m t m.constraints old new result ⊎ HadNoMemory old new result)
+    pub refused : m.IsSingleRecord → R.failed old ≡ true → (result ≡ Err Failed) ⊎ HadNoMemory old new result
 
   -- A call that reads a component that may be absent, which is written under this tag and begins with one of these tags, by
   -- the records of a value under any name. What follows one that is absent begins with none of its tags.

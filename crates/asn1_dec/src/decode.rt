@@ -23,10 +23,13 @@ use asn1_tags::Tag;
 /// any name, the answer is an equal value, and the decoder stands before what follows. It fails there only for want of memory,
 /// or where the records are higher than the allowance. What an entry point is not given is the type's own.
 ///
-/// A success leaves the allowance as it was. An error either makes the decoder failed, or is the type's own: then the allowance
-/// is as it was, and the decoder stands after the value's records, as after [`DecodeError::OutOfRange`] of a number outside its
-/// limits, [`DecodeError::IncorrectItemNumber`] of an array, and [`DecodeError::Memory`] of a box; or it is as it was, where
-/// there was no memory for the type's own constraints.
+/// A success leaves the allowance as it was. An error either makes the decoder failed, or is the type's own, which is neither
+/// [`DecodeError::Depth`] nor [`DecodeError::Failed`]: then the allowance is as it was, and the decoder, if it was before the
+/// records of a valid value, is after them, as where a box had no memory. Of other records an implementation says in clauses
+/// of its own what its error leaves: `LimitedInteger` of a number outside its limits (`out_of_range`), `Array` of a list of
+/// another length (`other_length`). Where there was no memory for the type's own constraints, the decoder is as it was.
+///
+/// Where each value of the type is a record, a decoder that has failed answers [`DecodeError::Failed`].
 pub trait Decode: AsnType + Eq + Sized + Drop {
     /// Reads a value under a tag and constraints.
     fn decode_with_tag_and_constraints<D: Decoder>(
@@ -69,7 +72,8 @@ pub trait Decode: AsnType + Eq + Sized + Drop {
 
 /// A type whose components are read in the order of their definition: a SEQUENCE or a group of additions.
 pub trait DecodeFields: FieldTable + Eq + Sized + Drop {
-    /// Reads all components. What follows them begins with no tag of those after the last that is always there.
+    /// Reads all components. What follows them begins with no tag of those after the last that is always there. After an error
+    /// nothing is known of the decoder, until the caller makes it failed ([`Decoder::refuse`]).
     fn decode_fields<D: Decoder>(decoder: &mut D) -> Result<Self, DecodeError>
         ensures read { (v : Self) (rest : List Record) (outer : Ahead) → CanBeInSequence (all_components Self.components) → EachIsOfType (all_components Self.components) v → EachIsValid (all_components Self.components) D.reader.takes v → EndsApart (all_components Self.components) rest → ReadsBack D.reader decoder.old decoder.new (component_records Self.components v) rest outer (λ w. Self.eq w v ≡ true) result }
         ensures same_allowance { OnOk result (D.reader.allowance decoder.new ≡ D.reader.allowance decoder.old) };
@@ -77,7 +81,8 @@ pub trait DecodeFields: FieldTable + Eq + Sized + Drop {
 
 /// A CHOICE whose alternatives are read.
 pub trait DecodeChoice: AsnType + Choice + Eq + Sized + Drop {
-    /// Reads the alternative that begins with the tag.
+    /// Reads the alternative that begins with the tag. After an error nothing is known of the decoder, until the caller makes it
+    /// failed ([`Decoder::refuse`]).
     fn from_tag<D: Decoder>(decoder: &mut D, tag: Tag) -> Result<Self, DecodeError>
         ensures read { (v : Self) (rest : List Record) (outer : Ahead) → HaveDistinctTags (all_of Self.alternatives) → Each CanBeChosen (all_of Self.alternatives) → (chosen_meaning (all_of Self.alternatives) (Self.pick v)).IsOfType → (chosen_meaning (all_of Self.alternatives) (Self.pick v)).IsValid D.reader.takes → tag ≡ chosen_tag (all_of Self.alternatives) (Self.pick v) → ReadsBack D.reader decoder.old decoder.new (chosen_meaning (all_of Self.alternatives) (Self.pick v)).records rest outer (λ w. Self.eq w v ≡ true) result }
         ensures same_allowance { OnOk result (D.reader.allowance decoder.new ≡ D.reader.allowance decoder.old) };

@@ -81,8 +81,8 @@ pub trait Decoder {
         ensures read { ReadsContent reader self.old self.new tag unconstrained (λ _. null) (λ _. ⊤) (λ w v. w ≡ v) result }
         ensures stays { Stays reader self.old self.new result };
 
-    /// The number of a value of an ENUMERATED type, which is its content: a number of the table of `E`. A codec may have written
-    /// the number's place in the table or its name in its stead, and looks the number up in the table.
+    /// The number of a value of an ENUMERATED type, which is its content. The table of `E` tells the codec which numbers there
+    /// are, so that it can refuse others.
     fn decode_enumerated_number<E: EnumeratedTable>(
         &mut self,
         tag: Tag,
@@ -209,18 +209,20 @@ pub trait Decoder {
         ensures stays { Stays reader self.old self.new result };
 
     /// Whether the component of the root is there that is written under this tag, and begins with a tag of the tree. A codec
-    /// without presence marks looks at the next tag.
+    /// without presence marks looks at the next tag; where it does not know the end of the outermost list, it is before no
+    /// outermost list that has marks.
     fn presence(&mut self, tag: Tag, tree: TagTree<'static>) -> Result<bool, DecodeError>
         ensures read { TellsPresence reader self.old self.new (present tag) (absent tag) (tree_tags (shape tree.entry)) result }
         ensures stays { Stays reader self.old self.new result };
 
-    /// The same of an addition, which some codecs write in another way.
+    /// The same of an addition, which some codecs write in another way. What `presence` says of the outermost list holds here too.
     fn addition_presence(&mut self, tag: Tag, tree: TagTree<'static>) -> Result<bool, DecodeError>
         ensures read { TellsPresence reader self.old self.new (present tag) (absent tag) (tree_tags (shape tree.entry)) result }
         ensures stays { Stays reader self.old self.new result };
 
     /// Whether the group of additions is there whose components are those of the table of `C`. If it is, the decoder then stands
-    /// before its components. A group is no scope, and takes nothing from the allowance.
+    /// before its components. A group is no scope, and takes nothing from the allowance. What `presence` says of the outermost
+    /// list holds here too.
     fn open_group<C: FieldTable>(&mut self) -> Result<bool, DecodeError>
         ensures read { TellsPresence reader self.old self.new group_start group_absent (tree_tags (choice (trees_of (all_components C.components)))) result }
         ensures stays { Stays reader self.old self.new result };

@@ -9,8 +9,8 @@ ghost use Rattle.asn1_enumerations.specs.Labels.{Labels, LabelsDiffer, added_lab
 use crate::enumerated::{Enumerated, added_lines};
 use crate::items::EnumerationItem;
 
-/// The table of an ENUMERATED type without its values: the numbers and the names of its items, and their places, of which a
-/// codec reads and writes the one or the other. Each [`Enumerated`] type has it.
+/// The table of an ENUMERATED type without its values: the numbers and the names of its items, in their places. It tells a
+/// codec which numbers there are. Each [`Enumerated`] type has it.
 pub trait EnumeratedTable {
     // the number and the name of each item of the root, and of each after the extension marker
     ghost labels: { Labels };
