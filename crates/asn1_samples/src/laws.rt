@@ -17,6 +17,7 @@ use crate::plate::Plate;
 use crate::profile::Profile;
 use crate::settings::Settings;
 use crate::shape::Shape;
+use crate::visit::Visit;
 use std::hash::Hash;
 
 /// A law of the derived equalities: two values of these types are equal if and only if they are the same.
@@ -40,6 +41,13 @@ pub fn persons_are_compared_by_age_and_name(a: &Person, b: &Person) -> bool
 /// Whether two profiles have the same nick, level, color and contact.
 pub fn profiles_are_compared_by_their_components(a: &Profile, b: &Profile) -> bool
     ensures { result ≡ (option_eq string_eq a.now.nick b.now.nick && (nat_eq a.now.level b.now.level && (⟦<Color as PartialEq>⟧.eq a.now.color b.now.color && option_eq ⟦<Contact as PartialEq>⟧.eq a.now.contact b.now.contact))) }
+{
+    a == b
+}
+
+/// Whether two visits have the same day, contact and note.
+pub fn visits_are_compared_by_their_components(a: &Visit, b: &Visit) -> bool
+    ensures { result ≡ (nat_eq a.now.day b.now.day && (option_eq ⟦<Contact as PartialEq>⟧.eq a.now.contact b.now.contact && option_eq string_eq a.now.note b.now.note)) }
 {
     a == b
 }

@@ -4,6 +4,7 @@
 //! |---|---|
 //! | [`Person`] | a SEQUENCE of two components |
 //! | [`Profile`], [`Contact`] | a SEQUENCE with an option, a default and a group of additions |
+//! | [`Visit`] | a SEQUENCE with an addition after such a group |
 //! | [`Badge`] | a SET |
 //! | [`Shape`], [`Corner`] | a CHOICE, and one that is an alternative of it without a tag |
 //! | [`Color`] | an ENUMERATED with an extension marker |
@@ -19,7 +20,7 @@
 //! - Each but `Badge` is read: from its records a codec gives an equal value (`Decode`), whatever the codec. The reader has a line
 //!   for each component (`decode_fields`) or alternative (`from_tag`). A component that may be absent is asked for under its own tag,
 //!   which what follows does not begin with; so it is in a group whose last components are absent, where what follows is after
-//!   the group. The proof too has a line for each component, by the steps of `PartWays` of `asn1_dec`. A tag that no alternative
+//!   the group, as the note of a `Visit` is. The proof too has a line for each component, by the steps of `PartWays` of `asn1_dec`. A tag that no alternative
 //!   has is refused with the name of the CHOICE.
 //! - Each can be inside other types: `person_can_stand_inside` and its kin.
 //! - The records of some values are written out: `person_records` and its kin. `profile_is_valid` and `envelope_is_valid` say of
@@ -44,6 +45,7 @@ mod settings;
 mod shape;
 #[cfg(test)]
 mod tests;
+mod visit;
 
 pub use badge::{Badge, badge_can_stand_inside, badge_records, badge_table_is_canonical};
 pub use color::{Color, color_can_stand_inside, color_records};
@@ -56,3 +58,4 @@ pub use plate::{Plate, plate_can_stand_inside, plate_records};
 pub use profile::{Profile, profile_can_stand_inside, profile_is_valid, profile_records};
 pub use settings::{Settings, settings_can_stand_inside, settings_records};
 pub use shape::{Shape, shape_can_stand_inside, shape_records};
+pub use visit::{Visit, visit_can_stand_inside, visit_records};

@@ -1,0 +1,157 @@
+//! A SEQUENCE in which an addition comes after a group of additions.
+//!
+//! ```text
+//! Visit ::= SEQUENCE {
+//!     day [0] INTEGER (0..65535),
+//!     ...,
+//!     [[ phone [3] NumericString OPTIONAL, mail [4] IA5String OPTIONAL ]],
+//!     note [5] UTF8String OPTIONAL
+//! }
+//! ```
+ghost use Rattle.std.specs.Prelude.{◌≡◌, [], ◌∷◌, None, Some, pos, codes};
+ghost use Rattle.std.specs.String.{string_bytes};
+ghost use Rattle.asn1_types.specs.Words.{context, universal, tagged, required, addition, extensible_sequence, group, constructed_type, constructed_agrees, CanStandInside, own_records, holding, sequence_head, scalar, mark, absent, present, group_start, group_end, number, units, utf8, numeric, unconstrained, values_of, Range};
+
+use crate::contact::{CONTACT, Contact};
+use asn1_dec::{Decode, DecodeError, DecodeFields, Decoder};
+use asn1_enc::{Encode, EncodeError, EncodeFields, Encoder};
+use asn1_types::{
+    AsnType, Class, Constraints, ConstructedType, Field, FieldTable, Identifier, Tag, TypeTable,
+};
+use asn1_values::{NumericString, Utf8String};
+
+/// When someone came, and what is known of it.
+#[derive(PartialEq, Eq, Debug, Drop)]
+pub struct Visit {
+    /// `day [0] INTEGER (0..65535)`
+    pub day: u16,
+    /// The group of additions.
+    pub contact: Option<Contact>,
+    /// `note [5] UTF8String OPTIONAL`
+    pub note: Option<Utf8String>,
+}
+
+const DAY: Tag = Tag {
+    class: Class::Context,
+    value: 0,
+};
+
+const NOTE: Tag = Tag {
+    class: Class::Context,
+    value: 5,
+};
+
+impl FieldTable for Visit {
+    ghost components = { extensible_sequence (
+        required (codes "day") (λ v. v.day) (tagged (context 0) ⟦<u16 as AsnType>⟧.meaning) ∷ []) (
+        group (codes "contact") (λ v. v.contact) ⟦<Contact as FieldTable>⟧.components ∷
+        addition (codes "note") (λ v. v.note) (tagged (context 5) ⟦<Utf8String as AsnType>⟧.meaning) ∷ []) };
+
+    fn field_count() -> usize {
+        3
+    }
+
+    fn field_at(place: usize) -> Option<Field<'static>> {
+        match place {
+            0 => Some(Field::new_required_type_with_tag::<u16>(0, DAY, "day")),
+            1 => Some(Field::new_group(1, CONTACT, "contact")),
+            2 => Some(Field::new_optional_type_with_tag::<Utf8String>(2, NOTE, "note")),
+            _ => None,
+        }
+    }
+}
+
+impl AsnType for Visit {
+    ghost meaning = { constructed_type (codes "Visit") ⟦<Visit as FieldTable>⟧.components };
+
+    fn table() -> TypeTable {
+        TypeTable::new(Tag::SEQUENCE, Identifier(Some("Visit")))
+    }
+
+    fn is_present(&self) -> bool {
+        true
+    }
+}
+
+impl ConstructedType for Visit {
+    ghost agrees = { constructed_agrees };
+}
+
+/// A `Visit` can be inside other types: the tag of what comes after the group is none of the group's.
+pub fn visit_can_stand_inside()
+    ensures { CanStandInside ⟦<Visit as AsnType>⟧.meaning }
+{}
+
+impl Encode for Visit {
+    fn encode_with_tag_and_constraints<E: Encoder>(
+        &self,
+        encoder: &mut E,
+        tag: Tag,
+        _constraints: &Constraints<'_>,
+        name: Identifier,
+    ) -> Result<(), EncodeError> {
+        encoder.encode_sequence(tag, self, name)
+    }
+}
+
+impl EncodeFields for Visit {
+    fn encode_field<E: Encoder>(&self, place: usize, encoder: &mut E) -> Result<(), EncodeError> {
+        match place {
+            0 => self.day.encode_with_tag(encoder, DAY),
+            1 => encoder.encode_extension_addition_group(self.contact.as_ref(), Identifier::EMPTY),
+            2 => encoder.encode_extension_addition_with_tag(
+                NOTE,
+                self.note.as_ref(),
+                Utf8String::identifier(),
+            ),
+            _ => Ok(()),
+        }
+    }
+}
+
+impl Decode for Visit {
+    fn decode_with_tag_and_constraints<D: Decoder>(
+        decoder: &mut D,
+        tag: Tag,
+        _constraints: &Constraints<'_>,
+    ) -> Result<Visit, DecodeError> {
+        decoder.decode_sequence(tag)
+    }
+}
+
+impl DecodeFields for Visit {
+    fn decode_fields<D: Decoder>(decoder: &mut D) -> Result<Visit, DecodeError> {
+        let day = u16::decode_with_tag(decoder, DAY)?;
+        let contact = decoder.decode_extension_addition_group()?;
+        let note = decoder.decode_extension_addition_with_tag(NOTE)?;
+        Ok(Visit { day, contact, note })
+    }
+}
+
+/// What a visit is to every codec: `Visit { day: 7, contact: Some(Contact { phone: Some("12"), mail: None }), note }`, of which the
+/// group's last component is absent, where the note is there (`noted`), and where it is absent too (`bare`).
+pub fn visit_records(visit: &Visit, phone: &NumericString, note: &Utf8String)
+    ensures noted { phone.now ≡ codes "12" → string_bytes note.now ≡ codes "ok" →
+        visit.now ≡ record { day = 7; contact = Some (record { phone = Some phone.now; mail = None }); note = Some note.now } →
+        own_records ⟦<Visit as AsnType>⟧.meaning visit.now ≡
+        holding (sequence_head (universal 16) (Some (codes "Visit"))) (
+        scalar (context 0) (values_of (Range (Some (pos 0)) (Some (pos 65535)))) (Some (codes "INTEGER")) (number (pos 7)) ∷
+        mark group_start ∷
+        mark (present (context 3)) ∷
+        scalar (context 3) unconstrained (Some (codes "NumericString")) (units numeric (codes "12")) ∷
+        mark (absent (context 4)) ∷
+        mark group_end ∷
+        mark (present (context 5)) ∷
+        scalar (context 5) unconstrained (Some (codes "UTF8String")) (units utf8 (codes "ok")) ∷ []) ∷ [] }
+    ensures bare { phone.now ≡ codes "12" →
+        visit.now ≡ record { day = 7; contact = Some (record { phone = Some phone.now; mail = None }); note = None } →
+        own_records ⟦<Visit as AsnType>⟧.meaning visit.now ≡
+        holding (sequence_head (universal 16) (Some (codes "Visit"))) (
+        scalar (context 0) (values_of (Range (Some (pos 0)) (Some (pos 65535)))) (Some (codes "INTEGER")) (number (pos 7)) ∷
+        mark group_start ∷
+        mark (present (context 3)) ∷
+        scalar (context 3) unconstrained (Some (codes "NumericString")) (units numeric (codes "12")) ∷
+        mark (absent (context 4)) ∷
+        mark group_end ∷
+        mark (absent (context 5)) ∷ []) ∷ [] }
+{}
