@@ -6,10 +6,10 @@ use Rattle.asn1_model.specs.Records.{units, visible}
 use Rattle.asn1_model.specs.TaggedTypes.{TaggedType, untagged}
 use Rattle.asn1_model.specs.Tags.{universal}
 use Rattle.asn1_values.specs.Alphabets.{is_visible}
-use Rattle.asn1_dec.specs.declared.examples.badge.Badge.{Badge}
-use Rattle.asn1_dec.specs.declared.examples.badge.BadgePart.{BadgePart}
-use Rattle.asn1_dec.specs.declared.examples.badge.BadgePart.TheVariants.{Id, Label, Figure}
-use Rattle.asn1_dec.specs.contracts.examples.shape.ShapePartialEq.TheImpl.{ghosts as shapes}
+use Rattle.asn1_samples.specs.declared.badge.Badge.{Badge}
+use Rattle.asn1_samples.specs.declared.badge.BadgePart.{BadgePart}
+use Rattle.asn1_samples.specs.declared.badge.BadgePart.TheVariants.{Id, Label, Figure}
+use Rattle.asn1_samples.specs.contracts.shape.ShapePartialEq.TheImpl.{ghosts as shapes}
 use Rattle.std.proofs.Common.{eqb}
 use Rattle.std.specs.Cmp.Lexicographic.{pointwise}
 

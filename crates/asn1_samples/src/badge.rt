@@ -1,17 +1,20 @@
 //! `Badge ::= SET { id INTEGER (0..4294967295), label VisibleString OPTIONAL, shape Shape }`
 ghost use Rattle.std.specs.Prelude.{◌≡◌, [], ◌∷◌, None, Some, map, pos, codes};
 ghost use Rattle.asn1_types.specs.Words.{context, universal, untagged, required, optional, set, constructed_type, constructed_agrees, CanStandInside, own_records, holding, set_head, alternative_head, scalar, mark, absent, present, number, null, units, visible, unconstrained, values_of, Range};
-ghost use Rattle.asn1_components.specs.Components.{root_entries, table};
+ghost use Rattle.asn1_components.specs.Components.{all_components, root_entries, table};
+ghost use Rattle.asn1_dec.specs.SetParts.{MakesValue};
 ghost use Rattle.asn1_fields.specs.CanonicalOrder.{IsCanonical};
 ghost use Rattle.asn1_fields.specs.Entries.{component_of};
 ghost use Rattle.asn1_samples.specs.declared.shape.Shape.TheVariants.{Dot, Ring};
 
 use crate::shape::Shape;
+use asn1_dec::{Decode, DecodeError, DecodeSet, Decoder, keep_once};
 use asn1_enc::{Encode, EncodeError, EncodeFields, Encoder};
 use asn1_types::{
     AsnType, Constraints, ConstructedType, Field, FieldTable, Identifier, Tag, TypeTable,
 };
 use asn1_values::VisibleString;
+use std::alloc::Global;
 
 /// What someone wears: a SET, whose components may be written in any order.
 #[derive(PartialEq, Eq, Debug, Drop)]
@@ -22,6 +25,17 @@ pub struct Badge {
     pub label: Option<VisibleString>,
     /// `shape Shape`
     pub shape: Shape,
+}
+
+/// A component of a badge, as it is read.
+#[derive(Drop)]
+pub enum BadgePart {
+    /// `id`
+    Id(u32),
+    /// `label`
+    Label(VisibleString),
+    /// `shape`
+    Figure(Shape),
 }
 
 impl FieldTable for Badge {
@@ -91,6 +105,65 @@ impl EncodeFields for Badge {
             2 => self.shape.encode(encoder),
             _ => Ok(()),
         }
+    }
+}
+
+impl DecodeSet for Badge {
+    ghost use Rattle.asn1_samples.specs.BadgeParts.{IsBadgePart, badge_index};
+    ghost use Rattle.asn1_dec.proofs.OneRecordEach.{optional_is_one};
+    ghost use Rattle.std.proofs.Common.{rules, lit≤};
+
+    type Part = BadgePart;
+
+    ghost index_of = { badge_index };
+
+    ghost is_part_of = { IsBadgePart };
+
+    ghost one_record_each = { λ badge can. (lit≤ tt, (Prim.search (rules, optional_is_one), (lit≤ tt, tt))) };
+
+    fn decode_field<D: Decoder>(
+        decoder: &mut D,
+        index: usize,
+        tag: Tag,
+    ) -> Result<BadgePart, DecodeError> {
+        match index {
+            0 => u32::decode(decoder).map(BadgePart::Id),
+            1 => VisibleString::decode(decoder).map(BadgePart::Label),
+            2 => Shape::decode(decoder).map(BadgePart::Figure),
+            _ => Err(DecodeError::UnknownField { index, tag }),
+        }
+    }
+
+    fn from_fields(_alloc: Global, parts: Vec<BadgePart>) -> Result<Badge, DecodeError>
+        ensures { MakesValue (all_components ⟦<Badge as FieldTable>⟧.components) badge_index IsBadgePart ⟦<Badge as PartialEq>⟧.eq parts.items result }
+    {
+        let mut id = None;
+        let mut label = None;
+        let mut shape = None;
+        for part in parts {
+            match part {
+                BadgePart::Id(value) => keep_once(&mut id, value, "id")?,
+                BadgePart::Label(value) => keep_once(&mut label, value, "label")?,
+                BadgePart::Figure(value) => keep_once(&mut shape, value, "shape")?,
+            }
+        }
+        let Some(id) = id else {
+            return Err(DecodeError::MissingField("id"));
+        };
+        let Some(shape) = shape else {
+            return Err(DecodeError::MissingField("shape"));
+        };
+        Ok(Badge { id, label, shape })
+    }
+}
+
+impl Decode for Badge {
+    fn decode_with_tag_and_constraints<D: Decoder>(
+        decoder: &mut D,
+        tag: Tag,
+        _constraints: &Constraints<'_>,
+    ) -> Result<Badge, DecodeError> {
+        decoder.decode_set(tag)
     }
 }
 

@@ -5,7 +5,6 @@ ghost use Rattle.asn1_samples.specs.declared.corner.Corner.TheVariants.{Left, Ri
 
 use asn1_dec::{Decode, DecodeChoice, DecodeError, Decoder};
 use asn1_enc::{Encode, EncodeChoice, EncodeError, Encoder};
-use asn1_set_reading::read_choice;
 use asn1_types::{AsnType, Choice, ChoiceType, Constraints, Identifier, Tag, TagTree, TypeTable};
 use asn1_values::OctetString;
 
@@ -99,7 +98,7 @@ impl Decode for Corner {
         tag: Tag,
         constraints: &Constraints<'_>,
     ) -> Result<Corner, DecodeError> {
-        read_choice(decoder, tag, constraints)
+        decoder.decode_choice_with_tag(tag, constraints)
     }
 }
 

@@ -7,7 +7,6 @@ ghost use Rattle.asn1_samples.specs.declared.shape.Shape.TheVariants.{Dot, Ring,
 use crate::corner::{CORNER, Corner};
 use asn1_dec::{Decode, DecodeChoice, DecodeError, Decoder};
 use asn1_enc::{Encode, EncodeChoice, EncodeError, Encoder};
-use asn1_set_reading::read_choice;
 use asn1_types::{
     AsnType, Choice, ChoiceType, Class, Constraints, Identifier, Tag, TagTree, TypeTable,
 };
@@ -112,7 +111,7 @@ impl Decode for Shape {
         tag: Tag,
         constraints: &Constraints<'_>,
     ) -> Result<Shape, DecodeError> {
-        read_choice(decoder, tag, constraints)
+        decoder.decode_choice_with_tag(tag, constraints)
     }
 }
 

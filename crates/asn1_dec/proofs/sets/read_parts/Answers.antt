@@ -23,7 +23,7 @@ loop-place-preserved g c = record {
       let cs = all_components g.S.FieldTable.components in
       let m = c.loop-place.invariant.midway v items next outer can of_type valid moved few at in
       let a = comes_at R cs v g.S.DecodeSet.index_of (g.S.DecodeSet.is_part_of v) c.in-Some-component_with_tag.index (set_apart cs can.1.0) c.in-Some-component_with_tag.ensures
-      (comes R cs v g.S.DecodeSet.index_of (g.S.DecodeSet.is_part_of v) c.next_component.new.self c.in-Some.tag can.0 m (rw c.in-Some.is at (c.in_ok-tag.ensures.read (records m.todo) (next ∷ outer))) c.in_ok-tag.ensures.stays.keeps.same_allowance) in
+      (comes R cs v g.S.DecodeSet.index_of (g.S.DecodeSet.is_part_of v) c.next_component.new.self c.in-Some.tag can.0 m (rw c.in-Some.is at (c.in_ok-tag.ensures.read (records m.todo) next outer)) c.in_ok-tag.ensures.stays.keeps.same_allowance) in
       let r = c.in-Ok.ensures.read v (records a.todo) (next ∷ outer) can.0 of_type valid a.is_there a.at in
       rw c.in-Ok-push.ensures.items
       (further R cs v g.S.DecodeSet.index_of (g.S.DecodeSet.is_part_of v) c.decode_field.new.decoder c.in-Ok.part a r.answer.0 r.answer.1 r.within_allowance r.at c.in-Ok.ensures.same_allowance);
@@ -33,12 +33,12 @@ pub returns-in_err-tag-clause-read : goal.returns-in_err-tag-clause-read
 returns-in_err-tag-clause-read g c = λ v items next outer can of_type valid moved few at.
     let p = err_from_is_err_and c.from_residual.result c.from_residual.ensures.1 in
     let m = c.loop-place.invariant.midway v items next outer can of_type valid moved few at in
-    rw (p.1, p.2) (not_told g.D.Decoder.reader (all_components g.S.FieldTable.components) v g.S.DecodeSet.index_of (g.S.DecodeSet.is_part_of v) c.next_component.new.self _ _ m (c.in_err-tag.ensures.read (records m.todo) (next ∷ outer)))
+    rw (p.1, p.2) (not_told g.D.Decoder.reader (all_components g.S.FieldTable.components) v g.S.DecodeSet.index_of (g.S.DecodeSet.is_part_of v) c.next_component.new.self _ _ m (c.in_err-tag.ensures.read (records m.todo) next outer))
 
 pub returns-in-None-clause-read : goal.returns-in-None-clause-read
 returns-in-None-clause-read g c = λ v items next outer can of_type valid moved few at.
     let m = c.loop-place.invariant.midway v items next outer can of_type valid moved few at in
-    let t = through g.D.Decoder.reader (all_components g.S.FieldTable.components) v g.S.DecodeSet.index_of (g.S.DecodeSet.is_part_of v) c.next_component.new.self m (rw c.in-None.is at (c.in_ok-tag.ensures.read (records m.todo) (next ∷ outer))) c.in_ok-tag.ensures.stays.keeps.same_allowance in
+    let t = through g.D.Decoder.reader (all_components g.S.FieldTable.components) v g.S.DecodeSet.index_of (g.S.DecodeSet.is_part_of v) c.next_component.new.self m (rw c.in-None.is at (c.in_ok-tag.ensures.read (records m.todo) next outer)) c.in_ok-tag.ensures.stays.keeps.same_allowance in
     record { answer = t.parts_are; at = t.at; within_allowance = omega (arith, t.low, c.loop-place.invariant.kept, c.in_ok-tag.ensures.stays.keeps.same_allowance) }
 
 pub returns-in-None-component_with_tag-clause-read : goal.returns-in-None-component_with_tag-clause-read
@@ -46,7 +46,7 @@ returns-in-None-component_with_tag-clause-read g c = λ v items next outer can o
     let R = g.D.Decoder.reader in
     let cs = all_components g.S.FieldTable.components in
     let m = c.loop-place.invariant.midway v items next outer can of_type valid moved few at in
-    let a = comes R cs v g.S.DecodeSet.index_of (g.S.DecodeSet.is_part_of v) c.next_component.new.self c.in-Some.tag can.0 m (rw c.in-Some.is at (c.in_ok-tag.ensures.read (records m.todo) (next ∷ outer))) c.in_ok-tag.ensures.stays.keeps.same_allowance in
+    let a = comes R cs v g.S.DecodeSet.index_of (g.S.DecodeSet.is_part_of v) c.next_component.new.self c.in-Some.tag can.0 m (rw c.in-Some.is at (c.in_ok-tag.ensures.read (records m.todo) next outer)) c.in_ok-tag.ensures.stays.keeps.same_allowance in
     absurd (c.in-None-component_with_tag.ensures a.index a.begins)
 
 pub returns-in-Err-clause-read : goal.returns-in-Err-clause-read
@@ -55,7 +55,7 @@ returns-in-Err-clause-read g c = λ v items next outer can of_type valid moved f
     let cs = all_components g.S.FieldTable.components in
     let m = c.loop-place.invariant.midway v items next outer can of_type valid moved few at in
     let a = comes_at R cs v g.S.DecodeSet.index_of (g.S.DecodeSet.is_part_of v) c.in-Some-component_with_tag.index (set_apart cs can.1.0) c.in-Some-component_with_tag.ensures
-    (comes R cs v g.S.DecodeSet.index_of (g.S.DecodeSet.is_part_of v) c.next_component.new.self c.in-Some.tag can.0 m (rw c.in-Some.is at (c.in_ok-tag.ensures.read (records m.todo) (next ∷ outer))) c.in_ok-tag.ensures.stays.keeps.same_allowance) in
+    (comes R cs v g.S.DecodeSet.index_of (g.S.DecodeSet.is_part_of v) c.next_component.new.self c.in-Some.tag can.0 m (rw c.in-Some.is at (c.in_ok-tag.ensures.read (records m.todo) next outer)) c.in_ok-tag.ensures.stays.keeps.same_allowance) in
     let r = c.in-Err.ensures.read v (records a.todo) (next ∷ outer) can.0 of_type valid a.is_there a.at in
     rw c.refuse-in-Err.ensures.same (fails_below _ _ _ (omega (arith, c.loop-place.invariant.kept, c.in_ok-tag.ensures.stays.keeps.same_allowance)) (omega (arith, a.no_higher)) r)
 
@@ -63,10 +63,10 @@ pub returns-in_err-next_component-clause-read : goal.returns-in_err-next_compone
 returns-in_err-next_component-clause-read g c = λ v items next outer can of_type valid moved few at.
     let p = err_from_is_err_and c.from_residual-in_err-next_component.result c.from_residual-in_err-next_component.ensures.1 in
     let m = c.loop-place.invariant.midway v items next outer can of_type valid moved few at in
-    rw (p.1, p.2) (not_told g.D.Decoder.reader (all_components g.S.FieldTable.components) v g.S.DecodeSet.index_of (g.S.DecodeSet.is_part_of v) c.next_component-2.new.self _ _ m (c.in_err-next_component.ensures.read (records m.todo) (next ∷ outer)))
+    rw (p.1, p.2) (not_told g.D.Decoder.reader (all_components g.S.FieldTable.components) v g.S.DecodeSet.index_of (g.S.DecodeSet.is_part_of v) c.next_component-2.new.self _ _ m (c.in_err-next_component.ensures.read (records m.todo) next outer))
 
 pub returns-clause-read : goal.returns-clause-read
 returns-clause-read g c = λ v items next outer can of_type valid moved few at.
     let m = c.loop-place.invariant.midway v items next outer can of_type valid moved few at in
-    let t = filled g.D.Decoder.reader (all_components g.S.FieldTable.components) v g.S.DecodeSet.index_of (g.S.DecodeSet.is_part_of v) c.next_component-2.new.self c.in_ok-next_component.field-0 m (omega (arith, c.loop-place-test.false)) (c.in_ok-next_component.ensures.read (records m.todo) (next ∷ outer)) c.in_ok-next_component.ensures.stays.keeps.same_allowance in
+    let t = filled g.D.Decoder.reader (all_components g.S.FieldTable.components) v g.S.DecodeSet.index_of (g.S.DecodeSet.is_part_of v) c.next_component-2.new.self c.in_ok-next_component.field-0 m (omega (arith, c.loop-place-test.false)) (c.in_ok-next_component.ensures.read (records m.todo) next outer) c.in_ok-next_component.ensures.stays.keeps.same_allowance in
     record { answer = t.parts_are; at = t.at; within_allowance = omega (arith, t.low, c.loop-place.invariant.kept, c.in_ok-next_component.ensures.stays.keeps.same_allowance) }

@@ -2,13 +2,13 @@ use Rattle.std.specs.Cmp.Lexicographic.{pointwise}
 use Rattle.std.proofs.Common.{eqb, Some, codes, inl, refl}
 use Rattle.asn1_components.specs.Components.{all_components}
 use Rattle.asn1_model.specs.TaggedTypes.{untagged}
-use Rattle.asn1_dec.specs.BadgeParts.{IsBadgePart, badge_index, label_type}
-use Rattle.asn1_dec.specs.contracts.examples.badge.BadgeFieldTable.TheImpl.{ghosts as badge}
-use Rattle.asn1_dec.specs.contracts.examples.shape.ShapeAsnType.TheImpl.{ghosts as shape}
-use Rattle.asn1_dec.specs.contracts.examples.shape.ShapePartialEq.TheImpl.{ghosts as shapes}
-use Rattle.asn1_dec.specs.declared.examples.badge.BadgePart.TheVariants.{Label, Figure}
+use Rattle.asn1_samples.specs.BadgeParts.{IsBadgePart, badge_index, label_type}
+use Rattle.asn1_samples.specs.contracts.badge.BadgeFieldTable.TheImpl.{ghosts as badge}
+use Rattle.asn1_samples.specs.contracts.shape.ShapeAsnType.TheImpl.{ghosts as shape}
+use Rattle.asn1_samples.specs.contracts.shape.ShapePartialEq.TheImpl.{ghosts as shapes}
+use Rattle.asn1_samples.specs.declared.badge.BadgePart.TheVariants.{Label, Figure}
 use Rattle.asn1_dec.proofs.ReadParts.{optional_part, required_part}
-use Rattle.asn1_dec.proofs.examples.badge.BadgeDecodeSet.decode_field.Goals as goal
+use Rattle.asn1_samples.proofs.badge.BadgeDecodeSet.decode_field.Goals as goal
 
 pub returns-in-1-clause-read : goal.returns-in-1-clause-read
 returns-in-1-clause-read g c =

@@ -3,10 +3,10 @@ use Rattle.std.proofs.lemmas.Bool.{and_from}
 use Rattle.std.specs.Cmp.Lexicographic.{pointwise}
 use Rattle.std.specs.Prelude.{◌==◌}
 use Rattle.std.specs.Vec.Iter.{into_iter_items}
-use Rattle.asn1_dec.specs.BadgeParts.{badge_index, label_type}
-use Rattle.asn1_dec.specs.declared.examples.badge.BadgePart.TheVariants.{Id, Label, Figure}
+use Rattle.asn1_samples.specs.BadgeParts.{badge_index, label_type}
+use Rattle.asn1_samples.specs.declared.badge.BadgePart.TheVariants.{Id, Label, Figure}
 use Rattle.asn1_dec.proofs.SlotLaws.{none_yet, one_on, kept, passed, not_again, at_end, is_absent, is_component, optional_slot}
-use Rattle.asn1_dec.proofs.examples.badge.BadgeDecodeSet.from_fields.Goals as goal
+use Rattle.asn1_samples.proofs.badge.BadgeDecodeSet.from_fields.Goals as goal
 
 pub loop-part-init : goal.loop-part-init
 loop-part-init c = record {

@@ -1,9 +1,9 @@
 use Rattle.std.proofs.Common.{◌≡◌, ◌++◌}
 use Rattle.std.specs.Vec.Iter.{into_iter_items}
-use Rattle.asn1_dec.specs.BadgeParts.{badge_index}
-use Rattle.asn1_dec.specs.declared.examples.badge.BadgePart.TheVariants.{Id, Label, Figure}
+use Rattle.asn1_samples.specs.BadgeParts.{badge_index}
+use Rattle.asn1_samples.specs.declared.badge.BadgePart.TheVariants.{Id, Label, Figure}
 use Rattle.asn1_dec.proofs.SlotLaws.{Slot}
-use Rattle.asn1_dec.proofs.examples.badge.BadgeDecodeSet.from_fields.Given as goal
+use Rattle.asn1_samples.proofs.badge.BadgeDecodeSet.from_fields.Given as goal
 
 abbrev pub invariant-loop-part : goal.invariant-loop-part
 invariant-loop-part l = record {
