@@ -122,4 +122,3 @@ impl Hash for PermittedAlphabet {
         self.characters.hash(state);
     }
 }
-

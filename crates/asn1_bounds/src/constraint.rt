@@ -169,4 +169,3 @@ impl<'a> From<PermittedAlphabet> for Constraint<'a> {
         Constraint::PermittedAlphabet(Extensible::new(kind))
     }
 }
-

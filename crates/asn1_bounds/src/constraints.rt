@@ -246,4 +246,3 @@ impl Default for Constraints<'_> {
         Constraints::NONE
     }
 }
-

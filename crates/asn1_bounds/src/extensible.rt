@@ -128,4 +128,3 @@ impl<T> From<T> for Extensible<'_, T> {
         Extensible::new(constraint)
     }
 }
-

@@ -36,4 +36,3 @@ pub trait InnerSubtypeConstraint: Sized {
         self.validate_and_decode_containing(alloc, None)
     }
 }
-

@@ -152,4 +152,3 @@ impl From<Size> for ConstraintTable<'_> {
         ConstraintTable::NONE.with_size(Extensible::new(kind))
     }
 }
-

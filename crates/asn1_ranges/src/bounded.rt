@@ -196,4 +196,3 @@ impl<T: fmt::Display> fmt::Display for Bounded<T> {
         }
     }
 }
-

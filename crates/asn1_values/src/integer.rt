@@ -136,4 +136,3 @@ impl Integer {
         }
     }
 }
-

@@ -73,4 +73,3 @@ impl IntegerType for Integer {
         Some(integer)
     }
 }
-

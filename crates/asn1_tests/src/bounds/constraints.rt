@@ -1,6 +1,8 @@
 //! Constraint sets.
 use super::{LETTERS, assert_characters, permitted};
-use asn1_bounds::{Bounded, Constraint, ConstraintTable, Constraints, Extensible, Size, Value};
+use asn1_bounds::{
+    Bounded, Constraint, ConstraintTable, Constraints, Extensible, PermittedAlphabet, Size, Value,
+};
 use std::alloc::Global;
 use std::process::Abort;
 use std::slice;
@@ -127,7 +129,9 @@ fn assert_set(rt: &impl Abort, alloc: Global, constraints: &[Constraint]) {
 /// Also where an allocation fails.
 #[test]
 fn a_refused_set_leaves_the_constraints(rt: HostRuntime) {
-    let letters = of_characters(&rt, rt.alloc(), LETTERS);
-    assert_set(&rt, rt.alloc(), slice::from_ref(&letters));
-    assert!(rt; letters.as_permitted_alphabet().is_some());
+    if let Ok(letters) = PermittedAlphabet::new(rt.alloc(), LETTERS) {
+        let letters = Constraint::from(letters);
+        assert_set(&rt, rt.alloc(), slice::from_ref(&letters));
+        assert!(rt; letters.as_permitted_alphabet().is_some());
+    }
 }
