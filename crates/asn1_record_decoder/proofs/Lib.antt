@@ -1,2 +1,3 @@
 mod InRecords
+mod Numbers
 mod Standing

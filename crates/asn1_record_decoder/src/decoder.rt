@@ -245,7 +245,11 @@ impl<'a> Decoder for RecordDecoder<'a> {
         &mut self,
         tag: Tag,
     ) -> Result<isize, DecodeError> {
-        self.scalar(tag)
+        let number = self.scalar(tag)?;
+        match E::name_of_number(number) {
+            Some(_) => Ok(number),
+            None => Err(self.fail(BAD_ITEM)),
+        }
     }
 
     fn decode_object_identifier(&mut self, tag: Tag) -> Result<ObjectIdentifier, DecodeError> {

@@ -11,8 +11,8 @@
 //! - The decoder keeps the laws of every decoder (`Decoder`). It is before the lists that its records are without constraints,
 //!   up to the order inside sets (`StandsBefore` of `specs/Reading.antt`), and reads a set in the order in which its records
 //!   come. It takes any bytes as one value of an open type.
-//! - A decoder of records that carry others (`Carries` of `asn1_records`) is before these (`begins` of `proofs/Whole`).
-//!   [`RecordDecoder::finish`] succeeds if and only if all has been read.
+//! - A decoder of records that carry others (`Carries` of `asn1_records`) begins before these (`before` of
+//!   [`RecordDecoder::new`]), and [`RecordDecoder::finish`] succeeds if and only if all has been read (`all_read`).
 //! - Of records that are not those of the type nothing is said but by tests. Where one is not what is asked for, the error is
 //!   `Custom`, with the text `bad item`; where there is none outside all scopes, it is `Incomplete`.
 #![tactic(auto)]

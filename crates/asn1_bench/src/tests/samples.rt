@@ -142,7 +142,8 @@ fn leaf(rt: &impl Abort, alloc: Global) -> Node {
     }
 }
 
-fn parent(rt: &impl Abort, alloc: Global) -> Node {
+/// A node of height 4.
+pub(super) fn parent(rt: &impl Abort, alloc: Global) -> Node {
     let mut children = Vec::new(alloc);
     if let Err(_) = children.push(leaf(rt, alloc)) {
         assert!(rt; false, "memory");

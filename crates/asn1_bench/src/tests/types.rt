@@ -8,7 +8,7 @@ use asn1_dec::Decode;
 use asn1_enc::Encode;
 use asn1_record_decoder::RecordDecoder;
 use asn1_records::RecordEncoder;
-use asn1_schema::UniversalString;
+use asn1_schema::{Array, UniversalString};
 use asn1_types::{Any, Explicit, Implicit, InstanceOf, SetOf, tag};
 use asn1_values::{
     BitString, BmpString, ConstrainedInteger, GeneralString, GraphicString, Ia5String, Integer,
@@ -178,6 +178,12 @@ fn lists_have_their_elements(rt: HostRuntime) {
         alloc,
         own(&rt, alloc, &[7u8, 8]),
         "sequence of Universal 16 SEQUENCE_OF { Universal 2 INTEGER 7 Universal 2 INTEGER 8 } ",
+    );
+    assert_round_trip(
+        &rt,
+        alloc,
+        Array::from([7u8]),
+        "sequence of Universal 16 SEQUENCE_OF { Universal 2 INTEGER 7 } ",
     );
     assert_written(
         &rt,
