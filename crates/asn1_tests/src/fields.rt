@@ -188,14 +188,6 @@ const PROFILE: &[Field<'static>] = &[
     },
 ];
 
-// The table has `N` fields, and so many of them may be absent.
-fn assert_counts<const N: usize>(rt: &impl Abort, table: &Fields<'_, N>, optional: usize) {
-    assert!(rt; table.len() == N && table.is_empty() == (N == 0));
-    assert!(rt; table.is_not_empty() == (N > 0));
-    assert!(rt; table.has_required_field() == (optional < N));
-    assert!(rt; table.number_of_optional_and_default_fields() == optional);
-}
-
 fn assert_fields(rt: &impl Abort, fields: &[Field<'_>], wanted: &[Field<'_>]) {
     assert!(rt; fields == wanted);
 }
@@ -228,7 +220,6 @@ fn assert_items<const N: usize>(
 #[test]
 fn a_table_gives_its_fields_in_order(rt: HostRuntime) {
     let table = Fields::<3>::from_static(PROFILE);
-    assert_counts(&rt, &table, 2);
     assert_fields(&rt, table.as_slice(), PROFILE);
     assert_items(
         &rt,
@@ -240,7 +231,6 @@ fn a_table_gives_its_fields_in_order(rt: HostRuntime) {
     assert!(rt; table.is_canonical());
     assert!(rt; table.first_sequence_clash().is_none() && table.first_set_clash().is_none());
     assert!(rt; table.into_iter().len() == 3);
-    assert_counts(&rt, &Fields::<0>::from_static(&[]), 0);
 }
 
 fn assert_typed(rt: &impl Abort, field: &Field<'_>, tag: Tag, presence: FieldPresence) {

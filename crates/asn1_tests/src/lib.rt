@@ -7,7 +7,7 @@
 //!
 //! | Module | What it tries |
 //! |---|---|
-//! | `values` | whole numbers, strings, names of objects, errors |
+//! | `values` | whole numbers, strings, errors |
 //! | `tags` | classes, tags, names of types, trees of tags; lists of tags with a table or none |
 //! | `ranges` | bounds of whole numbers |
 //! | `bounds` | the kinds of constraint, constraint sets and their tables, constraints of components |

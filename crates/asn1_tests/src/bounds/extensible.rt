@@ -1,6 +1,6 @@
 //! Constraints with an extension marker.
 use super::{LETTERS, permitted};
-use asn1_bounds::{Bounded, Extensible, PermittedAlphabet, Size, Value};
+use asn1_bounds::{Bounded, Extensible, PermittedAlphabet, Value};
 use std::alloc::Global;
 use std::process::Abort;
 
@@ -26,13 +26,6 @@ fn keeps_extensibility_of_both(rt: HostRuntime) {
         empty.extensible_with_constraints(Some(&more)),
         extensible,
     );
-}
-
-#[test]
-fn intersects_lengths(rt: HostRuntime) {
-    let length = Extensible::new(Size::fixed(2)).set_extensible(true);
-    let both = length.intersect(&Extensible::new(Size::default()));
-    assert!(rt; both == Extensible::new(Size::fixed(2)));
 }
 
 /// Asserts that both parts have these characters in common, without a marker.

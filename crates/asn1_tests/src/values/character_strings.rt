@@ -1,5 +1,5 @@
 //! Character strings and their alphabets.
-use asn1_values::kind::{Ia5, Numeric, Printable, Visible};
+use asn1_values::kind::{Numeric, Printable, Visible};
 use asn1_values::{
     Alphabet, AlphabetError, AlphabetString, BmpString, GeneralString, GraphicString, Ia5String,
     NumericString, PrintableString, StringUnit, TeletexString, UnitString, VisibleString,
@@ -25,13 +25,6 @@ fn alphabets_are_the_tables(rt: HostRuntime) {
         &rt,
         b"ABCDEFGHIJKLMNOPQRSTUVWXYZabcdefghijklmnopqrstuvwxyz0123456789 '()+,-./:=?",
     );
-}
-
-#[test]
-fn ia5_is_ascii(rt: HostRuntime) {
-    for unit in 0..=u8::MAX {
-        assert!(rt; Ia5::allows(&unit) == (unit < 128), "unit {unit}");
-    }
 }
 
 fn own<U: Copy>(rt: &impl Abort, alloc: Global, units: &[U]) -> Vec<U> {
