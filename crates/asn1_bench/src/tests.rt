@@ -2,6 +2,7 @@
 mod calls;
 mod errors;
 mod failures;
+mod orders;
 mod refusals;
 mod samples;
 mod text;

@@ -7,6 +7,7 @@ use asn1_record_decoder::RecordDecoder;
 use asn1_records::RecordEncoder;
 use asn1_samples::{
     Badge, Color, Contact, Corner, Envelope, Labelled, Person, Plate, Profile, Settings, Shape,
+    Visit,
 };
 use asn1_tags::Tag;
 use asn1_trees::Node;
@@ -114,6 +115,24 @@ fn a_profile_with_a_phone_is_written_and_read(rt: HostRuntime) {
     );
 }
 
+/// The last component of the group is absent, and so is the addition after it.
+#[test]
+fn a_visit_is_written_and_read(rt: HostRuntime) {
+    let visit = Visit {
+        day: 1,
+        contact: Some(phone(&rt, rt.alloc())),
+        note: None,
+    };
+    assert_round_trip(
+        &rt,
+        rt.alloc(),
+        visit,
+        "sequence Universal 16 Visit { Context 0 INTEGER 1 \
+         group { present Context 3 Context 3 NumericString numeric [49, 50] absent Context 4 } \
+         absent Context 5 } ",
+    );
+}
+
 fn badge(rt: &impl Abort, alloc: Global) -> Badge {
     Badge {
         id: 7,
@@ -123,11 +142,11 @@ fn badge(rt: &impl Abort, alloc: Global) -> Badge {
 }
 
 #[test]
-fn a_badge_is_written(rt: HostRuntime) {
-    assert_written(
+fn a_badge_is_written_and_read(rt: HostRuntime) {
+    assert_round_trip(
         &rt,
         rt.alloc(),
-        &badge(&rt, rt.alloc()),
+        badge(&rt, rt.alloc()),
         "set Universal 17 Badge { Universal 2 INTEGER 7 \
          present Universal 26 Universal 26 VisibleString visible [120] \
          alternative Universal 1 Shape { alternative Universal 1 Corner { Universal 1 BOOLEAN true } } } ",

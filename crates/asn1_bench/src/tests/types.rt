@@ -191,10 +191,10 @@ fn lists_have_their_elements(rt: HostRuntime) {
         &[7u8],
         "sequence of Universal 16 SEQUENCE_OF { Universal 2 INTEGER 7 } ",
     );
-    assert_written(
+    assert_round_trip(
         &rt,
         alloc,
-        &SetOf::from_vec(own(&rt, alloc, &[7u8])),
+        SetOf::from_vec(own(&rt, alloc, &[7u8])),
         "set of Universal 17 SET_OF { Universal 2 INTEGER 7 } ",
     );
 }
@@ -251,10 +251,10 @@ fn instance(rt: &impl Abort, alloc: Global) -> InstanceOf<u8> {
 
 #[test]
 fn an_instance_has_its_type_and_its_value(rt: HostRuntime) {
-    assert_written(
+    assert_round_trip(
         &rt,
         rt.alloc(),
-        &instance(&rt, rt.alloc()),
+        instance(&rt, rt.alloc()),
         "sequence Universal 8 SEQUENCE { Universal 6 OBJECT_IDENTIFIER arcs [1, 3] \
          prefix Context 0 SEQUENCE { Universal 2 INTEGER 9 } } ",
     );
