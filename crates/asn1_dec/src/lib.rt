@@ -9,13 +9,14 @@
 //! | [`Decode`] | a type whose values are read, by four entry points; one of them is the type's own |
 //! | [`DecodeFields`] | a type whose components are read in their order: a SEQUENCE or a group of additions |
 //! | [`DecodeChoice`] | a CHOICE whose alternatives are read |
+//! | [`DecodeSet`], [`keep_once`] | a SET whose components are read in whatever order they come |
 //! | [`DecodeError`], [`Needed`] | why a value was not read |
 //! | [`laws`] | what the derives of the errors give |
 //!
 //! The types of the lower crates and of the language are read: `()`, `bool`, the built-in integers but `u128`, `Integer`,
-//! `LimitedInteger`, every kind of string, `ObjectIdentifier`, `Option`, `Box`, `Cow`, `Vec`, `Implicit`, `Explicit`, `Any` and
-//! `PhantomData`. An array is read as an `Array` of `asn1_types`: the borrow checker does not cover a function that answers an
-//! array, of a length that is a parameter, or an error with a text.
+//! `LimitedInteger`, every kind of string, `ObjectIdentifier`, `Option`, `Box`, `Cow`, `Vec`, `SetOf`, `Implicit`, `Explicit`,
+//! `InstanceOf`, `Any` and `PhantomData`. An array is read as an `Array` of `asn1_types`: the borrow checker does not cover a
+//! function that answers an array, of a length that is a parameter, or an error with a text.
 //!
 //! What the contracts promise, and the words that they use:
 //!
@@ -39,6 +40,11 @@
 //! - A codec states before what it stands, whether it has failed, its allowance, and which byte strings it takes as one value of
 //!   an open type (`Reader`). The order inside sets means nothing to it (`IsLawful`): so it opens a set before some
 //!   rearrangement of what was written.
+//! - The components of a SET are read one by one, as parts, in whatever order they come, and then put together (`ReadsPart`,
+//!   `MakesValue` of `specs/SetParts.antt`). Which component a record is follows from its tag and the table of the type.
+//!
+//! `proofs/PartWays.antt` has lemmas for authors of types whose components are read in their order, and `proofs/ReadParts.antt`
+//! and `proofs/SlotLaws.antt` those for authors of a SET.
 //!
 //! Calls that make values take memory, and those with constraints that have a permitted alphabet.
 #![tactic(auto)]

@@ -32,7 +32,9 @@ mod universal_string;
 pub use asn1_bounds::{
     Codec, Constraint, ConstraintDiscriminant, InnerSubtypeConstraint, InnerSubtypeConstraintError,
 };
-pub use asn1_dec::{Decode, DecodeChoice, DecodeError, DecodeFields, Decoder, Needed};
+pub use asn1_dec::{
+    Decode, DecodeChoice, DecodeError, DecodeFields, DecodeSet, Decoder, Needed, keep_once,
+};
 pub use asn1_enc::{Encode, EncodeChoice, EncodeError, EncodeFields, Encoder, EnumeratedValue};
 pub use asn1_enumerations::{EnumeratedTable, item};
 pub use asn1_types::{
