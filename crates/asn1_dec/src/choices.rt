@@ -1,5 +1,5 @@
 //! A CHOICE under whatever tag.
-ghost use Rattle.asn1_dec.specs.Reading.{Keeps, ReadsValue};
+ghost use Rattle.asn1_dec.specs.Reading.{Keeps, NeedsAllowance, ReadsValue};
 ghost use Rattle.asn1_model.specs.ConstraintSets.{constraint_set};
 
 use crate::decode::DecodeChoice;
@@ -17,6 +17,7 @@ pub(crate) fn read_choice<T: DecodeChoice + ChoiceType, D: Decoder>(
     constraints: &Constraints<'_>,
 ) -> Result<T, DecodeError>
     ensures read { ReadsValue D.reader T.meaning T.eq tag (constraint_set constraints.now) decoder.old decoder.new result }
+    ensures depth_first { NeedsAllowance D.reader decoder.old result }
     ensures keeps { Keeps D.reader decoder.old decoder.new result }
 {
     if tag.is_choice() {

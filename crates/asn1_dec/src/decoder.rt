@@ -705,6 +705,7 @@ pub trait Decoder {
     where
         Self: Sized,
         ensures read { ReadsValue reader T.meaning T.eq tag (constraint_set constraints.now) self.old self.new result }
+        ensures depth_first { NeedsAllowance reader self.old result }
         ensures keeps { Keeps reader self.old self.new result }
     {
         read_choice(self, tag, constraints)
@@ -719,6 +720,7 @@ pub trait Decoder {
     where
         Self: Sized,
         ensures read { (vs : List T) (n : Name) (rest : List Record) (outer : Ahead) → CanStandInside T.meaning → All T.meaning.IsOfType vs → All (T.meaning.IsValid reader.takes) vs → ReadsBack reader self.old self.new (set_of_records tag (constraint_set constraints.now) n (flat_map (own_records T.meaning) vs)) rest outer (λ w. ⟦<SetOf<T> as PartialEq>⟧.eq w vs ≡ true) result }
+        ensures depth_first { NeedsAllowance reader self.old result }
         ensures keeps { Keeps reader self.old self.new result }
     {
         read_set_of(self, tag, constraints)
@@ -734,6 +736,7 @@ pub trait Decoder {
         Self: Sized,
         ensures components { (v : S) (n : Name) (rest : List Record) (outer : Ahead) → CanBeInSet (all_components S.components) → EachIsOfType (all_components S.components) v → EachIsValid (all_components S.components) reader.takes v → ReadsBack reader self.old self.new (set_records tag n (component_records S.components v)) rest outer (λ w. S.eq w v ≡ true) result }
         ensures as_meant { S.components.kind ≡ is_set → (c : ConstraintSet) → ReadsValue reader S.meaning S.eq tag c self.old self.new result }
+        ensures depth_first { NeedsAllowance reader self.old result }
         ensures keeps { Keeps reader self.old self.new result }
     {
         read_set(self, tag)

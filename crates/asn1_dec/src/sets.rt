@@ -1,7 +1,7 @@
 //! A SET, by its components.
 ghost use Rattle.asn1_components.specs.ComponentLists.{EachIsOfType, EachIsValid};
 ghost use Rattle.asn1_components.specs.Components.{all_components, component_records, is_set};
-ghost use Rattle.asn1_dec.specs.Reading.{Ahead, Keeps, Moves, ReadsBack, ReadsValue, records_in};
+ghost use Rattle.asn1_dec.specs.Reading.{Ahead, Keeps, Moves, NeedsAllowance, ReadsBack, ReadsValue, records_in};
 ghost use Rattle.asn1_model.specs.Composites.{set_records};
 ghost use Rattle.asn1_model.specs.ConstraintSets.{ConstraintSet};
 ghost use Rattle.asn1_model.specs.Records.{Name, Record, highest};
@@ -50,6 +50,7 @@ fn read_parts<S: DecodeSet, D: Decoder>(
 /// A SET under a tag.
 fn read_components<S: DecodeSet, D: Decoder>(decoder: &mut D, tag: Tag) -> Result<S, DecodeError>
     ensures read { (v : S) (n : Name) (rest : List Record) (outer : Ahead) → CanBeInSet (all_components S.components) → EachIsOfType (all_components S.components) v → EachIsValid (all_components S.components) D.reader.takes v → ReadsBack D.reader decoder.old decoder.new (set_records tag n (component_records S.components v)) rest outer (λ w. S.eq w v ≡ true) result }
+    ensures depth_first { NeedsAllowance D.reader decoder.old result }
     ensures keeps { Keeps D.reader decoder.old decoder.new result }
 {
     let bound = decoder.open_set::<S>(tag)?;
@@ -70,6 +71,7 @@ pub(crate) fn read_set<S: DecodeSet + ConstructedType, D: Decoder>(
 ) -> Result<S, DecodeError>
     ensures components { (v : S) (n : Name) (rest : List Record) (outer : Ahead) → CanBeInSet (all_components S.components) → EachIsOfType (all_components S.components) v → EachIsValid (all_components S.components) D.reader.takes v → ReadsBack D.reader decoder.old decoder.new (set_records tag n (component_records S.components v)) rest outer (λ w. S.eq w v ≡ true) result }
     ensures as_meant { S.components.kind ≡ is_set → (c : ConstraintSet) → ReadsValue D.reader S.meaning S.eq tag c decoder.old decoder.new result }
+    ensures depth_first { NeedsAllowance D.reader decoder.old result }
     ensures keeps { Keeps D.reader decoder.old decoder.new result }
 {
     read_components(decoder, tag)
