@@ -20,7 +20,7 @@ fn assert_option(rt: &impl Abort, answer: Result<Option<u8>, DecodeError>, expec
     assert!(rt; answer == Ok(expected));
 }
 
-fn write_scalars(rt: &impl Abort, encoder: &mut RecordEncoder) {
+fn write_scalars<E: Encoder>(rt: &impl Abort, encoder: &mut E) {
     let constraints = &Constraints::NONE;
     done(rt, encoder.encode_bool(FIRST, true, NAME));
     done(rt, encoder.encode_null(FIRST, NAME));
@@ -60,7 +60,7 @@ fn scalars_are_written(rt: HostRuntime) {
 }
 
 /// Writes a value under a tag and a name.
-fn write<T: Encode + Drop>(rt: &impl Abort, encoder: &mut RecordEncoder, value: T) {
+fn write<T: Encode + Drop, E: Encoder>(rt: &impl Abort, encoder: &mut E, value: T) {
     done(
         rt,
         value.encode_with_tag_and_identifier(encoder, FIRST, NAME),
@@ -83,7 +83,7 @@ fn numeric(rt: &impl Abort, alloc: Global) -> NumericString {
     NumericString::new(own(rt, alloc, b"1 2")).expect(rt, "a text")
 }
 
-fn write_strings(rt: &impl Abort, alloc: Global, encoder: &mut RecordEncoder) {
+fn write_strings<E: Encoder>(rt: &impl Abort, alloc: Global, encoder: &mut E) {
     write(rt, encoder, visible(rt, alloc));
     write(rt, encoder, GeneralString::new(own(rt, alloc, &[0, 255])));
     write(rt, encoder, GraphicString::new(own(rt, alloc, &[1, 254])));
@@ -113,7 +113,7 @@ fn strings_are_written(rt: HostRuntime) {
     );
 }
 
-fn write_scopes(rt: &impl Abort, encoder: &mut RecordEncoder) {
+fn write_scopes<E: Encoder>(rt: &impl Abort, encoder: &mut E) {
     let constraints = &Constraints::NONE;
     done(rt, encoder.encode_enumerated(FIRST, &Color::Blue, NAME));
     done(rt, encoder.encode_explicit_prefix(FIRST, &9u8, NAME));
@@ -134,7 +134,7 @@ fn assert_list(rt: &impl Abort, answer: Result<Vec<u8>, DecodeError>) {
     assert!(rt; numbers.as_slice() == [3, 1].as_slice());
 }
 
-fn read_scopes(rt: &impl Abort, decoder: &mut RecordDecoder<'_>) {
+fn read_scopes<D: Decoder>(rt: &impl Abort, decoder: &mut D) {
     let constraints = &Constraints::NONE;
     assert!(rt; decoder.decode_enumerated(FIRST) == Ok(Color::Blue));
     assert_number(rt, decoder.decode_explicit_prefix(FIRST), 9);
@@ -173,7 +173,7 @@ fn instance(rt: &impl Abort, alloc: Global) -> InstanceOf<u8> {
     }
 }
 
-fn write_sequence(rt: &impl Abort, encoder: &mut RecordEncoder, value: InstanceOf<u8>) {
+fn write_sequence<E: Encoder>(rt: &impl Abort, encoder: &mut E, value: InstanceOf<u8>) {
     done(rt, encoder.encode_sequence(FIRST, &value, NAME));
 }
 
@@ -214,7 +214,7 @@ fn badge() -> Badge {
     }
 }
 
-fn write_set(rt: &impl Abort, encoder: &mut RecordEncoder, value: Badge) {
+fn write_set<E: Encoder>(rt: &impl Abort, encoder: &mut E, value: Badge) {
     done(rt, encoder.encode_set(FIRST, &value, NAME));
 }
 
@@ -243,7 +243,7 @@ fn numbers(rt: &impl Abort, alloc: Global) -> SetOf<u8> {
     SetOf::from_vec(own(rt, alloc, &[2, 1]))
 }
 
-fn write_set_of(rt: &impl Abort, encoder: &mut RecordEncoder, value: SetOf<u8>) {
+fn write_set_of<E: Encoder>(rt: &impl Abort, encoder: &mut E, value: SetOf<u8>) {
     let constraints = &Constraints::NONE;
     done(rt, encoder.encode_set_of(FIRST, &value, constraints, NAME));
 }
@@ -270,7 +270,7 @@ fn a_set_of_elements_is_written_and_read(rt: HostRuntime) {
 }
 
 /// Three numbers that are there, and one that is absent.
-fn write_four(rt: &impl Abort, encoder: &mut RecordEncoder) {
+fn write_four<E: Encoder>(rt: &impl Abort, encoder: &mut E) {
     let constraints = &Constraints::NONE;
     done(rt, encoder.encode_some(&9u8, NAME));
     done(rt, encoder.encode_none::<u8>(NAME));
@@ -280,7 +280,7 @@ fn write_four(rt: &impl Abort, encoder: &mut RecordEncoder) {
 }
 
 /// The same, and a number after an explicit tag.
-fn write_five(rt: &impl Abort, encoder: &mut RecordEncoder) {
+fn write_five<E: Encoder>(rt: &impl Abort, encoder: &mut E) {
     write_four(rt, encoder);
     let some = encoder.encode_some_with_explicit_prefix(FIRST, &9u8, NAME);
     done(rt, some);
@@ -301,7 +301,7 @@ fn options_are_written(rt: HostRuntime) {
     );
 }
 
-fn read_options(rt: &impl Abort, decoder: &mut RecordDecoder<'_>) {
+fn read_options<D: Decoder>(rt: &impl Abort, decoder: &mut D) {
     let constraints = &Constraints::NONE;
     assert_option(rt, decoder.decode_optional(), Some(9));
     assert_option(
@@ -319,7 +319,7 @@ fn read_options(rt: &impl Abort, decoder: &mut RecordDecoder<'_>) {
     );
 }
 
-fn read_additions(rt: &impl Abort, decoder: &mut RecordDecoder<'_>) {
+fn read_additions<D: Decoder>(rt: &impl Abort, decoder: &mut D) {
     let constraints = &Constraints::NONE;
     assert_option(rt, decoder.decode_extension_addition(), Some(9));
     let none = decoder.decode_extension_addition_with_constraints(constraints);
@@ -358,7 +358,7 @@ fn eight(_alloc: Global) -> Result<u8, AllocError> {
     Ok(8)
 }
 
-fn read_defaults(rt: &impl Abort, decoder: &mut RecordDecoder<'_>) {
+fn read_defaults<D: Decoder>(rt: &impl Abort, decoder: &mut D) {
     let constraints = &Constraints::NONE;
     assert_number(rt, decoder.decode_default(eight), 9);
     let usual = decoder.decode_default_with_constraints(eight, constraints);
@@ -368,7 +368,7 @@ fn read_defaults(rt: &impl Abort, decoder: &mut RecordDecoder<'_>) {
     assert_number(rt, other, 9);
 }
 
-fn read_additions_with_defaults(rt: &impl Abort, decoder: &mut RecordDecoder<'_>) {
+fn read_additions_with_defaults<D: Decoder>(rt: &impl Abort, decoder: &mut D) {
     let constraints = &Constraints::NONE;
     assert_number(rt, decoder.decode_extension_addition_with_default(eight), 9);
     let usual = decoder.decode_extension_addition_with_default_and_constraints(eight, constraints);
@@ -395,7 +395,7 @@ fn defaults_are_read(rt: HostRuntime) {
     assert_end(&rt, decoder);
 }
 
-fn write_defaults(rt: &impl Abort, encoder: &mut RecordEncoder) {
+fn write_defaults<E: Encoder>(rt: &impl Abort, encoder: &mut E) {
     let constraints = &Constraints::NONE;
     done(rt, encoder.encode_default(&9u8, nine, NAME));
     done(
@@ -437,7 +437,7 @@ fn defaults_are_written(rt: HostRuntime) {
     );
 }
 
-fn write_additions(rt: &impl Abort, encoder: &mut RecordEncoder) {
+fn write_additions<E: Encoder>(rt: &impl Abort, encoder: &mut E) {
     let constraints = &Constraints::NONE;
     let some = encoder.encode_extension_addition(FIRST, constraints, Some(&9u8), NAME);
     done(rt, some);
@@ -481,13 +481,13 @@ fn no_contact() -> Contact {
     }
 }
 
-fn write_group(rt: &impl Abort, encoder: &mut RecordEncoder, contact: Option<Contact>) {
+fn write_group<E: Encoder>(rt: &impl Abort, encoder: &mut E, contact: Option<Contact>) {
     let group = encoder.encode_extension_addition_group(contact.as_ref(), NAME);
     done(rt, group);
 }
 
 /// Asserts that a group is there, and what is in it; or that it is absent.
-fn assert_group(rt: &impl Abort, decoder: &mut RecordDecoder<'_>, expected: Option<Contact>) {
+fn assert_group<D: Decoder>(rt: &impl Abort, decoder: &mut D, expected: Option<Contact>) {
     assert!(rt; decoder.decode_extension_addition_group() == Ok(expected));
 }
 
@@ -512,10 +512,14 @@ fn groups_are_written_and_read(rt: HostRuntime) {
     assert_end(&rt, decoder);
 }
 
+fn assert_refuses<D: Decoder>(rt: &impl Abort, decoder: &mut D) {
+    assert!(rt; decoder.refuse(DecodeError::OutOfRange) == DecodeError::OutOfRange);
+    assert!(rt; decoder.decode_null(Tag::NULL) == Err(DecodeError::Failed));
+}
+
 #[test]
 fn a_decoder_that_refuses_has_failed(rt: HostRuntime) {
     let mut decoder = RecordDecoder::new(rt.alloc(), &[], 0);
-    assert!(rt; decoder.refuse(DecodeError::OutOfRange) == DecodeError::OutOfRange);
-    assert!(rt; decoder.decode_null(Tag::NULL) == Err(DecodeError::Failed));
+    assert_refuses(&rt, &mut decoder);
     assert!(rt; decoder.finish() == Err(DecodeError::Failed));
 }

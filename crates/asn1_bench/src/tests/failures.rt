@@ -66,12 +66,12 @@ fn nothing_is_open(rt: HostRuntime) {
     );
 }
 
-fn close_a_group_as_a_scope(encoder: &mut RecordEncoder) -> Result<(), EncodeError> {
+fn close_a_group_as_a_scope<E: Encoder>(encoder: &mut E) -> Result<(), EncodeError> {
     encoder.open_group::<Contact>()?;
     encoder.close()
 }
 
-fn close_a_scope_as_a_group(encoder: &mut RecordEncoder) -> Result<(), EncodeError> {
+fn close_a_scope_as_a_group<E: Encoder>(encoder: &mut E) -> Result<(), EncodeError> {
     encoder.open_explicit_prefix(Tag::NULL, Identifier::NULL)?;
     encoder.close_group()
 }
@@ -98,7 +98,7 @@ fn a_refused_default_is_an_error_of_memory(rt: HostRuntime) {
 }
 
 /// A call of each kind that takes memory.
-pub(super) fn write_all(encoder: &mut RecordEncoder) -> Result<(), EncodeError> {
+pub(super) fn write_all<E: Encoder>(encoder: &mut E) -> Result<(), EncodeError> {
     let constraints = &Constraints::NONE;
     encoder.encode_octet_string(Tag::OCTET_STRING, constraints, &[1], Identifier::EMPTY)?;
     encoder.encode_sequence_of(Tag::SEQUENCE, &[1u8, 2], constraints, Identifier::EMPTY)?;

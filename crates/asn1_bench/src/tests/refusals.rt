@@ -2,10 +2,10 @@
 use crate::rules::BenchRules;
 use crate::tests::failures::write_all;
 use crate::tests::samples::parent;
-use crate::tests::values::NAME;
+use crate::tests::values::{NAME, assert_end, assert_number};
 use asn1_bounds::Constraints;
 use asn1_dec::{Decode, DecodeError, Decoder, Needed};
-use asn1_enc::{Encode, EncodeError};
+use asn1_enc::{Encode, EncodeError, Encoder};
 use asn1_record_decoder::RecordDecoder;
 use asn1_records::{Content, Head, Record, RecordEncoder};
 use asn1_samples::{Color, Contact, Corner, Person, Plate};
@@ -173,7 +173,7 @@ fn two_numbers(rt: &impl Abort, alloc: Global) -> Vec<Record> {
 }
 
 /// Asserts why the next value is not read.
-fn assert_error<T: Decode>(rt: &impl Abort, decoder: &mut RecordDecoder<'_>, error: DecodeError) {
+fn assert_error<T: Decode, D: Decoder>(rt: &impl Abort, decoder: &mut D, error: DecodeError) {
     assert!(rt; T::decode(decoder).err() == Some(error));
 }
 
@@ -182,23 +182,23 @@ fn assert_error<T: Decode>(rt: &impl Abort, decoder: &mut RecordDecoder<'_>, err
 fn what_follows_a_number_outside_its_limits_is_read(rt: HostRuntime) {
     let records = two_numbers(&rt, rt.alloc());
     let mut decoder = RecordDecoder::new(rt.alloc(), records.as_slice(), 0);
-    assert_error::<ConstrainedInteger<1, 10>>(&rt, &mut decoder, DecodeError::OutOfRange);
-    assert!(rt; u8::decode(&mut decoder) == Ok(7));
-    assert!(rt; decoder.finish().is_ok());
+    assert_error::<ConstrainedInteger<1, 10>, _>(&rt, &mut decoder, DecodeError::OutOfRange);
+    assert_number(&rt, u8::decode(&mut decoder), 7);
+    assert_end(&rt, decoder);
 }
 
 #[test]
 fn a_list_is_too_deep(rt: HostRuntime) {
     let records = written(&rt, rt.alloc(), [true]);
     let mut decoder = RecordDecoder::new(rt.alloc(), records.as_slice(), 0);
-    assert_error::<Vec<bool>>(&rt, &mut decoder, DecodeError::Depth);
-    assert_error::<bool>(&rt, &mut decoder, DecodeError::Failed);
-    assert_error::<Vec<bool>>(&rt, &mut decoder, DecodeError::Failed);
+    assert_error::<Vec<bool>, _>(&rt, &mut decoder, DecodeError::Depth);
+    assert_error::<bool, _>(&rt, &mut decoder, DecodeError::Failed);
+    assert_error::<Vec<bool>, _>(&rt, &mut decoder, DecodeError::Failed);
     assert!(rt; decoder.finish() == Err(DecodeError::Failed));
 }
 
 /// The calls that read what `write_all` writes.
-fn read_all(decoder: &mut RecordDecoder<'_>) -> Result<(), DecodeError> {
+fn read_all<D: Decoder>(decoder: &mut D) -> Result<(), DecodeError> {
     let constraints = &Constraints::NONE;
     decoder.decode_octet_string(Tag::OCTET_STRING, constraints)?;
     decoder.decode_sequence_of::<u8>(Tag::SEQUENCE, constraints)?;
@@ -207,7 +207,7 @@ fn read_all(decoder: &mut RecordDecoder<'_>) -> Result<(), DecodeError> {
     decoder.close_group()
 }
 
-/// Asserts that all was read, or that memory was short and the decoder has failed.
+/// Asserts that all was read, or that memory was short; the decoder has then failed.
 fn assert_all_read(rt: &impl Abort, mut decoder: RecordDecoder<'_>) {
     match read_all(&mut decoder) {
         Ok(()) => assert!(rt; decoder.finish() == Ok(())),
@@ -228,29 +228,31 @@ fn memory_runs_out(rt: HostRuntime) {
     }
 }
 
-/// A box is made after its content was read: where there is no memory for it, the decoder is after the content.
-fn assert_box_read(rt: &impl Abort, mut decoder: RecordDecoder<'_>) {
-    if let Err(error) = Box::<u8>::decode(&mut decoder) {
+/// Asserts that a value is read, or that memory was short.
+fn read_or_memory<T: Decode, D: Decoder>(rt: &impl Abort, decoder: &mut D) {
+    if let Err(error) = T::decode(decoder) {
         assert!(rt; error == DecodeError::Memory);
     }
-    assert!(rt; decoder.finish() == Ok(()));
 }
 
+/// A box is made after its content was read: where there is no memory for it, the decoder is after the content.
 #[test]
 fn memory_for_a_box_runs_out(rt: HostRuntime) {
     let mut encoder = RecordEncoder::new(rt.alloc(), 0);
     if let Ok(()) = 7u8.encode(&mut encoder) {
         let records = encoder.finish();
-        assert_box_read(&rt, RecordDecoder::new(rt.alloc(), records.as_slice(), 0));
+        let mut decoder = RecordDecoder::new(rt.alloc(), records.as_slice(), 0);
+        read_or_memory::<Box<u8>, _>(&rt, &mut decoder);
+        assert_end(&rt, decoder);
     }
 }
 
 /// Asserts that a plate is read, or that memory was short: where it was so for the constraints of the type, the decoder is as it
 /// was, and else it has failed.
-fn assert_plate_read(rt: &impl Abort, mut decoder: RecordDecoder<'_>) {
-    if let Err(error) = Plate::decode(&mut decoder) {
+fn assert_plate_read<D: Decoder>(rt: &impl Abort, decoder: &mut D) {
+    if let Err(error) = Plate::decode(decoder) {
         assert!(rt; error == DecodeError::Memory);
-        let again = Plate::decode(&mut decoder).err();
+        let again = Plate::decode(decoder).err();
         assert!(rt; again == None || again == Some(DecodeError::Failed));
     }
 }
@@ -261,13 +263,14 @@ fn memory_for_an_alphabet_runs_out(rt: HostRuntime) {
         let mut encoder = RecordEncoder::new(rt.alloc(), 0);
         if let Ok(()) = write_letters(&mut encoder, letters) {
             let records = encoder.finish();
-            assert_plate_read(&rt, RecordDecoder::new(rt.alloc(), records.as_slice(), 0));
+            let mut decoder = RecordDecoder::new(rt.alloc(), records.as_slice(), 0);
+            assert_plate_read(&rt, &mut decoder);
         }
     }
 }
 
 /// Writes a plate, but for its constraints.
-fn write_letters(encoder: &mut RecordEncoder, letters: Vec<u8>) -> Result<(), EncodeError> {
+fn write_letters<E: Encoder>(encoder: &mut E, letters: Vec<u8>) -> Result<(), EncodeError> {
     match VisibleString::new(letters) {
         Ok(letters) => letters.encode(encoder),
         Err(_) => Ok(()),
@@ -278,12 +281,16 @@ fn no_memory(_alloc: Global) -> Result<u8, AllocError> {
     Err(AllocError)
 }
 
+fn read_no_default<D: Decoder>(rt: &impl Abort, decoder: &mut D) {
+    assert!(rt; decoder.decode_default(no_memory) == Err(DecodeError::Memory));
+    assert!(rt; decoder.decode_default(no_memory) == Err(DecodeError::Failed));
+}
+
 #[test]
 fn a_refused_default_is_an_error_of_memory(rt: HostRuntime) {
     let records = written(&rt, rt.alloc(), None::<u8>);
     let mut decoder = RecordDecoder::new(rt.alloc(), records.as_slice(), 0);
-    assert!(rt; decoder.decode_default(no_memory) == Err(DecodeError::Memory));
-    assert!(rt; decoder.decode_default(no_memory) == Err(DecodeError::Failed));
+    read_no_default(&rt, &mut decoder);
 }
 
 /// Asserts that a value is read back, or that memory was short.

@@ -115,18 +115,21 @@ fn a_profile_with_a_phone_is_written_and_read(rt: HostRuntime) {
     );
 }
 
+fn visit(contact: Option<Contact>) -> Visit {
+    Visit {
+        day: 1,
+        contact,
+        note: None,
+    }
+}
+
 /// The last component of the group is absent, and so is the addition after it.
 #[test]
 fn a_visit_is_written_and_read(rt: HostRuntime) {
-    let visit = Visit {
-        day: 1,
-        contact: Some(phone(&rt, rt.alloc())),
-        note: None,
-    };
     assert_round_trip(
         &rt,
         rt.alloc(),
-        visit,
+        visit(Some(phone(&rt, rt.alloc()))),
         "sequence Universal 16 Visit { Context 0 INTEGER 1 \
          group { present Context 3 Context 3 NumericString numeric [49, 50] absent Context 4 } \
          absent Context 5 } ",

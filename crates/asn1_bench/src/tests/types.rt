@@ -4,8 +4,8 @@ use crate::tests::values::{
     FIRST, NAME, assert_end, assert_number, assert_round_trip, assert_written, done, own, text,
 };
 use asn1_bounds::Constraints;
-use asn1_dec::Decode;
-use asn1_enc::Encode;
+use asn1_dec::{Decode, Decoder};
+use asn1_enc::{Encode, Encoder};
 use asn1_record_decoder::RecordDecoder;
 use asn1_records::RecordEncoder;
 use asn1_schema::{Array, UniversalString};
@@ -261,7 +261,7 @@ fn an_instance_has_its_type_and_its_value(rt: HostRuntime) {
 }
 
 /// The same number by each entry point.
-fn write_by_each_entry(rt: &impl Abort, encoder: &mut RecordEncoder) {
+fn write_by_each_entry<E: Encoder>(rt: &impl Abort, encoder: &mut E) {
     let constraints = &Constraints::NONE;
     done(rt, 7u8.encode_with_tag(encoder, FIRST));
     done(rt, 7u8.encode_with_identifier(encoder, NAME));
@@ -277,7 +277,7 @@ fn write_by_each_entry(rt: &impl Abort, encoder: &mut RecordEncoder) {
     );
 }
 
-fn read_by_each_entry(rt: &impl Abort, decoder: &mut RecordDecoder<'_>) {
+fn read_by_each_entry<D: Decoder>(rt: &impl Abort, decoder: &mut D) {
     let constraints = &Constraints::NONE;
     assert_number(rt, u8::decode_with_tag(decoder, FIRST), 7);
     assert_number(rt, u8::decode(decoder), 7);
