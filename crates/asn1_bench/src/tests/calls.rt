@@ -286,11 +286,16 @@ fn write_five<E: Encoder>(rt: &impl Abort, encoder: &mut E) {
     done(rt, some);
 }
 
+/// The same, and a number that is absent under a tag.
+fn write_six<E: Encoder>(rt: &impl Abort, encoder: &mut E) {
+    write_five(rt, encoder);
+    done(rt, encoder.encode_none_with_tag(FIRST, NAME));
+}
+
 #[test]
 fn options_are_written(rt: HostRuntime) {
     let mut encoder = RecordEncoder::new(rt.alloc(), 1);
-    write_five(&rt, &mut encoder);
-    done(&rt, encoder.encode_none_with_tag(FIRST, NAME));
+    write_six(&rt, &mut encoder);
     assert_records(
         &rt,
         rt.alloc(),
@@ -338,15 +343,23 @@ fn read_additions<D: Decoder>(rt: &impl Abort, decoder: &mut D) {
     assert_option(rt, some, Some(9));
 }
 
+fn write_five_twice<E: Encoder>(rt: &impl Abort, encoder: &mut E) {
+    write_five(rt, encoder);
+    write_five(rt, encoder);
+}
+
+fn read_options_and_additions<D: Decoder>(rt: &impl Abort, decoder: &mut D) {
+    read_options(rt, decoder);
+    read_additions(rt, decoder);
+}
+
 #[test]
 fn options_and_additions_are_read(rt: HostRuntime) {
     let mut encoder = RecordEncoder::new(rt.alloc(), 1);
-    write_five(&rt, &mut encoder);
-    write_five(&rt, &mut encoder);
+    write_five_twice(&rt, &mut encoder);
     let records = encoder.finish();
     let mut decoder = RecordDecoder::new(rt.alloc(), records.as_slice(), 1);
-    read_options(&rt, &mut decoder);
-    read_additions(&rt, &mut decoder);
+    read_options_and_additions(&rt, &mut decoder);
     assert_end(&rt, decoder);
 }
 
@@ -383,15 +396,23 @@ fn read_additions_with_defaults<D: Decoder>(rt: &impl Abort, decoder: &mut D) {
     assert_number(rt, other, 9);
 }
 
+fn write_four_twice<E: Encoder>(rt: &impl Abort, encoder: &mut E) {
+    write_four(rt, encoder);
+    write_four(rt, encoder);
+}
+
+fn read_all_defaults<D: Decoder>(rt: &impl Abort, decoder: &mut D) {
+    read_defaults(rt, decoder);
+    read_additions_with_defaults(rt, decoder);
+}
+
 #[test]
 fn defaults_are_read(rt: HostRuntime) {
     let mut encoder = RecordEncoder::new(rt.alloc(), 0);
-    write_four(&rt, &mut encoder);
-    write_four(&rt, &mut encoder);
+    write_four_twice(&rt, &mut encoder);
     let records = encoder.finish();
     let mut decoder = RecordDecoder::new(rt.alloc(), records.as_slice(), 0);
-    read_defaults(&rt, &mut decoder);
-    read_additions_with_defaults(&rt, &mut decoder);
+    read_all_defaults(&rt, &mut decoder);
     assert_end(&rt, decoder);
 }
 
@@ -491,12 +512,22 @@ fn assert_group<D: Decoder>(rt: &impl Abort, decoder: &mut D, expected: Option<C
     assert!(rt; decoder.decode_extension_addition_group() == Ok(expected));
 }
 
+fn write_groups<E: Encoder>(rt: &impl Abort, alloc: Global, encoder: &mut E) {
+    write_group(rt, encoder, None);
+    write_group(rt, encoder, Some(no_contact()));
+    write_group(rt, encoder, Some(contact(rt, alloc)));
+}
+
+fn read_groups<D: Decoder>(rt: &impl Abort, alloc: Global, decoder: &mut D) {
+    assert_group(rt, decoder, None);
+    assert_group(rt, decoder, None);
+    assert_group(rt, decoder, Some(contact(rt, alloc)));
+}
+
 #[test]
 fn groups_are_written_and_read(rt: HostRuntime) {
     let mut encoder = RecordEncoder::new(rt.alloc(), 0);
-    write_group(&rt, &mut encoder, None);
-    write_group(&rt, &mut encoder, Some(no_contact()));
-    write_group(&rt, &mut encoder, Some(contact(&rt, rt.alloc())));
+    write_groups(&rt, rt.alloc(), &mut encoder);
     let records = encoder.finish();
     assert_records(
         &rt,
@@ -506,9 +537,7 @@ fn groups_are_written_and_read(rt: HostRuntime) {
          group { absent Context 3 present Context 4 Context 4 IA5String ia5 [97, 64] } ",
     );
     let mut decoder = RecordDecoder::new(rt.alloc(), records.as_slice(), 0);
-    assert_group(&rt, &mut decoder, None);
-    assert_group(&rt, &mut decoder, None);
-    assert_group(&rt, &mut decoder, Some(contact(&rt, rt.alloc())));
+    read_groups(&rt, rt.alloc(), &mut decoder);
     assert_end(&rt, decoder);
 }
 

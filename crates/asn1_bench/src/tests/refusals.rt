@@ -177,23 +177,31 @@ fn assert_error<T: Decode, D: Decoder>(rt: &impl Abort, decoder: &mut D, error: 
     assert!(rt; T::decode(decoder).err() == Some(error));
 }
 
+fn read_past_a_number<D: Decoder>(rt: &impl Abort, decoder: &mut D) {
+    assert_error::<ConstrainedInteger<1, 10>, _>(rt, decoder, DecodeError::OutOfRange);
+    assert_number(rt, u8::decode(decoder), 7);
+}
+
 /// An error of a type's own comes after its records were read.
 #[test]
 fn what_follows_a_number_outside_its_limits_is_read(rt: HostRuntime) {
     let records = two_numbers(&rt, rt.alloc());
     let mut decoder = RecordDecoder::new(rt.alloc(), records.as_slice(), 0);
-    assert_error::<ConstrainedInteger<1, 10>, _>(&rt, &mut decoder, DecodeError::OutOfRange);
-    assert_number(&rt, u8::decode(&mut decoder), 7);
+    read_past_a_number(&rt, &mut decoder);
     assert_end(&rt, decoder);
+}
+
+fn read_too_deep<D: Decoder>(rt: &impl Abort, decoder: &mut D) {
+    assert_error::<Vec<bool>, _>(rt, decoder, DecodeError::Depth);
+    assert_error::<bool, _>(rt, decoder, DecodeError::Failed);
+    assert_error::<Vec<bool>, _>(rt, decoder, DecodeError::Failed);
 }
 
 #[test]
 fn a_list_is_too_deep(rt: HostRuntime) {
     let records = written(&rt, rt.alloc(), [true]);
     let mut decoder = RecordDecoder::new(rt.alloc(), records.as_slice(), 0);
-    assert_error::<Vec<bool>, _>(&rt, &mut decoder, DecodeError::Depth);
-    assert_error::<bool, _>(&rt, &mut decoder, DecodeError::Failed);
-    assert_error::<Vec<bool>, _>(&rt, &mut decoder, DecodeError::Failed);
+    read_too_deep(&rt, &mut decoder);
     assert!(rt; decoder.finish() == Err(DecodeError::Failed));
 }
 
