@@ -4,7 +4,6 @@ pub mod Bags
 pub mod Chosen
 pub mod ComponentTags
 pub mod Constructed
-pub mod ConstructedSets
 pub mod Groups
 pub mod Midway
 pub mod OneRecordEach

@@ -1,6 +1,7 @@
-use Rattle.asn1_dec.proofs.Constructed.{as_sequence}
+use Rattle.asn1_components.specs.Components.{is_sequence}
+use Rattle.asn1_dec.proofs.Constructed.{as_constructed}
 use Rattle.asn1_dec.proofs.decoder.Decoder.decode_sequence.Goals as goal
 
 pub returns-clause-as_meant : goal.returns-clause-as_meant
 returns-clause-as_meant g c = λ kind constraints.
-    as_sequence g.Self.Decoder.reader g.C.AsnType.meaning g.C.FieldTable.components g.C.PartialEq.eq c.args.tag constraints _ _ c.read_sequence.result g.met.C.ConstructedType.agrees kind c.read_sequence.ensures.read
+    as_constructed is_sequence g.Self.Decoder.reader g.C.AsnType.meaning g.C.FieldTable.components g.C.PartialEq.eq c.args.tag constraints _ _ c.read_sequence.result g.met.C.ConstructedType.agrees kind c.read_sequence.ensures.read
