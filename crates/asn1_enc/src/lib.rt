@@ -47,8 +47,6 @@ mod enumerated_value;
 mod error;
 mod impls;
 pub mod laws;
-#[cfg(test)]
-mod tests;
 
 pub use encode::{Encode, EncodeChoice, EncodeFields};
 pub use encoder::Encoder;

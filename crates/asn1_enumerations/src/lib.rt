@@ -37,8 +37,6 @@ mod enumerated_table;
 mod enumerated_type;
 mod items;
 mod iterators;
-#[cfg(test)]
-mod tests;
 
 pub use enumerated::Enumerated;
 pub use enumerated_table::EnumeratedTable;

@@ -17,7 +17,7 @@
 //!
 //! - Each type states its components, alternatives or items once, and its tables, meaning and writer are proved to say the
 //!   same. The writer has a line for each component (`encode_field`) or alternative (`encode_alternative`), and no proof.
-//! - Each but `Badge` is read: from its records a codec gives an equal value (`Decode`), whatever the codec. The reader has a line
+//! - Each is read: from its records a codec gives an equal value (`Decode`), whatever the codec. The reader has a line
 //!   for each component (`decode_fields`) or alternative (`from_tag`). A component that may be absent is asked for under its own tag,
 //!   which what follows does not begin with; so it is in a group whose last components are absent, where what follows is after
 //!   the group, as the note of a `Visit` is. The proof too has a line for each component, by the steps of `PartWays` of `asn1_dec`. A tag that no alternative
@@ -43,8 +43,6 @@ mod plate;
 mod profile;
 mod settings;
 mod shape;
-#[cfg(test)]
-mod tests;
 mod visit;
 
 pub use badge::{Badge, badge_can_stand_inside, badge_records, badge_table_is_canonical};

@@ -1,4 +1,5 @@
-//! Tests of the public calls of the crates from `asn1_values` to `asn1_choices`, of `asn1_clash` and of `asn1_example`.
+//! Tests of the public calls of the crates from `asn1_values` to `asn1_enc`, and of `asn1_samples`, `asn1_clash` and
+//! `asn1_example`.
 //!
 //! A crate that has tests is proved twice, so those that need no private item are together here, and the crates below are
 //! proved once. They try what no contract says: values from outside (worked examples, a standard's tables, the ends of each
@@ -15,6 +16,10 @@
 //! | `fields` | field tables: canonical order, components with distinct tags, iterators |
 //! | `components` | types with components that cannot be, a group inside a group, tables in static memory |
 //! | `choices` | CHOICE types and their tables, and the records of worked values |
+//! | `enumerations` | an ENUMERATED type: its numbers, names and places |
+//! | `types` | worked sets, wrappers, and the records of worked values |
+//! | `encoder` | what a codec is told beside the records, and the texts of errors |
+//! | `samples` | the lines of the sample types' tables |
 //! | `clash` | the search for components without distinct tags, against that of `asn1_fields` |
 //! | `example` | a generic type at two types, and the calls of types that their authors have stated |
 //!
@@ -31,6 +36,10 @@ mod clash;
 #[cfg(test)]
 mod components;
 #[cfg(test)]
+mod encoder;
+#[cfg(test)]
+mod enumerations;
+#[cfg(test)]
 mod example;
 #[cfg(test)]
 mod fields;
@@ -39,6 +48,10 @@ mod model;
 #[cfg(test)]
 mod ranges;
 #[cfg(test)]
+mod samples;
+#[cfg(test)]
 mod tags;
+#[cfg(test)]
+mod types;
 #[cfg(test)]
 mod values;

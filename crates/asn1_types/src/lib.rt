@@ -56,8 +56,6 @@ mod instance_of;
 pub mod laws;
 mod sequence_of;
 mod set_of;
-#[cfg(test)]
-mod tests;
 
 pub use any::Any;
 pub use array::Array;

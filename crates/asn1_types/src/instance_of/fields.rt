@@ -59,25 +59,3 @@ impl<T: AsnType> Constructed<2, 0> for InstanceOf<T> {
 
     ghost additions_length = { refl };
 }
-
-#[cfg(test)]
-mod tests {
-    use super::*;
-    use std::process::Abort;
-
-    fn assert_field(rt: &impl Abort, field: &Field<'_>, tag: Tag, name: &str) {
-        assert!(rt; field.tag == tag && field.name == name);
-    }
-
-    #[test]
-    fn an_instance_has_two_fields(rt: HostRuntime) {
-        let fields = <InstanceOf<bool>>::fields();
-        let [first, second] = fields.as_slice() else {
-            panic!(rt; "not two")
-        };
-        assert_field(&rt, first, Tag::OBJECT_IDENTIFIER, "type_id");
-        assert_field(&rt, second, Tag::new_context(0), "value");
-        assert!(rt; !<InstanceOf<bool>>::is_extensible() && <InstanceOf<bool>>::field_count() == 2);
-        assert!(rt; fields.len() == 2);
-    }
-}

@@ -12,8 +12,11 @@ ghost use Rattle.asn1_types.specs.Multisets.{same_counts};
 
 mod filters;
 
-use crate::{Any, AsnType, Explicit, Implicit, InstanceOf, SequenceOf, SetOf, tag};
 use asn1_tags::{Tag, TagTree};
+use asn1_types::{
+    Any, AsnType, Constructed, Explicit, Field, FieldTable, Implicit, InstanceOf, SequenceOf, SetOf,
+    tag,
+};
 use asn1_values::ObjectIdentifier;
 use std::alloc::Global;
 use std::fmt::Debug;
@@ -324,4 +327,20 @@ fn wrappers_are_always_present(rt: HostRuntime) {
     assert!(rt; SetOf::<u8>::new(rt.alloc()).is_present());
     assert!(rt; Implicit::<tag::SET, Option<u8>>::new(None).is_present());
     assert!(rt; Explicit::<tag::SET, Option<u8>>::new(None).is_present());
+}
+
+fn assert_field(rt: &impl Abort, field: &Field<'_>, tag: Tag, name: &str) {
+    assert!(rt; field.tag == tag && field.name == name);
+}
+
+#[test]
+fn an_instance_has_two_fields(rt: HostRuntime) {
+    let fields = <InstanceOf<bool>>::fields();
+    let [first, second] = fields.as_slice() else {
+        panic!(rt; "not two")
+    };
+    assert_field(&rt, first, Tag::OBJECT_IDENTIFIER, "type_id");
+    assert_field(&rt, second, Tag::new_context(0), "value");
+    assert!(rt; !<InstanceOf<bool>>::is_extensible() && <InstanceOf<bool>>::field_count() == 2);
+    assert!(rt; fields.len() == 2);
 }

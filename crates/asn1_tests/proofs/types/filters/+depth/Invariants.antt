@@ -1,7 +1,7 @@
 use Rattle.std.proofs.Common.{◌≡◌, ◌-◌, ◌^◌, min, max}
 use Rattle.std.specs.Slice.Iter.{iter_rest}
 use Rattle.asn1_types.specs.declared.examples.filter.Filter.TheViews.{weight-Filter-And-0}
-use Rattle.asn1_types.proofs.tests.filters.+depth.Given as goal
+use Rattle.asn1_tests.proofs.types.filters.+depth.Given as goal
 
 -- the greatest so far, or that of the rest
 abbrev pub invariant-greatest_depth-loop-filter : goal.invariant-greatest_depth-loop-filter

@@ -1,15 +1,7 @@
 //! The lines of the tables, and the calls that follow from them.
-use crate::badge::Badge;
-use crate::color::Color;
-use crate::contact::Contact;
-use crate::corner::Corner;
-use crate::envelope::Envelope;
-use crate::labelled::Labelled;
-use crate::person::Person;
-use crate::plate::Plate;
-use crate::profile::Profile;
-use crate::settings::Settings;
-use crate::shape::Shape;
+use asn1_samples::{
+    Badge, Color, Contact, Corner, Envelope, Labelled, Person, Plate, Profile, Settings, Shape,
+};
 use asn1_types::{AsnType, Bounded, Choice, Enumerated, FieldTable, Tag, Value};
 use std::alloc::Global;
 use std::process::Abort;

@@ -1,12 +1,8 @@
 //! What a codec is told beside the records, which no contract says.
-use crate::encode::Encode;
-use crate::encoder::Encoder;
-use crate::error::EncodeError;
-use crate::tests::color::Color;
-use crate::tests::listener::{Listener, Told};
+use crate::encoder::listener::{Listener, Told};
 use asn1_bounds::Constraints;
-use asn1_choices::examples::Reply;
-use asn1_components::examples::Badge;
+use asn1_enc::{Encode, EncodeError, Encoder};
+use asn1_samples::{Badge, Color, Shape};
 use asn1_tags::{Identifier, Tag};
 use asn1_types::{InstanceOf, SetOf};
 use asn1_values::ObjectIdentifier;
@@ -67,30 +63,30 @@ fn components_come_with_their_table(rt: HostRuntime) {
 
 #[test]
 fn a_set_comes_with_its_table(rt: HostRuntime) {
-    let mut listener = Listener::new(rt.alloc(), 1);
+    let mut listener = Listener::new(rt.alloc(), 2);
     let badge = Badge {
         id: 7,
         label: None,
-        note: true,
+        shape: Shape::Dot(()),
     };
     let answer = listener.encode_set(Tag::SET, &badge, NAME);
-    assert!(rt; answer.is_ok() && listener.opened == Some("note"));
+    assert!(rt; answer.is_ok() && listener.opened == Some("shape"));
 }
 
 #[test]
 fn a_choice_tells_its_alternatives(rt: HostRuntime) {
     let mut listener = Listener::new(rt.alloc(), 1);
-    let answer = listener.encode_choice(&Constraints::NONE, &Reply::Accepted(true), NAME);
-    assert_told(&rt, &listener, answer, Told::Alternatives(2));
+    let answer = listener.encode_choice(&Constraints::NONE, &Shape::Ring(300), NAME);
+    assert_told(&rt, &listener, answer, Told::Alternatives(3));
 }
 
 #[test]
 fn an_item_tells_its_place(rt: HostRuntime) {
     let mut listener = Listener::new(rt.alloc(), 0);
     let answer = listener.encode_enumerated(Tag::ENUMERATED, &Color::Blue, NAME);
-    assert_told(&rt, &listener, answer, Told::Item(5, "blue", 0, true, 1));
+    assert_told(&rt, &listener, answer, Told::Item(5, "blue", 0, true, 2));
     let answer = listener.encode_enumerated(Tag::ENUMERATED, &Color::Red, NAME);
-    assert_told(&rt, &listener, answer, Told::Item(0, "red", 0, false, 1));
+    assert_told(&rt, &listener, answer, Told::Item(0, "red", 0, false, 2));
 }
 
 #[test]

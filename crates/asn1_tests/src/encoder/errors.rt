@@ -1,5 +1,5 @@
 //! The texts of errors.
-use crate::error::EncodeError;
+use asn1_enc::EncodeError;
 use std::alloc::Global;
 use std::process::Abort;
 

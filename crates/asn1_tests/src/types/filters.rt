@@ -3,8 +3,8 @@ ghost use Rattle.std.specs.Prelude.{◌≡◌, ◌^◌, ◌-◌, min};
 ghost use Rattle.asn1_types.specs.declared.examples.filter.Filter.{size-Filter};
 ghost use Rattle.asn1_types.specs.declared.examples.filter.Filter.TheViews.{weight-Filter-And-0};
 
-use crate::SetOf;
-use crate::examples::Filter;
+use asn1_types::SetOf;
+use asn1_types::examples::Filter;
 use asn1_values::OctetString;
 use std::alloc::Global;
 use std::process::Abort;

@@ -5,12 +5,10 @@ ghost use Rattle.asn1_model.specs.Records.{Head};
 ghost use Rattle.std.specs.Prelude.{◌≡◌, ⊤, MatchResult, false, true};
 ghost use Rattle.asn1_enc.specs.declared.error.EncodeError.TheVariants.{Failed};
 
-use crate::encoder::Encoder;
-use crate::enumerated_value::EnumeratedValue;
-use crate::error::EncodeError;
 use asn1_bounds::{Codec, Constraints};
 use asn1_choices::Choice;
 use asn1_components::FieldTable;
+use asn1_enc::{EncodeError, Encoder, EnumeratedValue};
 use asn1_tags::{Identifier, Tag};
 use asn1_types::Any;
 use asn1_values::{

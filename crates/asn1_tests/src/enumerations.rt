@@ -1,64 +1,7 @@
 //! An ENUMERATED type with a value after the extension marker.
-use crate::{Enumerated, EnumeratedTable, EnumeratedType, EnumerationItem, item, written_number};
-use asn1_model::{AsnType, TypeTable};
-use asn1_tags::{Identifier, Tag};
+use asn1_enumerations::{Enumerated, EnumeratedTable, written_number};
+use asn1_samples::Color;
 use std::process::Abort;
-
-#[derive(Clone, Copy, PartialEq, Eq, Debug)]
-enum Color {
-    Red,
-    Green,
-    Blue,
-}
-
-const ROOT: &[EnumerationItem<Color>] = &[
-    item!(Color::Red, 0, "red"),
-    item!(Color::Green, 1, "green"),
-];
-
-const ADDITIONS: &[EnumerationItem<Color>] = &[item!(Color::Blue, 5, "blue")];
-
-impl Enumerated for Color {
-    ghost use Rattle.std.specs.Prelude.{pos, [], ◌∷◌, codes, refl};
-    ghost use Rattle.asn1_enumerations.specs.EnumerationLaws.{by_test};
-    ghost use Rattle.asn1_enumerations.specs.Enumerations.{extensible, item};
-    ghost use Rattle.asn1_enumerations.specs.declared.tests.Color.TheVariants.{Red, Green, Blue};
-
-    ghost enumeration = { extensible (item Red (pos 0) (codes "red") ∷ item Green (pos 1) (codes "green") ∷ []) (item Blue (pos 5) (codes "blue") ∷ []) };
-
-    ghost complete = { elim [ Red ↦ refl | Green ↦ refl | Blue ↦ refl ] };
-
-    ghost lawful = { by_test refl };
-
-    fn items() -> &'static [EnumerationItem<Color>] {
-        ROOT
-    }
-
-    fn added_items() -> Option<&'static [EnumerationItem<Color>]> {
-        Some(ADDITIONS)
-    }
-}
-
-impl AsnType for Color {
-    ghost use Rattle.std.specs.Prelude.{codes};
-    ghost use Rattle.asn1_enumerations.specs.Meanings.{enumeration_type};
-
-    ghost meaning = { enumeration_type (codes "Color") ⟦<Color as Enumerated>⟧.enumeration ⟦<Color as PartialEq>⟧.eq };
-
-    fn table() -> TypeTable {
-        TypeTable::new(Tag::ENUMERATED, Identifier(Some("Color")))
-    }
-
-    fn is_present(&self) -> bool {
-        true
-    }
-}
-
-impl EnumeratedType for Color {
-    ghost use Rattle.asn1_enumerations.specs.Meanings.{enumeration_agrees};
-
-    ghost agrees = { enumeration_agrees };
-}
 
 fn assert_color(rt: &impl Abort, color: Color, number: isize, name: &str) {
     assert!(rt; color.discriminant() == number && color.identifier() == name);
