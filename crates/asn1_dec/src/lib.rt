@@ -49,6 +49,7 @@
 //! Calls that make values take memory, and those with constraints that have a permitted alphabet.
 #![tactic(auto)]
 
+mod boxes;
 mod choices;
 mod decode;
 mod decode_set;

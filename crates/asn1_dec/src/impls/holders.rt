@@ -1,4 +1,5 @@
 //! Reading of what holds a value and means the same, and of what has no content.
+use crate::boxes::read_boxed;
 use crate::decode::Decode;
 use crate::decoder::Decoder;
 use crate::error::DecodeError;
@@ -14,11 +15,9 @@ impl<T: Decode> Decode for Box<T> {
         tag: Tag,
         constraints: &Constraints<'_>,
     ) -> Result<Box<T>, DecodeError> {
-        let content = T::decode_with_tag_and_constraints(decoder, tag, constraints)?;
-        match Box::new(decoder.global(), content) {
-            Ok(boxed) => Ok(boxed),
-            Err(_) => Err(DecodeError::Memory),
-        }
+        read_boxed(decoder, |decoder| {
+            T::decode_with_tag_and_constraints(decoder, tag, constraints)
+        })
     }
 }
 
