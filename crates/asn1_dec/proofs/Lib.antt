@@ -1,6 +1,7 @@
 pub mod Absence
 pub mod Ahead
 pub mod Bags
+pub mod Boxed
 pub mod Chosen
 pub mod ComponentTags
 pub mod Constructed

@@ -1,5 +1,5 @@
 -- Before what a decoder stands, and what a call of it does.
-use Rattle.std.specs.Prelude.{◌≡◌, ◌≢◌, ◌⊎◌, ℕ, suc, ◌≤◌, ◌<◌, Bool, true, false, List, [], ◌∷◌, ◌++◌, IsPermutation, Option, None, Some, IfSome, IfErr, Result, Err, MatchResult, OnOk, OnErr, if◌then◌else◌}
+use Rattle.std.specs.Prelude.{◌≡◌, ◌≢◌, ◌⊎◌, ℕ, suc, ◌≤◌, ◌<◌, Bool, true, false, List, [], ◌∷◌, ◌++◌, IsPermutation, Option, None, Some, IfSome, IsSome, IfErr, Result, Err, MatchResult, OnOk, OnErr, if◌then◌else◌}
 use Rattle.std.specs.Option.{option_eq, option_map}
 use Rattle.asn1_tags.specs.declared.tags.Tag.{Tag}
 use Rattle.asn1_model.specs.Composites.{default_records, option_records, prefix_records}
@@ -104,16 +104,17 @@ module _ {D : Type 0} (R : Reader D) where
     pub after_error : OnErr result (R.failed new ≡ true) ⊎ HasReadPast m t c old new result
     pub refused : m.IsSingleRecord → R.failed old ≡ true → result ≡ Err Failed
 
-  -- There was no memory for the type's own constraints, and the decoder is as it was.
-  pub record HadNoMemory {V : Type 0} (old new : D) (result : Result V DecodeError) : Type 0 where
+  -- There was no memory for the type's own constraints, which have a permitted alphabet, and the decoder is as it was.
+  pub record HadNoMemory {V : Type 0} (m : Meaning V) (old new : D) (result : Result V DecodeError) : Type 0 where
     pub error : result ≡ Err Memory
     pub same : new ≡ old
+    pub has_alphabet : IsSome m.constraints.permitted_alphabet
 
   -- What a call leaves that makes the type's own constraints, and then reads a value.
   pub record LeavesDecoderWithOwnConstraints {V : Type 0} (m : Meaning V) (t : Tag) (old new : D) (result : Result V DecodeError) : Type 0 where
     pub same_allowance : OnOk result (R.allowance new ≡ R.allowance old)
-    pub after_error : OnErr result (R.failed new ≡ true) ⊎ (HasReadPast m t m.constraints old new result ⊎ HadNoMemory old new result)
-    pub refused : m.IsSingleRecord → R.failed old ≡ true → (result ≡ Err Failed) ⊎ HadNoMemory old new result
+    pub after_error : OnErr result (R.failed new ≡ true) ⊎ (HasReadPast m t m.constraints old new result ⊎ HadNoMemory m old new result)
+    pub refused : m.IsSingleRecord → R.failed old ≡ true → (result ≡ Err Failed) ⊎ HadNoMemory m old new result
 
   -- A call that reads a component that may be absent, which is written under this tag and begins with one of these tags, by
   -- the records of a value under any name. What follows one that is absent begins with none of its tags.

@@ -27,7 +27,8 @@ use asn1_tags::Tag;
 /// [`DecodeError::Depth`] nor [`DecodeError::Failed`]: then the allowance is as it was, and the decoder, if it was before the
 /// records of a valid value, is after them, as where a box had no memory. Of other records an implementation says in clauses
 /// of its own what its error leaves: `LimitedInteger` of a number outside its limits (`out_of_range`), `Array` of a list of
-/// another length (`other_length`). Where there was no memory for the type's own constraints, the decoder is as it was.
+/// another length (`other_length`). Where there was no memory for the type's own constraints, which only a permitted alphabet
+/// among them wants, the decoder is as it was.
 ///
 /// Where each value of the type is a record, a decoder that has failed answers [`DecodeError::Failed`].
 pub trait Decode: AsnType + Eq + Sized + Drop {

@@ -31,9 +31,10 @@
 //!   opening takes one from the allowance, and closing gives it back (`Leaves`).
 //! - An error of a type's entry point made the decoder failed, or is the type's own (`LeavesDecoder`): then the allowance is as
 //!   it was, and the decoder, if it was before the records of a valid value, is after them (`HasReadPast`), or it is as it was,
-//!   where there was no memory for the type's own constraints (`HadNoMemory`). Of other records the implementations of
-//!   `LimitedInteger` and `Array` say what their errors leave (`out_of_range`, `other_length`). The call around the value makes
-//!   the decoder failed (`refuse`). Where each value of a type is a record, a failed decoder answers `Failed`.
+//!   where there was no memory for the permitted alphabet of the type's own constraints (`HadNoMemory`). Of other records the
+//!   implementations of `LimitedInteger` and `Array` say what their errors leave (`out_of_range`, `other_length`). The call
+//!   around the value makes the decoder failed (`refuse`). Where each value of a type is a record, a failed decoder answers
+//!   `Failed`.
 //! - Whether a component is there, a codec knows by a presence mark or by the next tag. So a component that is absent is read only
 //!   where what follows begins with none of its tags (`TellsPresence`, `ReadsOption`, `ReadsDefault`), which distinct tags
 //!   give: `EachApart` of `asn1_components`. Where each value of a type is a single record, anything may follow (`MayFollow`).
@@ -49,6 +50,7 @@
 //! Calls that make values take memory, and those with constraints that have a permitted alphabet.
 #![tactic(auto)]
 
+mod boxes;
 mod choices;
 mod decode;
 mod decode_set;

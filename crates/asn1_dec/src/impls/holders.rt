@@ -1,4 +1,10 @@
 //! Reading of what holds a value and means the same, and of what has no content.
+ghost use Rattle.asn1_dec.specs.Reading.{LeavesDecoder, ReadsValue};
+ghost use Rattle.asn1_model.specs.ConstraintSets.{constraint_set};
+ghost use Rattle.asn1_model.specs.Kinds.{empty_type};
+ghost use Rattle.std.specs.Prelude.{◌≡◌, IsOk};
+
+use crate::boxes::read_boxed;
 use crate::decode::Decode;
 use crate::decoder::Decoder;
 use crate::error::DecodeError;
@@ -14,11 +20,9 @@ impl<T: Decode> Decode for Box<T> {
         tag: Tag,
         constraints: &Constraints<'_>,
     ) -> Result<Box<T>, DecodeError> {
-        let content = T::decode_with_tag_and_constraints(decoder, tag, constraints)?;
-        match Box::new(decoder.global(), content) {
-            Ok(boxed) => Ok(boxed),
-            Err(_) => Err(DecodeError::Memory),
-        }
+        read_boxed(decoder, |decoder| {
+            T::decode_with_tag_and_constraints(decoder, tag, constraints)
+        })
     }
 }
 
@@ -34,11 +38,16 @@ impl<T: Decode> Decode for Cow<'_, T> {
 }
 
 impl<T: AsnType> Decode for PhantomData<T> {
+    /// Reads nothing, and does not fail.
     fn decode_with_tag_and_constraints<D: Decoder>(
-        _decoder: &mut D,
-        _tag: Tag,
-        _constraints: &Constraints<'_>,
-    ) -> Result<PhantomData<T>, DecodeError> {
+        decoder: &mut D,
+        tag: Tag,
+        constraints: &Constraints<'_>,
+    ) -> Result<PhantomData<T>, DecodeError>
+        ensures read { ReadsValue D.reader empty_type ⟦<PhantomData<T> as PartialEq>⟧.eq tag (constraint_set constraints.now) decoder.old decoder.new result }
+        ensures leaves { LeavesDecoder D.reader empty_type tag (constraint_set constraints.now) decoder.old decoder.new result }
+        ensures nothing { IsOk result × (decoder.new ≡ decoder.old) }
+    {
         Ok(PhantomData)
     }
 }

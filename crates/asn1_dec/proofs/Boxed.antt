@@ -1,0 +1,46 @@
+-- A value that is read into a box.
+use Rattle.std.proofs.Common.{◌≡◌, Bool, Result, Ok, Err, inl, inr}
+use Rattle.std.specs.Result.{MatchResult}
+use Rattle.asn1_tags.specs.declared.tags.Tag.{Tag}
+use Rattle.asn1_model.specs.ConstraintSets.{ConstraintSet}
+use Rattle.asn1_model.specs.Kinds.{through, under_own_name}
+use Rattle.asn1_model.specs.Meaning.{Meaning}
+use Rattle.asn1_model.specs.Records.{name_or}
+use Rattle.asn1_dec.specs.declared.error.DecodeError.{DecodeError}
+use Rattle.asn1_dec.specs.declared.error.DecodeError.TheVariants.{Memory}
+use Rattle.asn1_dec.specs.Reading.{Reader, LeavesDecoder, ReadsValue}
+
+module _ {D V W : Type 0} (R : Reader D) (m : Meaning V) (value : W → V) (t : Tag) (c : ConstraintSet) (old new : D) where
+  -- The decoder is as the reading of the value left it, also where there was no memory for the box.
+  pub leaves_boxed : (eq : V → V → Bool) (answer : Result V DecodeError) (result : Result W DecodeError) →
+      ReadsValue R m eq t c old new answer → LeavesDecoder R m t c old new answer →
+      MatchResult answer (λ v. MatchResult result (λ w. value w ≡ v) (λ e. e ≡ Memory)) (λ e. result ≡ Err e) →
+      LeavesDecoder R (under_own_name (through value m)) t c old new result
+  leaves_boxed eq (Ok v) (Ok w) read leaves boxed = record {
+    same_allowance = leaves.same_allowance;
+    after_error = inl tt;
+    refused = λ single failed. let wrong = leaves.refused single failed in cc;
+  }
+  leaves_boxed eq (Ok v) (Err e) read leaves boxed = record {
+    same_allowance = tt;
+    after_error = inr (record {
+      same_allowance = leaves.same_allowance;
+      at = λ w n rest outer tagged of_type valid follow at. (read (value w) (name_or n m.name) rest outer tagged of_type valid follow at).at;
+      not_too_deep = λ deep. cc;
+      not_failed = λ failed. cc;
+    });
+    refused = λ single failed. let wrong = leaves.refused single failed in cc;
+  }
+  leaves_boxed eq (Err e) result read leaves boxed = rw boxed (record {
+    same_allowance = tt;
+    after_error = elim leaves.after_error [
+      | inl failed ↦ inl failed
+      | inr past ↦ inr (record {
+        same_allowance = past.same_allowance;
+        at = λ w n rest outer tagged of_type valid follow at. past.at (value w) (name_or n m.name) rest outer tagged of_type valid follow at;
+        not_too_deep = past.not_too_deep;
+        not_failed = past.not_failed;
+      })
+    ];
+    refused = λ single failed. let same = leaves.refused single failed in cc;
+  })
