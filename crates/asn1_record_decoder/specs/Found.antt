@@ -3,7 +3,7 @@ use Rattle.std.specs.Prelude.{◌≡◌, ℕ, ◌≤◌, ⊤, false, List, ◌�
 use Rattle.asn1_tags.specs.declared.tags.Tag.{Tag}
 use Rattle.asn1_model.specs.Orders.{Same, SameAll, is_unordered}
 use Rattle.asn1_model.specs.Records as model
-use Rattle.asn1_model.specs.Records.{held, sequence, set, sequence_of, set_of, prefix, alternative}
+use Rattle.asn1_model.specs.Records.{scalar, scope, raw, mark, held, sequence, set, sequence_of, set_of, prefix, alternative}
 use Rattle.asn1_model.specs.Tags.{head_tag}
 use Rattle.asn1_dec.specs.Reading.{Ahead, records_in}
 use Rattle.asn1_dec.specs.declared.error.DecodeError.{DecodeError}
@@ -30,6 +30,20 @@ pub record HoldsRecords (xs : List Record) (h : model.Head) (items : List model.
   pub same : SameAll (held exactly) (held order)
   pub moved : IsPermutation order items
   pub unmoved : is_unordered h ≡ false → order ≡ items
+
+-- the record is this content under this tag, by any name
+abbrev pub IsContentUnder : Tag → model.Content → model.Record → Type 0
+IsContentUnder t x (scalar u c n y) = (u ≡ t) × (y ≡ x)
+IsContentUnder t x (scope h rs) = ⊥
+IsContentUnder t x (raw n bytes) = ⊥
+IsContentUnder t x (mark m) = ⊥
+
+-- the record is these bytes of an open type, by any name
+abbrev pub IsBytes : List ℕ → model.Record → Type 0
+IsBytes bytes (scalar t c n x) = ⊥
+IsBytes bytes (scope h rs) = ⊥
+IsBytes bytes (raw n own) = own ≡ bytes
+IsBytes bytes (mark m) = ⊥
 
 -- What is found in a record, where it is this one.
 abbrev pub FoundIn : {V : Type 0} → Record → model.Record → (V → Type 0) → Result V DecodeError → Type 0

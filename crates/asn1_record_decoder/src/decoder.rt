@@ -48,6 +48,7 @@ struct Opened {
 
 impl<'a> RecordDecoder<'a> {
     ghost use Rattle.asn1_dec.specs.declared.error.DecodeError.TheVariants.{Failed, Memory};
+    ghost use Rattle.asn1_dec.specs.Errors.{custom, reason};
     ghost use Rattle.asn1_dec.specs.Reading.{Ahead, Enters, MayFail, ReadsContent, Stays, TellsPresence};
     ghost use Rattle.asn1_model.specs.ConstraintSets.{ConstraintSet};
     ghost use Rattle.asn1_model.specs.Records as model;
@@ -57,7 +58,7 @@ impl<'a> RecordDecoder<'a> {
     ghost use Rattle.asn1_record_decoder.specs.Reading.{StandsBefore, record_reader, sees};
     ghost use Rattle.asn1_records.specs.Carried.{Carries};
     ghost use Rattle.asn1_records.specs.Records.{record_of, records_of};
-    ghost use Rattle.std.specs.Prelude.{◌≡◌, ◌↔◌, ◌∷◌, [], Err, IfErr, IfOk, IfSome, IsOk, List, MatchResult, None, OnErr, OnOk, false, length, suc, true};
+    ghost use Rattle.std.specs.Prelude.{◌≡◌, ◌≢◌, ◌↔◌, ◌∷◌, [], Err, IfErr, IfOk, IfSome, IsOk, List, MatchResult, None, OnErr, OnOk, codes, false, length, suc, true};
 
     /// A decoder that is before these records, and may open so many scopes in one another.
     pub fn new(alloc: Global, records: &'a [Record], depth: usize) -> RecordDecoder<'a>
@@ -82,6 +83,7 @@ impl<'a> RecordDecoder<'a> {
     pub fn finish(self) -> Result<(), DecodeError>
         ensures all_read { IsOk result ↔ StandsBefore self.entry ([] ∷ []) }
         ensures failed { result ≡ Err Failed ↔ (record_reader.failed self.entry ≡ true) }
+        ensures bad_item { IfErr result (λ e. e ≢ Failed → reason e ≡ custom (codes "bad item")) }
     {
         if self.failed {
             return Err(DecodeError::Failed);
@@ -214,10 +216,13 @@ impl<'a> RecordDecoder<'a> {
 impl<'a> Decoder for RecordDecoder<'a> {
     ghost use Rattle.asn1_record_decoder.specs.Laws.{stands_in_any_order};
     ghost use Rattle.asn1_record_decoder.specs.Reading.{record_reader};
+    ghost use Rattle.std.specs.Prelude.{◌≡◌};
 
     ghost reader = { record_reader };
 
-    fn codec(&self) -> Codec {
+    fn codec(&self) -> Codec
+        ensures { result ≡ Codec.Other 0 }
+    {
         Codec::Other(0)
     }
 

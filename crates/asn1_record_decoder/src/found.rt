@@ -4,9 +4,9 @@ ghost use Rattle.asn1_model.specs.Records as model;
 ghost use Rattle.asn1_model.specs.Records.{Name, absent, group_absent, group_end, group_start, holding, is_mark, mark, present, raw, scalar};
 ghost use Rattle.asn1_model.specs.Tags.{Has, head_tag, record_tags};
 ghost use Rattle.asn1_dec.specs.declared.error.DecodeError.TheVariants.{Depth, Memory};
-ghost use Rattle.asn1_record_decoder.specs.Found.{FoundIn, HoldsRecords, IsRecord, Meets};
-ghost use Rattle.asn1_records.specs.Records.{content_of, head_of, record_of};
-ghost use Rattle.std.specs.Prelude.{◌≡◌, ◌≢◌, ⊤, Err, IsSomeAnd, List, MatchResult, ℕ, false, true};
+ghost use Rattle.asn1_record_decoder.specs.Found.{FoundIn, HoldsRecords, IsBytes, IsContentUnder, IsRecord, Meets};
+ghost use Rattle.asn1_records.specs.Records.{content_of, head_of, record_of, records_of};
+ghost use Rattle.std.specs.Prelude.{◌≡◌, ◌≢◌, ⊤, Err, IfOk, IfSome, IsSomeAnd, List, MatchResult, OnOk, ℕ, false, if◌then◌else◌, true};
 
 use crate::wanted::Wanted;
 use asn1_dec::DecodeError;
@@ -59,7 +59,8 @@ pub(crate) fn first_tag(item: &Record) -> Tag
 
 /// The content under a tag.
 pub(crate) fn content(item: &Record, tag: Tag) -> Option<&Content>
-    ensures { (c : ConstraintSet) (n : Name) (x : model.Content) → IsRecord item.now (scalar tag c n x) → IsSomeAnd result (λ content. content_of content.now ≡ x) }
+    ensures found { (c : ConstraintSet) (n : Name) (x : model.Content) → IsRecord item.now (scalar tag c n x) → IsSomeAnd result (λ content. content_of content.now ≡ x) }
+    ensures only { IfSome result (λ content. IsContentUnder tag (content_of content.now) (record_of item.now)) }
 {
     match item {
         Record::Scalar(own, _, content) if *own == tag => Some(content),
@@ -70,6 +71,7 @@ pub(crate) fn content(item: &Record, tag: Tag) -> Option<&Content>
 /// The bytes of an open type.
 pub(crate) fn bytes(item: &Record, alloc: Global) -> Result<Any, DecodeError>
     ensures found { (n : Name) (bytes : List ℕ) → FoundIn item.now (raw n bytes) (λ w. w ≡ bytes) result }
+    ensures only { IfOk result (λ w. IsBytes w (record_of item.now)) }
     ensures not_too_deep { result ≢ Err Depth }
 {
     match item {
@@ -82,6 +84,7 @@ pub(crate) fn bytes(item: &Record, alloc: Global) -> Result<Any, DecodeError>
 pub(crate) fn presence(item: &Record, tag: Tag) -> Result<bool, DecodeError>
     ensures there { FoundIn item.now (mark (present tag)) (λ b. b ≡ true) result }
     ensures away { FoundIn item.now (mark (absent tag)) (λ b. b ≡ false) result }
+    ensures only { IfOk result (λ b. record_of item.now ≡ mark (if b then present tag else absent tag)) }
     ensures not_too_deep { result ≢ Err Depth }
 {
     match item {
@@ -95,6 +98,7 @@ pub(crate) fn presence(item: &Record, tag: Tag) -> Result<bool, DecodeError>
 pub(crate) fn group(item: &Record) -> Result<bool, DecodeError>
     ensures there { FoundIn item.now (mark group_start) (λ b. b ≡ true) result }
     ensures away { FoundIn item.now (mark group_absent) (λ b. b ≡ false) result }
+    ensures only { IfOk result (λ b. record_of item.now ≡ mark (if b then group_start else group_absent)) }
     ensures not_too_deep { result ≢ Err Depth }
 {
     match item {
@@ -107,6 +111,7 @@ pub(crate) fn group(item: &Record) -> Result<bool, DecodeError>
 /// That a group ends here.
 pub(crate) fn end_of_group(item: &Record) -> Result<(), DecodeError>
     ensures found { FoundIn item.now (mark group_end) (λ _. ⊤) result }
+    ensures only { OnOk result (record_of item.now ≡ mark group_end) }
     ensures not_too_deep { result ≢ Err Depth }
 {
     match item {
@@ -119,6 +124,7 @@ pub(crate) fn end_of_group(item: &Record) -> Result<(), DecodeError>
 pub(crate) fn inner_scope(item: &Record, wanted: Wanted) -> Option<Scope<'_>>
     ensures tag { (h : model.Head) (items : List model.Record) → Meets wanted h → IsRecord item.now (holding h items) → IsSomeAnd result (λ scope. scope.tag ≡ head_tag h) }
     ensures records { (h : model.Head) (items : List model.Record) → Meets wanted h → IsRecord item.now (holding h items) → IsSomeAnd result (λ scope. HoldsRecords scope.records.now h items) }
+    ensures only { IfSome result (λ scope. (h : model.Head) × Meets wanted h × (record_of item.now ≡ holding h (records_of scope.records.now))) }
 {
     match item {
         Record::Scope(head, records) if wanted.is_met_by(head) => Some(Scope {

@@ -4,7 +4,7 @@ ghost use Rattle.asn1_model.specs.Tags.{head_tag};
 ghost use Rattle.asn1_record_decoder.specs.Found.{Meets};
 ghost use Rattle.asn1_records.specs.Records.{head_of};
 ghost use Rattle.asn1_records.specs.WithoutConstraints.{head_without};
-ghost use Rattle.std.specs.Prelude.{◌≡◌, true};
+ghost use Rattle.std.specs.Prelude.{◌≡◌, IsTrue, true};
 
 use asn1_records::Head;
 use asn1_tags::Tag;
@@ -23,7 +23,8 @@ pub(crate) enum Wanted {
 impl Wanted {
     /// Whether the head is what is wanted.
     pub(crate) fn is_met_by(self, head: &Head) -> bool
-        ensures { (h : model.Head) → head_of head.now ≡ head_without h → Meets self h → result ≡ true }
+        ensures met { (h : model.Head) → head_of head.now ≡ head_without h → Meets self h → result ≡ true }
+        ensures only { IsTrue result → Meets self (head_of head.now) }
     {
         match (self, head) {
             (Wanted::Sequence(wanted), Head::Sequence(tag, _)) => wanted == *tag,

@@ -206,10 +206,13 @@ impl RecordEncoder {
 impl Encoder for RecordEncoder {
     ghost use Rattle.asn1_records.specs.Encoder.{in_one_order, record_writer};
     ghost use Rattle.asn1_enc.proofs.UpToOrder.{lawful};
+    ghost use Rattle.std.specs.Prelude.{◌≡◌};
 
     ghost writer = { record_writer };
 
-    fn codec(&self) -> Codec {
+    fn codec(&self) -> Codec
+        ensures { result ≡ Codec.Other 0 }
+    {
         Codec::Other(0)
     }
 

@@ -1,12 +1,22 @@
-//! Laws of what no other contract names: what holds of outputs whatever is written, and what derives give.
-ghost use Rattle.asn1_enc.specs.Writing.{SameRecords};
+//! Laws of what no other contract names: what the encoder is as types see it, what holds of outputs whatever is written, and what
+//! derives give.
+ghost use Rattle.asn1_enc.specs.Writing.{SameRecords, Written};
 ghost use Rattle.asn1_model.specs.Records as model;
 ghost use Rattle.asn1_records.specs.Carried.{Carries};
+ghost use Rattle.asn1_records.specs.Encoder.{record_writer};
 ghost use Rattle.asn1_records.specs.Records.{head_of};
 ghost use Rattle.asn1_tags.specs.Derives.{ClonesAll, ComparesAll};
 ghost use Rattle.std.specs.Prelude.{◌≡◌, ◌↔◌, IsTrue, List};
 
+use crate::encoder::RecordEncoder;
 use crate::record::{Head, Mark, Record};
+use asn1_enc::Encoder;
+
+/// A law of the encoder: types see it as having written what `record_writer` says, and it rejects nothing.
+pub fn the_encoder_rejects_nothing(encoder: &RecordEncoder)
+    ensures written { (w : Written) → ⟦<RecordEncoder as Encoder>⟧.writer.wrote encoder.now w ↔ record_writer.wrote encoder.now w }
+    ensures rejects { (rs : List model.Record) → ¬ ⟦<RecordEncoder as Encoder>⟧.writer.rejects rs }
+{}
 
 /// Records that carry others carry them with what a SET or a SET OF holds in any order.
 #[tactic(auto, using(crate::proofs::Carrying::carries_in_any_order))]

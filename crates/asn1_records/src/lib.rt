@@ -4,7 +4,7 @@
 //! |---|---|
 //! | [`Record`], [`Head`], [`Content`], [`Mark`] | a record as a program has it, without constraints |
 //! | [`RecordEncoder`] | the encoder to which a type is written, and which answers the records |
-//! | [`laws`] | what holds of records whatever is written, and what the derives give |
+//! | [`laws`] | what the encoder is as types see it, what holds of records whatever is written, and what the derives give |
 //!
 //! `asn1_record_decoder` reads from such records, and `asn1_bench` is the codec of the two.
 //!
@@ -14,8 +14,8 @@
 //! - The encoder keeps the laws of every encoder (`Encoder`). What it has written are the records that it was given, without
 //!   constraints (`specs/WithoutConstraints.antt`), in the scopes and groups that are open (`written_so_far` of
 //!   `specs/Encoder.antt`). As types see it, the order inside sets means nothing (`record_writer`).
-//! - It rejects nothing. So an error of a type's writing is `Memory`, `Depth` or, after another error, `Failed`. The errors of
-//!   its own, `Custom`, come only where a scope or a group is closed and no such is innermost.
+//! - It rejects nothing (`rejects` of [`laws`]). So an error of a type's writing is `Memory`, `Depth` or, after another error,
+//!   `Failed`. The errors of its own, `Custom`, come only where a scope or a group is closed and no such is innermost.
 //! - Where no scope and no group is open, [`RecordEncoder::finish`] answers records that carry what was written: they are it
 //!   without constraints, up to the order inside sets (`Carries` of `specs/Carried.antt`).
 //! - What records carry they carry in any order of what sets hold (`carries_in_any_order`; [`laws`]).

@@ -9,10 +9,10 @@ returns-in_err-record-clause-read g c = λ k x n rest outer of_type at. absurd (
 pub returns-in-None-clause-read : goal.returns-in-None-clause-read
 returns-in-None-clause-read g c = λ k x n rest outer of_type at.
     let t = c.in_ok-record.ensures.took (scalar c.args.tag k n (g.V.FromContent.content x)) rest outer at in
-    absurd (c.in-None.ensures k n (g.V.FromContent.content x) t.is)
+    absurd (c.in-None.ensures.found k n (g.V.FromContent.content x) t.is)
 
 pub returns-in-Some-clause-read : goal.returns-in-Some-clause-read
 returns-in-Some-clause-read g c = λ k x n rest outer of_type at.
     let t = c.in_ok-record.ensures.took (scalar c.args.tag k n (g.V.FromContent.content x)) rest outer at in
-    let found = c.from_content-found.ensures.read x of_type (c.in-Some.ensures k n (g.V.FromContent.content x) t.is) in
+    let found = c.from_content-found.ensures.read x of_type (c.in-Some.ensures.found k n (g.V.FromContent.content x) t.is) in
     finished c.args.self.now c.next.new.self c.answer.new.self (rest ∷ outer) (λ w. g.V.FromContent.Is w x) c.answer.result (rw c.answer.ensures.same found) c.answer.ensures.kept t.at
