@@ -1,11 +1,11 @@
 -- The components of a SET that were read so far, each in a slot of its own.
 use Rattle.std.proofs.Common.{◌≡◌, ℕ, ◌+◌, ◌≤◌, Bool, true, false, cond, List, [], ◌∷◌, ◌++◌, Contains, length, Option, None, Some, refl, ap, sym, ◌∙◌, subst, arith, append-nil, append_assoc}
 use Rattle.std.specs.Prelude.{◌==◌, IsSome, is_some}
-use Rattle.std.specs.Option.{IfSome, option_eq, option_map}
+use Rattle.std.specs.Option.{IfSome, option_eq, option_map, unwrap_or}
 use Rattle.std.proofs.lemmas.List.Elements.{All-contains, Contains-append_left, Contains-push}
 use Rattle.std.proofs.lemmas.List.Sums.{sum_by-append, sum_by-cons}
 use Rattle.asn1_components.specs.ComponentTypes.{ComponentType}
-use Rattle.asn1_model.specs.Composites.{option_records}
+use Rattle.asn1_model.specs.Composites.{default_records, option_records}
 use Rattle.asn1_model.specs.TaggedTypes.{TaggedType}
 use Rattle.asn1_dec.specs.SetParts.{ArePartsOf, parts_at, unmarked, written_of}
 use Rattle.asn1_dec.proofs.SetItems.{nothing}
@@ -66,6 +66,15 @@ module _ {P X : Type 0} (index_of : P → ℕ) (k : ℕ) (make : X → P) where
   at_end {slot} {parts} all rest before is none =
       subst (Slot slot) (sym (is ∙ ap (λ l. parts ++ l) (nothing rest none) ∙ append-nil parts)) before
 
+  -- what is in the slot came once
+  pub once : {x : X} {parts : List P} → Slot (Some x) parts → parts_at index_of k parts ≡ 1
+  once slot = slot.as_many
+
+  -- and what may be absent came no more than once
+  pub at_most_once : (slot : Option X) {parts : List P} → Slot slot parts → parts_at index_of k parts ≤ 1
+  at_most_once None slot = omega (arith, slot.as_many)
+  at_most_once (Some x) slot = omega (arith, slot.as_many)
+
   module _ {V : Type 0} (cs : List (ComponentType V)) (v : V) (IsPart : P → Type 0) (parts : List P) (are : ArePartsOf cs v index_of IsPart parts) where
     -- the component that is in the slot
     pub is_component : (x : X) → Slot (Some x) parts → IsPart (make x)
@@ -81,3 +90,10 @@ module _ {P X : Type 0} (index_of : P → ℕ) (k : ℕ) (make : X → P) where
     optional_slot None None type eq slot written one is = refl
     optional_slot None (Some w) type eq slot written one is = absurd (is_absent slot (ap length written ∙ one w))
     optional_slot (Some x) o type eq slot written one is = is x (is_component x slot)
+
+    -- a component with a default
+    pub default_slot : (slot : Option X) (x usual : X) (is_default : Bool) (type : TaggedType X) (eq : X → X → Bool) → Slot slot parts → written_of cs v k ≡ unmarked (default_records is_default type.tag (type.records x)) →
+        length (unmarked (type.records x)) ≡ 1 → (is_default ≡ true → eq usual x ≡ true) → ((y : X) → IsPart (make y) → eq y x ≡ true) → eq (unwrap_or slot usual) x ≡ true
+    default_slot None x usual true type eq slot written one same is = same refl
+    default_slot None x usual false type eq slot written one same is = absurd (is_absent slot (ap length written ∙ one))
+    default_slot (Some y) x usual is_default type eq slot written one same is = is y (is_component y slot)

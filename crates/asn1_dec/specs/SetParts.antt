@@ -3,6 +3,8 @@ use Rattle.std.specs.Prelude.{◌≡◌, ◌≢◌, ℕ, zero, suc, ◌≤◌, �
 use Rattle.std.specs.List.{count_by}
 use Rattle.asn1_components.specs.ComponentLists.{AreDistinctInSet, EachCanStandInside, EachIsOfType, EachIsValid}
 use Rattle.asn1_components.specs.ComponentTypes.{ComponentType}
+use Rattle.asn1_fields.specs.declared.presence.FieldPresence.{FieldPresence}
+use Rattle.asn1_fields.specs.declared.presence.FieldPresence.TheVariants.{Required, Optional, Default}
 use Rattle.asn1_dec.specs.Reading.{Ahead, Reader, ReadsBack, records_in}
 use Rattle.asn1_dec.specs.declared.error.DecodeError.{DecodeError}
 use Rattle.asn1_dec.specs.declared.error.DecodeError.TheVariants.{Memory}
@@ -40,6 +42,17 @@ CanBeginWith (c ∷ cs) (suc k) t = CanBeginWith cs k t
 -- how many of the parts are the component of this index
 abbrev pub parts_at : {P : Type 0} → (P → ℕ) → ℕ → List P → ℕ
 parts_at index_of k parts = count_by (λ p. index_of p == k) parts
+
+-- how often a component of this presence is among the parts that make a value: once, or at most once where it may be absent
+abbrev pub TimesFit : FieldPresence → ℕ → Type 0
+TimesFit Required n = n ≡ 1
+TimesFit Optional n = n ≤ 1
+TimesFit Default n = n ≤ 1
+
+-- each of these components, of which the first has this index, is among the parts as often as it has to be
+abbrev pub EachFits : {V P : Type 0} → List (ComponentType V) → (P → ℕ) → ℕ → List P → Type 0
+EachFits [] index_of k parts = ⊤
+EachFits (c ∷ cs) index_of k parts = TimesFit c.presence (parts_at index_of k parts) × EachFits cs index_of (suc k) parts
 
 -- The parts are those of a value: each is one of its components, none is among them twice, and each that is there is among
 -- them.

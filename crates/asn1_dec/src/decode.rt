@@ -21,7 +21,8 @@ use asn1_tags::Tag;
 ///
 /// Before the records of a valid value of a well-tagged type, under what the entry point is given, a tag and constraints, and
 /// any name, the answer is an equal value, and the decoder stands before what follows. It fails there only for want of memory,
-/// or where the records are higher than the allowance. What an entry point is not given is the type's own.
+/// or where the records are higher than the allowance. What an entry point is not given is the type's own. Where a value may be
+/// absent, as an `Option`, what follows it begins with none of the type's tags.
 ///
 /// A success leaves the allowance as it was. An error either makes the decoder failed, or is the type's own, which is neither
 /// [`DecodeError::Depth`] nor [`DecodeError::Failed`]: then the allowance is as it was, and the decoder, if it was before the

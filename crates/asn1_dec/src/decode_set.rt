@@ -2,7 +2,7 @@
 ghost use Rattle.asn1_components.specs.ComponentLists.{EachCanStandInside};
 ghost use Rattle.asn1_components.specs.Components.{all_components};
 ghost use Rattle.asn1_dec.specs.declared.error.DecodeError.TheVariants.{UnknownField};
-ghost use Rattle.asn1_dec.specs.SetParts.{EachIsOneRecord, MakesValue, ReadsPart};
+ghost use Rattle.asn1_dec.specs.SetParts.{EachFits, EachIsOneRecord, MakesValue, ReadsPart};
 ghost use Rattle.std.specs.Prelude.{◌≡◌, ◌≤◌, Err, OnOk, length, ℕ};
 
 use crate::decoder::Decoder;
@@ -38,10 +38,12 @@ pub trait DecodeSet: FieldTable + Eq + Sized + Drop {
         ensures same_allowance { OnOk result (D.reader.allowance decoder.new ≡ D.reader.allowance decoder.old) };
 
     /// The value of these parts, in whatever order they are. Of all parts of a value it makes an equal one, and fails only for want
-    /// of memory. Where a part's component came before, the error is [`DecodeError::DuplicateField`], and where one is missing that
-    /// is always there, [`DecodeError::MissingField`].
+    /// of memory. It makes one only where no component is among the parts twice, and each that is always there is among them.
+    /// Where that is not so, types answer [`DecodeError::DuplicateField`] for the first part whose component came before, or else
+    /// [`DecodeError::MissingField`] for the first component that is missing.
     fn from_fields(alloc: Global, parts: Vec<Self::Part>) -> Result<Self, DecodeError>
-        ensures { MakesValue (all_components Self.components) index_of is_part_of Self.eq parts.items result };
+        ensures made { MakesValue (all_components Self.components) index_of is_part_of Self.eq parts.items result }
+        ensures fitting { OnOk result (EachFits (all_components Self.components) index_of 0 parts.items) };
 
     // The law: no component is a group.
     ghost one_record_each: { (v : Self) → EachCanStandInside (all_components Self.components) → EachIsOneRecord (all_components Self.components) v };

@@ -26,9 +26,9 @@
 //!   where the records are higher than the allowance (`MayFail`). A success is within the allowance (`within_allowance`).
 //! - Before other records nothing is said of the answer, but for the errors of a type's own: a number outside its limits, and
 //!   a list of another length than the array's, are read, and refused after that (`ReadsAndRefuses`).
-//! - A decoder's call that fails makes the decoder failed, and a failed one answers `Failed` (`Keeps`). `Depth` comes only from
-//!   opening a scope, if and only if there is no allowance (`Enters`), and before anything else but `Failed` (`depth_first`);
-//!   opening takes one from the allowance, and closing gives it back (`Leaves`).
+//! - A decoder's call that fails makes the decoder failed, and a failed one answers `Failed` (`Keeps`). Of a codec's own calls,
+//!   `Depth` comes only from opening a scope, if and only if there is no allowance (`Enters`), and before anything else but
+//!   `Failed` (`depth_first`); opening takes one from the allowance, and closing gives it back (`Leaves`).
 //! - An error of a type's entry point made the decoder failed, or is the type's own (`LeavesDecoder`): then the allowance is as
 //!   it was, and the decoder, if it was before the records of a valid value, is after them (`HasReadPast`), or it is as it was,
 //!   where there was no memory for the permitted alphabet of the type's own constraints (`HadNoMemory`). Of other records the
@@ -42,7 +42,8 @@
 //!   an open type (`Reader`). The order inside sets means nothing to it (`IsLawful`): so it opens a set before some
 //!   rearrangement of what was written.
 //! - The components of a SET are read one by one, as parts, in whatever order they come, and then put together (`ReadsPart`,
-//!   `MakesValue` of `specs/SetParts.antt`). Which component a record is follows from its tag and the table of the type.
+//!   `MakesValue` of `specs/SetParts.antt`); no value is made where a component came twice, or one is missing (`EachFits`).
+//!   Which component a record is follows from its tag and the table of the type.
 //!
 //! `proofs/PartWays.antt` has lemmas for authors of types whose components are read in their order, and `proofs/ReadParts.antt`
 //! and `proofs/SlotLaws.antt` those for authors of a SET.

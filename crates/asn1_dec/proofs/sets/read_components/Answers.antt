@@ -20,7 +20,7 @@ returns-in-Err-clause-read g c = λ v n rest outer can of_type valid at.
     let rs = component_records g.S.FieldTable.components v in
     let s = c.in_ok-bound.ensures.read n rs rest outer at in
     let r = c.in_ok-parts.ensures.read v s.order rest outer can of_type valid s.rearranged (omega (arith, s.moved.answer, records_in-permutation s.order rs s.rearranged)) s.moved.at in
-    rw c.refuse.ensures.same (inl (c.in-Err.ensures v r.answer))
+    rw c.refuse.ensures.same (inl (c.in-Err.ensures.made v r.answer))
 
 pub returns-in_err-close-clause-read : goal.returns-in_err-close-clause-read
 returns-in_err-close-clause-read g c = λ v n rest outer can of_type valid at.
@@ -37,7 +37,7 @@ returns-clause-read g c = λ v n rest outer can of_type valid at.
     let r = c.in_ok-parts.ensures.read v s.order rest outer can of_type valid s.rearranged (omega (arith, s.moved.answer, records_in-permutation s.order rs s.rearranged)) s.moved.at in
     let k = c.in_ok-close.ensures.read rest outer r.at in
     record {
-      answer = c.in-Ok.ensures v r.answer;
+      answer = c.in-Ok.ensures.made v r.answer;
       at = k.at;
       within_allowance = within_scope (set c.args.tag n) rs _ _ c.in_ok-bound.ensures.enters.one_less (rw (highest-permutation s.order rs s.rearranged) at r.within_allowance);
     }
