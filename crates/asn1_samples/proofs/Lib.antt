@@ -1,1 +1,2 @@
 pub mod CornerTags
+mod Slots

@@ -1,8 +1,8 @@
 //! `Badge ::= SET { id INTEGER (0..4294967295), label VisibleString OPTIONAL, shape Shape }`
-ghost use Rattle.std.specs.Prelude.{◌≡◌, [], ◌∷◌, None, Some, map, pos, codes};
+ghost use Rattle.std.specs.Prelude.{◌≡◌, ◌≤◌, [], ◌∷◌, None, OnOk, Some, map, pos, codes};
 ghost use Rattle.asn1_types.specs.Words.{context, universal, untagged, required, optional, set, constructed_type, constructed_agrees, CanStandInside, own_records, holding, set_head, alternative_head, scalar, mark, absent, present, number, null, units, visible, unconstrained, values_of, Range};
 ghost use Rattle.asn1_components.specs.Components.{all_components, root_entries, table};
-ghost use Rattle.asn1_dec.specs.SetParts.{MakesValue};
+ghost use Rattle.asn1_dec.specs.SetParts.{MakesValue, parts_at};
 ghost use Rattle.asn1_fields.specs.CanonicalOrder.{IsCanonical};
 ghost use Rattle.asn1_fields.specs.Entries.{component_of};
 ghost use Rattle.asn1_samples.specs.declared.shape.Shape.TheVariants.{Dot, Ring};
@@ -135,7 +135,8 @@ impl DecodeSet for Badge {
     }
 
     fn from_fields(_alloc: Global, parts: Vec<BadgePart>) -> Result<Badge, DecodeError>
-        ensures { MakesValue (all_components ⟦<Badge as FieldTable>⟧.components) badge_index IsBadgePart ⟦<Badge as PartialEq>⟧.eq parts.items result }
+        ensures made { MakesValue (all_components ⟦<Badge as FieldTable>⟧.components) badge_index IsBadgePart ⟦<Badge as PartialEq>⟧.eq parts.items result }
+        ensures complete { OnOk result ((parts_at badge_index 0 parts.items ≡ 1) × (parts_at badge_index 1 parts.items ≤ 1) × (parts_at badge_index 2 parts.items ≡ 1)) }
     {
         let mut id = None;
         let mut label = None;

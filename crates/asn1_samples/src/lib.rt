@@ -17,7 +17,7 @@
 //!
 //! - Each type states its components, alternatives or items once, and its tables, meaning and writer are proved to say the
 //!   same. The writer has a line for each component (`encode_field`) or alternative (`encode_alternative`), and no proof.
-//! - Each but `Badge` is read: from its records a codec gives an equal value (`Decode`), whatever the codec. The reader has a line
+//! - Each is read: from its records a codec gives an equal value (`Decode`), whatever the codec. The reader has a line
 //!   for each component (`decode_fields`) or alternative (`from_tag`). A component that may be absent is asked for under its own tag,
 //!   which what follows does not begin with; so it is in a group whose last components are absent, where what follows is after
 //!   the group, as the note of a `Visit` is. The proof too has a line for each component, by the steps of `PartWays` of `asn1_dec`. A tag that no alternative
@@ -25,7 +25,7 @@
 //! - Each can be inside other types: `person_can_stand_inside` and its kin.
 //! - The records of some values are written out: `person_records` and its kin. `profile_is_valid` and `envelope_is_valid` say of
 //!   some values whether they are valid.
-//! - [`laws`] says when two values are equal.
+//! - [`laws`] says when two values are equal, which names the tables have, and which types have an extension marker.
 //!
 //! A call takes memory only where a codec does, for what is read, and for the alphabet of a `Plate`. A type that holds itself is in
 //! the crate `asn1_trees`.

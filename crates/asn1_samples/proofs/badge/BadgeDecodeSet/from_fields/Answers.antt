@@ -6,6 +6,7 @@ use Rattle.std.specs.Vec.Iter.{into_iter_items}
 use Rattle.asn1_samples.specs.BadgeParts.{badge_index, label_type}
 use Rattle.asn1_samples.specs.declared.badge.BadgePart.TheVariants.{Id, Label, Figure}
 use Rattle.asn1_dec.proofs.SlotLaws.{none_yet, one_on, kept, passed, not_again, at_end, is_absent, is_component, optional_slot}
+use Rattle.asn1_samples.proofs.Slots.{at_most_one}
 use Rattle.asn1_samples.proofs.badge.BadgeDecodeSet.from_fields.Goals as goal
 
 pub loop-part-init : goal.loop-part-init
@@ -24,8 +25,8 @@ loop-part-preserved-in-Continue-1 c = record {
   shape = passed badge_index 2 Figure c.in-Some.part c.loop-part.invariant.shape (ap (λ p. badge_index p == 2) c.in-Id.is);
 }
 
-pub returns-in_err-keep_once-in-Id : goal.returns-in_err-keep_once-in-Id
-returns-in_err-keep_once-in-Id c = λ v are. absurd
+pub returns-in_err-keep_once-in-Id-clause-made : goal.returns-in_err-keep_once-in-Id-clause-made
+returns-in_err-keep_once-in-Id-clause-made c = λ v are. absurd
     (not_again badge_index 0 Id c.in-Some.part c.args.parts.items (into_iter_items c.next.new.self) c.loop-part.invariant.id c.in_err-keep_once-in-Id.ensures.twice.0 (ap (λ p. badge_index p == 0) c.in-Id.is)
     (one_on c.args.parts.items c.loop-part.yielded (into_iter_items c.loop-part.part-iterator) (into_iter_items c.next.new.self) c.in-Some.part c.loop-part.invariant.all c.in-Some.ensures.steps.0) (are.none_twice 0))
 
@@ -37,8 +38,8 @@ loop-part-preserved-in-Continue-branch-2 c = record {
   shape = passed badge_index 2 Figure c.in-Some.part c.loop-part.invariant.shape (ap (λ p. badge_index p == 2) c.in-Label.is);
 }
 
-pub returns-in_err-keep_once-in-Label : goal.returns-in_err-keep_once-in-Label
-returns-in_err-keep_once-in-Label c = λ v are. absurd
+pub returns-in_err-keep_once-in-Label-clause-made : goal.returns-in_err-keep_once-in-Label-clause-made
+returns-in_err-keep_once-in-Label-clause-made c = λ v are. absurd
     (not_again badge_index 1 Label c.in-Some.part c.args.parts.items (into_iter_items c.next.new.self) c.loop-part.invariant.label c.in_err-keep_once-in-Label.ensures.twice.0 (ap (λ p. badge_index p == 1) c.in-Label.is)
     (one_on c.args.parts.items c.loop-part.yielded (into_iter_items c.loop-part.part-iterator) (into_iter_items c.next.new.self) c.in-Some.part c.loop-part.invariant.all c.in-Some.ensures.steps.0) (are.none_twice 1))
 
@@ -50,23 +51,23 @@ loop-part-preserved c = record {
   shape = kept badge_index 2 Figure c.keep_once-in-Figure.new.slot c.in-Figure.value c.in-Some.part c.loop-part.invariant.shape c.in_ok-keep_once-in-Figure.ensures.kept.0 c.in_ok-keep_once-in-Figure.ensures.kept.1 c.in-Figure.is (ap (λ p. badge_index p == 2) c.in-Figure.is);
 }
 
-pub returns-in_err-keep_once-in-Figure : goal.returns-in_err-keep_once-in-Figure
-returns-in_err-keep_once-in-Figure c = λ v are. absurd
+pub returns-in_err-keep_once-in-Figure-clause-made : goal.returns-in_err-keep_once-in-Figure-clause-made
+returns-in_err-keep_once-in-Figure-clause-made c = λ v are. absurd
     (not_again badge_index 2 Figure c.in-Some.part c.args.parts.items (into_iter_items c.next.new.self) c.loop-part.invariant.shape c.in_err-keep_once-in-Figure.ensures.twice.0 (ap (λ p. badge_index p == 2) c.in-Figure.is)
     (one_on c.args.parts.items c.loop-part.yielded (into_iter_items c.loop-part.part-iterator) (into_iter_items c.next.new.self) c.in-Some.part c.loop-part.invariant.all c.in-Some.ensures.steps.0) (are.none_twice 2))
 
-pub returns-in_default : goal.returns-in_default
-returns-in_default c = λ v are.
+pub returns-in_default-clause-made : goal.returns-in_default-clause-made
+returns-in_default-clause-made c = λ v are.
     let id = at_end badge_index 0 Id c.args.parts.items (into_iter_items c.loop-part.part-iterator) c.loop-part.invariant.id c.loop-part.invariant.all (omega (arith, c.in-None.ensures.steps.0, c.loop-part.part-iterator.rest.ok.0)) in
     absurd (is_absent badge_index 0 Id _ v _ _ are (rw c.in_default.is at id) refl)
 
-pub returns-in_default-shape : goal.returns-in_default-shape
-returns-in_default-shape c = λ v are.
+pub returns-in_default-shape-clause-made : goal.returns-in_default-shape-clause-made
+returns-in_default-shape-clause-made c = λ v are.
     let shape = at_end badge_index 2 Figure c.args.parts.items (into_iter_items c.loop-part.part-iterator) c.loop-part.invariant.shape c.loop-part.invariant.all (omega (arith, c.in-None.ensures.steps.0, c.loop-part.part-iterator.rest.ok.0)) in
     absurd (is_absent badge_index 2 Figure _ v _ _ are (rw c.in_default-shape.is at shape) refl)
 
-pub returns : goal.returns
-returns c = λ v are.
+pub returns-clause-made : goal.returns-clause-made
+returns-clause-made c = λ v are.
     let none = (let n : length (into_iter_items c.loop-part.part-iterator) ≡ 0 = omega (arith, c.in-None.ensures.steps.0, c.loop-part.part-iterator.rest.ok.0) in n) in
     let id = at_end badge_index 0 Id c.args.parts.items (into_iter_items c.loop-part.part-iterator) c.loop-part.invariant.id c.loop-part.invariant.all none in
     let label = at_end badge_index 1 Label c.args.parts.items (into_iter_items c.loop-part.part-iterator) c.loop-part.invariant.label c.loop-part.invariant.all none in
@@ -74,3 +75,11 @@ returns c = λ v are.
     and_from _ _ (eq-eqb c.in-Some-id.id v.id (is_component badge_index 0 Id _ v _ _ are c.in-Some-id.id (rw c.in-Some-id.is at id)))
     (and_from _ _ (optional_slot badge_index 1 Label _ v _ _ are c.loop-part.label v.label label_type (pointwise eqb) label refl (λ x. refl) (λ x is. is))
     (is_component badge_index 2 Figure _ v _ _ are c.in-Some-shape.shape (rw c.in-Some-shape.is at shape)))
+
+pub returns-clause-complete : goal.returns-clause-complete
+returns-clause-complete c =
+    let none = (let n : length (into_iter_items c.loop-part.part-iterator) ≡ 0 = omega (arith, c.in-None.ensures.steps.0, c.loop-part.part-iterator.rest.ok.0) in n) in
+    let id = at_end badge_index 0 Id c.args.parts.items (into_iter_items c.loop-part.part-iterator) c.loop-part.invariant.id c.loop-part.invariant.all none in
+    let label = at_end badge_index 1 Label c.args.parts.items (into_iter_items c.loop-part.part-iterator) c.loop-part.invariant.label c.loop-part.invariant.all none in
+    let shape = at_end badge_index 2 Figure c.args.parts.items (into_iter_items c.loop-part.part-iterator) c.loop-part.invariant.shape c.loop-part.invariant.all none in
+    ((rw c.in-Some-id.is at id).as_many, at_most_one label, (rw c.in-Some-shape.is at shape).as_many)
