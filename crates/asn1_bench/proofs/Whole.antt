@@ -1,12 +1,13 @@
 -- A value as a whole, written and read.
-use Rattle.std.proofs.Common.{◌≡◌, ℕ, true, false, List, [], ◌∷◌, ◌++◌, sym, subst, ◌∙◌, append-nil}
+use Rattle.std.proofs.Common.{◌≡◌, ℕ, true, false, List, [], ◌∷◌, ◌++◌, ap, sym, subst, ◌∙◌, append-nil}
+use Rattle.asn1_dec.proofs.Ahead.{same_as_end, same_as_record}
 use Rattle.asn1_enc.specs.declared.error.EncodeError.{EncodeError}
 use Rattle.asn1_enc.specs.Writing.{Fails, outermost}
 use Rattle.asn1_model.specs.Records.{Record}
 use Rattle.asn1_schema.specs.Rules.{IsNotWritten}
 use Rattle.asn1_records.specs.Encoder.{record_writer}
 use Rattle.asn1_records.specs.declared.encoder.RecordEncoder.{RecordEncoder}
-use Rattle.asn1_record_decoder.specs.Reading.{StandsBefore}
+use Rattle.asn1_record_decoder.specs.Reading.{StandsBefore, ahead_without}
 use Rattle.asn1_record_decoder.specs.declared.decoder.RecordDecoder.{RecordDecoder}
 use Rattle.asn1_bench.specs.Outputs.{record_format}
 
@@ -25,3 +26,11 @@ not_written old new rs depth e began allowed was fails = record {
 -- nothing follows a value
 pub alone : (d : RecordDecoder) (rs : List Record) → StandsBefore d (rs ∷ []) → StandsBefore d ((rs ++ []) ∷ [])
 alone d rs at = subst (λ l. StandsBefore d (l ∷ [])) (sym (append-nil rs)) at
+
+-- a record that is left is not the end
+pub not_at_end : (d : RecordDecoder) (r : Record) (rest : List Record) → StandsBefore d ((r ∷ rest) ∷ []) → StandsBefore d ([] ∷ []) → ⊥
+not_at_end d r rest at end =
+    let a = same_as_record at.same in
+    let b = same_as_end end.same in
+    let wrong = sym (at.sees_them ∙ ap ahead_without a.is) ∙ (end.sees_them ∙ ap ahead_without b.is) in
+    cc

@@ -32,7 +32,12 @@ impl BenchRules {
 
 impl Rules for BenchRules {
     ghost use Rattle.asn1_bench.specs.Outputs.{record_format};
+    ghost use Rattle.asn1_model.specs.Meaning.{CanStandInside, own_records};
+    ghost use Rattle.asn1_model.specs.Records as model;
+    ghost use Rattle.asn1_model.specs.Records.{highest};
     ghost use Rattle.asn1_records.proofs.Carrying.{carries_in_any_order};
+    ghost use Rattle.asn1_schema.specs.Rules.{ReadsWhole};
+    ghost use Rattle.std.specs.Prelude.{◌≡◌, ◌∷◌, ◌++◌, IsErr, List, true};
 
     type Output = Vec<Record>;
 
@@ -44,7 +49,13 @@ impl Rules for BenchRules {
         Ok(encoder.finish())
     }
 
-    fn read_value<T: Decode>(&self, output: &Vec<Record>, depth: usize) -> Result<T, DecodeError> {
+    fn read_value<T: Decode>(&self, output: &Vec<Record>, depth: usize) -> Result<T, DecodeError>
+        ensures read { (v : T) → CanStandInside T.meaning → T.meaning.IsOfType v → T.meaning.IsValid record_format.takes v →
+            record_format.carries output.now (own_records T.meaning v) →
+            ReadsWhole (highest (own_records T.meaning v)) depth (λ w. T.eq w v ≡ true) result }
+        ensures none_left { (v : T) (r : model.Record) (rest : List model.Record) → CanStandInside T.meaning → T.meaning.IsOfType v → T.meaning.IsValid record_format.takes v →
+            record_format.carries output.now (own_records T.meaning v ++ r ∷ rest) → IsErr result }
+    {
         let mut decoder = RecordDecoder::new(self.alloc, output.as_slice(), depth);
         let value = T::decode(&mut decoder)?;
         decoder.finish()?;

@@ -1,1 +1,2 @@
 pub mod BadgeParts
+pub mod Names

@@ -89,9 +89,15 @@ impl Decode for Color {
     }
 }
 
-/// What `Color::Blue` is to every codec.
+/// What each color is to every codec.
 pub fn color_records(color: Color)
-    ensures { color ≡ Blue →
+    ensures red { color ≡ Red →
+        own_records ⟦<Color as AsnType>⟧.meaning color ≡
+        scalar (universal 10) unconstrained (Some (codes "Color")) (discriminant (pos 0)) ∷ [] }
+    ensures green { color ≡ Green →
+        own_records ⟦<Color as AsnType>⟧.meaning color ≡
+        scalar (universal 10) unconstrained (Some (codes "Color")) (discriminant (pos 1)) ∷ [] }
+    ensures blue { color ≡ Blue →
         own_records ⟦<Color as AsnType>⟧.meaning color ≡
         scalar (universal 10) unconstrained (Some (codes "Color")) (discriminant (pos 5)) ∷ [] }
 {}

@@ -1,7 +1,12 @@
-//! Laws of what no other contract names: which values of a type are equal, and what a clone is.
+//! Laws of what no other contract names: the names in the tables, which types have an extension marker, which values of a type
+//! are equal, and what a clone is.
+ghost use Rattle.asn1_choices.specs.Alternatives.{all_of, names_of};
+ghost use Rattle.asn1_components.specs.Components.{has_marker};
+ghost use Rattle.asn1_enumerations.specs.Enumerations.{items, names};
+ghost use Rattle.asn1_samples.specs.Names.{component_names};
 ghost use Rattle.std.specs.Hash as fed;
 ghost use Rattle.std.specs.Option.{option_eq};
-ghost use Rattle.std.specs.Prelude.{◌≡◌, ◌↔◌, ◌&&◌, IsTrue, nat_eq};
+ghost use Rattle.std.specs.Prelude.{◌≡◌, ◌↔◌, ◌&&◌, [], ◌∷◌, IsTrue, codes, false, nat_eq, true};
 ghost use Rattle.std.specs.String.{string_bytes, string_eq};
 ghost use Rattle.asn1_samples.specs.declared.labelled.Labelled.{Labelled};
 ghost use Rattle.asn1_tags.specs.Derives.{ClonesAll, ComparesAll};
@@ -18,7 +23,39 @@ use crate::profile::Profile;
 use crate::settings::Settings;
 use crate::shape::Shape;
 use crate::visit::Visit;
+use asn1_types::{Choice, Enumerated, FieldTable};
 use std::hash::Hash;
+
+/// A law of the tables: the names of the components, in the order of the table.
+pub fn components_have_their_names()
+    ensures person { component_names ⟦<Person as FieldTable>⟧.components ≡ codes "age" ∷ codes "name" ∷ [] }
+    ensures profile { component_names ⟦<Profile as FieldTable>⟧.components ≡ codes "nick" ∷ codes "level" ∷ codes "color" ∷ codes "contact" ∷ [] }
+    ensures contact { component_names ⟦<Contact as FieldTable>⟧.components ≡ codes "phone" ∷ codes "mail" ∷ [] }
+    ensures visit { component_names ⟦<Visit as FieldTable>⟧.components ≡ codes "day" ∷ codes "contact" ∷ codes "note" ∷ [] }
+    ensures badge { component_names ⟦<Badge as FieldTable>⟧.components ≡ codes "shape" ∷ codes "id" ∷ codes "label" ∷ [] }
+    ensures envelope { component_names ⟦<Envelope as FieldTable>⟧.components ≡ codes "kind" ∷ codes "body" ∷ [] }
+    ensures labelled { component_names ⟦<Labelled as FieldTable>⟧.components ≡ codes "key" ∷ codes "note" ∷ [] }
+    ensures settings { component_names ⟦<Settings as FieldTable>⟧.components ≡ codes "entry" ∷ [] }
+{}
+
+/// A law of the tables: the names of the alternatives of a CHOICE, and those of the items of an ENUMERATED type.
+pub fn alternatives_and_items_have_their_names()
+    ensures shape { names_of (all_of ⟦<Shape as Choice>⟧.alternatives) ≡ codes "dot" ∷ codes "ring" ∷ codes "inner" ∷ [] }
+    ensures corner { names_of (all_of ⟦<Corner as Choice>⟧.alternatives) ≡ codes "left" ∷ codes "right" ∷ [] }
+    ensures color { names (items ⟦<Color as Enumerated>⟧.enumeration) ≡ codes "red" ∷ codes "green" ∷ codes "blue" ∷ [] }
+{}
+
+/// A law of the extension markers: of the SEQUENCE and SET types a `Profile` and a `Visit` have one, and no other.
+pub fn some_types_have_an_extension_marker()
+    ensures person { has_marker ⟦<Person as FieldTable>⟧.components.extension ≡ false }
+    ensures profile { has_marker ⟦<Profile as FieldTable>⟧.components.extension ≡ true }
+    ensures contact { has_marker ⟦<Contact as FieldTable>⟧.components.extension ≡ false }
+    ensures visit { has_marker ⟦<Visit as FieldTable>⟧.components.extension ≡ true }
+    ensures badge { has_marker ⟦<Badge as FieldTable>⟧.components.extension ≡ false }
+    ensures envelope { has_marker ⟦<Envelope as FieldTable>⟧.components.extension ≡ false }
+    ensures labelled { has_marker ⟦<Labelled as FieldTable>⟧.components.extension ≡ false }
+    ensures settings { has_marker ⟦<Settings as FieldTable>⟧.components.extension ≡ false }
+{}
 
 /// A law of the derived equalities: two values of these types are equal if and only if they are the same.
 pub fn values_are_compared_by_all_that_they_are()

@@ -25,7 +25,7 @@
 //! - Each can be inside other types: `person_can_stand_inside` and its kin.
 //! - The records of some values are written out: `person_records` and its kin. `profile_is_valid` and `envelope_is_valid` say of
 //!   some values whether they are valid.
-//! - [`laws`] says when two values are equal.
+//! - [`laws`] says when two values are equal, which names the tables have, and which types have an extension marker.
 //!
 //! A call takes memory only where a codec does, for what is read, and for the alphabet of a `Plate`. A type that holds itself is in
 //! the crate `asn1_trees`.
@@ -45,7 +45,7 @@ mod settings;
 mod shape;
 mod visit;
 
-pub use badge::{Badge, badge_can_stand_inside, badge_records, badge_table_is_canonical};
+pub use badge::{Badge, BadgePart, badge_can_stand_inside, badge_records, badge_table_is_canonical};
 pub use color::{Color, color_can_stand_inside, color_records};
 pub use contact::Contact;
 pub use corner::{Corner, corner_can_stand_inside, corner_records};

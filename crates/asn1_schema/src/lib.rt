@@ -21,7 +21,8 @@
 //! - `round_trip` is the theorem (`back`): for every codec that keeps these laws and every such type, a valid value whose
 //!   writing succeeds is read back equal, unless memory is short or the depth of reading too little (`FailsAs` of
 //!   `specs/RoundTrips.antt`). Its premises are that the type's tags are distinct, and that the value is valid: open types in
-//!   it hold one value each, a group that is there writes a component, numbers are within their limits.
+//!   it hold one value each, a group that is there writes a component, numbers are within their limits. Of every other value too,
+//!   one that was written is no higher than the depth of writing, and writing fails as it may (`written`).
 #![tactic(auto)]
 
 pub mod laws;

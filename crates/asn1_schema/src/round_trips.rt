@@ -1,7 +1,7 @@
 //! What was written is read back.
 ghost use Rattle.asn1_model.specs.Meaning.{CanStandInside, own_records};
 ghost use Rattle.asn1_model.specs.Records.{highest};
-ghost use Rattle.asn1_schema.specs.RoundTrips.{FailsAs};
+ghost use Rattle.asn1_schema.specs.RoundTrips.{FailsAs, WritesFirst};
 ghost use Rattle.std.specs.Prelude.{◌≡◌, ◌≤◌, true, MatchResult};
 
 use crate::rules::Rules;
@@ -24,7 +24,8 @@ pub enum RoundTripError {
 ///
 /// The round trip: for every codec, and every type that is well tagged, a valid value whose writing succeeds is read back
 /// equal, by the type's own equality, unless memory is short or the value's records are higher than the depth of reading
-/// (`back`).
+/// (`back`). Whatever the type and the value, one that was written is no higher than the depth of writing, and writing fails as
+/// it may (`written`).
 ///
 /// # Errors
 /// [`RoundTripError::Writing`] with the error of writing, and [`RoundTripError::Reading`] with that of reading.
@@ -38,6 +39,7 @@ pub fn round_trip<R: Rules, T: Encode + Decode>(
         MatchResult result
         (λ w. (T.eq w value.now ≡ true) × (highest (own_records T.meaning value.now) ≤ read_depth))
         (FailsAs R.format (own_records T.meaning value.now) write_depth read_depth) }
+    ensures written { WritesFirst R.format (own_records T.meaning value.now) write_depth result }
 {
     let output = rules
         .write_value(value, write_depth)

@@ -3,7 +3,7 @@
 //! | Item | What it is |
 //! |---|---|
 //! | [`Node`] | a SEQUENCE with a list of its own type inside |
-//! | [`laws`] | which nodes are equal |
+//! | [`laws`] | the names of the components, and which nodes are equal |
 //!
 //! What the contracts promise:
 //!
@@ -14,7 +14,7 @@
 //!   `node_is_two_higher_than_its_children`).
 //! - It is read by two functions that call each other. Each node opens two scopes, so the allowance of the decoder ends the
 //!   recursion, whatever the input.
-//! - [`laws`] says when two values are equal.
+//! - [`laws`] says when two values are equal, and which names the table has.
 //!
 //! The prover wants such a type, its tables, its writer and its reader in one crate. A call takes memory where a codec does,
 //! and reading for the labels and the lists of children.

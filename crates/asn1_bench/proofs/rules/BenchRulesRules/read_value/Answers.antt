@@ -1,20 +1,20 @@
-use Rattle.std.proofs.Common.{[], inl}
+use Rattle.std.proofs.Common.{[], ◌∷◌, ◌++◌, inl, refl}
 use Rattle.std.proofs.lemmas.Result.{err_from_is_err_and}
 use Rattle.asn1_model.specs.Meaning.{own_records}
 use Rattle.asn1_records.specs.Carried.{Carries}
-use Rattle.asn1_bench.proofs.Whole.{alone}
+use Rattle.asn1_bench.proofs.Whole.{alone, not_at_end}
 use Rattle.asn1_bench.proofs.rules.BenchRulesRules.read_value.Goals as goal
 
-pub returns-in_err-value : goal.returns-in_err-value
-returns-in_err-value g c = λ v can of_type valid carries.
+pub returns-in_err-value-clause-read : goal.returns-in_err-value-clause-read
+returns-in_err-value-clause-read g c = λ v can of_type valid carries.
     let m = g.T.AsnType.meaning in
     let carried : Carries c.as_slice.result.now (own_records m v) = rw c.as_slice.ensures.value carries in
     let at = alone c.new-decoder.result (own_records m v) (c.new-decoder.ensures.before (own_records m v) carried) in
     let p = err_from_is_err_and c.from_residual.result c.from_residual.ensures.1 in
     rw (p.1, p.2, ← c.new-decoder.ensures.allowance) (c.in_err-value.ensures.read v m.name [] [] can.1 of_type valid (inl can.0) at)
 
-pub returns-in_err-finish : goal.returns-in_err-finish
-returns-in_err-finish g c = λ v can of_type valid carries.
+pub returns-in_err-finish-clause-read : goal.returns-in_err-finish-clause-read
+returns-in_err-finish-clause-read g c = λ v can of_type valid carries.
     let m = g.T.AsnType.meaning in
     let carried : Carries c.as_slice.result.now (own_records m v) = rw c.as_slice.ensures.value carries in
     let at = alone c.new-decoder.result (own_records m v) (c.new-decoder.ensures.before (own_records m v) carried) in
@@ -22,10 +22,18 @@ returns-in_err-finish g c = λ v can of_type valid carries.
     let wrong = c.in_err-finish.ensures.all_read.1 read.at in
     cc
 
-pub returns : goal.returns
-returns g c = λ v can of_type valid carries.
+pub returns-clause-read : goal.returns-clause-read
+returns-clause-read g c = λ v can of_type valid carries.
     let m = g.T.AsnType.meaning in
     let carried : Carries c.as_slice.result.now (own_records m v) = rw c.as_slice.ensures.value carries in
     let at = alone c.new-decoder.result (own_records m v) (c.new-decoder.ensures.before (own_records m v) carried) in
     let read = c.in_ok-value.ensures.read v m.name [] [] can.1 of_type valid (inl can.0) at in
     (read.answer, rw (← c.new-decoder.ensures.allowance) read.within_allowance)
+
+pub returns-clause-none_left : goal.returns-clause-none_left
+returns-clause-none_left g c = λ v r rest can of_type valid carries.
+    let m = g.T.AsnType.meaning in
+    let carried : Carries c.as_slice.result.now (own_records m v ++ r ∷ rest) = rw c.as_slice.ensures.value carries in
+    let at = c.new-decoder.ensures.before (own_records m v ++ r ∷ rest) carried in
+    let read = c.in_ok-value.ensures.read v m.name (r ∷ rest) [] can.1 of_type valid (inl can.0) at in
+    absurd (not_at_end _ r rest read.at (c.in_ok-finish.ensures.all_read.0 refl))
