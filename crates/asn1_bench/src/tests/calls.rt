@@ -1,209 +1,188 @@
-//! Each call of an encoder and of a decoder once, with ample memory.
+//! Each call of an encoder and of a decoder once, with ample memory; and each of a decoder with an allocation refused.
 use crate::tests::text::assert_records;
-use crate::tests::values::{FIRST, NAME, assert_end, assert_number, done, own};
+use crate::tests::values::{
+    Answers, FIRST, NAME, Trial, arcs, assert_tagged, assert_trial, done, own, spelled, text,
+};
 use asn1_bounds::{Codec, Constraints};
-use asn1_dec::{DecodeError, Decoder};
-use asn1_enc::{Encode, Encoder};
+use asn1_dec::{Decode, DecodeError, DecodeFields, Decoder};
+use asn1_enc::{Encode, EncodeFields, Encoder};
 use asn1_record_decoder::RecordDecoder;
-use asn1_records::{Record, RecordEncoder};
+use asn1_records::RecordEncoder;
 use asn1_samples::{Badge, Color, Contact, Shape};
 use asn1_tags::Tag;
 use asn1_types::{Any, InstanceOf, SetOf};
 use asn1_values::{
-    BmpString, GeneralString, GraphicString, Ia5String, NumericString, ObjectIdentifier,
+    BitString, BmpString, GeneralString, GraphicString, Ia5String, NumericString, OctetString,
     PrintableString, TeletexString, VisibleString,
 };
 use std::alloc::{AllocError, Global};
 use std::process::Abort;
 
-fn assert_option(rt: &impl Abort, answer: Result<Option<u8>, DecodeError>, expected: Option<u8>) {
-    assert!(rt; answer == Ok(expected));
-}
-
-fn write_scalars<E: Encoder>(rt: &impl Abort, encoder: &mut E) {
-    let constraints = &Constraints::NONE;
-    done(rt, encoder.encode_bool(FIRST, true, NAME));
-    done(rt, encoder.encode_null(FIRST, NAME));
-    let arcs = [1, 2, 840];
-    done(rt, encoder.encode_object_identifier(FIRST, &arcs, NAME));
-    done(
-        rt,
-        encoder.encode_integer(FIRST, constraints, &-9i128, NAME),
+#[test]
+fn scalars_are_written_and_read(rt: HostRuntime) {
+    let alloc = rt.alloc();
+    assert_tagged(&rt, alloc, FIRST, true, "Context 0 n true ");
+    assert_tagged(&rt, alloc, FIRST, (), "Context 0 n null ");
+    assert_tagged(&rt, alloc, FIRST, -9i128, "Context 0 n -9 ");
+    assert_tagged(
+        &rt,
+        alloc,
+        FIRST,
+        arcs(&rt, alloc, &[1, 2, 840]),
+        "Context 0 n arcs [1, 2, 840] ",
     );
-    let bits = [true, false];
-    done(
-        rt,
-        encoder.encode_bit_string(FIRST, constraints, &bits, NAME),
+    assert_tagged(
+        &rt,
+        alloc,
+        FIRST,
+        BitString::new(own(&rt, alloc, &[true, false])),
+        "Context 0 n bits [true, false] ",
     );
-    let octets = [0, 255];
-    done(
-        rt,
-        encoder.encode_octet_string(FIRST, constraints, &octets, NAME),
+    assert_tagged(
+        &rt,
+        alloc,
+        FIRST,
+        OctetString::new(own(&rt, alloc, &[0, 255])),
+        "Context 0 n octets [0, 255] ",
     );
-    done(
-        rt,
-        encoder.encode_utf8_string(FIRST, constraints, "Ann", NAME),
+    assert_tagged(
+        &rt,
+        alloc,
+        FIRST,
+        text(&rt, alloc, "Ann"),
+        "Context 0 n utf8 Ann ",
     );
 }
 
 #[test]
-fn scalars_are_written(rt: HostRuntime) {
-    let mut encoder = RecordEncoder::new(rt.alloc(), 0);
-    write_scalars(&rt, &mut encoder);
-    assert_records(
+fn strings_with_an_alphabet_are_written_and_read(rt: HostRuntime) {
+    let alloc = rt.alloc();
+    assert_tagged::<VisibleString>(
         &rt,
-        rt.alloc(),
-        encoder.finish().as_slice(),
-        "Context 0 n true Context 0 n null Context 0 n arcs [1, 2, 840] Context 0 n -9 \
-         Context 0 n bits [true, false] Context 0 n octets [0, 255] Context 0 n utf8 Ann ",
+        alloc,
+        FIRST,
+        spelled(&rt, alloc, b"A~"),
+        "Context 0 n visible [65, 126] ",
     );
-}
-
-/// Writes a value under a tag and a name.
-fn write<T: Encode + Drop, E: Encoder>(rt: &impl Abort, encoder: &mut E, value: T) {
-    done(
-        rt,
-        value.encode_with_tag_and_identifier(encoder, FIRST, NAME),
+    assert_tagged::<Ia5String>(
+        &rt,
+        alloc,
+        FIRST,
+        spelled(&rt, alloc, b"\n"),
+        "Context 0 n ia5 [10] ",
     );
-}
-
-fn visible(rt: &impl Abort, alloc: Global) -> VisibleString {
-    VisibleString::new(own(rt, alloc, b"A~")).expect(rt, "a text")
-}
-
-fn ia5(rt: &impl Abort, alloc: Global) -> Ia5String {
-    Ia5String::new(own(rt, alloc, b"\n")).expect(rt, "a text")
-}
-
-fn printable(rt: &impl Abort, alloc: Global) -> PrintableString {
-    PrintableString::new(own(rt, alloc, b"A")).expect(rt, "a text")
-}
-
-fn numeric(rt: &impl Abort, alloc: Global) -> NumericString {
-    NumericString::new(own(rt, alloc, b"1 2")).expect(rt, "a text")
-}
-
-fn write_strings<E: Encoder>(rt: &impl Abort, alloc: Global, encoder: &mut E) {
-    write(rt, encoder, visible(rt, alloc));
-    write(rt, encoder, GeneralString::new(own(rt, alloc, &[0, 255])));
-    write(rt, encoder, GraphicString::new(own(rt, alloc, &[1, 254])));
-    write(rt, encoder, ia5(rt, alloc));
-    write(rt, encoder, printable(rt, alloc));
-    write(rt, encoder, numeric(rt, alloc));
-    write(rt, encoder, TeletexString::new(own(rt, alloc, &[u32::MAX])));
-    write(
-        rt,
-        encoder,
-        BmpString::new(own(rt, alloc, &[0xd83d, 0xde00])),
+    assert_tagged::<PrintableString>(
+        &rt,
+        alloc,
+        FIRST,
+        spelled(&rt, alloc, b"A"),
+        "Context 0 n printable [65] ",
     );
-    write(rt, encoder, Any::new(own(rt, alloc, &[7, 8])));
+    assert_tagged::<NumericString>(
+        &rt,
+        alloc,
+        FIRST,
+        spelled(&rt, alloc, b"1 2"),
+        "Context 0 n numeric [49, 32, 50] ",
+    );
 }
 
 #[test]
-fn strings_are_written(rt: HostRuntime) {
-    let mut encoder = RecordEncoder::new(rt.alloc(), 0);
-    write_strings(&rt, rt.alloc(), &mut encoder);
-    assert_records(
+fn strings_without_an_alphabet_are_written_and_read(rt: HostRuntime) {
+    let alloc = rt.alloc();
+    assert_tagged(
         &rt,
-        rt.alloc(),
-        encoder.finish().as_slice(),
-        "Context 0 n visible [65, 126] Context 0 n general [0, 255] Context 0 n graphic [1, 254] \
-         Context 0 n ia5 [10] Context 0 n printable [65] Context 0 n numeric [49, 32, 50] \
-         Context 0 n teletex [4294967295] Context 0 n bmp [55357, 56832] n raw [7, 8] ",
+        alloc,
+        FIRST,
+        GeneralString::new(own(&rt, alloc, &[0, 255])),
+        "Context 0 n general [0, 255] ",
+    );
+    assert_tagged(
+        &rt,
+        alloc,
+        FIRST,
+        GraphicString::new(own(&rt, alloc, &[1, 254])),
+        "Context 0 n graphic [1, 254] ",
+    );
+    assert_tagged(
+        &rt,
+        alloc,
+        FIRST,
+        TeletexString::new(own(&rt, alloc, &[u32::MAX])),
+        "Context 0 n teletex [4294967295] ",
+    );
+    assert_tagged(
+        &rt,
+        alloc,
+        FIRST,
+        BmpString::new(own(&rt, alloc, &[0xd83d, 0xde00])),
+        "Context 0 n bmp [55357, 56832] ",
+    );
+    assert_tagged(
+        &rt,
+        alloc,
+        FIRST,
+        Any::new(own(&rt, alloc, &[7, 8])),
+        "n raw [7, 8] ",
     );
 }
 
-fn write_scopes<E: Encoder>(rt: &impl Abort, encoder: &mut E) {
-    let constraints = &Constraints::NONE;
-    done(rt, encoder.encode_enumerated(FIRST, &Color::Blue, NAME));
-    done(rt, encoder.encode_explicit_prefix(FIRST, &9u8, NAME));
-    done(rt, encoder.encode_explicit_prefix(FIRST, &9u8, NAME));
-    let numbers = [3u8, 1];
-    done(
-        rt,
-        encoder.encode_sequence_of(FIRST, &numbers, constraints, NAME),
-    );
-    done(
-        rt,
-        encoder.encode_choice(constraints, &Shape::Ring(3), NAME),
-    );
-}
+/// What an encoder and a decoder say of themselves, and an item.
+#[derive(Drop)]
+struct Item;
 
-fn assert_list(rt: &impl Abort, answer: Result<Vec<u8>, DecodeError>) {
-    let numbers = answer.expect(rt, "a list");
-    assert!(rt; numbers.as_slice() == [3, 1].as_slice());
-}
+impl Trial for Item {
+    fn write<E: Encoder>(&self, rt: &impl Abort, encoder: &mut E) {
+        assert!(rt; encoder.codec() == Codec::Other(0) && encoder.depth() == 4);
+        done(rt, encoder.encode_enumerated(FIRST, &Color::Blue, NAME));
+    }
 
-fn read_scopes<D: Decoder>(rt: &impl Abort, decoder: &mut D) {
-    let constraints = &Constraints::NONE;
-    assert!(rt; decoder.decode_enumerated(FIRST) == Ok(Color::Blue));
-    assert_number(rt, decoder.decode_explicit_prefix(FIRST), 9);
-    let prefixed = decoder.decode_explicit_prefix_with_constraints(FIRST, constraints);
-    assert_number(rt, prefixed, 9);
-    assert_list(rt, decoder.decode_sequence_of(FIRST, constraints));
-    assert!(rt; decoder.decode_choice(constraints) == Ok(Shape::Ring(3)));
+    fn read<D: Decoder>(&self, rt: &impl Abort, decoder: &mut D, answers: &mut Answers) {
+        assert!(rt; decoder.codec() == Codec::Other(0) && decoder.depth() == 4);
+        answers.expect(rt, decoder.decode_enumerated(FIRST), &Color::Blue);
+    }
 }
 
 #[test]
-fn scopes_are_written_and_read(rt: HostRuntime) {
-    let mut encoder = RecordEncoder::new(rt.alloc(), 2);
-    write_scopes(&rt, &mut encoder);
-    assert!(rt; encoder.codec() == Codec::Other(0) && encoder.depth() == 2);
-    let records = encoder.finish();
-    assert_records(
+fn an_item_is_written_and_read(rt: HostRuntime) {
+    assert_trial(&rt, rt.alloc(), Item, "Context 0 n item 5 ");
+}
+
+/// A value after an explicit tag, by each call.
+#[derive(Drop)]
+struct Prefixes<T>(T);
+
+impl<T: Encode + Decode> Trial for Prefixes<T> {
+    fn write<E: Encoder>(&self, rt: &impl Abort, encoder: &mut E) {
+        done(rt, encoder.encode_explicit_prefix(FIRST, &self.0, NAME));
+        done(rt, encoder.encode_explicit_prefix(FIRST, &self.0, NAME));
+    }
+
+    fn read<D: Decoder>(&self, rt: &impl Abort, decoder: &mut D, answers: &mut Answers) {
+        let constraints = &Constraints::NONE;
+        answers.expect(rt, decoder.decode_explicit_prefix(FIRST), &self.0);
+        let last = decoder.decode_explicit_prefix_with_constraints(FIRST, constraints);
+        answers.expect(rt, last, &self.0);
+    }
+}
+
+#[test]
+fn a_value_is_written_and_read_after_a_tag(rt: HostRuntime) {
+    assert_trial(
         &rt,
         rt.alloc(),
-        records.as_slice(),
-        "Context 0 n item 5 prefix Context 0 n { Universal 2 INTEGER 9 } \
-         prefix Context 0 n { Universal 2 INTEGER 9 } \
-         sequence of Context 0 n { Universal 2 INTEGER 3 Universal 2 INTEGER 1 } \
-         alternative Context 0 n { Context 0 INTEGER 3 } ",
+        Prefixes(text(&rt, rt.alloc(), "9")),
+        "prefix Context 0 n { Universal 12 UTF8String utf8 9 } \
+         prefix Context 0 n { Universal 12 UTF8String utf8 9 } ",
     );
-    let mut decoder = RecordDecoder::new(rt.alloc(), records.as_slice(), 2);
-    assert!(rt; decoder.codec() == Codec::Other(0) && decoder.depth() == 2);
-    read_scopes(&rt, &mut decoder);
-    assert_end(&rt, decoder);
 }
 
 /// The arcs 1 and 2, beside a number.
 fn instance(rt: &impl Abort, alloc: Global) -> InstanceOf<u8> {
     InstanceOf {
-        type_id: ObjectIdentifier::new(own(rt, alloc, &[1, 2])),
+        type_id: arcs(rt, alloc, &[1, 2]),
         value: 9,
     }
-}
-
-fn write_sequence<E: Encoder>(rt: &impl Abort, encoder: &mut E, value: InstanceOf<u8>) {
-    done(rt, encoder.encode_sequence(FIRST, &value, NAME));
-}
-
-fn assert_sequence(
-    rt: &impl Abort,
-    answer: Result<InstanceOf<u8>, DecodeError>,
-    expected: InstanceOf<u8>,
-) {
-    assert!(rt; answer == Ok(expected));
-}
-
-#[test]
-fn a_sequence_is_written_and_read(rt: HostRuntime) {
-    let mut encoder = RecordEncoder::new(rt.alloc(), 2);
-    write_sequence(&rt, &mut encoder, instance(&rt, rt.alloc()));
-    let records = encoder.finish();
-    assert_records(
-        &rt,
-        rt.alloc(),
-        records.as_slice(),
-        "sequence Context 0 n { Universal 6 OBJECT_IDENTIFIER arcs [1, 2] \
-         prefix Context 0 SEQUENCE { Universal 2 INTEGER 9 } } ",
-    );
-    let mut decoder = RecordDecoder::new(rt.alloc(), records.as_slice(), 2);
-    assert_sequence(
-        &rt,
-        decoder.decode_sequence(FIRST),
-        instance(&rt, rt.alloc()),
-    );
-    assert_end(&rt, decoder);
 }
 
 fn badge() -> Badge {
@@ -214,153 +193,140 @@ fn badge() -> Badge {
     }
 }
 
-fn write_set<E: Encoder>(rt: &impl Abort, encoder: &mut E, value: Badge) {
-    done(rt, encoder.encode_set(FIRST, &value, NAME));
-}
-
-fn assert_set(rt: &impl Abort, answer: Result<Badge, DecodeError>, expected: Badge) {
-    assert!(rt; answer == Ok(expected));
-}
-
 #[test]
-fn a_set_is_written_and_read(rt: HostRuntime) {
-    let mut encoder = RecordEncoder::new(rt.alloc(), 2);
-    write_set(&rt, &mut encoder, badge());
-    let records = encoder.finish();
-    assert_records(
+fn scopes_are_written_and_read(rt: HostRuntime) {
+    let alloc = rt.alloc();
+    assert_tagged(
         &rt,
-        rt.alloc(),
-        records.as_slice(),
+        alloc,
+        FIRST,
+        instance(&rt, alloc),
+        "sequence Context 0 n { Universal 6 OBJECT_IDENTIFIER arcs [1, 2] \
+         prefix Context 0 SEQUENCE { Universal 2 INTEGER 9 } } ",
+    );
+    assert_tagged(
+        &rt,
+        alloc,
+        FIRST,
+        badge(),
         "set Context 0 n { Universal 2 INTEGER 7 absent Universal 26 \
          alternative Universal 5 Shape { Universal 5 NULL null } } ",
     );
-    let mut decoder = RecordDecoder::new(rt.alloc(), records.as_slice(), 2);
-    assert_set(&rt, decoder.decode_set(FIRST), badge());
-    assert_end(&rt, decoder);
-}
-
-fn numbers(rt: &impl Abort, alloc: Global) -> SetOf<u8> {
-    SetOf::from_vec(own(rt, alloc, &[2, 1]))
-}
-
-fn write_set_of<E: Encoder>(rt: &impl Abort, encoder: &mut E, value: SetOf<u8>) {
-    let constraints = &Constraints::NONE;
-    done(rt, encoder.encode_set_of(FIRST, &value, constraints, NAME));
-}
-
-fn assert_set_of(rt: &impl Abort, answer: Result<SetOf<u8>, DecodeError>, expected: SetOf<u8>) {
-    assert!(rt; answer == Ok(expected));
-}
-
-#[test]
-fn a_set_of_elements_is_written_and_read(rt: HostRuntime) {
-    let mut encoder = RecordEncoder::new(rt.alloc(), 1);
-    write_set_of(&rt, &mut encoder, numbers(&rt, rt.alloc()));
-    let records = encoder.finish();
-    assert_records(
+    assert_tagged(
         &rt,
-        rt.alloc(),
-        records.as_slice(),
+        alloc,
+        FIRST,
+        own(&rt, alloc, &[3u8, 1]),
+        "sequence of Context 0 n { Universal 2 INTEGER 3 Universal 2 INTEGER 1 } ",
+    );
+    assert_tagged(
+        &rt,
+        alloc,
+        FIRST,
+        SetOf::from_vec(own(&rt, alloc, &[2u8, 1])),
         "set of Context 0 n { Universal 2 INTEGER 2 Universal 2 INTEGER 1 } ",
     );
-    let mut decoder = RecordDecoder::new(rt.alloc(), records.as_slice(), 1);
-    let read = decoder.decode_set_of(FIRST, &Constraints::NONE);
-    assert_set_of(&rt, read, numbers(&rt, rt.alloc()));
-    assert_end(&rt, decoder);
 }
 
-/// Three numbers that are there, and one that is absent.
-fn write_four<E: Encoder>(rt: &impl Abort, encoder: &mut E) {
+/// A CHOICE has no tag of its own, and under another it is after that.
+#[test]
+fn choices_are_written_and_read(rt: HostRuntime) {
+    let alloc = rt.alloc();
+    assert_tagged(
+        &rt,
+        alloc,
+        Tag::CHOICE,
+        Shape::Ring(3),
+        "alternative Context 0 n { Context 0 INTEGER 3 } ",
+    );
+    assert_tagged(
+        &rt,
+        alloc,
+        FIRST,
+        Shape::Ring(3),
+        "prefix Context 0 n { alternative Context 0 Shape { Context 0 INTEGER 3 } } ",
+    );
+}
+
+/// Three values that are there, and one that is absent.
+fn write_four<T: Encode, E: Encoder>(rt: &impl Abort, encoder: &mut E, value: &T) {
     let constraints = &Constraints::NONE;
-    done(rt, encoder.encode_some(&9u8, NAME));
-    done(rt, encoder.encode_none::<u8>(NAME));
-    done(rt, encoder.encode_some_with_tag(FIRST, &9u8, NAME));
-    let some = encoder.encode_some_with_tag_and_constraints(FIRST, constraints, &9u8, NAME);
+    done(rt, encoder.encode_some(value, NAME));
+    done(rt, encoder.encode_none::<T>(NAME));
+    done(rt, encoder.encode_some_with_tag(FIRST, value, NAME));
+    let some = encoder.encode_some_with_tag_and_constraints(FIRST, constraints, value, NAME);
     done(rt, some);
 }
 
-/// The same, and a number after an explicit tag.
-fn write_five<E: Encoder>(rt: &impl Abort, encoder: &mut E) {
-    write_four(rt, encoder);
-    let some = encoder.encode_some_with_explicit_prefix(FIRST, &9u8, NAME);
+/// The same, a value after an explicit tag, and one that is absent under a tag.
+fn write_six<T: Encode, E: Encoder>(rt: &impl Abort, encoder: &mut E, value: &T) {
+    write_four(rt, encoder, value);
+    let some = encoder.encode_some_with_explicit_prefix(FIRST, value, NAME);
     done(rt, some);
-}
-
-/// The same, and a number that is absent under a tag.
-fn write_six<E: Encoder>(rt: &impl Abort, encoder: &mut E) {
-    write_five(rt, encoder);
     done(rt, encoder.encode_none_with_tag(FIRST, NAME));
 }
 
-#[test]
-fn options_are_written(rt: HostRuntime) {
-    let mut encoder = RecordEncoder::new(rt.alloc(), 1);
-    write_six(&rt, &mut encoder);
-    assert_records(
-        &rt,
-        rt.alloc(),
-        encoder.finish().as_slice(),
-        "present Universal 2 Universal 2 n 9 absent Universal 2 \
-         present Context 0 Context 0 n 9 present Context 0 Context 0 n 9 \
-         present Context 0 prefix Context 0 n { Universal 2 INTEGER 9 } absent Context 0 ",
-    );
+/// Values that may be absent, by each call.
+#[derive(Drop)]
+struct Options<T>(T);
+
+impl<T: Encode + Decode> Trial for Options<T> {
+    fn write<E: Encoder>(&self, rt: &impl Abort, encoder: &mut E) {
+        write_six(rt, encoder, &self.0);
+    }
+
+    fn read<D: Decoder>(&self, rt: &impl Abort, decoder: &mut D, answers: &mut Answers) {
+        let constraints = &Constraints::NONE;
+        answers.expect_some(rt, decoder.decode_optional(), &self.0);
+        let none = decoder.decode_optional_with_constraints::<T>(constraints);
+        answers.expect_none(rt, none);
+        answers.expect_some(rt, decoder.decode_optional_with_tag(FIRST), &self.0);
+        let some = decoder.decode_optional_with_tag_and_constraints(FIRST, constraints);
+        answers.expect_some(rt, some, &self.0);
+        let some = decoder.decode_optional_with_explicit_prefix(FIRST);
+        answers.expect_some(rt, some, &self.0);
+        answers.expect_none(rt, decoder.decode_optional_with_tag::<T>(FIRST));
+    }
 }
 
-fn read_options<D: Decoder>(rt: &impl Abort, decoder: &mut D) {
-    let constraints = &Constraints::NONE;
-    assert_option(rt, decoder.decode_optional(), Some(9));
-    assert_option(
-        rt,
-        decoder.decode_optional_with_constraints(constraints),
-        None,
-    );
-    assert_option(rt, decoder.decode_optional_with_tag(FIRST), Some(9));
-    let some = decoder.decode_optional_with_tag_and_constraints(FIRST, constraints);
-    assert_option(rt, some, Some(9));
-    assert_option(
-        rt,
-        decoder.decode_optional_with_explicit_prefix(FIRST),
-        Some(9),
-    );
+/// The same, as additions.
+#[derive(Drop)]
+struct Additions<T>(T);
+
+impl<T: Encode + Decode> Trial for Additions<T> {
+    fn write<E: Encoder>(&self, rt: &impl Abort, encoder: &mut E) {
+        write_six(rt, encoder, &self.0);
+    }
+
+    fn read<D: Decoder>(&self, rt: &impl Abort, decoder: &mut D, answers: &mut Answers) {
+        let constraints = &Constraints::NONE;
+        answers.expect_some(rt, decoder.decode_extension_addition(), &self.0);
+        let none = decoder.decode_extension_addition_with_constraints::<T>(constraints);
+        answers.expect_none(rt, none);
+        let some = decoder.decode_extension_addition_with_tag(FIRST);
+        answers.expect_some(rt, some, &self.0);
+        let some = decoder.decode_extension_addition_with_tag_and_constraints(FIRST, constraints);
+        answers.expect_some(rt, some, &self.0);
+        let some = decoder.decode_extension_addition_with_explicit_tag_and_constraints(
+            FIRST,
+            constraints,
+        );
+        answers.expect_some(rt, some, &self.0);
+        let none = decoder.decode_extension_addition_with_tag::<T>(FIRST);
+        answers.expect_none(rt, none);
+    }
 }
 
-fn read_additions<D: Decoder>(rt: &impl Abort, decoder: &mut D) {
-    let constraints = &Constraints::NONE;
-    assert_option(rt, decoder.decode_extension_addition(), Some(9));
-    let none = decoder.decode_extension_addition_with_constraints(constraints);
-    assert_option(rt, none, None);
-    assert_option(
-        rt,
-        decoder.decode_extension_addition_with_tag(FIRST),
-        Some(9),
-    );
-    let some = decoder.decode_extension_addition_with_tag_and_constraints(FIRST, constraints);
-    assert_option(rt, some, Some(9));
-    let some = decoder.decode_extension_addition_with_explicit_tag_and_constraints(
-        FIRST,
-        constraints,
-    );
-    assert_option(rt, some, Some(9));
-}
-
-fn write_five_twice<E: Encoder>(rt: &impl Abort, encoder: &mut E) {
-    write_five(rt, encoder);
-    write_five(rt, encoder);
-}
-
-fn read_options_and_additions<D: Decoder>(rt: &impl Abort, decoder: &mut D) {
-    read_options(rt, decoder);
-    read_additions(rt, decoder);
-}
+/// What is written of the text `9` as it may be absent.
+const SIX: &str = "present Universal 12 Universal 12 n utf8 9 absent Universal 12 \
+     present Context 0 Context 0 n utf8 9 present Context 0 Context 0 n utf8 9 \
+     present Context 0 prefix Context 0 n { Universal 12 UTF8String utf8 9 } absent Context 0 ";
 
 #[test]
-fn options_and_additions_are_read(rt: HostRuntime) {
-    let mut encoder = RecordEncoder::new(rt.alloc(), 1);
-    write_five_twice(&rt, &mut encoder);
-    let records = encoder.finish();
-    let mut decoder = RecordDecoder::new(rt.alloc(), records.as_slice(), 1);
-    read_options_and_additions(&rt, &mut decoder);
-    assert_end(&rt, decoder);
+fn options_and_additions_are_written_and_read(rt: HostRuntime) {
+    let alloc = rt.alloc();
+    assert_trial(&rt, alloc, Options(text(&rt, alloc, "9")), SIX);
+    assert_trial(&rt, alloc, Additions(text(&rt, alloc, "9")), SIX);
 }
 
 fn nine(_alloc: Global) -> Result<u8, AllocError> {
@@ -371,49 +337,90 @@ fn eight(_alloc: Global) -> Result<u8, AllocError> {
     Ok(8)
 }
 
-fn read_defaults<D: Decoder>(rt: &impl Abort, decoder: &mut D) {
-    let constraints = &Constraints::NONE;
-    assert_number(rt, decoder.decode_default(eight), 9);
-    let usual = decoder.decode_default_with_constraints(eight, constraints);
-    assert_number(rt, usual, 8);
-    assert_number(rt, decoder.decode_default_with_tag(FIRST, eight), 9);
-    let other = decoder.decode_default_with_tag_and_constraints(FIRST, eight, constraints);
-    assert_number(rt, other, 9);
+/// A text, as the default of a component.
+fn usual(alloc: Global) -> Result<String, AllocError> {
+    String::from_str(alloc, "8")
 }
 
-fn read_additions_with_defaults<D: Decoder>(rt: &impl Abort, decoder: &mut D) {
-    let constraints = &Constraints::NONE;
-    assert_number(rt, decoder.decode_extension_addition_with_default(eight), 9);
-    let usual = decoder.decode_extension_addition_with_default_and_constraints(eight, constraints);
-    assert_number(rt, usual, 8);
-    let other = decoder.decode_extension_addition_with_default_and_tag(FIRST, eight);
-    assert_number(rt, other, 9);
-    let other = decoder.decode_extension_addition_with_default_and_tag_and_constraints(
-        FIRST,
-        eight,
-        constraints,
-    );
-    assert_number(rt, other, 9);
+/// Values with a default: of four the second has it.
+#[derive(Drop)]
+struct Defaults {
+    value: String,
+    default: String,
 }
 
-fn write_four_twice<E: Encoder>(rt: &impl Abort, encoder: &mut E) {
-    write_four(rt, encoder);
-    write_four(rt, encoder);
+impl Trial for Defaults {
+    fn write<E: Encoder>(&self, rt: &impl Abort, encoder: &mut E) {
+        write_four(rt, encoder, &self.value);
+    }
+
+    fn read<D: Decoder>(&self, rt: &impl Abort, decoder: &mut D, answers: &mut Answers) {
+        let constraints = &Constraints::NONE;
+        answers.expect(rt, decoder.decode_default(usual), &self.value);
+        let absent = decoder.decode_default_with_constraints(usual, constraints);
+        answers.expect(rt, absent, &self.default);
+        let tagged = decoder.decode_default_with_tag(FIRST, usual);
+        answers.expect(rt, tagged, &self.value);
+        let last = decoder.decode_default_with_tag_and_constraints(FIRST, usual, constraints);
+        answers.expect(rt, last, &self.value);
+    }
 }
 
-fn read_all_defaults<D: Decoder>(rt: &impl Abort, decoder: &mut D) {
-    read_defaults(rt, decoder);
-    read_additions_with_defaults(rt, decoder);
+/// The same, as additions.
+#[derive(Drop)]
+struct AdditionsWithDefaults {
+    value: String,
+    default: String,
+}
+
+impl Trial for AdditionsWithDefaults {
+    fn write<E: Encoder>(&self, rt: &impl Abort, encoder: &mut E) {
+        write_four(rt, encoder, &self.value);
+    }
+
+    fn read<D: Decoder>(&self, rt: &impl Abort, decoder: &mut D, answers: &mut Answers) {
+        let constraints = &Constraints::NONE;
+        let first = decoder.decode_extension_addition_with_default(usual);
+        answers.expect(rt, first, &self.value);
+        let absent = decoder.decode_extension_addition_with_default_and_constraints(
+            usual,
+            constraints,
+        );
+        answers.expect(rt, absent, &self.default);
+        let tagged = decoder.decode_extension_addition_with_default_and_tag(FIRST, usual);
+        answers.expect(rt, tagged, &self.value);
+        let last = decoder.decode_extension_addition_with_default_and_tag_and_constraints(
+            FIRST,
+            usual,
+            constraints,
+        );
+        answers.expect(rt, last, &self.value);
+    }
+}
+
+/// What is written of the text `9` three times, and once as it is absent.
+const FOUR: &str = "present Universal 12 Universal 12 n utf8 9 absent Universal 12 \
+     present Context 0 Context 0 n utf8 9 present Context 0 Context 0 n utf8 9 ";
+
+fn four_values(rt: &impl Abort, alloc: Global) -> Defaults {
+    Defaults {
+        value: text(rt, alloc, "9"),
+        default: text(rt, alloc, "8"),
+    }
+}
+
+fn four_additions(rt: &impl Abort, alloc: Global) -> AdditionsWithDefaults {
+    AdditionsWithDefaults {
+        value: text(rt, alloc, "9"),
+        default: text(rt, alloc, "8"),
+    }
 }
 
 #[test]
 fn defaults_are_read(rt: HostRuntime) {
-    let mut encoder = RecordEncoder::new(rt.alloc(), 0);
-    write_four_twice(&rt, &mut encoder);
-    let records = encoder.finish();
-    let mut decoder = RecordDecoder::new(rt.alloc(), records.as_slice(), 0);
-    read_all_defaults(&rt, &mut decoder);
-    assert_end(&rt, decoder);
+    let alloc = rt.alloc();
+    assert_trial(&rt, alloc, four_values(&rt, alloc), FOUR);
+    assert_trial(&rt, alloc, four_additions(&rt, alloc), FOUR);
 }
 
 fn write_defaults<E: Encoder>(rt: &impl Abort, encoder: &mut E) {
@@ -450,7 +457,7 @@ fn defaults_are_written(rt: HostRuntime) {
     assert_records(
         &rt,
         rt.alloc(),
-        encoder.finish().as_slice(),
+        &encoder.finish(),
         "absent Universal 2 present Context 0 Context 0 n 9 absent Universal 2 \
          present Context 0 Context 0 n 9 \
          present Context 0 prefix Context 0 n { Universal 2 INTEGER 9 } \
@@ -479,7 +486,7 @@ fn additions_are_written(rt: HostRuntime) {
     assert_records(
         &rt,
         rt.alloc(),
-        encoder.finish().as_slice(),
+        &encoder.finish(),
         "present Context 0 Context 0 n 9 absent Context 0 present Context 0 Context 0 n 9 \
          present Context 0 prefix Context 0 n { Universal 2 INTEGER 9 } ",
     );
@@ -487,10 +494,9 @@ fn additions_are_written(rt: HostRuntime) {
 
 /// A contact with an address of two units.
 fn contact(rt: &impl Abort, alloc: Global) -> Contact {
-    let mail = Ia5String::new(own(rt, alloc, b"a@")).expect(rt, "a text");
     Contact {
         phone: None,
-        mail: Some(mail),
+        mail: Some(spelled(rt, alloc, b"a@")),
     }
 }
 
@@ -502,43 +508,47 @@ fn no_contact() -> Contact {
     }
 }
 
-fn write_group<E: Encoder>(rt: &impl Abort, encoder: &mut E, contact: Option<Contact>) {
-    let group = encoder.encode_extension_addition_group(contact.as_ref(), NAME);
-    done(rt, group);
+/// A group that is written, and what is read of it.
+#[derive(Drop)]
+struct Group<T> {
+    given: Option<T>,
+    back: Option<T>,
 }
 
-/// Asserts that a group is there, and what is in it; or that it is absent.
-fn assert_group<D: Decoder>(rt: &impl Abort, decoder: &mut D, expected: Option<Contact>) {
-    assert!(rt; decoder.decode_extension_addition_group() == Ok(expected));
+impl<T: EncodeFields + DecodeFields> Trial for Group<T> {
+    fn write<E: Encoder>(&self, rt: &impl Abort, encoder: &mut E) {
+        let group = encoder.encode_extension_addition_group(self.given.as_ref(), NAME);
+        done(rt, group);
+    }
+
+    fn read<D: Decoder>(&self, rt: &impl Abort, decoder: &mut D, answers: &mut Answers) {
+        let group = decoder.decode_extension_addition_group();
+        answers.expect(rt, group, &self.back);
+    }
 }
 
-fn write_groups<E: Encoder>(rt: &impl Abort, alloc: Global, encoder: &mut E) {
-    write_group(rt, encoder, None);
-    write_group(rt, encoder, Some(no_contact()));
-    write_group(rt, encoder, Some(contact(rt, alloc)));
-}
-
-fn read_groups<D: Decoder>(rt: &impl Abort, alloc: Global, decoder: &mut D) {
-    assert_group(rt, decoder, None);
-    assert_group(rt, decoder, None);
-    assert_group(rt, decoder, Some(contact(rt, alloc)));
+fn assert_group<T: EncodeFields + DecodeFields>(
+    rt: &impl Abort,
+    alloc: Global,
+    given: Option<T>,
+    expected: &str,
+    back: Option<T>,
+) {
+    assert_trial(rt, alloc, Group { given, back }, expected);
 }
 
 #[test]
 fn groups_are_written_and_read(rt: HostRuntime) {
-    let mut encoder = RecordEncoder::new(rt.alloc(), 0);
-    write_groups(&rt, rt.alloc(), &mut encoder);
-    let records = encoder.finish();
-    assert_records(
+    let alloc = rt.alloc();
+    assert_group::<Contact>(&rt, alloc, None, "group absent ", None);
+    assert_group(&rt, alloc, Some(no_contact()), "group absent ", None);
+    assert_group(
         &rt,
-        rt.alloc(),
-        records.as_slice(),
-        "group absent group absent \
-         group { absent Context 3 present Context 4 Context 4 IA5String ia5 [97, 64] } ",
+        alloc,
+        Some(contact(&rt, alloc)),
+        "group { absent Context 3 present Context 4 Context 4 IA5String ia5 [97, 64] } ",
+        Some(contact(&rt, alloc)),
     );
-    let mut decoder = RecordDecoder::new(rt.alloc(), records.as_slice(), 0);
-    read_groups(&rt, rt.alloc(), &mut decoder);
-    assert_end(&rt, decoder);
 }
 
 fn assert_refuses<D: Decoder>(rt: &impl Abort, decoder: &mut D) {

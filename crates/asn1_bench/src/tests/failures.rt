@@ -1,21 +1,20 @@
 //! Errors of writing, and an encoder after an error.
 use crate::rules::BenchRules;
 use crate::tests::samples::ann;
-use crate::tests::values::NAME;
+use crate::tests::values::{NAME, done, spelled};
 use asn1_bounds::Constraints;
 use asn1_enc::{Encode, EncodeError, Encoder};
 use asn1_records::RecordEncoder;
 use asn1_samples::{Contact, Plate};
 use asn1_schema::Rules;
 use asn1_tags::{Identifier, Tag};
-use asn1_values::VisibleString;
 use std::alloc::{AllocError, Global};
 use std::process::Abort;
 
 /// Asserts that a call failed by this error, and that the next call of the encoder says that it has failed.
-fn assert_error(
+fn assert_error<E: Encoder>(
     rt: &impl Abort,
-    mut encoder: RecordEncoder,
+    encoder: &mut E,
     answer: Result<(), EncodeError>,
     error: EncodeError,
 ) {
@@ -25,80 +24,96 @@ fn assert_error(
     assert!(rt; encoder.refuse_memory() == EncodeError::Failed);
 }
 
+fn assert_too_high<T: Encode, E: Encoder>(rt: &impl Abort, encoder: &mut E, value: &T) {
+    let answer = value.encode(encoder);
+    assert_error(rt, encoder, answer, EncodeError::Depth);
+}
+
 #[test]
 fn a_person_is_too_high(rt: HostRuntime) {
     let mut encoder = RecordEncoder::new(rt.alloc(), 0);
-    let answer = ann(&rt, rt.alloc()).encode(&mut encoder);
-    assert_error(&rt, encoder, answer, EncodeError::Depth);
+    assert_too_high(&rt, &mut encoder, &ann(&rt, rt.alloc()));
+}
+
+/// Asserts that the rules say that a value is too high for no scope at all.
+fn assert_not_written<T: Encode>(rt: &impl Abort, alloc: Global, value: &T) {
+    let answer = BenchRules::new(alloc).write_value(value, 0);
+    assert!(rt; answer.err() == Some(EncodeError::Depth));
 }
 
 #[test]
 fn the_rules_answer_the_error(rt: HostRuntime) {
-    let person = ann(&rt, rt.alloc());
-    let answer = BenchRules::new(rt.alloc()).write_value(&person, 0);
-    assert!(rt; answer.err() == Some(EncodeError::Depth));
+    assert_not_written(&rt, rt.alloc(), &ann(&rt, rt.alloc()));
+}
+
+fn assert_memory_is_refused<E: Encoder>(rt: &impl Abort, encoder: &mut E) {
+    let error = encoder.refuse_memory();
+    assert_error(rt, encoder, Err(error), EncodeError::Memory);
 }
 
 #[test]
 fn memory_is_refused(rt: HostRuntime) {
     let mut encoder = RecordEncoder::new(rt.alloc(), 0);
-    assert!(rt; encoder.refuse_memory() == EncodeError::Memory);
-    assert_error(&rt, encoder, Err(EncodeError::Memory), EncodeError::Memory);
+    assert_memory_is_refused(&rt, &mut encoder);
+}
+
+fn close_nothing<E: Encoder>(rt: &impl Abort, encoder: &mut E) {
+    let answer = encoder.close();
+    let error = EncodeError::Custom("no scope is open");
+    assert_error(rt, encoder, answer, error);
+}
+
+fn close_no_group<E: Encoder>(rt: &impl Abort, encoder: &mut E) {
+    let answer = encoder.close_group();
+    let error = EncodeError::Custom("no group is open");
+    assert_error(rt, encoder, answer, error);
 }
 
 #[test]
 fn nothing_is_open(rt: HostRuntime) {
-    let mut encoder = RecordEncoder::new(rt.alloc(), 0);
+    close_nothing(&rt, &mut RecordEncoder::new(rt.alloc(), 0));
+    close_no_group(&rt, &mut RecordEncoder::new(rt.alloc(), 0));
+}
+
+fn close_a_group_as_a_scope<E: Encoder>(rt: &impl Abort, encoder: &mut E) {
+    done(rt, encoder.open_group::<Contact>());
     let answer = encoder.close();
-    assert_error(
-        &rt,
-        encoder,
-        answer,
-        EncodeError::Custom("no scope is open"),
+    let error = EncodeError::Custom("a group is open");
+    assert_error(rt, encoder, answer, error);
+}
+
+fn close_a_scope_as_a_group<E: Encoder>(rt: &impl Abort, encoder: &mut E) {
+    done(
+        rt,
+        encoder.open_explicit_prefix(Tag::NULL, Identifier::NULL),
     );
-    let mut encoder = RecordEncoder::new(rt.alloc(), 0);
     let answer = encoder.close_group();
-    assert_error(
-        &rt,
-        encoder,
-        answer,
-        EncodeError::Custom("no group is open"),
-    );
-}
-
-fn close_a_group_as_a_scope<E: Encoder>(encoder: &mut E) -> Result<(), EncodeError> {
-    encoder.open_group::<Contact>()?;
-    encoder.close()
-}
-
-fn close_a_scope_as_a_group<E: Encoder>(encoder: &mut E) -> Result<(), EncodeError> {
-    encoder.open_explicit_prefix(Tag::NULL, Identifier::NULL)?;
-    encoder.close_group()
+    let error = EncodeError::Custom("a scope is open");
+    assert_error(rt, encoder, answer, error);
 }
 
 #[test]
 fn something_else_is_open(rt: HostRuntime) {
-    let mut encoder = RecordEncoder::new(rt.alloc(), 1);
-    let answer = close_a_group_as_a_scope(&mut encoder);
-    assert_error(&rt, encoder, answer, EncodeError::Custom("a group is open"));
-    let mut encoder = RecordEncoder::new(rt.alloc(), 1);
-    let answer = close_a_scope_as_a_group(&mut encoder);
-    assert_error(&rt, encoder, answer, EncodeError::Custom("a scope is open"));
+    close_a_group_as_a_scope(&rt, &mut RecordEncoder::new(rt.alloc(), 1));
+    close_a_scope_as_a_group(&rt, &mut RecordEncoder::new(rt.alloc(), 1));
 }
 
 fn no_memory(_alloc: Global) -> Result<bool, AllocError> {
     Err(AllocError)
 }
 
+fn write_no_default<E: Encoder>(rt: &impl Abort, encoder: &mut E) {
+    let answer = encoder.encode_default(&true, no_memory, NAME);
+    assert_error(rt, encoder, answer, EncodeError::Memory);
+}
+
 #[test]
 fn a_refused_default_is_an_error_of_memory(rt: HostRuntime) {
-    let mut encoder = RecordEncoder::new(rt.alloc(), 0);
-    let answer = encoder.encode_default(&true, no_memory, NAME);
-    assert_error(&rt, encoder, answer, EncodeError::Memory);
+    write_no_default(&rt, &mut RecordEncoder::new(rt.alloc(), 0));
 }
 
 /// A call of each kind that takes memory.
-pub(super) fn write_all<E: Encoder>(encoder: &mut E) -> Result<(), EncodeError> {
+fn write_all<E: Encoder>(encoder: &mut E) -> Result<(), EncodeError> {
     let constraints = &Constraints::NONE;
     encoder.encode_octet_string(Tag::OCTET_STRING, constraints, &[1], Identifier::EMPTY)?;
     encoder.encode_sequence_of(Tag::SEQUENCE, &[1u8, 2], constraints, Identifier::EMPTY)?;
@@ -107,33 +122,36 @@ pub(super) fn write_all<E: Encoder>(encoder: &mut E) -> Result<(), EncodeError> 
     encoder.close_group()
 }
 
-/// Each allocation may be refused: the first error is then for want of memory.
-#[test]
-fn memory_runs_out(rt: HostRuntime) {
-    let mut encoder = RecordEncoder::new(rt.alloc(), 1);
-    let answer = write_all(&mut encoder);
-    match answer {
-        Ok(()) => assert!(rt; encoder.finish().len() == 5),
-        Err(_) => assert_error(&rt, encoder, answer, EncodeError::Memory),
+/// Asserts that an answer is no error, or one of memory.
+fn assert_done_or_memory<E: Encoder>(
+    rt: &impl Abort,
+    encoder: &mut E,
+    answer: Result<(), EncodeError>,
+) {
+    if answer.is_err() {
+        assert_error(rt, encoder, answer, EncodeError::Memory);
     }
 }
 
+fn write_all_or_no_memory<E: Encoder>(rt: &impl Abort, encoder: &mut E) {
+    let answer = write_all(encoder);
+    assert_done_or_memory(rt, encoder, answer);
+}
+
+/// Each allocation may be refused: the first error is then for want of memory.
+#[test]
+fn memory_runs_out(rt: HostRuntime) {
+    write_all_or_no_memory(&rt, &mut RecordEncoder::new(rt.alloc(), 1));
+}
+
 /// The same of a type whose own constraints want memory.
-fn assert_plate(rt: &impl Abort, alloc: Global, plate: Plate) {
-    let mut encoder = RecordEncoder::new(alloc, 0);
-    let answer = plate.encode(&mut encoder);
-    match answer {
-        Ok(()) => assert!(rt; encoder.finish().len() == 1),
-        Err(_) => assert_error(rt, encoder, answer, EncodeError::Memory),
-    }
+fn write_or_no_memory<T: Encode, E: Encoder>(rt: &impl Abort, encoder: &mut E, value: &T) {
+    let answer = value.encode(encoder);
+    assert_done_or_memory(rt, encoder, answer);
 }
 
 #[test]
 fn memory_for_an_alphabet_runs_out(rt: HostRuntime) {
-    let Ok(letters) = Vec::from_slice(rt.alloc(), b"AB") else {
-        return;
-    };
-    if let Ok(letters) = VisibleString::new(letters) {
-        assert_plate(&rt, rt.alloc(), Plate(letters));
-    }
+    let plate = Plate(spelled(&rt, rt.alloc(), b"AB"));
+    write_or_no_memory(&rt, &mut RecordEncoder::new(rt.alloc(), 0), &plate);
 }

@@ -1,43 +1,19 @@
 //! What a SET holds is read in any order.
-use crate::rules::BenchRules;
-use crate::tests::values::{NAME, own};
-use asn1_dec::Decode;
+use crate::tests::values::{NAME, Tagged, alone, assert_reads, own, push, spelled};
 use asn1_records::{Content, Head, Record};
 use asn1_samples::{Badge, Corner, Shape};
-use asn1_schema::Rules;
 use asn1_tags::Tag;
 use asn1_types::SetOf;
-use asn1_values::{Integer, VisibleString};
+use asn1_values::Integer;
 use std::alloc::Global;
 use std::process::Abort;
 
-fn push(rt: &impl Abort, records: &mut Vec<Record>, record: Record) {
-    if let Err(_) = records.push(record) {
-        assert!(rt; false, "memory");
-    }
-}
-
-/// A record that holds these.
-fn holding(rt: &impl Abort, alloc: Global, head: Head, inner: Vec<Record>) -> Vec<Record> {
-    let mut records = Vec::new(alloc);
-    push(rt, &mut records, Record::Scope(head, inner));
-    records
-}
-
-fn letter(rt: &impl Abort, alloc: Global) -> VisibleString {
-    VisibleString::new(own(rt, alloc, b"x")).expect(rt, "an allowed text")
-}
-
 /// The alternative `Left` of a corner, which is that of a shape.
 fn shape(rt: &impl Abort, alloc: Global) -> Record {
-    let mut content = Vec::new(alloc);
-    push(
-        rt,
-        &mut content,
-        Record::Scalar(Tag::BOOL, NAME, Content::Truth(true)),
-    );
-    let corner = holding(rt, alloc, Head::Alternative(Tag::BOOL, NAME), content);
-    Record::Scope(Head::Alternative(Tag::BOOL, NAME), corner)
+    let content = Record::Scalar(Tag::BOOL, NAME, Content::Truth(true));
+    let head = Head::Alternative(Tag::BOOL, NAME);
+    let corner = Record::Scope(head, alone(rt, alloc, content));
+    Record::Scope(head, alone(rt, alloc, corner))
 }
 
 /// A component of a badge.
@@ -47,7 +23,7 @@ fn component(rt: &impl Abort, alloc: Global, index: usize) -> Record {
         1 => Record::Scalar(
             Tag::VISIBLE_STRING,
             NAME,
-            Content::Visible(letter(rt, alloc)),
+            Content::Visible(spelled(rt, alloc, b"x")),
         ),
         _ => shape(rt, alloc),
     }
@@ -56,15 +32,9 @@ fn component(rt: &impl Abort, alloc: Global, index: usize) -> Record {
 fn badge(rt: &impl Abort, alloc: Global) -> Badge {
     Badge {
         id: 7,
-        label: Some(letter(rt, alloc)),
+        label: Some(spelled(rt, alloc, b"x")),
         shape: Shape::Inner(Corner::Left(true)),
     }
-}
-
-fn read<T: Decode>(rt: &impl Abort, alloc: Global, records: Vec<Record>) -> T {
-    BenchRules::new(alloc)
-        .read_value(&records, 4)
-        .expect(rt, "a value")
 }
 
 /// Asserts that a badge is read of its components in this order.
@@ -73,8 +43,12 @@ fn assert_badge(rt: &impl Abort, alloc: Global, first: usize, second: usize, thi
     push(rt, &mut components, component(rt, alloc, first));
     push(rt, &mut components, component(rt, alloc, second));
     push(rt, &mut components, component(rt, alloc, third));
-    let records = holding(rt, alloc, Head::Set(Tag::SET, NAME), components);
-    assert!(rt; read::<Badge>(rt, alloc, records) == badge(rt, alloc));
+    let set = Record::Scope(Head::Set(Tag::SET, NAME), components);
+    let badge = Tagged {
+        tag: Tag::SET,
+        value: badge(rt, alloc),
+    };
+    assert_reads(rt, alloc, &alone(rt, alloc, set), badge);
 }
 
 #[test]
@@ -98,9 +72,12 @@ fn assert_numbers(rt: &impl Abort, alloc: Global, first: u8, second: u8, third: 
     push(rt, &mut elements, number(first));
     push(rt, &mut elements, number(second));
     push(rt, &mut elements, number(third));
-    let records = holding(rt, alloc, Head::SetOf(Tag::SET, NAME), elements);
-    let set = SetOf::from_vec(own(rt, alloc, &[3, 1, 3]));
-    assert!(rt; read::<SetOf<u8>>(rt, alloc, records) == set);
+    let set = Record::Scope(Head::SetOf(Tag::SET, NAME), elements);
+    let numbers = Tagged {
+        tag: Tag::SET,
+        value: SetOf::from_vec(own(rt, alloc, &[3u8, 1, 3])),
+    };
+    assert_reads(rt, alloc, &alone(rt, alloc, set), numbers);
 }
 
 #[test]

@@ -1,36 +1,31 @@
 //! What is not read, and what an error leaves.
 use crate::rules::BenchRules;
-use crate::tests::failures::write_all;
 use crate::tests::samples::parent;
-use crate::tests::values::{NAME, assert_end, assert_number};
-use asn1_bounds::Constraints;
+use crate::tests::values::{
+    Answers, NAME, Trial, alone, assert_read, assert_trial, done, push, spelled, written,
+};
 use asn1_dec::{Decode, DecodeError, Decoder, Needed};
-use asn1_enc::{Encode, EncodeError, Encoder};
+use asn1_enc::{Encode, Encoder};
 use asn1_record_decoder::RecordDecoder;
-use asn1_records::{Content, Head, Record, RecordEncoder};
-use asn1_samples::{Color, Contact, Corner, Person, Plate};
+use asn1_records::{Content, Head, Record};
+use asn1_samples::{Color, Corner, Plate};
 use asn1_schema::{Array, RoundTripError, Rules, round_trip};
 use asn1_tags::Tag;
 use asn1_trees::Node;
-use asn1_types::{Any, Explicit, tag};
-use asn1_values::{
-    BitString, BmpString, ConstrainedInteger, Integer, IntegerType, ObjectIdentifier, OctetString,
-    VisibleString,
-};
+use asn1_types::{Explicit, tag};
+use asn1_values::{ConstrainedInteger, Integer};
 use std::alloc::{AllocError, Global};
 use std::marker::PhantomData;
 use std::process::Abort;
 
 const BAD_ITEM: DecodeError = DecodeError::Custom("bad item");
 
-/// The records of a value.
-fn written<T: Encode + Drop>(rt: &impl Abort, alloc: Global, value: T) -> Vec<Record> {
-    BenchRules::new(alloc)
-        .write_value(&value, 4)
-        .expect(rt, "records")
+/// Why the records are no value of the type.
+fn refusal<T: Decode>(alloc: Global, records: &Vec<Record>, depth: usize) -> Option<DecodeError> {
+    BenchRules::new(alloc).read_value::<T>(records, depth).err()
 }
 
-/// Asserts why records are not read, with so many scopes in one another.
+/// Asserts why records are not read, with so many scopes in one another: of two readings, one at most is short of memory.
 fn assert_refused_at<T: Decode>(
     rt: &impl Abort,
     alloc: Global,
@@ -38,8 +33,21 @@ fn assert_refused_at<T: Decode>(
     depth: usize,
     error: DecodeError,
 ) {
-    let answer = BenchRules::new(alloc).read_value::<T>(&records, depth);
-    assert!(rt; answer.err() == Some(error));
+    let first = refusal::<T>(alloc, &records, depth);
+    let second = refusal::<T>(alloc, &records, depth);
+    assert_error(rt, first, second, error);
+}
+
+/// Asserts that one of two answers is the error, and that the other is so too, or one of memory.
+fn assert_error(
+    rt: &impl Abort,
+    first: Option<DecodeError>,
+    second: Option<DecodeError>,
+    error: DecodeError,
+) {
+    let memory = Some(DecodeError::Memory);
+    assert!(rt; first == Some(error) || (first == memory && second == Some(error)));
+    assert!(rt; second == Some(error) || second == memory);
 }
 
 /// Asserts why records are none of a value of the type.
@@ -55,11 +63,11 @@ fn assert_refused<T: Decode>(
 #[test]
 fn a_number_outside_its_type_is_refused(rt: HostRuntime) {
     let alloc = rt.alloc();
-    assert_refused::<u8>(&rt, alloc, written(&rt, alloc, 256u16), BAD_ITEM);
+    assert_refused::<u8>(&rt, alloc, written(&rt, alloc, &256u16), BAD_ITEM);
     assert_refused::<ConstrainedInteger<1, 10>>(
         &rt,
         alloc,
-        written(&rt, alloc, 11u8),
+        written(&rt, alloc, &11u8),
         DecodeError::OutOfRange,
     );
 }
@@ -71,33 +79,42 @@ fn a_list_of_another_length_is_refused(rt: HostRuntime) {
         expected: 3,
         actual: 2,
     };
-    assert_refused::<Array<u8, 3>>(&rt, alloc, written(&rt, alloc, [1u8, 2]), too_few);
+    assert_refused::<Array<u8, 3>>(&rt, alloc, written(&rt, alloc, &[1u8, 2]), too_few);
     let too_many = DecodeError::IncorrectItemNumber {
         expected: 2,
         actual: 3,
     };
-    assert_refused::<Array<u8, 2>>(&rt, alloc, written(&rt, alloc, [1u8, 2, 3]), too_many);
+    assert_refused::<Array<u8, 2>>(&rt, alloc, written(&rt, alloc, &[1u8, 2, 3]), too_many);
+}
+
+/// Asserts why a value that is written does not come back where no scope may be opened.
+fn assert_not_back<T: Encode + Decode>(
+    rt: &impl Abort,
+    alloc: Global,
+    value: T,
+    error: DecodeError,
+) {
+    let answer = round_trip(&BenchRules::new(alloc), &value, 1, 0).err();
+    let Some(RoundTripError::Writing(memory)) = answer else {
+        assert!(rt; answer == Some(RoundTripError::Reading(error)));
+        return;
+    };
+    panic!(rt; "memory: {memory:?}");
 }
 
 #[test]
 fn values_are_too_high(rt: HostRuntime) {
     let alloc = rt.alloc();
     let too_high = DecodeError::Depth;
-    assert_refused_at::<Vec<bool>>(&rt, alloc, written(&rt, alloc, [true]), 0, too_high);
+    assert_refused_at::<Vec<bool>>(&rt, alloc, written(&rt, alloc, &[true]), 0, too_high);
     assert_refused_at::<Node>(
         &rt,
         alloc,
-        written(&rt, alloc, parent(&rt, alloc)),
+        written(&rt, alloc, &parent(&rt, alloc)),
         3,
         too_high,
     );
-    let answer = round_trip(
-        &BenchRules::new(alloc),
-        &Explicit::<tag::BOOL, u8>::new(7),
-        1,
-        0,
-    );
-    assert!(rt; answer.err() == Some(RoundTripError::Reading(too_high)));
+    assert_not_back(&rt, alloc, Explicit::<tag::BOOL, u8>::new(7), too_high);
 }
 
 #[test]
@@ -106,15 +123,6 @@ fn too_few_records_are_refused(rt: HostRuntime) {
     let none = DecodeError::Incomplete(Needed::Unknown);
     assert_refused::<bool>(&rt, alloc, Vec::new(alloc), none);
     assert_refused::<Explicit<tag::BOOL, u8>>(&rt, alloc, empty_scope(&rt, alloc), BAD_ITEM);
-}
-
-/// A list of one record.
-fn alone(rt: &impl Abort, alloc: Global, record: Record) -> Vec<Record> {
-    let mut records = Vec::new(alloc);
-    if let Err(_) = records.push(record) {
-        assert!(rt; false, "memory");
-    }
-    records
 }
 
 /// An explicit tag with nothing after it.
@@ -148,141 +156,111 @@ fn what_is_no_item_and_no_alternative_is_refused(rt: HostRuntime) {
     );
 }
 
+/// The numbers 11 and 7.
+fn two_numbers(rt: &impl Abort, alloc: Global) -> Vec<Record> {
+    let seven = Content::Number(Integer::from(7u8));
+    let mut records = written(rt, alloc, &11u8);
+    push(rt, &mut records, Record::Scalar(Tag::INTEGER, NAME, seven));
+    records
+}
+
 #[test]
 fn too_many_records_are_refused(rt: HostRuntime) {
     let alloc = rt.alloc();
-    assert_refused::<bool>(&rt, alloc, two_numbers(&rt, alloc), BAD_ITEM);
-    assert_refused::<PhantomData<u8>>(&rt, alloc, written(&rt, alloc, true), BAD_ITEM);
+    assert_refused::<u8>(&rt, alloc, two_numbers(&rt, alloc), BAD_ITEM);
+    assert_refused::<PhantomData<u8>>(&rt, alloc, written(&rt, alloc, &true), BAD_ITEM);
 }
 
 #[test]
 fn records_of_another_form_are_refused(rt: HostRuntime) {
     let alloc = rt.alloc();
-    assert_refused::<bool>(&rt, alloc, written(&rt, alloc, 9u8), BAD_ITEM);
-    assert_refused::<Vec<bool>>(&rt, alloc, written(&rt, alloc, [7u8]), BAD_ITEM);
-    assert_refused::<bool>(&rt, alloc, written(&rt, alloc, Some(true)), BAD_ITEM);
-    assert_refused::<Option<bool>>(&rt, alloc, written(&rt, alloc, Some(9u8)), BAD_ITEM);
-}
-
-/// The numbers 11 and 7.
-fn two_numbers(rt: &impl Abort, alloc: Global) -> Vec<Record> {
-    let mut encoder = RecordEncoder::new(alloc, 0);
-    assert!(rt; 11u8.encode(&mut encoder).is_ok());
-    assert!(rt; 7u8.encode(&mut encoder).is_ok());
-    encoder.finish()
+    assert_refused::<bool>(&rt, alloc, written(&rt, alloc, &9u8), BAD_ITEM);
+    assert_refused::<Vec<bool>>(&rt, alloc, written(&rt, alloc, &[7u8]), BAD_ITEM);
+    assert_refused::<bool>(&rt, alloc, written(&rt, alloc, &Some(true)), BAD_ITEM);
+    assert_refused::<Option<bool>>(&rt, alloc, written(&rt, alloc, &Some(9u8)), BAD_ITEM);
 }
 
 /// Asserts why the next value is not read.
-fn assert_error<T: Decode, D: Decoder>(rt: &impl Abort, decoder: &mut D, error: DecodeError) {
+fn assert_next<T: Decode, D: Decoder>(rt: &impl Abort, decoder: &mut D, error: DecodeError) {
     assert!(rt; T::decode(decoder).err() == Some(error));
 }
 
-fn read_past_a_number<D: Decoder>(rt: &impl Abort, decoder: &mut D) {
-    assert_error::<ConstrainedInteger<1, 10>, _>(rt, decoder, DecodeError::OutOfRange);
-    assert_number(rt, u8::decode(decoder), 7);
+/// A number outside its limits, and one after it.
+#[derive(Drop)]
+struct PastANumber;
+
+impl Trial for PastANumber {
+    fn write<E: Encoder>(&self, rt: &impl Abort, encoder: &mut E) {
+        done(rt, 11u8.encode(encoder));
+        done(rt, 7u8.encode(encoder));
+    }
+
+    fn read<D: Decoder>(&self, rt: &impl Abort, decoder: &mut D, answers: &mut Answers) {
+        assert_next::<ConstrainedInteger<1, 10>, _>(rt, decoder, DecodeError::OutOfRange);
+        answers.expect(rt, u8::decode(decoder), &7);
+    }
 }
 
 /// An error of a type's own comes after its records were read.
 #[test]
 fn what_follows_a_number_outside_its_limits_is_read(rt: HostRuntime) {
-    let records = two_numbers(&rt, rt.alloc());
-    let mut decoder = RecordDecoder::new(rt.alloc(), records.as_slice(), 0);
-    read_past_a_number(&rt, &mut decoder);
-    assert_end(&rt, decoder);
+    let expected = "Universal 2 INTEGER 11 Universal 2 INTEGER 7 ";
+    assert_trial(&rt, rt.alloc(), PastANumber, expected);
 }
 
 fn read_too_deep<D: Decoder>(rt: &impl Abort, decoder: &mut D) {
-    assert_error::<Vec<bool>, _>(rt, decoder, DecodeError::Depth);
-    assert_error::<bool, _>(rt, decoder, DecodeError::Failed);
-    assert_error::<Vec<bool>, _>(rt, decoder, DecodeError::Failed);
+    assert_next::<Vec<bool>, _>(rt, decoder, DecodeError::Depth);
+    assert_next::<bool, _>(rt, decoder, DecodeError::Failed);
+    assert_next::<Vec<bool>, _>(rt, decoder, DecodeError::Failed);
 }
 
 #[test]
 fn a_list_is_too_deep(rt: HostRuntime) {
-    let records = written(&rt, rt.alloc(), [true]);
-    let mut decoder = RecordDecoder::new(rt.alloc(), records.as_slice(), 0);
-    read_too_deep(&rt, &mut decoder);
-    assert!(rt; decoder.finish() == Err(DecodeError::Failed));
+    let records = written(&rt, rt.alloc(), &[true]);
+    read_too_deep(&rt, &mut RecordDecoder::new(rt.alloc(), &records, 0));
 }
 
-/// The calls that read what `write_all` writes.
-fn read_all<D: Decoder>(decoder: &mut D) -> Result<(), DecodeError> {
-    let constraints = &Constraints::NONE;
-    decoder.decode_octet_string(Tag::OCTET_STRING, constraints)?;
-    decoder.decode_sequence_of::<u8>(Tag::SEQUENCE, constraints)?;
-    decoder.open_group::<Contact>()?;
-    decoder.decode_utf8_string(Tag::UTF8_STRING, constraints)?;
-    decoder.close_group()
-}
-
-/// Asserts that all was read, or that memory was short; the decoder has then failed.
-fn assert_all_read(rt: &impl Abort, mut decoder: RecordDecoder<'_>) {
-    match read_all(&mut decoder) {
-        Ok(()) => assert!(rt; decoder.finish() == Ok(())),
-        Err(error) => {
-            assert!(rt; error == DecodeError::Memory);
-            assert!(rt; decoder.finish() == Err(DecodeError::Failed));
-        }
-    }
-}
-
-/// Each allocation may be refused: the first error is then for want of memory.
-#[test]
-fn memory_runs_out(rt: HostRuntime) {
-    let mut encoder = RecordEncoder::new(rt.alloc(), 1);
-    if let Ok(()) = write_all(&mut encoder) {
-        let records = encoder.finish();
-        assert_all_read(&rt, RecordDecoder::new(rt.alloc(), records.as_slice(), 1));
-    }
-}
-
-/// Asserts that a value is read, or that memory was short.
-fn read_or_memory<T: Decode, D: Decoder>(rt: &impl Abort, decoder: &mut D) {
-    if let Err(error) = T::decode(decoder) {
-        assert!(rt; error == DecodeError::Memory);
-    }
+/// Whether a value is read; else memory was short for what the type makes of what was read. The decoder is then after it.
+fn reads_or_passes<T: Decode>(rt: &impl Abort, alloc: Global, records: &[Record]) -> bool {
+    let mut decoder = RecordDecoder::new(alloc, records, 0);
+    let error = T::decode(&mut decoder).err();
+    assert!(rt; error == None || error == Some(DecodeError::Memory));
+    assert!(rt; decoder.finish().is_ok());
+    error == None
 }
 
 /// A box is made after its content was read: where there is no memory for it, the decoder is after the content.
 #[test]
 fn memory_for_a_box_runs_out(rt: HostRuntime) {
-    let mut encoder = RecordEncoder::new(rt.alloc(), 0);
-    if let Ok(()) = 7u8.encode(&mut encoder) {
-        let records = encoder.finish();
-        let mut decoder = RecordDecoder::new(rt.alloc(), records.as_slice(), 0);
-        read_or_memory::<Box<u8>, _>(&rt, &mut decoder);
-        assert_end(&rt, decoder);
-    }
+    let records = written(&rt, rt.alloc(), &7u8);
+    let first = reads_or_passes::<Box<u8>>(&rt, rt.alloc(), &records);
+    let second = reads_or_passes::<Box<u8>>(&rt, rt.alloc(), &records);
+    assert_read(&rt, first, second);
 }
 
-/// Asserts that a plate is read, or that memory was short: where it was so for the constraints of the type, the decoder is as it
-/// was, and else it has failed.
-fn assert_plate_read<D: Decoder>(rt: &impl Abort, decoder: &mut D) {
-    if let Err(error) = Plate::decode(decoder) {
-        assert!(rt; error == DecodeError::Memory);
-        let again = Plate::decode(decoder).err();
-        assert!(rt; again == None || again == Some(DecodeError::Failed));
+/// Whether a value is read; else memory was short. Where it was so for the constraints of the type, the decoder is as it was, and
+/// else it has failed.
+fn reads_or_stays<T: Decode, D: Decoder>(rt: &impl Abort, decoder: &mut D) -> bool {
+    let first = T::decode(decoder).err();
+    if first == None {
+        return true;
     }
+    assert!(rt; first == Some(DecodeError::Memory));
+    let again = T::decode(decoder).err();
+    assert!(rt; again == None || again == Some(DecodeError::Failed));
+    false
+}
+
+fn reads_plate(rt: &impl Abort, alloc: Global, records: &[Record]) -> bool {
+    reads_or_stays::<Plate, _>(rt, &mut RecordDecoder::new(alloc, records, 0))
 }
 
 #[test]
 fn memory_for_an_alphabet_runs_out(rt: HostRuntime) {
-    if let Ok(letters) = Vec::from_slice(rt.alloc(), b"AB") {
-        let mut encoder = RecordEncoder::new(rt.alloc(), 0);
-        if let Ok(()) = write_letters(&mut encoder, letters) {
-            let records = encoder.finish();
-            let mut decoder = RecordDecoder::new(rt.alloc(), records.as_slice(), 0);
-            assert_plate_read(&rt, &mut decoder);
-        }
-    }
-}
-
-/// Writes a plate, but for its constraints.
-fn write_letters<E: Encoder>(encoder: &mut E, letters: Vec<u8>) -> Result<(), EncodeError> {
-    match VisibleString::new(letters) {
-        Ok(letters) => letters.encode(encoder),
-        Err(_) => Ok(()),
-    }
+    let records = written(&rt, rt.alloc(), &Plate(spelled(&rt, rt.alloc(), b"AB")));
+    let first = reads_plate(&rt, rt.alloc(), &records);
+    let second = reads_plate(&rt, rt.alloc(), &records);
+    assert_read(&rt, first, second);
 }
 
 fn no_memory(_alloc: Global) -> Result<u8, AllocError> {
@@ -296,79 +274,6 @@ fn read_no_default<D: Decoder>(rt: &impl Abort, decoder: &mut D) {
 
 #[test]
 fn a_refused_default_is_an_error_of_memory(rt: HostRuntime) {
-    let records = written(&rt, rt.alloc(), None::<u8>);
-    let mut decoder = RecordDecoder::new(rt.alloc(), records.as_slice(), 0);
-    read_no_default(&rt, &mut decoder);
-}
-
-/// Asserts that a value is read back, or that memory was short.
-fn assert_back_or_memory<T: Encode + Decode>(rt: &impl Abort, alloc: Global, value: T) {
-    match round_trip(&BenchRules::new(alloc), &value, 2, 2) {
-        Ok(back) => assert!(rt; back == value),
-        Err(RoundTripError::Writing(error)) => assert!(rt; error == EncodeError::Memory),
-        Err(RoundTripError::Reading(error)) => assert!(rt; error == DecodeError::Memory),
-    }
-}
-
-#[test]
-fn memory_for_a_list_runs_out(rt: HostRuntime) {
-    if let Ok(numbers) = Vec::from_slice(rt.alloc(), &[3u8, 1, 2]) {
-        assert_back_or_memory(&rt, rt.alloc(), numbers);
-    }
-}
-
-#[test]
-fn memory_for_an_open_type_runs_out(rt: HostRuntime) {
-    if let Ok(bytes) = Vec::from_slice(rt.alloc(), &[7]) {
-        assert_back_or_memory(&rt, rt.alloc(), Any::new(bytes));
-    }
-}
-
-#[test]
-fn memory_for_a_string_runs_out(rt: HostRuntime) {
-    if let Ok(units) = Vec::from_slice(rt.alloc(), &[0xd83d, 0xde00]) {
-        assert_back_or_memory(&rt, rt.alloc(), BmpString::new(units));
-    }
-}
-
-#[test]
-fn memory_for_bits_runs_out(rt: HostRuntime) {
-    if let Ok(bits) = Vec::from_slice(rt.alloc(), &[true]) {
-        assert_back_or_memory(&rt, rt.alloc(), BitString::new(bits));
-    }
-}
-
-#[test]
-fn memory_for_a_prefix_runs_out(rt: HostRuntime) {
-    if let Ok(arcs) = Vec::from_slice(rt.alloc(), &[1, 3]) {
-        let name = ObjectIdentifier::new(arcs);
-        assert_back_or_memory(
-            &rt,
-            rt.alloc(),
-            Explicit::<tag::BOOL, ObjectIdentifier>::new(name),
-        );
-    }
-}
-
-#[test]
-fn memory_for_a_wide_number_runs_out(rt: HostRuntime) {
-    if let Ok(number) = u128::MAX.to_integer(rt.alloc()) {
-        assert_back_or_memory(&rt, rt.alloc(), number);
-    }
-}
-
-#[test]
-fn memory_for_a_sequence_runs_out(rt: HostRuntime) {
-    if let Ok(name) = String::from_str(rt.alloc(), "Ann") {
-        let age = Integer::from_i128(30);
-        assert_back_or_memory(&rt, rt.alloc(), Person { age, name });
-    }
-}
-
-#[test]
-fn memory_for_a_choice_runs_out(rt: HostRuntime) {
-    if let Ok(octets) = Vec::from_slice(rt.alloc(), &[7]) {
-        let corner = Corner::Right(OctetString::new(octets));
-        assert_back_or_memory(&rt, rt.alloc(), corner);
-    }
+    let records = written(&rt, rt.alloc(), &None::<u8>);
+    read_no_default(&rt, &mut RecordDecoder::new(rt.alloc(), &records, 0));
 }

@@ -1,18 +1,14 @@
 //! The sample types, written and read back.
-use crate::tests::text::assert_records;
-use crate::tests::values::{assert_end, assert_round_trip, assert_written, done, own, text};
-use asn1_dec::{Decode, DecodeError};
-use asn1_enc::Encode;
-use asn1_record_decoder::RecordDecoder;
-use asn1_records::RecordEncoder;
+use crate::tests::values::{
+    alone, assert_back, assert_round_trip, assert_written, own, spelled, text,
+};
 use asn1_samples::{
     Badge, Color, Contact, Corner, Envelope, Labelled, Person, Plate, Profile, Settings, Shape,
     Visit,
 };
-use asn1_tags::Tag;
 use asn1_trees::Node;
 use asn1_types::Any;
-use asn1_values::{Ia5String, Integer, NumericString, OctetString, VisibleString};
+use asn1_values::{Integer, OctetString};
 use std::alloc::Global;
 use std::process::Abort;
 
@@ -50,7 +46,7 @@ fn full_profile(rt: &impl Abort, alloc: Global) -> Profile {
         color: Color::Blue,
         contact: Some(Contact {
             phone: None,
-            mail: Some(Ia5String::new(own(rt, alloc, b"a@b")).expect(rt, "a text")),
+            mail: Some(spelled(rt, alloc, b"a@b")),
         }),
     }
 }
@@ -99,7 +95,7 @@ fn settings_are_written_and_read(rt: HostRuntime) {
 /// A contact with a telephone number.
 fn phone(rt: &impl Abort, alloc: Global) -> Contact {
     Contact {
-        phone: Some(NumericString::new(own(rt, alloc, b"12")).expect(rt, "a text")),
+        phone: Some(spelled(rt, alloc, b"12")),
         mail: None,
     }
 }
@@ -139,7 +135,7 @@ fn a_visit_is_written_and_read(rt: HostRuntime) {
 fn badge(rt: &impl Abort, alloc: Global) -> Badge {
     Badge {
         id: 7,
-        label: Some(VisibleString::new(own(rt, alloc, b"x")).expect(rt, "a text")),
+        label: Some(spelled(rt, alloc, b"x")),
         shape: Shape::Inner(Corner::Left(true)),
     }
 }
@@ -166,13 +162,9 @@ fn leaf(rt: &impl Abort, alloc: Global) -> Node {
 
 /// A node of height 4.
 pub(super) fn parent(rt: &impl Abort, alloc: Global) -> Node {
-    let mut children = Vec::new(alloc);
-    if let Err(_) = children.push(leaf(rt, alloc)) {
-        assert!(rt; false, "memory");
-    }
     Node {
         label: None,
-        children,
+        children: alone(rt, alloc, leaf(rt, alloc)),
     }
 }
 
@@ -196,7 +188,7 @@ fn envelope(rt: &impl Abort, alloc: Global) -> Envelope {
 }
 
 fn plate(rt: &impl Abort, alloc: Global) -> Plate {
-    Plate(VisibleString::new(own(rt, alloc, b"AB")).expect(rt, "a text"))
+    Plate(spelled(rt, alloc, b"AB"))
 }
 
 #[test]
@@ -208,7 +200,7 @@ fn open_types_and_plates_are_written_and_read(rt: HostRuntime) {
         envelope(&rt, alloc),
         "sequence Universal 16 Envelope { Universal 2 INTEGER 1 raw [1, 2] } ",
     );
-    assert_round_trip(
+    assert_back(
         &rt,
         alloc,
         plate(&rt, alloc),
@@ -235,30 +227,4 @@ fn an_untagged_choice_is_its_alternative(rt: HostRuntime) {
         Shape::Inner(Corner::Left(true)),
         "alternative Universal 1 Shape { alternative Universal 1 Corner { Universal 1 BOOLEAN true } } ",
     );
-}
-
-fn assert_ring(rt: &impl Abort, answer: Result<Shape, DecodeError>) {
-    assert!(rt; answer == Ok(Shape::Ring(3)));
-}
-
-#[test]
-fn a_choice_is_after_a_tag(rt: HostRuntime) {
-    let mut encoder = RecordEncoder::new(rt.alloc(), 2);
-    done(
-        &rt,
-        Shape::Ring(3).encode_with_tag(&mut encoder, Tag::new_context(7)),
-    );
-    let records = encoder.finish();
-    assert_records(
-        &rt,
-        rt.alloc(),
-        records.as_slice(),
-        "prefix Context 7 Shape { alternative Context 0 Shape { Context 0 INTEGER 3 } } ",
-    );
-    let mut decoder = RecordDecoder::new(rt.alloc(), records.as_slice(), 2);
-    assert_ring(
-        &rt,
-        Shape::decode_with_tag(&mut decoder, Tag::new_context(7)),
-    );
-    assert_end(&rt, decoder);
 }

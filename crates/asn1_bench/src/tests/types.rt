@@ -1,18 +1,16 @@
 //! A value of each type, and each entry point.
-use crate::tests::text::assert_records;
 use crate::tests::values::{
-    FIRST, NAME, assert_end, assert_number, assert_round_trip, assert_written, done, own, text,
+    Answers, FIRST, NAME, Trial, arcs, assert_back, assert_round_trip, assert_trial,
+    assert_written, done, own, spelled, text,
 };
 use asn1_bounds::Constraints;
-use asn1_dec::{Decode, Decoder};
+use asn1_dec::{Decode, DecodeError, Decoder};
 use asn1_enc::{Encode, Encoder};
-use asn1_record_decoder::RecordDecoder;
-use asn1_records::RecordEncoder;
 use asn1_schema::{Array, UniversalString};
 use asn1_types::{Any, Explicit, Implicit, InstanceOf, SetOf, tag};
 use asn1_values::{
     BitString, BmpString, ConstrainedInteger, GeneralString, GraphicString, Ia5String, Integer,
-    NumericString, ObjectIdentifier, OctetString, PrintableString, TeletexString, VisibleString,
+    IntegerType, NumericString, OctetString, PrintableString, TeletexString, VisibleString,
 };
 use std::alloc::Global;
 use std::borrow::Cow;
@@ -31,12 +29,11 @@ fn scalars_have_their_own_tags(rt: HostRuntime) {
     assert_round_trip(&rt, alloc, constrained(&rt), "Universal 2 INTEGER 9 ");
     assert_round_trip(&rt, alloc, PhantomData::<u8>, "");
     assert_written(&rt, alloc, &"Ann", "Universal 12 UTF8String utf8 Ann ");
-    assert_written(
-        &rt,
-        alloc,
-        &u128::MAX,
-        "Universal 2 INTEGER 0xffffffffffffffffffffffffffffffff ",
-    );
+}
+
+/// A number that wants memory.
+fn wide(rt: &impl Abort, alloc: Global) -> Integer {
+    u128::MAX.to_integer(alloc).expect(rt, "memory")
 }
 
 #[test]
@@ -61,47 +58,41 @@ fn integers_have_one_tag(rt: HostRuntime) {
     );
 }
 
-fn visible(rt: &impl Abort, alloc: Global) -> VisibleString {
-    VisibleString::new(own(rt, alloc, b"A~")).expect(rt, "an allowed text")
-}
+/// What is written of 2^128 - 1.
+const WIDE: &str = "Universal 2 INTEGER 0xffffffffffffffffffffffffffffffff ";
 
-fn ia5(rt: &impl Abort, alloc: Global) -> Ia5String {
-    Ia5String::new(own(rt, alloc, b"\n")).expect(rt, "an allowed text")
-}
-
-fn printable(rt: &impl Abort, alloc: Global) -> PrintableString {
-    PrintableString::new(own(rt, alloc, b"A")).expect(rt, "an allowed text")
-}
-
-fn numeric(rt: &impl Abort, alloc: Global) -> NumericString {
-    NumericString::new(own(rt, alloc, b"1 2")).expect(rt, "an allowed text")
+#[test]
+fn wide_integers_have_the_same_tag(rt: HostRuntime) {
+    let alloc = rt.alloc();
+    assert_round_trip(&rt, alloc, wide(&rt, alloc), WIDE);
+    assert_written(&rt, alloc, &u128::MAX, WIDE);
 }
 
 #[test]
 fn kinds_with_an_alphabet_have_their_own_tags(rt: HostRuntime) {
     let alloc = rt.alloc();
-    assert_round_trip(
+    assert_round_trip::<VisibleString>(
         &rt,
         alloc,
-        visible(&rt, alloc),
+        spelled(&rt, alloc, b"A~"),
         "Universal 26 VisibleString visible [65, 126] ",
     );
-    assert_round_trip(
+    assert_round_trip::<Ia5String>(
         &rt,
         alloc,
-        ia5(&rt, alloc),
+        spelled(&rt, alloc, b"\n"),
         "Universal 22 IA5String ia5 [10] ",
     );
-    assert_round_trip(
+    assert_round_trip::<PrintableString>(
         &rt,
         alloc,
-        printable(&rt, alloc),
+        spelled(&rt, alloc, b"A"),
         "Universal 19 PrintableString printable [65] ",
     );
-    assert_round_trip(
+    assert_round_trip::<NumericString>(
         &rt,
         alloc,
-        numeric(&rt, alloc),
+        spelled(&rt, alloc, b"1 2"),
         "Universal 18 NumericString numeric [49, 32, 50] ",
     );
 }
@@ -159,7 +150,7 @@ fn strings_of_bits_octets_and_arcs_have_their_own_tags(rt: HostRuntime) {
     assert_round_trip(
         &rt,
         alloc,
-        ObjectIdentifier::new(own(&rt, alloc, &[1, 3])),
+        arcs(&rt, alloc, &[1, 3]),
         "Universal 6 OBJECT_IDENTIFIER arcs [1, 3] ",
     );
     assert_round_trip(
@@ -214,7 +205,7 @@ fn holders_have_what_is_in_them(rt: HostRuntime) {
     );
     assert_round_trip(&rt, alloc, None::<u8>, "absent Universal 2 ");
     assert_written(&rt, alloc, &&7u8, "Universal 2 INTEGER 7 ");
-    assert_round_trip(&rt, alloc, boxed(&rt, alloc), "Universal 2 INTEGER 7 ");
+    assert_back(&rt, alloc, boxed(&rt, alloc), "Universal 2 INTEGER 7 ");
     assert_round_trip(&rt, alloc, Cow::<u8>::Owned(7), "Universal 2 INTEGER 7 ");
     assert_written(&rt, alloc, &Cow::Borrowed(&7u8), "Universal 2 INTEGER 7 ");
 }
@@ -244,7 +235,7 @@ fn tagged_values_have_the_given_tag(rt: HostRuntime) {
 
 fn instance(rt: &impl Abort, alloc: Global) -> InstanceOf<u8> {
     InstanceOf {
-        type_id: ObjectIdentifier::new(own(rt, alloc, &[1, 3])),
+        type_id: arcs(rt, alloc, &[1, 3]),
         value: 9,
     }
 }
@@ -260,47 +251,51 @@ fn an_instance_has_its_type_and_its_value(rt: HostRuntime) {
     );
 }
 
-/// The same number by each entry point.
-fn write_by_each_entry<E: Encoder>(rt: &impl Abort, encoder: &mut E) {
-    let constraints = &Constraints::NONE;
-    done(rt, 7u8.encode_with_tag(encoder, FIRST));
-    done(rt, 7u8.encode_with_identifier(encoder, NAME));
-    done(rt, 7u8.encode_with_tag_and_identifier(encoder, FIRST, NAME));
-    done(rt, 7u8.encode_with_constraints(encoder, constraints));
-    done(
-        rt,
-        7u8.encode_with_constraints_and_identifier(encoder, constraints, NAME),
-    );
-    done(
-        rt,
-        7u8.encode_with_tag_and_constraints(encoder, FIRST, constraints, NAME),
-    );
-}
+/// The same value by each entry point.
+#[derive(Drop)]
+struct Entries<T>(T);
 
-fn read_by_each_entry<D: Decoder>(rt: &impl Abort, decoder: &mut D) {
-    let constraints = &Constraints::NONE;
-    assert_number(rt, u8::decode_with_tag(decoder, FIRST), 7);
-    assert_number(rt, u8::decode(decoder), 7);
-    assert_number(rt, u8::decode_with_tag(decoder, FIRST), 7);
-    assert_number(rt, u8::decode_with_constraints(decoder, constraints), 7);
-    assert_number(rt, u8::decode_with_constraints(decoder, constraints), 7);
-    let last = u8::decode_with_tag_and_constraints(decoder, FIRST, constraints);
-    assert_number(rt, last, 7);
+impl<T: Encode + Decode> Trial for Entries<T> {
+    fn write<E: Encoder>(&self, rt: &impl Abort, encoder: &mut E) {
+        let constraints = &Constraints::NONE;
+        let value = &self.0;
+        done(rt, value.encode_with_tag(encoder, FIRST));
+        done(rt, value.encode_with_identifier(encoder, NAME));
+        done(
+            rt,
+            value.encode_with_tag_and_identifier(encoder, FIRST, NAME),
+        );
+        done(rt, value.encode_with_constraints(encoder, constraints));
+        done(
+            rt,
+            value.encode_with_constraints_and_identifier(encoder, constraints, NAME),
+        );
+        done(
+            rt,
+            value.encode_with_tag_and_constraints(encoder, FIRST, constraints, NAME),
+        );
+    }
+
+    fn read<D: Decoder>(&self, rt: &impl Abort, decoder: &mut D, answers: &mut Answers) {
+        let constraints = &Constraints::NONE;
+        let value = &self.0;
+        answers.expect(rt, T::decode_with_tag(decoder, FIRST), value);
+        answers.expect(rt, T::decode(decoder), value);
+        answers.expect(rt, T::decode_with_tag(decoder, FIRST), value);
+        answers.expect(rt, T::decode_with_constraints(decoder, constraints), value);
+        answers.expect(rt, T::decode_with_constraints(decoder, constraints), value);
+        let last = T::decode_with_tag_and_constraints(decoder, FIRST, constraints);
+        answers.expect(rt, last, value);
+    }
 }
 
 #[test]
 fn each_entry_point_takes_what_it_is_given(rt: HostRuntime) {
-    let mut encoder = RecordEncoder::new(rt.alloc(), 0);
-    write_by_each_entry(&rt, &mut encoder);
-    let records = encoder.finish();
-    assert_records(
+    assert_trial(
         &rt,
         rt.alloc(),
-        records.as_slice(),
-        "Context 0 INTEGER 7 Universal 2 n 7 Context 0 n 7 Universal 2 INTEGER 7 \
-         Universal 2 n 7 Context 0 n 7 ",
+        Entries(text(&rt, rt.alloc(), "7")),
+        "Context 0 UTF8String utf8 7 Universal 12 n utf8 7 Context 0 n utf8 7 \
+         Universal 12 UTF8String utf8 7 Universal 12 n utf8 7 Context 0 n utf8 7 ",
     );
-    let mut decoder = RecordDecoder::new(rt.alloc(), records.as_slice(), 0);
-    read_by_each_entry(&rt, &mut decoder);
-    assert_end(&rt, decoder);
 }

@@ -125,8 +125,12 @@ fn assert_refused(
 ) {
     let content = truth_in(alloc, Codec::Der).expect(rt, "memory");
     let letter = Letter { version, content };
-    let validated = letter.validate_and_decode_containing(alloc, codec);
-    assert!(rt; validated.err() == error);
+    let found = letter.validate_and_decode_containing(alloc, codec).err();
+    let memory = Some(InnerSubtypeConstraintError::Memory);
+    if found == memory && error != memory {
+        panic!(rt; "memory");
+    }
+    assert!(rt; found == error);
 }
 
 #[test]

@@ -86,6 +86,7 @@ fn assert_mismatch(rt: &impl Abort, alloc: Global, entries: &[(Tag, usize)], ind
     let table = copied(rt, alloc, entries);
     match Variants::with_table(alloc, C0_U3_U3, table) {
         Ok(_) => assert!(rt; false),
+        Err(VariantsError::Memory) => panic!(rt; "memory"),
         Err(error) => assert!(rt; error == VariantsError::TableMismatch(index)),
     }
 }
