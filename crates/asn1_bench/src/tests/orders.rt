@@ -16,7 +16,7 @@ fn shape(rt: &impl Abort, alloc: Global) -> Record {
     Record::Scope(head, alone(rt, alloc, corner))
 }
 
-/// A component of a badge.
+/// The component of a badge of this index, or a record of none.
 fn component(rt: &impl Abort, alloc: Global, index: usize) -> Record {
     match index {
         0 => Record::Scalar(Tag::INTEGER, NAME, Content::Number(Integer::from_i128(7))),
@@ -25,7 +25,8 @@ fn component(rt: &impl Abort, alloc: Global, index: usize) -> Record {
             NAME,
             Content::Visible(spelled(rt, alloc, b"x")),
         ),
-        _ => shape(rt, alloc),
+        2 => shape(rt, alloc),
+        _ => Record::Scalar(Tag::REAL, NAME, Content::Null),
     }
 }
 
@@ -37,18 +38,23 @@ fn badge(rt: &impl Abort, alloc: Global) -> Badge {
     }
 }
 
+/// A SET of these components of a badge.
+pub(super) fn set(rt: &impl Abort, alloc: Global, components: &[usize]) -> Vec<Record> {
+    let mut items = Vec::new(alloc);
+    for index in components {
+        push(rt, &mut items, component(rt, alloc, *index));
+    }
+    alone(rt, alloc, Record::Scope(Head::Set(Tag::SET, NAME), items))
+}
+
 /// Asserts that a badge is read of its components in this order.
 fn assert_badge(rt: &impl Abort, alloc: Global, first: usize, second: usize, third: usize) {
-    let mut components = Vec::new(alloc);
-    push(rt, &mut components, component(rt, alloc, first));
-    push(rt, &mut components, component(rt, alloc, second));
-    push(rt, &mut components, component(rt, alloc, third));
-    let set = Record::Scope(Head::Set(Tag::SET, NAME), components);
+    let records = set(rt, alloc, &[first, second, third]);
     let badge = Tagged {
         tag: Tag::SET,
         value: badge(rt, alloc),
     };
-    assert_reads(rt, alloc, &alone(rt, alloc, set), badge);
+    assert_reads(rt, alloc, &records, badge);
 }
 
 #[test]

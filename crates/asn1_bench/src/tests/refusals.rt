@@ -1,5 +1,6 @@
 //! What is not read, and what an error leaves.
 use crate::rules::BenchRules;
+use crate::tests::orders::set;
 use crate::tests::samples::parent;
 use crate::tests::values::{
     Answers, NAME, Trial, alone, assert_read, assert_trial, done, push, spelled, written,
@@ -8,7 +9,7 @@ use asn1_dec::{Decode, DecodeError, Decoder, Needed};
 use asn1_enc::{Encode, Encoder};
 use asn1_record_decoder::RecordDecoder;
 use asn1_records::{Content, Head, Record};
-use asn1_samples::{Color, Corner, Plate};
+use asn1_samples::{Badge, Color, Corner, Plate};
 use asn1_schema::{Array, RoundTripError, Rules, round_trip};
 use asn1_tags::Tag;
 use asn1_trees::Node;
@@ -154,6 +155,25 @@ fn what_is_no_item_and_no_alternative_is_refused(rt: HostRuntime) {
         alternative(&rt, alloc, Tag::NULL),
         DecodeError::NoValidChoice("Corner"),
     );
+}
+
+/// Asserts why a SET of these components is no badge.
+fn assert_no_badge(rt: &impl Abort, alloc: Global, components: &[usize], error: DecodeError) {
+    assert_refused::<Badge>(rt, alloc, set(rt, alloc, components), error);
+}
+
+#[test]
+fn a_set_has_its_components_and_no_other(rt: HostRuntime) {
+    let alloc = rt.alloc();
+    assert_no_badge(&rt, alloc, &[0, 1, 1, 2], DecodeError::DuplicateField("label"));
+    assert_no_badge(&rt, alloc, &[2, 2], DecodeError::DuplicateField("shape"));
+    assert_no_badge(&rt, alloc, &[1], DecodeError::MissingField("id"));
+    assert_no_badge(&rt, alloc, &[0], DecodeError::MissingField("shape"));
+    let unknown = DecodeError::UnknownField {
+        index: 1,
+        tag: Tag::REAL,
+    };
+    assert_no_badge(&rt, alloc, &[2, 3, 0], unknown);
 }
 
 /// The numbers 11 and 7.
