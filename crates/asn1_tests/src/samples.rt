@@ -89,9 +89,9 @@ fn assert_no_badge(
     error: DecodeError,
 ) {
     let mut parts = Vec::new(alloc);
-    assert!(rt; parts.push(first).is_ok());
+    parts.push(first).expect(rt, "memory");
     if let Some(part) = second {
-        assert!(rt; parts.push(part).is_ok());
+        parts.push(part).expect(rt, "memory");
     }
     assert!(rt; Badge::from_fields(alloc, parts).err() == Some(error));
 }

@@ -45,8 +45,9 @@ fn not(rt: &impl Abort, alloc: Global, inner: Filter) -> Filter {
 
 fn pair(rt: &impl Abort, alloc: Global, first: Filter, second: Filter) -> SetOf<Filter> {
     let mut filters = SetOf::new(alloc);
-    assert!(rt; filters.insert(first).is_ok());
-    assert!(rt; filters.insert(second).is_ok());
+    if filters.insert(first).is_err() || filters.insert(second).is_err() {
+        panic!(rt; "memory");
+    }
     filters
 }
 
