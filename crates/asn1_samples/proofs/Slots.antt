@@ -1,5 +1,5 @@
 -- A slot of a SET that was read to its end.
-use Rattle.std.proofs.Common.{◌≡◌, ℕ, ◌≤◌, List, Option, None, Some, arith}
+use Rattle.std.proofs.Common.{ℕ, ◌≤◌, List, Option, None, Some, arith}
 use Rattle.asn1_dec.proofs.SlotLaws.{Slot}
 use Rattle.asn1_dec.specs.SetParts.{parts_at}
 

@@ -111,5 +111,11 @@ fn badges_have_each_component_once(rt: HostRuntime) {
     let no_id = DecodeError::MissingField("id");
     assert_no_badge(&rt, alloc, BadgePart::Figure(Shape::Dot(())), None, no_id);
     let two_ids = DecodeError::DuplicateField("id");
-    assert_no_badge(&rt, alloc, BadgePart::Id(1), Some(BadgePart::Id(2)), two_ids);
+    assert_no_badge(
+        &rt,
+        alloc,
+        BadgePart::Id(1),
+        Some(BadgePart::Id(2)),
+        two_ids,
+    );
 }
