@@ -45,7 +45,7 @@ mod settings;
 mod shape;
 mod visit;
 
-pub use badge::{Badge, BadgePart, badge_can_stand_inside, badge_records, badge_table_is_canonical};
+pub use badge::{Badge, badge_can_stand_inside, badge_records, badge_table_is_canonical};
 pub use color::{Color, color_can_stand_inside, color_records};
 pub use contact::Contact;
 pub use corner::{Corner, corner_can_stand_inside, corner_records};

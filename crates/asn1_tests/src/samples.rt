@@ -1,8 +1,6 @@
 //! The lines of the tables, and the calls that follow from them.
-use asn1_dec::{DecodeError, DecodeSet};
 use asn1_samples::{
-    Badge, BadgePart, Color, Contact, Corner, Envelope, Labelled, Person, Plate, Profile, Settings,
-    Shape,
+    Badge, Color, Contact, Corner, Envelope, Labelled, Person, Plate, Profile, Settings, Shape,
 };
 use asn1_types::{AsnType, Bounded, Choice, Enumerated, FieldTable, Tag, Value};
 use std::alloc::Global;
@@ -78,31 +76,4 @@ fn colors_are_found_by_number(rt: HostRuntime) {
     assert!(rt; Color::from_discriminant(5) == Some(Color::Blue));
     assert!(rt; Color::from_discriminant(2).is_none());
     assert!(rt; Color::Blue.enumeration_index() == 0 && Color::Blue.identifier() == "blue");
-}
-
-/// Asserts why no badge is made of a part, or of two.
-fn assert_no_badge(
-    rt: &impl Abort,
-    alloc: Global,
-    first: BadgePart,
-    second: Option<BadgePart>,
-    error: DecodeError,
-) {
-    let mut parts = Vec::new(alloc);
-    parts.push(first).expect(rt, "memory");
-    if let Some(part) = second {
-        parts.push(part).expect(rt, "memory");
-    }
-    assert!(rt; Badge::from_fields(alloc, parts).err() == Some(error));
-}
-
-#[test]
-fn badges_have_each_component_once(rt: HostRuntime) {
-    let alloc = rt.alloc();
-    let no_shape = DecodeError::MissingField("shape");
-    assert_no_badge(&rt, alloc, BadgePart::Id(1), None, no_shape);
-    let no_id = DecodeError::MissingField("id");
-    assert_no_badge(&rt, alloc, BadgePart::Figure(Shape::Dot(())), None, no_id);
-    let two_ids = DecodeError::DuplicateField("id");
-    assert_no_badge(&rt, alloc, BadgePart::Id(1), Some(BadgePart::Id(2)), two_ids);
 }

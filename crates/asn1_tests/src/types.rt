@@ -14,8 +14,8 @@ mod filters;
 
 use asn1_tags::{Tag, TagTree};
 use asn1_types::{
-    Any, AsnType, Constructed, Explicit, Field, FieldTable, Implicit, InstanceOf, SequenceOf, SetOf,
-    tag,
+    Any, AsnType, Constructed, Explicit, Field, FieldTable, Implicit, InstanceOf, SequenceOf,
+    SetOf, tag,
 };
 use asn1_values::ObjectIdentifier;
 use std::alloc::Global;

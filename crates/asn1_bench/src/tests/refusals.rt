@@ -165,7 +165,12 @@ fn assert_no_badge(rt: &impl Abort, alloc: Global, components: &[usize], error: 
 #[test]
 fn a_set_has_its_components_and_no_other(rt: HostRuntime) {
     let alloc = rt.alloc();
-    assert_no_badge(&rt, alloc, &[0, 1, 1, 2], DecodeError::DuplicateField("label"));
+    assert_no_badge(
+        &rt,
+        alloc,
+        &[0, 1, 1, 2],
+        DecodeError::DuplicateField("label"),
+    );
     assert_no_badge(&rt, alloc, &[2, 2], DecodeError::DuplicateField("shape"));
     assert_no_badge(&rt, alloc, &[1], DecodeError::MissingField("id"));
     assert_no_badge(&rt, alloc, &[0], DecodeError::MissingField("shape"));
