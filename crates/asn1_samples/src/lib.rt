@@ -28,7 +28,7 @@
 //! - [`laws`] says when two values are equal, which names the tables have, and which types have an extension marker.
 //!
 //! A call takes memory only where a codec does, for what is read, and for the alphabet of a `Plate`. A type that holds itself is in
-//! the crate `asn1_trees`.
+//! the crate `asn1_recursive`.
 #![tactic(auto, using(asn1_tags::proofs::Leaves::tree_shapes))]
 
 mod badge;

@@ -12,7 +12,7 @@ use asn1_records::{Content, Head, Record};
 use asn1_samples::{Badge, Color, Corner, Plate};
 use asn1_schema::{Array, RoundTripError, Rules, round_trip};
 use asn1_tags::Tag;
-use asn1_trees::Node;
+use asn1_recursive::Node;
 use asn1_types::{Explicit, tag};
 use asn1_values::{ConstrainedInteger, Integer};
 use std::alloc::{AllocError, Global};

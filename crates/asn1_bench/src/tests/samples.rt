@@ -6,7 +6,7 @@ use asn1_samples::{
     Badge, Color, Contact, Corner, Envelope, Labelled, Person, Plate, Profile, Settings, Shape,
     Visit,
 };
-use asn1_trees::Node;
+use asn1_recursive::Node;
 use asn1_types::Any;
 use asn1_values::{Integer, OctetString};
 use std::alloc::Global;

@@ -1,0 +1,59 @@
+-- One level of a node, as a reader sees it.
+use Rattle.std.proofs.Common.{◌≡◌, ℕ, ◌+◌, ◌≤◌, true, List, [], ◌∷◌, ◌++◌, inl, inr, arith, rules, subst, ◌∙◌}
+use Rattle.std.specs.Cmp.Lexicographic.{pointwise}
+use Rattle.std.specs.List.{flat_map}
+use Rattle.std.specs.Option.{option_eq}
+use Rattle.std.specs.Prelude.{Some, codes}
+use Rattle.std.specs.String.{string_eq}
+use Rattle.std.proofs.lemmas.Bool.{and_from}
+use Rattle.asn1_components.proofs.Apart.{nothing_follows, sequence_apart}
+use Rattle.asn1_components.specs.Components.{all_components}
+use Rattle.asn1_dec.specs.declared.error.DecodeError.{DecodeError}
+use Rattle.asn1_dec.specs.Reading.{Ahead, MayFail, Reader}
+use Rattle.asn1_model.specs.ConstraintSets.{ConstraintSet, unconstrained}
+use Rattle.asn1_model.specs.Meaning.{CanStandInside, own_records, tags}
+use Rattle.asn1_model.specs.Records.{Name, Record, highest, holding, sequence, sequence_of}
+use Rattle.asn1_model.specs.Tags.{ShareNone, first_tags, universal}
+use Rattle.asn1_tags.specs.declared.tags.Tag.{Tag}
+use Rattle.asn1_recursive.proofs.NodeHeights.{label_records, node_height}
+use Rattle.asn1_recursive.specs.NodeComponents.{node_agrees, node_components, node_meaning, text}
+use Rattle.asn1_recursive.specs.contracts.node.NodePartialEq.TheImpl.{ghosts}
+use Rattle.asn1_recursive.specs.contracts.node.NodePartialEq.TheImpl.Laws.{is}
+use Rattle.asn1_recursive.specs.declared.node.Node.{Node, out-Node}
+
+abbrev pub children_of : Node → List Node
+children_of v = (out-Node v).children.items
+
+abbrev pub children_record : Node → Record
+children_record v = holding (sequence_of (universal 16) unconstrained (Some (codes "SEQUENCE_OF"))) (flat_map (own_records node_meaning) (children_of v))
+
+-- what is inside a node's record
+abbrev pub inside_node : Node → List Record
+inside_node v = label_records (out-Node v).label ++ children_record v ∷ []
+
+pub node_can : CanStandInside node_meaning
+node_can = search rules
+
+-- so that the decoder stands before its label, once the record is open
+pub one_level : {D : Type 0} (R : Reader D) (d : D) (v : Node) (t : Tag) (c : ConstraintSet) (n : Name) (rest : List Record) (outer : Ahead) →
+    R.stands d ((node_meaning.records v t c n ++ rest) ∷ outer) → R.stands d ((holding (sequence t n) (inside_node v) ∷ rest) ∷ outer)
+one_level R d v t c n rest outer at = subst (λ l. R.stands d ((l ++ rest) ∷ outer)) (node_agrees.records v t c n) at
+
+-- no label begins as the children do
+pub label_apart : (v : Node) → ShareNone (tags text (universal 12)) (first_tags (children_record v ∷ []))
+label_apart v =
+    let cs = all_components node_components in
+    (sequence_apart cs (node_can.1.1.0, node_can.1.1.2) v [] (nothing_follows cs)).0
+
+-- so high is a node under whatever tag
+pub two_higher : (v : Node) (t : Tag) (c : ConstraintSet) (n : Name) → highest (node_meaning.records v t c n) ≡ highest (flat_map (own_records node_meaning) (children_of v)) + 2
+two_higher v t c n = node_height v
+
+-- a failure so many scopes inside
+pub fails_deeper : {e : DecodeError} {a g : ℕ} (b h scopes : ℕ) → b ≡ a + scopes → g + scopes ≤ h → MayFail a g e → MayFail b h e
+fails_deeper b h scopes deeper low (inl memory) = inl memory
+fails_deeper b h scopes deeper low (inr deep) = inr (deep.0, omega (arith, deep.1, deeper, low))
+
+-- nodes with equal labels and equal children are equal
+pub same_nodes : (w v : Node) → option_eq string_eq (out-Node w).label (out-Node v).label ≡ true → pointwise ghosts.eq (out-Node w).children.items (out-Node v).children.items ≡ true → ghosts.eq w v ≡ true
+same_nodes w v label children = is w v ∙ and_from _ _ label children

@@ -1,0 +1,87 @@
+-- Node ::= SEQUENCE { label UTF8String OPTIONAL, children SEQUENCE OF Node }
+use Rattle.std.specs.Prelude.{◌≡◌, ◌↔◌, ◌++◌, ℕ, ⊤, Bool, List, [], ◌∷◌, Option, Some, IfSome, All, codes, refl}
+use Rattle.std.proofs.Common.{ap, sym, ◌∙◌, subst}
+use Rattle.std.proofs.lemmas.List.Folds.{flat_map-map}
+use Rattle.std.specs.List.{flat_map}
+use Rattle.std.specs.Option.{option_map}
+use Rattle.std.specs.String.{string_bytes}
+use Rattle.std.specs.declared.alloc.Global.{Global}
+use Rattle.std.specs.declared.string.String.{String}
+use Rattle.asn1_components.proofs.HeldInside.{all_own_and_inside}
+use Rattle.asn1_components.specs.Components.{AgreesWithComponents, Components, component_records, head_in, holding_itself, inside_itself, is_sequence, sequence}
+use Rattle.asn1_components.specs.ComponentTypes.{optional, required}
+use Rattle.asn1_recursive.specs.declared.node.Node.{Node, Node-F, out-Node, fold-Node, fold_out-Node}
+use Rattle.asn1_model.specs.Composites.{list_records, option_records}
+use Rattle.asn1_model.specs.ConstraintSets.{unconstrained}
+use Rattle.asn1_model.specs.Kinds.{list_type, utf8_string}
+use Rattle.asn1_model.specs.Meaning.{Meaning, own_records}
+use Rattle.asn1_model.specs.Records.{Record, holding}
+use Rattle.asn1_model.specs.TaggedTypes.{untagged}
+use Rattle.asn1_model.specs.Tags.{universal}
+
+-- what a label means
+abbrev pub text : Meaning (String Global)
+text = utf8_string string_bytes
+
+-- The components, by the fields of a value, and by what each child means.
+abbrev pub components_with : {V X : Type 0} → (V → Node-F X) → Meaning X → Components V
+components_with fields child = sequence (
+    optional (codes "label") (λ v. (fields v).label) (untagged text) ∷
+    required (codes "children") (λ v. (fields v).children) (untagged (list_type (λ children. children.items) unconstrained child)) ∷ [])
+
+-- a child that is given by the records of its components
+abbrev pub written_child : Meaning (List Record)
+written_child = inside_itself (codes "Node") is_sequence (λ records. records) (λ _. ⊤) (λ _ _. ⊤)
+
+-- the records of a node's components
+abbrev pub node_records : Node → List Record
+node_records = fold-Node (List Record) (component_records (components_with (λ n. n) written_child))
+
+-- the labels of a node and of all nodes inside it
+abbrev pub labels : Node → List (Option (String Global))
+labels = fold-Node (List (Option (String Global))) (λ n. n.label ∷ flat_map (λ inside. inside) n.children.items)
+
+-- each label that is there has what it has by its type
+abbrev pub node_is_of_type : Node → Type 0
+node_is_of_type n = All (λ label. IfSome label text.IsOfType) (labels n)
+
+-- and is valid
+abbrev pub node_is_valid : (List ℕ → Bool) → Node → Type 0
+node_is_valid takes n = All (λ label. IfSome label (text.IsValid takes)) (labels n)
+
+-- A node's components, where each child is a node.
+abbrev pub node_components : Components Node
+node_components = components_with out-Node (inside_itself (codes "Node") is_sequence node_records node_is_of_type node_is_valid)
+
+-- What a node means.
+abbrev pub node_meaning : Meaning Node
+node_meaning = holding_itself (codes "Node") node_records node_is_of_type node_is_valid node_components
+
+node_records_are : (n : Node) → node_records n ≡ component_records node_components n
+node_records_are n =
+    fold_out-Node (List Record) (component_records (components_with (λ n. n) written_child)) n
+    ∙ ap (λ children. option_records (universal 12) (option_map (own_records text) (out-Node n).label) ++ (list_records (universal 16) unconstrained (Some (codes "SEQUENCE_OF")) children ++ []))
+    (flat_map-map (own_records written_child) node_records (out-Node n).children.items)
+
+labels_are : (n : Node) → labels n ≡ (out-Node n).label ∷ flat_map labels (out-Node n).children.items
+labels_are n =
+    fold_out-Node (List (Option (String Global))) (λ n. n.label ∷ flat_map (λ inside. inside) n.children.items) n
+    ∙ ap (λ inside. (out-Node n).label ∷ inside) (flat_map-map (λ inside. inside) labels (out-Node n).children.items)
+
+each_label : (IsSo : Option (String Global) → Type 0) (n : Node) →
+    All IsSo (labels n) ↔ (IsSo (out-Node n).label × (All (λ child. All IsSo (labels child)) (out-Node n).children.items × ⊤))
+each_label IsSo n =
+    subst (λ found. All IsSo found ↔ (IsSo (out-Node n).label × (All (λ child. All IsSo (labels child)) (out-Node n).children.items × ⊤))) (sym (labels_are n))
+    (all_own_and_inside IsSo (out-Node n).label labels (out-Node n).children.items)
+
+-- A node means what its components mean.
+pub node_agrees : AgreesWithComponents node_components node_meaning
+node_agrees = record {
+  tree = λ _. refl;
+  single = tt;
+  present = λ _. refl;
+  records = λ v t c n. ap (λ components. holding (head_in is_sequence t n) components ∷ []) (node_records_are v);
+  well_tagged = λ t. (λ h. h, λ h. h);
+  of_type = each_label (λ label. IfSome label text.IsOfType);
+  valid = λ takes. each_label (λ label. IfSome label (text.IsValid takes));
+}

@@ -1,0 +1,120 @@
+//! `Node ::= SEQUENCE { label UTF8String OPTIONAL, children SEQUENCE OF Node }`
+ghost use Rattle.std.specs.List.{flat_map};
+ghost use Rattle.std.specs.Prelude.{◌≡◌, ◌+◌, [], ◌∷◌, None, Some, codes};
+ghost use Rattle.std.specs.String.{string_bytes};
+ghost use Rattle.asn1_types.specs.Words.{universal, CanStandInside, own_records, holding, sequence_head, sequence_of, scalar, mark, absent, present, units, utf8, unconstrained};
+ghost use Rattle.asn1_model.specs.Records.{highest};
+ghost use Rattle.asn1_recursive.specs.NodeComponents.{node_components, node_agrees, node_meaning};
+ghost use Rattle.asn1_recursive.specs.declared.node.Node.{out-Node};
+
+use crate::node_reader::read_node;
+use asn1_dec::{Decode, DecodeError, Decoder};
+use asn1_enc::{Encode, EncodeError, EncodeFields, Encoder};
+use asn1_types::{
+    AsnType, Constraints, ConstructedType, Field, FieldTable, Identifier, Tag, TypeTable,
+};
+use asn1_values::Utf8String;
+
+/// A tree of labels: a type that holds itself.
+#[derive(PartialEq, Eq, Debug, Drop)]
+pub struct Node {
+    /// `label UTF8String OPTIONAL`
+    pub label: Option<Utf8String>,
+    /// `children SEQUENCE OF Node`
+    pub children: Vec<Node>,
+}
+
+impl FieldTable for Node {
+    ghost components = { node_components };
+
+    fn field_count() -> usize {
+        2
+    }
+
+    fn field_at(place: usize) -> Option<Field<'static>> {
+        match place {
+            0 => Some(Field::new_optional_type::<Utf8String>(0, "label")),
+            1 => Some(Field::new_required_type::<Vec<Node>>(1, "children")),
+            _ => None,
+        }
+    }
+}
+
+impl AsnType for Node {
+    ghost meaning = { node_meaning };
+
+    fn table() -> TypeTable {
+        TypeTable::new(Tag::SEQUENCE, Identifier(Some("Node")))
+    }
+
+    fn is_present(&self) -> bool {
+        true
+    }
+}
+
+impl ConstructedType for Node {
+    ghost agrees = { node_agrees };
+}
+
+/// A `Node` can be inside other types: the tags of its components are distinct.
+pub fn node_can_stand_inside()
+    ensures { CanStandInside ⟦<Node as AsnType>⟧.meaning }
+{}
+
+impl Encode for Node {
+    #[cycle(node)]
+    fn encode_with_tag_and_constraints<E: Encoder>(
+        &self,
+        encoder: &mut E,
+        tag: Tag,
+        _constraints: &Constraints<'_>,
+        name: Identifier,
+    ) -> Result<(), EncodeError> {
+        encoder.encode_sequence(tag, self, name)
+    }
+}
+
+impl EncodeFields for Node {
+    #[cycle(node)]
+    fn encode_field<E: Encoder>(&self, place: usize, encoder: &mut E) -> Result<(), EncodeError> {
+        match place {
+            0 => self.label.encode(encoder),
+            1 => self.children.encode(encoder),
+            _ => Ok(()),
+        }
+    }
+}
+
+impl Decode for Node {
+    fn decode_with_tag_and_constraints<D: Decoder>(
+        decoder: &mut D,
+        tag: Tag,
+        _constraints: &Constraints<'_>,
+    ) -> Result<Node, DecodeError> {
+        read_node(decoder, tag)
+    }
+}
+
+/// What `Node { label: None, children: [Node { label: Some(label), children: [] }] }` is to every codec.
+pub fn node_records(parent: &Node, child: &Node, label: &Utf8String)
+    ensures { (out-Node parent.now).label ≡ None → (out-Node parent.now).children.items ≡ child.now ∷ [] →
+        (out-Node child.now).label ≡ Some label.now → (out-Node child.now).children.items ≡ [] →
+        own_records ⟦<Node as AsnType>⟧.meaning parent.now ≡
+        holding (sequence_head (universal 16) (Some (codes "Node"))) (
+        mark (absent (universal 12)) ∷
+        holding (sequence_of (universal 16) unconstrained (Some (codes "SEQUENCE_OF"))) (
+        holding (sequence_head (universal 16) (Some (codes "Node"))) (
+        mark (present (universal 12)) ∷
+        scalar (universal 12) unconstrained (Some (codes "UTF8String")) (units utf8 (string_bytes label.now)) ∷
+        holding (sequence_of (universal 16) unconstrained (Some (codes "SEQUENCE_OF"))) [] ∷ []) ∷ []) ∷ []) ∷ [] }
+{}
+
+/// How many records are in one another in a node: two more than in its children, which are in a SEQUENCE and in a SEQUENCE OF.
+/// So many scopes have to be open at once to write it.
+#[tactic(auto, using(crate::proofs::NodeHeights::node_height))]
+pub fn node_is_two_higher_than_its_children(node: &Node)
+    ensures height { highest (own_records ⟦<Node as AsnType>⟧.meaning node.now) ≡
+        highest (flat_map (own_records ⟦<Node as AsnType>⟧.meaning) (out-Node node.now).children.items) + 2 }
+    ensures without_children { (out-Node node.now).children.items ≡ [] →
+        highest (own_records ⟦<Node as AsnType>⟧.meaning node.now) ≡ 2 }
+{}

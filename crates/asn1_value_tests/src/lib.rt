@@ -1,0 +1,26 @@
+//! Tests of the public calls of the crates below `asn1_model`: `asn1_values`, `asn1_tags`, `asn1_ranges` and `asn1_bounds`.
+//!
+//! A crate that has tests is proved twice, so those that need no private item are together here, and the crates below are
+//! proved once. They try what no contract says: values from outside (worked examples, a standard's tables, the ends of each
+//! built-in integer), printed texts, and that each call which allocates succeeds where there is memory. Tests whose names
+//! begin with `a_refused_` hold where an allocation fails too.
+//!
+//! | Module | What it tries |
+//! |---|---|
+//! | `values` | whole numbers, strings, errors |
+//! | `tags` | classes, tags, names of types, trees of tags; lists of tags with a table or none |
+//! | `ranges` | bounds of whole numbers |
+//! | `bounds` | the kinds of constraint, constraint sets and their tables, constraints of components |
+//!
+//! A test is a list of calls of helpers; a helper makes one value, asserts, and drops it, which is the form that takes least
+//! to prove.
+#![tactic(auto)]
+
+#[cfg(test)]
+mod bounds;
+#[cfg(test)]
+mod ranges;
+#[cfg(test)]
+mod tags;
+#[cfg(test)]
+mod values;
