@@ -8,3 +8,4 @@ pub mod Kinds
 pub mod TypeTables
 pub mod OneRecord
 pub mod TaggedTypes
+pub mod Premises

@@ -9,6 +9,7 @@ ghost use Rattle.asn1_model.specs.Meaning.{own_records};
 ghost use Rattle.asn1_model.specs.Records.{arcs, bits, units, octet, visible, general, graphic, ia5, printable, numeric, teletex, bmp, null, scalar};
 ghost use Rattle.asn1_model.specs.Tags.{universal};
 
+mod premises;
 mod records;
 
 use crate::asn_type::AsnType;
@@ -23,6 +24,10 @@ use crate::type_table::{TreeForm, TypeTable};
 use asn1_values::{
     BitString, BmpString, GeneralString, GraphicString, Ia5String, NumericString, ObjectIdentifier,
     OctetString, PrintableString, TeletexString, VisibleString,
+};
+pub use premises::{
+    holders_are_tagged_as_their_contents, holders_are_valid_as_their_contents,
+    plain_types_have_one_tag, plain_values_are_valid,
 };
 pub use records::{
     holders_have_the_records_of_their_contents, numbers_have_their_records,
