@@ -16,6 +16,8 @@ ghost use Rattle.asn1_types.specs.declared.explicit.Explicit.{Explicit};
 ghost use Rattle.asn1_types.specs.declared.implicit.Implicit.{Implicit};
 ghost use Rattle.asn1_types.specs.declared.instance_of.InstanceOf.{InstanceOf};
 
+mod premises;
+
 use crate::any::Any;
 use crate::array::Array;
 use crate::explicit::Explicit;
@@ -25,6 +27,7 @@ use crate::set_of::SetOf;
 use asn1_components::FieldTable;
 use asn1_fields::FieldPresence;
 use asn1_model::AsnType;
+pub use premises::{types_are_tagged_as_their_contents, values_are_valid_as_their_contents};
 use std::hash::Hash;
 
 /// Laws of the derived traits. Values under another tag are compared, hashed and cloned as the values that they hold,
