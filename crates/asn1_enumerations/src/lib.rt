@@ -11,6 +11,7 @@
 //! | [`EnumeratedTable`] | the numbers and names of such a type's items, in their places: what a codec may know of the type |
 //! | [`VariantIter`], [`DiscriminantIter`], [`ItemIdentifierIter`] | the values of a table, these with their numbers, and the names |
 //! | [`EnumeratedType`], [`written_number`] | an `Enumerated` type of ASN.1 whose meaning is that of its items, and the number in the records of a value |
+//! | [`laws`] | what the iterators give, and what a clone of a line is |
 //!
 //! What the contracts promise, and the words that they use:
 //!
@@ -37,6 +38,7 @@ mod enumerated_table;
 mod enumerated_type;
 mod items;
 mod iterators;
+pub mod laws;
 
 pub use enumerated::Enumerated;
 pub use enumerated_table::EnumeratedTable;

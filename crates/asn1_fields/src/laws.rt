@@ -1,4 +1,5 @@
 //! Laws of the traits that are derived, or written beside a derive, and of loops.
+ghost use Rattle.std.specs.Iterator.{YieldsFirst, YieldsFirstBy};
 ghost use Rattle.std.specs.Prelude.{◌≡◌, ◌↔◌, IsTrue};
 ghost use Rattle.asn1_tags.specs.Derives.{ClonesAll};
 ghost use Rattle.asn1_fields.specs.Entries.{entry_of};
@@ -46,4 +47,15 @@ pub fn loops_give_every_field<'a, const N: usize>(_table: &'a Fields<'a, N>)
         fields_left fields ≡ fields_of _table.entry.now }
     ensures by_reference { (fields : FieldIter) → ⟦<&'a Fields<'a, N> as IntoIterator>⟧.into_iter_gives _table.entry fields →
         fields_left fields ≡ fields_of _table.entry.now }
+{}
+
+/// A law of the iterators of a table: each gives the first of what is left, and the next time what follows.
+pub fn iterators_give_what_is_left()
+    ensures fields { (s t : FieldIter) (item : _) →
+        ⟦<FieldIter<'static> as Iterator>⟧.next_gives s item t → YieldsFirst fields_left s item t }
+    ensures optional { (s t : OptionalFieldIter) (item : _) →
+        ⟦<OptionalFieldIter<'static> as Iterator>⟧.next_gives s item t → YieldsFirst optional_left s item t }
+    ensures names { (s t : IdentifierIter) (item : _) →
+        ⟦<IdentifierIter<'static> as Iterator>⟧.next_gives s item t →
+        YieldsFirstBy (λ name. name.now) names_left s item t }
 {}

@@ -1,5 +1,7 @@
 //! The texts of errors.
 use asn1_dec::{DecodeError, Needed};
+use asn1_enc::EncodeError;
+use asn1_schema::RoundTripError;
 use asn1_tags::Tag;
 use std::alloc::Global;
 use std::process::Abort;
@@ -79,4 +81,18 @@ fn errors_say_what_was_found(rt: HostRuntime) {
     assert_text(&rt, alloc, DecodeError::Depth, "nested too deep");
     assert_text(&rt, alloc, DecodeError::Failed, "the decoder has failed");
     assert_text(&rt, alloc, DecodeError::OutOfRange, "value out of range");
+}
+
+fn assert_round_trip_text(rt: &impl Abort, alloc: Global, error: RoundTripError, text: &str) {
+    let written = error.to_string(alloc).expect(rt, "memory");
+    assert!(rt; written.as_str() == text);
+}
+
+#[test]
+fn round_trips_say_which_half_failed(rt: HostRuntime) {
+    let alloc = rt.alloc();
+    let writing = RoundTripError::Writing(EncodeError::Depth);
+    assert_round_trip_text(&rt, alloc, writing, "not written: nested too deep");
+    let reading = RoundTripError::Reading(DecodeError::Memory);
+    assert_round_trip_text(&rt, alloc, reading, "not read back: no memory");
 }

@@ -9,10 +9,10 @@ use asn1_dec::{Decode, DecodeError, Decoder, Needed};
 use asn1_enc::{Encode, Encoder};
 use asn1_record_decoder::RecordDecoder;
 use asn1_records::{Content, Head, Record};
-use asn1_samples::{Badge, Color, Corner, Plate};
+use asn1_recursive::Node;
+use asn1_samples::{Badge, Color, Corner, Plate, Shape};
 use asn1_schema::{Array, RoundTripError, Rules, round_trip};
 use asn1_tags::Tag;
-use asn1_recursive::Node;
 use asn1_types::{Explicit, tag};
 use asn1_values::{ConstrainedInteger, Integer};
 use std::alloc::{AllocError, Global};
@@ -155,6 +155,12 @@ fn what_is_no_item_and_no_alternative_is_refused(rt: HostRuntime) {
         alternative(&rt, alloc, Tag::NULL),
         DecodeError::NoValidChoice("Corner"),
     );
+    assert_refused::<Shape>(
+        &rt,
+        alloc,
+        alternative(&rt, alloc, Tag::REAL),
+        DecodeError::NoValidChoice("Shape"),
+    );
 }
 
 /// Asserts why a SET of these components is no badge.
@@ -172,6 +178,8 @@ fn a_set_has_its_components_and_no_other(rt: HostRuntime) {
         DecodeError::DuplicateField("label"),
     );
     assert_no_badge(&rt, alloc, &[2, 2], DecodeError::DuplicateField("shape"));
+    assert_no_badge(&rt, alloc, &[0, 0, 2], DecodeError::DuplicateField("id"));
+    assert_no_badge(&rt, alloc, &[], DecodeError::MissingField("id"));
     assert_no_badge(&rt, alloc, &[1], DecodeError::MissingField("id"));
     assert_no_badge(&rt, alloc, &[0], DecodeError::MissingField("shape"));
     let unknown = DecodeError::UnknownField {

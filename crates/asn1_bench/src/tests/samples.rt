@@ -2,11 +2,11 @@
 use crate::tests::values::{
     alone, assert_back, assert_round_trip, assert_written, own, spelled, text,
 };
+use asn1_recursive::Node;
 use asn1_samples::{
     Badge, Color, Contact, Corner, Envelope, Labelled, Person, Plate, Profile, Settings, Shape,
     Visit,
 };
-use asn1_recursive::Node;
 use asn1_types::Any;
 use asn1_values::{Integer, OctetString};
 use std::alloc::Global;

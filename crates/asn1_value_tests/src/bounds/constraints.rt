@@ -94,6 +94,19 @@ fn intersects_sets(rt: HostRuntime) {
     assert_common(&rt, alloc, &left, &right);
 }
 
+/// Asserts what a copy of the set of these characters permits.
+fn assert_copied(rt: &impl Abort, alloc: Global, characters: &[u32]) {
+    let table = ConstraintTable::NONE.with_permitted_alphabet(LETTERS);
+    let set = table.to_constraints(alloc).expect(rt, "memory");
+    let copy = set.try_clone(alloc).expect(rt, "memory");
+    assert_characters(rt, &copy, characters);
+}
+
+#[test]
+fn copies_a_set(rt: HostRuntime) {
+    assert_copied(&rt, rt.alloc(), LETTERS);
+}
+
 /// Asserts that a copy, where there is memory for it, permits the letters.
 fn assert_copy(rt: &impl Abort, alloc: Global, letters: &Constraints) {
     if let Ok(copy) = letters.try_clone(alloc) {
