@@ -116,7 +116,9 @@ impl Integer {
     }
 
     /// The same number again.
-    pub(crate) fn try_clone(&self, alloc: Global) -> Result<Self, AllocError>
+    ///
+    /// Fails only where the allocator refuses room for it; a number of an `i128` takes none.
+    pub fn try_clone(&self, alloc: Global) -> Result<Self, AllocError>
         ensures number { IfOk result (λ copy. copy ≡ self.now) }
         ensures succeeds { FitsSigned w128 self.now → IsOk result }
     {

@@ -171,6 +171,14 @@ pub fn integers_are_made_and_written_by_number()
     ensures of_i128 { (n z : ℤ) → ⟦<Integer as From<i128>>⟧.from_gives n z ↔ (z ≡ n) }
     ensures of_u64 { (n : ℕ) (z : ℤ) → ⟦<Integer as From<u64>>⟧.from_gives n z ↔ (z ≡ pos n) }
     ensures of_u8 { (n : ℕ) (z : ℤ) → ⟦<Integer as From<u8>>⟧.from_gives n z ↔ (z ≡ pos n) }
+    ensures of_u16 { (n : ℕ) (z : ℤ) → ⟦<Integer as From<u16>>⟧.from_gives n z ↔ (z ≡ pos n) }
+    ensures of_u32 { (n : ℕ) (z : ℤ) → ⟦<Integer as From<u32>>⟧.from_gives n z ↔ (z ≡ pos n) }
+    ensures of_usize { (n : ℕ) (z : ℤ) → ⟦<Integer as From<usize>>⟧.from_gives n z ↔ (z ≡ pos n) }
+    ensures of_i8 { (n z : ℤ) → ⟦<Integer as From<i8>>⟧.from_gives n z ↔ (z ≡ n) }
+    ensures of_i16 { (n z : ℤ) → ⟦<Integer as From<i16>>⟧.from_gives n z ↔ (z ≡ n) }
+    ensures of_i32 { (n z : ℤ) → ⟦<Integer as From<i32>>⟧.from_gives n z ↔ (z ≡ n) }
+    ensures of_i64 { (n z : ℤ) → ⟦<Integer as From<i64>>⟧.from_gives n z ↔ (z ≡ n) }
+    ensures of_isize { (n z : ℤ) → ⟦<Integer as From<isize>>⟧.from_gives n z ↔ (z ≡ n) }
     ensures text { (z : ℤ) → ⟦<Integer as Display>⟧.output z ≡ Some (integer_text z) }
     ensures styled { (z : ℤ) (options : _) → IsTrue (is_narrow z) → ⟦<Integer as Display>⟧.styled_output z options ≡ Some (styled_signed_decimal options z) }
 {}
