@@ -38,3 +38,18 @@ pub fn derives_take_every_part()
     ensures error_eq { ComparesAll ⟦<VariantsError as PartialEq>⟧.eq }
     ensures error_clone { ClonesAll ⟦<VariantsError as Clone>⟧.is_clone ⟦<VariantsError as Clone>⟧.is_infallible }
 {}
+
+/// What `tag!` gives for each of its four forms, in the order of the classes.
+pub fn tags_by_class_and_number(number: u32) -> (Tag, Tag, Tag, Tag)
+    ensures universal { result.0 ≡ record { class = Class.Universal; value = number } }
+    ensures application { result.1 ≡ record { class = Class.Application; value = number } }
+    ensures context { result.2 ≡ record { class = Class.Context; value = number } }
+    ensures private { result.3 ≡ record { class = Class.Private; value = number } }
+{
+    (
+        crate::tag!(universal number),
+        crate::tag!(application number),
+        crate::tag!(context number),
+        crate::tag!(private number),
+    )
+}

@@ -7,7 +7,7 @@
 //! | Type | What it is |
 //! |---|---|
 //! | [`Class`] | one of the four classes of tags |
-//! | [`Tag`] | a class and a number, with a constant for each type of X.680 |
+//! | [`Tag`], `tag!` | a class and a number, with a constant for each type of X.680; a macro that writes one |
 //! | [`TagTree`] | the tags with which a type's encoding can begin: a tag, or the trees of a CHOICE |
 //! | [`Variants`] | the tags of trees in one list, with a table for quick look-ups or none |
 //! | [`VariantsError`] | why there is no list with a table |

@@ -108,3 +108,32 @@ impl fmt::Display for Tag {
         write!(f, "{class} {value}")
     }
 }
+
+/// A tag by its class and its number, as ASN.1 writes it and as an expression that a constant can have: `tag!(context 0)`.
+#[macro_export]
+macro_rules! tag {
+    (universal $value:expr) => {
+        $crate::Tag {
+            class: $crate::Class::Universal,
+            value: $value,
+        }
+    };
+    (application $value:expr) => {
+        $crate::Tag {
+            class: $crate::Class::Application,
+            value: $value,
+        }
+    };
+    (context $value:expr) => {
+        $crate::Tag {
+            class: $crate::Class::Context,
+            value: $value,
+        }
+    };
+    (private $value:expr) => {
+        $crate::Tag {
+            class: $crate::Class::Private,
+            value: $value,
+        }
+    };
+}

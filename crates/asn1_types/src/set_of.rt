@@ -73,6 +73,17 @@ impl<T> SetOf<T> {
         self.elements.push(element).map_err(|failed| failed.value)
     }
 
+    /// Puts the element last, as `insert` does, with an error that `?` takes. Fails only where the allocator refuses room for
+    /// it; the element is dropped then.
+    pub fn try_insert(&mut self, element: T) -> Result<(), AllocError>
+    where
+        T: Drop,
+        ensures inserted { OnOk result (self.new ≡ self.old ++ element ∷ []) }
+        ensures unchanged { OnErr result (self.new ≡ self.old) }
+    {
+        self.insert(element).map_err(|_element| AllocError)
+    }
+
     /// How many elements there are.
     pub fn len(&self) -> usize
         ensures { result ≡ length self.now }

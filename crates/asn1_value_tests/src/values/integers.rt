@@ -174,3 +174,16 @@ fn numbers_are_written_in_columns(rt: HostRuntime) {
     let written = format!(in rt.alloc(); "{number:>5}").expect(&rt, "memory");
     assert!(rt; written.as_str() == "  -42");
 }
+
+/// Asserts that a copy of this number is the same number.
+fn assert_copied(rt: &impl Abort, alloc: Global, is_negative: bool, magnitude: &[u8]) {
+    let made = number(rt, alloc, is_negative, magnitude);
+    let copy = made.try_clone(alloc).expect(rt, "memory");
+    assert!(rt; copy == made);
+}
+
+#[test]
+fn numbers_are_copied(rt: HostRuntime) {
+    assert_copied(&rt, rt.alloc(), true, &[7]);
+    assert_copied(&rt, rt.alloc(), false, &[1; 17]);
+}
