@@ -11,6 +11,8 @@ ghost use Rattle.std.specs.String.{string_bytes, string_eq};
 ghost use Rattle.asn1_samples.specs.declared.labelled.Labelled.{Labelled};
 ghost use Rattle.asn1_tags.specs.Derives.{ClonesAll, ComparesAll};
 
+mod validity;
+
 use crate::badge::Badge;
 use crate::color::Color;
 use crate::contact::Contact;
@@ -25,6 +27,9 @@ use crate::shape::Shape;
 use crate::visit::Visit;
 use asn1_types::{Choice, Enumerated, FieldTable};
 use std::hash::Hash;
+pub use validity::{
+    each_alternative_is_valid, each_value_is_valid, groups_that_write_a_component_are_valid,
+};
 
 /// A law of the tables: the names of the components, in the order of the table.
 pub fn components_have_their_names()
