@@ -5,8 +5,8 @@
 //! | [`Rules`] | a codec as a whole: what a value becomes, and how that is read |
 //! | [`round_trip`] | writes a value and reads it back |
 //! | [`RoundTripError`] | which of the two failed |
-//! | [`UniversalString`] | the kind of string that is a tagged UTF8String |
-//! | [`laws`] | what the derives of the error give |
+//! | [`UniversalString`], [`UtcTime`], [`GeneralizedTime`], [`ObjectDescriptor`] | the kinds of string that are another kind under a tag |
+//! | [`laws`] | what the derives of the error give, and which kind of string each name is |
 //!
 //! The types and traits of the crates below that an author of types or of a codec needs are handed on, so that code names this
 //! crate alone.
@@ -28,28 +28,119 @@
 pub mod laws;
 mod round_trips;
 mod rules;
-mod universal_string;
+mod tagged_strings;
 
-pub use asn1_bounds::{
-    Codec, Constraint, ConstraintDiscriminant, InnerSubtypeConstraint, InnerSubtypeConstraintError,
-};
-pub use asn1_dec::{
-    Decode, DecodeChoice, DecodeError, DecodeFields, DecodeSet, Decoder, Needed, keep_once,
-};
-pub use asn1_enc::{Encode, EncodeChoice, EncodeError, EncodeFields, Encoder, EnumeratedValue};
-pub use asn1_enumerations::{EnumeratedTable, item};
-pub use asn1_types::{
-    Any, Array, AsnType, Bounded, Choice, ChoiceType, Class, ConstraintTable, Constraints,
-    Constructed, ConstructedType, Enumerated, EnumeratedType, EnumerationItem, Explicit,
-    Extensible, Field, FieldPresence, FieldTable, Fields, Identifier, Implicit, InstanceOf,
-    PermittedAlphabet, SequenceOf, SetOf, Size, Tag, TagTree, TypeTable, Value, tag,
-};
-pub use asn1_values::{
-    Alphabet, AlphabetError, AlphabetString, BitString, BmpString, ConstrainedInteger,
-    GeneralString, GraphicString, Ia5String, Integer, IntegerType, LimitedInteger, Limits,
-    NumericString, ObjectIdentifier, OctetString, PrintableString, TeletexString, Utf8String,
-    VisibleString,
-};
-pub use round_trips::{RoundTripError, round_trip};
+pub use asn1_bounds::Codec;
+pub use asn1_bounds::Constraint;
+pub use asn1_bounds::ConstraintDiscriminant;
+pub use asn1_bounds::FitsI128;
+pub use asn1_bounds::InnerSubtypeConstraint;
+pub use asn1_bounds::InnerSubtypeConstraintError;
+pub use asn1_bounds::TooWide;
+pub use asn1_bounds::WholeNumber;
+pub use asn1_dec::Decode;
+pub use asn1_dec::DecodeChoice;
+pub use asn1_dec::DecodeError;
+pub use asn1_dec::DecodeFields;
+pub use asn1_dec::DecodeSet;
+pub use asn1_dec::Decoder;
+pub use asn1_dec::Needed;
+pub use asn1_dec::keep_once;
+pub use asn1_enc::Encode;
+pub use asn1_enc::EncodeChoice;
+pub use asn1_enc::EncodeError;
+pub use asn1_enc::EncodeFields;
+pub use asn1_enc::Encoder;
+pub use asn1_enc::EnumeratedValue;
+pub use asn1_enumerations::EnumeratedTable;
+pub use asn1_enumerations::item;
+pub use asn1_tags::Variants;
+pub use asn1_tags::VariantsError;
+pub use asn1_types::Any;
+pub use asn1_types::Array;
+pub use asn1_types::AsnType;
+pub use asn1_types::Bounded;
+pub use asn1_types::Choice;
+pub use asn1_types::ChoiceType;
+pub use asn1_types::Class;
+pub use asn1_types::ConstraintTable;
+pub use asn1_types::Constraints;
+pub use asn1_types::Constructed;
+pub use asn1_types::ConstructedType;
+pub use asn1_types::DiscriminantIter;
+pub use asn1_types::Enumerated;
+pub use asn1_types::EnumeratedType;
+pub use asn1_types::EnumerationItem;
+pub use asn1_types::Explicit;
+pub use asn1_types::Extensible;
+pub use asn1_types::Field;
+pub use asn1_types::FieldIter;
+pub use asn1_types::FieldPresence;
+pub use asn1_types::FieldTable;
+pub use asn1_types::Fields;
+pub use asn1_types::Identifier;
+pub use asn1_types::IdentifierIter;
+pub use asn1_types::Implicit;
+pub use asn1_types::InstanceOf;
+pub use asn1_types::ItemIdentifierIter;
+pub use asn1_types::OptionalFieldIter;
+pub use asn1_types::PermittedAlphabet;
+pub use asn1_types::SequenceOf;
+pub use asn1_types::SetOf;
+pub use asn1_types::Size;
+pub use asn1_types::StringType;
+pub use asn1_types::Tag;
+pub use asn1_types::TagTree;
+pub use asn1_types::TreeForm;
+pub use asn1_types::TypeTable;
+pub use asn1_types::Value;
+pub use asn1_types::VariantIter;
+pub use asn1_types::at_most_one_rearrangement_is_canonical;
+pub use asn1_types::components_are_told_apart;
+pub use asn1_types::equal_sets_have_the_same_elements;
+pub use asn1_types::field_in;
+pub use asn1_types::first_sequence_clash;
+pub use asn1_types::first_set_clash;
+pub use asn1_types::is_canonical;
+pub use asn1_types::order_inside_sets_is_not_seen;
+pub use asn1_types::tables_are_in_order;
+pub use asn1_types::tag;
+pub use asn1_types::the_chosen_tag_tells_the_alternative;
+pub use asn1_types::written_number;
+pub use asn1_values::Alphabet;
+pub use asn1_values::AlphabetError;
+pub use asn1_values::AlphabetString;
+pub use asn1_values::Between;
+pub use asn1_values::BitStr;
+pub use asn1_values::BitString;
+pub use asn1_values::BmpString;
+pub use asn1_values::ConstrainedInteger;
+pub use asn1_values::GeneralString;
+pub use asn1_values::GraphicString;
+pub use asn1_values::Ia5String;
+pub use asn1_values::Integer;
+pub use asn1_values::IntegerType;
+pub use asn1_values::LimitedInteger;
+pub use asn1_values::Limits;
+pub use asn1_values::NumericString;
+pub use asn1_values::ObjectIdentifier;
+pub use asn1_values::OctetString;
+pub use asn1_values::OutOfRangeError;
+pub use asn1_values::PrintableString;
+pub use asn1_values::StringUnit;
+pub use asn1_values::TeletexString;
+pub use asn1_values::UnitString;
+pub use asn1_values::Utf8String;
+pub use asn1_values::VisibleString;
+pub use asn1_values::kind;
+pub use round_trips::RoundTripError;
+pub use round_trips::round_trip;
 pub use rules::Rules;
-pub use universal_string::{UniversalString, universal_string_is_a_tagged_text};
+pub use tagged_strings::GeneralizedTime;
+pub use tagged_strings::ObjectDescriptor;
+pub use tagged_strings::UniversalString;
+pub use tagged_strings::UtcTime;
+pub use tagged_strings::generalized_time_is_a_tagged_text;
+pub use tagged_strings::object_descriptor_is_a_tagged_text;
+pub use tagged_strings::universal_string_is_a_tagged_text;
+pub use tagged_strings::utc_time_is_a_tagged_text;
