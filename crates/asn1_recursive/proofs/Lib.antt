@@ -1,2 +1,3 @@
 pub mod NodeHeights
 pub mod NodeLaws
+pub mod Validity

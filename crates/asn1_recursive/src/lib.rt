@@ -1,27 +1,39 @@
-//! A sample type that holds itself, written and read.
+//! Sample types that hold themselves. One of them is written and read.
 //!
 //! | Item | What it is |
 //! |---|---|
-//! | [`Node`] | a SEQUENCE with a list of its own type inside |
-//! | [`laws`] | the names of the components, and which nodes are equal |
+//! | [`Node`] | a SEQUENCE with a list of its own type inside; it is written and read |
+//! | [`Filter`] | a CHOICE with sets of its own type inside: the filters of LDAP, cut down |
+//! | [`Nested`] | a CHOICE with its own type inside, under a tag |
+//! | [`laws`] | the names of a node's components, and which nodes are equal |
 //!
 //! What the contracts promise:
 //!
-//! - The type states its components by what is inside a value. `specs/NodeComponents.antt` has the form: the records follow by a
+//! - Each type can be inside other types (`node_can_stand_inside`, `filter_can_stand_inside`, `nested_can_stand_inside`), and
+//!   each value of it is valid (`each_node_is_valid`, `each_filter_is_valid`, `each_nested_is_valid`).
+//! - A CHOICE says by recursion on a value what the chosen alternative says of it (`specs/FilterAlternatives.antt` and
+//!   `specs/NestedAlternatives.antt`). Tables and meaning are proved to say the same.
+//! - A `Node` states its components by what is inside a value. `specs/NodeComponents.antt` has the form: the records follow by a
 //!   fold, and what a value has by its type is said of all labels inside it. Tables, meaning and writer are proved to say the
 //!   same.
-//! - It can be inside other types (`node_can_stand_inside`), and its records are written out (`node_records`,
-//!   `node_is_two_higher_than_its_children`).
-//! - It is read by two functions that call each other. Each node opens two scopes, so the allowance of the decoder ends the
+//! - The records of a `Node` are written out (`node_records`, `node_is_two_higher_than_its_children`).
+//! - A `Node` is read by two functions that call each other. Each node opens two scopes, so the allowance of the decoder ends the
 //!   recursion, whatever the input.
-//! - [`laws`] says when two values are equal, and which names the table has.
+//! - [`laws`] says when two nodes are equal, and which names the table has.
 //!
 //! The prover wants such a type, its tables, its writer and its reader in one crate. A call takes memory where a codec does,
 //! and reading for the labels and the lists of children.
 #![tactic(auto, using(asn1_tags::proofs::Leaves::tree_shapes))]
 
+mod filter;
 pub mod laws;
+mod nested;
 mod node;
 mod node_reader;
 
-pub use node::{Node, node_can_stand_inside, node_is_two_higher_than_its_children, node_records};
+pub use filter::{Filter, each_filter_is_valid, filter_can_stand_inside};
+pub use nested::{Nested, each_nested_is_valid, nested_can_stand_inside};
+pub use node::{
+    Node, each_node_is_valid, node_can_stand_inside, node_is_two_higher_than_its_children,
+    node_records,
+};

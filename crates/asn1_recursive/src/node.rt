@@ -1,6 +1,6 @@
 //! `Node ::= SEQUENCE { label UTF8String OPTIONAL, children SEQUENCE OF Node }`
 ghost use Rattle.std.specs.List.{flat_map};
-ghost use Rattle.std.specs.Prelude.{◌≡◌, ◌+◌, [], ◌∷◌, None, Some, codes};
+ghost use Rattle.std.specs.Prelude.{◌≡◌, ◌+◌, Bool, List, [], ◌∷◌, None, Some, codes, ℕ};
 ghost use Rattle.std.specs.String.{string_bytes};
 ghost use Rattle.asn1_types.specs.Words.{universal, CanStandInside, own_records, holding, sequence_head, sequence_of, scalar, mark, absent, present, units, utf8, unconstrained};
 ghost use Rattle.asn1_model.specs.Records.{highest};
@@ -59,6 +59,12 @@ impl ConstructedType for Node {
 /// A `Node` can be inside other types: the tags of its components are distinct.
 pub fn node_can_stand_inside()
     ensures { CanStandInside ⟦<Node as AsnType>⟧.meaning }
+{}
+
+/// Each `Node` is valid, whatever labels it holds.
+#[tactic(auto, using(crate::proofs::Validity::each_node_valid))]
+pub fn each_node_is_valid(node: &Node)
+    ensures { (takes : List ℕ → Bool) → ⟦<Node as AsnType>⟧.meaning.IsValid takes node.now }
 {}
 
 impl Encode for Node {

@@ -1,0 +1,103 @@
+-- Filter ::= CHOICE { and [0] SET OF Filter, or [1] SET OF Filter, not [2] Filter, present [7] OCTET STRING }
+use Rattle.std.specs.Prelude.{◌↔◌, ℕ, ⊤, List, [], ◌∷◌, ◌++◌, Some, All, codes, refl}
+use Rattle.std.proofs.Common.{ap, inl, inr}
+use Rattle.std.proofs.lemmas.List.Elements.{All-nil, All-cons, All-head, All-tail}
+use Rattle.std.specs.List.{flat_map}
+use Rattle.asn1_tags.specs.declared.tags.Tag.{Tag}
+use Rattle.asn1_model.specs.Composites.{set_of_records}
+use Rattle.asn1_model.specs.ConstraintSets.{unconstrained}
+use Rattle.asn1_model.specs.Kinds.{string_type}
+use Rattle.asn1_model.specs.Meaning.{Meaning, own_records}
+use Rattle.asn1_model.specs.contracts.strings.OctetsStringTypeU8.TheImpl.{ghosts as octets}
+use Rattle.asn1_values.specs.contracts.strings.string_unit.U8StringUnit.TheImpl.{ghosts as octet}
+use Rattle.asn1_model.specs.TaggedTypes.{tagged}
+use Rattle.asn1_model.specs.Tags.{CHOICE, context}
+use Rattle.asn1_choices.specs.Alternatives.{Alternatives, OneOf, SaysTheSame, ValueMeaning, all_of, alternative, chosen_meaning, closed, says_itself, value_meaning}
+use Rattle.asn1_choices.specs.ChoiceTypes.{inside_itself, itself_under}
+use Rattle.asn1_types.specs.Kinds.{set_of_type}
+use Rattle.asn1_recursive.specs.declared.filter.Filter.{Filter, And', Or', Not', Present, Row_of-Filter, end_of-Filter, more_of-Filter, items-the_row-Filter}
+
+-- what the name of an attribute means
+abbrev pub octet_string : Meaning (List ℕ)
+octet_string = string_type octets.own_tag octets.own_name octet.IsInRange octets.content
+
+-- what no elements say together
+abbrev pub none_say : ValueMeaning
+none_say = record { records = []; IsOfType = ⊤; IsValid = λ _. ⊤ }
+
+-- what an element and those after it say together
+abbrev pub both_say : ValueMeaning → ValueMeaning → ValueMeaning
+both_say one rest = record {
+  records = one.records ++ rest.records;
+  IsOfType = one.IsOfType × rest.IsOfType;
+  IsValid = λ takes. one.IsValid takes × rest.IsValid takes;
+}
+
+-- what a set under this tag says, by what its elements say together
+abbrev pub set_says : Tag → ValueMeaning → ValueMeaning
+set_says t elements = record elements { records = set_of_records t unconstrained (Some (codes "SET_OF")) elements.records }
+
+-- what the chosen alternative says of each filter
+abbrev mutual
+  pub filter_means : Filter → ValueMeaning
+  filter_means (And' shape filters) = set_says (context 0) (filters_mean filters)
+  filter_means (Or' shape filters) = set_says (context 1) (filters_mean filters)
+  filter_means (Not' place inner) = itself_under (codes "Filter") (context 2) (filter_means inner)
+  filter_means (Present name) = value_meaning (tagged (context 7) octet_string) name
+
+  pub filters_mean : {m : _} → Row_of-Filter m → ValueMeaning
+  filters_mean end_of-Filter = none_say
+  filters_mean (more_of-Filter filter rest) = both_say (itself_under (codes "Filter") CHOICE (filter_means filter)) (filters_mean rest)
+
+-- a filter inside another
+abbrev pub inner_filter : Meaning Filter
+inner_filter = inside_itself (codes "Filter") filter_means
+
+abbrev pub filter_alternatives : Alternatives
+filter_alternatives = closed (
+    alternative (codes "and") (tagged (context 0) (set_of_type (λ filters. filters) inner_filter)) ∷
+    alternative (codes "or") (tagged (context 1) (set_of_type (λ filters. filters) inner_filter)) ∷
+    alternative (codes "not") (tagged (context 2) inner_filter) ∷
+    alternative (codes "present") (tagged (context 7) octet_string) ∷ [])
+
+abbrev pub filter_pick : Filter → OneOf (all_of filter_alternatives)
+filter_pick (And' shape filters) = inl (items-the_row-Filter _ filters)
+filter_pick (Or' shape filters) = inr (inl (items-the_row-Filter _ filters))
+filter_pick (Not' place inner) = inr (inr (inl inner))
+filter_pick (Present name) = inr (inr (inr (inl name)))
+
+-- what a list of filters says together
+abbrev together : List Filter → ValueMeaning
+together filters = record {
+  records = flat_map (own_records inner_filter) filters;
+  IsOfType = All inner_filter.IsOfType filters;
+  IsValid = λ takes. All (inner_filter.IsValid takes) filters;
+}
+
+each_of : {X : Type 0} (P : X → Type 0) (x : X) (xs : List X) {Rest : Type 0} → Rest ↔ All P xs → (P x × Rest) ↔ All P (x ∷ xs)
+each_of P x xs rest = (λ h. All-cons P x xs h.0 (rest.0 h.1), λ h. (All-head P x xs h, rest.1 (All-tail P x xs h)))
+
+filters_agree : {m : _} (filters : Row_of-Filter m) → SaysTheSame (filters_mean filters) (together (items-the_row-Filter m filters))
+filters_agree end_of-Filter = record {
+  records = refl;
+  of_type = (λ _. All-nil inner_filter.IsOfType, λ _. tt);
+  valid = λ takes. (λ _. All-nil (inner_filter.IsValid takes), λ _. tt);
+}
+filters_agree (more_of-Filter {n = n} filter rest) =
+    let same = filters_agree rest in record {
+      records = ap (λ rs. own_records inner_filter filter ++ rs) same.records;
+      of_type = each_of inner_filter.IsOfType filter (items-the_row-Filter n rest) same.of_type;
+      valid = λ takes. each_of (inner_filter.IsValid takes) filter (items-the_row-Filter n rest) (same.valid takes);
+    }
+
+set_agrees : (t : Tag) {m : _} (filters : Row_of-Filter m) →
+    SaysTheSame (set_says t (filters_mean filters)) (set_says t (together (items-the_row-Filter m filters)))
+set_agrees t filters =
+    let same = filters_agree filters in
+    record { records = ap (set_of_records t unconstrained (Some (codes "SET_OF"))) same.records; of_type = same.of_type; valid = same.valid }
+
+pub filter_agrees : (v : Filter) → SaysTheSame (filter_means v) (chosen_meaning (all_of filter_alternatives) (filter_pick v))
+filter_agrees (And' shape filters) = set_agrees (context 0) filters
+filter_agrees (Or' shape filters) = set_agrees (context 1) filters
+filter_agrees (Not' place inner) = says_itself
+filter_agrees (Present name) = says_itself
