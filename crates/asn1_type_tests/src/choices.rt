@@ -10,16 +10,20 @@ ghost use Rattle.asn1_model.specs.TaggedTypes.{tagged, untagged};
 ghost use Rattle.asn1_model.specs.Tags.{universal, context, only, first_tags};
 ghost use Rattle.asn1_choices.specs.Alternatives.{alternative, closed, extensible, variance_of};
 ghost use Rattle.asn1_choices.specs.ChoiceTypes.{choice_of};
-ghost use Rattle.asn1_choices.specs.declared.examples.open.Open.TheVariants.{Flag, Nested};
-ghost use Rattle.asn1_choices.specs.declared.examples.reply.Reply.TheVariants as reply;
-ghost use Rattle.asn1_choices.specs.declared.examples.shape.Corner.TheVariants as corner;
-ghost use Rattle.asn1_choices.specs.declared.examples.shape.Shape.TheVariants as shape;
+ghost use Rattle.asn1_recursive.specs.declared.nested.Nested.TheVariants.{Flag, Inner};
+ghost use Rattle.asn1_type_tests.specs.declared.choices.reply.Reply.TheVariants as reply;
+ghost use Rattle.asn1_samples.specs.declared.corner.Corner.TheVariants as corner;
+ghost use Rattle.asn1_samples.specs.declared.shape.Shape.TheVariants as shape;
+
+mod reply;
 
 use asn1_bounds::Bounded;
 use asn1_choices::Choice;
-use asn1_choices::examples::{Corner, Open, Reply, Shape};
 use asn1_model::AsnType;
+use asn1_recursive::Nested;
+use asn1_samples::{Corner, Shape};
 use asn1_tags::{Tag, TagTree};
+use reply::Reply;
 use std::process::Abort;
 
 /// A CHOICE cannot be inside others with the same tag twice: in the root, on both sides of the extension marker, or in an
@@ -53,12 +57,12 @@ fn records()
         scalar (context 0) (values_of (Range (Some (pos 0)) (Some (pos 255)))) (Some (codes "INTEGER")) (number (pos 9)) ∷ []) ∷ [] }
 {}
 
-/// `nested : flag : TRUE`, whose inner value is under an explicit tag.
-fn nested(inner: Box<Open>)
-    ensures { inner.value ≡ Flag true → own_records ⟦<Open as AsnType>⟧.meaning (Nested inner) ≡
-        holding (chosen (context 0) unconstrained (Some (codes "Open"))) (
-        holding (prefix (context 0) (Some (codes "Open"))) (
-        holding (chosen (universal 1) unconstrained (Some (codes "Open"))) (
+/// `inner : flag : TRUE`, whose inner value is under an explicit tag.
+fn nested(inner: Box<Nested>)
+    ensures { inner.value ≡ Flag true → own_records ⟦<Nested as AsnType>⟧.meaning (Inner inner) ≡
+        holding (chosen (context 0) unconstrained (Some (codes "Nested"))) (
+        holding (prefix (context 0) (Some (codes "Nested"))) (
+        holding (chosen (universal 1) unconstrained (Some (codes "Nested"))) (
         scalar (universal 1) unconstrained (Some (codes "BOOLEAN")) (truth true) ∷ []) ∷ []) ∷ []) ∷ [] }
 {}
 
@@ -88,10 +92,10 @@ fn assert_tables<T: AsnType + Choice>(
 fn tables(rt: HostRuntime) {
     assert_tables::<Corner>(&rt, TagTree::Choice(Corner::variants()), 2, (0, 1), false);
     assert_tables::<Shape>(&rt, TagTree::Choice(Shape::variants()), 3, (0, 2), false);
-    assert_tables::<Open>(&rt, TagTree::Choice(Open::variants()), 3, (0, 2), false);
+    assert_tables::<Nested>(&rt, TagTree::Choice(Nested::variants()), 3, (0, 2), false);
     assert!(rt; Corner::tag_tree_under(Tag::new_context(1)) == TagTree::Leaf(Tag::new_context(1)));
     assert!(rt; Reply::variance() == 2 && Reply::complete_variance() == 3);
     let constraint = Reply::variance_constraint(rt.alloc());
     assert!(rt; constraint.expect(&rt, "memory").extensible());
-    assert!(rt; Reply::extended_variants().is_some() && Open::extended_variants().is_none());
+    assert!(rt; Reply::extended_variants().is_some() && Nested::extended_variants().is_none());
 }

@@ -1,10 +1,10 @@
 //! A type that holds itself in sets: filters are equal in any order, and a function may go down one.
 ghost use Rattle.std.specs.Prelude.{◌≡◌, ◌^◌, ◌-◌, min};
-ghost use Rattle.asn1_types.specs.declared.examples.filter.Filter.{size-Filter};
-ghost use Rattle.asn1_types.specs.declared.examples.filter.Filter.TheViews.{weight-Filter-And-0};
+ghost use Rattle.asn1_recursive.specs.declared.filter.Filter.{size-Filter};
+ghost use Rattle.asn1_recursive.specs.declared.filter.Filter.TheViews.{weight-Filter-And-0};
 
+use asn1_recursive::Filter;
 use asn1_types::SetOf;
-use asn1_types::examples::Filter;
 use asn1_values::OctetString;
 use std::alloc::Global;
 use std::process::Abort;

@@ -1,6 +1,6 @@
 use Rattle.std.proofs.Common.{◌≡◌, ◌-◌, ◌^◌, min, max}
 use Rattle.std.specs.Slice.Iter.{iter_rest}
-use Rattle.asn1_types.specs.declared.examples.filter.Filter.TheViews.{weight-Filter-And-0}
+use Rattle.asn1_recursive.specs.declared.filter.Filter.TheViews.{weight-Filter-And-0}
 use Rattle.asn1_type_tests.proofs.types.filters.+depth.Given as goal
 
 -- the greatest so far, or that of the rest
