@@ -1,4 +1,3 @@
 pub mod Alternatives
 pub mod ChosenTags
 pub mod ChoiceTypes
-pub mod OpenAlternatives

@@ -9,7 +9,6 @@
 //! | [`Choice`] | the alternatives of a type: their trees, their names, how many there are, and the constraint of their places |
 //! | [`ChoiceType`] | a type of ASN.1 whose meaning is that of its alternatives |
 //! | [`the_chosen_tag_tells_the_alternative`] | the law that a decoder of a CHOICE rests on |
-//! | [`examples`] | four CHOICE types as their authors write them |
 //!
 //! What the contracts promise, and the words that they use:
 //!
@@ -23,12 +22,11 @@
 //!   record, which begins with one of its own tags, and no other alternative has that tag (X.680, 29.3).
 //! - A CHOICE that holds itself says by recursion on a value what the chosen alternative says of it (`ValueMeaning`). To its
 //!   own alternatives it is `inside_itself`, where nothing is asked of it, and to all others `choice_holding_itself`, whose
-//!   law is `itself_agrees`. [`examples::Open`] is such a type, by `specs/OpenAlternatives.antt`.
+//!   law is `itself_agrees`. The crate `asn1_recursive` has such types.
 //!
 //! No call takes memory.
 #![tactic(auto, using(asn1_tags::proofs::Leaves::tree_shapes))]
 
 mod choices;
-pub mod examples;
 
 pub use choices::{Choice, ChoiceType, the_chosen_tag_tells_the_alternative};

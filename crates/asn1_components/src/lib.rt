@@ -11,7 +11,6 @@
 //! | [`Constructed`], [`field_in`] | a type whose table is in static memory, as slices |
 //! | [`components_are_told_apart`] | the law on which a reader of components rests |
 //! | [`tables_are_in_order`] | the law of the tables |
-//! | [`examples`] | a SET, and a SEQUENCE with a component of each kind |
 //!
 //! What the contracts promise, and the words that they use:
 //!
@@ -32,7 +31,6 @@
 #![tactic(auto)]
 
 mod constructed;
-pub mod examples;
 mod field_table;
 mod following;
 mod table_order;

@@ -3,7 +3,6 @@ pub mod MultisetLaws
 pub mod Kinds
 pub mod formers
 pub mod Words
-pub mod FilterAlternatives
 -- of the crate below: what a type means
 pub use Rattle.asn1_model.specs.Composites
 pub use Rattle.asn1_model.specs.ConstraintSets

@@ -49,7 +49,6 @@
 
 mod any;
 mod array;
-pub mod examples;
 mod explicit;
 mod implicit;
 mod instance_of;
