@@ -1,4 +1,6 @@
 //! `Reply ::= CHOICE { accepted BOOLEAN, refused NULL, ..., later [0] INTEGER (0..255) }`
+#![tactic(auto, using(asn1_tags::proofs::Leaves::tree_shapes))]
+
 ghost use Rattle.std.specs.Prelude.{[], ◌∷◌, codes};
 ghost use Rattle.std.proofs.Common.{inl, inr};
 ghost use Rattle.asn1_model.specs.Tags.{context};
