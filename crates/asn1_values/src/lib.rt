@@ -25,7 +25,8 @@
 //!   the sign and the bytes, `signed` and `magnitude` of `specs/Numbers.antt`, and `sign_magnitude` gives
 //!   them back (`number`) with no leading zero (`shortest`). `to_i128` answers if and only if the number
 //!   fits. Equality, order and hash are those of the number.
-//! - `Integer` is also made by `From` of an `i128`, a `u64` and a `u8`, and by `Default`, which is 0. Each built-in integer
+//! - `Integer` is also made by `From` of an `i128` and of each built-in integer of at most 64 bits, copied by `try_clone`
+//!   (`number`), and made by `Default`, which is 0. Each built-in integer
 //!   is made by `TryFrom<Integer>` if and only if the number fits it, else the error is [`OutOfRangeError`].
 //! - An `Integer` is written as `integer_text` of `specs/Text.antt`: in decimal what an `i128` holds, else in hexadecimal.
 //! - `IntegerType::try_from_integer` answers if and only if the number fits the type (`fitting`), and with
@@ -36,10 +37,10 @@
 //! - `as_slice` and `into_vec` give a string's units back, and tell that they are of the alphabet (`allowed`), or values of
 //!   their type (`in_range`). Strings of one kind are equal if their units are, go lexicographically, and feed a hasher
 //!   alike if they are equal.
-//! - `LimitedInteger::new` succeeds if and only if the number is within the limits (`within`).
+//! - `LimitedInteger::new` and `from_i64` succeed if and only if the number is within the limits (`within`).
 //!
 //! Calls that take memory take the allocator, and fail only where there is none: `from_sign_magnitude`,
-//! `sign_magnitude` and `to_integer`. The first and the last take none for a number of 128 bits
+//! `sign_magnitude`, `try_clone` and `to_integer`. All but the second take none for a number of 128 bits
 //! (`succeeds`).
 #![tactic(auto)]
 
