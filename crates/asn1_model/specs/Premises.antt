@@ -9,9 +9,13 @@ module _ {V : Type 0} (m : Meaning V) where
   abbrev pub EachIsValid : Type 0
   EachIsValid = (takes : List ℕ → Bool) (v : V) → m.IsValid takes v
 
-  -- the type can be inside another under each tag, but the one that stands for none (X.680, 31.2)
+  -- the type can be inside another under each tag, but the CHOICE marker tag (X.680, 31.2)
   abbrev pub HasOneTag : Type 0
   HasOneTag = (t : Tag) → CanStandInsideUnder m t ↔ IsATag t
+
+  -- a type that holds no others: nothing is asked of a value, and the type has one tag, whichever it is given
+  abbrev pub IsPlain : Type 0
+  IsPlain = EachIsValid × HasOneTag
 
 -- a type that holds a value of another asks no more of tags than that one
 abbrev pub IsTaggedAs : {V W : Type 0} → Meaning W → Meaning V → Type 0

@@ -27,7 +27,7 @@ use asn1_values::{
 };
 pub use premises::{
     holders_are_tagged_as_their_contents, holders_are_valid_as_their_contents,
-    plain_types_have_one_tag, plain_values_are_valid,
+    types_that_hold_no_others_are_plain,
 };
 pub use records::{
     holders_have_the_records_of_their_contents, numbers_have_their_records,

@@ -6,7 +6,7 @@ ghost use Rattle.asn1_tags.specs.declared.tags.Tag.{Tag};
 ghost use Rattle.asn1_ranges.specs.Members.{IsMember};
 ghost use Rattle.asn1_ranges.specs.declared.bounded.Bounded.TheVariants.{Range};
 ghost use Rattle.asn1_model.specs.Meaning.{CanStandInside, CanStandInsideUnder};
-ghost use Rattle.asn1_model.specs.Premises.{EachIsValid, HasOneTag, IsTaggedAs};
+ghost use Rattle.asn1_model.specs.Premises.{EachIsValid, HasOneTag, IsPlain, IsTaggedAs};
 ghost use Rattle.asn1_model.specs.Tags.{IsATag};
 
 use crate::asn_type::AsnType;
@@ -19,8 +19,9 @@ use asn1_values::{
 use std::borrow::Cow;
 use std::marker::PhantomData;
 
-/// A law of validity: each value of a type that holds no others is valid, and a number with limits is if it is within them.
-pub fn plain_values_are_valid<
+/// A law of the types that hold no others: each value is valid, and the type can be inside another under each tag, but the CHOICE
+/// marker tag. Of a number with limits it is asked that it is within them, and a type without any content has no tag.
+pub fn types_that_hold_no_others_are_plain<
     'a,
     L: Limits,
     U: StringUnit,
@@ -29,31 +30,32 @@ pub fn plain_values_are_valid<
     T: AsnType,
     const NUMBER: u32,
 >()
-    ensures null { EachIsValid ⟦<() as AsnType>⟧.meaning }
-    ensures boolean { EachIsValid ⟦<bool as AsnType>⟧.meaning }
-    ensures of_u8 { EachIsValid ⟦<u8 as AsnType>⟧.meaning }
-    ensures of_u16 { EachIsValid ⟦<u16 as AsnType>⟧.meaning }
-    ensures of_u32 { EachIsValid ⟦<u32 as AsnType>⟧.meaning }
-    ensures of_u64 { EachIsValid ⟦<u64 as AsnType>⟧.meaning }
-    ensures of_u128 { EachIsValid ⟦<u128 as AsnType>⟧.meaning }
-    ensures of_usize { EachIsValid ⟦<usize as AsnType>⟧.meaning }
-    ensures of_i8 { EachIsValid ⟦<i8 as AsnType>⟧.meaning }
-    ensures of_i16 { EachIsValid ⟦<i16 as AsnType>⟧.meaning }
-    ensures of_i32 { EachIsValid ⟦<i32 as AsnType>⟧.meaning }
-    ensures of_i64 { EachIsValid ⟦<i64 as AsnType>⟧.meaning }
-    ensures of_i128 { EachIsValid ⟦<i128 as AsnType>⟧.meaning }
-    ensures of_isize { EachIsValid ⟦<isize as AsnType>⟧.meaning }
-    ensures integer { EachIsValid ⟦<Integer as AsnType>⟧.meaning }
-    ensures string { EachIsValid ⟦<String as AsnType>⟧.meaning }
-    ensures text { EachIsValid ⟦<&'a str as AsnType>⟧.meaning }
-    ensures units { EachIsValid ⟦<UnitString<U, K> as AsnType>⟧.meaning }
-    ensures alphabet { EachIsValid ⟦<AlphabetString<U, A> as AsnType>⟧.meaning }
-    ensures identifier { EachIsValid ⟦<ObjectIdentifier as AsnType>⟧.meaning }
-    ensures marker { EachIsValid ⟦<Marker<NUMBER> as AsnType>⟧.meaning }
-    ensures phantom { EachIsValid ⟦<PhantomData<T> as AsnType>⟧.meaning }
+    ensures null { IsPlain ⟦<() as AsnType>⟧.meaning }
+    ensures boolean { IsPlain ⟦<bool as AsnType>⟧.meaning }
+    ensures of_u8 { IsPlain ⟦<u8 as AsnType>⟧.meaning }
+    ensures of_u16 { IsPlain ⟦<u16 as AsnType>⟧.meaning }
+    ensures of_u32 { IsPlain ⟦<u32 as AsnType>⟧.meaning }
+    ensures of_u64 { IsPlain ⟦<u64 as AsnType>⟧.meaning }
+    ensures of_u128 { IsPlain ⟦<u128 as AsnType>⟧.meaning }
+    ensures of_usize { IsPlain ⟦<usize as AsnType>⟧.meaning }
+    ensures of_i8 { IsPlain ⟦<i8 as AsnType>⟧.meaning }
+    ensures of_i16 { IsPlain ⟦<i16 as AsnType>⟧.meaning }
+    ensures of_i32 { IsPlain ⟦<i32 as AsnType>⟧.meaning }
+    ensures of_i64 { IsPlain ⟦<i64 as AsnType>⟧.meaning }
+    ensures of_i128 { IsPlain ⟦<i128 as AsnType>⟧.meaning }
+    ensures of_isize { IsPlain ⟦<isize as AsnType>⟧.meaning }
+    ensures integer { IsPlain ⟦<Integer as AsnType>⟧.meaning }
+    ensures string { IsPlain ⟦<String as AsnType>⟧.meaning }
+    ensures text { IsPlain ⟦<&'a str as AsnType>⟧.meaning }
+    ensures units { IsPlain ⟦<UnitString<U, K> as AsnType>⟧.meaning }
+    ensures alphabet { IsPlain ⟦<AlphabetString<U, A> as AsnType>⟧.meaning }
+    ensures identifier { IsPlain ⟦<ObjectIdentifier as AsnType>⟧.meaning }
+    ensures marker { IsPlain ⟦<Marker<NUMBER> as AsnType>⟧.meaning }
     ensures limited { (takes : List ℕ → Bool) (n : ℤ) →
         ⟦<LimitedInteger<L> as AsnType>⟧.meaning.IsValid takes n ↔
         IsMember (λ z. z) (Range (Some L.start) (Some L.end)) n }
+    ensures limited_tag { HasOneTag ⟦<LimitedInteger<L> as AsnType>⟧.meaning }
+    ensures phantom { EachIsValid ⟦<PhantomData<T> as AsnType>⟧.meaning }
 {}
 
 /// A law of validity: of a value that holds others, what is asked is what is asked of these.
@@ -78,39 +80,6 @@ pub fn holders_are_valid_as_their_contents<'a, T: AsnType + 'a, const N: usize>(
         ⟦<Box<T> as AsnType>⟧.meaning.IsValid takes _boxed.now ↔ T.meaning.IsValid takes _boxed.now.value }
     ensures cow { (takes : List ℕ → Bool) →
         ⟦<Cow<'a, T> as AsnType>⟧.meaning.IsValid takes _cow.now ↔ T.meaning.IsValid takes (cow_value _cow.now) }
-{}
-
-/// A law of tags: a type that holds no others can be inside another under each tag, but the one that stands for none.
-pub fn plain_types_have_one_tag<
-    'a,
-    L: Limits,
-    U: StringUnit,
-    K: StringType<U>,
-    A: Alphabet<U> + StringType<U>,
-    const NUMBER: u32,
->()
-    ensures null { HasOneTag ⟦<() as AsnType>⟧.meaning }
-    ensures boolean { HasOneTag ⟦<bool as AsnType>⟧.meaning }
-    ensures of_u8 { HasOneTag ⟦<u8 as AsnType>⟧.meaning }
-    ensures of_u16 { HasOneTag ⟦<u16 as AsnType>⟧.meaning }
-    ensures of_u32 { HasOneTag ⟦<u32 as AsnType>⟧.meaning }
-    ensures of_u64 { HasOneTag ⟦<u64 as AsnType>⟧.meaning }
-    ensures of_u128 { HasOneTag ⟦<u128 as AsnType>⟧.meaning }
-    ensures of_usize { HasOneTag ⟦<usize as AsnType>⟧.meaning }
-    ensures of_i8 { HasOneTag ⟦<i8 as AsnType>⟧.meaning }
-    ensures of_i16 { HasOneTag ⟦<i16 as AsnType>⟧.meaning }
-    ensures of_i32 { HasOneTag ⟦<i32 as AsnType>⟧.meaning }
-    ensures of_i64 { HasOneTag ⟦<i64 as AsnType>⟧.meaning }
-    ensures of_i128 { HasOneTag ⟦<i128 as AsnType>⟧.meaning }
-    ensures of_isize { HasOneTag ⟦<isize as AsnType>⟧.meaning }
-    ensures integer { HasOneTag ⟦<Integer as AsnType>⟧.meaning }
-    ensures limited { HasOneTag ⟦<LimitedInteger<L> as AsnType>⟧.meaning }
-    ensures string { HasOneTag ⟦<String as AsnType>⟧.meaning }
-    ensures text { HasOneTag ⟦<&'a str as AsnType>⟧.meaning }
-    ensures units { HasOneTag ⟦<UnitString<U, K> as AsnType>⟧.meaning }
-    ensures alphabet { HasOneTag ⟦<AlphabetString<U, A> as AsnType>⟧.meaning }
-    ensures identifier { HasOneTag ⟦<ObjectIdentifier as AsnType>⟧.meaning }
-    ensures marker { HasOneTag ⟦<Marker<NUMBER> as AsnType>⟧.meaning }
 {}
 
 /// A law of tags: a list can be inside another type where its elements' type can be there; what holds one value can be where
