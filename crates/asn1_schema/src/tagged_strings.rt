@@ -1,10 +1,8 @@
 //! The kinds of string that X.680 defines as another kind under a tag.
-ghost use Rattle.asn1_model.specs.Meaning.{CanStandInside, own_records};
-ghost use Rattle.asn1_model.specs.ConstraintSets.{ConstraintSet, unconstrained};
-ghost use Rattle.asn1_model.specs.Records.{Name, graphic, name_or, scalar, units, utf8, visible};
-ghost use Rattle.asn1_model.specs.Tags.{universal};
-ghost use Rattle.asn1_tags.specs.declared.tags.Tag.{Tag};
-ghost use Rattle.std.specs.Prelude.{◌≡◌, [], ◌∷◌, Some, codes};
+ghost use Rattle.asn1_model.specs.Meaning.{CanStandInside};
+ghost use Rattle.asn1_model.specs.Records.{graphic, units, utf8, visible};
+ghost use Rattle.asn1_schema.specs.TaggedStrings.{IsContentUnderEachTag, IsOwnContent};
+ghost use Rattle.std.specs.Prelude.{ℕ, Bool, List, codes};
 ghost use Rattle.std.specs.String.{string_bytes};
 
 use asn1_types::{AsnType, Implicit, tag};
@@ -13,14 +11,6 @@ use asn1_values::{GraphicString, Utf8String, VisibleString};
 /// A UniversalString (X.680, 41.1): a text under the tag of that kind, which is Universal 28. Its content is that of a
 /// UTF8String, as in rasn.
 pub type UniversalString = Implicit<tag::UNIVERSAL_STRING, Utf8String>;
-
-/// A law: a UniversalString can be inside other types, and is its text under the tag Universal 28 (`own`), or under whatever tag,
-/// constraints and name it is written (`under`).
-pub fn universal_string_is_a_tagged_text(text: &UniversalString)
-    ensures can_stand_inside { CanStandInside ⟦<UniversalString as AsnType>⟧.meaning }
-    ensures own { own_records ⟦<UniversalString as AsnType>⟧.meaning text.now ≡ scalar (universal 28) unconstrained (Some (codes "UTF8String")) (units utf8 (string_bytes text.now.value)) ∷ [] }
-    ensures under { (t : Tag) (c : ConstraintSet) (n : Name) → ⟦<UniversalString as AsnType>⟧.meaning.records text.now t c n ≡ scalar t c (name_or n (Some (codes "UTF8String"))) (units utf8 (string_bytes text.now.value)) ∷ [] }
-{}
 
 /// A UTCTime (X.680, 47): a VisibleString under the tag Universal 23. That its text is a time is the caller's to see.
 pub type UtcTime = Implicit<tag::UTC_TIME, VisibleString>;
@@ -31,33 +21,43 @@ pub type GeneralizedTime = Implicit<tag::GENERALIZED_TIME, VisibleString>;
 /// An ObjectDescriptor (X.680, 48): a GraphicString under the tag Universal 7.
 pub type ObjectDescriptor = Implicit<tag::OBJECT_DESCRIPTOR, GraphicString>;
 
-/// A law: a UTCTime can be inside other types, and is its text under the tag Universal 23 (`own`), or under whatever tag,
-/// constraints and name it is written (`under`).
+/// A law: a UniversalString can be inside other types, each is valid, and it is its text under the tag Universal 28 (`own`), or
+/// under whatever tag, constraints and name it is written (`under`).
+pub fn universal_string_is_a_tagged_text(text: &UniversalString)
+    ensures can_stand_inside { CanStandInside ⟦<UniversalString as AsnType>⟧.meaning }
+    ensures valid { (takes : List ℕ → Bool) → ⟦<UniversalString as AsnType>⟧.meaning.IsValid takes text.now }
+    ensures own { IsOwnContent ⟦<UniversalString as AsnType>⟧.meaning text.now 28 (codes "UTF8String")
+        (units utf8 (string_bytes text.now.value)) }
+    ensures under { IsContentUnderEachTag ⟦<UniversalString as AsnType>⟧.meaning text.now (codes "UTF8String")
+        (units utf8 (string_bytes text.now.value)) }
+{}
+
+/// A law: the same of a UTCTime, whose tag is Universal 23, and whose text is a VisibleString.
 pub fn utc_time_is_a_tagged_text(time: &UtcTime)
     ensures can_stand_inside { CanStandInside ⟦<UtcTime as AsnType>⟧.meaning }
-    ensures own { own_records ⟦<UtcTime as AsnType>⟧.meaning time.now ≡
-        scalar (universal 23) unconstrained (Some (codes "VisibleString")) (units visible time.now.value) ∷ [] }
-    ensures under { (t : Tag) (c : ConstraintSet) (n : Name) →
-        ⟦<UtcTime as AsnType>⟧.meaning.records time.now t c n ≡
-        scalar t c (name_or n (Some (codes "VisibleString"))) (units visible time.now.value) ∷ [] }
+    ensures valid { (takes : List ℕ → Bool) → ⟦<UtcTime as AsnType>⟧.meaning.IsValid takes time.now }
+    ensures own { IsOwnContent ⟦<UtcTime as AsnType>⟧.meaning time.now 23 (codes "VisibleString")
+        (units visible time.now.value) }
+    ensures under { IsContentUnderEachTag ⟦<UtcTime as AsnType>⟧.meaning time.now (codes "VisibleString")
+        (units visible time.now.value) }
 {}
 
 /// A law: the same of a GeneralizedTime, whose tag is Universal 24.
 pub fn generalized_time_is_a_tagged_text(time: &GeneralizedTime)
     ensures can_stand_inside { CanStandInside ⟦<GeneralizedTime as AsnType>⟧.meaning }
-    ensures own { own_records ⟦<GeneralizedTime as AsnType>⟧.meaning time.now ≡
-        scalar (universal 24) unconstrained (Some (codes "VisibleString")) (units visible time.now.value) ∷ [] }
-    ensures under { (t : Tag) (c : ConstraintSet) (n : Name) →
-        ⟦<GeneralizedTime as AsnType>⟧.meaning.records time.now t c n ≡
-        scalar t c (name_or n (Some (codes "VisibleString"))) (units visible time.now.value) ∷ [] }
+    ensures valid { (takes : List ℕ → Bool) → ⟦<GeneralizedTime as AsnType>⟧.meaning.IsValid takes time.now }
+    ensures own { IsOwnContent ⟦<GeneralizedTime as AsnType>⟧.meaning time.now 24 (codes "VisibleString")
+        (units visible time.now.value) }
+    ensures under { IsContentUnderEachTag ⟦<GeneralizedTime as AsnType>⟧.meaning time.now (codes "VisibleString")
+        (units visible time.now.value) }
 {}
 
 /// A law: the same of an ObjectDescriptor, whose tag is Universal 7, and whose text is a GraphicString.
 pub fn object_descriptor_is_a_tagged_text(text: &ObjectDescriptor)
     ensures can_stand_inside { CanStandInside ⟦<ObjectDescriptor as AsnType>⟧.meaning }
-    ensures own { own_records ⟦<ObjectDescriptor as AsnType>⟧.meaning text.now ≡
-        scalar (universal 7) unconstrained (Some (codes "GraphicString")) (units graphic text.now.value) ∷ [] }
-    ensures under { (t : Tag) (c : ConstraintSet) (n : Name) →
-        ⟦<ObjectDescriptor as AsnType>⟧.meaning.records text.now t c n ≡
-        scalar t c (name_or n (Some (codes "GraphicString"))) (units graphic text.now.value) ∷ [] }
+    ensures valid { (takes : List ℕ → Bool) → ⟦<ObjectDescriptor as AsnType>⟧.meaning.IsValid takes text.now }
+    ensures own { IsOwnContent ⟦<ObjectDescriptor as AsnType>⟧.meaning text.now 7 (codes "GraphicString")
+        (units graphic text.now.value) }
+    ensures under { IsContentUnderEachTag ⟦<ObjectDescriptor as AsnType>⟧.meaning text.now (codes "GraphicString")
+        (units graphic text.now.value) }
 {}

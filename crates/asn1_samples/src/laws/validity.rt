@@ -3,7 +3,7 @@ ghost use Rattle.asn1_samples.specs.declared.contact.Contact.{Contact};
 ghost use Rattle.asn1_samples.specs.declared.corner.Corner.TheVariants.{Left, Right};
 ghost use Rattle.asn1_samples.specs.declared.shape.Shape.TheVariants.{Dot, Inner, Ring};
 ghost use Rattle.asn1_samples.specs.declared.color.Color.{Color};
-ghost use Rattle.std.specs.Prelude.{◌≡◌, ◌↔◌, ℕ, Bool, List, IsTrue, None, Some};
+ghost use Rattle.std.specs.Prelude.{◌≡◌, ℕ, Bool, List, None, Some};
 
 use crate::badge::Badge;
 use crate::color::Color;
@@ -32,7 +32,7 @@ pub fn each_value_is_valid(
 {}
 
 /// A law of validity: each alternative of a corner, and of a shape, is valid, and a badge with each of these shapes.
-pub fn each_alternative_is_valid(_corner: &Corner, _shape: &Shape, _badge: &Badge)
+pub fn each_alternative_is_valid(_badge: &Badge)
     ensures left { (takes : List ℕ → Bool) (b : Bool) → ⟦<Corner as AsnType>⟧.meaning.IsValid takes (Left b) }
     ensures right { (takes : List ℕ → Bool) (s : List ℕ) → ⟦<Corner as AsnType>⟧.meaning.IsValid takes (Right s) }
     ensures dot { (takes : List ℕ → Bool) → ⟦<Shape as AsnType>⟧.meaning.IsValid takes (Dot tt) }
