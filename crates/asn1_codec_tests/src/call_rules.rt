@@ -1,0 +1,138 @@
+//! The calls of an encoder and of a decoder, each by itself.
+use crate::failure::Failure;
+use crate::round_trips::is_same;
+use asn1_dec::{DecodeError, Decoder};
+use asn1_enc::{EncodeError, Encoder};
+use asn1_tags::{Class, Identifier, Tag};
+
+/// The tag of what is written inside.
+pub const FIRST: Tag = Tag {
+    class: Class::Context,
+    value: 0,
+};
+
+/// The tag of what is written around.
+const AROUND: Tag = Tag {
+    class: Class::Application,
+    value: 31,
+};
+
+/// The name of what is written.
+pub const NAME: Identifier = Identifier(Some("n"));
+
+/// Calls that write, and calls that read what these wrote.
+pub trait Calls {
+    /// Makes the writing calls.
+    ///
+    /// # Errors
+    /// The first error of a call.
+    fn write<E: Encoder>(&self, encoder: &mut E) -> Result<(), EncodeError>;
+
+    /// Makes the reading calls, and looks at what they answer.
+    ///
+    /// # Errors
+    /// [`Failure::Another`] where a call answers something else than was written, and else the first error of a call.
+    fn read<D: Decoder>(&self, decoder: &mut D) -> Result<(), Failure>;
+}
+
+/// A codec whose encoder and decoder can be called by themselves.
+pub trait CallRules {
+    /// What the calls make.
+    type Output: Drop;
+
+    /// Makes writing calls with a new encoder.
+    ///
+    /// # Errors
+    /// Why a call failed.
+    fn write_calls<C: Calls>(&self, calls: &C, depth: usize) -> Result<Self::Output, EncodeError>;
+
+    /// Makes reading calls with a new decoder, which then has nothing left to read.
+    ///
+    /// # Errors
+    /// What the reading calls answer, or why something was left.
+    fn read_calls<C: Calls>(
+        &self,
+        calls: &C,
+        output: &Self::Output,
+        depth: usize,
+    ) -> Result<(), Failure>;
+}
+
+/// Whether what the writing calls write is read by the reading calls, in a scope of its own.
+///
+/// # Errors
+/// What the reading calls answer, or why the writing calls failed.
+pub fn calls_come_back<R: CallRules, C: Calls>(rules: &R, calls: C) -> Result<(), Failure> {
+    let inside = Inside(calls);
+    match rules.write_calls(&inside, 4) {
+        Ok(output) => rules.read_calls(&inside, &output, 4),
+        Err(error) => Err(Failure::of_writing(error)),
+    }
+}
+
+/// Calls after an explicit tag: a codec without presence marks knows there where the last component ends.
+#[derive(Drop)]
+struct Inside<C>(C);
+
+impl<C: Calls> Calls for Inside<C> {
+    fn write<E: Encoder>(&self, encoder: &mut E) -> Result<(), EncodeError> {
+        encoder.open_explicit_prefix(AROUND, NAME)?;
+        self.0.write(encoder)?;
+        encoder.close()
+    }
+
+    fn read<D: Decoder>(&self, decoder: &mut D) -> Result<(), Failure> {
+        done(decoder.open_explicit_prefix(AROUND))?;
+        self.0.read(decoder)?;
+        done(decoder.close())
+    }
+}
+
+/// Whether a call succeeded.
+///
+/// # Errors
+/// Why it failed.
+pub fn done(answer: Result<(), DecodeError>) -> Result<(), Failure> {
+    answer.map_err(Failure::of_reading)
+}
+
+/// Whether a call answers this value.
+///
+/// # Errors
+/// [`Failure::Another`] where it answers another, and else why it failed.
+pub fn answers<T: PartialEq + Drop>(
+    answer: Result<T, DecodeError>,
+    expected: &T,
+) -> Result<(), Failure> {
+    match answer {
+        Ok(value) => is_same(&value, expected),
+        Err(error) => Err(Failure::of_reading(error)),
+    }
+}
+
+/// Whether a call answers that this value is there.
+///
+/// # Errors
+/// As `answers`.
+pub fn answers_some<T: PartialEq + Drop>(
+    answer: Result<Option<T>, DecodeError>,
+    expected: &T,
+) -> Result<(), Failure> {
+    match answer {
+        Ok(Some(value)) => is_same(&value, expected),
+        Ok(None) => Err(Failure::Another),
+        Err(error) => Err(Failure::of_reading(error)),
+    }
+}
+
+/// Whether a call answers that no value is there.
+///
+/// # Errors
+/// As `answers`.
+pub fn answers_none<T: Drop>(answer: Result<Option<T>, DecodeError>) -> Result<(), Failure> {
+    match answer {
+        Ok(None) => Ok(()),
+        Ok(Some(_)) => Err(Failure::Another),
+        Err(error) => Err(Failure::of_reading(error)),
+    }
+}

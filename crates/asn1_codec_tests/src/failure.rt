@@ -1,0 +1,63 @@
+//! Why a case fails.
+ghost use Rattle.asn1_codec_tests.specs.declared.failure.Failure.TheVariants.{Memory, NotRead, NotWritten};
+ghost use Rattle.asn1_dec.specs.declared.error.DecodeError.TheVariants as reading;
+ghost use Rattle.asn1_enc.specs.declared.error.EncodeError.TheVariants as writing;
+ghost use Rattle.std.specs.Prelude.{◌≡◌, ◌≢◌};
+
+use asn1_dec::DecodeError;
+use asn1_enc::EncodeError;
+use asn1_schema::RoundTripError;
+use std::alloc::AllocError;
+
+/// Why a case of a codec fails.
+#[derive(Clone, Copy, Debug, Drop, PartialEq, Eq)]
+pub enum Failure {
+    /// There was no memory: for a value of the case, for writing it or for reading it.
+    Memory,
+    /// A value was not written.
+    NotWritten(EncodeError),
+    /// What was written was not read.
+    NotRead(DecodeError),
+    /// What was read is another value than was written, or a call answered what it should not.
+    Another,
+}
+
+impl Failure {
+    /// Why a case fails whose value was not written.
+    pub fn of_writing(error: EncodeError) -> Failure
+        ensures memory { error ≡ writing.Memory → result ≡ Memory }
+        ensures other { error ≢ writing.Memory → result ≡ NotWritten error }
+    {
+        match error {
+            EncodeError::Memory => Failure::Memory,
+            other => Failure::NotWritten(other),
+        }
+    }
+
+    /// Why a case fails whose output was not read.
+    pub fn of_reading(error: DecodeError) -> Failure
+        ensures memory { error ≡ reading.Memory → result ≡ Memory }
+        ensures other { error ≢ reading.Memory → result ≡ NotRead error }
+    {
+        match error {
+            DecodeError::Memory => Failure::Memory,
+            other => Failure::NotRead(other),
+        }
+    }
+
+    /// Why a case fails whose value made no round trip.
+    pub fn of_round_trip(error: RoundTripError) -> Failure {
+        match error {
+            RoundTripError::Writing(error) => Failure::of_writing(error),
+            RoundTripError::Reading(error) => Failure::of_reading(error),
+        }
+    }
+}
+
+impl From<AllocError> for Failure {
+    ghost from_gives = { λ _ failure. failure ≡ Memory };
+
+    fn from(_refused: AllocError) -> Failure {
+        Failure::Memory
+    }
+}

@@ -1,0 +1,35 @@
+//! Tests of a codec, written once for every codec.
+//!
+//! A case is a function over any [`Rules`](asn1_schema::Rules), or over any [`CallRules`] where calls of an encoder and of a
+//! decoder are made by themselves. It answers `Ok`, or why it failed; a codec's tests call each case and assert what it answers.
+//!
+//! | Item | What it is |
+//! |---|---|
+//! | [`types`] | a value of each type of the language and of the layers below, by itself |
+//! | [`calls`] | each call of an encoder and of a decoder |
+//! | [`refusals`] | what no codec reads, and how many scopes a value takes |
+//! | [`Failure`] | why a case failed |
+//! | [`comes_back`], [`needs_depth`], [`is_refused`] | what is tried of a value of any type |
+//! | [`CallRules`], [`Calls`], [`calls_come_back`] | what is tried of calls |
+//! | [`made`] | values that cases make |
+//!
+//! What the contracts promise: over a codec that keeps the laws, a valid value never comes back as another one
+//! (`never_another` of [`comes_back`]). So a case of [`types`] can fail only where memory is short, where the codec rejects a
+//! value, or where it does not keep its laws.
+#![tactic(auto)]
+
+mod call_rules;
+pub mod calls;
+mod depth;
+mod failure;
+pub mod made;
+pub mod refusals;
+mod round_trips;
+pub mod types;
+
+pub use call_rules::{
+    CallRules, Calls, FIRST, NAME, answers, answers_none, answers_some, calls_come_back, done,
+};
+pub use depth::needs_depth;
+pub use failure::Failure;
+pub use round_trips::{comes_back, is_not_read, is_refused, is_same, is_this};

@@ -1,0 +1,83 @@
+//! A value that is written and read back.
+ghost use Rattle.asn1_codec_tests.specs.declared.failure.Failure.TheVariants.{Another};
+ghost use Rattle.asn1_model.specs.Meaning.{CanStandInside};
+ghost use Rattle.std.specs.Prelude.{◌≢◌, Err};
+
+use crate::failure::Failure;
+use asn1_dec::{Decode, DecodeError};
+use asn1_enc::{Encode, EncodeError};
+use asn1_schema::{Rules, round_trip};
+
+/// How many scopes a case opens in one another, where nothing else is said.
+pub const DEPTH: usize = 4;
+
+/// Whether a value comes back.
+///
+/// Of a codec that keeps the laws, a valid value of a type that can be inside others never comes back as another.
+///
+/// # Errors
+/// [`Failure::Another`] where what is read is not equal to the value; else why it was not written or not read.
+pub fn comes_back<R: Rules, T: Encode + Decode>(rules: &R, value: &T) -> Result<(), Failure>
+    ensures never_another { CanStandInside T.meaning → T.meaning.IsValid R.format.takes value.now →
+        result ≢ Err Another }
+{
+    match round_trip(rules, value, DEPTH, DEPTH) {
+        Ok(back) => is_same(&back, value),
+        Err(error) => Err(Failure::of_round_trip(error)),
+    }
+}
+
+/// Whether two values are equal.
+///
+/// # Errors
+/// [`Failure::Another`] where they are not.
+pub fn is_same<T: PartialEq>(left: &T, right: &T) -> Result<(), Failure> {
+    if *left == *right {
+        Ok(())
+    } else {
+        Err(Failure::Another)
+    }
+}
+
+/// Whether a value that is written as a `T` is refused by this error as an `S` is read.
+///
+/// # Errors
+/// [`Failure::Another`] where an `S` is read; else why it was not written, or by which error it was refused.
+pub fn is_refused<S: Decode, R: Rules, T: Encode>(
+    rules: &R,
+    value: &T,
+    expected: DecodeError,
+) -> Result<(), Failure> {
+    match rules.write_value(value, DEPTH) {
+        Ok(output) => is_not_read::<S, R>(rules, &output, DEPTH, expected),
+        Err(error) => Err(Failure::of_writing(error)),
+    }
+}
+
+/// Whether an output is refused by this error as an `S` is read, with so many scopes in one another.
+///
+/// # Errors
+/// [`Failure::Another`] where an `S` is read; else by which error the output was refused.
+pub fn is_not_read<S: Decode, R: Rules>(
+    rules: &R,
+    output: &R::Output,
+    depth: usize,
+    expected: DecodeError,
+) -> Result<(), Failure> {
+    match rules.read_value::<S>(output, depth) {
+        Ok(_) => Err(Failure::Another),
+        Err(error) => is_this(error, expected),
+    }
+}
+
+/// Whether an error is the expected one.
+///
+/// # Errors
+/// The error, where it is another.
+pub fn is_this(error: DecodeError, expected: DecodeError) -> Result<(), Failure> {
+    if error == expected {
+        Ok(())
+    } else {
+        Err(Failure::of_reading(error))
+    }
+}

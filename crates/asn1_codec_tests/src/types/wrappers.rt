@@ -1,0 +1,51 @@
+//! Types that are another one, or hold one.
+use crate::failure::Failure;
+use crate::made::arcs;
+use crate::round_trips::comes_back;
+use asn1_schema::{Rules, UniversalString};
+use asn1_types::{Explicit, Implicit, InstanceOf, tag};
+use std::alloc::Global;
+use std::borrow::Cow;
+
+/// Whether what holds another value comes back.
+///
+/// # Errors
+/// Why it did not.
+pub fn holders<R: Rules>(rules: &R, alloc: Global) -> Result<(), Failure> {
+    comes_back(rules, &Some(7u8))
+        .and(comes_back(rules, &None::<u8>))
+        .and(comes_back(rules, &Cow::<u8>::Owned(7)))
+        .and(boxed(rules, alloc))
+}
+
+fn boxed<R: Rules>(rules: &R, alloc: Global) -> Result<(), Failure> {
+    let boxed = Box::new(alloc, 7u8)?;
+    comes_back(rules, &boxed)
+}
+
+/// Whether what is another value under a tag comes back.
+///
+/// # Errors
+/// Why it did not.
+pub fn tagged_values<R: Rules>(rules: &R, alloc: Global) -> Result<(), Failure> {
+    comes_back(rules, &Implicit::<tag::BOOL, u8>::new(7))
+        .and(comes_back(rules, &Explicit::<tag::BOOL, u8>::new(7)))
+        .and(universal(rules, alloc))
+}
+
+fn universal<R: Rules>(rules: &R, alloc: Global) -> Result<(), Failure> {
+    let string = UniversalString::new(String::from_str(alloc, "Ann")?);
+    comes_back(rules, &string)
+}
+
+/// Whether an INSTANCE OF comes back.
+///
+/// # Errors
+/// Why it did not.
+pub fn instances<R: Rules>(rules: &R, alloc: Global) -> Result<(), Failure> {
+    let instance = InstanceOf {
+        type_id: arcs(alloc, &[1, 3])?,
+        value: 9u8,
+    };
+    comes_back(rules, &instance)
+}
