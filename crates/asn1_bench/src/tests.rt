@@ -1,10 +1,10 @@
-//! The record codec as a whole: what is written, as text, and what is read back.
+//! The record codec as a whole: the cases of every codec, and what is its own.
 mod calls;
+mod cases;
 mod errors;
 mod failures;
-mod orders;
+mod made;
+mod memory;
 mod refusals;
 mod samples;
-mod text;
 mod types;
-mod values;

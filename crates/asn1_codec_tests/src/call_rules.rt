@@ -21,7 +21,7 @@ const AROUND: Tag = Tag {
 pub const NAME: Identifier = Identifier(Some("n"));
 
 /// Calls that write, and calls that read what these wrote.
-pub trait Calls {
+pub trait Calls: Drop {
     /// Makes the writing calls.
     ///
     /// # Errors

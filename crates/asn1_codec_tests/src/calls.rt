@@ -8,11 +8,13 @@ mod options;
 mod sets_of;
 mod tagged;
 
-pub use additions::{additions, additions_with_defaults};
-pub use defaults::{defaults, no_default};
-pub use entry_points::entry_points;
-pub use explicit_tags::explicit_tags;
-pub use kinds::{scalars_under_a_tag, scopes_under_a_tag, strings_under_a_tag};
-pub use options::options;
-pub use sets_of::sets_of;
+pub use additions::{additions_come_back, additions_with_defaults_come_back};
+pub use defaults::{a_default_without_memory_is_an_error, defaults_come_back};
+pub use entry_points::entry_points_come_back;
+pub use explicit_tags::explicit_tags_come_back;
+pub use kinds::{
+    scalars_come_back_under_a_tag, scopes_come_back_under_a_tag, strings_come_back_under_a_tag,
+};
+pub use options::options_come_back;
+pub use sets_of::sets_of_come_back_in_any_order;
 pub use tagged::{comes_back_under, comes_back_under_a_tag};

@@ -1,5 +1,5 @@
 //! Why a case fails.
-ghost use Rattle.asn1_codec_tests.specs.declared.failure.Failure.TheVariants.{Memory, NotRead, NotWritten};
+ghost use Rattle.asn1_codec_tests.specs.declared.failure.Failure.TheVariants.{Another, Memory, NotRead, NotWritten};
 ghost use Rattle.asn1_dec.specs.declared.error.DecodeError.TheVariants as reading;
 ghost use Rattle.asn1_enc.specs.declared.error.EncodeError.TheVariants as writing;
 ghost use Rattle.std.specs.Prelude.{◌≡◌, ◌≢◌};
@@ -27,6 +27,7 @@ impl Failure {
     pub fn of_writing(error: EncodeError) -> Failure
         ensures memory { error ≡ writing.Memory → result ≡ Memory }
         ensures other { error ≢ writing.Memory → result ≡ NotWritten error }
+        ensures not_another { result ≢ Another }
     {
         match error {
             EncodeError::Memory => Failure::Memory,
@@ -38,6 +39,7 @@ impl Failure {
     pub fn of_reading(error: DecodeError) -> Failure
         ensures memory { error ≡ reading.Memory → result ≡ Memory }
         ensures other { error ≢ reading.Memory → result ≡ NotRead error }
+        ensures not_another { result ≢ Another }
     {
         match error {
             DecodeError::Memory => Failure::Memory,

@@ -32,4 +32,4 @@ pub use call_rules::{
 };
 pub use depth::needs_depth;
 pub use failure::Failure;
-pub use round_trips::{comes_back, is_not_read, is_refused, is_same, is_this};
+pub use round_trips::{comes_back, comes_back_as, is_not_read, is_refused, is_same, is_this};

@@ -12,7 +12,7 @@ use std::alloc::Global;
 ///
 /// # Errors
 /// How else it ended.
-pub fn numbers_outside_their_limits<R: Rules>(rules: &R) -> Result<(), Failure> {
+pub fn numbers_outside_their_limits_are_refused<R: Rules>(rules: &R) -> Result<(), Failure> {
     is_refused::<ConstrainedInteger<1, 10>, R, u8>(rules, &11, DecodeError::OutOfRange).and(
         is_refused::<ConstrainedInteger<1, 10>, R, u8>(rules, &0, DecodeError::OutOfRange),
     )
@@ -22,7 +22,7 @@ pub fn numbers_outside_their_limits<R: Rules>(rules: &R) -> Result<(), Failure> 
 ///
 /// # Errors
 /// How else it ended.
-pub fn lists_of_another_length<R: Rules>(rules: &R) -> Result<(), Failure> {
+pub fn lists_of_another_length_are_refused<R: Rules>(rules: &R) -> Result<(), Failure> {
     let too_few = DecodeError::IncorrectItemNumber {
         expected: 3,
         actual: 2,
@@ -40,7 +40,7 @@ pub fn lists_of_another_length<R: Rules>(rules: &R) -> Result<(), Failure> {
 ///
 /// # Errors
 /// How else it ended.
-pub fn depth_of_scopes<R: Rules>(rules: &R, alloc: Global) -> Result<(), Failure> {
+pub fn each_scope_takes_its_depth<R: Rules>(rules: &R, alloc: Global) -> Result<(), Failure> {
     needs_depth(rules, &Explicit::<tag::BOOL, u8>::new(7), 1)
         .and(list(rules, alloc))
         .and(list_of_lists(rules, alloc))
@@ -52,7 +52,10 @@ fn list<R: Rules>(rules: &R, alloc: Global) -> Result<(), Failure> {
 }
 
 fn list_of_lists<R: Rules>(rules: &R, alloc: Global) -> Result<(), Failure> {
+    let list = Vec::from_slice(alloc, &[true])?;
     let mut lists = Vec::new(alloc);
-    lists.push(Vec::from_slice(alloc, &[true])?)?;
-    needs_depth(rules, &lists, 2)
+    match lists.push(list) {
+        Ok(()) => needs_depth(rules, &lists, 2),
+        Err(_) => Err(Failure::Memory),
+    }
 }

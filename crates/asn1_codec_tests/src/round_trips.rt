@@ -1,7 +1,7 @@
 //! A value that is written and read back.
 ghost use Rattle.asn1_codec_tests.specs.declared.failure.Failure.TheVariants.{Another};
 ghost use Rattle.asn1_model.specs.Meaning.{CanStandInside};
-ghost use Rattle.std.specs.Prelude.{◌≢◌, Err};
+ghost use Rattle.std.specs.Prelude.{◌≡◌, ◌≢◌, Err, IsOk, false, true};
 
 use crate::failure::Failure;
 use asn1_dec::{Decode, DecodeError};
@@ -21,8 +21,23 @@ pub fn comes_back<R: Rules, T: Encode + Decode>(rules: &R, value: &T) -> Result<
     ensures never_another { CanStandInside T.meaning → T.meaning.IsValid R.format.takes value.now →
         result ≢ Err Another }
 {
+    comes_back_as(rules, value, value)
+}
+
+/// Whether a value comes back as another, which stands for it: a component that is written as absent is read as such.
+///
+/// # Errors
+/// [`Failure::Another`] where it comes back as a third; else why it was not written or not read.
+pub fn comes_back_as<R: Rules, T: Encode + Decode>(
+    rules: &R,
+    value: &T,
+    expected: &T,
+) -> Result<(), Failure>
+    ensures never_another { CanStandInside T.meaning → T.meaning.IsValid R.format.takes value.now →
+        ((w : T) → T.eq w value.now ≡ true → T.eq w expected.now ≡ true) → result ≢ Err Another }
+{
     match round_trip(rules, value, DEPTH, DEPTH) {
-        Ok(back) => is_same(&back, value),
+        Ok(back) => is_same(&back, expected),
         Err(error) => Err(Failure::of_round_trip(error)),
     }
 }
@@ -31,7 +46,10 @@ pub fn comes_back<R: Rules, T: Encode + Decode>(rules: &R, value: &T) -> Result<
 ///
 /// # Errors
 /// [`Failure::Another`] where they are not.
-pub fn is_same<T: PartialEq>(left: &T, right: &T) -> Result<(), Failure> {
+pub fn is_same<T: PartialEq>(left: &T, right: &T) -> Result<(), Failure>
+    ensures equal { T.eq left.now right.now ≡ true → IsOk result }
+    ensures unequal { T.eq left.now right.now ≡ false → result ≡ Err Another }
+{
     if *left == *right {
         Ok(())
     } else {

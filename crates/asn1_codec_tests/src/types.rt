@@ -4,9 +4,10 @@ mod numbers;
 mod strings;
 mod wrappers;
 
-pub use lists::{arrays, lists};
-pub use numbers::{integers, scalars, wide_integers};
+pub use lists::{arrays_come_back, lists_come_back};
+pub use numbers::{integers_come_back, scalars_come_back, wide_integers_come_back};
 pub use strings::{
-    octets_and_arcs, open_type, strings_with_an_alphabet, strings_without_an_alphabet,
+    an_open_type_comes_back, octets_and_arcs_come_back, strings_with_an_alphabet_come_back,
+    strings_without_an_alphabet_come_back,
 };
-pub use wrappers::{holders, instances, tagged_values};
+pub use wrappers::{an_instance_comes_back, holders_come_back, tagged_values_come_back};

@@ -1,15 +1,21 @@
 //! Errors of writing, and an encoder after an error.
 use crate::rules::BenchRules;
-use crate::tests::samples::ann;
-use crate::tests::values::{NAME, done, spelled};
+use asn1_codec_tests::made::letters;
+use asn1_codec_tests::NAME;
 use asn1_bounds::Constraints;
 use asn1_enc::{Encode, EncodeError, Encoder};
 use asn1_records::RecordEncoder;
-use asn1_samples::{Contact, Plate};
+use asn1_samples::{Contact, Person, Plate};
+use asn1_sample_tests::samples::person;
 use asn1_schema::Rules;
 use asn1_tags::{Identifier, Tag};
 use std::alloc::{AllocError, Global};
 use std::process::Abort;
+
+/// Ann, who is 30.
+fn ann(rt: &impl Abort, alloc: Global) -> Person {
+    person(alloc).expect(rt, "memory")
+}
 
 /// Asserts that a call failed by this error, and that the next call of the encoder says that it has failed.
 fn assert_error<E: Encoder>(
@@ -76,17 +82,16 @@ fn nothing_is_open(rt: HostRuntime) {
 }
 
 fn close_a_group_as_a_scope<E: Encoder>(rt: &impl Abort, encoder: &mut E) {
-    done(rt, encoder.open_group::<Contact>());
+    encoder.open_group::<Contact>().expect(rt, "memory");
     let answer = encoder.close();
     let error = EncodeError::Custom("a group is open");
     assert_error(rt, encoder, answer, error);
 }
 
 fn close_a_scope_as_a_group<E: Encoder>(rt: &impl Abort, encoder: &mut E) {
-    done(
-        rt,
-        encoder.open_explicit_prefix(Tag::NULL, Identifier::NULL),
-    );
+    encoder
+        .open_explicit_prefix(Tag::NULL, Identifier::NULL)
+        .expect(rt, "memory");
     let answer = encoder.close_group();
     let error = EncodeError::Custom("a scope is open");
     assert_error(rt, encoder, answer, error);
@@ -152,6 +157,6 @@ fn write_or_no_memory<T: Encode, E: Encoder>(rt: &impl Abort, encoder: &mut E, v
 
 #[test]
 fn memory_for_an_alphabet_runs_out(rt: HostRuntime) {
-    let plate = Plate(spelled(&rt, rt.alloc(), b"AB"));
+    let plate = Plate(letters(rt.alloc(), b"AB").expect(&rt, "memory"));
     write_or_no_memory(&rt, &mut RecordEncoder::new(rt.alloc(), 0), &plate);
 }

@@ -10,9 +10,9 @@ use asn1_tags::Tag;
 use std::alloc::{AllocError, Global};
 
 #[derive(Drop)]
-struct Additions;
+struct AdditionCalls;
 
-impl Calls for Additions {
+impl Calls for AdditionCalls {
     fn write<E: Encoder>(&self, encoder: &mut E) -> Result<(), EncodeError> {
         let constraints = &Constraints::NONE;
         let nine = Some(&9u8);
@@ -46,8 +46,8 @@ impl Calls for Additions {
 ///
 /// # Errors
 /// Why it was not.
-pub fn additions<R: CallRules>(rules: &R) -> Result<(), Failure> {
-    calls_come_back(rules, Additions)
+pub fn additions_come_back<R: CallRules>(rules: &R) -> Result<(), Failure> {
+    calls_come_back(rules, AdditionCalls)
 }
 
 fn eight(_alloc: Global) -> Result<u8, AllocError> {
@@ -94,6 +94,6 @@ impl Calls for AdditionsWithDefaults {
 ///
 /// # Errors
 /// Why it was not.
-pub fn additions_with_defaults<R: CallRules>(rules: &R) -> Result<(), Failure> {
+pub fn additions_with_defaults_come_back<R: CallRules>(rules: &R) -> Result<(), Failure> {
     calls_come_back(rules, AdditionsWithDefaults)
 }

@@ -15,12 +15,12 @@ fn usual(alloc: Global) -> Result<String, AllocError> {
 
 /// A text that is not the default, and one that is.
 #[derive(Drop)]
-struct Defaults {
+struct DefaultCalls {
     value: String,
     usual: String,
 }
 
-impl Calls for Defaults {
+impl Calls for DefaultCalls {
     fn write<E: Encoder>(&self, encoder: &mut E) -> Result<(), EncodeError> {
         let constraints = &Constraints::NONE;
         let value = &self.value;
@@ -56,10 +56,10 @@ impl Calls for Defaults {
 ///
 /// # Errors
 /// Why it was not.
-pub fn defaults<R: CallRules>(rules: &R, alloc: Global) -> Result<(), Failure> {
+pub fn defaults_come_back<R: CallRules>(rules: &R, alloc: Global) -> Result<(), Failure> {
     let value = String::from_str(alloc, "9")?;
     let usual = usual(alloc)?;
-    calls_come_back(rules, Defaults { value, usual })
+    calls_come_back(rules, DefaultCalls { value, usual })
 }
 
 fn no_memory(_alloc: Global) -> Result<u8, AllocError> {
@@ -90,7 +90,7 @@ impl Calls for NoDefault {
 ///
 /// # Errors
 /// Why it was not.
-pub fn no_default<R: CallRules>(rules: &R) -> Result<(), Failure> {
+pub fn a_default_without_memory_is_an_error<R: CallRules>(rules: &R) -> Result<(), Failure> {
     match calls_come_back(rules, NoDefault) {
         Err(Failure::NotRead(DecodeError::Failed)) => Ok(()),
         Err(failure) => Err(failure),

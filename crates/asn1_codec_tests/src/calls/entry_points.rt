@@ -40,6 +40,6 @@ impl<T: Encode + Decode> Calls for EntryPoints<T> {
 ///
 /// # Errors
 /// Why it was not.
-pub fn entry_points<R: CallRules>(rules: &R, alloc: Global) -> Result<(), Failure> {
+pub fn entry_points_come_back<R: CallRules>(rules: &R, alloc: Global) -> Result<(), Failure> {
     calls_come_back(rules, EntryPoints(String::from_str(alloc, "7")?))
 }

@@ -29,6 +29,6 @@ impl<T: Encode + Decode> Calls for ExplicitTags<T> {
 ///
 /// # Errors
 /// Why it was not.
-pub fn explicit_tags<R: CallRules>(rules: &R, alloc: Global) -> Result<(), Failure> {
+pub fn explicit_tags_come_back<R: CallRules>(rules: &R, alloc: Global) -> Result<(), Failure> {
     calls_come_back(rules, ExplicitTags(String::from_str(alloc, "9")?))
 }

@@ -14,7 +14,10 @@ use std::alloc::Global;
 ///
 /// # Errors
 /// Why it did not.
-pub fn scalars_under_a_tag<R: CallRules>(rules: &R, alloc: Global) -> Result<(), Failure> {
+pub fn scalars_come_back_under_a_tag<R: CallRules>(
+    rules: &R,
+    alloc: Global,
+) -> Result<(), Failure> {
     comes_back_under_a_tag(rules, true)
         .and(comes_back_under_a_tag(rules, ()))
         .and(comes_back_under_a_tag(rules, -9i128))
@@ -41,7 +44,10 @@ fn octets<R: CallRules>(rules: &R, alloc: Global) -> Result<(), Failure> {
 ///
 /// # Errors
 /// Why it did not.
-pub fn strings_under_a_tag<R: CallRules>(rules: &R, alloc: Global) -> Result<(), Failure> {
+pub fn strings_come_back_under_a_tag<R: CallRules>(
+    rules: &R,
+    alloc: Global,
+) -> Result<(), Failure> {
     utf8(rules, alloc)
         .and(visible(rules, alloc))
         .and(ia5(rules, alloc))
@@ -101,7 +107,7 @@ fn bmp<R: CallRules>(rules: &R, alloc: Global) -> Result<(), Failure> {
 ///
 /// # Errors
 /// Why it did not.
-pub fn scopes_under_a_tag<R: CallRules>(rules: &R, alloc: Global) -> Result<(), Failure> {
+pub fn scopes_come_back_under_a_tag<R: CallRules>(rules: &R, alloc: Global) -> Result<(), Failure> {
     list(rules, alloc)
         .and(set(rules, alloc))
         .and(instance(rules, alloc))

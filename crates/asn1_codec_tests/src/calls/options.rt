@@ -10,9 +10,9 @@ use std::alloc::Global;
 
 /// Components of the root that may be absent.
 #[derive(Drop)]
-struct Options<T>(T);
+struct OptionCalls<T>(T);
 
-impl<T: Encode + Decode> Calls for Options<T> {
+impl<T: Encode + Decode> Calls for OptionCalls<T> {
     fn write<E: Encoder>(&self, encoder: &mut E) -> Result<(), EncodeError> {
         let constraints = &Constraints::NONE;
         let value = &self.0;
@@ -43,6 +43,6 @@ impl<T: Encode + Decode> Calls for Options<T> {
 ///
 /// # Errors
 /// Why it was not.
-pub fn options<R: CallRules>(rules: &R, alloc: Global) -> Result<(), Failure> {
-    calls_come_back(rules, Options(String::from_str(alloc, "9")?))
+pub fn options_come_back<R: CallRules>(rules: &R, alloc: Global) -> Result<(), Failure> {
+    calls_come_back(rules, OptionCalls(String::from_str(alloc, "9")?))
 }

@@ -51,7 +51,10 @@ fn in_this_order<R: CallRules>(
 ///
 /// # Errors
 /// Why it was not.
-pub fn sets_of<R: CallRules>(rules: &R, alloc: Global) -> Result<(), Failure> {
+pub fn sets_of_come_back_in_any_order<R: CallRules>(
+    rules: &R,
+    alloc: Global,
+) -> Result<(), Failure> {
     in_this_order(rules, alloc, 3, 1, 3)
         .and(in_this_order(rules, alloc, 1, 3, 3))
         .and(in_this_order(rules, alloc, 3, 3, 1))

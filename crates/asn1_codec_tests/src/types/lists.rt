@@ -9,7 +9,7 @@ use std::alloc::Global;
 ///
 /// # Errors
 /// Why it did not.
-pub fn lists<R: Rules>(rules: &R, alloc: Global) -> Result<(), Failure> {
+pub fn lists_come_back<R: Rules>(rules: &R, alloc: Global) -> Result<(), Failure> {
     list(rules, alloc, &[7, 8])
         .and(list(rules, alloc, &[]))
         .and(set(rules, alloc, &[7, 9, 7]))
@@ -30,6 +30,6 @@ fn set<R: Rules>(rules: &R, alloc: Global, elements: &[u8]) -> Result<(), Failur
 ///
 /// # Errors
 /// Why it did not.
-pub fn arrays<R: Rules>(rules: &R) -> Result<(), Failure> {
+pub fn arrays_come_back<R: Rules>(rules: &R) -> Result<(), Failure> {
     comes_back(rules, &Array::from([7u8])).and(comes_back(rules, &Array::from([7u8, 8])))
 }

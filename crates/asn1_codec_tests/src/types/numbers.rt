@@ -10,7 +10,7 @@ use std::marker::PhantomData;
 ///
 /// # Errors
 /// Why it did not.
-pub fn scalars<R: Rules>(rules: &R) -> Result<(), Failure> {
+pub fn scalars_come_back<R: Rules>(rules: &R) -> Result<(), Failure> {
     comes_back(rules, &())
         .and(comes_back(rules, &true))
         .and(comes_back(rules, &false))
@@ -21,8 +21,8 @@ pub fn scalars<R: Rules>(rules: &R) -> Result<(), Failure> {
 /// A number within its limits.
 fn constrained<R: Rules>(rules: &R) -> Result<(), Failure> {
     match ConstrainedInteger::<1, 10>::new(Integer::from_i128(9)) {
-        Ok(number) => comes_back(rules, &number),
-        Err(_) => Err(Failure::Another),
+        Some(number) => comes_back(rules, &number),
+        None => Err(Failure::Another),
     }
 }
 
@@ -30,7 +30,7 @@ fn constrained<R: Rules>(rules: &R) -> Result<(), Failure> {
 ///
 /// # Errors
 /// Why it did not.
-pub fn integers<R: Rules>(rules: &R) -> Result<(), Failure> {
+pub fn integers_come_back<R: Rules>(rules: &R) -> Result<(), Failure> {
     comes_back(rules, &u8::MAX)
         .and(comes_back(rules, &u16::MAX))
         .and(comes_back(rules, &u32::MAX))
@@ -49,7 +49,7 @@ pub fn integers<R: Rules>(rules: &R) -> Result<(), Failure> {
 ///
 /// # Errors
 /// Why it did not.
-pub fn wide_integers<R: Rules>(rules: &R, alloc: Global) -> Result<(), Failure> {
+pub fn wide_integers_come_back<R: Rules>(rules: &R, alloc: Global) -> Result<(), Failure> {
     let wide = u128::MAX.to_integer(alloc)?;
     comes_back(rules, &wide)
 }

@@ -14,7 +14,10 @@ use std::alloc::Global;
 ///
 /// # Errors
 /// Why it did not.
-pub fn strings_with_an_alphabet<R: Rules>(rules: &R, alloc: Global) -> Result<(), Failure> {
+pub fn strings_with_an_alphabet_come_back<R: Rules>(
+    rules: &R,
+    alloc: Global,
+) -> Result<(), Failure> {
     visible(rules, alloc)
         .and(ia5(rules, alloc))
         .and(printable(rules, alloc))
@@ -45,7 +48,10 @@ fn numeric<R: Rules>(rules: &R, alloc: Global) -> Result<(), Failure> {
 ///
 /// # Errors
 /// Why it did not.
-pub fn strings_without_an_alphabet<R: Rules>(rules: &R, alloc: Global) -> Result<(), Failure> {
+pub fn strings_without_an_alphabet_come_back<R: Rules>(
+    rules: &R,
+    alloc: Global,
+) -> Result<(), Failure> {
     utf8(rules, alloc)
         .and(general(rules, alloc))
         .and(graphic(rules, alloc))
@@ -82,7 +88,7 @@ fn bmp<R: Rules>(rules: &R, alloc: Global) -> Result<(), Failure> {
 ///
 /// # Errors
 /// Why it did not.
-pub fn octets_and_arcs<R: Rules>(rules: &R, alloc: Global) -> Result<(), Failure> {
+pub fn octets_and_arcs_come_back<R: Rules>(rules: &R, alloc: Global) -> Result<(), Failure> {
     bits(rules, alloc)
         .and(octets(rules, alloc))
         .and(object_identifier(rules, alloc))
@@ -107,7 +113,11 @@ fn object_identifier<R: Rules>(rules: &R, alloc: Global) -> Result<(), Failure> 
 ///
 /// # Errors
 /// Why it did not.
-pub fn open_type<R: Rules>(rules: &R, alloc: Global, value: &[u8]) -> Result<(), Failure> {
+pub fn an_open_type_comes_back<R: Rules>(
+    rules: &R,
+    alloc: Global,
+    value: &[u8],
+) -> Result<(), Failure> {
     let open = Any::new(Vec::from_slice(alloc, value)?);
     comes_back(rules, &open)
 }

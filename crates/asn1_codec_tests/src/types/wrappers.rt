@@ -11,7 +11,7 @@ use std::borrow::Cow;
 ///
 /// # Errors
 /// Why it did not.
-pub fn holders<R: Rules>(rules: &R, alloc: Global) -> Result<(), Failure> {
+pub fn holders_come_back<R: Rules>(rules: &R, alloc: Global) -> Result<(), Failure> {
     comes_back(rules, &Some(7u8))
         .and(comes_back(rules, &None::<u8>))
         .and(comes_back(rules, &Cow::<u8>::Owned(7)))
@@ -19,15 +19,17 @@ pub fn holders<R: Rules>(rules: &R, alloc: Global) -> Result<(), Failure> {
 }
 
 fn boxed<R: Rules>(rules: &R, alloc: Global) -> Result<(), Failure> {
-    let boxed = Box::new(alloc, 7u8)?;
-    comes_back(rules, &boxed)
+    match Box::new(alloc, 7u8) {
+        Ok(boxed) => comes_back(rules, &boxed),
+        Err(_) => Err(Failure::Memory),
+    }
 }
 
 /// Whether what is another value under a tag comes back.
 ///
 /// # Errors
 /// Why it did not.
-pub fn tagged_values<R: Rules>(rules: &R, alloc: Global) -> Result<(), Failure> {
+pub fn tagged_values_come_back<R: Rules>(rules: &R, alloc: Global) -> Result<(), Failure> {
     comes_back(rules, &Implicit::<tag::BOOL, u8>::new(7))
         .and(comes_back(rules, &Explicit::<tag::BOOL, u8>::new(7)))
         .and(universal(rules, alloc))
@@ -42,7 +44,7 @@ fn universal<R: Rules>(rules: &R, alloc: Global) -> Result<(), Failure> {
 ///
 /// # Errors
 /// Why it did not.
-pub fn instances<R: Rules>(rules: &R, alloc: Global) -> Result<(), Failure> {
+pub fn an_instance_comes_back<R: Rules>(rules: &R, alloc: Global) -> Result<(), Failure> {
     let instance = InstanceOf {
         type_id: arcs(alloc, &[1, 3])?,
         value: 9u8,

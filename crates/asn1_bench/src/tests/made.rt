@@ -1,0 +1,68 @@
+//! Records that no value of the type gives.
+use crate::rules::BenchRules;
+use asn1_enc::Encode;
+use asn1_records::{Content, Head, Record};
+use asn1_schema::Rules;
+use asn1_tags::{Identifier, Tag};
+use asn1_values::Integer;
+use std::alloc::Global;
+use std::process::Abort;
+
+const NAME: Identifier = Identifier(Some("n"));
+
+/// The records of a value.
+pub(super) fn written<T: Encode>(rt: &impl Abort, alloc: Global, value: &T) -> Vec<Record> {
+    BenchRules::new(alloc)
+        .write_value(value, 4)
+        .expect(rt, "memory")
+}
+
+/// A list of one record.
+pub(super) fn alone(rt: &impl Abort, alloc: Global, record: Record) -> Vec<Record> {
+    let mut records = Vec::new(alloc);
+    records.push(record).expect(rt, "memory");
+    records
+}
+
+/// An explicit tag with nothing after it.
+pub(super) fn empty_scope(rt: &impl Abort, alloc: Global) -> Vec<Record> {
+    let head = Head::Prefix(Tag::BOOL, NAME);
+    alone(rt, alloc, Record::Scope(head, Vec::new(alloc)))
+}
+
+/// A value of an ENUMERATED type by this number.
+pub(super) fn item(rt: &impl Abort, alloc: Global, number: isize) -> Vec<Record> {
+    let content = Content::Discriminant(number);
+    alone(rt, alloc, Record::Scalar(Tag::ENUMERATED, NAME, content))
+}
+
+/// A chosen alternative of this tag.
+pub(super) fn alternative(rt: &impl Abort, alloc: Global, tag: Tag) -> Vec<Record> {
+    let null = Record::Scalar(tag, NAME, Content::Null);
+    let head = Head::Alternative(tag, NAME);
+    alone(rt, alloc, Record::Scope(head, alone(rt, alloc, null)))
+}
+
+/// The numbers 11 and 7.
+pub(super) fn two_numbers(rt: &impl Abort, alloc: Global) -> Vec<Record> {
+    let mut records = written(rt, alloc, &11u8);
+    records.push(number(7)).expect(rt, "memory");
+    records
+}
+
+/// A number.
+fn number(value: u8) -> Record {
+    Record::Scalar(Tag::INTEGER, NAME, Content::Number(Integer::from(value)))
+}
+
+/// A SET of a number and a REAL.
+pub(super) fn set_with_a_real(rt: &impl Abort, alloc: Global) -> Vec<Record> {
+    let mut components = alone(rt, alloc, number(7));
+    let real = Record::Scalar(Tag::REAL, NAME, Content::Null);
+    components.push(real).expect(rt, "memory");
+    alone(
+        rt,
+        alloc,
+        Record::Scope(Head::Set(Tag::SET, NAME), components),
+    )
+}

@@ -1,0 +1,14 @@
+//! Tests of a codec with the sample types, written once for every codec, as those of `asn1_codec_tests` are.
+//!
+//! | Item | What it is |
+//! |---|---|
+//! | [`samples`] | worked values of each sample type, written and read back |
+//! | [`sets`] | a SET in each order of its components, and what is none |
+//! | [`calls`] | the calls for groups of additions, items of an ENUMERATED and a CHOICE under a tag |
+//! | [`depth`] | how many scopes the values take, up to a hundred nodes in one another |
+#![tactic(auto)]
+
+pub mod calls;
+pub mod depth;
+pub mod samples;
+pub mod sets;

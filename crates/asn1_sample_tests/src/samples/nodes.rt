@@ -1,0 +1,46 @@
+//! `Node`.
+use asn1_codec_tests::{Failure, comes_back};
+use asn1_recursive::Node;
+use asn1_schema::Rules;
+use std::alloc::{AllocError, Global};
+
+/// A node with a label and without children, with so many nodes around it, one in another.
+///
+/// # Errors
+/// There was no memory.
+pub fn node_chain(alloc: Global, around: usize) -> Result<Node, AllocError> {
+    let label = String::from_str(alloc, "a")?;
+    let mut node = Node {
+        label: Some(label),
+        children: Vec::new(alloc),
+    };
+    for _index in 0..around {
+        node = parent(alloc, node)?;
+    }
+    Ok(node)
+}
+
+/// A node without a label, with one child.
+fn parent(alloc: Global, child: Node) -> Result<Node, AllocError> {
+    let mut children = Vec::new(alloc);
+    match children.push(child) {
+        Ok(()) => Ok(Node {
+            label: None,
+            children,
+        }),
+        Err(_) => Err(AllocError),
+    }
+}
+
+/// Whether nodes come back, with a child and without.
+///
+/// # Errors
+/// Why one did not.
+pub fn nodes_come_back<R: Rules>(rules: &R, alloc: Global) -> Result<(), Failure> {
+    chain(rules, alloc, 0).and(chain(rules, alloc, 1))
+}
+
+fn chain<R: Rules>(rules: &R, alloc: Global, around: usize) -> Result<(), Failure> {
+    let node = node_chain(alloc, around)?;
+    comes_back(rules, &node)
+}

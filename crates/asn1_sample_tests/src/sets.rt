@@ -1,0 +1,114 @@
+//! A SET in each order of its components, and what is none.
+use asn1_codec_tests::made::letters;
+use asn1_codec_tests::{CallRules, Calls, Failure, NAME, answers, calls_come_back, is_this};
+use asn1_dec::{Decode, DecodeError, Decoder};
+use asn1_enc::{Encode, EncodeError, Encoder};
+use asn1_samples::{Badge, Shape};
+use asn1_tags::Tag;
+use asn1_values::VisibleString;
+use std::alloc::Global;
+
+/// A badge, and the places of its components in the order in which they are written.
+#[derive(Drop)]
+struct BadgeCalls<'a> {
+    label: VisibleString,
+    badge: Badge,
+    places: &'a [usize],
+}
+
+impl BadgeCalls<'_> {
+    fn write_component<E: Encoder>(
+        &self,
+        encoder: &mut E,
+        place: usize,
+    ) -> Result<(), EncodeError> {
+        match place {
+            0 => self.badge.id.encode(encoder),
+            1 => encoder.encode_some(&self.label, NAME),
+            _ => self.badge.shape.encode(encoder),
+        }
+    }
+}
+
+impl Calls for BadgeCalls<'_> {
+    fn write<E: Encoder>(&self, encoder: &mut E) -> Result<(), EncodeError> {
+        encoder.open_set::<Badge>(Tag::SET, NAME)?;
+        for place in self.places {
+            self.write_component(encoder, *place)?;
+        }
+        encoder.close()
+    }
+
+    fn read<D: Decoder>(&self, decoder: &mut D) -> Result<(), Failure> {
+        answers(Badge::decode(decoder), &self.badge)
+    }
+}
+
+/// Whether the badge of these components, in this order, comes back.
+fn in_this_order<R: CallRules>(
+    rules: &R,
+    alloc: Global,
+    places: &[usize],
+) -> Result<(), Failure> {
+    let label = letters(alloc, b"x")?;
+    let own = letters(alloc, b"x")?;
+    let badge = Badge {
+        id: 7,
+        label: Some(own),
+        shape: Shape::Ring(300),
+    };
+    calls_come_back(
+        rules,
+        BadgeCalls {
+            label,
+            badge,
+            places,
+        },
+    )
+}
+
+/// Whether a badge is read of its components in each order.
+///
+/// # Errors
+/// Why one was not.
+pub fn badges_come_back_in_any_order<R: CallRules>(
+    rules: &R,
+    alloc: Global,
+) -> Result<(), Failure> {
+    in_this_order(rules, alloc, &[0, 1, 2])
+        .and(in_this_order(rules, alloc, &[0, 2, 1]))
+        .and(in_this_order(rules, alloc, &[1, 0, 2]))
+        .and(in_this_order(rules, alloc, &[1, 2, 0]))
+        .and(in_this_order(rules, alloc, &[2, 0, 1]))
+        .and(in_this_order(rules, alloc, &[2, 1, 0]))
+}
+
+/// Whether a SET of these components is refused by this error.
+fn is_no_badge<R: CallRules>(
+    rules: &R,
+    alloc: Global,
+    places: &[usize],
+    expected: DecodeError,
+) -> Result<(), Failure> {
+    match in_this_order(rules, alloc, places) {
+        Err(Failure::NotRead(error)) => is_this(error, expected),
+        Err(failure) => Err(failure),
+        Ok(()) => Err(Failure::Another),
+    }
+}
+
+/// Whether a SET is refused where a component is there twice, or one is missing.
+///
+/// # Errors
+/// How else it ended.
+pub fn what_is_no_badge_is_refused<R: CallRules>(
+    rules: &R,
+    alloc: Global,
+) -> Result<(), Failure> {
+    is_no_badge(rules, alloc, &[0, 1, 1, 2], DecodeError::DuplicateField("label"))
+        .and(is_no_badge(rules, alloc, &[0, 0, 2], DecodeError::DuplicateField("id")))
+        .and(is_no_badge(rules, alloc, &[2, 2], DecodeError::DuplicateField("shape")))
+        .and(is_no_badge(rules, alloc, &[], DecodeError::MissingField("id")))
+        .and(is_no_badge(rules, alloc, &[1], DecodeError::MissingField("id")))
+        .and(is_no_badge(rules, alloc, &[0], DecodeError::MissingField("shape")))
+}
