@@ -19,13 +19,15 @@ use crate::contact::Contact;
 use crate::corner::Corner;
 use crate::envelope::Envelope;
 use crate::labelled::Labelled;
+use crate::notice::Notice;
+use crate::pair::Pair;
 use crate::person::Person;
 use crate::plate::Plate;
 use crate::profile::Profile;
 use crate::settings::Settings;
 use crate::shape::Shape;
 use crate::visit::Visit;
-use asn1_types::{Choice, Enumerated, FieldTable};
+use asn1_types::{AsnType, Choice, Enumerated, FieldTable};
 use std::hash::Hash;
 pub use validity::{
     each_alternative_is_valid, each_value_is_valid, groups_that_write_a_component_are_valid,
@@ -34,6 +36,8 @@ pub use validity::{
 /// A law of the tables: the names of the components, in the order of the table.
 pub fn components_have_their_names()
     ensures person { component_names ⟦<Person as FieldTable>⟧.components ≡ codes "age" ∷ codes "name" ∷ [] }
+    ensures notice { component_names ⟦<Notice as FieldTable>⟧.components ≡
+        codes "id" ∷ codes "urgent" ∷ codes "text" ∷ [] }
     ensures profile { component_names ⟦<Profile as FieldTable>⟧.components ≡ codes "nick" ∷ codes "level" ∷ codes "color" ∷ codes "contact" ∷ [] }
     ensures contact { component_names ⟦<Contact as FieldTable>⟧.components ≡ codes "phone" ∷ codes "mail" ∷ [] }
     ensures visit { component_names ⟦<Visit as FieldTable>⟧.components ≡ codes "day" ∷ codes "contact" ∷ codes "note" ∷ [] }
@@ -41,6 +45,13 @@ pub fn components_have_their_names()
     ensures envelope { component_names ⟦<Envelope as FieldTable>⟧.components ≡ codes "kind" ∷ codes "body" ∷ [] }
     ensures labelled { component_names ⟦<Labelled as FieldTable>⟧.components ≡ codes "key" ∷ codes "note" ∷ [] }
     ensures settings { component_names ⟦<Settings as FieldTable>⟧.components ≡ codes "entry" ∷ [] }
+{}
+
+/// A law of the table of a `Pair`, whatever its types: the names of its components, and no extension marker.
+pub fn pairs_have_a_first_and_a_second<T: AsnType, U: AsnType>()
+    ensures names { component_names ⟦<Pair<T, U> as FieldTable>⟧.components ≡
+        codes "first" ∷ codes "second" ∷ [] }
+    ensures marker { has_marker ⟦<Pair<T, U> as FieldTable>⟧.components.extension ≡ false }
 {}
 
 /// A law of the tables: the names of the alternatives of a CHOICE, and those of the items of an ENUMERATED type.
@@ -53,6 +64,7 @@ pub fn alternatives_and_items_have_their_names()
 /// A law of the extension markers: of the SEQUENCE and SET types a `Profile` and a `Visit` have one, and no other.
 pub fn some_types_have_an_extension_marker()
     ensures person { has_marker ⟦<Person as FieldTable>⟧.components.extension ≡ false }
+    ensures notice { has_marker ⟦<Notice as FieldTable>⟧.components.extension ≡ false }
     ensures profile { has_marker ⟦<Profile as FieldTable>⟧.components.extension ≡ true }
     ensures contact { has_marker ⟦<Contact as FieldTable>⟧.components.extension ≡ false }
     ensures visit { has_marker ⟦<Visit as FieldTable>⟧.components.extension ≡ true }
@@ -76,6 +88,25 @@ pub fn values_are_compared_by_all_that_they_are()
 /// Whether two persons have the same age and the same name.
 pub fn persons_are_compared_by_age_and_name(a: &Person, b: &Person) -> bool
     ensures { IsTrue result ↔ ((a.now.age ≡ b.now.age) × (string_bytes a.now.name ≡ string_bytes b.now.name)) }
+{
+    a == b
+}
+
+/// Whether two notices have the same number, the same urgency and the same text.
+pub fn notices_are_compared_by_their_components(a: &Notice, b: &Notice) -> bool
+    ensures { result ≡ (nat_eq a.now.id b.now.id &&
+        (option_eq ⟦<bool as PartialEq>⟧.eq a.now.urgent b.now.urgent &&
+        string_eq a.now.text b.now.text)) }
+{
+    a == b
+}
+
+/// Whether two pairs have equal firsts, and equal seconds or none.
+pub fn pairs_are_compared_by_their_components<T: PartialEq, U: PartialEq>(
+    a: &Pair<T, U>,
+    b: &Pair<T, U>,
+) -> bool
+    ensures { result ≡ (T.eq a.now.first b.now.first && option_eq U.eq a.now.second b.now.second) }
 {
     a == b
 }

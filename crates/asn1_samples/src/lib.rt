@@ -3,6 +3,8 @@
 //! | Type | What it is |
 //! |---|---|
 //! | [`Person`] | a SEQUENCE of two components |
+//! | [`Notice`] | a SEQUENCE with a component under an explicit tag, which may be absent |
+//! | [`Pair`] | a SEQUENCE of any two types |
 //! | [`Profile`], [`Contact`] | a SEQUENCE with an option, a default and a group of additions |
 //! | [`Visit`] | a SEQUENCE with an addition after such a group |
 //! | [`Badge`] | a SET |
@@ -23,12 +25,13 @@
 //!   the group, as the note of a `Visit` is. The proof too has a line for each component, by the steps of `PartWays` of `asn1_dec`. A tag that no alternative
 //!   has is refused with the name of the CHOICE.
 //! - Each can be inside other types: `person_can_stand_inside` and its kin.
-//! - The records of some values are written out: `person_records` and its kin. `profile_is_valid` and `envelope_is_valid` say of
-//!   some values whether they are valid.
-//! - [`laws`] says when two values are equal, which names the tables have, and which types have an extension marker.
+//! - The records of some values are written out: `person_records` and its kin.
+//! - [`laws`] says which values are valid, when two values are equal, which names the tables have, and which types have an
+//!   extension marker. `envelope_is_valid` and `pair_is_valid` say when an `Envelope` and a `Pair` are valid.
 //!
-//! A call takes memory only where a codec does, for what is read, and for the alphabet of a `Plate`. A type that holds itself is in
-//! the crate `asn1_recursive`.
+//! A call takes memory only where a codec does, for what is read, and for the alphabet of a `Plate`. Types that hold themselves
+//! are in the crate `asn1_recursive`. `docs/USING.md` explains how such types are written, and quotes `Notice`, `Corner`, `Color`
+//! and `Pair`.
 #![tactic(auto, using(asn1_tags::proofs::Leaves::tree_shapes))]
 
 mod badge;
@@ -38,6 +41,8 @@ mod corner;
 mod envelope;
 mod labelled;
 pub mod laws;
+mod notice;
+mod pair;
 mod person;
 mod plate;
 mod profile;
@@ -51,9 +56,11 @@ pub use contact::Contact;
 pub use corner::{Corner, corner_can_stand_inside, corner_records};
 pub use envelope::{Envelope, envelope_can_stand_inside, envelope_is_valid, envelope_records};
 pub use labelled::{Labelled, labelled_can_stand_inside, labelled_records};
+pub use notice::{Notice, notice_can_stand_inside, notice_records};
+pub use pair::{Pair, pair_can_stand_inside, pair_is_valid, pair_records};
 pub use person::{Person, person_can_stand_inside, person_records};
 pub use plate::{Plate, plate_can_stand_inside, plate_records};
-pub use profile::{Profile, profile_can_stand_inside, profile_is_valid, profile_records};
+pub use profile::{Profile, profile_can_stand_inside, profile_records};
 pub use settings::{Settings, settings_can_stand_inside, settings_records};
 pub use shape::{Shape, shape_can_stand_inside, shape_records};
 pub use visit::{Visit, visit_can_stand_inside, visit_records};

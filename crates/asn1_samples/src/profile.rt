@@ -9,7 +9,7 @@
 //!     [[ phone [3] NumericString OPTIONAL, mail [4] IA5String OPTIONAL ]]
 //! }
 //! ```
-ghost use Rattle.std.specs.Prelude.{◌≡◌, ℕ, Bool, List, [], ◌∷◌, None, Some, pos, codes};
+ghost use Rattle.std.specs.Prelude.{◌≡◌, [], ◌∷◌, None, Some, pos, codes};
 ghost use Rattle.std.specs.String.{string_bytes};
 ghost use Rattle.asn1_types.specs.Words.{context, universal, tagged, required, optional, with_default, extensible_sequence, group, constructed_type, constructed_agrees, CanStandInside, own_records, holding, sequence_head, scalar, mark, absent, present, group_start, group_end, group_absent, number, discriminant, units, utf8, ia5, unconstrained, values_of, Range};
 ghost use Rattle.asn1_samples.specs.declared.color.Color.TheVariants.{Red, Blue};
@@ -180,13 +180,4 @@ pub fn profile_records(profile: &Profile, nick: &Utf8String, mail: &Ia5String)
         mark (present (context 4)) ∷
         scalar (context 4) unconstrained (Some (codes "IA5String")) (units ia5 (codes "a@b")) ∷
         mark group_end ∷ []) ∷ [] }
-{}
-
-/// A profile is valid where it has no contact, and is not where it has a contact of nothing: a group that is there writes a
-/// component.
-pub fn profile_is_valid(profile: &Profile)
-    ensures without_contact { profile.now.contact ≡ None → (takes : List ℕ → Bool) →
-        ⟦<Profile as AsnType>⟧.meaning.IsValid takes profile.now }
-    ensures empty_contact { profile.now.contact ≡ Some (record { phone = None; mail = None }) → (takes : List ℕ → Bool) →
-        ¬ ⟦<Profile as AsnType>⟧.meaning.IsValid takes profile.now }
 {}

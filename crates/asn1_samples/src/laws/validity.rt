@@ -9,6 +9,7 @@ use crate::badge::Badge;
 use crate::color::Color;
 use crate::corner::Corner;
 use crate::labelled::Labelled;
+use crate::notice::Notice;
 use crate::person::Person;
 use crate::plate::Plate;
 use crate::profile::Profile;
@@ -19,20 +20,22 @@ use asn1_types::AsnType;
 
 /// A law of validity: each value of these types is valid.
 pub fn each_value_is_valid(
-    _person: &Person,
-    _labelled: &Labelled,
-    _settings: &Settings,
-    _plate: &Plate,
+    person: &Person,
+    notice: &Notice,
+    labelled: &Labelled,
+    settings: &Settings,
+    plate: &Plate,
 )
-    ensures person { (takes : List ℕ → Bool) → ⟦<Person as AsnType>⟧.meaning.IsValid takes _person.now }
-    ensures labelled { (takes : List ℕ → Bool) → ⟦<Labelled as AsnType>⟧.meaning.IsValid takes _labelled.now }
-    ensures settings { (takes : List ℕ → Bool) → ⟦<Settings as AsnType>⟧.meaning.IsValid takes _settings.now }
-    ensures plate { (takes : List ℕ → Bool) → ⟦<Plate as AsnType>⟧.meaning.IsValid takes _plate.now }
+    ensures person { (takes : List ℕ → Bool) → ⟦<Person as AsnType>⟧.meaning.IsValid takes person.now }
+    ensures notice { (takes : List ℕ → Bool) → ⟦<Notice as AsnType>⟧.meaning.IsValid takes notice.now }
+    ensures labelled { (takes : List ℕ → Bool) → ⟦<Labelled as AsnType>⟧.meaning.IsValid takes labelled.now }
+    ensures settings { (takes : List ℕ → Bool) → ⟦<Settings as AsnType>⟧.meaning.IsValid takes settings.now }
+    ensures plate { (takes : List ℕ → Bool) → ⟦<Plate as AsnType>⟧.meaning.IsValid takes plate.now }
     ensures color { (takes : List ℕ → Bool) (color : Color) → ⟦<Color as AsnType>⟧.meaning.IsValid takes color }
 {}
 
 /// A law of validity: each alternative of a corner, and of a shape, is valid, and a badge with each of these shapes.
-pub fn each_alternative_is_valid(_badge: &Badge)
+pub fn each_alternative_is_valid(badge: &Badge)
     ensures left { (takes : List ℕ → Bool) (b : Bool) → ⟦<Corner as AsnType>⟧.meaning.IsValid takes (Left b) }
     ensures right { (takes : List ℕ → Bool) (s : List ℕ) → ⟦<Corner as AsnType>⟧.meaning.IsValid takes (Right s) }
     ensures dot { (takes : List ℕ → Bool) → ⟦<Shape as AsnType>⟧.meaning.IsValid takes (Dot tt) }
@@ -41,33 +44,33 @@ pub fn each_alternative_is_valid(_badge: &Badge)
         ⟦<Shape as AsnType>⟧.meaning.IsValid takes (Inner (Left b)) }
     ensures inner_right { (takes : List ℕ → Bool) (s : List ℕ) →
         ⟦<Shape as AsnType>⟧.meaning.IsValid takes (Inner (Right s)) }
-    ensures dotted_badge { (takes : List ℕ → Bool) → _badge.now.shape ≡ Dot tt →
-        ⟦<Badge as AsnType>⟧.meaning.IsValid takes _badge.now }
-    ensures ringed_badge { (takes : List ℕ → Bool) (width : ℕ) → _badge.now.shape ≡ Ring width →
-        ⟦<Badge as AsnType>⟧.meaning.IsValid takes _badge.now }
-    ensures left_badge { (takes : List ℕ → Bool) (b : Bool) → _badge.now.shape ≡ Inner (Left b) →
-        ⟦<Badge as AsnType>⟧.meaning.IsValid takes _badge.now }
-    ensures right_badge { (takes : List ℕ → Bool) (s : List ℕ) → _badge.now.shape ≡ Inner (Right s) →
-        ⟦<Badge as AsnType>⟧.meaning.IsValid takes _badge.now }
+    ensures dotted_badge { (takes : List ℕ → Bool) → badge.now.shape ≡ Dot tt →
+        ⟦<Badge as AsnType>⟧.meaning.IsValid takes badge.now }
+    ensures ringed_badge { (takes : List ℕ → Bool) (width : ℕ) → badge.now.shape ≡ Ring width →
+        ⟦<Badge as AsnType>⟧.meaning.IsValid takes badge.now }
+    ensures left_badge { (takes : List ℕ → Bool) (b : Bool) → badge.now.shape ≡ Inner (Left b) →
+        ⟦<Badge as AsnType>⟧.meaning.IsValid takes badge.now }
+    ensures right_badge { (takes : List ℕ → Bool) (s : List ℕ) → badge.now.shape ≡ Inner (Right s) →
+        ⟦<Badge as AsnType>⟧.meaning.IsValid takes badge.now }
 {}
 
 /// A law of validity: a profile or a visit is valid without the group of additions, and with a group of which a component is
 /// there; and with a group of which none is there it is not.
-pub fn groups_that_write_a_component_are_valid(_profile: &Profile, _visit: &Visit)
-    ensures profile { (takes : List ℕ → Bool) → _profile.now.contact ≡ None →
-        ⟦<Profile as AsnType>⟧.meaning.IsValid takes _profile.now }
+pub fn groups_that_write_a_component_are_valid(profile: &Profile, visit: &Visit)
+    ensures profile { (takes : List ℕ → Bool) → profile.now.contact ≡ None →
+        ⟦<Profile as AsnType>⟧.meaning.IsValid takes profile.now }
     ensures profile_with_phone { (takes : List ℕ → Bool) (phone : List ℕ) (contact : Contact) → contact.phone ≡ Some phone →
-        _profile.now.contact ≡ Some contact → ⟦<Profile as AsnType>⟧.meaning.IsValid takes _profile.now }
+        profile.now.contact ≡ Some contact → ⟦<Profile as AsnType>⟧.meaning.IsValid takes profile.now }
     ensures profile_with_mail { (takes : List ℕ → Bool) (mail : List ℕ) (contact : Contact) → contact.mail ≡ Some mail →
-        _profile.now.contact ≡ Some contact → ⟦<Profile as AsnType>⟧.meaning.IsValid takes _profile.now }
-    ensures profile_with_nothing { (takes : List ℕ → Bool) → _profile.now.contact ≡ Some (record { phone = None; mail = None }) →
-        ¬ ⟦<Profile as AsnType>⟧.meaning.IsValid takes _profile.now }
-    ensures visit { (takes : List ℕ → Bool) → _visit.now.contact ≡ None →
-        ⟦<Visit as AsnType>⟧.meaning.IsValid takes _visit.now }
+        profile.now.contact ≡ Some contact → ⟦<Profile as AsnType>⟧.meaning.IsValid takes profile.now }
+    ensures profile_with_nothing { (takes : List ℕ → Bool) → profile.now.contact ≡ Some (record { phone = None; mail = None }) →
+        ¬ ⟦<Profile as AsnType>⟧.meaning.IsValid takes profile.now }
+    ensures visit { (takes : List ℕ → Bool) → visit.now.contact ≡ None →
+        ⟦<Visit as AsnType>⟧.meaning.IsValid takes visit.now }
     ensures visit_with_phone { (takes : List ℕ → Bool) (phone : List ℕ) (contact : Contact) → contact.phone ≡ Some phone →
-        _visit.now.contact ≡ Some contact → ⟦<Visit as AsnType>⟧.meaning.IsValid takes _visit.now }
+        visit.now.contact ≡ Some contact → ⟦<Visit as AsnType>⟧.meaning.IsValid takes visit.now }
     ensures visit_with_mail { (takes : List ℕ → Bool) (mail : List ℕ) (contact : Contact) → contact.mail ≡ Some mail →
-        _visit.now.contact ≡ Some contact → ⟦<Visit as AsnType>⟧.meaning.IsValid takes _visit.now }
-    ensures visit_with_nothing { (takes : List ℕ → Bool) → _visit.now.contact ≡ Some (record { phone = None; mail = None }) →
-        ¬ ⟦<Visit as AsnType>⟧.meaning.IsValid takes _visit.now }
+        visit.now.contact ≡ Some contact → ⟦<Visit as AsnType>⟧.meaning.IsValid takes visit.now }
+    ensures visit_with_nothing { (takes : List ℕ → Bool) → visit.now.contact ≡ Some (record { phone = None; mail = None }) →
+        ¬ ⟦<Visit as AsnType>⟧.meaning.IsValid takes visit.now }
 {}

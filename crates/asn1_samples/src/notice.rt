@@ -1,0 +1,151 @@
+//! `Notice ::= SEQUENCE { id [0] INTEGER (0..255), urgent [1] EXPLICIT BOOLEAN OPTIONAL, text [2] UTF8String }`
+ghost use Rattle.std.specs.Prelude.{◌≡◌, [], ◌∷◌, None, Some, true, pos, codes};
+ghost use Rattle.std.specs.String.{string_bytes};
+ghost use Rattle.asn1_types.specs.Words.{context, universal, tagged, explicitly_tagged, required, optional, sequence, constructed_type, constructed_agrees, CanStandInside, own_records, holding, sequence_head, prefix, scalar, mark, absent, present, number, truth, units, utf8, unconstrained, values_of, Range};
+
+use asn1_dec::{Decode, DecodeError, DecodeFields, Decoder};
+use asn1_enc::{Encode, EncodeError, EncodeFields, Encoder};
+use asn1_types::{
+    AsnType, Class, Constraints, ConstructedType, Field, FieldTable, Identifier, Tag, TypeTable,
+};
+use asn1_values::Utf8String;
+
+/// What someone is told, and whether at once.
+#[derive(PartialEq, Eq, Debug, Drop)]
+pub struct Notice {
+    /// `id [0] INTEGER (0..255)`
+    pub id: u8,
+    /// `urgent [1] EXPLICIT BOOLEAN OPTIONAL`
+    pub urgent: Option<bool>,
+    /// `text [2] UTF8String`
+    pub text: Utf8String,
+}
+
+const ID: Tag = Tag {
+    class: Class::Context,
+    value: 0,
+};
+
+const URGENT: Tag = Tag {
+    class: Class::Context,
+    value: 1,
+};
+
+const TEXT: Tag = Tag {
+    class: Class::Context,
+    value: 2,
+};
+
+impl FieldTable for Notice {
+    ghost components = { sequence (
+        required (codes "id") (λ n. n.id) (tagged (context 0) ⟦<u8 as AsnType>⟧.meaning) ∷
+        optional (codes "urgent") (λ n. n.urgent)
+        (explicitly_tagged (context 1) ⟦<bool as AsnType>⟧.meaning) ∷
+        required (codes "text") (λ n. n.text) (tagged (context 2) ⟦<Utf8String as AsnType>⟧.meaning) ∷ []) };
+
+    fn field_count() -> usize {
+        3
+    }
+
+    fn field_at(place: usize) -> Option<Field<'static>> {
+        match place {
+            0 => Some(Field::new_required_type_with_tag::<u8>(0, ID, "id")),
+            1 => Some(Field::new_optional_explicit(1, URGENT, "urgent")),
+            2 => Some(Field::new_required_type_with_tag::<Utf8String>(2, TEXT, "text")),
+            _ => None,
+        }
+    }
+}
+
+impl AsnType for Notice {
+    ghost meaning = { constructed_type (codes "Notice") ⟦<Notice as FieldTable>⟧.components };
+
+    fn table() -> TypeTable {
+        TypeTable::new(Tag::SEQUENCE, Identifier(Some("Notice")))
+    }
+
+    fn is_present(&self) -> bool {
+        true
+    }
+}
+
+impl ConstructedType for Notice {
+    ghost agrees = { constructed_agrees };
+}
+
+/// A `Notice` can be inside other types: what follows `urgent` begins with another tag.
+pub fn notice_can_stand_inside()
+    ensures { CanStandInside ⟦<Notice as AsnType>⟧.meaning }
+{}
+
+impl Encode for Notice {
+    fn encode_with_tag_and_constraints<E: Encoder>(
+        &self,
+        encoder: &mut E,
+        tag: Tag,
+        _constraints: &Constraints<'_>,
+        name: Identifier,
+    ) -> Result<(), EncodeError> {
+        encoder.encode_sequence(tag, self, name)
+    }
+}
+
+impl EncodeFields for Notice {
+    fn encode_field<E: Encoder>(&self, place: usize, encoder: &mut E) -> Result<(), EncodeError> {
+        match place {
+            0 => self.id.encode_with_tag(encoder, ID),
+            1 => match &self.urgent {
+                None => encoder.encode_none_with_tag(URGENT, bool::identifier()),
+                Some(urgent) => {
+                    encoder.encode_some_with_explicit_prefix(URGENT, urgent, bool::identifier())
+                }
+            },
+            2 => self.text.encode_with_tag(encoder, TEXT),
+            _ => Ok(()),
+        }
+    }
+}
+
+impl Decode for Notice {
+    fn decode_with_tag_and_constraints<D: Decoder>(
+        decoder: &mut D,
+        tag: Tag,
+        _constraints: &Constraints<'_>,
+    ) -> Result<Notice, DecodeError> {
+        decoder.decode_sequence(tag)
+    }
+}
+
+impl DecodeFields for Notice {
+    fn decode_fields<D: Decoder>(decoder: &mut D) -> Result<Notice, DecodeError> {
+        let id = u8::decode_with_tag(decoder, ID)?;
+        let urgent = decoder.decode_optional_with_explicit_prefix(URGENT)?;
+        let text = Utf8String::decode_with_tag(decoder, TEXT)?;
+        Ok(Notice { id, urgent, text })
+    }
+}
+
+/// What a notice is to every codec: `Notice { id: 7, urgent: Some(true), text: "Come" }` (`urgent`), and the same without
+/// `urgent` (`plain`).
+pub fn notice_records(notice: &Notice)
+    ensures urgent { notice.now.id ≡ 7 → notice.now.urgent ≡ Some true →
+        string_bytes notice.now.text ≡ codes "Come" →
+        own_records ⟦<Notice as AsnType>⟧.meaning notice.now ≡
+        holding (sequence_head (universal 16) (Some (codes "Notice"))) (
+        scalar (context 0) (values_of (Range (Some (pos 0)) (Some (pos 255))))
+        (Some (codes "INTEGER")) (number (pos 7)) ∷
+        mark (present (context 1)) ∷
+        holding (prefix (context 1) (Some (codes "BOOLEAN"))) (
+        scalar (universal 1) unconstrained (Some (codes "BOOLEAN")) (truth true) ∷ []) ∷
+        scalar (context 2) unconstrained
+        (Some (codes "UTF8String")) (units utf8 (codes "Come")) ∷ []) ∷ [] }
+    ensures plain { notice.now.id ≡ 7 → notice.now.urgent ≡ None →
+        string_bytes notice.now.text ≡ codes "Come" →
+        own_records ⟦<Notice as AsnType>⟧.meaning notice.now ≡
+        holding (sequence_head (universal 16) (Some (codes "Notice"))) (
+        scalar (context 0) (values_of (Range (Some (pos 0)) (Some (pos 255))))
+        (Some (codes "INTEGER")) (number (pos 7)) ∷
+        mark (absent (context 1)) ∷
+        scalar (context 2) unconstrained
+        (Some (codes "UTF8String")) (units utf8 (codes "Come")) ∷ []) ∷ [] }
+{}

@@ -1,0 +1,127 @@
+//! `Pair{T, U} ::= SEQUENCE { first T, second [0] U OPTIONAL }`
+ghost use Rattle.std.specs.Prelude.{◌≡◌, ◌↔◌, ℕ, Bool, List, [], ◌∷◌, None, Some, IfSome, true, pos, codes};
+ghost use Rattle.asn1_types.specs.Words.{context, universal, tagged, untagged, required, optional, sequence, constructed_type, constructed_agrees, CanStandInside, CanStandInsideUnder, own_records, holding, sequence_head, scalar, mark, absent, present, number, truth, unconstrained, values_of, Range};
+
+use asn1_dec::{Decode, DecodeError, DecodeFields, Decoder};
+use asn1_enc::{Encode, EncodeError, EncodeFields, Encoder};
+use asn1_types::{
+    AsnType, Class, Constraints, ConstructedType, Field, FieldTable, Identifier, Tag, TypeTable,
+};
+
+/// A value of one type, and perhaps one of another.
+#[derive(PartialEq, Eq, Debug, Drop)]
+pub struct Pair<T, U> {
+    /// `first T`
+    pub first: T,
+    /// `second [0] U OPTIONAL`
+    pub second: Option<U>,
+}
+
+const SECOND: Tag = Tag {
+    class: Class::Context,
+    value: 0,
+};
+
+impl<T: AsnType, U: AsnType> FieldTable for Pair<T, U> {
+    ghost components = { sequence (
+        required (codes "first") (λ p. p.first) (untagged T.meaning) ∷
+        optional (codes "second") (λ p. p.second) (tagged (context 0) U.meaning) ∷ []) };
+
+    fn field_count() -> usize {
+        2
+    }
+
+    fn field_at(place: usize) -> Option<Field<'static>> {
+        match place {
+            0 => Some(Field::new_required_type::<T>(0, "first")),
+            1 => Some(Field::new_optional_type_with_tag::<U>(1, SECOND, "second")),
+            _ => None,
+        }
+    }
+}
+
+impl<T: AsnType, U: AsnType> AsnType for Pair<T, U> {
+    ghost meaning = { constructed_type (codes "Pair") ⟦<Pair<T, U> as FieldTable>⟧.components };
+
+    fn table() -> TypeTable {
+        TypeTable::new(Tag::SEQUENCE, Identifier(Some("Pair")))
+    }
+
+    fn is_present(&self) -> bool {
+        true
+    }
+}
+
+impl<T: AsnType, U: AsnType> ConstructedType for Pair<T, U> {
+    ghost agrees = { constructed_agrees };
+}
+
+/// A `Pair` can be inside other types where its first can be a component, and its second can be one under `[0]`.
+pub fn pair_can_stand_inside<T: AsnType, U: AsnType>()
+    ensures { CanStandInside T.meaning → CanStandInsideUnder U.meaning (context 0) →
+        CanStandInside ⟦<Pair<T, U> as AsnType>⟧.meaning }
+{}
+
+/// A `Pair` is valid if and only if its first is, and its second where there is one.
+pub fn pair_is_valid<T: AsnType, U: AsnType>(pair: &Pair<T, U>)
+    ensures { (takes : List ℕ → Bool) → ⟦<Pair<T, U> as AsnType>⟧.meaning.IsValid takes pair.now ↔
+        (T.meaning.IsValid takes pair.now.first × IfSome pair.now.second (U.meaning.IsValid takes)) }
+{}
+
+impl<T: Encode, U: Encode> Encode for Pair<T, U> {
+    fn encode_with_tag_and_constraints<E: Encoder>(
+        &self,
+        encoder: &mut E,
+        tag: Tag,
+        _constraints: &Constraints<'_>,
+        name: Identifier,
+    ) -> Result<(), EncodeError> {
+        encoder.encode_sequence(tag, self, name)
+    }
+}
+
+impl<T: Encode, U: Encode> EncodeFields for Pair<T, U> {
+    fn encode_field<E: Encoder>(&self, place: usize, encoder: &mut E) -> Result<(), EncodeError> {
+        match place {
+            0 => self.first.encode(encoder),
+            1 => self.second.encode_with_tag(encoder, SECOND),
+            _ => Ok(()),
+        }
+    }
+}
+
+impl<T: Decode, U: Decode> Decode for Pair<T, U> {
+    fn decode_with_tag_and_constraints<D: Decoder>(
+        decoder: &mut D,
+        tag: Tag,
+        _constraints: &Constraints<'_>,
+    ) -> Result<Pair<T, U>, DecodeError> {
+        decoder.decode_sequence(tag)
+    }
+}
+
+impl<T: Decode, U: Decode> DecodeFields for Pair<T, U> {
+    fn decode_fields<D: Decoder>(decoder: &mut D) -> Result<Pair<T, U>, DecodeError> {
+        let first = T::decode(decoder)?;
+        let second = decoder.decode_optional_with_tag(SECOND)?;
+        Ok(Pair { first, second })
+    }
+}
+
+/// What a pair of a number and a truth value is to every codec: `Pair { first: 7, second: Some(true) }` (`both`), and
+/// `Pair { first: 7, second: None }` (`alone`).
+pub fn pair_records(pair: &Pair<u8, bool>)
+    ensures both { pair.now ≡ record { first = 7; second = Some true } →
+        own_records ⟦<Pair<u8, bool> as AsnType>⟧.meaning pair.now ≡
+        holding (sequence_head (universal 16) (Some (codes "Pair"))) (
+        scalar (universal 2) (values_of (Range (Some (pos 0)) (Some (pos 255))))
+        (Some (codes "INTEGER")) (number (pos 7)) ∷
+        mark (present (context 0)) ∷
+        scalar (context 0) unconstrained (Some (codes "BOOLEAN")) (truth true) ∷ []) ∷ [] }
+    ensures alone { pair.now ≡ record { first = 7; second = None } →
+        own_records ⟦<Pair<u8, bool> as AsnType>⟧.meaning pair.now ≡
+        holding (sequence_head (universal 16) (Some (codes "Pair"))) (
+        scalar (universal 2) (values_of (Range (Some (pos 0)) (Some (pos 255))))
+        (Some (codes "INTEGER")) (number (pos 7)) ∷
+        mark (absent (context 0)) ∷ []) ∷ [] }
+{}
