@@ -1,6 +1,6 @@
 //! Values that cases make.
 use crate::failure::Failure;
-use asn1_values::{Alphabet, AlphabetString, ObjectIdentifier};
+use asn1_strings::{Alphabet, AlphabetString, ObjectIdentifier};
 use std::alloc::{AllocError, Global};
 
 /// A string of a kind that has an alphabet.

@@ -14,7 +14,7 @@ ghost use Rattle.asn1_model.specs.Records.{Name, Record, absent, alternative, ar
 ghost use Rattle.asn1_model.specs.Tags.{ShareNone, first_tags, tree_tags};
 ghost use Rattle.asn1_tags.specs.Trees.{choice, shape};
 ghost use Rattle.asn1_tags.specs.declared.tags.Tag.{Tag};
-ghost use Rattle.asn1_values.specs.Alphabets.{is_ia5, is_numeric, is_printable, is_visible};
+ghost use Rattle.asn1_strings.specs.Alphabets.{is_ia5, is_numeric, is_printable, is_visible};
 ghost use Rattle.std.specs.Cmp.Lexicographic.{pointwise};
 ghost use Rattle.std.specs.List.{flat_map};
 ghost use Rattle.std.specs.Option.{option_eq, option_map};
@@ -35,12 +35,13 @@ use asn1_bounds::{Codec, Constraints};
 use asn1_choices::{Choice, ChoiceType};
 use asn1_components::{ConstructedType, FieldTable};
 use asn1_enumerations::{Enumerated, EnumeratedTable};
+use asn1_strings::{
+    BitString, BmpString, GeneralString, GraphicString, Ia5String, NumericString, ObjectIdentifier,
+    PrintableString, TeletexString, VisibleString,
+};
 use asn1_tags::{Tag, TagTree};
 use asn1_types::{Any, SetOf};
-use asn1_values::{
-    BitString, BmpString, GeneralString, GraphicString, Ia5String, IntegerType, NumericString,
-    ObjectIdentifier, PrintableString, TeletexString, VisibleString,
-};
+use asn1_values::IntegerType;
 use std::alloc::{AllocError, Global};
 
 /// A codec that reads records: by calls of its own, on which those for whole types rest.

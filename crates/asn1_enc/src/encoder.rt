@@ -10,7 +10,7 @@ ghost use Rattle.asn1_model.specs.ConstraintSets.{constraint_set, unconstrained}
 ghost use Rattle.asn1_model.specs.Meaning.{own_records};
 ghost use Rattle.asn1_model.specs.Records.{absent, alternative, arcs, bits, bmp, discriminant, general, graphic, group_absent, ia5, mark, null, number, numeric, octet, prefix, present, printable, scalar, sequence, sequence_of, set, set_of, teletex, truth, units, utf8, visible};
 ghost use Rattle.asn1_tags.specs.Names.{name_of};
-ghost use Rattle.asn1_values.specs.Alphabets.{is_ia5, is_numeric, is_printable, is_visible};
+ghost use Rattle.asn1_strings.specs.Alphabets.{is_ia5, is_numeric, is_printable, is_visible};
 ghost use Rattle.std.specs.List.{flat_map};
 ghost use Rattle.std.specs.Option.{option_copied, option_map};
 ghost use Rattle.std.specs.Prelude.{◌≡◌, ◌<◌, ◌^◌, [], ◌∷◌, ⊤, All, Bool, IfSome, IsTrue, None, Ok, Some, false};
@@ -24,12 +24,13 @@ use asn1_choices::{Choice, ChoiceType};
 use asn1_components::{ConstructedType, FieldTable};
 use asn1_enumerations::Enumerated;
 use asn1_model::AsnType;
+use asn1_strings::{
+    BmpString, GeneralString, GraphicString, Ia5String, NumericString, PrintableString,
+    TeletexString, VisibleString,
+};
 use asn1_tags::{Identifier, Tag};
 use asn1_types::{Any, SetOf};
-use asn1_values::{
-    BmpString, GeneralString, GraphicString, Ia5String, IntegerType, NumericString,
-    PrintableString, TeletexString, VisibleString,
-};
+use asn1_values::IntegerType;
 use std::alloc::{AllocError, Global};
 
 /// A codec that writes records: by calls of its own, on which those for whole types rest.

@@ -11,12 +11,13 @@ use asn1_components::FieldTable;
 use asn1_dec::{DecodeError, Decoder, Needed};
 use asn1_enumerations::EnumeratedTable;
 use asn1_records::Record;
+use asn1_strings::{
+    BitString, BmpString, GeneralString, GraphicString, Ia5String, NumericString, ObjectIdentifier,
+    PrintableString, TeletexString, VisibleString,
+};
 use asn1_tags::{Tag, TagTree};
 use asn1_types::Any;
-use asn1_values::{
-    BitString, BmpString, GeneralString, GraphicString, Ia5String, Integer, IntegerType,
-    NumericString, ObjectIdentifier, PrintableString, TeletexString, VisibleString,
-};
+use asn1_values::{Integer, IntegerType};
 use std::alloc::Global;
 
 /// What is left of a list outside the innermost one.

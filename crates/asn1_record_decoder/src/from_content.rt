@@ -3,7 +3,7 @@ ghost use Rattle.asn1_model.specs.Records as model;
 ghost use Rattle.asn1_model.specs.Records.{arcs, bits, bmp, discriminant, general, graphic, ia5, null, number, numeric, octet, printable, teletex, truth, units, utf8, visible};
 ghost use Rattle.asn1_dec.specs.declared.error.DecodeError.TheVariants.{Depth, Memory};
 ghost use Rattle.asn1_records.specs.Records.{content_of};
-ghost use Rattle.asn1_values.specs.Alphabets.{is_ia5, is_numeric, is_printable, is_visible};
+ghost use Rattle.asn1_strings.specs.Alphabets.{is_ia5, is_numeric, is_printable, is_visible};
 ghost use Rattle.std.specs.Prelude.{◌≡◌, ◌≢◌, ◌<◌, ◌^◌, ⊤, All, Bool, Err, IfOk, IsTrue, List, MatchResult, ℕ, ℤ};
 ghost use Rattle.std.specs.Str.{IsUtf8};
 ghost use Rattle.std.specs.String.{string_bytes};
@@ -11,11 +11,11 @@ ghost use Rattle.std.specs.String.{string_bytes};
 use crate::found::BAD_ITEM;
 use asn1_dec::DecodeError;
 use asn1_records::Content;
-use asn1_values::{
+use asn1_strings::{
     Alphabet, AlphabetString, BitString, BmpString, GeneralString, GraphicString, Ia5String,
-    Integer, IntegerType, NumericString, ObjectIdentifier, PrintableString, TeletexString,
-    VisibleString,
+    NumericString, ObjectIdentifier, PrintableString, TeletexString, VisibleString,
 };
+use asn1_values::{Integer, IntegerType};
 use std::alloc::{AllocError, Global};
 
 /// A type that is read from a content.

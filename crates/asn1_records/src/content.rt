@@ -1,13 +1,14 @@
 //! What is in a record that holds no others.
 ghost use Rattle.asn1_records.specs.Records.{content_of};
 ghost use Rattle.asn1_model.specs.Records.{arcs as arcs_content, bits as bits_content, bmp, general, graphic, ia5, number, numeric, octet, printable, teletex, units, utf8 as utf8_kind, visible};
-ghost use Rattle.asn1_values.specs.Alphabets.{is_ia5, is_numeric, is_printable, is_visible};
+ghost use Rattle.asn1_strings.specs.Alphabets.{is_ia5, is_numeric, is_printable, is_visible};
 ghost use Rattle.std.specs.Prelude.{◌≡◌, ◌<◌, ◌^◌, All, IfOk, IsTrue};
 
-use asn1_values::{
-    Alphabet, AlphabetString, BmpString, GeneralString, GraphicString, Ia5String, Integer,
-    IntegerType, NumericString, PrintableString, TeletexString, VisibleString,
+use asn1_strings::{
+    Alphabet, AlphabetString, BmpString, GeneralString, GraphicString, Ia5String, NumericString,
+    PrintableString, TeletexString, VisibleString,
 };
+use asn1_values::{Integer, IntegerType};
 use std::alloc::{AllocError, Global};
 
 /// What is in a record that holds no others. Each kind of type has contents of its own.

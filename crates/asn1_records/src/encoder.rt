@@ -10,12 +10,13 @@ use asn1_bounds::{Codec, Constraints};
 use asn1_choices::Choice;
 use asn1_components::FieldTable;
 use asn1_enc::{EncodeError, Encoder, EnumeratedValue};
+use asn1_strings::{
+    BmpString, GeneralString, GraphicString, Ia5String, NumericString, PrintableString,
+    TeletexString, VisibleString,
+};
 use asn1_tags::{Identifier, Tag};
 use asn1_types::Any;
-use asn1_values::{
-    BmpString, GeneralString, GraphicString, Ia5String, IntegerType, NumericString,
-    PrintableString, TeletexString, VisibleString,
-};
+use asn1_values::IntegerType;
 use std::alloc::{AllocError, Global};
 use std::mem;
 

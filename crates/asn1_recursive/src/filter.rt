@@ -13,8 +13,8 @@ ghost use Rattle.asn1_model.specs.Meaning.{CanStandInside};
 ghost use Rattle.asn1_choices.specs.ChoiceTypes.{choice_holding_itself, itself_agrees};
 ghost use Rattle.asn1_recursive.specs.FilterAlternatives.{filter_alternatives, filter_pick, filter_means, filter_agrees};
 
+use asn1_strings::OctetString;
 use asn1_types::{AsnType, Choice, ChoiceType, Class, Identifier, SetOf, Tag, TagTree, TypeTable};
-use asn1_values::OctetString;
 
 /// Which entries a search finds: a CHOICE that holds itself, and sets of itself.
 #[derive(PartialEq, Eq, Debug, Drop)]

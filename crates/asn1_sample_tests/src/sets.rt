@@ -5,7 +5,7 @@ use asn1_dec::{Decode, DecodeError, Decoder};
 use asn1_enc::{Encode, EncodeError, Encoder};
 use asn1_samples::{Badge, Shape};
 use asn1_tags::Tag;
-use asn1_values::VisibleString;
+use asn1_strings::VisibleString;
 use std::alloc::Global;
 
 /// A badge, and the places of its components in the order in which they are written.

@@ -4,8 +4,8 @@ ghost use Rattle.asn1_types.specs.Words.{context, tagged, optional, sequence};
 
 use asn1_dec::{DecodeError, DecodeFields, Decoder};
 use asn1_enc::{Encode, EncodeError, EncodeFields, Encoder};
+use asn1_strings::{Ia5String, NumericString};
 use asn1_types::{AsnType, Class, Field, FieldTable, Tag, TagTree};
-use asn1_values::{Ia5String, NumericString};
 
 /// How to reach someone: a group of additions, which has no tag of its own.
 #[derive(PartialEq, Eq, Debug, Drop)]

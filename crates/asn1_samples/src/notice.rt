@@ -8,7 +8,7 @@ use asn1_enc::{Encode, EncodeError, EncodeFields, Encoder};
 use asn1_types::{
     AsnType, Class, Constraints, ConstructedType, Field, FieldTable, Identifier, Tag, TypeTable,
 };
-use asn1_values::Utf8String;
+use asn1_strings::Utf8String;
 
 /// What someone is told, and whether at once.
 #[derive(PartialEq, Eq, Debug, Drop)]

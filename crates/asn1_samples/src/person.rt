@@ -5,10 +5,11 @@ ghost use Rattle.asn1_types.specs.Words.{universal, untagged, required, sequence
 
 use asn1_dec::{Decode, DecodeError, DecodeFields, Decoder};
 use asn1_enc::{Encode, EncodeError, EncodeFields, Encoder};
+use asn1_strings::Utf8String;
 use asn1_types::{
     AsnType, Constraints, ConstructedType, Field, FieldTable, Identifier, Tag, TypeTable,
 };
-use asn1_values::{Integer, Utf8String};
+use asn1_values::Integer;
 
 /// How old someone is, and their name.
 #[derive(PartialEq, Eq, Debug, Drop)]

@@ -18,10 +18,10 @@ use crate::color::Color;
 use crate::contact::{CONTACT, Contact};
 use asn1_dec::{Decode, DecodeError, DecodeFields, Decoder};
 use asn1_enc::{Encode, EncodeError, EncodeFields, Encoder};
+use asn1_strings::{Ia5String, Utf8String};
 use asn1_types::{
     AsnType, Class, Constraints, ConstructedType, Field, FieldTable, Identifier, Tag, TypeTable,
 };
-use asn1_values::{Ia5String, Utf8String};
 
 /// What is known of someone.
 #[derive(PartialEq, Eq, Debug, Drop)]

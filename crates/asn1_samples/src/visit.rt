@@ -15,10 +15,10 @@ ghost use Rattle.asn1_types.specs.Words.{context, universal, tagged, required, a
 use crate::contact::{CONTACT, Contact};
 use asn1_dec::{Decode, DecodeError, DecodeFields, Decoder};
 use asn1_enc::{Encode, EncodeError, EncodeFields, Encoder};
+use asn1_strings::{NumericString, Utf8String};
 use asn1_types::{
     AsnType, Class, Constraints, ConstructedType, Field, FieldTable, Identifier, Tag, TypeTable,
 };
-use asn1_values::{NumericString, Utf8String};
 
 /// When someone came, and what is known of it.
 #[derive(PartialEq, Eq, Debug, Drop)]

@@ -14,11 +14,9 @@ ghost use Rattle.asn1_model.specs.Tags.{universal, context, CHOICE, every, among
 
 use asn1_bounds::{Bounded, ConstraintTable, Constraints, Size};
 use asn1_model::{AsnType, TypeTable, tag};
+use asn1_strings::{Ia5String, NumericString, ObjectIdentifier, OctetString, VisibleString};
 use asn1_tags::{Identifier, Tag, TagTree};
-use asn1_values::{
-    ConstrainedInteger, Ia5String, Integer, NumericString, ObjectIdentifier, OctetString,
-    VisibleString,
-};
+use asn1_values::{ConstrainedInteger, Integer};
 use std::borrow::Cow;
 use std::marker::PhantomData;
 use std::process::Abort;

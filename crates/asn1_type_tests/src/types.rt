@@ -12,12 +12,12 @@ ghost use Rattle.asn1_types.specs.Multisets.{same_counts};
 
 mod filters;
 
+use asn1_strings::ObjectIdentifier;
 use asn1_tags::{Tag, TagTree};
 use asn1_types::{
     Any, AsnType, Constructed, Explicit, Field, FieldTable, Implicit, InstanceOf, SequenceOf,
     SetOf, tag,
 };
-use asn1_values::ObjectIdentifier;
 use std::alloc::Global;
 use std::fmt::Debug;
 use std::hash::{DefaultHasher, Hash, Hasher};

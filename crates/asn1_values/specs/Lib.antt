@@ -1,4 +1,3 @@
-pub mod Alphabets
 pub mod Integer
 pub mod Numbers
 pub mod Text

@@ -1,23 +1,17 @@
-//! The values below ASN.1's types: whole numbers of any size, strings of each kind, and names of objects.
+//! The numbers below ASN.1's types: whole numbers of any size, and whole numbers within limits.
 //!
-//! The crate is below the tags, bounds, types and codecs of the schema layer. A codec gives and
-//! takes numbers and strings of these types, and each type guards what its values are: the alphabet of
-//! a character string, the limits of a constrained number.
+//! The crate is below the bounds, types and codecs of the schema layer. A codec gives and takes numbers of these types, and
+//! a constrained number guards its limits. Strings and names of objects are in `asn1_strings`, and neither crate uses the
+//! other.
 //!
 //! | Type | What it is | Contracts see |
 //! |---|---|---|
 //! | [`Integer`] | a whole number of any size | its number |
 //! | [`IntegerType`] | what the built-in integers and `Integer` have in common | `number`, and the numbers that fit |
 //! | [`ConstrainedInteger`], [`LimitedInteger`] | a whole number from a least to a greatest one | its number |
-//! | [`VisibleString`], [`Ia5String`], [`NumericString`], [`PrintableString`] | units of an alphabet, an [`AlphabetString`] | the list of its units |
-//! | [`BitString`], [`OctetString`], [`GeneralString`], [`GraphicString`], [`TeletexString`], [`BmpString`] | any units, a [`UnitString`] | the list of its units |
-//! | [`StringUnit`] | what strings are made of: bits, octets, numbers of 16 or 32 bits | |
-//! | [`ObjectIdentifier`] | any arcs, a `UnitString` too | the list of its arcs |
-//! | [`Utf8String`], [`BitStr`] | names for `String` and for borrowed bits | |
-//! | [`AlphabetError`], [`OutOfRangeError`] | why a string or a built-in integer was not made | |
+//! | [`OutOfRangeError`] | why a built-in integer was not made | |
 //!
-//! The module [`kind`] has the markers that tell the kinds of string apart, with their alphabets, and [`laws`] says by
-//! contracts what derives, aliases and definitions give.
+//! The module [`laws`] says by contracts what derives, aliases and definitions give.
 //!
 //! What the contracts promise, and the words that they use:
 //!
@@ -31,12 +25,6 @@
 //! - An `Integer` is written as `integer_text` of `specs/Text.antt`: in decimal what an `i128` holds, else in hexadecimal.
 //! - `IntegerType::try_from_integer` answers if and only if the number fits the type (`fitting`), and with
 //!   the value of that number (`same_number`). Two values with one number are equal (`injective`).
-//! - `AlphabetString::new`, and `TryFrom` of a vector, succeed if and only if the alphabet has all units (`allowed`), and
-//!   then give the string of these units (`units`); else the error names the first unit that the alphabet lacks
-//!   (`first`). The alphabets are in `specs/Alphabets.antt`, character by character.
-//! - `as_slice` and `into_vec` give a string's units back, and tell that they are of the alphabet (`allowed`), or values of
-//!   their type (`in_range`). Strings of one kind are equal if their units are, go lexicographically, and feed a hasher
-//!   alike if they are equal.
 //! - `LimitedInteger::new` and `from_i64` succeed if and only if the number is within the limits (`within`).
 //!
 //! Calls that take memory take the allocator, and fail only where there is none: `from_sign_magnitude`,
@@ -48,22 +36,10 @@ mod constrained;
 mod error;
 mod integer;
 mod integer_type;
-pub mod kind;
 pub mod laws;
 mod magnitude;
-mod object_identifier;
-mod strings;
 
 pub use constrained::{Between, ConstrainedInteger, LimitedInteger, Limits};
-pub use error::{AlphabetError, OutOfRangeError};
+pub use error::OutOfRangeError;
 pub use integer::Integer;
 pub use integer_type::IntegerType;
-pub use object_identifier::ObjectIdentifier;
-pub use strings::alphabet_string::{Alphabet, AlphabetString};
-pub use strings::binary::{BitStr, BitString, OctetString};
-pub use strings::character::{
-    BmpString, GeneralString, GraphicString, Ia5String, NumericString, PrintableString,
-    TeletexString, Utf8String, VisibleString,
-};
-pub use strings::string_unit::StringUnit;
-pub use strings::unit_string::UnitString;

@@ -3,11 +3,11 @@ use crate::decode::Decode;
 use crate::decoder::Decoder;
 use crate::error::DecodeError;
 use asn1_bounds::Constraints;
-use asn1_tags::Tag;
-use asn1_values::{
+use asn1_strings::{
     BitString, BmpString, GeneralString, GraphicString, Ia5String, NumericString, ObjectIdentifier,
     OctetString, PrintableString, TeletexString, VisibleString,
 };
+use asn1_tags::Tag;
 
 impl Decode for ObjectIdentifier {
     fn decode_with_tag_and_constraints<D: Decoder>(

@@ -3,11 +3,11 @@ use crate::encode::Encode;
 use crate::encoder::Encoder;
 use crate::error::EncodeError;
 use asn1_bounds::Constraints;
-use asn1_tags::{Identifier, Tag};
-use asn1_values::{
+use asn1_strings::{
     BitString, BmpString, GeneralString, GraphicString, Ia5String, NumericString, ObjectIdentifier,
     OctetString, PrintableString, TeletexString, VisibleString,
 };
+use asn1_tags::{Identifier, Tag};
 
 impl Encode for ObjectIdentifier {
     fn encode_with_tag_and_constraints<E: Encoder>(

@@ -3,7 +3,7 @@ use asn1_codec_tests::made::letters;
 use asn1_codec_tests::{Failure, comes_back};
 use asn1_samples::{Badge, Corner, Shape};
 use asn1_schema::Rules;
-use asn1_values::OctetString;
+use asn1_strings::OctetString;
 use std::alloc::Global;
 
 /// Whether each alternative of each CHOICE comes back.

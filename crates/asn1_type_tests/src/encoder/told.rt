@@ -3,9 +3,9 @@ use crate::encoder::listener::{Listener, Told};
 use asn1_bounds::Constraints;
 use asn1_enc::{Encode, EncodeError, Encoder};
 use asn1_samples::{Badge, Color, Shape};
+use asn1_strings::ObjectIdentifier;
 use asn1_tags::{Identifier, Tag};
 use asn1_types::{InstanceOf, SetOf};
-use asn1_values::ObjectIdentifier;
 use std::alloc::Global;
 use std::process::Abort;
 

@@ -4,8 +4,8 @@ ghost use Rattle.asn1_recursive.specs.declared.filter.Filter.{size-Filter};
 ghost use Rattle.asn1_recursive.specs.declared.filter.Filter.TheViews.{weight-Filter-And-0};
 
 use asn1_recursive::Filter;
+use asn1_strings::OctetString;
 use asn1_types::SetOf;
-use asn1_values::OctetString;
 use std::alloc::Global;
 use std::process::Abort;
 

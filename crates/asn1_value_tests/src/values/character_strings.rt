@@ -1,6 +1,6 @@
 //! Character strings and their alphabets.
-use asn1_values::kind::{Numeric, Printable, Visible};
-use asn1_values::{
+use asn1_strings::kind::{Numeric, Printable, Visible};
+use asn1_strings::{
     Alphabet, AlphabetError, AlphabetString, BmpString, GeneralString, GraphicString, Ia5String,
     NumericString, PrintableString, StringUnit, TeletexString, UnitString, VisibleString,
 };

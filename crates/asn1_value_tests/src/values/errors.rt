@@ -1,5 +1,6 @@
 //! The texts of errors.
-use asn1_values::{AlphabetError, OutOfRangeError};
+use asn1_strings::AlphabetError;
+use asn1_values::OutOfRangeError;
 
 #[test]
 fn says_which_unit(rt: HostRuntime) {

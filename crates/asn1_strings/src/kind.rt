@@ -37,7 +37,7 @@ pub enum Bmp {}
 pub enum Visible {}
 
 impl Alphabet<u8> for Visible {
-    ghost use Rattle.asn1_values.specs.Alphabets.{is_visible};
+    ghost use Rattle.asn1_strings.specs.Alphabets.{is_visible};
 
     ghost allows = { is_visible };
 
@@ -51,7 +51,7 @@ impl Alphabet<u8> for Visible {
 pub enum Ia5 {}
 
 impl Alphabet<u8> for Ia5 {
-    ghost use Rattle.asn1_values.specs.Alphabets.{is_ia5};
+    ghost use Rattle.asn1_strings.specs.Alphabets.{is_ia5};
 
     ghost allows = { is_ia5 };
 
@@ -65,7 +65,7 @@ impl Alphabet<u8> for Ia5 {
 pub enum Numeric {}
 
 impl Alphabet<u8> for Numeric {
-    ghost use Rattle.asn1_values.specs.Alphabets.{is_numeric};
+    ghost use Rattle.asn1_strings.specs.Alphabets.{is_numeric};
 
     ghost allows = { is_numeric };
 
@@ -79,7 +79,7 @@ impl Alphabet<u8> for Numeric {
 pub enum Printable {}
 
 impl Alphabet<u8> for Printable {
-    ghost use Rattle.asn1_values.specs.Alphabets.{is_printable};
+    ghost use Rattle.asn1_strings.specs.Alphabets.{is_printable};
 
     ghost allows = { is_printable };
 
