@@ -1,1 +1,3 @@
 pub mod Alphabets
+pub mod Dotted
+pub mod Refusals

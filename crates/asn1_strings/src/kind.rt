@@ -3,6 +3,7 @@
 //! A marker is a type without values. It is the last argument of [`UnitString`](crate::UnitString) or
 //! [`AlphabetString`](crate::AlphabetString), so that two kinds with the same units are two types.
 use crate::strings::alphabet_string::Alphabet;
+use crate::strings::ascii_text::AsciiAlphabet;
 
 /// The kind of BIT STRING.
 #[derive(Drop)]
@@ -46,6 +47,12 @@ impl Alphabet<u8> for Visible {
     }
 }
 
+impl AsciiAlphabet for Visible {
+    ghost use Rattle.asn1_strings.specs.Alphabets.{is_visible-ascii};
+
+    ghost is_inside_ascii = { is_visible-ascii };
+}
+
 /// The kind of IA5String, and its alphabet.
 #[derive(Drop)]
 pub enum Ia5 {}
@@ -58,6 +65,12 @@ impl Alphabet<u8> for Ia5 {
     fn allows(unit: &u8) -> bool {
         unit.is_ascii()
     }
+}
+
+impl AsciiAlphabet for Ia5 {
+    ghost use Rattle.asn1_strings.specs.Alphabets.{is_ia5-ascii};
+
+    ghost is_inside_ascii = { is_ia5-ascii };
 }
 
 /// The kind of NumericString, and its alphabet.
@@ -74,6 +87,12 @@ impl Alphabet<u8> for Numeric {
     }
 }
 
+impl AsciiAlphabet for Numeric {
+    ghost use Rattle.asn1_strings.specs.Alphabets.{is_numeric-ascii};
+
+    ghost is_inside_ascii = { is_numeric-ascii };
+}
+
 /// The kind of PrintableString, and its alphabet.
 #[derive(Drop)]
 pub enum Printable {}
@@ -86,4 +105,10 @@ impl Alphabet<u8> for Printable {
     fn allows(unit: &u8) -> bool {
         unit.is_ascii_alphanumeric() || b" '()+,-./:=?".contains(unit)
     }
+}
+
+impl AsciiAlphabet for Printable {
+    ghost use Rattle.asn1_strings.specs.Alphabets.{is_printable-ascii};
+
+    ghost is_inside_ascii = { is_printable-ascii };
 }

@@ -2,17 +2,22 @@
 //!
 //! A derive compares, an alias names and a ghost member defines without a word in any contract. Each function here
 //! says by its contract what they give, so that a wrong one is refused.
-ghost use Rattle.std.specs.Prelude.{◌≡◌, ◌↔◌, ◌≤◌, ◌⊎◌, ℕ, Bool, codes, Some, IsTrue, IsOk, IfOk, IfErr, not, position};
+ghost use Rattle.std.specs.Prelude.{◌≡◌, ◌↔◌, ◌<◌, ◌≤◌, ◌^◌, ◌⊎◌, ℕ, Bool, List, All, Ok, length, codes, Some, IsTrue, IsOk, IfOk, IfErr, not, position};
 ghost use Rattle.std.specs.Cmp.Lexicographic.{pointwise, slice_cmp, slice_partial_cmp};
+ghost use Rattle.std.specs.Fmt.{styled_text};
 ghost use Rattle.std.specs.Hash as fed;
 ghost use Rattle.std.specs.List.{AllPass};
 ghost use Rattle.asn1_strings.specs.Alphabets.{is_among, is_ia5, is_numeric, is_printable, is_visible};
+ghost use Rattle.asn1_strings.specs.Dotted.{arcs_of, dotted};
 
-use crate::error::AlphabetError;
+use crate::error::{AlphabetError, ArcError, ObjectIdentifierError, StringError};
+use crate::object_identifier::ObjectIdentifier;
 use crate::strings::alphabet_string::{Alphabet, AlphabetString};
+use crate::strings::ascii_text::AsciiAlphabet;
 use crate::strings::character::{Ia5String, NumericString, PrintableString, VisibleString};
 use crate::strings::string_unit::StringUnit;
 use crate::strings::unit_string::UnitString;
+use std::fmt::Display;
 use std::hash::Hash;
 
 /// Whether the units are equal. Strings without an alphabet are compared, ordered and hashed as the lists of their units
@@ -108,3 +113,47 @@ pub fn alphabet_errors_are_compared_by_index(a: &AlphabetError, b: &AlphabetErro
 {
     a == b
 }
+
+/// The same of the errors of strings that are made of texts.
+pub fn string_errors_are_compared_by_case(a: &StringError, b: &StringError) -> bool
+    ensures same { IsTrue result ↔ (a.now ≡ b.now) }
+    ensures clone { ⟦<StringError as Clone>⟧.is_clone a.now b.now ↔ (b.now ≡ a.now) }
+    ensures clone_succeeds { ⟦<StringError as Clone>⟧.is_infallible a.now }
+{
+    a == b
+}
+
+/// The same of the reasons why a text is no arc.
+pub fn arc_errors_are_compared_by_case(a: &ArcError, b: &ArcError) -> bool
+    ensures same { IsTrue result ↔ (a.now ≡ b.now) }
+    ensures clone { ⟦<ArcError as Clone>⟧.is_clone a.now b.now ↔ (b.now ≡ a.now) }
+    ensures clone_succeeds { ⟦<ArcError as Clone>⟧.is_infallible a.now }
+{
+    a == b
+}
+
+/// The same of the errors of object identifiers that are made of texts.
+pub fn object_identifier_errors_are_compared_by_case(
+    a: &ObjectIdentifierError,
+    b: &ObjectIdentifierError,
+) -> bool
+    ensures same { IsTrue result ↔ (a.now ≡ b.now) }
+    ensures clone { ⟦<ObjectIdentifierError as Clone>⟧.is_clone a.now b.now ↔ (b.now ≡ a.now) }
+    ensures clone_succeeds { ⟦<ObjectIdentifierError as Clone>⟧.is_infallible a.now }
+{
+    a == b
+}
+
+/// An object identifier is written as its dotted text, and of this text the same one is read, if it has an arc.
+pub fn object_identifiers_are_read_as_they_are_written()
+    ensures text { (arcs : List ℕ) → ⟦<ObjectIdentifier as Display>⟧.output arcs ≡ Some (dotted arcs) }
+    ensures back { (arcs : List ℕ) → 0 < length arcs → All (λ arc. arc < 2 ^ 32) arcs →
+        arcs_of (dotted arcs) ≡ Ok arcs }
+{}
+
+/// A string with an alphabet inside ASCII is written as its characters, with options such as a width as a text is.
+pub fn ascii_strings_are_written_as_their_characters<A: AsciiAlphabet>()
+    ensures text { (units : List ℕ) → ⟦<AlphabetString<u8, A> as Display>⟧.output units ≡ Some units }
+    ensures styled { (units : List ℕ) (options : _) →
+        ⟦<AlphabetString<u8, A> as Display>⟧.styled_output units options ≡ Some (styled_text options units) }
+{}

@@ -11,7 +11,8 @@
 //! | [`StringUnit`] | what strings are made of: bits, octets, numbers of 16 or 32 bits | |
 //! | [`ObjectIdentifier`] | any arcs, a `UnitString` too | the list of its arcs |
 //! | [`Utf8String`], [`BitStr`] | names for `String` and for borrowed bits | |
-//! | [`AlphabetError`] | why a string was not made | |
+//! | [`AsciiAlphabet`] | an alphabet inside ASCII, whose strings are texts | |
+//! | [`AlphabetError`], [`StringError`], [`ObjectIdentifierError`], [`ArcError`] | why a string or an object identifier was not made | |
 //!
 //! The module [`kind`] has the markers that tell the kinds of string apart, with their alphabets, and [`laws`] says by
 //! contracts what derives, aliases and definitions give.
@@ -24,6 +25,13 @@
 //! - `as_slice` and `into_vec` give a string's units back, and tell that they are of the alphabet (`allowed`), or values of
 //!   their type (`in_range`). Strings of one kind are equal if their units are, go lexicographically, and feed a hasher
 //!   alike if they are equal.
+//! - A string with an alphabet inside ASCII is made of a text by `try_from_str`, with the text's characters as its units
+//!   (`units`), or the error is a refusal (`IsRefusal` of `specs/Refusals.antt`): the first character that the alphabet lacks,
+//!   or no memory. `as_str` gives the text back, and `Display` writes it.
+//! - `ObjectIdentifier::try_from_str` reads a dotted text as `arcs_of` of `specs/Dotted.antt` says (`arcs`), and the text is
+//!   then what would be written of the arcs (`written`); else the error names the first arc that is none, and why, or is that
+//!   of memory (`refused`). `Display` writes `dotted`, and what it writes of one or more arcs is read as these arcs (`back` of
+//!   `object_identifiers_are_read_as_they_are_written`). `has_arcs` compares with a slice.
 #![tactic(auto)]
 
 mod error;
@@ -32,9 +40,10 @@ pub mod laws;
 mod object_identifier;
 mod strings;
 
-pub use error::AlphabetError;
+pub use error::{AlphabetError, ArcError, ObjectIdentifierError, StringError};
 pub use object_identifier::ObjectIdentifier;
 pub use strings::alphabet_string::{Alphabet, AlphabetString};
+pub use strings::ascii_text::AsciiAlphabet;
 pub use strings::binary::{BitStr, BitString, OctetString};
 pub use strings::character::{
     BmpString, GeneralString, GraphicString, Ia5String, NumericString, PrintableString,

@@ -1,5 +1,6 @@
 //! The kinds of string. Each is a name for one of two types, whose last argument tells the kinds apart (`kind`).
 pub(crate) mod alphabet_string;
+pub(crate) mod ascii_text;
 pub(crate) mod binary;
 pub(crate) mod character;
 pub(crate) mod string_unit;

@@ -4,3 +4,4 @@ mod constrained;
 mod errors;
 mod integer_types;
 mod integers;
+mod object_identifiers;

@@ -1,10 +1,12 @@
 //! Strings whose units come from an alphabet.
-ghost use Rattle.std.specs.Prelude.{◌≡◌, ◌↔◌, Bool, not, IsNone, IsOk, IfOk, IfErr, Some, position};
+ghost use Rattle.std.specs.Prelude.{◌≡◌, ◌↔◌, Bool, not, length, IsTrue, IsNone, IsOk, IfOk, OnOk, IfErr, Some, position};
 ghost use Rattle.std.specs.List.{AllPass};
+ghost use Rattle.asn1_strings.specs.Refusals.{IsRefusal};
 
-use crate::error::AlphabetError;
+use crate::error::{AlphabetError, StringError};
 use crate::strings::string_unit::StringUnit;
 use crate::strings::unit_string::UnitString;
+use std::alloc::Global;
 use std::marker::Model;
 
 /// The units that a kind of string may hold.
@@ -51,10 +53,33 @@ impl<U, A: Alphabet<U>> AlphabetString<U, A> {
     {
         match first_refused::<U, A>(&units) {
             Some(index) => Err(AlphabetError(index)),
-            None => Ok(AlphabetString {
-                units: UnitString::new(units),
-            }),
+            None => Ok(Self::of_allowed(units)),
         }
+    }
+
+    fn of_allowed(units: Vec<U>) -> Self
+        requires { AllPass A.allows units.items }
+        ensures { result ≡ units.items }
+    {
+        AlphabetString {
+            units: UnitString::new(units),
+        }
+    }
+}
+
+impl<U, A: Alphabet<U>> AlphabetString<U, A> {
+    /// How many units there are.
+    pub fn len(&self) -> usize
+        ensures { result ≡ length self.now }
+    {
+        self.units.len()
+    }
+
+    /// Whether there are none.
+    pub fn is_empty(&self) -> bool
+        ensures { IsTrue result ↔ (length self.now ≡ 0) }
+    {
+        self.units.is_empty()
     }
 }
 
@@ -73,6 +98,23 @@ impl<U: StringUnit, A: Alphabet<U>> AlphabetString<U, A> {
         ensures allowed { AllPass A.allows result.items }
     {
         self.units.into_vec()
+    }
+}
+
+impl<A: Alphabet<u8>> AlphabetString<u8, A> {
+    /// The string of these octets. Fails as `new` does, or where the allocator refuses room for them.
+    pub(crate) fn try_from_slice(alloc: Global, units: &[u8]) -> Result<Self, StringError>
+        ensures allowed { OnOk result (AllPass A.allows units.now) }
+        ensures units { IfOk result (λ s. s ≡ units.now) }
+        ensures refused { IfErr result (IsRefusal A.allows units.now) }
+    {
+        match first_refused::<u8, A>(units) {
+            Some(index) => Err(StringError::NotAllowed(AlphabetError(index))),
+            None => match Vec::from_slice(alloc, units) {
+                Ok(units) => Ok(Self::of_allowed(units)),
+                Err(_refused) => Err(StringError::Memory),
+            },
+        }
     }
 }
 

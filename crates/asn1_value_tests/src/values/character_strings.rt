@@ -1,8 +1,9 @@
 //! Character strings and their alphabets.
 use asn1_strings::kind::{Numeric, Printable, Visible};
 use asn1_strings::{
-    Alphabet, AlphabetError, AlphabetString, BmpString, GeneralString, GraphicString, Ia5String,
-    NumericString, PrintableString, StringUnit, TeletexString, UnitString, VisibleString,
+    Alphabet, AlphabetError, AlphabetString, AsciiAlphabet, BmpString, GeneralString,
+    GraphicString, Ia5String, NumericString, PrintableString, StringError, StringUnit,
+    TeletexString, UnitString, VisibleString,
 };
 use std::alloc::Global;
 use std::process::Abort;
@@ -112,4 +113,58 @@ fn assert_less(rt: &impl Abort, alloc: Global, text: &[u8], other: &[u8]) {
 fn strings_go_lexicographically(rt: HostRuntime) {
     assert_less(&rt, rt.alloc(), b"Ann", b"Anna");
     assert_less(&rt, rt.alloc(), b"Anna", b"Bob");
+}
+
+/// Asserts that the string was made of the text, gives it back and is written as it.
+fn assert_text<A: AsciiAlphabet + Drop>(
+    rt: &impl Abort,
+    alloc: Global,
+    made: Result<AlphabetString<u8, A>, StringError>,
+    text: &str,
+) {
+    let made = made.expect(rt, "an allowed text");
+    assert!(rt; made.as_str() == text && made.len() == text.len());
+    let written = made.to_string(alloc).expect(rt, "memory");
+    assert!(rt; written.as_str() == text);
+}
+
+/// Asserts that no string was made of the text, for the character with this index.
+fn assert_text_refused<A: AsciiAlphabet + Drop>(
+    rt: &impl Abort,
+    made: Result<AlphabetString<u8, A>, StringError>,
+    index: usize,
+) {
+    assert!(rt; made.err() == Some(StringError::NotAllowed(AlphabetError(index))));
+}
+
+#[test]
+fn strings_are_made_of_texts(rt: HostRuntime) {
+    let alloc = rt.alloc();
+    assert_text(
+        &rt,
+        alloc,
+        PrintableString::try_from_str(alloc, "Ann (1)"),
+        "Ann (1)",
+    );
+    assert_text(
+        &rt,
+        alloc,
+        NumericString::try_from_str(alloc, "30 06"),
+        "30 06",
+    );
+    assert_text(
+        &rt,
+        alloc,
+        VisibleString::try_from_str(alloc, "a@b.c"),
+        "a@b.c",
+    );
+    assert_text(&rt, alloc, Ia5String::try_from_str(alloc, "a\tb"), "a\tb");
+    assert_text_refused(&rt, PrintableString::try_from_str(alloc, "Ann*"), 3);
+    assert_text_refused(&rt, Ia5String::try_from_str(alloc, "caf\u{e9}"), 3);
+}
+
+#[test]
+fn an_empty_string_has_no_units(rt: HostRuntime) {
+    let text = PrintableString::try_from_str(rt.alloc(), "").expect(&rt, "an allowed text");
+    assert!(rt; text.is_empty() && text.len() == 0);
 }
