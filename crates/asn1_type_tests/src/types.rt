@@ -10,6 +10,7 @@ ghost use Rattle.asn1_model.specs.Records.{scalar, raw, holding, sequence, seque
 ghost use Rattle.asn1_model.specs.Tags.{universal, context, CHOICE, every};
 ghost use Rattle.asn1_types.specs.Multisets.{same_counts};
 
+mod arrays;
 mod filters;
 
 use asn1_strings::ObjectIdentifier;

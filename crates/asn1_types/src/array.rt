@@ -6,15 +6,23 @@ use asn1_model::{AsnType, TypeTable};
 
 /// A SEQUENCE OF so many elements (X.680, 26). It means what the array means.
 ///
-/// An array can be written as it is; what is both written and read is this.
+/// An array can be written as it is; what is both written and read is this. Arrays are equal if their elements are, go
+/// lexicographically, and feed a hasher as slices do.
 #[derive(Drop)]
-#[derive_where(Clone, Copy, Debug, PartialEq, Eq; T)]
+#[derive_where(Clone, Copy, Debug, PartialEq, Eq, PartialOrd, Ord, Hash; T)]
 pub struct Array<T, const N: usize> {
     /// The elements.
     pub elements: [T; N],
 }
 
 impl<T, const N: usize> Array<T, N> {
+    /// The elements, in their order.
+    pub fn as_slice(&self) -> &[T]
+        ensures { result.now ≡ self.now.elements }
+    {
+        &self.elements
+    }
+
     /// The elements.
     pub fn into_elements(self) -> [T; N]
         ensures { result ≡ self.elements }

@@ -1,6 +1,6 @@
 //! Laws of what no other contract names: derives, conversions, loops, and the fields of INSTANCE OF.
 ghost use Rattle.std.specs.Prelude.{◌≡◌, ◌↔◌, ◌++◌, ◌∷◌, [], ℕ, Bool, List, IsTrue, codes, false, length};
-ghost use Rattle.std.specs.Cmp.Lexicographic.{pointwise, slice_cmp};
+ghost use Rattle.std.specs.Cmp.Lexicographic.{pointwise, slice_cmp, slice_partial_cmp};
 ghost use Rattle.std.specs.Hash as fed;
 ghost use Rattle.std.specs.Ordering.{nat_cmp, ordering_then};
 ghost use Rattle.std.specs.Slice.Iter.{iter_rest};
@@ -71,6 +71,14 @@ pub fn arrays_are_their_elements<T: AsnType + PartialEq + Clone, const N: usize>
     ensures equal { (a b : Array T N) → ⟦<Array<T, N> as PartialEq>⟧.eq a b ≡ pointwise T.eq a.elements b.elements }
     ensures clone { ((x y : T) → T.is_clone x y → y ≡ x) → (a b : Array T N) → length a.elements ≡ N → length b.elements ≡ N →
         ⟦<Array<T, N> as Clone>⟧.is_clone a b → b ≡ a }
+{}
+
+/// Laws of the order and hash of an array in a struct of its own, which are those of the slice of its elements.
+pub fn arrays_are_ordered_as_slices<T: Ord + Hash, const N: usize>()
+    ensures partial_order { (a b : Array T N) →
+        ⟦<Array<T, N> as PartialOrd>⟧.partial_cmp a b ≡ slice_partial_cmp T.partial_cmp a.elements b.elements }
+    ensures order { (a b : Array T N) → ⟦<Array<T, N> as Ord>⟧.cmp a b ≡ slice_cmp T.cmp a.elements b.elements }
+    ensures hash { (array : Array T N) → ⟦<Array<T, N> as Hash>⟧.hash_input array ≡ fed.slice T.hash_input array.elements }
 {}
 
 /// A law of INSTANCE OF: its fields are the name of the type and then the value, at the places 0 and 1, and both are

@@ -34,8 +34,8 @@
 //!   the elements themselves where a clone is (`same`).
 //! - `Any`, `Implicit` and `Explicit` give back what went in. Equality, order, hash and clones of these and of `InstanceOf`
 //!   are those of what they hold (`laws::values_are_compared_by_what_they_hold`).
-//! - An `Array` means what the array means; it is compared and cloned as that, and gives its elements back
-//!   (`laws::arrays_are_their_elements`).
+//! - An `Array` means what the array means; it is compared, ordered, hashed and cloned as that, and gives its elements back
+//!   (`laws::arrays_are_their_elements`, `laws::arrays_are_ordered_as_slices`).
 //! - The fields of an `InstanceOf` are the name of the type and then the value, and both are always there
 //!   (`laws::instance_of_has_two_fields`).
 //! - What each type means is a word of `specs/Kinds.antt`: `set_of_type`, `any_type`, `implicit_type`, `explicit_type`
