@@ -90,6 +90,9 @@ pub fn items_come_back<R: CallRules>(rules: &R) -> Result<(), Failure> {
 /// # Errors
 /// Why it did not.
 pub fn choices_come_back_under_a_tag<R: CallRules>(rules: &R) -> Result<(), Failure> {
-    comes_back_under(rules, Tag::CHOICE, Shape::Ring(3))
-        .and(comes_back_under(rules, FIRST, Shape::Ring(3)))
+    comes_back_under(rules, Tag::CHOICE, Shape::Ring(3)).and(comes_back_under(
+        rules,
+        FIRST,
+        Shape::Ring(3),
+    ))
 }

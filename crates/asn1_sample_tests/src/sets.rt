@@ -4,8 +4,8 @@ use asn1_codec_tests::{CallRules, Calls, Failure, NAME, answers, calls_come_back
 use asn1_dec::{Decode, DecodeError, Decoder};
 use asn1_enc::{Encode, EncodeError, Encoder};
 use asn1_samples::{Badge, Shape};
-use asn1_tags::Tag;
 use asn1_strings::VisibleString;
+use asn1_tags::Tag;
 use std::alloc::Global;
 
 /// A badge, and the places of its components in the order in which they are written.
@@ -45,11 +45,7 @@ impl Calls for BadgeCalls<'_> {
 }
 
 /// Whether the badge of these components, in this order, comes back.
-fn in_this_order<R: CallRules>(
-    rules: &R,
-    alloc: Global,
-    places: &[usize],
-) -> Result<(), Failure> {
+fn in_this_order<R: CallRules>(rules: &R, alloc: Global, places: &[usize]) -> Result<(), Failure> {
     let label = letters(alloc, b"x")?;
     let own = letters(alloc, b"x")?;
     let badge = Badge {
@@ -101,14 +97,16 @@ fn is_no_badge<R: CallRules>(
 ///
 /// # Errors
 /// How else it ended.
-pub fn what_is_no_badge_is_refused<R: CallRules>(
-    rules: &R,
-    alloc: Global,
-) -> Result<(), Failure> {
-    is_no_badge(rules, alloc, &[0, 1, 1, 2], DecodeError::DuplicateField("label"))
-        .and(is_no_badge(rules, alloc, &[0, 0, 2], DecodeError::DuplicateField("id")))
-        .and(is_no_badge(rules, alloc, &[2, 2], DecodeError::DuplicateField("shape")))
-        .and(is_no_badge(rules, alloc, &[], DecodeError::MissingField("id")))
-        .and(is_no_badge(rules, alloc, &[1], DecodeError::MissingField("id")))
-        .and(is_no_badge(rules, alloc, &[0], DecodeError::MissingField("shape")))
+pub fn what_is_no_badge_is_refused<R: CallRules>(rules: &R, alloc: Global) -> Result<(), Failure> {
+    is_no_badge(
+        rules,
+        alloc,
+        &[0, 1, 1, 2],
+        DecodeError::DuplicateField("label"),
+    )
+    .and(is_no_badge(rules, alloc, &[0, 0, 2], DecodeError::DuplicateField("id")))
+    .and(is_no_badge(rules, alloc, &[2, 2], DecodeError::DuplicateField("shape")))
+    .and(is_no_badge(rules, alloc, &[], DecodeError::MissingField("id")))
+    .and(is_no_badge(rules, alloc, &[1], DecodeError::MissingField("id")))
+    .and(is_no_badge(rules, alloc, &[0], DecodeError::MissingField("shape")))
 }

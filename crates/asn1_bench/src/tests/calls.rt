@@ -6,8 +6,7 @@ use asn1_dec::{DecodeError, Decoder};
 use asn1_enc::{EncodeError, Encoder};
 use asn1_record_decoder::RecordDecoder;
 use asn1_records::{Record, RecordEncoder};
-use asn1_sample_tests::calls as sample_calls;
-use asn1_sample_tests::sets;
+use asn1_sample_tests::{calls as sample_calls, sets};
 use std::alloc::Global;
 
 /// The encoder and the decoder of the record codec.
@@ -97,11 +96,7 @@ fn additions_and_groups_come_back(rt: HostRuntime) {
         "with defaults",
         calls::additions_with_defaults_come_back(&rules),
     );
-    passes(
-        &rt,
-        "groups",
-        sample_calls::groups_come_back(&rules, alloc),
-    );
+    passes(&rt, "groups", sample_calls::groups_come_back(&rules, alloc));
 }
 
 #[test]

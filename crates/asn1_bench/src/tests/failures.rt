@@ -1,12 +1,12 @@
 //! Errors of writing, and an encoder after an error.
 use crate::rules::BenchRules;
-use asn1_codec_tests::made::letters;
-use asn1_codec_tests::NAME;
 use asn1_bounds::Constraints;
+use asn1_codec_tests::NAME;
+use asn1_codec_tests::made::letters;
 use asn1_enc::{Encode, EncodeError, Encoder};
 use asn1_records::RecordEncoder;
-use asn1_samples::{Contact, Person, Plate};
 use asn1_sample_tests::samples::person;
+use asn1_samples::{Contact, Person, Plate};
 use asn1_schema::Rules;
 use asn1_tags::{Identifier, Tag};
 use std::alloc::{AllocError, Global};

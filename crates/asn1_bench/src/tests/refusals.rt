@@ -1,9 +1,7 @@
 //! What is not read, and what an error leaves.
 use crate::rules::BenchRules;
 use crate::tests::cases::passes;
-use crate::tests::made::{
-    alternative, empty_scope, item, set_with_a_real, two_numbers, written,
-};
+use crate::tests::made::{alternative, empty_scope, item, set_with_a_real, two_numbers, written};
 use asn1_codec_tests::is_not_read;
 use asn1_dec::{Decode, DecodeError, Decoder, Needed};
 use asn1_record_decoder::RecordDecoder;

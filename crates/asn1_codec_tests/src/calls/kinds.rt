@@ -3,8 +3,11 @@ use crate::call_rules::CallRules;
 use crate::calls::tagged::comes_back_under_a_tag;
 use crate::failure::Failure;
 use crate::made::{arcs, letters};
+use asn1_strings::{
+    BitString, BmpString, GeneralString, GraphicString, Ia5String, NumericString, OctetString,
+    PrintableString, TeletexString, VisibleString,
+};
 use asn1_types::{InstanceOf, SetOf};
-use asn1_strings::{BitString, BmpString, GeneralString, GraphicString, Ia5String, NumericString, OctetString, PrintableString, TeletexString, VisibleString};
 use std::alloc::Global;
 
 /// Whether a BOOLEAN, a NULL, an INTEGER, bits, octets and an object identifier come back under a tag.

@@ -3,8 +3,11 @@ use crate::failure::Failure;
 use crate::made::{arcs, letters};
 use crate::round_trips::comes_back;
 use asn1_schema::Rules;
+use asn1_strings::{
+    BitString, BmpString, GeneralString, GraphicString, Ia5String, NumericString, OctetString,
+    PrintableString, TeletexString, VisibleString,
+};
 use asn1_types::Any;
-use asn1_strings::{BitString, BmpString, GeneralString, GraphicString, Ia5String, NumericString, OctetString, PrintableString, TeletexString, VisibleString};
 use std::alloc::Global;
 
 /// Whether a string of each kind that has an alphabet comes back.
