@@ -1,4 +1,5 @@
-//! Laws of what no other contract names: the names in the table, and which trees are equal.
+//! Laws of what no other contract names: the names in the tables, and which trees are equal.
+ghost use Rattle.asn1_choices.specs.Alternatives.{all_of, names_of};
 ghost use Rattle.asn1_components.specs.Components.{table};
 ghost use Rattle.std.specs.Cmp.Lexicographic.{pointwise};
 ghost use Rattle.std.specs.Option.{option_eq};
@@ -6,12 +7,22 @@ ghost use Rattle.std.specs.Prelude.{◌≡◌, ◌&&◌, [], ◌∷◌, codes, m
 ghost use Rattle.std.specs.String.{string_eq};
 ghost use Rattle.asn1_recursive.specs.declared.node.Node.{out-Node};
 
+use crate::filter::Filter;
+use crate::nested::Nested;
 use crate::node::Node;
-use asn1_types::FieldTable;
+use asn1_types::{Choice, FieldTable};
 
 /// A law of the table: the names of the components.
 pub fn components_have_their_names()
     ensures { map (λ entry. entry.name) (table ⟦<Node as FieldTable>⟧.components) ≡ codes "label" ∷ codes "children" ∷ [] }
+{}
+
+/// A law of the tables: the names of the alternatives of a CHOICE.
+pub fn alternatives_have_their_names()
+    ensures filter { names_of (all_of ⟦<Filter as Choice>⟧.alternatives) ≡
+        codes "and" ∷ codes "or" ∷ codes "not" ∷ codes "present" ∷ [] }
+    ensures nested { names_of (all_of ⟦<Nested as Choice>⟧.alternatives) ≡
+        codes "null" ∷ codes "flag" ∷ codes "inner" ∷ [] }
 {}
 
 /// Whether two nodes have the same label, and equal children in the same order.

@@ -5,7 +5,7 @@
 //! | [`Node`] | a SEQUENCE with a list of its own type inside; it is written and read |
 //! | [`Filter`] | a CHOICE with sets of its own type inside: the filters of LDAP, cut down |
 //! | [`Nested`] | a CHOICE with its own type inside, under a tag |
-//! | [`laws`] | the names of a node's components, and which nodes are equal |
+//! | [`laws`] | the names of components and of alternatives, and which nodes are equal |
 //!
 //! What the contracts promise:
 //!
@@ -19,7 +19,7 @@
 //! - The records of a `Node` are written out (`node_records`, `node_is_two_higher_than_its_children`).
 //! - A `Node` is read by two functions that call each other. Each node opens two scopes, so the allowance of the decoder ends the
 //!   recursion, whatever the input.
-//! - [`laws`] says when two nodes are equal, and which names the table has.
+//! - [`laws`] says when two nodes are equal, and which names the tables have.
 //!
 //! The prover wants such a type, its tables, its writer and its reader in one crate. A call takes memory where a codec does,
 //! and reading for the labels and the lists of children.

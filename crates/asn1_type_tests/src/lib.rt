@@ -1,5 +1,5 @@
-//! Tests of the public calls of the crates from `asn1_model` to `asn1_enc`, and of `asn1_samples`, `asn1_recursive`,
-//! `asn1_clash` and `asn1_example`.
+//! Tests of the public calls of the crates from `asn1_model` to `asn1_enc`, and of `asn1_samples`, `asn1_recursive`
+//! and `asn1_clash`.
 //!
 //! A crate that has tests is proved twice, so those that need no private item are together here, and the crates below are
 //! proved once. They try what no contract says: values from outside (worked examples, a standard's tables), printed texts,
@@ -15,9 +15,8 @@
 //! | `enumerations` | an ENUMERATED type: its numbers, names and places |
 //! | `types` | worked sets, wrappers, and the records of worked values |
 //! | `encoder` | what a codec is told beside the records, and the texts of errors |
-//! | `samples` | the lines of the sample types' tables |
+//! | `samples` | the lines of the sample types' tables, of a generic type at two types |
 //! | `clash` | the search for components without distinct tags, against that of `asn1_fields` |
-//! | `example` | a generic type at two types, and the calls of types that their authors have stated |
 //!
 //! A test is a list of calls of helpers; a helper makes one value, asserts, and drops it, which is the form that takes least
 //! to prove.
@@ -33,8 +32,6 @@ mod components;
 mod encoder;
 #[cfg(test)]
 mod enumerations;
-#[cfg(test)]
-mod example;
 #[cfg(test)]
 mod fields;
 #[cfg(test)]

@@ -1,8 +1,9 @@
 //! The lines of the tables, and the calls that follow from them.
 use asn1_samples::{
-    Badge, Color, Contact, Corner, Envelope, Labelled, Person, Plate, Profile, Settings, Shape,
+    Badge, Color, Contact, Corner, Envelope, Labelled, Notice, Pair, Person, Plate, Profile,
+    Settings, Shape,
 };
-use asn1_types::{AsnType, Bounded, Choice, Enumerated, FieldTable, Tag, Value};
+use asn1_types::{AsnType, Bounded, Choice, FieldTable, Tag, Value};
 use std::alloc::Global;
 use std::process::Abort;
 
@@ -29,6 +30,8 @@ fn assert_variance<T: Choice>(rt: &impl Abort, alloc: Global, count: usize) {
 #[test]
 fn tables_have_a_line_for_each_component(rt: HostRuntime) {
     assert_places::<Person>(&rt, 2);
+    assert_places::<Notice>(&rt, 3);
+    assert_places::<Pair<u8, bool>>(&rt, 2);
     assert_places::<Profile>(&rt, 4);
     assert_places::<Contact>(&rt, 2);
     assert_places::<Badge>(&rt, 3);
@@ -40,6 +43,8 @@ fn tables_have_a_line_for_each_component(rt: HostRuntime) {
 #[test]
 fn types_have_tags_and_names(rt: HostRuntime) {
     assert_type::<Person>(&rt, Tag::SEQUENCE, "Person");
+    assert_type::<Notice>(&rt, Tag::SEQUENCE, "Notice");
+    assert_type::<Pair<u8, bool>>(&rt, Tag::SEQUENCE, "Pair");
     assert_type::<Profile>(&rt, Tag::SEQUENCE, "Profile");
     assert_type::<Badge>(&rt, Tag::SET, "Badge");
     assert_type::<Shape>(&rt, Tag::CHOICE, "Shape");
@@ -71,9 +76,17 @@ fn plates_have_three_letters(rt: HostRuntime) {
     assert_characters::<Plate>(&rt, rt.alloc(), &[65, 66, 67]);
 }
 
+/// Asserts the tag and the name of the component at this place.
+fn assert_component<T: FieldTable>(rt: &impl Abort, place: usize, tag: Tag, name: &str) {
+    match T::field_at(place) {
+        Some(field) => assert!(rt; field.tag == tag && field.name == name && field.index == place),
+        None => panic!(rt; "no component"),
+    }
+}
+
 #[test]
-fn colors_are_found_by_number(rt: HostRuntime) {
-    assert!(rt; Color::from_discriminant(5) == Some(Color::Blue));
-    assert!(rt; Color::from_discriminant(2).is_none());
-    assert!(rt; Color::Blue.enumeration_index() == 0 && Color::Blue.identifier() == "blue");
+fn a_generic_type_has_its_table_at_each_type(rt: HostRuntime) {
+    assert_component::<Pair<u8, bool>>(&rt, 0, Tag::INTEGER, "first");
+    assert_component::<Pair<bool, u8>>(&rt, 0, Tag::BOOL, "first");
+    assert_component::<Pair<bool, u8>>(&rt, 1, Tag::new_context(0), "second");
 }
