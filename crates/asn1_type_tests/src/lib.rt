@@ -1,4 +1,4 @@
-//! Tests of the public calls of the crates from `asn1_model` to `asn1_enc`, and of `asn1_samples`, `asn1_recursive`
+//! Tests of the public calls of the crates from `asn1_model` to `asn1_dec`, and of `asn1_samples`, `asn1_recursive`
 //! and `asn1_clash`.
 //!
 //! A crate that has tests is proved twice, so those that need no private item are together here, and the crates below are
@@ -14,7 +14,8 @@
 //! | `choices` | CHOICE types and their tables, and the records of worked values |
 //! | `enumerations` | an ENUMERATED type: its numbers, names and places |
 //! | `types` | worked sets, wrappers, and the records of worked values |
-//! | `encoder` | what a codec is told beside the records, and the texts of errors |
+//! | `encoder` | what a codec is told beside the records when a value is written, and the texts of errors |
+//! | `decoder` | the same when a value is read |
 //! | `samples` | the lines of the sample types' tables, of a generic type at two types |
 //! | `clash` | the search for components without distinct tags, against that of `asn1_fields` |
 //!
@@ -28,6 +29,8 @@ mod choices;
 mod clash;
 #[cfg(test)]
 mod components;
+#[cfg(test)]
+mod decoder;
 #[cfg(test)]
 mod encoder;
 #[cfg(test)]

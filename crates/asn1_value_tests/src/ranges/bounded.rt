@@ -191,6 +191,7 @@ fn gives_effective_values(rt: HostRuntime) {
     assert!(rt; Bounded::Single(5i128).effective_value(5) == Right(5));
     assert!(rt; Bounded::None.effective_value(i128::MIN) == Right(i128::MIN));
     assert!(rt; Bounded::start_from(i128::MIN).effective_value(-1) == Left(i128::MAX));
+    assert!(rt; Bounded::start_from(-1i128).effective_value(i128::MAX - 1) == Left(i128::MAX));
     assert!(rt; Bounded::start_from(1usize).effective_value(usize::MAX) == Left(usize::MAX - 1));
 }
 
@@ -206,6 +207,8 @@ fn gives_octets(rt: HostRuntime) {
     assert_octets(&rt, range(0, 0), false, Some(1));
     assert_octets(&rt, range(-1, -1), true, Some(1));
     assert_octets(&rt, range(1, -1), false, None);
+    assert_octets(&rt, range(5, 3), false, Some(1));
+    assert_octets(&rt, range(-1, -300), true, Some(2));
     assert_octets(&rt, Bounded::Single(-129), true, Some(2));
     assert_octets(&rt, Bounded::Single(-9_223_372_036_854_775_809), true, None);
     assert_octets(&rt, Bounded::Single(eight), false, Some(8));

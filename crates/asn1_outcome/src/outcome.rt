@@ -8,19 +8,20 @@ ghost use Rattle.asn1_report.specs.Report.{all_understood};
 use asn1_report::{CheckError, check};
 use std::alloc::Global;
 use std::fmt;
-use std::io::{BufWriter, Read, Write};
+use std::io::{BufWriter, Eprint, Read, Write};
+use std::process::{ExitCode, Termination};
 
 /// How the program ends: with a status, and with what `{}` shows of it on standard error.
 #[derive(Clone, Copy)]
-pub(crate) struct Outcome {
+pub struct Outcome {
     /// 0 if all was understood, 1 if not, 2 after an error.
-    pub(crate) status: u8,
+    pub status: u8,
     error: Option<CheckError>,
 }
 
 impl Outcome {
     /// How the program ends after a check with that answer.
-    pub(crate) fn of(answer: Result<bool, CheckError>) -> Self
+    pub fn of(answer: Result<bool, CheckError>) -> Self
         ensures understood { (result.status ≡ 0) ↔ (answer ≡ Ok true) }
         ensures not_understood { (result.status ≡ 1) ↔ (answer ≡ Ok false) }
         ensures failed { (result.status ≡ 2) ↔ IsErr answer }
@@ -64,9 +65,21 @@ impl fmt::Display for Outcome {
     }
 }
 
+/// What `main` answers: the text is printed, and the process ends with the status.
+impl Termination for Outcome {
+    ghost use Rattle.std.specs.Process.{exit_status};
+
+    fn report<R: Eprint>(self, rt: &R) -> ExitCode
+        ensures { exit_status result ≡ self.status }
+    {
+        let _ = rt.eprint(self);
+        ExitCode::from(self.status)
+    }
+}
+
 /// Checks what the reader gives, through a buffer before the writer, and hands on the answer of [`check`]. Where there is no
 /// room for the buffer, nothing is read, and that is [`CheckError::Memory`].
-pub(crate) fn run<R: Read, W: Write + Drop>(
+pub fn run<R: Read, W: Write + Drop>(
     alloc: Global,
     reader: &mut R,
     writer: W,

@@ -1,0 +1,3 @@
+//! What a codec is told beside the records when a value is read.
+mod listener;
+mod told;
