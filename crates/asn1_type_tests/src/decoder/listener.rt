@@ -8,12 +8,13 @@ use asn1_choices::Choice;
 use asn1_components::FieldTable;
 use asn1_dec::{DecodeError, Decoder};
 use asn1_enumerations::EnumeratedTable;
+use asn1_strings::{
+    BitString, BmpString, GeneralString, GraphicString, Ia5String, NumericString, ObjectIdentifier,
+    PrintableString, TeletexString, VisibleString,
+};
 use asn1_tags::{Tag, TagTree};
 use asn1_types::Any;
-use asn1_values::{
-    BitString, BmpString, GeneralString, GraphicString, Ia5String, Integer, IntegerType,
-    NumericString, ObjectIdentifier, PrintableString, TeletexString, VisibleString,
-};
+use asn1_values::{Integer, IntegerType};
 use std::alloc::Global;
 
 /// What a decoder is told beside the records. A table is known by the name in its first line and by the number of its lines.
