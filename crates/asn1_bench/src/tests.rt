@@ -5,6 +5,7 @@ mod errors;
 mod failures;
 mod made;
 mod memory;
+mod no_memory;
 mod refusals;
 mod samples;
 mod types;

@@ -1,18 +1,19 @@
 //! Checks schema tables: reads lines on trees of tags, on bounds and on the components of types from standard input, and
 //! writes a verdict on each to standard output.
 //!
-//! `main` answers the outcome of the check of standard input ([`asn1_outcome`] has both): the program ends with 0 if every line
-//! was understood and every table had its `end`, with 1 if not, and with 2 after an error, whose text is then on standard
-//! error. The stored run of this crate ends with 0; the crate `asn1_check_status` is the same program, whose stored run ends
-//! with 1.
+//! The work is done by [`asn1_report::check`], whose contract is the theorem: what is written is the report of what was
+//! read. `main` answers the outcome of the check of standard input (`checked` of `src/outcome.rt`, over any reader and writer):
+//! the program ends with 0 if every line was understood and every table had its `end`, with 1 if not, and with 2 after an
+//! error, whose text is then on standard error. The stored run of this crate ends with 1.
 #![tactic(auto)]
 
+mod outcome;
 #[cfg(test)]
 mod tests;
 
-use asn1_outcome::{Outcome, run};
+use outcome::Outcome;
 use std::io;
 
 fn main(rt: HostRuntime) -> Outcome {
-    Outcome::of(run(rt.alloc(), &mut rt.reader(), io::writer(&rt)))
+    outcome::checked(rt.alloc(), &mut rt.reader(), io::writer(&rt))
 }

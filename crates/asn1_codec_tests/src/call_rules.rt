@@ -1,4 +1,6 @@
 //! The calls of an encoder and of a decoder, each by itself.
+ghost use Rattle.std.specs.Prelude.{◌≡◌, ⊥, IsOk, MatchResult, None, Ok, OnOk, Some, true};
+
 use crate::failure::Failure;
 use crate::round_trips::is_same;
 use asn1_dec::{DecodeError, Decoder};
@@ -92,7 +94,9 @@ impl<C: Calls> Calls for Inside<C> {
 ///
 /// # Errors
 /// Why it failed.
-pub fn done(answer: Result<(), DecodeError>) -> Result<(), Failure> {
+pub fn done(answer: Result<(), DecodeError>) -> Result<(), Failure>
+    ensures succeeded { OnOk result (IsOk answer) }
+{
     answer.map_err(Failure::of_reading)
 }
 
@@ -103,7 +107,9 @@ pub fn done(answer: Result<(), DecodeError>) -> Result<(), Failure> {
 pub fn answers<T: PartialEq + Drop>(
     answer: Result<T, DecodeError>,
     expected: &T,
-) -> Result<(), Failure> {
+) -> Result<(), Failure>
+    ensures expected { OnOk result (MatchResult answer (λ v. T.eq v expected.now ≡ true) (λ _. ⊥)) }
+{
     match answer {
         Ok(value) => is_same(&value, expected),
         Err(error) => Err(Failure::of_reading(error)),
@@ -117,7 +123,9 @@ pub fn answers<T: PartialEq + Drop>(
 pub fn answers_some<T: PartialEq + Drop>(
     answer: Result<Option<T>, DecodeError>,
     expected: &T,
-) -> Result<(), Failure> {
+) -> Result<(), Failure>
+    ensures expected { OnOk result ((v : T) × ((answer ≡ Ok (Some v)) × (T.eq v expected.now ≡ true))) }
+{
     match answer {
         Ok(Some(value)) => is_same(&value, expected),
         Ok(None) => Err(Failure::Another),
@@ -129,7 +137,9 @@ pub fn answers_some<T: PartialEq + Drop>(
 ///
 /// # Errors
 /// As `answers`.
-pub fn answers_none<T: Drop>(answer: Result<Option<T>, DecodeError>) -> Result<(), Failure> {
+pub fn answers_none<T: Drop>(answer: Result<Option<T>, DecodeError>) -> Result<(), Failure>
+    ensures absent { OnOk result (answer ≡ Ok None) }
+{
     match answer {
         Ok(None) => Ok(()),
         Ok(Some(_)) => Err(Failure::Another),

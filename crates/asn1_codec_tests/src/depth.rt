@@ -1,11 +1,19 @@
-//! How many scopes a value has in one another.
+//! How deep the scopes of a value are nested.
+ghost use Rattle.asn1_model.specs.Meaning.{own_records};
+ghost use Rattle.asn1_model.specs.Records.{highest};
+ghost use Rattle.std.specs.Prelude.{◌≤◌, ◌<◌, ◌∸◌, OnOk};
+
 use crate::failure::Failure;
 use crate::round_trips::{is_not_read, is_same};
 use asn1_dec::{Decode, DecodeError};
 use asn1_enc::{Encode, EncodeError};
 use asn1_schema::Rules;
+use asn1_types::{Explicit, tag};
+use std::alloc::Global;
 
-/// Whether a value is written and read with so many scopes in one another, and neither with one less.
+/// Whether a value is written and read with this many nested scopes, at least one, and neither with one less.
+///
+/// Of a codec that keeps the laws, the scopes of a value that passes are nested exactly so deep.
 ///
 /// # Errors
 /// [`Failure::Another`] where it is written or read with less, or comes back as another; else why it was not written or read.
@@ -13,7 +21,10 @@ pub fn needs_depth<R: Rules, T: Encode + Decode>(
     rules: &R,
     value: &T,
     depth: usize,
-) -> Result<(), Failure> {
+) -> Result<(), Failure>
+    ensures enough { OnOk result (highest (own_records T.meaning value.now) ≤ depth) }
+    ensures no_less { OnOk result (depth ∸ 1 < highest (own_records T.meaning value.now)) }
+{
     let too_little = depth.saturating_sub(1);
     is_too_high(rules, value, too_little)?;
     match rules.write_value(value, depth) {
@@ -25,8 +36,10 @@ pub fn needs_depth<R: Rules, T: Encode + Decode>(
     }
 }
 
-/// Whether a value is not written with so many scopes in one another.
-fn is_too_high<R: Rules, T: Encode>(rules: &R, value: &T, depth: usize) -> Result<(), Failure> {
+/// Whether a value is not written with this many nested scopes.
+fn is_too_high<R: Rules, T: Encode>(rules: &R, value: &T, depth: usize) -> Result<(), Failure>
+    ensures higher { OnOk result (depth < highest (own_records T.meaning value.now)) }
+{
     match rules.write_value(value, depth) {
         Ok(_) => Err(Failure::Another),
         Err(EncodeError::Depth) => Ok(()),
@@ -34,7 +47,7 @@ fn is_too_high<R: Rules, T: Encode>(rules: &R, value: &T, depth: usize) -> Resul
     }
 }
 
-/// Whether the value is read of an output with so many scopes in one another.
+/// Whether the value is read of an output with this many nested scopes.
 fn is_read<R: Rules, T: Decode>(
     rules: &R,
     output: &R::Output,
@@ -44,5 +57,29 @@ fn is_read<R: Rules, T: Decode>(
     match rules.read_value(output, depth) {
         Ok(back) => is_same(&back, value),
         Err(error) => Err(Failure::of_reading(error)),
+    }
+}
+
+/// Whether a list and what follows an explicit tag take a scope each to write and to read, and not less.
+///
+/// # Errors
+/// How else it ended.
+pub fn nested_lists_need_their_depth<R: Rules>(rules: &R, alloc: Global) -> Result<(), Failure> {
+    needs_depth(rules, &Explicit::<tag::BOOL, u8>::new(7), 1)
+        .and(list(rules, alloc))
+        .and(list_of_lists(rules, alloc))
+}
+
+fn list<R: Rules>(rules: &R, alloc: Global) -> Result<(), Failure> {
+    let list = Vec::from_slice(alloc, &[true])?;
+    needs_depth(rules, &list, 1)
+}
+
+fn list_of_lists<R: Rules>(rules: &R, alloc: Global) -> Result<(), Failure> {
+    let list = Vec::from_slice(alloc, &[true])?;
+    let mut lists = Vec::new(alloc);
+    match lists.push(list) {
+        Ok(()) => needs_depth(rules, &lists, 2),
+        Err(_) => Err(Failure::Memory),
     }
 }

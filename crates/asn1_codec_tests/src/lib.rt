@@ -7,15 +7,17 @@
 //! |---|---|
 //! | [`types`] | a value of each type of the language and of the layers below, by itself |
 //! | [`calls`] | each call of an encoder and of a decoder |
-//! | [`refusals`] | what no codec reads, and how many scopes a value takes |
+//! | [`refusals`] | what types themselves refuse |
+//! | [`nested_lists_need_their_depth`] | how deep scopes are nested |
 //! | [`Failure`] | why a case failed |
 //! | [`comes_back`], [`needs_depth`], [`is_refused`] | what is tried of a value of any type |
 //! | [`CallRules`], [`Calls`], [`calls_come_back`] | what is tried of calls |
 //! | [`made`] | values that cases make |
 //!
 //! What the contracts promise: over a codec that keeps the laws, a valid value never comes back as another one
-//! (`never_another` of [`comes_back`]). So a case of [`types`] can fail only where memory is short, where the codec rejects a
-//! value, or where it does not keep its laws.
+//! (`never_another` of [`comes_back`]), and what comes back was written (`written`). So a case of [`types`] can fail only where
+//! memory runs out, where the codec rejects a value, or where it does not keep its laws; but for
+//! `options_come_back_by_themselves`, which no law asks for.
 #![tactic(auto)]
 
 mod call_rules;
@@ -30,6 +32,6 @@ pub mod types;
 pub use call_rules::{
     CallRules, Calls, FIRST, NAME, answers, answers_none, answers_some, calls_come_back, done,
 };
-pub use depth::needs_depth;
+pub use depth::{needs_depth, nested_lists_need_their_depth};
 pub use failure::Failure;
 pub use round_trips::{comes_back, comes_back_as, is_not_read, is_refused, is_same, is_this};

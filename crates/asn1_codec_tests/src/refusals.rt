@@ -1,10 +1,8 @@
-//! What no codec reads: errors that types answer by themselves, and depth.
-use crate::depth::needs_depth;
+//! What types themselves refuse, of what was written as another type.
 use crate::failure::Failure;
 use crate::round_trips::is_refused;
 use asn1_dec::DecodeError;
 use asn1_schema::{Array, Rules};
-use asn1_types::{Explicit, tag};
 use asn1_values::ConstrainedInteger;
 use std::alloc::Global;
 
@@ -18,44 +16,31 @@ pub fn numbers_outside_their_limits_are_refused<R: Rules>(rules: &R) -> Result<(
     )
 }
 
-/// Whether a list of another length than the array that is read is refused.
+/// Whether a list of another length than the array that is read is refused, by a codec that writes a list the same under all sizes.
 ///
 /// # Errors
 /// How else it ended.
-pub fn lists_of_another_length_are_refused<R: Rules>(rules: &R) -> Result<(), Failure> {
+pub fn lists_of_another_length_are_refused<R: Rules>(
+    rules: &R,
+    alloc: Global,
+) -> Result<(), Failure> {
+    two_for_three(rules, alloc).and(three_for_two(rules, alloc))
+}
+
+fn two_for_three<R: Rules>(rules: &R, alloc: Global) -> Result<(), Failure> {
+    let list = Vec::from_slice(alloc, &[1u8, 2])?;
     let too_few = DecodeError::IncorrectItemNumber {
         expected: 3,
         actual: 2,
     };
+    is_refused::<Array<u8, 3>, R, Vec<u8>>(rules, &list, too_few)
+}
+
+fn three_for_two<R: Rules>(rules: &R, alloc: Global) -> Result<(), Failure> {
+    let list = Vec::from_slice(alloc, &[1u8, 2, 3])?;
     let too_many = DecodeError::IncorrectItemNumber {
         expected: 2,
         actual: 3,
     };
-    is_refused::<Array<u8, 3>, R, Array<u8, 2>>(rules, &Array::from([1u8, 2]), too_few).and(
-        is_refused::<Array<u8, 2>, R, Array<u8, 3>>(rules, &Array::from([1u8, 2, 3]), too_many),
-    )
-}
-
-/// Whether lists and what follows an explicit tag take a scope each to write and to read, and not less.
-///
-/// # Errors
-/// How else it ended.
-pub fn each_scope_takes_its_depth<R: Rules>(rules: &R, alloc: Global) -> Result<(), Failure> {
-    needs_depth(rules, &Explicit::<tag::BOOL, u8>::new(7), 1)
-        .and(list(rules, alloc))
-        .and(list_of_lists(rules, alloc))
-}
-
-fn list<R: Rules>(rules: &R, alloc: Global) -> Result<(), Failure> {
-    let list = Vec::from_slice(alloc, &[true])?;
-    needs_depth(rules, &list, 1)
-}
-
-fn list_of_lists<R: Rules>(rules: &R, alloc: Global) -> Result<(), Failure> {
-    let list = Vec::from_slice(alloc, &[true])?;
-    let mut lists = Vec::new(alloc);
-    match lists.push(list) {
-        Ok(()) => needs_depth(rules, &lists, 2),
-        Err(_) => Err(Failure::Memory),
-    }
+    is_refused::<Array<u8, 2>, R, Vec<u8>>(rules, &list, too_many)
 }

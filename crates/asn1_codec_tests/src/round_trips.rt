@@ -1,25 +1,28 @@
 //! A value that is written and read back.
 ghost use Rattle.asn1_codec_tests.specs.declared.failure.Failure.TheVariants.{Another};
-ghost use Rattle.asn1_model.specs.Meaning.{CanStandInside};
-ghost use Rattle.std.specs.Prelude.{◌≡◌, ◌≢◌, Err, IsOk, false, true};
+ghost use Rattle.asn1_model.specs.Meaning.{CanStandInside, own_records};
+ghost use Rattle.asn1_model.specs.Records.{highest};
+ghost use Rattle.std.specs.Prelude.{◌≡◌, ◌≢◌, ◌≤◌, Err, IsOk, OnErr, OnOk, false, true};
 
 use crate::failure::Failure;
 use asn1_dec::{Decode, DecodeError};
 use asn1_enc::{Encode, EncodeError};
 use asn1_schema::{Rules, round_trip};
 
-/// How many scopes a case opens in one another, where nothing else is said.
+/// How many nested scopes a case may open, where nothing else is said.
 pub const DEPTH: usize = 4;
 
 /// Whether a value comes back.
 ///
-/// Of a codec that keeps the laws, a valid value of a type that can be inside others never comes back as another.
+/// Of a codec that keeps the laws, a valid value of a type that can be inside others never comes back as another. What comes back
+/// was written, nested no deeper than 4.
 ///
 /// # Errors
 /// [`Failure::Another`] where what is read is not equal to the value; else why it was not written or not read.
 pub fn comes_back<R: Rules, T: Encode + Decode>(rules: &R, value: &T) -> Result<(), Failure>
     ensures never_another { CanStandInside T.meaning → T.meaning.IsValid R.format.takes value.now →
         result ≢ Err Another }
+    ensures written { OnOk result (highest (own_records T.meaning value.now) ≤ 4) }
 {
     comes_back_as(rules, value, value)
 }
@@ -35,6 +38,7 @@ pub fn comes_back_as<R: Rules, T: Encode + Decode>(
 ) -> Result<(), Failure>
     ensures never_another { CanStandInside T.meaning → T.meaning.IsValid R.format.takes value.now →
         ((w : T) → T.eq w value.now ≡ true → T.eq w expected.now ≡ true) → result ≢ Err Another }
+    ensures written { OnOk result (highest (own_records T.meaning value.now) ≤ 4) }
 {
     match round_trip(rules, value, DEPTH, DEPTH) {
         Ok(back) => is_same(&back, expected),
@@ -49,6 +53,7 @@ pub fn comes_back_as<R: Rules, T: Encode + Decode>(
 pub fn is_same<T: PartialEq>(left: &T, right: &T) -> Result<(), Failure>
     ensures equal { T.eq left.now right.now ≡ true → IsOk result }
     ensures unequal { T.eq left.now right.now ≡ false → result ≡ Err Another }
+    ensures only { OnOk result (T.eq left.now right.now ≡ true) }
 {
     if *left == *right {
         Ok(())
@@ -72,7 +77,7 @@ pub fn is_refused<S: Decode, R: Rules, T: Encode>(
     }
 }
 
-/// Whether an output is refused by this error as an `S` is read, with so many scopes in one another.
+/// Whether an output is refused by this error as an `S` is read, with this many nested scopes.
 ///
 /// # Errors
 /// [`Failure::Another`] where an `S` is read; else by which error the output was refused.
@@ -92,7 +97,10 @@ pub fn is_not_read<S: Decode, R: Rules>(
 ///
 /// # Errors
 /// The error, where it is another.
-pub fn is_this(error: DecodeError, expected: DecodeError) -> Result<(), Failure> {
+pub fn is_this(error: DecodeError, expected: DecodeError) -> Result<(), Failure>
+    ensures expected { OnOk result (⟦<DecodeError as PartialEq>⟧.eq error expected ≡ true) }
+    ensures other { OnErr result (⟦<DecodeError as PartialEq>⟧.eq error expected ≡ false) }
+{
     if error == expected {
         Ok(())
     } else {

@@ -10,4 +10,6 @@ pub use strings::{
     an_open_type_comes_back, octets_and_arcs_come_back, strings_with_an_alphabet_come_back,
     strings_without_an_alphabet_come_back,
 };
-pub use wrappers::{an_instance_comes_back, holders_come_back, tagged_values_come_back};
+pub use wrappers::{
+    an_instance_comes_back, holders_come_back, options_come_back_by_themselves, tagged_values_come_back,
+};

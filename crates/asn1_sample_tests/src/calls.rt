@@ -85,7 +85,7 @@ pub fn items_come_back<R: CallRules>(rules: &R) -> Result<(), Failure> {
         .and(calls_come_back(rules, ItemCalls(Color::Blue)))
 }
 
-/// Whether a CHOICE comes back under the tag that stands for none, and after another.
+/// Whether a CHOICE comes back under the CHOICE marker tag, and after another.
 ///
 /// # Errors
 /// Why it did not.

@@ -10,7 +10,7 @@ use std::alloc::Global;
 ///
 /// # Errors
 /// Why one was not.
-pub fn each_scope_takes_its_depth<R: Rules>(rules: &R, alloc: Global) -> Result<(), Failure> {
+pub fn samples_need_their_depth<R: Rules>(rules: &R, alloc: Global) -> Result<(), Failure> {
     one_person(rules, alloc)
         .and(needs_depth(rules, &Shape::Inner(Corner::Left(true)), 2))
         .and(nodes(rules, alloc, 1, 4))

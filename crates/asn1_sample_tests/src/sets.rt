@@ -93,7 +93,8 @@ fn is_no_badge<R: CallRules>(
     }
 }
 
-/// Whether a SET is refused where a component is there twice, or one is missing.
+/// Whether a SET is refused where a component is there twice, or one is missing, by a codec that writes the components of a SET with
+/// their tags, whatever they are.
 ///
 /// # Errors
 /// How else it ended.

@@ -35,6 +35,6 @@ fn choices_sets_and_nodes_come_back(rt: HostRuntime) {
     passes(
         &rt,
         "depth",
-        depth::each_scope_takes_its_depth(&rules, alloc),
+        depth::samples_need_their_depth(&rules, alloc),
     );
 }

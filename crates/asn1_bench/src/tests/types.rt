@@ -1,7 +1,7 @@
 //! A value of each type, and what no codec reads.
 use crate::rules::BenchRules;
 use crate::tests::cases::passes;
-use asn1_codec_tests::{refusals, types};
+use asn1_codec_tests::{nested_lists_need_their_depth, refusals, types};
 
 #[test]
 fn numbers_come_back(rt: HostRuntime) {
@@ -50,6 +50,11 @@ fn what_holds_others_comes_back(rt: HostRuntime) {
     passes(&rt, "holders", types::holders_come_back(&rules, alloc));
     passes(
         &rt,
+        "options by themselves",
+        types::options_come_back_by_themselves(&rules),
+    );
+    passes(
+        &rt,
         "tagged values",
         types::tagged_values_come_back(&rules, alloc),
     );
@@ -71,11 +76,11 @@ fn what_no_codec_reads_is_refused(rt: HostRuntime) {
     passes(
         &rt,
         "lengths",
-        refusals::lists_of_another_length_are_refused(&rules),
+        refusals::lists_of_another_length_are_refused(&rules, rt.alloc()),
     );
     passes(
         &rt,
         "depth",
-        refusals::each_scope_takes_its_depth(&rules, rt.alloc()),
+        nested_lists_need_their_depth(&rules, rt.alloc()),
     );
 }

@@ -1,5 +1,5 @@
 //! How the program ends after each kind of input, and after each error.
-use asn1_outcome::{Outcome, run};
+use crate::outcome::{Outcome, run};
 use std::alloc::Global;
 use std::io;
 use std::io::{ErrorKind, Read, Write};

@@ -1,70 +1,141 @@
 //! Components with a default.
 use crate::call_rules::{
-    CallRules, Calls, FIRST, NAME, answers, answers_none, answers_some, calls_come_back,
+    CallRules, Calls, FIRST, NAME, answers, answers_none, answers_some, calls_come_back, done,
 };
 use crate::failure::Failure;
+use crate::round_trips::is_this;
 use asn1_bounds::Constraints;
 use asn1_dec::{DecodeError, Decoder};
 use asn1_enc::{EncodeError, Encoder};
+use asn1_tags::Tag;
 use std::alloc::{AllocError, Global};
 
 /// The default of the components.
-fn usual(alloc: Global) -> Result<String, AllocError> {
+fn eight(alloc: Global) -> Result<String, AllocError> {
     String::from_str(alloc, "8")
 }
 
-/// A text that is not the default, and one that is.
+/// A NULL, by which a codec without presence marks sees that the component before it is absent.
+fn separate<E: Encoder>(encoder: &mut E) -> Result<(), EncodeError> {
+    encoder.encode_null(Tag::NULL, NAME)
+}
+
+/// The same when it is read.
+fn separated<D: Decoder>(decoder: &mut D) -> Result<(), Failure> {
+    done(decoder.decode_null(Tag::NULL))
+}
+
+/// A text and a number that are the default of their component, or are not.
 #[derive(Drop)]
 struct DefaultCalls {
-    value: String,
-    usual: String,
+    text: String,
+    number: u8,
+    is_default: bool,
 }
 
 impl Calls for DefaultCalls {
     fn write<E: Encoder>(&self, encoder: &mut E) -> Result<(), EncodeError> {
         let constraints = &Constraints::NONE;
-        let value = &self.value;
-        encoder.encode_default(value, usual, NAME)?;
-        encoder.encode_default_with_constraints(constraints, &self.usual, usual, NAME)?;
-        encoder.encode_default_with_tag(FIRST, value, usual, NAME)?;
-        encoder.encode_default_with_tag_and_constraints(FIRST, constraints, value, usual, NAME)?;
-        encoder.encode_default_with_explicit_prefix(FIRST, value, usual, NAME)?;
-        encoder.encode_or_default(&0u8, NAME)?;
-        encoder.encode_with_tag_or_default(FIRST, &9u8, NAME)
+        let text = &self.text;
+        encoder.encode_default(text, eight, NAME)?;
+        separate(encoder)?;
+        encoder.encode_default_with_constraints(constraints, text, eight, NAME)?;
+        separate(encoder)?;
+        encoder.encode_default_with_tag(FIRST, text, eight, NAME)?;
+        separate(encoder)?;
+        encoder.encode_default_with_tag_and_constraints(FIRST, constraints, text, eight, NAME)?;
+        separate(encoder)?;
+        encoder.encode_default_with_explicit_prefix(FIRST, text, eight, NAME)?;
+        separate(encoder)?;
+        encoder.encode_or_default(&self.number, NAME)?;
+        separate(encoder)?;
+        encoder.encode_with_tag_or_default(FIRST, &self.number, NAME)
     }
 
     fn read<D: Decoder>(&self, decoder: &mut D) -> Result<(), Failure> {
         let constraints = &Constraints::NONE;
-        let value = &self.value;
-        answers(decoder.decode_default(usual), value)?;
+        let text = &self.text;
+        answers(decoder.decode_default(eight), text)?;
+        separated(decoder)?;
         answers(
-            decoder.decode_default_with_constraints(usual, constraints),
-            &self.usual,
+            decoder.decode_default_with_constraints(eight, constraints),
+            text,
         )?;
-        answers(decoder.decode_default_with_tag(FIRST, usual), value)?;
+        separated(decoder)?;
+        answers(decoder.decode_default_with_tag(FIRST, eight), text)?;
+        separated(decoder)?;
         answers(
-            decoder.decode_default_with_tag_and_constraints(FIRST, usual, constraints),
-            value,
+            decoder.decode_default_with_tag_and_constraints(FIRST, eight, constraints),
+            text,
         )?;
-        answers_some(decoder.decode_optional_with_explicit_prefix(FIRST), value)?;
-        answers_none(decoder.decode_optional::<u8>())?;
-        answers_some(decoder.decode_optional_with_tag(FIRST), &9u8)
+        separated(decoder)?;
+        self.read_as_options(decoder)
     }
 }
 
-/// Whether a component with a default is what was written, or its default, by each call.
+impl DefaultCalls {
+    /// Reads what has no call of a decoder for its default.
+    fn read_as_options<D: Decoder>(&self, decoder: &mut D) -> Result<(), Failure> {
+        let text = decoder.decode_optional_with_explicit_prefix(FIRST);
+        self.answers_unless_default(text, &self.text)?;
+        separated(decoder)?;
+        self.answers_unless_default(decoder.decode_optional(), &self.number)?;
+        separated(decoder)?;
+        self.answers_unless_default(decoder.decode_optional_with_tag(FIRST), &self.number)
+    }
+
+    /// Whether a call answers this value, or none where it is the default.
+    fn answers_unless_default<T: PartialEq + Drop>(
+        &self,
+        answer: Result<Option<T>, DecodeError>,
+        expected: &T,
+    ) -> Result<(), Failure> {
+        if self.is_default {
+            answers_none(answer)
+        } else {
+            answers_some(answer, expected)
+        }
+    }
+}
+
+/// Whether a component with a default is what was written, where it is the default and where it is not, by each call.
 ///
 /// # Errors
 /// Why it was not.
 pub fn defaults_come_back<R: CallRules>(rules: &R, alloc: Global) -> Result<(), Failure> {
-    let value = String::from_str(alloc, "9")?;
-    let usual = usual(alloc)?;
-    calls_come_back(rules, DefaultCalls { value, usual })
+    default_comes_back(rules, alloc).and(no_default_comes_back(rules, alloc))
+}
+
+fn default_comes_back<R: CallRules>(rules: &R, alloc: Global) -> Result<(), Failure> {
+    let text = eight(alloc)?;
+    calls_come_back(
+        rules,
+        DefaultCalls {
+            text,
+            number: 0,
+            is_default: true,
+        },
+    )
+}
+
+fn no_default_comes_back<R: CallRules>(rules: &R, alloc: Global) -> Result<(), Failure> {
+    let text = String::from_str(alloc, "9")?;
+    calls_come_back(
+        rules,
+        DefaultCalls {
+            text,
+            number: 9,
+            is_default: false,
+        },
+    )
 }
 
 fn no_memory(_alloc: Global) -> Result<u8, AllocError> {
     Err(AllocError)
 }
+
+/// How the reading calls end where a default without memory is an error.
+const AS_EXPECTED: DecodeError = DecodeError::Custom("as expected");
 
 /// A default for which there is no memory.
 #[derive(Drop)]
@@ -79,7 +150,7 @@ impl Calls for NoDefault {
         let first = decoder.decode_default(no_memory).err();
         let later = decoder.decode_default(no_memory).err();
         if first == Some(DecodeError::Memory) && later == Some(DecodeError::Failed) {
-            Err(Failure::of_reading(DecodeError::Failed))
+            Err(Failure::of_reading(AS_EXPECTED))
         } else {
             Err(Failure::Another)
         }
@@ -92,7 +163,7 @@ impl Calls for NoDefault {
 /// Why it was not.
 pub fn a_default_without_memory_is_an_error<R: CallRules>(rules: &R) -> Result<(), Failure> {
     match calls_come_back(rules, NoDefault) {
-        Err(Failure::NotRead(DecodeError::Failed)) => Ok(()),
+        Err(Failure::NotRead(error)) => is_this(error, AS_EXPECTED),
         Err(failure) => Err(failure),
         Ok(()) => Err(Failure::Another),
     }

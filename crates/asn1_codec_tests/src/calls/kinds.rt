@@ -94,7 +94,7 @@ fn graphic<R: CallRules>(rules: &R, alloc: Global) -> Result<(), Failure> {
 }
 
 fn teletex<R: CallRules>(rules: &R, alloc: Global) -> Result<(), Failure> {
-    let string = TeletexString::new(Vec::from_slice(alloc, &[u32::MAX])?);
+    let string = TeletexString::new(Vec::from_slice(alloc, &[0x41u32])?);
     comes_back_under_a_tag(rules, string)
 }
 

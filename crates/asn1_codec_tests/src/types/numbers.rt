@@ -4,7 +4,6 @@ use crate::round_trips::comes_back;
 use asn1_schema::Rules;
 use asn1_values::{ConstrainedInteger, Integer, IntegerType};
 use std::alloc::Global;
-use std::marker::PhantomData;
 
 /// Whether a value of each type that wants no memory comes back.
 ///
@@ -14,7 +13,6 @@ pub fn scalars_come_back<R: Rules>(rules: &R) -> Result<(), Failure> {
     comes_back(rules, &())
         .and(comes_back(rules, &true))
         .and(comes_back(rules, &false))
-        .and(comes_back(rules, &PhantomData::<u8>))
         .and(constrained(rules))
 }
 
@@ -26,7 +24,7 @@ fn constrained<R: Rules>(rules: &R) -> Result<(), Failure> {
     }
 }
 
-/// Whether a number of each type comes back, at an end of its range.
+/// Whether a number of each type comes back, at an end of its range, and small ones.
 ///
 /// # Errors
 /// Why it did not.
@@ -42,7 +40,15 @@ pub fn integers_come_back<R: Rules>(rules: &R) -> Result<(), Failure> {
         .and(comes_back(rules, &i64::MIN))
         .and(comes_back(rules, &isize::MIN))
         .and(comes_back(rules, &i128::MIN))
-        .and(comes_back(rules, &Integer::from_i128(-128)))
+        .and(small(rules, 0))
+        .and(small(rules, -1))
+        .and(small(rules, 127))
+        .and(small(rules, 128))
+}
+
+/// A number at an end of what one octet holds, with a sign and without.
+fn small<R: Rules>(rules: &R, number: i128) -> Result<(), Failure> {
+    comes_back(rules, &Integer::from_i128(number))
 }
 
 /// Whether a number that is wider than any of the language comes back.

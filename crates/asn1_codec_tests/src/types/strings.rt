@@ -75,7 +75,7 @@ fn graphic<R: Rules>(rules: &R, alloc: Global) -> Result<(), Failure> {
 }
 
 fn teletex<R: Rules>(rules: &R, alloc: Global) -> Result<(), Failure> {
-    let string = TeletexString::new(Vec::from_slice(alloc, &[u32::MAX])?);
+    let string = TeletexString::new(Vec::from_slice(alloc, &[0x41u32])?);
     comes_back(rules, &string)
 }
 
@@ -90,8 +90,12 @@ fn bmp<R: Rules>(rules: &R, alloc: Global) -> Result<(), Failure> {
 /// Why it did not.
 pub fn octets_and_arcs_come_back<R: Rules>(rules: &R, alloc: Global) -> Result<(), Failure> {
     bits(rules, alloc)
-        .and(octets(rules, alloc))
-        .and(object_identifier(rules, alloc))
+        .and(octets(rules, alloc, &[0, 255]))
+        .and(octets(rules, alloc, &[]))
+        .and(octets(rules, alloc, &[7; 300]))
+        .and(object_identifier(rules, alloc, &[1, 3]))
+        .and(object_identifier(rules, alloc, &[2, 999, 3]))
+        .and(object_identifier(rules, alloc, &[1, 2, 840, 113549]))
 }
 
 fn bits<R: Rules>(rules: &R, alloc: Global) -> Result<(), Failure> {
@@ -99,13 +103,13 @@ fn bits<R: Rules>(rules: &R, alloc: Global) -> Result<(), Failure> {
     comes_back(rules, &string)
 }
 
-fn octets<R: Rules>(rules: &R, alloc: Global) -> Result<(), Failure> {
-    let string = OctetString::new(Vec::from_slice(alloc, &[0u8, 255])?);
+fn octets<R: Rules>(rules: &R, alloc: Global, octets: &[u8]) -> Result<(), Failure> {
+    let string = OctetString::new(Vec::from_slice(alloc, octets)?);
     comes_back(rules, &string)
 }
 
-fn object_identifier<R: Rules>(rules: &R, alloc: Global) -> Result<(), Failure> {
-    let identifier = arcs(alloc, &[1, 3])?;
+fn object_identifier<R: Rules>(rules: &R, alloc: Global, list: &[u32]) -> Result<(), Failure> {
+    let identifier = arcs(alloc, list)?;
     comes_back(rules, &identifier)
 }
 

@@ -78,13 +78,14 @@ fn with_mail<R: Rules>(rules: &R, alloc: Global) -> Result<(), Failure> {
 
 fn full<R: Rules>(rules: &R, alloc: Global) -> Result<(), Failure> {
     let nick = String::from_str(alloc, "Al")?;
+    let phone = letters(alloc, b"12")?;
     let mail = letters(alloc, b"a@b")?;
     let profile = Profile {
         nick: Some(nick),
         level: 255,
         color: Color::Blue,
         contact: Some(Contact {
-            phone: None,
+            phone: Some(phone),
             mail: Some(mail),
         }),
     };

@@ -1,5 +1,5 @@
 //! How the program ends.
-ghost use Rattle.std.specs.Prelude.{◌≡◌, ◌↔◌, ◌++◌, ◌∷◌, [], ℕ, List, true, false, codes, option_map, Some, IfErr, IfOk, IfSome, IsErr, IsErrOf, IsOk, OnOk};
+ghost use Rattle.std.specs.Prelude.{◌≡◌, ◌≢◌, ◌↔◌, ◌++◌, ◌∷◌, [], ℕ, List, true, false, codes, option_map, Some, IfErr, IfOk, IfSome, IsErr, IsErrOf, IsOk, OnOk};
 ghost use Rattle.std.specs.Io.KnownBytes.{Consumes, IsAtEnd};
 ghost use Rattle.std.specs.Option.{option_map_or};
 ghost use Rattle.asn1_report.specs.Errors.{error_text};
@@ -13,15 +13,15 @@ use std::process::{ExitCode, Termination};
 
 /// How the program ends: with a status, and with what `{}` shows of it on standard error.
 #[derive(Clone, Copy)]
-pub struct Outcome {
+pub(crate) struct Outcome {
     /// 0 if all was understood, 1 if not, 2 after an error.
-    pub status: u8,
+    pub(crate) status: u8,
     error: Option<CheckError>,
 }
 
 impl Outcome {
     /// How the program ends after a check with that answer.
-    pub fn of(answer: Result<bool, CheckError>) -> Self
+    pub(crate) fn of(answer: Result<bool, CheckError>) -> Self
         ensures understood { (result.status ≡ 0) ↔ (answer ≡ Ok true) }
         ensures not_understood { (result.status ≡ 1) ↔ (answer ≡ Ok false) }
         ensures failed { (result.status ≡ 2) ↔ IsErr answer }
@@ -77,9 +77,9 @@ impl Termination for Outcome {
     }
 }
 
-/// Checks what the reader gives, through a buffer before the writer, and hands on the answer of [`check`]. Where there is no
+/// Checks what the reader gives, through a buffer before the writer, and gives the answer of [`check`]. Where there is no
 /// room for the buffer, nothing is read, and that is [`CheckError::Memory`].
-pub fn run<R: Read, W: Write + Drop>(
+pub(crate) fn run<R: Read, W: Write + Drop>(
     alloc: Global,
     reader: &mut R,
     writer: W,
@@ -97,4 +97,17 @@ pub fn run<R: Read, W: Write + Drop>(
         Ok(mut buffered) => check(alloc, reader, &mut buffered),
         Err(_) => Err(CheckError::Memory),
     }
+}
+
+/// Checks what the reader gives, as `run` does, and answers how the program then ends.
+pub(crate) fn checked<R: Read, W: Write + Drop>(
+    alloc: Global,
+    reader: &mut R,
+    writer: W,
+) -> Outcome
+    ensures understood { result.status ≡ 0 → IfSome (R.remaining reader.old) (λ input. all_understood input ≡ true) }
+    ensures not_understood { result.status ≡ 1 → IfSome (R.remaining reader.old) (λ input. all_understood input ≡ false) }
+    ensures read { result.status ≢ 2 → IsAtEnd (R.remaining reader.new) }
+{
+    Outcome::of(run(alloc, reader, writer))
 }
