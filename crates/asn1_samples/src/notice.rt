@@ -5,10 +5,10 @@ ghost use Rattle.asn1_types.specs.Words.{context, universal, tagged, explicitly_
 
 use asn1_dec::{Decode, DecodeError, DecodeFields, Decoder};
 use asn1_enc::{Encode, EncodeError, EncodeFields, Encoder};
+use asn1_strings::Utf8String;
 use asn1_types::{
     AsnType, Class, Constraints, ConstructedType, Field, FieldTable, Identifier, Tag, TypeTable,
 };
-use asn1_strings::Utf8String;
 
 /// What someone is told, and whether at once.
 #[derive(PartialEq, Eq, Debug, Drop)]
