@@ -1,5 +1,5 @@
 //! The calls of an encoder and of a decoder, each by itself.
-ghost use Rattle.std.specs.Prelude.{◌≡◌, ⊥, IsOk, MatchResult, None, Ok, OnOk, Some, true};
+ghost use Rattle.std.specs.Prelude.{◌≡◌, IsOk, MatchResult, None, Ok, OnOk, Some, true};
 
 use crate::failure::Failure;
 use crate::round_trips::is_same;

@@ -1,7 +1,7 @@
 //! How deep the scopes of a value are nested.
 ghost use Rattle.asn1_model.specs.Meaning.{own_records};
 ghost use Rattle.asn1_model.specs.Records.{highest};
-ghost use Rattle.std.specs.Prelude.{◌≤◌, ◌<◌, ◌∸◌, OnOk};
+ghost use Rattle.std.specs.Prelude.{◌≤◌, ◌<◌, OnOk};
 
 use crate::failure::Failure;
 use crate::round_trips::{is_not_read, is_same};
@@ -22,8 +22,8 @@ pub fn needs_depth<R: Rules, T: Encode + Decode>(
     value: &T,
     depth: usize,
 ) -> Result<(), Failure>
-    ensures enough { OnOk result (highest (own_records T.meaning value.now) ≤ depth) }
-    ensures no_less { OnOk result (depth ∸ 1 < highest (own_records T.meaning value.now)) }
+    ensures no_deeper { OnOk result (highest (own_records T.meaning value.now) ≤ depth) }
+    ensures no_less { OnOk result (depth ≤ highest (own_records T.meaning value.now)) }
 {
     let too_little = depth.saturating_sub(1);
     is_too_high(rules, value, too_little)?;

@@ -1,7 +1,7 @@
 //! What the definitions give for a few CHOICE types, written out by hand, and their tables.
 //!
 //! The clauses of the functions without a body are worked examples: the prover computes the definitions on them.
-ghost use Rattle.std.specs.Prelude.{◌≡◌, pos, true, [], ◌∷◌, None, Some, codes};
+ghost use Rattle.std.specs.Prelude.{◌≡◌, ℕ, Bool, List, pos, true, [], ◌∷◌, None, Some, codes};
 ghost use Rattle.asn1_ranges.specs.declared.bounded.Bounded.TheVariants.{Range};
 ghost use Rattle.asn1_model.specs.ConstraintSets.{unconstrained, values_of};
 ghost use Rattle.asn1_model.specs.Meaning.{CanStandInside, own_records};
@@ -64,6 +64,23 @@ fn nested(inner: Box<Nested>)
         holding (prefix (context 0) (Some (codes "Nested"))) (
         holding (chosen (universal 1) unconstrained (Some (codes "Nested"))) (
         scalar (universal 1) unconstrained (Some (codes "BOOLEAN")) (truth true) ∷ []) ∷ []) ∷ []) ∷ [] }
+{}
+
+/// The constraint of an alternative's place counts those of the root, and is extensible where there is a marker.
+fn places()
+    ensures closed { variance_of ⟦<Corner as Choice>⟧.alternatives ≡ values_of (Range (Some (pos 0)) (Some (pos 1))) }
+    ensures extensible { (variance_of ⟦<Reply as Choice>⟧.alternatives).value ≡
+        Some (record { root = record { bound = Range (Some (pos 0)) (Some (pos 1)) }; additions = Some [] }) }
+{}
+
+/// A reply can be inside other types, and each is valid, also one after the extension marker.
+fn replies()
+    ensures can_stand_inside { CanStandInside ⟦<Reply as AsnType>⟧.meaning }
+    ensures accepted { (takes : List ℕ → Bool) (b : Bool) →
+        ⟦<Reply as AsnType>⟧.meaning.IsValid takes (reply.Accepted b) }
+    ensures refused { (takes : List ℕ → Bool) → ⟦<Reply as AsnType>⟧.meaning.IsValid takes reply.Refused }
+    ensures later { (takes : List ℕ → Bool) (n : ℕ) →
+        ⟦<Reply as AsnType>⟧.meaning.IsValid takes (reply.Later n) }
 {}
 
 /// The number that an alternative holds is within its type.
