@@ -100,11 +100,7 @@ pub(crate) fn run<R: Read, W: Write + Drop>(
 }
 
 /// Checks what the reader gives, as `run` does, and answers how the program then ends.
-pub(crate) fn checked<R: Read, W: Write + Drop>(
-    alloc: Global,
-    reader: &mut R,
-    writer: W,
-) -> Outcome
+pub(crate) fn checked<R: Read, W: Write + Drop>(alloc: Global, reader: &mut R, writer: W) -> Outcome
     ensures understood { result.status ≡ 0 → IfSome (R.remaining reader.old) (λ input. all_understood input ≡ true) }
     ensures not_understood { result.status ≡ 1 → IfSome (R.remaining reader.old) (λ input. all_understood input ≡ false) }
     ensures read { result.status ≢ 2 → IsAtEnd (R.remaining reader.new) }

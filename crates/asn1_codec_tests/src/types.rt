@@ -11,5 +11,6 @@ pub use strings::{
     strings_without_an_alphabet_come_back,
 };
 pub use wrappers::{
-    an_instance_comes_back, holders_come_back, options_come_back_by_themselves, tagged_values_come_back,
+    an_instance_comes_back, holders_come_back, options_come_back_by_themselves,
+    tagged_values_come_back,
 };

@@ -32,9 +32,5 @@ fn choices_sets_and_nodes_come_back(rt: HostRuntime) {
     );
     passes(&rt, "badges", samples::badges_come_back(&rules, alloc));
     passes(&rt, "nodes", samples::nodes_come_back(&rules, alloc));
-    passes(
-        &rt,
-        "depth",
-        depth::samples_need_their_depth(&rules, alloc),
-    );
+    passes(&rt, "depth", depth::samples_need_their_depth(&rules, alloc));
 }
