@@ -48,7 +48,9 @@ impl Failure {
     }
 
     /// Why a case fails whose value made no round trip.
-    pub fn of_round_trip(error: RoundTripError) -> Failure {
+    pub fn of_round_trip(error: RoundTripError) -> Failure
+        ensures not_another { result ≢ Another }
+    {
         match error {
             RoundTripError::Writing(error) => Failure::of_writing(error),
             RoundTripError::Reading(error) => Failure::of_reading(error),
