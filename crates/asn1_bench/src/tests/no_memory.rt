@@ -1,5 +1,5 @@
 //! Rules that never have memory: each helper of the cases says so, and none passes.
-ghost use Rattle.std.specs.Prelude.{⊥, true};
+ghost use Rattle.std.specs.Prelude.{true};
 
 use asn1_codec_tests::{Failure, comes_back, comes_back_as, is_refused, needs_depth};
 use asn1_dec::{Decode, DecodeError};
