@@ -1,5 +1,5 @@
 -- The alternatives of a CHOICE, each said once, and what follows from them: the trees, the names, and what each value is.
-use Rattle.std.specs.Prelude.{◌≡◌, ◌↔◌, ◌⊎◌, ℕ, pos, ◌-ℤ◌, ⊤, Bool, false, List, [], ◌∷◌, ◌++◌, length, map, Option, None, Some, IsTrue, refl}
+use Rattle.std.specs.Prelude.{◌≡◌, ◌↔◌, ◌⊎◌, ℕ, pos, ◌-ℤ◌, ⊤, Bool, false, List, [], ◌∷◌, ◌++◌, length, map, Option, None, Some, IsTrue, refl, unwrap_or}
 use Rattle.std.specs.Option.{option_map}
 use Rattle.std.proofs.Common.{inl, inr}
 use Rattle.asn1_ranges.specs.declared.bounded.Bounded.TheVariants.{Range}
@@ -7,6 +7,7 @@ use Rattle.asn1_tags.specs.Tags.{distinct}
 use Rattle.asn1_tags.specs.Trees.{Trees, none, more, is_open, leaves_of}
 use Rattle.asn1_model.specs.ConstraintSets.{ConstraintSet, unconstrained}
 use Rattle.asn1_model.specs.Records.{Record}
+use Rattle.asn1_model.specs.Tables.{Line, Table}
 use Rattle.asn1_model.specs.TaggedTypes.{TaggedType}
 
 -- An alternative is a named type (X.680, 29.1): a name, and a type under a tag.
@@ -47,6 +48,23 @@ trees_of (a ∷ alts) = more a.type.tree (trees_of alts)
 abbrev pub added_trees_of : Alternatives → Option Trees
 added_trees_of (closed root) = None
 added_trees_of (extensible root added) = Some (trees_of added)
+
+-- their table, as records have it
+abbrev pub line_of : Alternative → Line
+line_of a = record { name = a.name; tree = a.type.tree; may_be_absent = false }
+
+abbrev pub table_of : Alternatives → Table Line
+table_of (closed root) = record { root = map line_of root; additions = None }
+table_of (extensible root added) = record { root = map line_of root; additions = Some (map line_of added) }
+
+-- all lines of a table, those of the root first
+abbrev pub all_lines : Table Line → List Line
+all_lines table = table.root ++ unwrap_or table.additions []
+
+-- the tags with which what is in each of some lines can begin
+abbrev pub trees_in : List Line → Trees
+trees_in [] = none
+trees_in (l ∷ ls) = more l.tree (trees_in ls)
 
 -- The constraint of the alternative's place: from 0 to one less than there are alternatives in the root, and extensible
 -- if and only if there is an extension marker.

@@ -16,3 +16,4 @@ pub mod SetMidway
 pub mod SlotLaws
 pub mod Steps
 pub mod TwoComponents
+pub mod Tells

@@ -1,13 +1,14 @@
 -- Before what a decoder stands, and what a call of it does.
-use Rattle.std.specs.Prelude.{◌≡◌, ◌≢◌, ◌⊎◌, ℕ, suc, ◌≤◌, ◌<◌, Bool, true, false, List, [], ◌∷◌, ◌++◌, IsPermutation, Option, None, Some, IfSome, IsSome, IfErr, Result, Err, MatchResult, OnOk, OnErr, if◌then◌else◌}
+use Rattle.std.specs.Prelude.{◌≡◌, ◌≢◌, ◌⊎◌, ℕ, suc, ◌≤◌, ◌<◌, ⊤, Bool, true, false, List, [], ◌∷◌, ◌++◌, IsPermutation, Option, None, Some, IfSome, IsSome, IfErr, Result, Err, MatchResult, OnOk, OnErr, if◌then◌else◌}
 use Rattle.std.specs.Option.{option_eq, option_map}
 use Rattle.asn1_tags.specs.declared.tags.Tag.{Tag}
+use Rattle.asn1_components.specs.ComponentTypes.{ComponentType}
 use Rattle.asn1_model.specs.Composites.{default_records, option_records, prefix_records}
 use Rattle.asn1_model.specs.ConstraintSets.{ConstraintSet}
 use Rattle.asn1_model.specs.Meaning.{Meaning, CanStandInside, CanStandInsideUnder, tags}
 use Rattle.asn1_model.specs.Orders.{SameAll}
-use Rattle.asn1_model.specs.Records.{Name, Record, Head, Mark, Content, scalar, mark, held, holding, highest, is_mark, marks_alone}
-use Rattle.asn1_model.specs.Tags.{Tags, only, BeginsWithin, Has, ShareNone, first_tags}
+use Rattle.asn1_model.specs.Records.{Name, Record, Head, Mark, Side, Content, scalar, mark, held, holding, highest, is_mark, marks_alone}
+use Rattle.asn1_model.specs.Tags.{Tags, only, BeginsWithin, Has, LiesIn, ShareNone, first_tags, tree_tags}
 use Rattle.asn1_dec.specs.declared.error.DecodeError.{DecodeError}
 use Rattle.asn1_dec.specs.declared.error.DecodeError.TheVariants.{Memory, Depth, Failed}
 
@@ -47,10 +48,19 @@ pub record Reader (D : Type 0) : Type 1 where
   pub allowance : D → ℕ
   pub takes : List ℕ → Bool
 
--- The tag with which the next record of a list begins; there is none where presence marks alone are left.
-pub record IsNextTag (items : List Record) (next : Option Tag) : Type 0 where
+-- Each component in which these tags lie can begin with the tag.
+abbrev pub TellsComponent : {V : Type 0} → List (ComponentType V) → Tags → Tag → Type 0
+TellsComponent [] own t = ⊤
+TellsComponent (c ∷ cs) own t = (LiesIn own (tree_tags c.tree) → Has (tree_tags c.tree) t) ×
+    TellsComponent cs own t
+
+-- A tag of the component whose record is next in a list; there is none where presence marks alone are left. It need not be
+-- that of the record, which a codec without tags does not know of a CHOICE.
+pub record IsNextTag {V : Type 0} (cs : List (ComponentType V)) (items : List Record)
+    (next : Option Tag) : Type 0 where
   pub none : next ≡ None → marks_alone items ≡ true
-  pub some : (t : Tag) → next ≡ Some t → Has (first_tags items) t
+  pub some : (t : Tag) → next ≡ Some t →
+      (u : Tag) × (Has (first_tags items) u × TellsComponent cs (first_tags items) t)
 
 module _ {D : Type 0} (R : Reader D) where
   -- What these relations keep to: the order inside sets means nothing.
@@ -116,33 +126,38 @@ module _ {D : Type 0} (R : Reader D) where
     pub after_error : OnErr result (R.failed new ≡ true) ⊎ (HasReadPast m t m.constraints old new result ⊎ HadNoMemory m old new result)
     pub refused : m.IsSingleRecord → R.failed old ≡ true → (result ≡ Err Failed) ⊎ HadNoMemory m old new result
 
-  -- A call that reads a component that may be absent, which is written under this tag and begins with one of these tags, by
-  -- the records of a value under any name. What follows one that is absent begins with none of its tags.
-  abbrev pub ReadsOptional : {V : Type 0} → Tag → Tags → (Name → V → List Record) → (CanStandInside : Type 0) → (V → Type 0) → (V → Type 0) → (V → V → Bool) → D → D → Result (Option V) DecodeError → Type 0
-  ReadsOptional {V = V} t own records CanStandInside IsOfType IsValid eq old new result =
+  -- A call that reads a component that may be absent, on this side, which is written under this tag and begins with one of
+  -- these tags, by the records of a value under any name. What follows one that is absent begins with none of its tags.
+  abbrev pub ReadsOptional : {V : Type 0} → Side → Tag → Tags → (Name → V → List Record) →
+      (CanStandInside : Type 0) → (V → Type 0) → (V → Type 0) → (V → V → Bool) → D → D →
+      Result (Option V) DecodeError → Type 0
+  ReadsOptional {V = V} side t own records CanStandInside IsOfType IsValid eq old new result =
       (v : Option V) (n : Name) (rest : List Record) (outer : Ahead) →
       CanStandInside → IfSome v IsOfType → IfSome v IsValid → (v ≡ None → ShareNone own (first_tags rest)) →
-      ReadsBack old new (option_records t (option_map (records n) v)) rest outer (λ w. option_eq eq w v ≡ true) result
+      ReadsBack old new (option_records side t (option_map (records n) v)) rest outer (λ w. option_eq eq w v ≡ true) result
 
   -- the same of a value of this type, under these constraints
-  abbrev pub ReadsOption : {V : Type 0} → Meaning V → (V → V → Bool) → Tag → ConstraintSet → D → D → Result (Option V) DecodeError → Type 0
-  ReadsOption m eq t c old new result =
-      ReadsOptional t (tags m t) (λ n v. m.records v t c n) (CanStandInsideUnder m t) m.IsOfType (m.IsValid R.takes) eq old new result
+  abbrev pub ReadsOption : {V : Type 0} → Side → Meaning V → (V → V → Bool) → Tag → ConstraintSet →
+      D → D → Result (Option V) DecodeError → Type 0
+  ReadsOption side m eq t c old new result =
+      ReadsOptional side t (tags m t) (λ n v. m.records v t c n) (CanStandInsideUnder m t) m.IsOfType (m.IsValid R.takes) eq old new result
 
   -- the same after an explicit tag, with the type's own constraints and name
-  abbrev pub ReadsOptionAfterTag : {V : Type 0} → Meaning V → (V → V → Bool) → Tag → ConstraintSet → D → D → Result (Option V) DecodeError → Type 0
-  ReadsOptionAfterTag m eq t c old new result =
-      ReadsOptional t (only t) (λ n v. prefix_records t n (m.records v m.tag c m.name)) (CanStandInside m) m.IsOfType (m.IsValid R.takes) eq old new result
+  abbrev pub ReadsOptionAfterTag : {V : Type 0} → Side → Meaning V → (V → V → Bool) → Tag →
+      ConstraintSet → D → D → Result (Option V) DecodeError → Type 0
+  ReadsOptionAfterTag side m eq t c old new result =
+      ReadsOptional side t (only t) (λ n v. prefix_records t n (m.records v m.tag c m.name)) (CanStandInside m) m.IsOfType (m.IsValid R.takes) eq old new result
 
   -- A call that reads a component with a default, which `IsUsual` holds of: it is absent where it equals that. Of an absent
   -- one nothing is asked, but that what follows begins with none of its tags.
-  abbrev pub ReadsDefault : {V : Type 0} → (V → Type 0) → Meaning V → (V → V → Bool) → Tag → ConstraintSet → D → D → Result V DecodeError → Type 0
-  ReadsDefault {V = V} IsUsual m eq t c old new result =
+  abbrev pub ReadsDefault : {V : Type 0} → Side → (V → Type 0) → Meaning V → (V → V → Bool) → Tag →
+      ConstraintSet → D → D → Result V DecodeError → Type 0
+  ReadsDefault {V = V} side IsUsual m eq t c old new result =
       (v : V) (equal : Bool) (n : Name) (rest : List Record) (outer : Ahead) →
       ((usual : V) → IsUsual usual → eq v usual ≡ equal) →
       CanStandInsideUnder m t → (equal ≡ false → m.IsOfType v) → (equal ≡ false → m.IsValid R.takes v) →
       (equal ≡ true → ShareNone (tags m t) (first_tags rest)) →
-      ReadsBack old new (default_records equal t (m.records v t c n)) rest outer (λ w. eq w v ≡ true) result
+      ReadsBack old new (default_records side equal t (m.records v t c n)) rest outer (λ w. eq w v ≡ true) result
 
   -- A type's own error: the decoder stands before what follows the records, and the allowance is as it was.
   pub record IsOwnError (old new : D) (rest : List Record) (outer : Ahead) (own e : DecodeError) : Type 0 where

@@ -1,12 +1,12 @@
 //! Types that are read.
-ghost use Rattle.asn1_choices.specs.Alternatives.{CanBeChosen, Each, HaveDistinctTags, all_of, chosen_meaning};
-ghost use Rattle.asn1_choices.specs.ChosenTags.{chosen_tag};
+ghost use Rattle.asn1_choices.specs.Alternatives.{CanBeChosen, Each, HaveDistinctTags, all_of, chosen, chosen_meaning};
 ghost use Rattle.asn1_components.specs.ComponentLists.{CanBeInSequence, EachIsOfType, EachIsValid};
 ghost use Rattle.asn1_components.specs.Components.{all_components, component_records};
 ghost use Rattle.asn1_components.specs.Following.{EndsApart};
 ghost use Rattle.asn1_dec.specs.Reading.{Ahead, LeavesDecoder, LeavesDecoderWithOwnConstraints, ReadsBack, ReadsValue};
 ghost use Rattle.asn1_model.specs.ConstraintSets.{constraint_set};
 ghost use Rattle.asn1_model.specs.Records.{Record};
+ghost use Rattle.asn1_model.specs.Tags.{Has, tree_tags};
 ghost use Rattle.std.specs.Prelude.{◌≡◌, List, OnOk, true};
 
 use crate::decoder::Decoder;
@@ -83,9 +83,17 @@ pub trait DecodeFields: FieldTable + Eq + Sized + Drop {
 
 /// A CHOICE whose alternatives are read.
 pub trait DecodeChoice: AsnType + Choice + Eq + Sized + Drop {
-    /// Reads the alternative that begins with the tag. After an error nothing is known of the decoder, until the caller makes it
-    /// failed ([`Decoder::refuse`]).
+    /// Reads the alternative that can begin with the tag. After an error nothing is known of the decoder, until the caller
+    /// makes it failed ([`Decoder::refuse`]).
     fn from_tag<D: Decoder>(decoder: &mut D, tag: Tag) -> Result<Self, DecodeError>
-        ensures read { (v : Self) (rest : List Record) (outer : Ahead) → HaveDistinctTags (all_of Self.alternatives) → Each CanBeChosen (all_of Self.alternatives) → (chosen_meaning (all_of Self.alternatives) (Self.pick v)).IsOfType → (chosen_meaning (all_of Self.alternatives) (Self.pick v)).IsValid D.reader.takes → tag ≡ chosen_tag (all_of Self.alternatives) (Self.pick v) → ReadsBack D.reader decoder.old decoder.new (chosen_meaning (all_of Self.alternatives) (Self.pick v)).records rest outer (λ w. Self.eq w v ≡ true) result }
+        ensures read { (v : Self) (rest : List Record) (outer : Ahead) →
+            HaveDistinctTags (all_of Self.alternatives) →
+            Each CanBeChosen (all_of Self.alternatives) →
+            (chosen_meaning (all_of Self.alternatives) (Self.pick v)).IsOfType →
+            (chosen_meaning (all_of Self.alternatives) (Self.pick v)).IsValid D.reader.takes →
+            Has (tree_tags (chosen (all_of Self.alternatives) (Self.pick v)).type.tree) tag →
+            ReadsBack D.reader decoder.old decoder.new
+            (chosen_meaning (all_of Self.alternatives) (Self.pick v)).records rest outer
+            (λ w. Self.eq w v ≡ true) result }
         ensures same_allowance { OnOk result (D.reader.allowance decoder.new ≡ D.reader.allowance decoder.old) };
 }

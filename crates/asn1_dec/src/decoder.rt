@@ -1,16 +1,16 @@
 //! What a codec reads with.
-ghost use Rattle.asn1_choices.specs.Alternatives.{CanBeChosen, Each, HaveDistinctTags, all_of, chosen_meaning};
-ghost use Rattle.asn1_choices.specs.ChosenTags.{chosen_tag};
+ghost use Rattle.asn1_choices.specs.Alternatives.{CanBeChosen, Each, HaveDistinctTags, all_of, chosen_meaning, table_of};
+ghost use Rattle.asn1_choices.specs.ChosenTags.{TellsAlternative, chosen_tag};
 ghost use Rattle.asn1_components.specs.ComponentLists.{CanBeInSequence, EachIsOfType, EachIsValid, trees_of};
-ghost use Rattle.asn1_components.specs.Components.{all_components, component_records, is_sequence, is_set};
+ghost use Rattle.asn1_components.specs.Components.{all_components, component_records, is_sequence, is_set, lines};
 ghost use Rattle.asn1_dec.specs.Reading.{Ahead, Enters, IsLawful, IsNextTag, Keeps, Leaves, Moves, NeedsAllowance, Opens, OpensSet, Reader, ReadsBack, ReadsContent, ReadsDefault, ReadsOption, ReadsOptionAfterTag, ReadsValue, Stays, TellsMore, TellsPresence, marks_passed, records_in};
 ghost use Rattle.asn1_dec.specs.SetParts.{CanBeInSet};
 ghost use Rattle.asn1_enumerations.specs.Enumerations.{number_of};
-ghost use Rattle.asn1_enumerations.specs.Labels.{HasNumber};
+ghost use Rattle.asn1_enumerations.specs.Labels.{HasNumber, labels_of};
 ghost use Rattle.asn1_model.specs.Composites.{alternative_records, group_records, list_records, prefix_records, sequence_records, set_of_records, set_records};
 ghost use Rattle.asn1_model.specs.ConstraintSets.{ConstraintSet, constraint_set, unconstrained};
 ghost use Rattle.asn1_model.specs.Meaning.{CanStandInside, own_records};
-ghost use Rattle.asn1_model.specs.Records.{Name, Record, absent, alternative, arcs, bits, bmp, discriminant, general, graphic, group_absent, group_end, group_start, ia5, mark, marks_alone, null, number, numeric, octet, prefix, present, printable, raw, sequence, sequence_of, set, set_of, teletex, truth, units, utf8, visible};
+ghost use Rattle.asn1_model.specs.Records.{Name, Record, absent, alternative, arcs, bits, bmp, discriminant, general, graphic, group_absent, group_end, group_start, ia5, in_additions, in_root, mark, marks_alone, null, number, numeric, octet, prefix, present, printable, raw, sequence, sequence_of, set, set_of, teletex, truth, units, utf8, visible};
 ghost use Rattle.asn1_model.specs.Tags.{ShareNone, first_tags, tree_tags};
 ghost use Rattle.asn1_tags.specs.Trees.{choice, shape};
 ghost use Rattle.asn1_tags.specs.declared.tags.Tag.{Tag};
@@ -88,7 +88,10 @@ pub trait Decoder {
         &mut self,
         tag: Tag,
     ) -> Result<isize, DecodeError>
-        ensures read { ReadsContent reader self.old self.new tag unconstrained discriminant (HasNumber E.labels) (λ w z. w ≡ z) result }
+        ensures read { ReadsContent reader self.old self.new tag unconstrained
+            (discriminant E.labels)
+            (HasNumber E.labels)
+            (λ w z. w ≡ z) result }
         ensures stays { Stays reader self.old self.new result };
 
     /// An OBJECT IDENTIFIER.
@@ -213,19 +216,24 @@ pub trait Decoder {
     /// without presence marks looks at the next tag; where it does not know the end of the outermost list, it is before no
     /// outermost list that has marks.
     fn presence(&mut self, tag: Tag, tree: TagTree<'static>) -> Result<bool, DecodeError>
-        ensures read { TellsPresence reader self.old self.new (present tag) (absent tag) (tree_tags (shape tree.entry)) result }
+        ensures read { TellsPresence reader self.old self.new (present in_root tag)
+            (absent in_root tag)
+            (tree_tags (shape tree.entry)) result }
         ensures stays { Stays reader self.old self.new result };
 
     /// The same of an addition, which some codecs write in another way. What `presence` says of the outermost list holds here too.
     fn addition_presence(&mut self, tag: Tag, tree: TagTree<'static>) -> Result<bool, DecodeError>
-        ensures read { TellsPresence reader self.old self.new (present tag) (absent tag) (tree_tags (shape tree.entry)) result }
+        ensures read { TellsPresence reader self.old self.new (present in_additions tag)
+            (absent in_additions tag)
+            (tree_tags (shape tree.entry)) result }
         ensures stays { Stays reader self.old self.new result };
 
     /// Whether the group of additions is there whose components are those of the table of `C`. If it is, the decoder then stands
     /// before its components. A group is no scope, and takes nothing from the allowance. What `presence` says of the outermost
     /// list holds here too.
     fn open_group<C: FieldTable>(&mut self) -> Result<bool, DecodeError>
-        ensures read { TellsPresence reader self.old self.new group_start group_absent (tree_tags (choice (trees_of (all_components C.components)))) result }
+        ensures read { TellsPresence reader self.old self.new (group_start (lines C.components))
+            group_absent (tree_tags (choice (trees_of (all_components C.components)))) result }
         ensures stays { Stays reader self.old self.new result };
 
     /// Closes a group of which all components were read.
@@ -235,19 +243,24 @@ pub trait Decoder {
 
     /// Opens a SEQUENCE, whose components are those of the table of `C`.
     fn open_sequence<C: FieldTable>(&mut self, tag: Tag) -> Result<(), DecodeError>
-        ensures read { Opens reader self.old self.new (sequence tag) (λ _ _. ⊤) result }
+        ensures read { Opens reader self.old self.new (sequence tag (lines C.components)) (λ _ _. ⊤)
+            result }
         ensures enters { Enters reader self.old self.new result };
 
     /// Opens a SET, whose components are those of the table of `C`, and stand in any order. Answers a bound on the number of its
     /// records.
     fn open_set<C: FieldTable>(&mut self, tag: Tag) -> Result<usize, DecodeError>
-        ensures read { OpensSet reader self.old self.new (set tag) (λ items bound. records_in items ≤ bound) result }
+        ensures read { OpensSet reader self.old self.new (set tag (lines C.components))
+            (λ items bound. records_in items ≤ bound) result }
         ensures enters { Enters reader self.old self.new result };
 
-    /// The tag with which the next record of a SET begins, if one is left. Presence marks before it are passed over. It is asked
-    /// inside a scope: at the outermost list a codec need not know whether all was read.
-    fn next_component(&mut self) -> Result<Option<Tag>, DecodeError>
-        ensures read { (items rest : List Record) (outer : Ahead) → Moves reader self.old self.new 0 (items ∷ rest ∷ outer) (marks_passed items ∷ rest ∷ outer) (IsNextTag items) result }
+    /// A tag of the component of the next record of a SET, if one is left, by the table of `C`. Presence marks before it are
+    /// passed over. It is asked inside a scope: at the outermost list a codec need not know whether all was read.
+    fn next_component<C: FieldTable>(&mut self) -> Result<Option<Tag>, DecodeError>
+        ensures read { (items rest : List Record) (outer : Ahead) →
+            Moves reader self.old self.new 0 (items ∷ rest ∷ outer)
+            (marks_passed items ∷ rest ∷ outer)
+            (IsNextTag (all_components C.components) items) result }
         ensures stays { Stays reader self.old self.new result };
 
     /// Opens a SEQUENCE OF, and answers a bound on the number of its elements.
@@ -269,9 +282,12 @@ pub trait Decoder {
         ensures read { Opens reader self.old self.new (prefix tag) (λ _ _. ⊤) result }
         ensures enters { Enters reader self.old self.new result };
 
-    /// Opens a CHOICE, whose alternatives are those of `T`, and answers the tag of the chosen one.
+    /// Opens a CHOICE, whose alternatives are those of `T`, and answers a tag of the chosen one.
     fn open_choice<T: Choice>(&mut self, constraints: &Constraints<'_>) -> Result<Tag, DecodeError>
-        ensures read { (chosen : Tag) → Opens reader self.old self.new (alternative chosen (constraint_set constraints.now)) (λ _ tag. tag ≡ chosen) result }
+        ensures read { (chosen : Tag) →
+            Opens reader self.old self.new
+            (alternative chosen (constraint_set constraints.now) (table_of T.alternatives))
+            (λ _ tag. TellsAlternative chosen tag (all_of T.alternatives)) result }
         ensures enters { Enters reader self.old self.new result };
 
     /// Whether a record is left in the innermost scope. Reads nothing. It is asked inside a scope: at the outermost list a codec
@@ -293,7 +309,10 @@ pub trait Decoder {
     final fn decode_enumerated<E: Enumerated>(&mut self, tag: Tag) -> Result<E, DecodeError>
     where
         Self: Sized,
-        ensures read { ReadsContent reader self.old self.new tag unconstrained (λ v. discriminant (number_of E.eq E.enumeration v)) (λ _. ⊤) (λ w v. w ≡ v) result }
+        ensures read { ReadsContent reader self.old self.new tag unconstrained
+            (λ v. discriminant (labels_of E.enumeration) (number_of E.eq E.enumeration v))
+            (λ _. ⊤)
+            (λ w v. w ≡ v) result }
         ensures stays { Stays reader self.old self.new result }
     {
         let number = self.decode_enumerated_number::<E>(tag)?;
@@ -363,7 +382,8 @@ pub trait Decoder {
     final fn decode_optional<T: Decode>(&mut self) -> Result<Option<T>, DecodeError>
     where
         Self: Sized,
-        ensures read { ReadsOption reader T.meaning T.eq T.meaning.tag T.meaning.constraints self.old self.new result }
+        ensures read { ReadsOption reader in_root T.meaning T.eq T.meaning.tag T.meaning.constraints
+            self.old self.new result }
         ensures keeps { Keeps reader self.old self.new result }
     {
         self.decode_optional_with_tag(T::tag())
@@ -376,7 +396,8 @@ pub trait Decoder {
     ) -> Result<Option<T>, DecodeError>
     where
         Self: Sized,
-        ensures read { ReadsOption reader T.meaning T.eq tag T.meaning.constraints self.old self.new result }
+        ensures read { ReadsOption reader in_root T.meaning T.eq tag T.meaning.constraints self.old
+            self.new result }
         ensures keeps { Keeps reader self.old self.new result }
     {
         if !self.presence(tag, T::tag_tree_under(tag))? {
@@ -395,7 +416,8 @@ pub trait Decoder {
     ) -> Result<Option<T>, DecodeError>
     where
         Self: Sized,
-        ensures read { ReadsOption reader T.meaning T.eq T.meaning.tag (constraint_set constraints.now) self.old self.new result }
+        ensures read { ReadsOption reader in_root T.meaning T.eq T.meaning.tag
+            (constraint_set constraints.now) self.old self.new result }
         ensures keeps { Keeps reader self.old self.new result }
     {
         self.decode_optional_with_tag_and_constraints(T::tag(), constraints)
@@ -409,7 +431,8 @@ pub trait Decoder {
     ) -> Result<Option<T>, DecodeError>
     where
         Self: Sized,
-        ensures read { ReadsOption reader T.meaning T.eq tag (constraint_set constraints.now) self.old self.new result }
+        ensures read { ReadsOption reader in_root T.meaning T.eq tag
+            (constraint_set constraints.now) self.old self.new result }
         ensures keeps { Keeps reader self.old self.new result }
     {
         if !self.presence(tag, T::tag_tree_under(tag))? {
@@ -428,7 +451,8 @@ pub trait Decoder {
     ) -> Result<Option<T>, DecodeError>
     where
         Self: Sized,
-        ensures read { ReadsOptionAfterTag reader T.meaning T.eq tag T.meaning.constraints self.old self.new result }
+        ensures read { ReadsOptionAfterTag reader in_root T.meaning T.eq tag T.meaning.constraints
+            self.old self.new result }
         ensures keeps { Keeps reader self.old self.new result }
     {
         if !self.presence(tag, TagTree::Leaf(tag))? {
@@ -442,7 +466,8 @@ pub trait Decoder {
     final fn decode_extension_addition<T: Decode>(&mut self) -> Result<Option<T>, DecodeError>
     where
         Self: Sized,
-        ensures read { ReadsOption reader T.meaning T.eq T.meaning.tag T.meaning.constraints self.old self.new result }
+        ensures read { ReadsOption reader in_additions T.meaning T.eq T.meaning.tag
+            T.meaning.constraints self.old self.new result }
         ensures keeps { Keeps reader self.old self.new result }
     {
         self.decode_extension_addition_with_tag(T::tag())
@@ -455,7 +480,8 @@ pub trait Decoder {
     ) -> Result<Option<T>, DecodeError>
     where
         Self: Sized,
-        ensures read { ReadsOption reader T.meaning T.eq tag T.meaning.constraints self.old self.new result }
+        ensures read { ReadsOption reader in_additions T.meaning T.eq tag T.meaning.constraints
+            self.old self.new result }
         ensures keeps { Keeps reader self.old self.new result }
     {
         if !self.addition_presence(tag, T::tag_tree_under(tag))? {
@@ -474,7 +500,8 @@ pub trait Decoder {
     ) -> Result<Option<T>, DecodeError>
     where
         Self: Sized,
-        ensures read { ReadsOption reader T.meaning T.eq T.meaning.tag (constraint_set constraints.now) self.old self.new result }
+        ensures read { ReadsOption reader in_additions T.meaning T.eq T.meaning.tag
+            (constraint_set constraints.now) self.old self.new result }
         ensures keeps { Keeps reader self.old self.new result }
     {
         self.decode_extension_addition_with_tag_and_constraints(T::tag(), constraints)
@@ -488,7 +515,8 @@ pub trait Decoder {
     ) -> Result<Option<T>, DecodeError>
     where
         Self: Sized,
-        ensures read { ReadsOption reader T.meaning T.eq tag (constraint_set constraints.now) self.old self.new result }
+        ensures read { ReadsOption reader in_additions T.meaning T.eq tag
+            (constraint_set constraints.now) self.old self.new result }
         ensures keeps { Keeps reader self.old self.new result }
     {
         if !self.addition_presence(tag, T::tag_tree_under(tag))? {
@@ -508,7 +536,8 @@ pub trait Decoder {
     ) -> Result<Option<T>, DecodeError>
     where
         Self: Sized,
-        ensures read { ReadsOptionAfterTag reader T.meaning T.eq tag (constraint_set constraints.now) self.old self.new result }
+        ensures read { ReadsOptionAfterTag reader in_additions T.meaning T.eq tag
+            (constraint_set constraints.now) self.old self.new result }
         ensures keeps { Keeps reader self.old self.new result }
     {
         if !self.addition_presence(tag, TagTree::Leaf(tag))? {
@@ -526,7 +555,8 @@ pub trait Decoder {
     where
         Self: Sized,
         requires { F.IsAlwaysCallable default }
-        ensures read { ReadsDefault reader (λ usual. (a : _) × F.post default a (Ok usual)) T.meaning T.eq T.meaning.tag T.meaning.constraints self.old self.new result }
+        ensures read { ReadsDefault reader in_root (λ usual. (a : _) × F.post default a (Ok usual))
+            T.meaning T.eq T.meaning.tag T.meaning.constraints self.old self.new result }
         ensures keeps { Keeps reader self.old self.new result }
     {
         self.decode_default_with_tag(T::tag(), default)
@@ -541,7 +571,8 @@ pub trait Decoder {
     where
         Self: Sized,
         requires { F.IsAlwaysCallable default }
-        ensures read { ReadsDefault reader (λ usual. (a : _) × F.post default a (Ok usual)) T.meaning T.eq tag T.meaning.constraints self.old self.new result }
+        ensures read { ReadsDefault reader in_root (λ usual. (a : _) × F.post default a (Ok usual))
+            T.meaning T.eq tag T.meaning.constraints self.old self.new result }
         ensures keeps { Keeps reader self.old self.new result }
     {
         let value = self.decode_optional_with_tag::<T>(tag)?;
@@ -557,7 +588,8 @@ pub trait Decoder {
     where
         Self: Sized,
         requires { F.IsAlwaysCallable default }
-        ensures read { ReadsDefault reader (λ usual. (a : _) × F.post default a (Ok usual)) T.meaning T.eq T.meaning.tag (constraint_set constraints.now) self.old self.new result }
+        ensures read { ReadsDefault reader in_root (λ usual. (a : _) × F.post default a (Ok usual))
+            T.meaning T.eq T.meaning.tag (constraint_set constraints.now) self.old self.new result }
         ensures keeps { Keeps reader self.old self.new result }
     {
         self.decode_default_with_tag_and_constraints(T::tag(), default, constraints)
@@ -571,7 +603,8 @@ pub trait Decoder {
     where
         Self: Sized,
         requires { F.IsAlwaysCallable default }
-        ensures read { ReadsDefault reader (λ usual. (a : _) × F.post default a (Ok usual)) T.meaning T.eq tag (constraint_set constraints.now) self.old self.new result }
+        ensures read { ReadsDefault reader in_root (λ usual. (a : _) × F.post default a (Ok usual))
+            T.meaning T.eq tag (constraint_set constraints.now) self.old self.new result }
         ensures keeps { Keeps reader self.old self.new result }
     {
         let value = self.decode_optional_with_tag_and_constraints::<T>(tag, constraints)?;
@@ -586,7 +619,9 @@ pub trait Decoder {
     where
         Self: Sized,
         requires { F.IsAlwaysCallable default }
-        ensures read { ReadsDefault reader (λ usual. (a : _) × F.post default a (Ok usual)) T.meaning T.eq T.meaning.tag T.meaning.constraints self.old self.new result }
+        ensures read { ReadsDefault reader in_additions
+            (λ usual. (a : _) × F.post default a (Ok usual)) T.meaning T.eq T.meaning.tag
+            T.meaning.constraints self.old self.new result }
         ensures keeps { Keeps reader self.old self.new result }
     {
         self.decode_extension_addition_with_default_and_tag(T::tag(), default)
@@ -600,7 +635,9 @@ pub trait Decoder {
     where
         Self: Sized,
         requires { F.IsAlwaysCallable default }
-        ensures read { ReadsDefault reader (λ usual. (a : _) × F.post default a (Ok usual)) T.meaning T.eq tag T.meaning.constraints self.old self.new result }
+        ensures read { ReadsDefault reader in_additions
+            (λ usual. (a : _) × F.post default a (Ok usual)) T.meaning T.eq tag
+            T.meaning.constraints self.old self.new result }
         ensures keeps { Keeps reader self.old self.new result }
     {
         let value = self.decode_extension_addition_with_tag::<T>(tag)?;
@@ -615,7 +652,9 @@ pub trait Decoder {
     where
         Self: Sized,
         requires { F.IsAlwaysCallable default }
-        ensures read { ReadsDefault reader (λ usual. (a : _) × F.post default a (Ok usual)) T.meaning T.eq T.meaning.tag (constraint_set constraints.now) self.old self.new result }
+        ensures read { ReadsDefault reader in_additions
+            (λ usual. (a : _) × F.post default a (Ok usual)) T.meaning T.eq T.meaning.tag
+            (constraint_set constraints.now) self.old self.new result }
         ensures keeps { Keeps reader self.old self.new result }
     {
         self.decode_extension_addition_with_default_and_tag_and_constraints(
@@ -633,7 +672,9 @@ pub trait Decoder {
     where
         Self: Sized,
         requires { F.IsAlwaysCallable default }
-        ensures read { ReadsDefault reader (λ usual. (a : _) × F.post default a (Ok usual)) T.meaning T.eq tag (constraint_set constraints.now) self.old self.new result }
+        ensures read { ReadsDefault reader in_additions
+            (λ usual. (a : _) × F.post default a (Ok usual)) T.meaning T.eq tag
+            (constraint_set constraints.now) self.old self.new result }
         ensures keeps { Keeps reader self.old self.new result }
     {
         let value = self.decode_extension_addition_with_tag_and_constraints::<T>(tag, constraints)?;
@@ -647,7 +688,17 @@ pub trait Decoder {
     ) -> Result<Option<C>, DecodeError>
     where
         Self: Sized,
-        ensures read { (v : Option C) (rest : List Record) (outer : Ahead) → CanBeInSequence (all_components C.components) → IfSome v (EachIsOfType (all_components C.components)) → IfSome v (λ w. EachIsValid (all_components C.components) reader.takes w × (marks_alone (component_records C.components w) ≡ false)) → ShareNone (tree_tags (choice (trees_of (all_components C.components)))) (first_tags rest) → ReadsBack reader self.old self.new (group_records (option_map (component_records C.components) v)) rest outer (λ w. option_eq C.eq w v ≡ true) result }
+        ensures read { (v : Option C) (rest : List Record) (outer : Ahead) →
+            CanBeInSequence (all_components C.components) →
+            IfSome v (EachIsOfType (all_components C.components)) →
+            IfSome v
+            (λ w. EachIsValid (all_components C.components) reader.takes w ×
+            (marks_alone (component_records C.components w) ≡ false)) →
+            ShareNone (tree_tags (choice (trees_of (all_components C.components))))
+            (first_tags rest) →
+            ReadsBack reader self.old self.new
+            (group_records (lines C.components) (option_map (component_records C.components) v))
+            rest outer (λ w. option_eq C.eq w v ≡ true) result }
         ensures keeps { Keeps reader self.old self.new result }
     {
         if !self.open_group::<C>()? {
@@ -668,7 +719,13 @@ pub trait Decoder {
     ) -> Result<C, DecodeError>
     where
         Self: Sized,
-        ensures components { (v : C) (n : Name) (rest : List Record) (outer : Ahead) → CanBeInSequence (all_components C.components) → EachIsOfType (all_components C.components) v → EachIsValid (all_components C.components) reader.takes v → ReadsBack reader self.old self.new (sequence_records tag n (component_records C.components v)) rest outer (λ w. C.eq w v ≡ true) result }
+        ensures components { (v : C) (n : Name) (rest : List Record) (outer : Ahead) →
+            CanBeInSequence (all_components C.components) →
+            EachIsOfType (all_components C.components) v →
+            EachIsValid (all_components C.components) reader.takes v →
+            ReadsBack reader self.old self.new
+            (sequence_records tag (lines C.components) n (component_records C.components v))
+            rest outer (λ w. C.eq w v ≡ true) result }
         ensures as_meant { C.components.kind ≡ is_sequence → (c : ConstraintSet) → ReadsValue reader C.meaning C.eq tag c self.old self.new result }
         ensures keeps { Keeps reader self.old self.new result }
         ensures depth_first { NeedsAllowance reader self.old result }
@@ -683,7 +740,16 @@ pub trait Decoder {
     ) -> Result<T, DecodeError>
     where
         Self: Sized,
-        ensures read { (v : T) (n : Name) (rest : List Record) (outer : Ahead) → HaveDistinctTags (all_of T.alternatives) → Each CanBeChosen (all_of T.alternatives) → (chosen_meaning (all_of T.alternatives) (T.pick v)).IsOfType → (chosen_meaning (all_of T.alternatives) (T.pick v)).IsValid reader.takes → ReadsBack reader self.old self.new (alternative_records (chosen_tag (all_of T.alternatives) (T.pick v)) (constraint_set constraints.now) n (chosen_meaning (all_of T.alternatives) (T.pick v)).records) rest outer (λ w. T.eq w v ≡ true) result }
+        ensures read { (v : T) (n : Name) (rest : List Record) (outer : Ahead) →
+            HaveDistinctTags (all_of T.alternatives) → Each CanBeChosen (all_of T.alternatives) →
+            (chosen_meaning (all_of T.alternatives) (T.pick v)).IsOfType →
+            (chosen_meaning (all_of T.alternatives) (T.pick v)).IsValid reader.takes →
+            ReadsBack reader self.old self.new
+            (alternative_records (chosen_tag (all_of T.alternatives) (T.pick v))
+            (constraint_set constraints.now)
+            (table_of T.alternatives) n
+            (chosen_meaning (all_of T.alternatives) (T.pick v)).records) rest outer
+            (λ w. T.eq w v ≡ true) result }
         ensures keeps { Keeps reader self.old self.new result }
         ensures depth_first { NeedsAllowance reader self.old result }
     {
@@ -735,7 +801,13 @@ pub trait Decoder {
     ) -> Result<S, DecodeError>
     where
         Self: Sized,
-        ensures components { (v : S) (n : Name) (rest : List Record) (outer : Ahead) → CanBeInSet (all_components S.components) → EachIsOfType (all_components S.components) v → EachIsValid (all_components S.components) reader.takes v → ReadsBack reader self.old self.new (set_records tag n (component_records S.components v)) rest outer (λ w. S.eq w v ≡ true) result }
+        ensures components { (v : S) (n : Name) (rest : List Record) (outer : Ahead) →
+            CanBeInSet (all_components S.components) →
+            EachIsOfType (all_components S.components) v →
+            EachIsValid (all_components S.components) reader.takes v →
+            ReadsBack reader self.old self.new
+            (set_records tag (lines S.components) n (component_records S.components v)) rest
+            outer (λ w. S.eq w v ≡ true) result }
         ensures as_meant { S.components.kind ≡ is_set → (c : ConstraintSet) → ReadsValue reader S.meaning S.eq tag c self.old self.new result }
         ensures depth_first { NeedsAllowance reader self.old result }
         ensures keeps { Keeps reader self.old self.new result }

@@ -3,20 +3,22 @@ use Rattle.std.specs.Prelude.{◌≡◌, ◌≢◌, ◌↔◌, ℕ, suc, ◌≤�
 use Rattle.asn1_model.specs.Composites.{group_records}
 use Rattle.asn1_model.specs.Orders.{SameAll}
 use Rattle.asn1_model.specs.Records.{Record, Head, held, holding, highest, marks_alone}
+use Rattle.asn1_model.specs.Tables.{Line, Table}
 use Rattle.asn1_enc.specs.declared.error.EncodeError.{EncodeError}
 use Rattle.asn1_enc.specs.declared.error.EncodeError.TheVariants.{Memory, Depth, Failed, Custom}
 
--- What has been written: the records of the outermost list, and of each scope and group that is open, innermost first.
+-- What has been written: the records of the outermost list, and of each scope and group that is open, innermost first. A group
+-- has a table of its own.
 pub data Written : Type 0 where
   outermost : List Record → Written
   in_scope : Head → List Record → Written → Written
-  in_group : List Record → Written → Written
+  in_group : Table Line → List Record → Written → Written
 
 -- with more records in the innermost list
 abbrev pub followed_by : Written → List Record → Written
 followed_by (outermost done) rs = outermost (done ++ rs)
 followed_by (in_scope h done outer) rs = in_scope h (done ++ rs) outer
-followed_by (in_group done outer) rs = in_group (done ++ rs) outer
+followed_by (in_group table done outer) rs = in_group table (done ++ rs) outer
 
 -- Lists of records that are the same up to the order inside sets.
 abbrev pub SameRecords : List Record → List Record → Type 0
@@ -26,7 +28,8 @@ SameRecords rs ss = SameAll (held rs) (held ss)
 pub data SameWritten : Written → Written → Type 0 where
   same_outermost : {rs ss : List Record} → SameRecords rs ss → SameWritten (outermost rs) (outermost ss)
   same_scope : (h : Head) {rs ss : List Record} {w x : Written} → SameRecords rs ss → SameWritten w x → SameWritten (in_scope h rs w) (in_scope h ss x)
-  same_group : {rs ss : List Record} {w x : Written} → SameRecords rs ss → SameWritten w x → SameWritten (in_group rs w) (in_group ss x)
+  same_group : (table : Table Line) {rs ss : List Record} {w x : Written} → SameRecords rs ss →
+      SameWritten w x → SameWritten (in_group table rs w) (in_group table ss x)
 
 -- the error has a message of the codec's own: the records were rejected
 abbrev pub IsCustom : EncodeError → Type 0
@@ -114,9 +117,9 @@ module _ {E : Type 0} (W : Writer E) where
   abbrev pub Closes : {A : Type 0} → E → E → Result A EncodeError → Type 0
   Closes old new result = MatchResult result (λ _. ScopeIsClosed old new) (ScopeIsNotClosed old new)
 
-  -- A group of additions has been opened, which is no scope.
-  pub record GroupIsOpen (old new : E) : Type 0 where
-    pub opened : (w : Written) → W.wrote old w → W.wrote new (in_group [] w)
+  -- A group of additions of this table has been opened, which is no scope.
+  pub record GroupIsOpen (old : E) (table : Table Line) (new : E) : Type 0 where
+    pub opened : (w : Written) → W.wrote old w → W.wrote new (in_group table [] w)
     pub had_not_failed : W.failed old ≡ false
     pub no_failure : W.failed new ≡ false
     pub same_allowance : W.allowance new ≡ W.allowance old
@@ -128,12 +131,15 @@ module _ {E : Type 0} (W : Writer E) where
     pub not_rejected : ¬ IsCustom e
 
   -- a call that opens a group
-  abbrev pub OpensGroup : {A : Type 0} → E → E → Result A EncodeError → Type 0
-  OpensGroup old new result = MatchResult result (λ _. GroupIsOpen old new) (GroupIsNotOpen old new)
+  abbrev pub OpensGroup : {A : Type 0} → E → Table Line → E → Result A EncodeError → Type 0
+  OpensGroup old table new result = MatchResult result (λ _. GroupIsOpen old table new)
+      (GroupIsNotOpen old new)
 
   -- The innermost group has been closed. It is absent where its components are marks alone.
   pub record GroupIsClosed (old new : E) : Type 0 where
-    pub closed : (rs : List Record) (w : Written) → W.wrote old (in_group rs w) → W.wrote new (followed_by w (group_records (Some rs)))
+    pub closed : (table : Table Line) (rs : List Record) (w : Written) →
+        W.wrote old (in_group table rs w) →
+        W.wrote new (followed_by w (group_records table (Some rs)))
     pub had_not_failed : W.failed old ≡ false
     pub no_failure : W.failed new ≡ false
     pub same_allowance : W.allowance new ≡ W.allowance old
@@ -142,7 +148,8 @@ module _ {E : Type 0} (W : Writer E) where
   pub record GroupIsNotClosed (old new : E) (e : EncodeError) : Type 0 where
     pub error : IsError old new e
     pub not_too_deep : e ≢ Depth
-    pub rejected : IsCustom e → (rs : List Record) (w : Written) → W.wrote old (in_group rs w) → W.rejects (group_records (Some rs))
+    pub rejected : IsCustom e → (table : Table Line) (rs : List Record) (w : Written) →
+        W.wrote old (in_group table rs w) → W.rejects (group_records table (Some rs))
 
   -- a call that closes the innermost group
   abbrev pub ClosesGroup : {A : Type 0} → E → E → Result A EncodeError → Type 0

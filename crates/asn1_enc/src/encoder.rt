@@ -1,14 +1,15 @@
 //! What a codec writes with.
-ghost use Rattle.asn1_choices.specs.Alternatives.{all_of, chosen_meaning};
+ghost use Rattle.asn1_choices.specs.Alternatives.{all_of, chosen_meaning, table_of};
 ghost use Rattle.asn1_choices.specs.ChosenTags.{chosen_tag as tag_of_chosen};
 ghost use Rattle.asn1_components.specs.ComponentLists.{EachIsOfType};
-ghost use Rattle.asn1_components.specs.Components.{all_components, component_records, is_sequence, is_set};
+ghost use Rattle.asn1_components.specs.Components.{all_components, component_records, is_sequence, is_set, lines};
 ghost use Rattle.asn1_enc.specs.Writing.{Closes, ClosesGroup, IsLawful, Opens, OpensGroup, Refuses, Writer, Writes};
 ghost use Rattle.asn1_enumerations.specs.Enumerations.{number_of};
+ghost use Rattle.asn1_enumerations.specs.Labels.{labels_of};
 ghost use Rattle.asn1_model.specs.Composites.{alternative_records, default_records, group_records, list_records, option_records, prefix_records, raw_records, sequence_records, set_of_records, set_records};
 ghost use Rattle.asn1_model.specs.ConstraintSets.{constraint_set, unconstrained};
 ghost use Rattle.asn1_model.specs.Meaning.{own_records};
-ghost use Rattle.asn1_model.specs.Records.{absent, alternative, arcs, bits, bmp, discriminant, general, graphic, group_absent, ia5, mark, null, number, numeric, octet, prefix, present, printable, scalar, sequence, sequence_of, set, set_of, teletex, truth, units, utf8, visible};
+ghost use Rattle.asn1_model.specs.Records.{absent, alternative, arcs, bits, bmp, discriminant, general, graphic, group_absent, ia5, in_additions, in_root, mark, null, number, numeric, octet, prefix, present, printable, scalar, sequence, sequence_of, set, set_of, teletex, truth, units, utf8, visible};
 ghost use Rattle.asn1_tags.specs.Names.{name_of};
 ghost use Rattle.asn1_strings.specs.Alphabets.{is_ia5, is_numeric, is_printable, is_visible};
 ghost use Rattle.std.specs.List.{flat_map};
@@ -17,12 +18,11 @@ ghost use Rattle.std.specs.Prelude.{◌≡◌, ◌<◌, ◌^◌, [], ◌∷◌, 
 ghost use Rattle.std.specs.Str.{IsUtf8};
 
 use crate::encode::{Encode, EncodeChoice, EncodeFields};
-use crate::enumerated_value::EnumeratedValue;
 use crate::error::EncodeError;
 use asn1_bounds::{Codec, Constraints};
 use asn1_choices::{Choice, ChoiceType};
 use asn1_components::{ConstructedType, FieldTable};
-use asn1_enumerations::Enumerated;
+use asn1_enumerations::{Enumerated, EnumeratedTable};
 use asn1_model::AsnType;
 use asn1_strings::{
     BmpString, GeneralString, GraphicString, Ia5String, NumericString, PrintableString,
@@ -69,14 +69,17 @@ pub trait Encoder {
     fn encode_null(&mut self, tag: Tag, name: Identifier) -> Result<(), EncodeError>
         ensures { Writes writer self.old (scalar tag unconstrained (name_of name) null ∷ []) ⊤ self.new result };
 
-    /// A value of an ENUMERATED type, whose number is its content.
-    fn encode_enumerated_value(
+    /// The number of a value of an ENUMERATED type, whose items are those of the table of `E`: some codecs write the number,
+    /// some the item's name, and some its place.
+    fn encode_enumerated_number<E: EnumeratedTable>(
         &mut self,
         tag: Tag,
-        value: EnumeratedValue,
+        number: isize,
         name: Identifier,
     ) -> Result<(), EncodeError>
-        ensures { Writes writer self.old (scalar tag unconstrained (name_of name) (discriminant value.number) ∷ []) ⊤ self.new result };
+        ensures { Writes writer self.old
+            (scalar tag unconstrained (name_of name) (discriminant E.labels number) ∷ []) ⊤
+            self.new result };
 
     /// An OBJECT IDENTIFIER, by its arcs.
     fn encode_object_identifier(
@@ -213,19 +216,19 @@ pub trait Encoder {
 
     /// The mark of a component of the root that is there.
     fn mark_present(&mut self, tag: Tag) -> Result<(), EncodeError>
-        ensures { Writes writer self.old (mark (present tag) ∷ []) ⊤ self.new result };
+        ensures { Writes writer self.old (mark (present in_root tag) ∷ []) ⊤ self.new result };
 
     /// The mark of a component of the root that is absent.
     fn mark_absent(&mut self, tag: Tag) -> Result<(), EncodeError>
-        ensures { Writes writer self.old (mark (absent tag) ∷ []) ⊤ self.new result };
+        ensures { Writes writer self.old (mark (absent in_root tag) ∷ []) ⊤ self.new result };
 
     /// The mark of an addition that is there.
     fn mark_addition_present(&mut self, tag: Tag) -> Result<(), EncodeError>
-        ensures { Writes writer self.old (mark (present tag) ∷ []) ⊤ self.new result };
+        ensures { Writes writer self.old (mark (present in_additions tag) ∷ []) ⊤ self.new result };
 
     /// The mark of an addition that is absent.
     fn mark_addition_absent(&mut self, tag: Tag) -> Result<(), EncodeError>
-        ensures { Writes writer self.old (mark (absent tag) ∷ []) ⊤ self.new result };
+        ensures { Writes writer self.old (mark (absent in_additions tag) ∷ []) ⊤ self.new result };
 
     /// The mark of a group of additions that is absent.
     fn mark_group_absent(&mut self) -> Result<(), EncodeError>
@@ -237,11 +240,13 @@ pub trait Encoder {
         tag: Tag,
         name: Identifier,
     ) -> Result<(), EncodeError>
-        ensures { Opens writer self.old (sequence tag (name_of name)) self.new result };
+        ensures { Opens writer self.old (sequence tag (lines C.components) (name_of name))
+            self.new result };
 
     /// Opens a SET, whose components are those of the table of `C`.
     fn open_set<C: FieldTable>(&mut self, tag: Tag, name: Identifier) -> Result<(), EncodeError>
-        ensures { Opens writer self.old (set tag (name_of name)) self.new result };
+        ensures { Opens writer self.old (set tag (lines C.components) (name_of name))
+            self.new result };
 
     /// Opens a SEQUENCE OF so many elements.
     fn open_sequence_of(
@@ -274,7 +279,9 @@ pub trait Encoder {
         constraints: &Constraints<'_>,
         name: Identifier,
     ) -> Result<(), EncodeError>
-        ensures { Opens writer self.old (alternative chosen (constraint_set constraints.now) (name_of name)) self.new result };
+        ensures { Opens writer self.old
+            (alternative chosen (constraint_set constraints.now) (table_of T.alternatives)
+            (name_of name)) self.new result };
 
     /// Closes the innermost scope.
     fn close(&mut self) -> Result<(), EncodeError>
@@ -283,7 +290,7 @@ pub trait Encoder {
     /// Opens a group of additions, whose components are those of the table of `C`. It is no scope, and takes nothing from the
     /// allowance.
     fn open_group<C: FieldTable>(&mut self) -> Result<(), EncodeError>
-        ensures { OpensGroup writer self.old self.new result };
+        ensures { OpensGroup writer self.old (lines C.components) self.new result };
 
     /// Closes the innermost group, which is absent where it holds marks alone.
     fn close_group(&mut self) -> Result<(), EncodeError>
@@ -301,9 +308,12 @@ pub trait Encoder {
     ) -> Result<(), EncodeError>
     where
         Self: Sized,
-        ensures { Writes writer self.old (scalar tag unconstrained (name_of name) (discriminant (number_of T.eq T.enumeration value.now)) ∷ []) ⊤ self.new result }
+        ensures { Writes writer self.old
+            (scalar tag unconstrained (name_of name)
+            (discriminant (labels_of T.enumeration) (number_of T.eq T.enumeration value.now)) ∷
+            []) ⊤ self.new result }
     {
-        self.encode_enumerated_value(tag, EnumeratedValue::new(value), name)
+        self.encode_enumerated_number::<T>(tag, value.discriminant(), name)
     }
 
     /// A value after an explicit tag.
@@ -332,7 +342,10 @@ pub trait Encoder {
     ) -> Result<(), EncodeError>
     where
         Self: Sized,
-        ensures components { Writes writer self.old (sequence_records tag (name_of name) (component_records C.components value.now)) (EachIsOfType (all_components C.components) value.now) self.new result }
+        ensures components { Writes writer self.old
+            (sequence_records tag (lines C.components) (name_of name)
+            (component_records C.components value.now))
+            (EachIsOfType (all_components C.components) value.now) self.new result }
         ensures as_meant { C.components.kind ≡ is_sequence → Writes writer self.old (C.meaning.records value.now tag unconstrained (name_of name)) (C.meaning.IsOfType value.now) self.new result }
     {
         self.open_sequence::<C>(tag, name)?;
@@ -369,7 +382,12 @@ pub trait Encoder {
     ) -> Result<(), EncodeError>
     where
         Self: Sized,
-        ensures { Writes writer self.old (option_records tag (Some (T.meaning.records value.now tag (constraint_set constraints.now) (name_of name)))) (T.meaning.IsOfType value.now) self.new result }
+        ensures { Writes writer self.old
+            (option_records in_root tag
+            (Some
+            (T.meaning.records value.now tag (constraint_set constraints.now)
+            (name_of name))))
+            (T.meaning.IsOfType value.now) self.new result }
     {
         self.mark_present(tag)?;
         value.encode_with_tag_and_constraints(self, tag, constraints, name)
@@ -385,7 +403,10 @@ pub trait Encoder {
     ) -> Result<(), EncodeError>
     where
         Self: Sized,
-        ensures components { Writes writer self.old (set_records tag (name_of name) (component_records C.components value.now)) (EachIsOfType (all_components C.components) value.now) self.new result }
+        ensures components { Writes writer self.old
+            (set_records tag (lines C.components) (name_of name)
+            (component_records C.components value.now))
+            (EachIsOfType (all_components C.components) value.now) self.new result }
         ensures as_meant { C.components.kind ≡ is_set → Writes writer self.old (C.meaning.records value.now tag unconstrained (name_of name)) (C.meaning.IsOfType value.now) self.new result }
     {
         self.open_set::<C>(tag, name)?;
@@ -421,7 +442,13 @@ pub trait Encoder {
     ) -> Result<(), EncodeError>
     where
         Self: Sized,
-        ensures { Writes writer self.old (alternative_records (tag_of_chosen (all_of T.alternatives) (T.pick value.now)) (constraint_set constraints.now) (name_of name) (chosen_meaning (all_of T.alternatives) (T.pick value.now)).records) (chosen_meaning (all_of T.alternatives) (T.pick value.now)).IsOfType self.new result }
+        ensures { Writes writer self.old
+            (alternative_records (tag_of_chosen (all_of T.alternatives) (T.pick value.now))
+            (constraint_set constraints.now)
+            (table_of T.alternatives)
+            (name_of name)
+            (chosen_meaning (all_of T.alternatives) (T.pick value.now)).records)
+            (chosen_meaning (all_of T.alternatives) (T.pick value.now)).IsOfType self.new result }
     {
         self.open_choice::<T>(value.chosen_tag(), constraints, name)?;
         value.encode_alternative(self)?;
@@ -461,7 +488,12 @@ pub trait Encoder {
     ) -> Result<(), EncodeError>
     where
         Self: Sized,
-        ensures { Writes writer self.old (option_records T.meaning.tag (Some (T.meaning.records value.now T.meaning.tag T.meaning.constraints (name_of name)))) (T.meaning.IsOfType value.now) self.new result }
+        ensures { Writes writer self.old
+            (option_records in_root T.meaning.tag
+            (Some
+            (T.meaning.records value.now T.meaning.tag T.meaning.constraints
+            (name_of name))))
+            (T.meaning.IsOfType value.now) self.new result }
     {
         self.encode_some_with_tag(T::tag(), value, name)
     }
@@ -475,7 +507,10 @@ pub trait Encoder {
     ) -> Result<(), EncodeError>
     where
         Self: Sized,
-        ensures { Writes writer self.old (option_records tag (Some (T.meaning.records value.now tag T.meaning.constraints (name_of name)))) (T.meaning.IsOfType value.now) self.new result }
+        ensures { Writes writer self.old
+            (option_records in_root tag
+            (Some (T.meaning.records value.now tag T.meaning.constraints (name_of name))))
+            (T.meaning.IsOfType value.now) self.new result }
     {
         let Ok(constraints) = T::constraints(self.global()) else {
             return Err(self.refuse_memory());
@@ -492,7 +527,10 @@ pub trait Encoder {
     ) -> Result<(), EncodeError>
     where
         Self: Sized,
-        ensures { Writes writer self.old (option_records tag (Some (prefix_records tag (name_of name) (own_records T.meaning value.now)))) (T.meaning.IsOfType value.now) self.new result }
+        ensures { Writes writer self.old
+            (option_records in_root tag
+            (Some (prefix_records tag (name_of name) (own_records T.meaning value.now))))
+            (T.meaning.IsOfType value.now) self.new result }
     {
         self.mark_present(tag)?;
         self.encode_explicit_prefix(tag, value, name)
@@ -502,7 +540,8 @@ pub trait Encoder {
     final fn encode_none<T: AsnType>(&mut self, name: Identifier) -> Result<(), EncodeError>
     where
         Self: Sized,
-        ensures { Writes writer self.old (option_records T.meaning.tag None) ⊤ self.new result }
+        ensures { Writes writer self.old (option_records in_root T.meaning.tag None) ⊤
+            self.new result }
     {
         self.encode_none_with_tag(T::tag(), name)
     }
@@ -511,7 +550,7 @@ pub trait Encoder {
     final fn encode_none_with_tag(&mut self, tag: Tag, _name: Identifier) -> Result<(), EncodeError>
     where
         Self: Sized,
-        ensures { Writes writer self.old (option_records tag None) ⊤ self.new result }
+        ensures { Writes writer self.old (option_records in_root tag None) ⊤ self.new result }
     {
         self.mark_absent(tag)
     }
@@ -525,7 +564,13 @@ pub trait Encoder {
     where
         Self: Sized,
         requires { F.IsAlwaysCallable default }
-        ensures { (equal : Bool) → ((a : _) (usual : T) → F.post default a (Ok usual) → T.eq value.now usual ≡ equal) → Writes writer self.old (default_records equal T.meaning.tag (T.meaning.records value.now T.meaning.tag T.meaning.constraints (name_of name))) (equal ≡ false → T.meaning.IsOfType value.now) self.new result }
+        ensures { (equal : Bool) →
+            ((a : _) (usual : T) → F.post default a (Ok usual) → T.eq value.now usual ≡ equal) →
+            Writes writer self.old
+            (default_records in_root equal T.meaning.tag
+            (T.meaning.records value.now T.meaning.tag T.meaning.constraints
+            (name_of name)))
+            (equal ≡ false → T.meaning.IsOfType value.now) self.new result }
     {
         self.encode_default_with_tag(T::tag(), value, default, name)
     }
@@ -538,7 +583,12 @@ pub trait Encoder {
     where
         Self: Sized,
         requires { F.IsAlwaysCallable default }
-        ensures { (equal : Bool) → ((a : _) (usual : T) → F.post default a (Ok usual) → T.eq value.now usual ≡ equal) → Writes writer self.old (default_records equal tag (T.meaning.records value.now tag T.meaning.constraints (name_of name))) (equal ≡ false → T.meaning.IsOfType value.now) self.new result }
+        ensures { (equal : Bool) →
+            ((a : _) (usual : T) → F.post default a (Ok usual) → T.eq value.now usual ≡ equal) →
+            Writes writer self.old
+            (default_records in_root equal tag
+            (T.meaning.records value.now tag T.meaning.constraints (name_of name)))
+            (equal ≡ false → T.meaning.IsOfType value.now) self.new result }
     {
         let Ok(constraints) = T::constraints(self.global()) else {
             return Err(self.refuse_memory());
@@ -560,7 +610,13 @@ pub trait Encoder {
     where
         Self: Sized,
         requires { F.IsAlwaysCallable default }
-        ensures { (equal : Bool) → ((a : _) (usual : T) → F.post default a (Ok usual) → T.eq value.now usual ≡ equal) → Writes writer self.old (default_records equal T.meaning.tag (T.meaning.records value.now T.meaning.tag (constraint_set constraints.now) (name_of name))) (equal ≡ false → T.meaning.IsOfType value.now) self.new result }
+        ensures { (equal : Bool) →
+            ((a : _) (usual : T) → F.post default a (Ok usual) → T.eq value.now usual ≡ equal) →
+            Writes writer self.old
+            (default_records in_root equal T.meaning.tag
+            (T.meaning.records value.now T.meaning.tag (constraint_set constraints.now)
+            (name_of name)))
+            (equal ≡ false → T.meaning.IsOfType value.now) self.new result }
     {
         self.encode_default_with_tag_and_constraints(T::tag(), constraints, value, default, name)
     }
@@ -580,7 +636,13 @@ pub trait Encoder {
     where
         Self: Sized,
         requires { F.IsAlwaysCallable default }
-        ensures { (equal : Bool) → ((a : _) (usual : T) → F.post default a (Ok usual) → T.eq value.now usual ≡ equal) → Writes writer self.old (default_records equal tag (T.meaning.records value.now tag (constraint_set constraints.now) (name_of name))) (equal ≡ false → T.meaning.IsOfType value.now) self.new result }
+        ensures { (equal : Bool) →
+            ((a : _) (usual : T) → F.post default a (Ok usual) → T.eq value.now usual ≡ equal) →
+            Writes writer self.old
+            (default_records in_root equal tag
+            (T.meaning.records value.now tag (constraint_set constraints.now)
+            (name_of name)))
+            (equal ≡ false → T.meaning.IsOfType value.now) self.new result }
     {
         let Ok(usual) = default(self.global()) else {
             return Err(self.refuse_memory());
@@ -600,7 +662,12 @@ pub trait Encoder {
     where
         Self: Sized,
         requires { F.IsAlwaysCallable default }
-        ensures { (equal : Bool) → ((a : _) (usual : T) → F.post default a (Ok usual) → T.eq value.now usual ≡ equal) → Writes writer self.old (default_records equal tag (prefix_records tag (name_of name) (own_records T.meaning value.now))) (equal ≡ false → T.meaning.IsOfType value.now) self.new result }
+        ensures { (equal : Bool) →
+            ((a : _) (usual : T) → F.post default a (Ok usual) → T.eq value.now usual ≡ equal) →
+            Writes writer self.old
+            (default_records in_root equal tag
+            (prefix_records tag (name_of name) (own_records T.meaning value.now)))
+            (equal ≡ false → T.meaning.IsOfType value.now) self.new result }
     {
         let Ok(usual) = default(self.global()) else {
             return Err(self.refuse_memory());
@@ -620,7 +687,13 @@ pub trait Encoder {
     ) -> Result<(), EncodeError>
     where
         Self: Sized,
-        ensures { (equal : Bool) → ((usual : T) → T.is_default usual → T.eq value.now usual ≡ equal) → Writes writer self.old (default_records equal T.meaning.tag (T.meaning.records value.now T.meaning.tag T.meaning.constraints (name_of name))) (equal ≡ false → T.meaning.IsOfType value.now) self.new result }
+        ensures { (equal : Bool) →
+            ((usual : T) → T.is_default usual → T.eq value.now usual ≡ equal) →
+            Writes writer self.old
+            (default_records in_root equal T.meaning.tag
+            (T.meaning.records value.now T.meaning.tag T.meaning.constraints
+            (name_of name)))
+            (equal ≡ false → T.meaning.IsOfType value.now) self.new result }
     {
         self.encode_with_tag_or_default(T::tag(), value, name)
     }
@@ -634,7 +707,12 @@ pub trait Encoder {
     ) -> Result<(), EncodeError>
     where
         Self: Sized,
-        ensures { (equal : Bool) → ((usual : T) → T.is_default usual → T.eq value.now usual ≡ equal) → Writes writer self.old (default_records equal tag (T.meaning.records value.now tag T.meaning.constraints (name_of name))) (equal ≡ false → T.meaning.IsOfType value.now) self.new result }
+        ensures { (equal : Bool) →
+            ((usual : T) → T.is_default usual → T.eq value.now usual ≡ equal) →
+            Writes writer self.old
+            (default_records in_root equal tag
+            (T.meaning.records value.now tag T.meaning.constraints (name_of name)))
+            (equal ≡ false → T.meaning.IsOfType value.now) self.new result }
     {
         if *value == T::default() {
             self.encode_none_with_tag(tag, name)
@@ -653,7 +731,12 @@ pub trait Encoder {
     ) -> Result<(), EncodeError>
     where
         Self: Sized,
-        ensures { Writes writer self.old (option_records tag (option_map (λ v. T.meaning.records v tag (constraint_set constraints.now) (name_of name)) (option_copied value.entry))) (IfSome (option_copied value.entry) T.meaning.IsOfType) self.new result }
+        ensures { Writes writer self.old
+            (option_records in_additions tag
+            (option_map
+            (λ v. T.meaning.records v tag (constraint_set constraints.now) (name_of name))
+            (option_copied value.entry)))
+            (IfSome (option_copied value.entry) T.meaning.IsOfType) self.new result }
     {
         match value {
             None => self.mark_addition_absent(tag),
@@ -673,7 +756,11 @@ pub trait Encoder {
     ) -> Result<(), EncodeError>
     where
         Self: Sized,
-        ensures { Writes writer self.old (option_records tag (option_map (λ v. T.meaning.records v tag T.meaning.constraints (name_of name)) (option_copied value.entry))) (IfSome (option_copied value.entry) T.meaning.IsOfType) self.new result }
+        ensures { Writes writer self.old
+            (option_records in_additions tag
+            (option_map (λ v. T.meaning.records v tag T.meaning.constraints (name_of name))
+            (option_copied value.entry)))
+            (IfSome (option_copied value.entry) T.meaning.IsOfType) self.new result }
     {
         let Ok(constraints) = T::constraints(self.global()) else {
             return Err(self.refuse_memory());
@@ -690,7 +777,11 @@ pub trait Encoder {
     ) -> Result<(), EncodeError>
     where
         Self: Sized,
-        ensures { Writes writer self.old (option_records tag (option_map (λ v. prefix_records tag (name_of name) (own_records T.meaning v)) (option_copied value.entry))) (IfSome (option_copied value.entry) T.meaning.IsOfType) self.new result }
+        ensures { Writes writer self.old
+            (option_records in_additions tag
+            (option_map (λ v. prefix_records tag (name_of name) (own_records T.meaning v))
+            (option_copied value.entry)))
+            (IfSome (option_copied value.entry) T.meaning.IsOfType) self.new result }
     {
         match value {
             None => self.mark_addition_absent(tag),
@@ -709,7 +800,11 @@ pub trait Encoder {
     ) -> Result<(), EncodeError>
     where
         Self: Sized,
-        ensures { Writes writer self.old (group_records (option_map (component_records C.components) (option_copied value.entry))) (IfSome (option_copied value.entry) (EachIsOfType (all_components C.components))) self.new result }
+        ensures { Writes writer self.old
+            (group_records (lines C.components)
+            (option_map (component_records C.components) (option_copied value.entry)))
+            (IfSome (option_copied value.entry) (EachIsOfType (all_components C.components)))
+            self.new result }
     {
         match value {
             None => self.mark_group_absent(),

@@ -9,7 +9,6 @@
 //! | [`Encode`] | a type whose values are written, by seven entry points; one of them is the type's own |
 //! | [`EncodeFields`] | a type whose components are written, each by its place: a SEQUENCE, a SET or a group of additions |
 //! | [`EncodeChoice`] | a CHOICE whose chosen alternative is written |
-//! | [`EnumeratedValue`] | a value of an ENUMERATED type, as a codec sees it |
 //! | [`EncodeError`] | why a value was not written |
 //! | [`laws`] | what the derives of the error give |
 //!
@@ -43,12 +42,10 @@
 
 mod encode;
 mod encoder;
-mod enumerated_value;
 mod error;
 mod impls;
 pub mod laws;
 
 pub use encode::{Encode, EncodeChoice, EncodeFields};
 pub use encoder::Encoder;
-pub use enumerated_value::EnumeratedValue;
 pub use error::EncodeError;

@@ -9,6 +9,7 @@ use Rattle.asn1_model.specs.Composites.{group_records}
 use Rattle.asn1_model.specs.ConstraintSets.{ConstraintSet}
 use Rattle.asn1_model.specs.Orders.{is_unordered, Same, SameAll, equal, in_place, in_any_order, at_end, next}
 use Rattle.asn1_model.specs.Records.{Name, Content, Mark, Head, Record, Records, scalar, scope, raw, mark, none, more, held, listed, holding, highest, marks_alone, is_mark, group_start, group_absent, group_end}
+use Rattle.asn1_model.specs.Tables.{Line, Table}
 use Rattle.asn1_model.proofs.Lists.{listed-held, held-listed, inner_height-held}
 use Rattle.asn1_model.proofs.SameRecords.{same-mark, same-inner_height}
 
@@ -156,16 +157,16 @@ same_rearranged h rs qs ss unordered all moved =
     in_any_order h unordered all (subst (λ l. IsPermutation l (listed (held ss))) (sym (listed-held qs)) (subst (λ l. IsPermutation qs l) (sym (listed-held ss)) moved))
 
 -- a group, which is absent where the other is
-pub same_group_records : (rs ss : List Record) → SameAll (held rs) (held ss) → SameAll (held (group_records (Some rs))) (held (group_records (Some ss)))
-same_group_records rs ss all = by_marks (marks_alone rs) (marks_alone ss) (same-marks_alone rs ss all)
+pub same_group_records : (table : Table Line) (rs ss : List Record) → SameAll (held rs) (held ss) → SameAll (held (group_records table (Some rs))) (held (group_records table (Some ss)))
+same_group_records table rs ss all = by_marks (marks_alone rs) (marks_alone ss) (same-marks_alone rs ss all)
   where
     by_marks : (a b : Bool) → a ≡ b →
-        SameAll (held (if a then mark group_absent ∷ [] else mark group_start ∷ rs ++ mark group_end ∷ [])) (held (if b then mark group_absent ∷ [] else mark group_start ∷ ss ++ mark group_end ∷ []))
+        SameAll (held (if a then mark group_absent ∷ [] else mark (group_start table) ∷ rs ++ mark group_end ∷ [])) (held (if b then mark group_absent ∷ [] else mark (group_start table) ∷ ss ++ mark group_end ∷ []))
     by_marks true true e = SameAll-refl (held (mark group_absent ∷ []))
     by_marks true false e = cc
     by_marks false true e = cc
     by_marks false false e =
-        next (equal (mark group_start)) (SameAll-append rs ss (mark group_end ∷ []) (mark group_end ∷ []) all (SameAll-refl (held (mark group_end ∷ []))))
+        next (equal (mark (group_start table))) (SameAll-append rs ss (mark group_end ∷ []) (mark group_end ∷ []) all (SameAll-refl (held (mark group_end ∷ []))))
 
 -- What holds no other records is the same as itself alone.
 pub same_as_scalar : {q : Record} {t : Tag} {c : ConstraintSet} {n : Name} {x : Content} → Same q (scalar t c n x) → q ≡ scalar t c n x

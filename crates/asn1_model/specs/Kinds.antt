@@ -9,7 +9,8 @@ use Rattle.asn1_tags.specs.Trees.{Tree, Trees, leaf, choice, leaves}
 use Rattle.asn1_ranges.specs.Members.{IsMember}
 use Rattle.asn1_ranges.specs.declared.bounded.Bounded.{Bounded}
 use Rattle.asn1_model.specs.ConstraintSets.{ConstraintSet, unconstrained, values_of, size_of}
-use Rattle.asn1_model.specs.Records.{Name, Record, name_or, Content, Head, arcs, number, null, units, utf8, scalar, discriminant, holding, sequence_of}
+use Rattle.asn1_model.specs.Records.{Name, Record, name_or, Content, Head, arcs, in_root, number, null, units, utf8, scalar, discriminant, holding, sequence_of}
+use Rattle.asn1_model.specs.Tables.{Label, Line, Table}
 use Rattle.asn1_model.specs.Tags.{universal, CHOICE, Has, IsATag, head_tag, tree_tags}
 use Rattle.asn1_model.specs.Composites.{option_records, choice_records}
 use Rattle.asn1_model.specs.Meaning.{Meaning, own_records, CanStandInside, CanStandInsideUnder}
@@ -105,7 +106,7 @@ option_type m = record {
   tree = m.tree;
   is_choice = m.is_choice;
   is_present = λ o. is_some o;
-  records = λ o t c n. option_records t (option_map (λ v. m.records v t c n) o);
+  records = λ o t c n. option_records in_root t (option_map (λ v. m.records v t c n) o);
   IsSingleRecord = ⊥;
   IsWellTagged = CanStandInsideUnder m;
   IsOfType = λ o. IfSome o m.IsOfType;
@@ -185,18 +186,20 @@ empty_type = record {
 abbrev pub marker_type : {V : Type 0} → Tag → Meaning V
 marker_type tag = without_constraints (scalar_type tag unconstrained None (λ _. null))
 
--- An ENUMERATED (X.680, 20), by its tag, constraints and name, and by the number of each value.
-abbrev pub enumerated_type : {V : Type 0} → Tag → ConstraintSet → Name → (V → ℤ) → Meaning V
-enumerated_type tag constraints name number_of =
-    without_constraints (scalar_type tag constraints name (λ v. discriminant (number_of v)))
+-- An ENUMERATED (X.680, 20), by its tag, constraints and name, the labels of its items, and the number of each value.
+abbrev pub enumerated_type : {V : Type 0} → Tag → ConstraintSet → Name → Table Label → (V → ℤ) →
+    Meaning V
+enumerated_type tag constraints name labels number_of =
+    without_constraints (scalar_type tag constraints name (λ v. discriminant labels (number_of v)))
 
 -- the tags with which a CHOICE can begin: those of its alternatives where it is untagged, else the tag alone (X.680, 29)
 abbrev pub choice_tree : Tree → Tag → Tree
 choice_tree alternatives t = if tag_eq t CHOICE then alternatives else leaf t
 
--- What a CHOICE says of its alternatives: their trees, and of each value the tag of the chosen one, which is one of
--- theirs, as the first tag of what is inside.
+-- What a CHOICE says of its alternatives: their table and their trees, and of each value the tag of the chosen one, which is
+-- one of theirs, as the first tag of what is inside.
 pub record Chosen {V : Type 0} (inside : Inside V) : Type 0 where
+  pub table : Table Line
   pub alternatives : Trees
   pub tag : V → Tag
   pub among : inside.CanStandInside → (v : V) → Has (tree_tags (choice alternatives)) (tag v)
@@ -212,10 +215,11 @@ choice_type name constraints inside chosen = record {
   tree = choice_tree (choice chosen.alternatives);
   is_choice = true;
   is_present = λ _. true;
-  records = λ v. choice_records (chosen.tag v) (inside.records v) constraints name;
+  records = λ v. choice_records (chosen.tag v) chosen.table (inside.records v) constraints name;
   IsSingleRecord = ⊤;
   IsWellTagged = λ _. IsTrue (distinct (leaves (choice chosen.alternatives))) × inside.CanStandInside;
   IsOfType = inside.AreOfType;
   IsValid = inside.AreValid;
-  one_record = λ v t c n _ well. choice_is_one (choice chosen.alternatives) (chosen.tag v) (inside.records v) constraints name (chosen.among well.1 v) t c n;
+  one_record = λ v t c n _ well. choice_is_one (choice chosen.alternatives) (chosen.tag v)
+      chosen.table (inside.records v) constraints name (chosen.among well.1 v) t c n;
 }

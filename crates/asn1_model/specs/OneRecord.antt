@@ -7,6 +7,7 @@ use Rattle.asn1_tags.specs.Trees.{Tree, leaf}
 use Rattle.asn1_model.specs.ConstraintSets.{ConstraintSet}
 use Rattle.asn1_model.specs.Records.{Name, name_or, Content, Head, Record, scalar, holding, prefix, alternative}
 use Rattle.asn1_model.specs.Composites.{alternative_records, prefix_records, choice_records}
+use Rattle.asn1_model.specs.Tables.{Line, Table}
 use Rattle.asn1_model.specs.Tags.{CHOICE, Tags, Has, LiesIn, IsOneRecord, only, head_tag, tree_tags}
 
 -- a content
@@ -23,7 +24,7 @@ scope_is_one t head inside at = record {
 }
 
 -- what is in a list of one tag is that tag
-alone_in : (t u : Tag) → Contains (t ∷ []) u → t ≡ u
+pub alone_in : (t u : Tag) → Contains (t ∷ []) u → t ≡ u
 alone_in t u (zero, below, same) = same
 alone_in t u (suc k, below, same) = absurd (omega arith)
 
@@ -32,21 +33,25 @@ pub only_in : (tags : Tags) (t : Tag) → Has tags t → LiesIn (only t) tags
 only_in tags t h u e = subst (Has tags) (alone_in t u e) h
 
 -- a CHOICE, which begins with the chosen tag, or with the explicit tag before it
-pub choice_is_one : (tree : Tree) (chosen : Tag) (rs : List Record) (own_constraints : ConstraintSet) (own_name : Name) →
+pub choice_is_one : (tree : Tree) (chosen : Tag) (table : Table Line) (rs : List Record)
+    (own_constraints : ConstraintSet)
+    (own_name : Name) →
     Has (tree_tags tree) chosen → (t : Tag) (c : ConstraintSet) (n : Name) →
-    IsOneRecord (tree_tags (if tag_eq t CHOICE then tree else leaf t)) (choice_records chosen rs own_constraints own_name t c n)
-choice_is_one tree chosen rs own_constraints own_name among_tags t c n = by_tag (tag_eq t CHOICE)
+    IsOneRecord (tree_tags (if tag_eq t CHOICE then tree else leaf t)) (choice_records chosen table rs own_constraints own_name t c n)
+choice_is_one tree chosen table rs own_constraints own_name among_tags t c n = by_tag
+    (tag_eq t CHOICE)
   where
     by_tag : (untagged : Bool) →
         IsOneRecord
         (tree_tags (if untagged then tree else leaf t))
         (if untagged
-        then alternative_records chosen c (name_or n own_name) rs
-        else prefix_records t (name_or n own_name) (alternative_records chosen own_constraints own_name rs))
+        then alternative_records chosen c table (name_or n own_name) rs
+        else prefix_records t (name_or n own_name) (alternative_records chosen own_constraints table own_name rs))
     by_tag true = record {
-      item = holding (alternative chosen c (name_or n own_name)) rs;
+      item = holding (alternative chosen c table (name_or n own_name)) rs;
       alone = refl;
       no_mark = refl;
       within = only_in (tree_tags tree) chosen among_tags;
     }
-    by_tag false = scope_is_one t (prefix t (name_or n own_name)) (alternative_records chosen own_constraints own_name rs) refl
+    by_tag false = scope_is_one t (prefix t (name_or n own_name))
+        (alternative_records chosen own_constraints table own_name rs) refl

@@ -4,12 +4,12 @@ use Rattle.asn1_model.specs.Records.{Record, Records, scope, none, more, listed,
 
 -- the order of what stands in it means nothing: the components of a SET, the elements of a SET OF (X.680, 27 and 28)
 abbrev pub is_unordered : Head → Bool
-is_unordered (sequence t n) = false
-is_unordered (set t n) = true
+is_unordered (sequence t table n) = false
+is_unordered (set t table n) = true
 is_unordered (sequence_of t c n) = false
 is_unordered (set_of t c n) = true
 is_unordered (prefix t n) = false
-is_unordered (alternative t c n) = false
+is_unordered (alternative t c table n) = false
 
 -- Two records are the same up to order if they are equal, or if they have one head and hold lists that are the same up
 -- to order place by place, where the order means nothing after some rearrangement of the second.

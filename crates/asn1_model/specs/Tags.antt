@@ -49,12 +49,12 @@ LiesIn (among ts) b = (t : Tag) → Contains ts t → Has b t
 
 -- the tag of a record that holds others: an alternative has that of what was chosen
 abbrev pub head_tag : Head → Tag
-head_tag (sequence t n) = t
-head_tag (set t n) = t
+head_tag (sequence t table n) = t
+head_tag (set t table n) = t
 head_tag (sequence_of t c n) = t
 head_tag (set_of t c n) = t
 head_tag (prefix t n) = t
-head_tag (alternative t c n) = t
+head_tag (alternative t c table n) = t
 
 -- the tags with which a record can begin: its own, for a value as its bytes every tag, for a presence mark none
 abbrev pub record_tags : Record → Tags

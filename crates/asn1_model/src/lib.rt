@@ -26,7 +26,8 @@
 //!   of the type's tags.
 //! - A meaning tells apart what every value has that a program can make (`IsOfType`) and what is asked of whoever writes it
 //!   (`IsValid`).
-//! - `specs/Records.antt` has the records, marks and heights; `specs/Tags.antt` the first tags of a list of records and
+//! - `specs/Records.antt` has the records, marks and heights; `specs/Tables.antt` the table of a type that records carry
+//!   beside a value; `specs/Tags.antt` the first tags of a list of records and
 //!   the tags of a tree; `specs/Orders.antt` what it is to be the same up to order; `specs/ConstraintSets.antt` a set of
 //!   constraints apart from where it lies in memory; `specs/TypeTables.antt` the tree of tags that a table stands for.
 //! - `specs/Composites.antt` has the records of what is put together of parts, a word for each: `sequence_records`,

@@ -11,17 +11,17 @@ use Rattle.asn1_records.specs.declared.record.Record.{Record}
 use Rattle.asn1_records.specs.declared.record.Head.{Head}
 use Rattle.asn1_record_decoder.specs.Found.{IsRecord, HoldsRecords}
 use Rattle.asn1_records.specs.Records.{record_of, records_of, head_of}
-use Rattle.asn1_records.specs.WithoutConstraints.{record_without, head_without, without_constraints}
+use Rattle.asn1_records.specs.WithoutConstraints.{content_without, mark_without, record_without, head_without, without_constraints}
 use Rattle.asn1_records.proofs.WithoutConstraints.{record_without-holding}
 
 -- a content, the bytes of an open type, a presence mark
-pub is_scalar : (x : Record) (t : Tag) (c : ConstraintSet) (n : Name) (v : Content) → IsRecord x (scalar t c n v) → record_of x ≡ scalar t unconstrained n v
+pub is_scalar : (x : Record) (t : Tag) (c : ConstraintSet) (n : Name) (v : Content) → IsRecord x (scalar t c n v) → record_of x ≡ scalar t unconstrained n (content_without v)
 is_scalar x t c n v h = h.is ∙ ap record_without (same_as_scalar h.same)
 
 pub is_raw : (x : Record) (n : Name) (bytes : List ℕ) → IsRecord x (raw n bytes) → record_of x ≡ raw n bytes
 is_raw x n bytes h = h.is ∙ ap record_without (same_as_raw h.same)
 
-pub is_the_mark : (x : Record) (m : Mark) → IsRecord x (mark m) → record_of x ≡ mark m
+pub is_the_mark : (x : Record) (m : Mark) → IsRecord x (mark m) → record_of x ≡ mark (mark_without m)
 is_the_mark x m h = h.is ∙ ap record_without (same_as_mark h.same)
 
 -- What is held under a head.
@@ -48,12 +48,12 @@ same_head g h rs ss e = cc
 
 -- the tag of a head is that without constraints
 pub head_tag-without : (h : model.Head) → head_tag (head_without h) ≡ head_tag h
-head_tag-without (sequence t n) = refl
-head_tag-without (set t n) = refl
+head_tag-without (sequence t table n) = refl
+head_tag-without (set t table n) = refl
 head_tag-without (sequence_of t c n) = refl
 head_tag-without (set_of t c n) = refl
 head_tag-without (prefix t n) = refl
-head_tag-without (alternative t c n) = refl
+head_tag-without (alternative t c table n) = refl
 
 -- what a scope of the program is
 pub scope_is : (x : Record) (head : Head) (rs : List Record) (h : model.Head) (items : List model.Record) → record_of x ≡ holding (head_of head) (records_of rs) → IsRecord x (holding h items) →

@@ -9,6 +9,8 @@ use Rattle.asn1_model.specs.Tags.{Has, record_tags, first_tags, only, head_tag}
 use Rattle.asn1_tags.specs.declared.tags.Tag.{Tag}
 use Rattle.asn1_model.proofs.SameRecords.{same-tags, same-mark}
 use Rattle.asn1_model.proofs.SameUpToOrder.{SameAll-cons, SameAll-sym, same-length, same_as_none}
+use Rattle.asn1_components.specs.ComponentTypes.{ComponentType}
+use Rattle.asn1_dec.proofs.Tells.{tells_itself}
 use Rattle.asn1_dec.specs.Reading.{Ahead, SameAhead, at_end, next, records_in, marks_passed, Moved, MayFail, SetIsOpen, IsNextTag}
 use Rattle.asn1_dec.specs.declared.error.DecodeError.{DecodeError}
 use Rattle.asn1_dec.specs.declared.error.DecodeError.TheVariants.{Memory}
@@ -299,14 +301,17 @@ pub first_view : (xs : List Record) (x : Record) → x ≡ get_or xs 0 x → 1 �
 first_view [] x is long = absurd (omega (arith, long))
 first_view (y ∷ xs) x is long = (records_of xs, ap (λ r. r ∷ records_of xs) (ap record_of (sym is)))
 
-pub is_next : (items : List model.Record) (r : model.Record) (t : Tag) → (is_mark r ≡ false) × (first_tags items ≡ record_tags r) → Has (record_tags r) t → IsNextTag items (Some t)
-is_next items r t f has = record {
+pub is_next : {V : Type 0} (cs : List (ComponentType V)) (items : List model.Record) (r : model.Record) (t : Tag) → (is_mark r ≡ false) × (first_tags items ≡ record_tags r) → Has (record_tags r) t → IsNextTag cs items (Some t)
+is_next cs items r t f has = record {
   none = λ e. cc;
-  some = λ u e. let same : t ≡ u = cc in subst (λ v. Has (first_tags items) v) same (subst (λ q. Has q t) (sym f.1) has);
+  some = λ u e.
+      let same : t ≡ u = cc in
+      let begins = subst (λ v. Has (first_tags items) v) same (subst (λ q. Has q t) (sym f.1) has) in
+      (u, (begins, tells_itself cs (first_tags items) u begins));
 }
 
-pub no_next : (items : List model.Record) → marks_alone items ≡ true → IsNextTag items None
-no_next items alone = record { none = λ _. alone; some = λ t e. cc }
+pub no_next : {V : Type 0} (cs : List (ComponentType V)) (items : List model.Record) → marks_alone items ≡ true → IsNextTag cs items None
+no_next cs items alone = record { none = λ _. alone; some = λ t e. cc }
 
 -- where a reading begins
 pub begins : (d : RecordDecoder) (xs : List Record) (rs : List model.Record) → sees d ≡ records_of xs ∷ [] → d.failed ≡ false → Carries xs rs → StandsBefore d (rs ∷ [])

@@ -56,12 +56,12 @@ pub record Took (x : Record) (new : RecordDecoder) (r : model.Record) (rest : Li
 
 -- the head is what is wanted
 abbrev pub Meets : Wanted → model.Head → Type 0
-Meets (Sequence t) (sequence u n) = t ≡ u
-Meets (Set t) (set u n) = t ≡ u
+Meets (Sequence t) (sequence u table n) = t ≡ u
+Meets (Set t) (set u table n) = t ≡ u
 Meets (SequenceOf t) (sequence_of u c n) = t ≡ u
 Meets (SetOf t) (set_of u c n) = t ≡ u
 Meets (Prefix t) (prefix u n) = t ≡ u
-Meets Alternative (alternative u c n) = ⊤
+Meets Alternative (alternative u c table n) = ⊤
 Meets _ _ = ⊥
 
 -- A scope was opened: the decoder is before what is in it, in the order in which it comes.

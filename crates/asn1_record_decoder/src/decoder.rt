@@ -10,7 +10,7 @@ use asn1_choices::Choice;
 use asn1_components::FieldTable;
 use asn1_dec::{DecodeError, Decoder, Needed};
 use asn1_enumerations::EnumeratedTable;
-use asn1_records::Record;
+use asn1_records::{Record, Side};
 use asn1_strings::{
     BitString, BmpString, GeneralString, GraphicString, Ia5String, NumericString, ObjectIdentifier,
     PrintableString, TeletexString, VisibleString,
@@ -58,7 +58,8 @@ impl<'a> RecordDecoder<'a> {
     ghost use Rattle.asn1_record_decoder.specs.Found.{Meets, OpenedAs, Took};
     ghost use Rattle.asn1_record_decoder.specs.Reading.{StandsBefore, record_reader, sees};
     ghost use Rattle.asn1_records.specs.Carried.{Carries};
-    ghost use Rattle.asn1_records.specs.Records.{record_of, records_of};
+    ghost use Rattle.asn1_records.specs.WithoutConstraints.{content_without};
+    ghost use Rattle.asn1_records.specs.Records.{record_of, records_of, side_of};
     ghost use Rattle.std.specs.Prelude.{◌≡◌, ◌≢◌, ◌↔◌, ◌∷◌, [], Err, IfErr, IfOk, IfSome, IsOk, List, MatchResult, None, OnErr, OnOk, codes, false, length, suc, true};
 
     /// A decoder that is before these records, and may open so many scopes in one another.
@@ -150,7 +151,9 @@ impl<'a> RecordDecoder<'a> {
 
     /// A content under a tag.
     fn scalar<V: FromContent>(&mut self, tag: Tag) -> Result<V, DecodeError>
-        ensures read { (c : ConstraintSet) → ReadsContent record_reader self.old self.new tag c V.content V.IsOfType V.Is result }
+        ensures read { (content : V.Value → model.Content) →
+            ((x : V.Value) → content_without (content x) ≡ V.content x) → (c : ConstraintSet) →
+            ReadsContent record_reader self.old self.new tag c content V.IsOfType V.Is result }
         ensures stays { Stays record_reader self.old self.new result }
     {
         let record = self.next()?;
@@ -163,13 +166,14 @@ impl<'a> RecordDecoder<'a> {
         }
     }
 
-    /// Whether the component of this tag is there.
-    fn tell_presence(&mut self, tag: Tag) -> Result<bool, DecodeError>
-        ensures read { (own : Tags) → TellsPresence record_reader self.old self.new (present tag) (absent tag) own result }
+    /// Whether the component of this tag, on this side, is there.
+    fn tell_presence(&mut self, side: Side, tag: Tag) -> Result<bool, DecodeError>
+        ensures read { (own : Tags) → TellsPresence record_reader self.old self.new
+            (present (side_of side) tag) (absent (side_of side) tag) own result }
         ensures stays { Stays record_reader self.old self.new result }
     {
         let record = self.next()?;
-        let found = found::presence(record, tag);
+        let found = found::presence(record, side, tag);
         self.answer(found)
     }
 
@@ -369,7 +373,7 @@ impl<'a> Decoder for RecordDecoder<'a> {
     }
 
     fn presence(&mut self, tag: Tag, _tree: TagTree<'static>) -> Result<bool, DecodeError> {
-        self.tell_presence(tag)
+        self.tell_presence(Side::Root, tag)
     }
 
     fn addition_presence(
@@ -377,7 +381,7 @@ impl<'a> Decoder for RecordDecoder<'a> {
         tag: Tag,
         _tree: TagTree<'static>,
     ) -> Result<bool, DecodeError> {
-        self.tell_presence(tag)
+        self.tell_presence(Side::Additions, tag)
     }
 
     fn open_group<C: FieldTable>(&mut self) -> Result<bool, DecodeError> {
@@ -402,7 +406,7 @@ impl<'a> Decoder for RecordDecoder<'a> {
         Ok(opened.bound)
     }
 
-    fn next_component(&mut self) -> Result<Option<Tag>, DecodeError> {
+    fn next_component<C: FieldTable>(&mut self) -> Result<Option<Tag>, DecodeError> {
         if self.failed {
             return Err(DecodeError::Failed);
         }

@@ -1,6 +1,7 @@
 //! What is read from a content.
 ghost use Rattle.asn1_model.specs.Records as model;
 ghost use Rattle.asn1_model.specs.Records.{arcs, bits, bmp, discriminant, general, graphic, ia5, null, number, numeric, octet, printable, teletex, truth, units, utf8, visible};
+ghost use Rattle.asn1_model.specs.Tables.{no_table};
 ghost use Rattle.asn1_dec.specs.declared.error.DecodeError.TheVariants.{Depth, Memory};
 ghost use Rattle.asn1_records.specs.Records.{content_of};
 ghost use Rattle.asn1_strings.specs.Alphabets.{is_ia5, is_numeric, is_printable, is_visible};
@@ -74,7 +75,7 @@ impl FromContent for () {
 impl FromContent for isize {
     ghost Value = { ℤ };
 
-    ghost content = { discriminant };
+    ghost content = { discriminant no_table };
 
     ghost IsOfType = { λ _. ⊤ };
 

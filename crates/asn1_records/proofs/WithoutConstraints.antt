@@ -4,6 +4,7 @@ use Rattle.std.proofs.lemmas.List.{map-append}
 use Rattle.asn1_enc.specs.Writing.{Written, outermost, in_scope, in_group, followed_by}
 use Rattle.asn1_model.specs.Composites.{group_records}
 use Rattle.asn1_model.specs.Records.{Record, more, held, scalar, scope, raw, mark, Head, holding, is_mark, marks_alone, group_start, group_absent, group_end}
+use Rattle.asn1_model.specs.Tables.{Line, Table, no_table}
 use Rattle.asn1_records.specs.WithoutConstraints.{head_without, record_without, inner_without, without_constraints, written_without}
 
 -- records that are held are each without constraints
@@ -26,20 +27,20 @@ pub marks_alone-without : (rs : List Record) → marks_alone (without_constraint
 marks_alone-without [] = refl
 marks_alone-without (r ∷ rs) = ap (λ b. b && marks_alone (without_constraints rs)) (is_mark-without r) ∙ ap (λ b. is_mark r && b) (marks_alone-without rs)
 
-group_by : (b c : Bool) (rs : List Record) → c ≡ b →
-    without_constraints (if b then mark group_absent ∷ [] else mark group_start ∷ rs ++ mark group_end ∷ [])
-    ≡ (if c then mark group_absent ∷ [] else mark group_start ∷ without_constraints rs ++ mark group_end ∷ [])
-group_by true c rs same = ap (λ b. if b then mark group_absent ∷ [] else mark group_start ∷ without_constraints rs ++ mark group_end ∷ []) (sym same)
-group_by false c rs same =
-    ap (λ l. mark group_start ∷ l) (map-append record_without rs (mark group_end ∷ []))
-    ∙ ap (λ b. if b then mark group_absent ∷ [] else mark group_start ∷ without_constraints rs ++ mark group_end ∷ []) (sym same)
+group_by : (table : Table Line) (b c : Bool) (rs : List Record) → c ≡ b →
+    without_constraints (if b then mark group_absent ∷ [] else mark (group_start table) ∷ rs ++ mark group_end ∷ [])
+    ≡ (if c then mark group_absent ∷ [] else mark (group_start no_table) ∷ without_constraints rs ++ mark group_end ∷ [])
+group_by table true c rs same = ap (λ b. if b then mark group_absent ∷ [] else mark (group_start no_table) ∷ without_constraints rs ++ mark group_end ∷ []) (sym same)
+group_by table false c rs same =
+    ap (λ l. mark (group_start no_table) ∷ l) (map-append record_without rs (mark group_end ∷ []))
+    ∙ ap (λ b. if b then mark group_absent ∷ [] else mark (group_start no_table) ∷ without_constraints rs ++ mark group_end ∷ []) (sym same)
 
 -- a group too
-pub group_records-without : (rs : List Record) → without_constraints (group_records (Some rs)) ≡ group_records (Some (without_constraints rs))
-group_records-without rs = group_by (marks_alone rs) (marks_alone (without_constraints rs)) rs (marks_alone-without rs)
+pub group_records-without : (table : Table Line) (rs : List Record) → without_constraints (group_records table (Some rs)) ≡ group_records no_table (Some (without_constraints rs))
+group_records-without table rs = group_by table (marks_alone rs) (marks_alone (without_constraints rs)) rs (marks_alone-without rs)
 
 -- more records in the innermost list
 pub written_without-followed : (w : Written) (rs : List Record) → written_without (followed_by w rs) ≡ followed_by (written_without w) (without_constraints rs)
 written_without-followed (outermost done) rs = ap outermost (map-append record_without done rs)
 written_without-followed (in_scope h done outer) rs = ap (λ l. in_scope (head_without h) l (written_without outer)) (map-append record_without done rs)
-written_without-followed (in_group done outer) rs = ap (λ l. in_group l (written_without outer)) (map-append record_without done rs)
+written_without-followed (in_group table done outer) rs = ap (λ l. in_group no_table l (written_without outer)) (map-append record_without done rs)

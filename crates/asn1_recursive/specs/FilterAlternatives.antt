@@ -10,16 +10,28 @@ use Rattle.asn1_model.specs.Kinds.{string_type}
 use Rattle.asn1_model.specs.Meaning.{Meaning, own_records}
 use Rattle.asn1_model.specs.contracts.strings.OctetsStringTypeU8.TheImpl.{ghosts as octets}
 use Rattle.asn1_strings.specs.contracts.strings.string_unit.U8StringUnit.TheImpl.{ghosts as octet}
+use Rattle.asn1_model.specs.Tables.{Line, Table}
 use Rattle.asn1_model.specs.TaggedTypes.{tagged}
 use Rattle.asn1_model.specs.Tags.{CHOICE, context}
 use Rattle.asn1_choices.specs.Alternatives.{Alternatives, OneOf, SaysTheSame, ValueMeaning, all_of, alternative, chosen_meaning, closed, says_itself, value_meaning}
-use Rattle.asn1_choices.specs.ChoiceTypes.{inside_itself, itself_under}
+use Rattle.asn1_choices.specs.ChoiceTypes.{inside_itself, itself_under, table_with_itself}
 use Rattle.asn1_types.specs.Kinds.{set_of_type}
 use Rattle.asn1_recursive.specs.declared.filter.Filter.{Filter, And', Or', Not', Present, Row_of-Filter, end_of-Filter, more_of-Filter, items-the_row-Filter}
 
 -- what the name of an attribute means
 abbrev pub octet_string : Meaning (List ℕ)
 octet_string = string_type octets.own_tag octets.own_name octet.IsInRange octets.content
+
+-- the alternatives, beside what a filter is to them
+abbrev pub filter_alternatives_with : Meaning Filter → Alternatives
+filter_alternatives_with itself = closed (
+    alternative (codes "and") (tagged (context 0) (set_of_type (λ filters. filters) itself)) ∷
+    alternative (codes "or") (tagged (context 1) (set_of_type (λ filters. filters) itself)) ∷
+    alternative (codes "not") (tagged (context 2) itself) ∷
+    alternative (codes "present") (tagged (context 7) octet_string) ∷ [])
+
+abbrev pub filter_table : Table Line
+filter_table = table_with_itself (codes "Filter") filter_alternatives_with
 
 -- what no elements say together
 abbrev pub none_say : ValueMeaning
@@ -42,23 +54,22 @@ abbrev mutual
   pub filter_means : Filter → ValueMeaning
   filter_means (And' shape filters) = set_says (context 0) (filters_mean filters)
   filter_means (Or' shape filters) = set_says (context 1) (filters_mean filters)
-  filter_means (Not' place inner) = itself_under (codes "Filter") (context 2) (filter_means inner)
+  filter_means (Not' place inner) = itself_under (codes "Filter") filter_table (context 2)
+      (filter_means inner)
   filter_means (Present name) = value_meaning (tagged (context 7) octet_string) name
 
   pub filters_mean : {m : _} → Row_of-Filter m → ValueMeaning
   filters_mean end_of-Filter = none_say
-  filters_mean (more_of-Filter filter rest) = both_say (itself_under (codes "Filter") CHOICE (filter_means filter)) (filters_mean rest)
+  filters_mean (more_of-Filter filter rest) = both_say
+      (itself_under (codes "Filter") filter_table CHOICE (filter_means filter))
+      (filters_mean rest)
 
 -- a filter inside another
 abbrev pub inner_filter : Meaning Filter
-inner_filter = inside_itself (codes "Filter") filter_means
+inner_filter = inside_itself (codes "Filter") filter_table filter_means
 
 abbrev pub filter_alternatives : Alternatives
-filter_alternatives = closed (
-    alternative (codes "and") (tagged (context 0) (set_of_type (λ filters. filters) inner_filter)) ∷
-    alternative (codes "or") (tagged (context 1) (set_of_type (λ filters. filters) inner_filter)) ∷
-    alternative (codes "not") (tagged (context 2) inner_filter) ∷
-    alternative (codes "present") (tagged (context 7) octet_string) ∷ [])
+filter_alternatives = filter_alternatives_with inner_filter
 
 abbrev pub filter_pick : Filter → OneOf (all_of filter_alternatives)
 filter_pick (And' shape filters) = inl (items-the_row-Filter _ filters)

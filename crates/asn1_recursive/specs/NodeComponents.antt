@@ -8,14 +8,15 @@ use Rattle.std.specs.String.{string_bytes}
 use Rattle.std.specs.declared.alloc.Global.{Global}
 use Rattle.std.specs.declared.string.String.{String}
 use Rattle.asn1_components.proofs.HeldInside.{all_own_and_inside}
-use Rattle.asn1_components.specs.Components.{AgreesWithComponents, Components, component_records, head_in, holding_itself, inside_itself, is_sequence, sequence}
+use Rattle.asn1_components.specs.Components.{AgreesWithComponents, Components, component_records, head_in, holding_itself, inside_itself, is_sequence, sequence, table_with_itself}
 use Rattle.asn1_components.specs.ComponentTypes.{optional, required}
 use Rattle.asn1_recursive.specs.declared.node.Node.{Node, Node-F, out-Node, fold-Node, fold_out-Node}
 use Rattle.asn1_model.specs.Composites.{list_records, option_records}
 use Rattle.asn1_model.specs.ConstraintSets.{unconstrained}
 use Rattle.asn1_model.specs.Kinds.{list_type, utf8_string}
 use Rattle.asn1_model.specs.Meaning.{Meaning, own_records}
-use Rattle.asn1_model.specs.Records.{Record, holding}
+use Rattle.asn1_model.specs.Records.{Record, holding, in_root}
+use Rattle.asn1_model.specs.Tables.{Line, Table}
 use Rattle.asn1_model.specs.TaggedTypes.{untagged}
 use Rattle.asn1_model.specs.Tags.{universal}
 
@@ -29,9 +30,15 @@ components_with fields child = sequence (
     optional (codes "label") (λ v. (fields v).label) (untagged text) ∷
     required (codes "children") (λ v. (fields v).children) (untagged (list_type (λ children. children.items) unconstrained child)) ∷ [])
 
+-- the table, which is that of any node
+abbrev pub node_table : Table Line
+node_table = table_with_itself {W = List Record} (codes "Node") is_sequence
+    (components_with (λ n. n))
+
 -- a child that is given by the records of its components
 abbrev pub written_child : Meaning (List Record)
-written_child = inside_itself (codes "Node") is_sequence (λ records. records) (λ _. ⊤) (λ _ _. ⊤)
+written_child = inside_itself (codes "Node") is_sequence node_table (λ records. records) (λ _. ⊤)
+    (λ _ _. ⊤)
 
 -- the records of a node's components
 abbrev pub node_records : Node → List Record
@@ -51,7 +58,8 @@ node_is_valid takes n = All (λ label. IfSome label (text.IsValid takes)) (label
 
 -- A node's components, where each child is a node.
 abbrev pub node_components : Components Node
-node_components = components_with out-Node (inside_itself (codes "Node") is_sequence node_records node_is_of_type node_is_valid)
+node_components = components_with out-Node
+    (inside_itself (codes "Node") is_sequence node_table node_records node_is_of_type node_is_valid)
 
 -- What a node means.
 abbrev pub node_meaning : Meaning Node
@@ -60,7 +68,7 @@ node_meaning = holding_itself (codes "Node") node_records node_is_of_type node_i
 node_records_are : (n : Node) → node_records n ≡ component_records node_components n
 node_records_are n =
     fold_out-Node (List Record) (component_records (components_with (λ n. n) written_child)) n
-    ∙ ap (λ children. option_records (universal 12) (option_map (own_records text) (out-Node n).label) ++ (list_records (universal 16) unconstrained (Some (codes "SEQUENCE_OF")) children ++ []))
+    ∙ ap (λ children. option_records in_root (universal 12) (option_map (own_records text) (out-Node n).label) ++ (list_records (universal 16) unconstrained (Some (codes "SEQUENCE_OF")) children ++ []))
     (flat_map-map (own_records written_child) node_records (out-Node n).children.items)
 
 labels_are : (n : Node) → labels n ≡ (out-Node n).label ∷ flat_map labels (out-Node n).children.items
@@ -80,7 +88,9 @@ node_agrees = record {
   tree = λ _. refl;
   single = tt;
   present = λ _. refl;
-  records = λ v t c n. ap (λ components. holding (head_in is_sequence t n) components ∷ []) (node_records_are v);
+  records = λ v t c n. ap
+      (λ components. holding (head_in is_sequence t node_table n) components ∷ [])
+      (node_records_are v);
   well_tagged = λ t. (λ h. h, λ h. h);
   of_type = each_label (λ label. IfSome label text.IsOfType);
   valid = λ takes. each_label (λ label. IfSome label (text.IsValid takes));

@@ -8,7 +8,7 @@ ghost use Rattle.asn1_model.specs.Meaning.{CanStandInside, own_records};
 ghost use Rattle.asn1_model.specs.Records.{scalar, holding, prefix, alternative as chosen, number, truth};
 ghost use Rattle.asn1_model.specs.TaggedTypes.{tagged, untagged};
 ghost use Rattle.asn1_model.specs.Tags.{universal, context, only, first_tags};
-ghost use Rattle.asn1_choices.specs.Alternatives.{alternative, closed, extensible, variance_of};
+ghost use Rattle.asn1_choices.specs.Alternatives.{alternative, closed, extensible, table_of, variance_of};
 ghost use Rattle.asn1_choices.specs.ChoiceTypes.{choice_of};
 ghost use Rattle.asn1_recursive.specs.declared.nested.Nested.TheVariants.{Flag, Inner};
 ghost use Rattle.asn1_type_tests.specs.declared.choices.reply.Reply.TheVariants as reply;
@@ -43,26 +43,26 @@ fn same_tag_twice()
 /// The records of a value of each.
 fn records()
     ensures corner { own_records ⟦<Corner as AsnType>⟧.meaning (corner.Left true) ≡
-        holding (chosen (universal 1) unconstrained (Some (codes "Corner"))) (
+        holding (chosen (universal 1) unconstrained (table_of ⟦<Corner as asn1_choices::Choice>⟧.alternatives) (Some (codes "Corner"))) (
         scalar (universal 1) unconstrained (Some (codes "BOOLEAN")) (truth true) ∷ []) ∷ [] }
     ensures ring { own_records ⟦<Shape as AsnType>⟧.meaning (shape.Ring 7) ≡
-        holding (chosen (context 0) unconstrained (Some (codes "Shape"))) (
+        holding (chosen (context 0) unconstrained (table_of ⟦<Shape as asn1_choices::Choice>⟧.alternatives) (Some (codes "Shape"))) (
         scalar (context 0) (values_of (Range (Some (pos 0)) (Some (pos 65535)))) (Some (codes "INTEGER")) (number (pos 7)) ∷ []) ∷ [] }
     ensures inner { own_records ⟦<Shape as AsnType>⟧.meaning (shape.Inner (corner.Left true)) ≡
-        holding (chosen (universal 1) unconstrained (Some (codes "Shape"))) (
-        holding (chosen (universal 1) unconstrained (Some (codes "Corner"))) (
+        holding (chosen (universal 1) unconstrained (table_of ⟦<Shape as asn1_choices::Choice>⟧.alternatives) (Some (codes "Shape"))) (
+        holding (chosen (universal 1) unconstrained (table_of ⟦<Corner as asn1_choices::Choice>⟧.alternatives) (Some (codes "Corner"))) (
         scalar (universal 1) unconstrained (Some (codes "BOOLEAN")) (truth true) ∷ []) ∷ []) ∷ [] }
     ensures later { own_records ⟦<Reply as AsnType>⟧.meaning (reply.Later 9) ≡
-        holding (chosen (context 0) unconstrained (Some (codes "Reply"))) (
+        holding (chosen (context 0) unconstrained (table_of ⟦<Reply as asn1_choices::Choice>⟧.alternatives) (Some (codes "Reply"))) (
         scalar (context 0) (values_of (Range (Some (pos 0)) (Some (pos 255)))) (Some (codes "INTEGER")) (number (pos 9)) ∷ []) ∷ [] }
 {}
 
 /// `inner : flag : TRUE`, whose inner value is under an explicit tag.
 fn nested(inner: Box<Nested>)
     ensures { inner.value ≡ Flag true → own_records ⟦<Nested as AsnType>⟧.meaning (Inner inner) ≡
-        holding (chosen (context 0) unconstrained (Some (codes "Nested"))) (
+        holding (chosen (context 0) unconstrained (table_of ⟦<Nested as asn1_choices::Choice>⟧.alternatives) (Some (codes "Nested"))) (
         holding (prefix (context 0) (Some (codes "Nested"))) (
-        holding (chosen (universal 1) unconstrained (Some (codes "Nested"))) (
+        holding (chosen (universal 1) unconstrained (table_of ⟦<Nested as asn1_choices::Choice>⟧.alternatives) (Some (codes "Nested"))) (
         scalar (universal 1) unconstrained (Some (codes "BOOLEAN")) (truth true) ∷ []) ∷ []) ∷ []) ∷ [] }
 {}
 

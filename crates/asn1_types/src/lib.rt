@@ -61,7 +61,9 @@ pub use array::Array;
 pub use asn1_bounds::{
     Bounded, ConstraintTable, Constraints, Extensible, PermittedAlphabet, Size, Value,
 };
-pub use asn1_choices::{Choice, ChoiceType, the_chosen_tag_tells_the_alternative};
+pub use asn1_choices::{
+    Choice, ChoiceType, alternatives_are_as_in_records, the_chosen_tag_tells_the_alternative,
+};
 pub use asn1_components::{
     Constructed, ConstructedType, FieldTable, components_are_told_apart, field_in,
     tables_are_in_order,

@@ -9,7 +9,7 @@ ghost use Rattle.asn1_tags.specs.declared.tags.Tag.{Tag};
 ghost use Rattle.asn1_model.specs.Composites.{list_records, option_records};
 ghost use Rattle.asn1_model.specs.ConstraintSets.{ConstraintSet, unconstrained, values_of, size_of};
 ghost use Rattle.asn1_model.specs.Meaning.{HasOwn, own_records};
-ghost use Rattle.asn1_model.specs.Records.{Name, arcs, name_or, null, number, scalar, truth, units, utf8};
+ghost use Rattle.asn1_model.specs.Records.{Name, arcs, in_root, name_or, null, number, scalar, truth, units, utf8};
 ghost use Rattle.asn1_model.specs.Tags.{universal};
 
 use crate::asn_type::AsnType;
@@ -91,7 +91,9 @@ pub fn holders_have_the_records_of_their_contents<'a, T: AsnType + 'a, const N: 
     ensures array_own { HasOwn ⟦<[T; N] as AsnType>⟧.meaning (universal 16) (size_of N) (Some (codes "SEQUENCE_OF")) }
     ensures of_array { (elements : List T) (t : Tag) (c : ConstraintSet) (name : Name) → ⟦<[T; N] as AsnType>⟧.meaning.records elements t c name ≡ list_records t c (name_or name (Some (codes "SEQUENCE_OF"))) (flat_map (own_records T.meaning) elements) }
     ensures option_own { HasOwn ⟦<Option<T> as AsnType>⟧.meaning T.meaning.tag T.meaning.constraints T.meaning.name }
-    ensures of_option { (o : Option T) (t : Tag) (c : ConstraintSet) (name : Name) → ⟦<Option<T> as AsnType>⟧.meaning.records o t c name ≡ option_records t (option_map (λ v. T.meaning.records v t c name) o) }
+    ensures of_option { (o : Option T) (t : Tag) (c : ConstraintSet) (name : Name) →
+        ⟦<Option<T> as AsnType>⟧.meaning.records o t c name ≡
+        option_records in_root t (option_map (λ v. T.meaning.records v t c name) o) }
     ensures reference_own { HasOwn ⟦<&'a T as AsnType>⟧.meaning T.meaning.tag T.meaning.constraints T.meaning.name }
     ensures of_reference { (t : Tag) (c : ConstraintSet) (name : Name) → ⟦<&'a T as AsnType>⟧.meaning.records _reference.entry t c name ≡ T.meaning.records _reference.entry.now t c name }
     ensures boxed_own { HasOwn ⟦<Box<T> as AsnType>⟧.meaning T.meaning.tag T.meaning.constraints T.meaning.name }

@@ -325,7 +325,7 @@ impl Decoder for Listener {
         Ok(C::field_count())
     }
 
-    fn next_component(&mut self) -> Result<Option<Tag>, DecodeError> {
+    fn next_component<C: FieldTable>(&mut self) -> Result<Option<Tag>, DecodeError> {
         self.may_read()?;
         Ok(self.next_tag())
     }

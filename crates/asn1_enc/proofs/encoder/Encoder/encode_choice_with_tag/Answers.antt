@@ -1,5 +1,5 @@
 use Rattle.std.proofs.Common.{sym, ◌∙◌}
-use Rattle.asn1_choices.specs.Alternatives.{all_of, chosen_meaning}
+use Rattle.asn1_choices.specs.Alternatives.{all_of, chosen_meaning, table_of}
 use Rattle.asn1_choices.specs.ChosenTags.{chosen_tag}
 use Rattle.asn1_model.specs.Composites.{alternative_records}
 use Rattle.asn1_model.specs.ConstraintSets.{constraint_set}
@@ -18,7 +18,7 @@ returns-in_err-open_explicit_prefix g c =
     (sym c.is_choice.ensures.parts ∙ c.if-is_choice.false)
     (rw c.identifier.ensures at (named_or (name_of c.args.name) (name_of c.identifier.result) (name_of c.or-name.result) c.or-name.ensures.named c.or-name.ensures.empty))
     (exits W _ _ _ means.IsOfType _ c.from_residual.ensures.1
-    (open_fails W (alternative_records (chosen_tag (all_of g.T.Choice.alternatives) (g.T.Choice.pick c.args.value.now)) m.constraints m.name means.records) c.in_err-open_explicit_prefix.ensures))
+    (open_fails W (alternative_records (chosen_tag (all_of g.T.Choice.alternatives) (g.T.Choice.pick c.args.value.now)) m.constraints (table_of g.T.Choice.alternatives) m.name means.records) c.in_err-open_explicit_prefix.ensures))
 
 pub returns-in_err-encode_choice : goal.returns-in_err-encode_choice
 returns-in_err-encode_choice g c =

@@ -1,4 +1,5 @@
 use Rattle.std.proofs.Common.{◌≡◌, ◌∷◌, true, false}
+use Rattle.asn1_components.specs.Components.{lines}
 use Rattle.asn1_model.specs.Records.{mark, group_start, group_absent}
 use Rattle.asn1_record_decoder.proofs.Standing.{finished}
 use Rattle.asn1_record_decoder.proofs.decoder.RecordDecoderDecoder.open_group.Goals as goal
@@ -12,8 +13,8 @@ returns-in_err-record-clause-read g c = record {
 pub returns-clause-read : goal.returns-clause-read
 returns-clause-read g c = record {
   there = λ rest outer begins at.
-      let t = c.in_ok-record.ensures.took (mark group_start) rest outer at in
-      let found = c.group-found.ensures.there t.is in
+      let t = c.in_ok-record.ensures.took (mark (group_start (lines g.C.FieldTable.components))) rest outer at in
+      let found = c.group-found.ensures.there (lines g.C.FieldTable.components) t.is in
       finished c.args.self.now c.next.new.self c.answer.new.self (rest ∷ outer) (λ b. b ≡ true) c.answer.result (rw c.answer.ensures.same found) c.answer.ensures.kept t.at;
   away = λ rest outer apart at.
       let t = c.in_ok-record.ensures.took (mark group_absent) rest outer at in
