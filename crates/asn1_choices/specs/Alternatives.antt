@@ -6,6 +6,7 @@ use Rattle.asn1_ranges.specs.declared.bounded.Bounded.TheVariants.{Range}
 use Rattle.asn1_tags.specs.Tags.{distinct}
 use Rattle.asn1_tags.specs.Trees.{Trees, none, more, is_open, leaves_of}
 use Rattle.asn1_model.specs.ConstraintSets.{ConstraintSet, unconstrained}
+use Rattle.asn1_model.specs.WellFormed.{AreWellFormed}
 use Rattle.asn1_model.specs.Records.{Record}
 use Rattle.asn1_model.specs.Tables.{Line, Table}
 use Rattle.asn1_model.specs.TaggedTypes.{TaggedType}
@@ -90,14 +91,24 @@ abbrev pub HaveDistinctTags : List Alternative → Type 0
 HaveDistinctTags alts = IsTrue (distinct (leaves_of (trees_of alts)))
 
 -- What a type says of one value: what it is to a codec, whether it has what each value of the type has, and whether it
--- is valid.
+-- is valid, when its records are well formed.
 pub record ValueMeaning : Type 1 where
   pub records : List Record
   pub IsOfType : Type 0
   pub IsValid : (List ℕ → Bool) → Type 0
+  pub well_formed : (takes : List ℕ → Bool) → IsValid takes → AreWellFormed takes records
 
 abbrev pub value_meaning : {W : Type 0} → TaggedType W → W → ValueMeaning
-value_meaning type w = record { records = type.records w; IsOfType = type.IsOfType w; IsValid = λ takes. type.IsValid takes w }
+value_meaning type w = record {
+  records = type.records w;
+  IsOfType = type.IsOfType w;
+  IsValid = λ takes. type.IsValid takes w;
+  well_formed = λ takes. type.well_formed takes w;
+}
+
+-- what nothing says
+abbrev pub none_say : ValueMeaning
+none_say = record { records = []; IsOfType = ⊤; IsValid = λ _. ⊤; well_formed = λ _ _. tt }
 
 -- Two that say the same of a value.
 pub record SaysTheSame (one other : ValueMeaning) : Type 0 where

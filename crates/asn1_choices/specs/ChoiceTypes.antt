@@ -1,16 +1,17 @@
 -- What a CHOICE means, by its alternatives.
-use Rattle.std.specs.Prelude.{◌≡◌, ◌↔◌, ℕ, ⊤, Bool, true, List, [], Some, refl}
+use Rattle.std.specs.Prelude.{◌≡◌, ◌↔◌, ℕ, ⊤, Bool, true, List, Some, refl}
 use Rattle.std.proofs.Common.{ap, sym, subst}
 use Rattle.asn1_tags.specs.declared.tags.Tag.{Tag}
 use Rattle.asn1_tags.specs.Trees.{Trees, choice, none}
 use Rattle.asn1_model.specs.ConstraintSets.{ConstraintSet, unconstrained}
+use Rattle.asn1_model.specs.WellFormed.{well_formed_choice}
 use Rattle.asn1_model.specs.Records.{Name}
 use Rattle.asn1_model.specs.Tables.{Line, Table, no_table}
 use Rattle.asn1_model.specs.Tags.{CHOICE, Has, first_tag, tree_tags}
 use Rattle.asn1_model.specs.Composites.{choice_records}
 use Rattle.asn1_model.specs.Meaning.{Meaning}
 use Rattle.asn1_model.specs.Kinds.{choice_tree, choice_type}
-use Rattle.asn1_choices.specs.Alternatives.{Alternatives, OneOf, Each, CanBeChosen, HaveDistinctTags, SaysTheSame, ValueMeaning, all_of, says_itself, table_of, trees_of, chosen_meaning}
+use Rattle.asn1_choices.specs.Alternatives.{Alternatives, OneOf, Each, CanBeChosen, HaveDistinctTags, SaysTheSame, ValueMeaning, all_of, none_say, says_itself, table_of, trees_of, chosen_meaning}
 use Rattle.asn1_choices.specs.ChosenTags.{chosen_tag, chosen_is_among}
 
 -- A CHOICE (X.680, 29) by its name, the table and the trees of its alternatives, whether they can be chosen, and what the
@@ -24,8 +25,9 @@ choice_by name table alternatives CanChoose means is_among = choice_type (Some n
       CanStandInside = CanChoose;
       AreOfType = λ v. (means v).IsOfType;
       AreValid = λ takes v. (means v).IsValid takes;
+      well_formed = λ takes v. (means v).well_formed takes;
     })
-    (record { table = table; alternatives = alternatives; tag = λ v. first_tag (means v).records; among = is_among })
+    (record { table = table; alternatives = alternatives; among = is_among })
 
 module _ {V : Type 0} (name : List ℕ) (alts : Alternatives) (pick : V → OneOf (all_of alts)) where
   -- A CHOICE that holds itself: its author says by recursion on a value what the chosen alternative says of it.
@@ -47,11 +49,16 @@ inside_itself name table means = choice_by name table none ⊤ means (λ _ _. tt
 -- says of values.
 abbrev pub table_with_itself : {V : Type 0} → List ℕ → (Meaning V → Alternatives) → Table Line
 table_with_itself name alternatives_with =
-    table_of (alternatives_with (inside_itself name no_table (λ _. record { records = []; IsOfType = ⊤; IsValid = λ _. ⊤ })))
+    table_of (alternatives_with (inside_itself name no_table (λ _. none_say)))
 
 -- what the alternative that is the CHOICE itself, under this tag, says of a value, by what the CHOICE says of it
 abbrev pub itself_under : List ℕ → Table Line → Tag → ValueMeaning → ValueMeaning
-itself_under name table t meaning = record meaning { records = choice_records (first_tag meaning.records) table meaning.records unconstrained (Some name) t unconstrained (Some name) }
+itself_under name table t meaning = record meaning {
+  records = choice_records (first_tag meaning.records) table meaning.records unconstrained (Some name) t
+      unconstrained (Some name);
+  well_formed = λ takes valid. well_formed_choice takes table meaning.records unconstrained (Some name) t
+      unconstrained (Some name) (meaning.well_formed takes valid);
+}
 
 -- The law of a CHOICE type: its meaning is that of its alternatives. Its tags are theirs, and each value is there, and is
 -- what was chosen; it is well tagged if and only if they have distinct tags and can be chosen; and what a value has, and

@@ -6,6 +6,7 @@ use Rattle.asn1_tags.specs.Tags.{distinct}
 use Rattle.asn1_tags.specs.Trees.{Tree, Trees, choice, leaves, none, more}
 use Rattle.asn1_model.specs.Composites.{group_records}
 use Rattle.asn1_model.specs.Records.{Record, Side, mark, in_additions, group_start, group_end, group_absent, marks_alone}
+use Rattle.asn1_model.specs.WellFormed.{AreWellFormed, well_formed_append}
 use Rattle.asn1_model.specs.Tables.{Line, Table}
 use Rattle.asn1_model.specs.Tags.{CHOICE, BeginsWithin, LiesIn, tree_tags, first_tags}
 use Rattle.asn1_model.proofs.FirstTags.{begins_before, first_passes, first_stays, alone_append}
@@ -68,6 +69,29 @@ EachIsOfType (c ∷ cs) v = c.IsOfType v × EachIsOfType cs v
 abbrev pub EachIsValid : {V : Type 0} → List (ComponentType V) → (List ℕ → Bool) → V → Type 0
 EachIsValid [] takes v = ⊤
 EachIsValid (c ∷ cs) takes v = c.IsValid takes v × EachIsValid cs takes v
+
+-- then their records are well formed
+pub all_well_formed : {V : Type 0} (cs : List (ComponentType V)) (takes : List ℕ → Bool) (v : V) →
+    EachIsValid cs takes v → AreWellFormed takes (all_records cs v)
+all_well_formed [] takes v valid = tt
+all_well_formed (c ∷ cs) takes v valid = well_formed_append takes (c.records v) (all_records cs v)
+    (c.well_formed takes v valid.0) (all_well_formed cs takes v valid.1)
+
+-- and so are those of a group of them
+well_formed_between : (table : Table Line) (takes : List ℕ → Bool) (rs : List Record) (b : Bool) →
+    AreWellFormed takes rs →
+    AreWellFormed takes (if b then mark group_absent ∷ [] else mark (group_start table) ∷ rs ++ mark group_end ∷ [])
+well_formed_between table takes rs true are = (tt, tt)
+well_formed_between table takes rs false are =
+    (tt, well_formed_append takes rs (mark group_end ∷ []) are (tt, tt))
+
+pub group_well_formed : {W : Type 0} (table : Table Line) (cs : List (ComponentType W))
+    (takes : List ℕ → Bool) (o : Option W) →
+    IfSome o (λ w. EachIsValid cs takes w × (marks_alone (all_records cs w) ≡ false)) →
+    AreWellFormed takes (group_records table (option_map (all_records cs) o))
+group_well_formed table cs takes None valid = (tt, tt)
+group_well_formed table cs takes (Some w) valid = well_formed_between table takes (all_records cs w)
+    (marks_alone (all_records cs w)) (all_well_formed cs takes w valid.0)
 
 -- In a SEQUENCE and in a group a component that may be absent shares no tag with those after it, up to and including the
 -- next that is always there (X.680, 25.6).
@@ -133,4 +157,5 @@ group_of name get table cs = record {
   IsOfType = λ v. IfSome (get v) (EachIsOfType cs);
   IsValid = λ takes v. IfSome (get v) (λ w. EachIsValid cs takes w × (marks_alone (all_records cs w) ≡ false));
   fits = λ can v. group_fits table cs can.0 (get v);
+  well_formed = λ takes v. group_well_formed table cs takes (get v);
 }

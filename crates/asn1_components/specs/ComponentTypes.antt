@@ -6,6 +6,7 @@ use Rattle.asn1_tags.specs.declared.tags.Tag.{Tag}
 use Rattle.asn1_tags.specs.Trees.{Tree}
 use Rattle.asn1_model.specs.Composites.{option_records, default_records}
 use Rattle.asn1_model.specs.Records.{Record, Side, in_additions, in_root, marks_alone}
+use Rattle.asn1_model.specs.WellFormed.{AreWellFormed, well_formed_option}
 use Rattle.asn1_model.specs.TaggedTypes.{TaggedType}
 use Rattle.asn1_model.specs.Tags.{BeginsWithin, tree_tags}
 use Rattle.asn1_model.proofs.FirstTags.{one_begins, present_begins}
@@ -36,6 +37,8 @@ pub record ComponentType (V : Type 0) : Type 1 where
   pub IsValid : (List ℕ → Bool) → V → Type 0
   -- what is written of it begins with one of its tags, or it is absent
   pub fits : CanStandInside → (v : V) → Fits presence tree (records v)
+  -- and what is written of it in a valid value is well formed
+  pub well_formed : (takes : List ℕ → Bool) (v : V) → IsValid takes v → AreWellFormed takes (records v)
 
 -- one that is always there
 abbrev pub required : {V W : Type 0} → List ℕ → (V → W) → TaggedType W → ComponentType V
@@ -50,6 +53,7 @@ required name get type = record {
   IsOfType = λ v. type.IsOfType (get v);
   IsValid = λ takes v. type.IsValid takes (get v);
   fits = λ can v. inl (one_begins (tree_tags type.tree) (type.records (get v)) (type.one_record can (get v)));
+  well_formed = λ takes v. type.well_formed takes (get v);
 }
 
 pub present_or_absent : {W : Type 0} (side : Side) (type : TaggedType W)
@@ -74,6 +78,8 @@ optional_in side name get type = record {
   IsOfType = λ v. IfSome (get v) type.IsOfType;
   IsValid = λ takes v. IfSome (get v) (type.IsValid takes);
   fits = λ can v. present_or_absent side type Optional (inr (refl, refl)) can (get v);
+  well_formed = λ takes v. well_formed_option takes side type.tag (type.IsValid takes) type.records
+      (type.well_formed takes) (get v);
 }
 
 -- one of the root
@@ -91,6 +97,13 @@ other_than_default side type can w true = inr (refl, refl)
 other_than_default side type can w false = present_or_absent side type Default (inr (refl, refl))
     can (Some w)
 
+-- its records are well formed where what is written is valid
+well_formed_default : {W : Type 0} (side : Side) (type : TaggedType W) (takes : List ℕ → Bool) (w : W)
+    (is_default : Bool) → (is_default ≡ false → type.IsValid takes w) →
+    AreWellFormed takes (default_records side is_default type.tag (type.records w))
+well_formed_default side type takes w true valid = (tt, tt)
+well_formed_default side type takes w false valid = (tt, type.well_formed takes w (valid refl))
+
 -- one with a DEFAULT, on this side: whether the value's is that. A default is not written, so nothing is told of it
 -- and nothing is asked.
 abbrev pub default_in : {V W : Type 0} → Side → List ℕ → (V → W) → (V → Bool) → TaggedType W →
@@ -106,6 +119,7 @@ default_in side name get is_default type = record {
   IsOfType = λ v. is_default v ≡ false → type.IsOfType (get v);
   IsValid = λ takes v. is_default v ≡ false → type.IsValid takes (get v);
   fits = λ can v. other_than_default side type can (get v) (is_default v);
+  well_formed = λ takes v. well_formed_default side type takes (get v) (is_default v);
 }
 
 -- one of the root, and an addition

@@ -6,12 +6,13 @@ use Rattle.asn1_tags.specs.Trees.{leaf}
 use Rattle.asn1_model.specs.ConstraintSets.{ConstraintSet, unconstrained}
 use Rattle.asn1_model.specs.Kinds.{Inside, scope_type}
 use Rattle.asn1_model.specs.Meaning.{Meaning}
+use Rattle.asn1_model.specs.WellFormed.{AreWellFormed}
 use Rattle.asn1_model.specs.Records.{Name, Record, Head, in_additions, in_root, sequence as sequence_head, set as set_head, holding}
 use Rattle.asn1_model.specs.Tables.{Line, Table, no_table}
-use Rattle.asn1_model.specs.Tags.{IsATag, head_tag, universal}
+use Rattle.asn1_model.specs.Tags.{IsATag, HasOwnTag, universal}
 use Rattle.asn1_fields.specs.CanonicalOrder.{in_order}
 use Rattle.asn1_fields.specs.Entries.{Entry, component_of, line_of}
-use Rattle.asn1_components.specs.ComponentLists.{all_records, entries_from, EachCanStandInside, EachIsOn, EachMayBeAbsent, EachIsOfType, EachIsValid, AreDistinctInSequence, AreDistinctInSet, CanBeInSequence, group_fits, group_of}
+use Rattle.asn1_components.specs.ComponentLists.{all_records, entries_from, EachCanStandInside, EachIsOn, EachMayBeAbsent, EachIsOfType, EachIsValid, all_well_formed, AreDistinctInSequence, AreDistinctInSet, CanBeInSequence, group_fits, group_of}
 use Rattle.asn1_components.specs.ComponentTypes.{ComponentType}
 
 -- A SEQUENCE (X.680, 25) or a SET (27); a group is a SEQUENCE here.
@@ -70,7 +71,7 @@ head_in is_sequence t table n = sequence_head t table n
 head_in is_set t table n = set_head t table n
 
 pub head_has_tag : (kind : Kind) (t : Tag) (table : Table Line) (n : Name) →
-    head_tag (head_in kind t table n) ≡ t
+    HasOwnTag t (head_in kind t table n)
 head_has_tag is_sequence t table n = refl
 head_has_tag is_set t table n = refl
 
@@ -153,6 +154,7 @@ module _ {V : Type 0} (components : Components V) where
     CanStandInside = CanStandTogether;
     AreOfType = EachIsOfType all_components;
     AreValid = EachIsValid all_components;
+    well_formed = all_well_formed all_components;
   }
 
   -- The type of these components, under a tag of its own, and with a name.
@@ -198,31 +200,37 @@ constructed_agrees = record {
   valid = λ takes v. (λ h. h, λ h. h);
 }
 
--- A type that holds itself. Its components speak of it, so its records, what it has by its type and which values are valid
--- are defined first, by recursion over its values. This is what it means to its own components, of which nothing is asked
--- there. The table is that of the components (`table_with_itself`).
-abbrev pub inside_itself : {V : Type 0} → List ℕ → Kind → Table Line → (V → List Record) →
-    (V → Type 0) → ((List ℕ → Bool) → V → Type 0) → Meaning V
-inside_itself name kind table fields AreOfType AreValid =
-    scope_type (λ t c n. head_in kind t table n) (λ t c n. head_has_tag kind t table n) (tag_of kind) unconstrained (Some name) (record {
-      records = fields;
-      CanStandInside = ⊤;
-      AreOfType = AreOfType;
-      AreValid = AreValid;
-    })
+-- A type of this name and kind whose values are one record each, by its table and what is inside.
+abbrev pub holding_type : {V : Type 0} → List ℕ → Kind → Table Line → Inside V → Meaning V
+holding_type name kind table inside =
+    scope_type (λ t c n. head_in kind t table n) (λ t c n. head_has_tag kind t table n) (tag_of kind)
+    unconstrained (Some name) inside
+
+-- A type that holds itself. Its components speak of it, so what is inside its values is said first, by recursion over
+-- these. This is what it means to its own components, of which nothing is asked there. The table is that of the
+-- components (`table_with_itself`).
+abbrev pub inside_itself : {V : Type 0} → List ℕ → Kind → Table Line → Inside V → Meaning V
+inside_itself name kind table inside =
+    holding_type name kind table (record inside { CanStandInside = ⊤ })
+
+-- nothing inside
+abbrev nothing : {V : Type 0} → Inside V
+nothing = record {
+  records = λ _. [];
+  CanStandInside = ⊤;
+  AreOfType = λ _. ⊤;
+  AreValid = λ _ _. ⊤;
+  well_formed = λ _ _ _. tt;
+}
 
 -- The table, by the components beside what the type is to them: it rests on nothing that the type says of values.
 abbrev pub table_with_itself : {V W : Type 0} → List ℕ → Kind → (Meaning W → Components V) →
     Table Line
 table_with_itself name kind components_with =
-    lines (components_with (inside_itself name kind no_table (λ _. []) (λ _. ⊤) (λ _ _. ⊤)))
+    lines (components_with (inside_itself name kind no_table nothing))
 
 -- And this is what it means to all others, with its components, which speak of it by the word above.
-abbrev pub holding_itself : {V : Type 0} → List ℕ → (V → List Record) → (V → Type 0) → ((List ℕ → Bool) → V → Type 0) → Components V → Meaning V
-holding_itself name fields AreOfType AreValid components =
-    scope_type (λ t c n. head_in components.kind t (lines components) n) (λ t c n. head_has_tag components.kind t (lines components) n) (tag_of components.kind) unconstrained (Some name) (record {
-      records = fields;
-      CanStandInside = CanStandTogether components;
-      AreOfType = AreOfType;
-      AreValid = AreValid;
-    })
+abbrev pub holding_itself : {V : Type 0} → List ℕ → Inside V → Components V → Meaning V
+holding_itself name inside components =
+    holding_type name components.kind (lines components)
+    (record inside { CanStandInside = CanStandTogether components })

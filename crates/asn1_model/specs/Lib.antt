@@ -8,5 +8,6 @@ pub mod Meaning
 pub mod Kinds
 pub mod TypeTables
 pub mod OneRecord
+pub mod WellFormed
 pub mod TaggedTypes
 pub mod Premises

@@ -5,22 +5,31 @@ use Rattle.asn1_tags.specs.declared.tags.Tag.{Tag}
 use Rattle.asn1_tags.specs.Tags.{tag_eq}
 use Rattle.asn1_tags.specs.Trees.{Tree, leaf}
 use Rattle.asn1_model.specs.ConstraintSets.{ConstraintSet}
-use Rattle.asn1_model.specs.Records.{Name, name_or, Content, Head, Record, scalar, holding, prefix, alternative}
+use Rattle.asn1_model.specs.Records.{Name, name_or, Content, Head, Record, scalar, holding, prefix, alternative, sequence, set, sequence_of, set_of}
 use Rattle.asn1_model.specs.Composites.{alternative_records, prefix_records, choice_records}
 use Rattle.asn1_model.specs.Tables.{Line, Table}
-use Rattle.asn1_model.specs.Tags.{CHOICE, Tags, Has, LiesIn, IsOneRecord, only, head_tag, tree_tags}
+use Rattle.asn1_model.specs.Tags.{CHOICE, Tags, Has, HasOwnTag, LiesIn, IsOneRecord, only, head_tag, tree_tags}
 
 -- a content
 pub scalar_is_one : (t : Tag) (c : ConstraintSet) (n : Name) (x : Content) → IsOneRecord (only t) (scalar t c n x ∷ [])
 scalar_is_one t c n x = record { item = scalar t c n x; alone = refl; no_mark = refl; within = λ _ h. h }
 
+-- the tag of a head that has it as its own
+own_tag : (t : Tag) (head : Head) → HasOwnTag t head → head_tag head ≡ t
+own_tag u (sequence t table n) at = at
+own_tag u (set t table n) at = at
+own_tag u (sequence_of t c n) at = at
+own_tag u (set_of t c n) at = at
+own_tag u (prefix t n) at = at
+own_tag u (alternative t c table n) at = absurd at
+
 -- a record that holds others, whose head has the tag
-pub scope_is_one : (t : Tag) (head : Head) (inside : List Record) → head_tag head ≡ t → IsOneRecord (only t) (holding head inside ∷ [])
+pub scope_is_one : (t : Tag) (head : Head) (inside : List Record) → HasOwnTag t head → IsOneRecord (only t) (holding head inside ∷ [])
 scope_is_one t head inside at = record {
   item = holding head inside;
   alone = refl;
   no_mark = refl;
-  within = subst (λ u. LiesIn (only u) (only t)) (sym at) (λ _ h. h);
+  within = subst (λ u. LiesIn (only u) (only t)) (sym (own_tag t head at)) (λ _ h. h);
 }
 
 -- what is in a list of one tag is that tag

@@ -56,6 +56,15 @@ head_tag (set_of t c n) = t
 head_tag (prefix t n) = t
 head_tag (alternative t c table n) = t
 
+-- the head has this tag as that of its own record, and so is no alternative
+abbrev pub HasOwnTag : Tag → Head → Type 0
+HasOwnTag u (sequence t table n) = t ≡ u
+HasOwnTag u (set t table n) = t ≡ u
+HasOwnTag u (sequence_of t c n) = t ≡ u
+HasOwnTag u (set_of t c n) = t ≡ u
+HasOwnTag u (prefix t n) = t ≡ u
+HasOwnTag u (alternative t c table n) = ⊥
+
 -- the tags with which a record can begin: its own, for a value as its bytes every tag, for a presence mark none
 abbrev pub record_tags : Record → Tags
 record_tags (scalar t c n x) = only t
@@ -77,6 +86,15 @@ first_of (among (t ∷ ts)) = t
 -- the tag with which a list begins, or the tag that stands for none where it can be any
 abbrev pub first_tag : List Record → Tag
 first_tag rs = first_of (first_tags rs)
+
+-- an alternative has the first tag of what is inside
+abbrev pub HoldsItsTag : Head → List Record → Type 0
+HoldsItsTag (sequence t table n) rs = ⊤
+HoldsItsTag (set t table n) rs = ⊤
+HoldsItsTag (sequence_of t c n) rs = ⊤
+HoldsItsTag (set_of t c n) rs = ⊤
+HoldsItsTag (prefix t n) rs = ⊤
+HoldsItsTag (alternative t c table n) rs = first_tag rs ≡ t
 
 -- The list is one record, which is no presence mark, and its first tags lie in these.
 pub record IsOneRecord (tags : Tags) (rs : List Record) : Type 0 where

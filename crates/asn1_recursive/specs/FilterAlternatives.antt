@@ -11,9 +11,10 @@ use Rattle.asn1_model.specs.Meaning.{Meaning, own_records}
 use Rattle.asn1_model.specs.contracts.strings.OctetsStringTypeU8.TheImpl.{ghosts as octets}
 use Rattle.asn1_strings.specs.contracts.strings.string_unit.U8StringUnit.TheImpl.{ghosts as octet}
 use Rattle.asn1_model.specs.Tables.{Line, Table}
+use Rattle.asn1_model.specs.WellFormed.{well_formed_append, well_formed_elements}
 use Rattle.asn1_model.specs.TaggedTypes.{tagged}
 use Rattle.asn1_model.specs.Tags.{CHOICE, context}
-use Rattle.asn1_choices.specs.Alternatives.{Alternatives, OneOf, SaysTheSame, ValueMeaning, all_of, alternative, chosen_meaning, closed, says_itself, value_meaning}
+use Rattle.asn1_choices.specs.Alternatives.{Alternatives, OneOf, SaysTheSame, ValueMeaning, all_of, alternative, chosen_meaning, closed, none_say, says_itself, value_meaning}
 use Rattle.asn1_choices.specs.ChoiceTypes.{inside_itself, itself_under, table_with_itself}
 use Rattle.asn1_types.specs.Kinds.{set_of_type}
 use Rattle.asn1_recursive.specs.declared.filter.Filter.{Filter, And', Or', Not', Present, Row_of-Filter, end_of-Filter, more_of-Filter, items-the_row-Filter}
@@ -33,21 +34,22 @@ filter_alternatives_with itself = closed (
 abbrev pub filter_table : Table Line
 filter_table = table_with_itself (codes "Filter") filter_alternatives_with
 
--- what no elements say together
-abbrev pub none_say : ValueMeaning
-none_say = record { records = []; IsOfType = ⊤; IsValid = λ _. ⊤ }
-
 -- what an element and those after it say together
 abbrev pub both_say : ValueMeaning → ValueMeaning → ValueMeaning
 both_say one rest = record {
   records = one.records ++ rest.records;
   IsOfType = one.IsOfType × rest.IsOfType;
   IsValid = λ takes. one.IsValid takes × rest.IsValid takes;
+  well_formed = λ takes valid. well_formed_append takes one.records rest.records
+      (one.well_formed takes valid.0) (rest.well_formed takes valid.1);
 }
 
 -- what a set under this tag says, by what its elements say together
 abbrev pub set_says : Tag → ValueMeaning → ValueMeaning
-set_says t elements = record elements { records = set_of_records t unconstrained (Some (codes "SET_OF")) elements.records }
+set_says t elements = record elements {
+  records = set_of_records t unconstrained (Some (codes "SET_OF")) elements.records;
+  well_formed = λ takes valid. ((tt, elements.well_formed takes valid), tt);
+}
 
 -- what the chosen alternative says of each filter
 abbrev mutual
@@ -83,6 +85,8 @@ together filters = record {
   records = flat_map (own_records inner_filter) filters;
   IsOfType = All inner_filter.IsOfType filters;
   IsValid = λ takes. All (inner_filter.IsValid takes) filters;
+  well_formed = λ takes. well_formed_elements takes (inner_filter.IsValid takes) (own_records inner_filter)
+      (λ v. inner_filter.well_formed takes v inner_filter.tag inner_filter.constraints inner_filter.name) filters;
 }
 
 each_of : {X : Type 0} (P : X → Type 0) (x : X) (xs : List X) {Rest : Type 0} → Rest ↔ All P xs → (P x × Rest) ↔ All P (x ∷ xs)
