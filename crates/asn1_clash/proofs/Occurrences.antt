@@ -130,7 +130,7 @@ pub record Neighbours (all : List Occurrence) (n i j : ℕ) : Type 0 where
 pub no_neighbours : (all : List Occurrence) → IsLeast (Neighbours all 1) None
 no_neighbours all i j h = let lt = h.within in omega arith
 
--- what stands later in order is not less
+-- what comes later in order is not less
 not_above : (all : List Occurrence) → IsSorted occurrence_cmp all → (x y : ℕ) (a b : Occurrence) → x ≤ y → y < length all → get_or all x a ≡ a → get_or all y b ≡ b →
     is_lt (occurrence_cmp b a) ≡ false
 not_above all up x y a b le lt at_x at_y =

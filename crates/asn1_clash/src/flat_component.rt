@@ -72,7 +72,7 @@ impl FlatComponent {
         self.tree.smallest_tag()
     }
 
-    /// Whether this component may stand before the other in canonical order: its smallest tag is not above the other's.
+    /// Whether this component may come before the other in canonical order: its smallest tag is not above the other's.
     pub fn is_in_order(&self, next: &FlatComponent) -> bool
         ensures { result ≡ in_order (component_seen self.now) (component_seen next.now) }
     {

@@ -78,7 +78,7 @@ fn run_length(components: &[FlatComponent]) -> usize
     }
 }
 
-// How many components stand before the first that is always there.
+// How many components come before the first that is always there.
 fn place_of_required(components: &[FlatComponent]) -> Option<usize>
     ensures { result ≡ position (λ component. not (may_be_absent component.presence)) components.now }
 {
@@ -121,7 +121,7 @@ fn occurrences_in(
     Ok(occurrences)
 }
 
-// The least pair of places that have a tag in common, from the leaves in order: an equal tag stands at neighbours.
+// The least pair of places that have a tag in common, from the leaves in order: an equal tag is at neighbours.
 fn pair_with_equal_tags(all: &[Occurrence]) -> Option<(usize, usize)>
     requires { IsSorted occurrence_cmp all.now }
     ensures { IsLeast (OccursTwice all.now) result }
@@ -144,7 +144,7 @@ fn pair_of(first: &Occurrence, second: &Occurrence) -> Option<(usize, usize)>
     }
 }
 
-// How many components stand before the first that can begin with any tag.
+// How many components come before the first that can begin with any tag.
 fn place_of_open(components: &[FlatComponent]) -> Option<usize>
     ensures { result ≡ position (λ component. is_open (component_seen component).tree) components.now }
 {
@@ -178,7 +178,7 @@ fn lesser_pair(
     }
 }
 
-// Whether the first pair stands before the second.
+// Whether the first pair comes before the second.
 fn is_less(first: (usize, usize), second: (usize, usize)) -> bool
     ensures { result ≡ pair_less first second }
 {

@@ -90,7 +90,7 @@ abbrev pub additions_of : {V : Type 0} → Extension V → List (ComponentType V
 additions_of no_marker = []
 additions_of (marker additions) = additions
 
--- how many components stand before the extension marker, where there is one
+-- how many components come before the extension marker, where there is one
 abbrev pub place_of_marker : {V : Type 0} → Extension V → ℕ → Option ℕ
 place_of_marker no_marker k = None
 place_of_marker (marker additions) k = Some k
@@ -133,7 +133,7 @@ module _ {V : Type 0} (components : Components V) where
   abbrev pub lines : Table Line
   lines = record { root = map line_of root_entries; additions = after_marker components.extension (map line_of added_entries) }
 
-  -- how many components stand before the extension marker, where there is one
+  -- how many components come before the extension marker, where there is one
   abbrev pub marker_place : Option ℕ
   marker_place = place_of_marker components.extension (length components.root)
 

@@ -23,7 +23,7 @@ pub trait FieldTable {
     fn field_at(place: usize) -> Option<Field<'static>>
         ensures { option_map entry_of result ≡ slice_get (table components) place };
 
-    /// How many fields stand before the extension marker, which are those of the root; `None` where there is no marker.
+    /// How many fields come before the extension marker, which are those of the root; `None` where there is no marker.
     fn marker_place() -> Option<usize>
         ensures { result ≡ marker_place components };
 }

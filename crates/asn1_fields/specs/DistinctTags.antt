@@ -8,13 +8,13 @@ use Rattle.asn1_model.specs.Tags.{Has, tree_tags}
 use Rattle.asn1_fields.specs.Entries.{Component, may_be_absent}
 
 -- Two types do not have distinct tags: some tag is a tag of both. A type's tags are the leaves of its tree, or every tag
--- where a choice of nothing stands anywhere in the tree.
+-- where a choice of nothing is anywhere in the tree.
 pub record ShareTag (s t : Tree) : Type 0 where
   pub tag : Tag
   pub of_first : Has (tree_tags s) tag
   pub of_second : Has (tree_tags t) tag
 
--- The same as a test: a choice of nothing stands anywhere in either tree, or they have a leaf in common.
+-- The same as a test: a choice of nothing is anywhere in either tree, or they have a leaf in common.
 abbrev pub share_tag : Tree → Tree → Bool
 share_tag s t = is_open s || is_open t || meet (leaves s) (leaves t)
 

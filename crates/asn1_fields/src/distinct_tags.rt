@@ -51,7 +51,7 @@ fn sequence_rivals<'a>(field: &Field<'_>, following: &'a [Field<'a>]) -> &'a [Fi
     }
 }
 
-// How many of the fields stand before the first that is always there.
+// How many of the fields come before the first that is always there.
 fn place_of_required(fields: &[Field<'_>]) -> Option<usize>
     ensures { result ≡ position (λ field. not (may_be_absent field.presence)) fields.now }
 {
@@ -60,7 +60,7 @@ fn place_of_required(fields: &[Field<'_>]) -> Option<usize>
         .position(|field| field.is_not_optional_or_default())
 }
 
-// How many of the others stand before the first that has a tag in common with the field.
+// How many of the others come before the first that has a tag in common with the field.
 fn place_of_clash(field: &Field<'_>, others: &[Field<'_>]) -> Option<usize>
     ensures { result ≡ position (λ other. share_tag (shape field.now.tag_tree) (shape other.tag_tree)) others.now }
 {

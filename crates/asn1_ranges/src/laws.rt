@@ -33,7 +33,7 @@ pub fn bounds_are_printed_by_ends<T: fmt::Display>()
     ensures { (a : Bounded T) → ⟦<Bounded<T> as fmt::Display>⟧.output a ≡ bound_text T.output a }
 {}
 
-/// The number that a value of a built-in integer type stands for in contracts is the value.
+/// The number that a value of a built-in integer type represents in contracts is the value.
 pub fn whole_numbers_are_their_values()
     ensures of_u8 { (n : ℕ) → ⟦<u8 as WholeNumber>⟧.number n ≡ pos n }
     ensures of_u16 { (n : ℕ) → ⟦<u16 as WholeNumber>⟧.number n ≡ pos n }

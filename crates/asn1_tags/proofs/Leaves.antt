@@ -129,7 +129,7 @@ distinct-append (x ∷ xs) ys =
     ∙ ap (λ b. not (has x xs || has x ys) && b) (distinct-append xs ys)
     ∙ shuffle (has x xs) (has x ys) (distinct xs) (distinct ys) (meet xs ys)
 
--- a walk that looks for a tag that stands twice: the tree at i, and those after it
+-- a walk that looks for a tag that occurs twice: the tree at i, and those after it
 distinct_rest : (ts : List TagTree) (i : ℕ) (d : TagTree) → i < length ts →
     distinct (leaves_of (shapes (drop i ts)))
     ≡ (distinct (leaves (shape (get_or ts i d)))
@@ -238,5 +238,5 @@ pub ruleset tree_shapes = (shape-Leaf, shape-Choice)
 -- steps of walks that look and count
 pub ruleset walks = (shape-Leaf, shape-Choice, has_more, has_at, count_more, count_upto, meet_more, meet_at)
 
--- steps of the walk that looks for a tag that stands twice
+-- steps of the walk that looks for a tag that occurs twice
 pub ruleset repeats = (shape-Leaf, shape-Choice, distinct_stop, distinct_clash, distinct_more)

@@ -16,7 +16,7 @@ use std::marker::Model;
 /// The leaves of trees in one list, from left to right, and beside it a table for quick look-ups, or none.
 ///
 /// A table has an entry for each tag of the list: the tag and its position. The entries ascend by
-/// tag, and by position where a tag stands at several places. A constructor walks the trees once.
+/// tag, and by position where a tag is at several places. A constructor walks the trees once.
 #[derive(Debug, Drop)]
 pub struct Variants {
     tags: Vec<Tag>,

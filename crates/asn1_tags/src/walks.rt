@@ -91,7 +91,7 @@ fn lesser(first: Option<Tag>, second: Option<Tag>) -> Option<Tag>
     }
 }
 
-// Whether a choice of nothing stands anywhere in the tree.
+// Whether a choice of nothing is anywhere in the tree.
 #[cycle(open)]
 #[tactic(auto, using(crate::proofs::Leaves::openings))]
 pub(crate) fn has_empty_choice(tree: &TagTree<'_>) -> bool
@@ -103,7 +103,7 @@ pub(crate) fn has_empty_choice(tree: &TagTree<'_>) -> bool
     }
 }
 
-// Whether a choice of nothing stands anywhere in one of the trees.
+// Whether a choice of nothing is anywhere in one of the trees.
 #[cycle(open)]
 #[tactic(auto, using(crate::proofs::Leaves::openings))]
 fn have_empty_choice(nodes: &[TagTree<'_>]) -> bool
@@ -141,7 +141,7 @@ fn share_leaf(nodes: &[TagTree<'_>], others: &[TagTree<'_>]) -> bool
     false
 }
 
-// Whether no tag stands at two leaves of the tree.
+// Whether no tag is at two leaves of the tree.
 #[cycle(distinct)]
 #[tactic(auto, using(crate::proofs::Leaves::repeats))]
 pub(crate) fn has_distinct_leaves(tree: &TagTree<'_>) -> bool
@@ -153,7 +153,7 @@ pub(crate) fn has_distinct_leaves(tree: &TagTree<'_>) -> bool
     }
 }
 
-// Whether no tag stands at two leaves of the trees together.
+// Whether no tag is at two leaves of the trees together.
 #[cycle(distinct)]
 #[tactic(auto, using(crate::proofs::Leaves::repeats))]
 pub(crate) fn have_distinct_leaves(nodes: &[TagTree<'_>]) -> bool

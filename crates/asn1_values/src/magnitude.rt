@@ -1,4 +1,4 @@
-//! Magnitudes: bytes, the most significant first, that stand for a number from 0 on.
+//! Magnitudes: bytes, the most significant first, that represent a number from 0 on.
 ghost use Rattle.std.specs.Prelude.{◌≡◌, ◌<◌, ◌^◌, FitsSigned};
 ghost use Rattle.std.specs.Int.{w128};
 ghost use Rattle.std.specs.Option.{SomeIff};
