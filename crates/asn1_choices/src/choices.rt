@@ -71,7 +71,8 @@ pub trait ChoiceType: AsnType + Choice {
 /// Of a value of a well tagged CHOICE, the chosen alternative is one record, which begins with one of the alternative's own
 /// tags, and no other alternative has that tag (X.680, 29.3). So a decoder knows the alternative by the next tag.
 pub fn the_chosen_tag_tells_the_alternative<T: ChoiceType>()
-    ensures { (t : Tag) (v : T) → T.meaning.IsWellTagged t → TagTellsAlternative (all_of T.alternatives) (T.pick v) }
+    ensures { (t : Tag) (v : T) → T.meaning.IsWellTagged t →
+        TagTellsAlternative (all_of T.alternatives) (T.pick v) }
 {}
 
 /// The table that records have of a CHOICE is what the calls of the type answer: the trees of the root are those of `variants`
@@ -83,5 +84,6 @@ pub fn alternatives_are_as_in_records<T: Choice>()
         added_trees_of T.alternatives }
     ensures names { map (λ l. l.name) (all_lines (table_of T.alternatives)) ≡
         names_of (all_of T.alternatives) }
-    ensures always_there { All (λ l. l.may_be_absent ≡ false) (all_lines (table_of T.alternatives)) }
+    ensures always_there { All (λ l. l.may_be_absent ≡
+        false) (all_lines (table_of T.alternatives)) }
 {}

@@ -35,7 +35,8 @@ impl FlatComponent {
 
     /// What the rules look at in a field table.
     pub fn of_fields(alloc: Global, fields: &[Field<'_>]) -> Result<Vec<FlatComponent>, AllocError>
-        ensures flattened { IfOk result (λ all. components_seen all.items ≡ map flat_component (components fields.now)) }
+        ensures flattened { IfOk result (λ all. components_seen all.items ≡
+            map flat_component (components fields.now)) }
     {
         let mut all = Vec::new(alloc);
         for field in fields {

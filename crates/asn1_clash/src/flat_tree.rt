@@ -35,7 +35,8 @@ impl FlatTree {
     /// The tree, flattened.
     pub fn of(alloc: Global, tree: &TagTree<'_>) -> Result<FlatTree, AllocError>
         ensures tags { IfOk result (λ seen. seen.tags.items ≡ leaves (shape tree.now)) }
-        ensures empty_choice { IfOk result (λ seen. seen.has_empty_choice ≡ is_open (shape tree.now)) }
+        ensures empty_choice { IfOk result (λ seen. seen.has_empty_choice ≡
+            is_open (shape tree.now)) }
         ensures flattened { IfOk result (λ seen. tree_seen seen ≡ flat (shape tree.now)) }
     {
         let leaves = Variants::new(alloc, slice::from_ref(tree))?;

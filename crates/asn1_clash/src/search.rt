@@ -46,7 +46,8 @@ pub fn find_sequence_clash(
     alloc: Global,
     components: &[FlatComponent],
 ) -> Result<Option<(usize, usize)>, AllocError>
-    ensures report { IfOk result (λ clash. clash ≡ sequence_clash (components_seen components.now)) }
+    ensures report { IfOk result (λ clash. clash ≡
+        sequence_clash (components_seen components.now)) }
     ensures least { IfOk result (IsLeast (IsSequenceClash (components_seen components.now))) }
 
     // The same of each table of which these are the flat components.
@@ -80,7 +81,8 @@ fn run_length(components: &[FlatComponent]) -> usize
 
 // How many components come before the first that is always there.
 fn place_of_required(components: &[FlatComponent]) -> Option<usize>
-    ensures { result ≡ position (λ component. not (may_be_absent component.presence)) components.now }
+    ensures { result ≡
+        position (λ component. not (may_be_absent component.presence)) components.now }
 {
     components
         .iter()
@@ -146,7 +148,8 @@ fn pair_of(first: &Occurrence, second: &Occurrence) -> Option<(usize, usize)>
 
 // How many components come before the first that can begin with any tag.
 fn place_of_open(components: &[FlatComponent]) -> Option<usize>
-    ensures { result ≡ position (λ component. is_open (component_seen component).tree) components.now }
+    ensures { result ≡
+        position (λ component. is_open (component_seen component).tree) components.now }
 {
     components.iter().position(|component| component.is_open())
 }

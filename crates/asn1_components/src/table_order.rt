@@ -17,12 +17,14 @@ use crate::field_table::FieldTable;
 pub fn tables_are_in_order<T: FieldTable>()
     ensures numbered { (place : ℕ) (entry : Entry) →
         slice_get (entries_from 0 (all_components T.components)) place ≡ Some entry → entry.index ≡ place }
-    ensures rearranged { IsPermutation (entries_from 0 (all_components T.components)) (table T.components) }
+    ensures rearranged { IsPermutation (entries_from 0 (all_components T.components))
+        (table T.components) }
     ensures counted { length (table T.components) ≡ length (all_components T.components) }
     ensures indices_differ { AllPairs (λ d e. d.index ≢ e.index) (table T.components) }
     ensures definition_order { T.components.kind ≡ is_sequence → (place : ℕ) (entry : Entry) →
         slice_get (table T.components) place ≡ Some entry → entry.index ≡ place }
     ensures as_in_records { lines T.components ≡
         parted (map line_of (table T.components)) (marker_place T.components) }
-    ensures canonical { T.components.kind ≡ is_set → IsCanonical (map component_of (root_entries T.components)) }
+    ensures canonical { T.components.kind ≡ is_set →
+        IsCanonical (map component_of (root_entries T.components)) }
 {}

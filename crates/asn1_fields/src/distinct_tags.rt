@@ -40,7 +40,8 @@ pub fn first_set_clash(fields: &[Field<'_>]) -> Option<(usize, usize)>
 
 // Of the fields that follow this one, those that must have other tags in a SEQUENCE.
 fn sequence_rivals<'a>(field: &Field<'_>, following: &'a [Field<'a>]) -> &'a [Field<'a>]
-    ensures { components result.now ≡ rivals (component_of (entry_of field.now)) (components following.now) }
+    ensures { components result.now ≡
+        rivals (component_of (entry_of field.now)) (components following.now) }
 {
     if field.is_not_optional_or_default() {
         return &[];
@@ -62,7 +63,8 @@ fn place_of_required(fields: &[Field<'_>]) -> Option<usize>
 
 // How many of the others come before the first that has a tag in common with the field.
 fn place_of_clash(field: &Field<'_>, others: &[Field<'_>]) -> Option<usize>
-    ensures { result ≡ position (λ other. share_tag (shape field.now.tag_tree) (shape other.tag_tree)) others.now }
+    ensures { result ≡
+        position (λ other. share_tag (shape field.now.tag_tree) (shape other.tag_tree)) others.now }
 {
     others.iter().position(|other| share_tag(field, other))
 }

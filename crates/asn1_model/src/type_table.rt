@@ -90,7 +90,8 @@ impl TypeTable {
         ensures tag { result.tag ≡ self.tag }
         ensures tree { result.tree ≡ self.tree }
         ensures identifier { result.identifier ≡ self.identifier }
-        ensures constraints { table_constraints result.constraints ≡ table_constraints constraints.entry }
+        ensures constraints { table_constraints result.constraints ≡
+            table_constraints constraints.entry }
     {
         TypeTable {
             constraints,

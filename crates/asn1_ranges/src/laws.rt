@@ -17,7 +17,8 @@ pub fn bounds_are_compared_by_ends<T: Ord + Hash>()
     ensures order { (a b : Bounded T) → ⟦<Bounded<T> as Ord>⟧.cmp a b ≡ bound_cmp T.cmp a b }
     ensures partial_order { (a b : Bounded T) →
         ⟦<Bounded<T> as PartialOrd>⟧.partial_cmp a b ≡ Some (⟦<Bounded<T> as Ord>⟧.cmp a b) }
-    ensures hash { (a : Bounded T) → ⟦<Bounded<T> as Hash>⟧.hash_input a ≡ bound_hash T.hash_input a }
+    ensures hash { (a : Bounded T) → ⟦<Bounded<T> as Hash>⟧.hash_input a ≡
+        bound_hash T.hash_input a }
     ensures default { (a : Bounded T) → ⟦<Bounded<T> as Default>⟧.is_default a → a ≡ Bounded.None }
 {}
 
@@ -25,7 +26,8 @@ pub fn bounds_are_compared_by_ends<T: Ord + Hash>()
 pub fn bounds_of_numbers_are_told_apart()
     ensures values { TellsApart ⟦<Bounded<i128> as PartialEq>⟧.eq }
     ensures lengths { TellsApart ⟦<Bounded<usize> as PartialEq>⟧.eq }
-    ensures clone { ClonesExactly ⟦<Bounded<i128> as Clone>⟧.is_clone ⟦<Bounded<i128> as Clone>⟧.is_infallible }
+    ensures clone { ClonesExactly ⟦<Bounded<i128> as Clone>⟧.is_clone
+        ⟦<Bounded<i128> as Clone>⟧.is_infallible }
 {}
 
 /// The text of a bound is that of its ends, with two dots between those of a range.

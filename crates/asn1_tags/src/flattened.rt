@@ -85,8 +85,10 @@ impl Variants {
         ensures list { IfOk result (λ variants. variants.tags ≡ leaves_of (shapes nodes.now)) }
         ensures table { IfOk result (λ variants. variants.table ≡ Some table.items) }
         ensures fits { IfOk result (λ _. TableFits (leaves_of (shapes nodes.now)) table.items) }
-        ensures fitting { TableFits (leaves_of (shapes nodes.now)) table.items → IsOkUnless result VariantsError.Memory }
-        ensures mismatch { (index : ℕ) → IsErrOf result (VariantsError.TableMismatch index) → FailsFirstAt (leaves_of (shapes nodes.now)) table.items index }
+        ensures fitting { TableFits (leaves_of (shapes nodes.now)) table.items →
+            IsOkUnless result VariantsError.Memory }
+        ensures mismatch { (index : ℕ) → IsErrOf result (VariantsError.TableMismatch index) →
+            FailsFirstAt (leaves_of (shapes nodes.now)) table.items index }
     {
         let tags = flatten(alloc, nodes)?;
         match tables::first_mismatch(&tags, &table) {

@@ -37,7 +37,8 @@ pub(crate) fn have_leaf(nodes: &[TagTree<'_>], tag: &Tag) -> bool
 // How many leaves the tree has, if the number fits.
 #[cycle(count)]
 fn leaf_number(tree: &TagTree<'_>) -> Option<usize>
-    ensures { let number = length (leaves (shape tree.now)) in SomeIff result (number < 2 ^ 64) number }
+    ensures { let number = length (leaves (shape tree.now)) in
+        SomeIff result (number < 2 ^ 64) number }
 {
     match tree {
         TagTree::Leaf(_) => Some(1),
@@ -48,7 +49,8 @@ fn leaf_number(tree: &TagTree<'_>) -> Option<usize>
 // How many leaves the trees have together, if the number fits.
 #[cycle(count)]
 pub(crate) fn leaf_count(nodes: &[TagTree<'_>]) -> Option<usize>
-    ensures { let number = length (leaves_of (shapes nodes.now)) in SomeIff result (number < 2 ^ 64) number }
+    ensures { let number = length (leaves_of (shapes nodes.now)) in
+        SomeIff result (number < 2 ^ 64) number }
 {
     let mut count: usize = 0;
     for node in nodes {

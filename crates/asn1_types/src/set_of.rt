@@ -131,7 +131,8 @@ impl<T: Clone> SetOf<T> {
     /// fails.
     pub fn from_slice(alloc: Global, elements: &[T]) -> Result<Self, AllocError>
         ensures clones { IfOk result (AllZip T.is_clone elements.now) }
-        ensures same { ((x y : T) → T.is_clone x y → y ≡ x) → IfOk result (λ set. set ≡ elements.now) }
+        ensures same { ((x y : T) → T.is_clone x y → y ≡ x) →
+            IfOk result (λ set. set ≡ elements.now) }
     {
         Ok(SetOf {
             elements: Vec::from_clones(alloc, elements)?,
@@ -141,7 +142,8 @@ impl<T: Clone> SetOf<T> {
     /// Clones of the elements of the array, in its order. Fails as `from_slice` does.
     pub fn from_array<const N: usize>(alloc: Global, elements: &[T; N]) -> Result<Self, AllocError>
         ensures clones { IfOk result (AllZip T.is_clone elements.now) }
-        ensures same { ((x y : T) → T.is_clone x y → y ≡ x) → IfOk result (λ set. set ≡ elements.now) }
+        ensures same { ((x y : T) → T.is_clone x y → y ≡ x) →
+            IfOk result (λ set. set ≡ elements.now) }
     {
         SetOf::from_slice(alloc, elements)
     }

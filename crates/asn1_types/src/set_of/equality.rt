@@ -33,7 +33,8 @@ fn stands_as_often<T: PartialEq>(element: &T, elements: &[T], others: &[T]) -> b
 
 /// Whether each of the elements stands as often among the others.
 fn all_stand_as_often<T: PartialEq>(elements: &[T], others: &[T]) -> bool
-    ensures { result ≡ list_all (λ element. stands_as_often T.eq elements.now others.now element) elements.now }
+    ensures { result ≡
+        list_all (λ element. stands_as_often T.eq elements.now others.now element) elements.now }
 {
     elements
         .iter()
@@ -82,5 +83,6 @@ impl<T: Eq> Hash for SetOf<T> {
 
 /// A law of sets: two of them are equal exactly if they have the same elements, each as often, in any order.
 pub fn equal_sets_have_the_same_elements<T: PartialEq>(left: &SetOf<T>, right: &SetOf<T>)
-    ensures { IsTrue (⟦<SetOf<T> as PartialEq>⟧.eq left.now right.now) ↔ SameElements T.eq left.now right.now }
+    ensures { IsTrue (⟦<SetOf<T> as PartialEq>⟧.eq left.now right.now) ↔
+        SameElements T.eq left.now right.now }
 {}
