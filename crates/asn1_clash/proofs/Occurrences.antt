@@ -246,7 +246,7 @@ IsPair p i j = (p.0 ≡ i) × (p.1 ≡ j)
 pair_alone : (p : ℕ × ℕ) → IsLeast (IsPair p) (Some p)
 pair_alone p = ((refl, refl), λ i j e. inr (e.0, let f = e.1 in omega arith))
 
--- neighbours among the first n are neighbours among the first m, where both stand among these
+-- neighbours among the first n are neighbours among the first m, where both are among these
 among : (all : List Occurrence) (n m i j : ℕ) (u : Neighbours all n i j) → u.at + 1 < m → Neighbours all m i j
 among all n m i j u lt = record {
   at = u.at;

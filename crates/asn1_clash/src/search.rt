@@ -38,7 +38,7 @@ pub fn find_set_clash(
     ))
 }
 
-/// The least pair of places whose components must have distinct tags in a SEQUENCE, and have not; `None` where there is no
+/// The least pair of places whose components share a tag although a SEQUENCE forbids it; `None` where there is no
 /// such pair (X.680, 25.6 and 25.6.1).
 ///
 /// Each run of components that may be absent, together with the component right after the run, is checked as a SET.

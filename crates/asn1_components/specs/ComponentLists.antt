@@ -50,7 +50,7 @@ abbrev pub EachMayBeAbsent : {V : Type 0} → List (ComponentType V) → Type 0
 EachMayBeAbsent [] = ⊤
 EachMayBeAbsent (c ∷ cs) = IsTrue (may_be_absent c.presence) × EachMayBeAbsent cs
 
--- each says of itself that it stands on this side
+-- each says of itself that it is on this side
 abbrev pub EachIsOn : {V : Type 0} → Side → List (ComponentType V) → Type 0
 EachIsOn side [] = ⊤
 EachIsOn side (c ∷ cs) = (c.side ≡ side) × EachIsOn side cs

@@ -22,7 +22,7 @@ Fits presence tree rs = BeginsWithin (tree_tags tree) rs ⊎ (IsTrue (may_be_abs
 -- A component of the values V.
 pub record ComponentType (V : Type 0) : Type 1 where
   pub name : List ℕ
-  -- where it stands, as its presence marks say
+  -- where it is in its definition, as its presence marks say
   pub side : Side
   pub presence : FieldPresence
   -- the tag under which it is written, and the tags with which it can begin

@@ -137,7 +137,7 @@ module _ {V : Type 0} (components : Components V) where
   abbrev pub marker_place : Option ℕ
   marker_place = place_of_marker components.extension (length components.root)
 
-  -- each component is written as it stands, in the root or among the additions, which may be absent at will
+  -- each component is written where it is defined, in the root or among the additions, which may be absent at will
   abbrev pub AreInPlace : Type 0
   AreInPlace = EachIsOn in_root components.root × EachIsOn in_additions added ×
       EachMayBeAbsent added
@@ -175,7 +175,7 @@ group name get components = record (group_of name get (lines components) (all_co
 }
 
 -- The law of a type of components: its meaning is that of these. A value is always there, begins with the tag of the type,
--- and holds the records of theirs; it is well tagged if and only if they can stand together; and what a value has by its type, and
+-- and holds the records of theirs; it is well tagged if and only if they can be together; and what a value has by its type, and
 -- whether it is valid, is what they have and are.
 pub record AgreesWithComponents {V : Type 0} (components : Components V) (m : Meaning V) : Type 0 where
   pub tree : (t : Tag) → m.tree t ≡ leaf t

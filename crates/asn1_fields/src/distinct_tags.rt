@@ -6,7 +6,7 @@ ghost use Rattle.asn1_fields.specs.Entries.{component_of, components, entry_of, 
 
 use crate::field::Field;
 
-/// The least pair of places whose fields must have distinct tags in a SEQUENCE, and have not; `None` where there is
+/// The least pair of places whose fields share a tag although a SEQUENCE forbids it; `None` where there is
 /// no such pair (X.680, 25.6 and 25.6.1).
 ///
 /// The first of the two may be absent. The second is after it, up to and including the next field that is always

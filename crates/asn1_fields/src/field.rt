@@ -10,7 +10,7 @@ use asn1_tags::{Tag, TagTree};
 
 /// A line of a field table: what is known of a component of a SEQUENCE or a SET before any value is.
 ///
-/// Fields are ordered by their parts, as these stand here.
+/// Fields are ordered by their parts, in the order of this list.
 #[derive(Clone, Copy, PartialEq, Eq, PartialOrd, Ord, Debug)]
 pub struct Field<'a> {
     /// The place of the component in the definition of its type.

@@ -29,7 +29,7 @@ prefix_records t n rs = holding (prefix t n) rs ∷ []
 abbrev pub alternative_records : Tag → ConstraintSet → Table Line → Name → List Record → List Record
 alternative_records chosen c table n rs = holding (alternative chosen c table n) rs ∷ []
 
--- A CHOICE has no tag. Under the tag that stands for none it is its alternative. Under any other it is that under an
+-- A CHOICE has no tag. Under the CHOICE marker tag it is its alternative. Under any other it is that under an
 -- explicit tag, with its own constraints and name inside (X.680, 31.2.7 c).
 abbrev pub choice_records : Tag → Table Line → List Record → ConstraintSet → Name → Tag →
     ConstraintSet → Name → List Record

@@ -172,7 +172,7 @@ abbrev pub list_type : {V W : Type 0} → (W → List V) → ConstraintSet → M
 list_type elements constraints =
     elements_type sequence_of (λ _ _ _. refl) (universal 16) (codes "SEQUENCE_OF") constraints elements
 
--- A SEQUENCE OF so many elements.
+-- A SEQUENCE OF this many elements.
 abbrev pub array_type : {V : Type 0} → ℕ → Meaning V → Meaning (List V)
 array_type size m = record (list_type (λ elements. elements) (size_of size) m) {
   IsOfType = λ elements. (length elements ≡ size) × All m.IsOfType elements;

@@ -2,7 +2,7 @@
 use Rattle.std.specs.Prelude.{◌≡◌, Bool, true, false, IsPermutation}
 use Rattle.asn1_model.specs.Records.{Record, Records, scope, none, more, listed, Head, sequence, set, sequence_of, set_of, prefix, alternative}
 
--- the order of what stands in it means nothing: the components of a SET, the elements of a SET OF (X.680, 27 and 28)
+-- the order of what is in it means nothing: the components of a SET, the elements of a SET OF (X.680, 27 and 28)
 abbrev pub is_unordered : Head → Bool
 is_unordered (sequence t table n) = false
 is_unordered (set t table n) = true

@@ -28,7 +28,7 @@ pub data StringKind : Type 0 where
 
 -- What is in a record that holds no others (X.680, 18 to 24, 32 and 41). Each kind of type has contents of its own:
 -- an INTEGER and an ENUMERATED of one number differ, and so do two strings of the same units and different kinds. The number
--- of an ENUMERATED value stands beside the labels of its type.
+-- of an ENUMERATED value is beside the labels of its type.
 pub data Content : Type 0 where
   null : Content
   truth : Bool → Content
@@ -40,7 +40,7 @@ pub data Content : Type 0 where
 
 -- What a record is that holds others, apart from these (X.680, 25 to 31): the components of a SEQUENCE or a SET in the
 -- order of their definition, the elements of a SEQUENCE OF or a SET OF, what follows an explicit tag, or the
--- chosen alternative of a CHOICE, whose tag is that of the alternative. Components and alternatives stand beside the table of
+-- chosen alternative of a CHOICE, whose tag is that of the alternative. Components and alternatives are beside the table of
 -- their type.
 pub data Head : Type 0 where
   sequence : Tag → Table Line → Name → Head
@@ -50,7 +50,7 @@ pub data Head : Type 0 where
   prefix : Tag → Name → Head
   alternative : Tag → ConstraintSet → Table Line → Name → Head
 
--- Where a component stands in its definition: in the root, or among the additions (X.680, 25.1).
+-- Where a component is in its definition: in the root, or among the additions (X.680, 25.1).
 pub data Side : Type 0 where
   in_root : Side
   in_additions : Side
@@ -91,7 +91,7 @@ listed (more r rs) = r ∷ listed rs
 abbrev pub holding : Head → List Record → Record
 holding h rs = scope h (held rs)
 
--- How many records are in one another: none in a content, and one more than in the highest of those that it holds.
+-- How deeply records are nested: not at all in a content, and one deeper than the highest of those that it holds.
 abbrev mutual
   pub height : Record → ℕ
   height (scalar t c n x) = 0

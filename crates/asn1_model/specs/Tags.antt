@@ -14,11 +14,11 @@ universal n = record { class = Universal; value = n }
 abbrev pub context : ℕ → Tag
 context n = record { class = Context; value = n }
 
--- the tag that stands for none: a CHOICE under it is untagged
+-- the CHOICE marker tag: a CHOICE under it is untagged
 abbrev pub CHOICE : Tag
 CHOICE = universal 0
 
--- the tag is one that a type can have, and not the one that stands for none
+-- the tag is one that a type can have, and not the CHOICE marker tag
 abbrev pub IsATag : Tag → Type 0
 IsATag t = tag_eq t CHOICE ≡ false
 
@@ -77,13 +77,13 @@ abbrev pub first_tags : List Record → Tags
 first_tags [] = among []
 first_tags (r ∷ rs) = if is_mark r then first_tags rs else record_tags r
 
--- the first of a list of tags, or the tag that stands for none
+-- the first of a list of tags, or the CHOICE marker tag
 abbrev pub first_of : Tags → Tag
 first_of every = CHOICE
 first_of (among []) = CHOICE
 first_of (among (t ∷ ts)) = t
 
--- the tag with which a list begins, or the tag that stands for none where it can be any
+-- the tag with which a list begins, or the CHOICE marker tag where it can be any
 abbrev pub first_tag : List Record → Tag
 first_tag rs = first_of (first_tags rs)
 

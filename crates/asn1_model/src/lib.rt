@@ -31,8 +31,8 @@
 //! - `specs/Records.antt` has the records, marks and heights; `specs/Tables.antt` the table of a type that records carry
 //!   beside a value; `specs/Tags.antt` the first tags of a list of records and the tags of a tree; `specs/Orders.antt` what
 //!   it is to be the same up to order; `specs/WellFormed.antt` what it is to be well formed; `specs/ConstraintSets.antt` a
-//!   set of constraints apart from where it lies in memory; `specs/TypeTables.antt` the tree of tags that a table stands
-//!   for.
+//!   set of constraints apart from where it lies in memory; `specs/TypeTables.antt` the tree of tags that a table
+//!   means.
 //! - `specs/Composites.antt` has the records of what is put together of parts, a word for each: `sequence_records`,
 //!   `option_records`, `group_records` and their kin. `specs/Meaning.antt` says what a meaning is, and `specs/Kinds.antt`
 //!   has that of each kind of type: `scalar_type`, `list_type`, `option_type` and so on. `specs/OneRecord.antt` has what

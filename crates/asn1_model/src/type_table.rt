@@ -13,7 +13,7 @@ use asn1_tags::{Identifier, Tag, TagTree};
 pub enum TreeForm {
     /// That tag alone.
     Leaf,
-    /// The alternatives of a CHOICE: their tags under [`Tag::CHOICE`], which stands for no tag; under any other that one.
+    /// The alternatives of a CHOICE: their tags under the marker [`Tag::CHOICE`]; under any other tag that one.
     Choice(&'static [TagTree<'static>]),
     /// Every tag, whatever the type is written under: an open type.
     Open,

@@ -207,7 +207,7 @@ second_false false b h = h
 second_false true b h = cc
 
 mutual
-  -- a tree in which no choice of nothing stands has a leaf
+  -- a tree without a choice of nothing in it has a leaf
   pub leaf_of : (t : Tree) → is_open t ≡ false → (tag : Tag) × Contains (leaves t) tag
   leaf_of (leaf t) shut = (t, (0, omega arith, refl))
   leaf_of (choice ts) shut = leaf_of_some ts (first_false (is_nothing ts) (is_any_open ts) shut) (second_false (is_nothing ts) (is_any_open ts) shut)

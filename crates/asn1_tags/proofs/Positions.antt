@@ -113,7 +113,7 @@ position_of-some t ts h =
     let e = some_there (λ s. tag_eq s t) ts h in
     grind (arith, nat_tests)
 
--- and stands there
+-- and is there
 pub slice_get-position : (t : Tag) (ts : List Tag) → has t ts ≡ true → slice_get ts (position_or_len (λ s. tag_eq s t) ts) ≡ Some t
 slice_get-position t ts h =
     let q : Tag → Bool = λ s. tag_eq s t in

@@ -36,7 +36,7 @@ any_type bytes = record {
   well_formed = λ takes v t c n valid. (valid, tt);
 }
 
--- A type under another tag, which replaces its own (X.680, 31). The tag is not the one that stands for none, and a value
+-- A type under another tag, which replaces its own (X.680, 31). The tag is not the CHOICE marker tag, and a value
 -- of the content begins with it alone: so the content is no open type.
 abbrev pub implicit_type : {V W : Type 0} → Tag → (W → V) → Meaning V → Meaning W
 implicit_type tag content m = record {
@@ -62,7 +62,7 @@ implicit_type tag content m = record {
       };
 }
 
--- A type after another tag, which stands before its own (X.680, 31). The tag is not the one that stands for none.
+-- A type after another tag, which comes before its own (X.680, 31). The tag is not the CHOICE marker tag.
 abbrev pub explicit_type : {V W : Type 0} → Tag → (W → V) → Meaning V → Meaning W
 explicit_type tag content m =
     scope_type (λ t c n. prefix t n) (λ _ _ _. refl) tag unconstrained None (record {

@@ -1,16 +1,16 @@
-//! The types of ASN.1 that stand on others: sets of values, open types, tagged types and INSTANCE OF.
+//! The types of ASN.1 that are made of others: sets of values, open types, tagged types and INSTANCE OF.
 //!
-//! A type means the same here as in the crate `asn1_model`, whose names this one hands on: its tables say what a schema
+//! A type means the same here as in the crate `asn1_model`, whose names this one re-exports: its tables say what a schema
 //! knows of it, and its values are records, which every codec writes and reads.
 //!
 //! | Type | What it is | Contracts see |
 //! |---|---|---|
-//! | [`SetOf`] | a SET OF: elements, each as often as it stands there, in no order | the list of its elements |
+//! | [`SetOf`] | a SET OF: elements in no order, each as often as it occurs | the list of its elements |
 //! | [`SequenceOf`] | a SEQUENCE OF: a vector | the list of its elements |
-//! | [`Array`] | a SEQUENCE OF so many elements: an array, in a struct of its own | its field |
+//! | [`Array`] | a SEQUENCE OF this many elements: an array, in a struct of its own | its field |
 //! | [`Any`] | a value of an open type, as the bytes that a codec makes of it | the list of its bytes |
 //! | [`Implicit`] | a value under another tag, which replaces its own | its fields |
-//! | [`Explicit`] | a value under another tag, which stands before its own | its fields |
+//! | [`Explicit`] | a value under another tag, which comes before its own | its fields |
 //! | [`InstanceOf`] | the name of a type, and a value of that type | its fields |
 //! | [`AsnType`], [`TypeTable`], [`TreeForm`], [`StringType`], [`tag`] | what a type means, and the law of types: of `asn1_model` | |
 //! | [`Tag`], [`Class`], [`TagTree`], [`Identifier`] | tags, trees of tags and names: of `asn1_tags` | |

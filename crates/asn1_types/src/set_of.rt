@@ -15,7 +15,7 @@ use std::alloc::{AllocError, Global};
 use std::marker::Model;
 use std::slice::Iter;
 
-/// Elements in no order, each as often as it stands there.
+/// Elements in no order, each as often as it occurs.
 ///
 /// Contracts see it as the list of its elements, in the order in which `from_vec` and `insert` put them. Two sets are
 /// equal if they have the same elements, each as often, in any order. To find that out each element is counted in both
@@ -54,7 +54,7 @@ impl<T> SetOf<T> {
         SetOf { elements }
     }
 
-    /// No elements, and room for so many, of which no contract speaks. Fails only where the allocator refuses the room.
+    /// No elements, and room for this many, of which no contract speaks. Fails only where the allocator refuses the room.
     pub fn with_capacity(alloc: Global, capacity: usize) -> Result<Self, AllocError>
         ensures empty { IfOk result (λ set. set ≡ []) }
         ensures no_room { capacity ≡ 0 → IsOk result }

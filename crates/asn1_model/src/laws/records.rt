@@ -132,7 +132,7 @@ pub fn strings_have_their_records<
 {}
 
 /// A law of what holds values: a list is a record of the records of its elements, in their order; an option is a presence
-/// mark, and what it holds; a box and its kin are what they hold.
+/// mark, and what it holds; a box and the like are what they hold.
 pub fn holders_have_the_records_of_their_contents<'a, T: AsnType + 'a, const N: usize>(
     _vec: &Vec<T>,
     _slice: &'a [T],
