@@ -12,6 +12,7 @@ ghost use Rattle.asn1_model.specs.Orders.{Same};
 ghost use Rattle.asn1_model.specs.Records.{Record, scalar, raw, mark, holding, sequence, set as set_head, set_of, sequence_of, prefix, alternative, in_root, present, absent, group_start, group_absent, group_end, null, number, discriminant, units, utf8, visible, ia5, highest};
 ghost use Rattle.asn1_model.specs.Tables.{no_table};
 ghost use Rattle.asn1_model.specs.Tags.{universal, context, CHOICE, every, among, only, first_tags};
+ghost use Rattle.asn1_model.specs.WellFormed.{AreWellFormed};
 
 use asn1_bounds::{Bounded, ConstraintTable, Constraints, Size};
 use asn1_model::{AsnType, TypeTable, tag};
@@ -189,6 +190,22 @@ fn firsts()
     ensures under_a_tag { first_tags (mark (present in_root (context 0)) ∷
         prefix_records (context 0) None (sequence_records (universal 16) no_table None (mark group_absent ∷ []))) ≡ only (context 0) }
     ensures chosen { first_tags (holding (alternative (context 2) unconstrained no_table None) [] ∷ []) ≡ only (context 2) }
+{}
+
+/// Well-formed records: an open type holds bytes that the codec takes, and an alternative the first tag of what is inside, also
+/// within other records. Of contents and presence marks nothing is asked.
+fn well_formed_records()
+    ensures contents { (takes : List ℕ → Bool) →
+        AreWellFormed takes (scalar (context 0) unconstrained None null ∷ mark group_absent ∷ []) }
+    ensures taken { AreWellFormed (λ bytes. true) (raw None (0 ∷ []) ∷ []) }
+    ensures not_taken { ¬ AreWellFormed (λ bytes. false)
+        (prefix_records (context 0) None (raw None (0 ∷ []) ∷ [])) }
+    ensures chosen { (takes : List ℕ → Bool) →
+        AreWellFormed takes (holding (alternative (context 2) unconstrained no_table None)
+        (scalar (context 2) unconstrained None null ∷ []) ∷ []) }
+    ensures another { (takes : List ℕ → Bool) →
+        ¬ AreWellFormed takes (holding (alternative (context 1) unconstrained no_table None)
+        (scalar (context 2) unconstrained None null ∷ []) ∷ []) }
 {}
 
 /// Asserts what the tables of a type say: its tag, its name, and the text of its constraints.
