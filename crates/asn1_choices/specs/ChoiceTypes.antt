@@ -30,15 +30,16 @@ choice_by name table alternatives CanChoose means is_among = choice_type (Some n
     (record { table = table; alternatives = alternatives; among = is_among })
 
 module _ {V : Type 0} (name : List ℕ) (alts : Alternatives) (pick : V → OneOf (all_of alts)) where
-  -- A CHOICE that holds itself: its author says by recursion on a value what the chosen alternative says of it.
-  abbrev pub choice_holding_itself : (means : V → ValueMeaning) → ((v : V) → SaysTheSame (means v) (chosen_meaning (all_of alts) (pick v))) → Meaning V
-  choice_holding_itself means agree = choice_by name (table_of alts) (trees_of (all_of alts))
+  -- A CHOICE of these alternatives, by what is said of each value, which is what the chosen one says.
+  abbrev pub choice_saying : (means : V → ValueMeaning) →
+      ((v : V) → SaysTheSame (means v) (chosen_meaning (all_of alts) (pick v))) → Meaning V
+  choice_saying means agree = choice_by name (table_of alts) (trees_of (all_of alts))
       (Each CanBeChosen (all_of alts)) means
       (λ can v. subst (λ rs. Has (tree_tags (choice (trees_of (all_of alts)))) (first_tag rs)) (sym (agree v).records) (chosen_is_among (all_of alts) can (pick v)))
 
-  -- Any other CHOICE of these alternatives, by which of them a value is.
+  -- the same by which of them a value is
   abbrev pub choice_of : Meaning V
-  choice_of = choice_holding_itself (λ v. chosen_meaning (all_of alts) (pick v)) (λ _. says_itself)
+  choice_of = choice_saying (λ v. chosen_meaning (all_of alts) (pick v)) (λ _. says_itself)
 
 -- What a CHOICE that holds itself is to its own alternatives, where nothing is asked of it. There it has to be under a tag:
 -- without one it may begin with every tag, and so is no alternative.
@@ -50,6 +51,21 @@ inside_itself name table means = choice_by name table none ⊤ means (λ _ _. tt
 abbrev pub table_with_itself : {V : Type 0} → List ℕ → (Meaning V → Alternatives) → Table Line
 table_with_itself name alternatives_with =
     table_of (alternatives_with (inside_itself name no_table (λ _. none_say)))
+
+-- The alternatives of a CHOICE that holds itself, by what its author says of each value, by recursion on it.
+abbrev pub alternatives_with_itself : {V : Type 0} → List ℕ → (Meaning V → Alternatives) →
+    (V → ValueMeaning) → Alternatives
+alternatives_with_itself name alternatives_with means =
+    alternatives_with (inside_itself name (table_with_itself name alternatives_with) means)
+
+-- And this is what it means to all others.
+abbrev pub choice_holding_itself : {V : Type 0} (name : List ℕ)
+    (alternatives_with : Meaning V → Alternatives) (means : V → ValueMeaning)
+    (pick : V → OneOf (all_of (alternatives_with_itself name alternatives_with means))) →
+    ((v : V) → SaysTheSame (means v)
+    (chosen_meaning (all_of (alternatives_with_itself name alternatives_with means)) (pick v))) → Meaning V
+choice_holding_itself name alternatives_with means pick agree =
+    choice_saying name (alternatives_with_itself name alternatives_with means) pick means agree
 
 -- what the alternative that is the CHOICE itself, under this tag, says of a value, by what the CHOICE says of it
 abbrev pub itself_under : List ℕ → Table Line → Tag → ValueMeaning → ValueMeaning
@@ -77,7 +93,7 @@ pub record AgreesWithChoice {V : Type 0} (alts : Alternatives) (pick : V → One
 -- so for a CHOICE that holds itself
 pub itself_agrees : {V : Type 0} {name : List ℕ} {alts : Alternatives} {pick : V → OneOf (all_of alts)} {means : V → ValueMeaning} →
     (agree : (v : V) → SaysTheSame (means v) (chosen_meaning (all_of alts) (pick v))) →
-    AgreesWithChoice alts pick (choice_holding_itself name alts pick means agree)
+    AgreesWithChoice alts pick (choice_saying name alts pick means agree)
 itself_agrees {name = name} {alts = alts} agree = record {
   tag = refl;
   tree = λ _. refl;

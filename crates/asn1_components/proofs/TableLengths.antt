@@ -2,7 +2,6 @@
 use Rattle.std.proofs.Common.{◌≡◌, ℕ, suc, ◌+◌, Bool, true, false, cond, List, [], ◌∷◌, ◌++◌, drop, length, map, take, None, Some, refl, sym, ap, ◌∙◌, append-nil, length-append, arith}
 use Rattle.std.proofs.lemmas.List.{length-map, map-append}
 use Rattle.std.proofs.Math.Seq.{drop-append_seam, take-append_seam}
-use Rattle.asn1_model.specs.Tables.{Line, Table}
 use Rattle.asn1_components.specs.ComponentLists.{entries_from}
 use Rattle.asn1_components.specs.Components.{Components, Extension, Kind, is_sequence, is_set, added, all_components, lines, marker, marker_place, no_marker, parted, in_canonical_order, put_in_order, table, table_in}
 use Rattle.asn1_components.specs.ComponentTypes.{ComponentType}

@@ -5,7 +5,7 @@ use Rattle.std.specs.Option.{option_map}
 use Rattle.asn1_tags.specs.Tags.{distinct}
 use Rattle.asn1_tags.specs.Trees.{Tree, Trees, choice, leaves, none, more}
 use Rattle.asn1_model.specs.Composites.{group_records}
-use Rattle.asn1_model.specs.Records.{Record, Side, mark, in_additions, group_start, group_end, group_absent, marks_alone}
+use Rattle.asn1_model.specs.Records.{Record, Side, mark, group_start, group_end, group_absent, marks_alone}
 use Rattle.asn1_model.specs.WellFormed.{AreWellFormed, well_formed_append}
 use Rattle.asn1_model.specs.Tables.{Line, Table}
 use Rattle.asn1_model.specs.Tags.{CHOICE, BeginsWithin, LiesIn, tree_tags, first_tags}
@@ -50,10 +50,10 @@ abbrev pub EachMayBeAbsent : {V : Type 0} → List (ComponentType V) → Type 0
 EachMayBeAbsent [] = ⊤
 EachMayBeAbsent (c ∷ cs) = IsTrue (may_be_absent c.presence) × EachMayBeAbsent cs
 
--- each says of itself that it is on this side
-abbrev pub EachIsOn : {V : Type 0} → Side → List (ComponentType V) → Type 0
-EachIsOn side [] = ⊤
-EachIsOn side (c ∷ cs) = (c.side ≡ side) × EachIsOn side cs
+-- each can be on this side
+abbrev pub EachCanBeOn : {V : Type 0} → Side → List (ComponentType V) → Type 0
+EachCanBeOn side [] = ⊤
+EachCanBeOn side (c ∷ cs) = c.CanBeOn side × EachCanBeOn side cs
 
 -- no tag is twice in the tree of one of them, as it could be in that of a group
 abbrev pub EachTreeIsDistinct : {V : Type 0} → List (ComponentType V) → Type 0
@@ -143,12 +143,12 @@ group_fits table cs can (Some w) =
     record { some = some; within = begins_with_one cs can w some })
 
 -- A group of additions (X.680, 25.1, "ExtensionAdditionGroup"): it has the tags of all of its components, and one that is
--- there writes a component. It has a table of its own.
+-- there writes a component. It has a table of its own. Its marks say no side, so it can also be inside another group.
 abbrev pub group_of : {V W : Type 0} → List ℕ → (V → Option W) → Table Line →
     List (ComponentType W) → ComponentType V
 group_of name get table cs = record {
   name = name;
-  side = in_additions;
+  CanBeOn = λ _. ⊤;
   presence = Optional;
   tag = CHOICE;
   tree = choice (trees_of cs);

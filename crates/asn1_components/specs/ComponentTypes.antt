@@ -22,8 +22,8 @@ Fits presence tree rs = BeginsWithin (tree_tags tree) rs ⊎ (IsTrue (may_be_abs
 -- A component of the values V.
 pub record ComponentType (V : Type 0) : Type 1 where
   pub name : List ℕ
-  -- where it is in its definition, as its presence marks say
-  pub side : Side
+  -- it can be on this side of its definition, as its presence marks say
+  pub CanBeOn : Side → Type 0
   pub presence : FieldPresence
   -- the tag under which it is written, and the tags with which it can begin
   pub tag : Tag
@@ -44,7 +44,7 @@ pub record ComponentType (V : Type 0) : Type 1 where
 abbrev pub required : {V W : Type 0} → List ℕ → (V → W) → TaggedType W → ComponentType V
 required name get type = record {
   name = name;
-  side = in_root;
+  CanBeOn = λ side. side ≡ in_root;
   presence = Required;
   tag = type.tag;
   tree = type.tree;
@@ -69,7 +69,7 @@ abbrev pub optional_in : {V W : Type 0} → Side → List ℕ → (V → Option 
     ComponentType V
 optional_in side name get type = record {
   name = name;
-  side = side;
+  CanBeOn = λ other. other ≡ side;
   presence = Optional;
   tag = type.tag;
   tree = type.tree;
@@ -110,7 +110,7 @@ abbrev pub default_in : {V W : Type 0} → Side → List ℕ → (V → W) → (
     ComponentType V
 default_in side name get is_default type = record {
   name = name;
-  side = side;
+  CanBeOn = λ other. other ≡ side;
   presence = Default;
   tag = type.tag;
   tree = type.tree;

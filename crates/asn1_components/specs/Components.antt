@@ -6,13 +6,12 @@ use Rattle.asn1_tags.specs.Trees.{leaf}
 use Rattle.asn1_model.specs.ConstraintSets.{ConstraintSet, unconstrained}
 use Rattle.asn1_model.specs.Kinds.{Inside, scope_type}
 use Rattle.asn1_model.specs.Meaning.{Meaning}
-use Rattle.asn1_model.specs.WellFormed.{AreWellFormed}
 use Rattle.asn1_model.specs.Records.{Name, Record, Head, in_additions, in_root, sequence as sequence_head, set as set_head, holding}
 use Rattle.asn1_model.specs.Tables.{Line, Table, no_table}
 use Rattle.asn1_model.specs.Tags.{IsATag, HasOwnTag, universal}
 use Rattle.asn1_fields.specs.CanonicalOrder.{in_order}
 use Rattle.asn1_fields.specs.Entries.{Entry, component_of, line_of}
-use Rattle.asn1_components.specs.ComponentLists.{all_records, entries_from, EachCanStandInside, EachIsOn, EachMayBeAbsent, EachIsOfType, EachIsValid, all_well_formed, AreDistinctInSequence, AreDistinctInSet, CanBeInSequence, group_fits, group_of}
+use Rattle.asn1_components.specs.ComponentLists.{all_records, entries_from, EachCanStandInside, EachCanBeOn, EachMayBeAbsent, EachIsOfType, EachIsValid, all_well_formed, AreDistinctInSequence, AreDistinctInSet, CanBeInSequence, group_fits, group_of}
 use Rattle.asn1_components.specs.ComponentTypes.{ComponentType}
 
 -- A SEQUENCE (X.680, 25) or a SET (27); a group is a SEQUENCE here.
@@ -139,7 +138,7 @@ module _ {V : Type 0} (components : Components V) where
 
   -- each component is written where it is defined, in the root or among the additions, which may be absent at will
   abbrev pub AreInPlace : Type 0
-  AreInPlace = EachIsOn in_root components.root × EachIsOn in_additions added ×
+  AreInPlace = EachCanBeOn in_root components.root × EachCanBeOn in_additions added ×
       EachMayBeAbsent added
 
   -- The type of each component can be there, each is in its place, and tags are distinct.
@@ -170,7 +169,7 @@ constructed_type name components = constructed_type_under components (tag_of com
 abbrev pub group : {V W : Type 0} → List ℕ → (V → Option W) → Components W → ComponentType V
 group name get components = record (group_of name get (lines components) (all_components components)) {
   CanStandInside = CanBeInSequence (all_components components) × (components.kind ≡ is_sequence) ×
-      (has_marker components.extension ≡ false) × EachIsOn in_root components.root;
+      (has_marker components.extension ≡ false) × EachCanBeOn in_root components.root;
   fits = λ can v. group_fits (lines components) (all_components components) can.0.0 (get v);
 }
 
@@ -207,8 +206,7 @@ holding_type name kind table inside =
     unconstrained (Some name) inside
 
 -- A type that holds itself. Its components speak of it, so what is inside its values is said first, by recursion over
--- these. This is what it means to its own components, of which nothing is asked there. The table is that of the
--- components (`table_with_itself`).
+-- these. This is what it means to its own components, where nothing is asked of it.
 abbrev pub inside_itself : {V : Type 0} → List ℕ → Kind → Table Line → Inside V → Meaning V
 inside_itself name kind table inside =
     holding_type name kind table (record inside { CanStandInside = ⊤ })
@@ -229,7 +227,13 @@ abbrev pub table_with_itself : {V W : Type 0} → List ℕ → Kind → (Meaning
 table_with_itself name kind components_with =
     lines (components_with (inside_itself name kind no_table nothing))
 
--- And this is what it means to all others, with its components, which speak of it by the word above.
+-- Its components, which speak of it by the words above.
+abbrev pub components_with_itself : {V : Type 0} → List ℕ → Kind → (Meaning V → Components V) →
+    Inside V → Components V
+components_with_itself name kind components_with inside =
+    components_with (inside_itself name kind (table_with_itself name kind components_with) inside)
+
+-- And this is what it means to all others.
 abbrev pub holding_itself : {V : Type 0} → List ℕ → Inside V → Components V → Meaning V
 holding_itself name inside components =
     holding_type name components.kind (lines components)

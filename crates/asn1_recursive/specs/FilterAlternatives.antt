@@ -15,7 +15,7 @@ use Rattle.asn1_model.specs.WellFormed.{well_formed_append, well_formed_elements
 use Rattle.asn1_model.specs.TaggedTypes.{tagged}
 use Rattle.asn1_model.specs.Tags.{CHOICE, context}
 use Rattle.asn1_choices.specs.Alternatives.{Alternatives, OneOf, SaysTheSame, ValueMeaning, all_of, alternative, chosen_meaning, closed, none_say, says_itself, value_meaning}
-use Rattle.asn1_choices.specs.ChoiceTypes.{inside_itself, itself_under, table_with_itself}
+use Rattle.asn1_choices.specs.ChoiceTypes.{alternatives_with_itself, inside_itself, itself_under, table_with_itself}
 use Rattle.asn1_types.specs.Kinds.{set_of_type}
 use Rattle.asn1_recursive.specs.declared.filter.Filter.{Filter, And', Or', Not', Present, Row_of-Filter, end_of-Filter, more_of-Filter, items-the_row-Filter}
 
@@ -71,7 +71,7 @@ abbrev pub inner_filter : Meaning Filter
 inner_filter = inside_itself (codes "Filter") filter_table filter_means
 
 abbrev pub filter_alternatives : Alternatives
-filter_alternatives = filter_alternatives_with inner_filter
+filter_alternatives = alternatives_with_itself (codes "Filter") filter_alternatives_with filter_means
 
 abbrev pub filter_pick : Filter → OneOf (all_of filter_alternatives)
 filter_pick (And' shape filters) = inl (items-the_row-Filter _ filters)

@@ -8,7 +8,7 @@ use Rattle.asn1_model.specs.Meaning.{Meaning}
 use Rattle.asn1_model.specs.Tables.{Line, Table}
 use Rattle.asn1_model.specs.TaggedTypes.{tagged, untagged}
 use Rattle.asn1_choices.specs.Alternatives.{Alternatives, OneOf, SaysTheSame, ValueMeaning, all_of, alternative, closed, chosen_meaning, says_itself, value_meaning}
-use Rattle.asn1_choices.specs.ChoiceTypes.{inside_itself, itself_under, table_with_itself}
+use Rattle.asn1_choices.specs.ChoiceTypes.{alternatives_with_itself, itself_under, table_with_itself}
 use Rattle.asn1_recursive.specs.declared.nested.Nested.{Nested, Null, Flag, Inner'}
 
 -- the alternatives, beside what a value inside another is to them
@@ -29,8 +29,7 @@ nested_means (Inner' p inner) = itself_under (codes "Nested") nested_table (cont
     (nested_means inner)
 
 abbrev pub nested_alternatives : Alternatives
-nested_alternatives = nested_alternatives_with
-    (inside_itself (codes "Nested") nested_table nested_means)
+nested_alternatives = alternatives_with_itself (codes "Nested") nested_alternatives_with nested_means
 
 abbrev pub nested_pick : Nested → OneOf (all_of nested_alternatives)
 nested_pick Null = inl tt

@@ -10,7 +10,7 @@ use Rattle.std.specs.declared.alloc.Global.{Global}
 use Rattle.std.specs.declared.string.String.{String}
 use Rattle.asn1_components.proofs.HeldInside.{all_own_and_inside}
 use Rattle.asn1_components.specs.ComponentLists.{all_well_formed}
-use Rattle.asn1_components.specs.Components.{AgreesWithComponents, Components, all_components, component_records, head_in, holding_itself, inside_itself, is_sequence, sequence, table_with_itself}
+use Rattle.asn1_components.specs.Components.{AgreesWithComponents, Components, all_components, component_records, components_with_itself, head_in, holding_itself, inside_itself, is_sequence, sequence, table_with_itself}
 use Rattle.asn1_components.specs.ComponentTypes.{optional, required}
 use Rattle.asn1_recursive.specs.declared.node.Node.{Node, Node-F, out-Node, fold-Node, fold_out-Node}
 use Rattle.asn1_model.specs.Composites.{list_records, option_records}
@@ -55,7 +55,7 @@ written_child = inside_itself (codes "Node") is_sequence node_table (record {
 })
 
 -- each label is valid, and so is each child
-label_is_valid : (takes : List ℕ → Bool) (label : Option (String Global)) →
+pub label_is_valid : (takes : List ℕ → Bool) (label : Option (String Global)) →
     IfSome label (text.IsValid takes)
 label_is_valid takes None = tt
 label_is_valid takes (Some _) = tt
@@ -93,9 +93,9 @@ node_is_of_type n = All (λ label. IfSome label text.IsOfType) (labels n)
 abbrev pub node_is_valid : (List ℕ → Bool) → Node → Type 0
 node_is_valid takes n = All (λ label. IfSome label (text.IsValid takes)) (labels n)
 
--- what is inside a node
-abbrev pub inside_node : Inside Node
-inside_node = record {
+-- what is inside a node's record
+abbrev pub own_inside : Inside Node
+own_inside = record {
   records = node_records;
   CanStandInside = ⊤;
   AreOfType = node_is_of_type;
@@ -105,12 +105,11 @@ inside_node = record {
 
 -- A node's components, where each child is a node.
 abbrev pub node_components : Components Node
-node_components = components_with out-Node
-    (inside_itself (codes "Node") is_sequence node_table inside_node)
+node_components = components_with_itself (codes "Node") is_sequence (components_with out-Node) own_inside
 
 -- What a node means.
 abbrev pub node_meaning : Meaning Node
-node_meaning = holding_itself (codes "Node") inside_node node_components
+node_meaning = holding_itself (codes "Node") own_inside node_components
 
 node_records_are : (n : Node) → node_records n ≡ component_records node_components n
 node_records_are n =

@@ -126,6 +126,7 @@ pub use asn1_types::first_sequence_clash;
 pub use asn1_types::first_set_clash;
 pub use asn1_types::is_canonical;
 pub use asn1_types::order_inside_sets_is_not_seen;
+pub use asn1_types::records_of_a_valid_value_are_well_formed;
 pub use asn1_types::tables_are_in_order;
 pub use asn1_types::tag;
 pub use asn1_types::the_chosen_tag_tells_the_alternative;

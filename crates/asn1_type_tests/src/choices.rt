@@ -1,7 +1,8 @@
 //! What the definitions give for a few CHOICE types, written out by hand, and their tables.
 //!
 //! The clauses of the functions without a body are worked examples: the prover computes the definitions on them.
-ghost use Rattle.std.specs.Prelude.{◌≡◌, ℕ, Bool, List, pos, true, [], ◌∷◌, None, Some, codes};
+ghost use Rattle.std.specs.Prelude.{◌≡◌, ℕ, Bool, List, pos, true, false, [], ◌∷◌, Some, codes};
+ghost use Rattle.asn1_tags.specs.Trees.{leaf};
 ghost use Rattle.asn1_ranges.specs.declared.bounded.Bounded.TheVariants.{Range};
 ghost use Rattle.asn1_model.specs.ConstraintSets.{unconstrained, values_of};
 ghost use Rattle.asn1_model.specs.Meaning.{CanStandInside, own_records};
@@ -64,6 +65,15 @@ fn nested(inner: Box<Nested>)
         holding (prefix (context 0) (Some (codes "Nested"))) (
         holding (chosen (universal 1) unconstrained (table_of ⟦<Nested as asn1_choices::Choice>⟧.alternatives) (Some (codes "Nested"))) (
         scalar (universal 1) unconstrained (Some (codes "BOOLEAN")) (truth true) ∷ []) ∷ []) ∷ []) ∷ [] }
+{}
+
+/// The table beside a chosen alternative: the names and tags of those in the root, and of those after the extension marker.
+fn table_of_replies()
+    ensures { table_of ⟦<Reply as Choice>⟧.alternatives ≡ record {
+        root = record { name = codes "accepted"; tree = leaf (universal 1); may_be_absent = false } ∷
+        record { name = codes "refused"; tree = leaf (universal 5); may_be_absent = false } ∷ [];
+        additions = Some (
+        record { name = codes "later"; tree = leaf (context 0); may_be_absent = false } ∷ []) } }
 {}
 
 /// The constraint of an alternative's place counts those of the root, and is extensible where there is a marker.

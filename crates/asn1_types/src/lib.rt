@@ -77,7 +77,8 @@ pub use asn1_fields::{
     at_most_one_rearrangement_is_canonical, first_sequence_clash, first_set_clash, is_canonical,
 };
 pub use asn1_model::{
-    AsnType, StringType, TreeForm, TypeTable, order_inside_sets_is_not_seen, tag,
+    AsnType, StringType, TreeForm, TypeTable, order_inside_sets_is_not_seen,
+    records_of_a_valid_value_are_well_formed, tag,
 };
 pub use asn1_tags::{Class, Identifier, Tag, TagTree};
 pub use explicit::Explicit;
