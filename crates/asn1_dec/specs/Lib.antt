@@ -1,3 +1,4 @@
 pub mod Errors
+pub mod Orders
 pub mod Reading
 pub mod SetParts

@@ -1,13 +1,13 @@
 -- Before what a decoder stands, and what a call of it does.
-use Rattle.std.specs.Prelude.{◌≡◌, ◌≢◌, ◌⊎◌, ℕ, suc, ◌≤◌, ◌<◌, ⊤, Bool, true, false, List, [], ◌∷◌, ◌++◌, IsPermutation, Option, None, Some, IfSome, IsSome, IfErr, Result, Err, MatchResult, OnOk, OnErr, if◌then◌else◌}
+use Rattle.std.specs.Prelude.{◌≡◌, ◌≢◌, ◌⊎◌, ℕ, suc, ◌≤◌, ◌<◌, ⊤, Bool, true, false, List, [], ◌∷◌, ◌++◌, IsPermutation, Option, None, Some, IfSome, IsSome, IfErr, IsTrue, Result, Err, MatchResult, OnOk, OnErr, if◌then◌else◌}
 use Rattle.std.specs.Option.{option_eq, option_map}
 use Rattle.asn1_tags.specs.declared.tags.Tag.{Tag}
 use Rattle.asn1_components.specs.ComponentTypes.{ComponentType}
 use Rattle.asn1_model.specs.Composites.{default_records, option_records, prefix_records}
 use Rattle.asn1_model.specs.ConstraintSets.{ConstraintSet}
 use Rattle.asn1_model.specs.Meaning.{Meaning, CanStandInside, CanStandInsideUnder, tags}
-use Rattle.asn1_model.specs.Orders.{SameAll}
-use Rattle.asn1_model.specs.Records.{Name, Record, Head, Mark, Side, Content, scalar, mark, held, holding, highest, is_mark, marks_alone}
+use Rattle.asn1_model.specs.Orders.{SameRecords}
+use Rattle.asn1_model.specs.Records.{Name, Record, Head, Mark, Side, Content, scalar, raw, mark, holding, highest, is_mark, marks_alone}
 use Rattle.asn1_model.specs.Tags.{Tags, only, BeginsWithin, Has, LiesIn, ShareNone, first_tags, tree_tags}
 use Rattle.asn1_dec.specs.declared.error.DecodeError.{DecodeError}
 use Rattle.asn1_dec.specs.declared.error.DecodeError.TheVariants.{Memory, Depth, Failed}
@@ -19,7 +19,7 @@ Ahead = List (List Record)
 -- What is left is the same, list by list, up to the order inside sets.
 pub data SameAhead : Ahead → Ahead → Type 0 where
   at_end : SameAhead [] []
-  next : {rs ss : List Record} {outer others : Ahead} → SameAll (held rs) (held ss) → SameAhead outer others → SameAhead (rs ∷ outer) (ss ∷ others)
+  next : {rs ss : List Record} {outer others : Ahead} → SameRecords rs ss → SameAhead outer others → SameAhead (rs ∷ outer) (ss ∷ others)
 
 -- how many records there are, presence marks apart
 abbrev pub records_in : List Record → ℕ
@@ -88,6 +88,18 @@ module _ {D : Type 0} (R : Reader D) where
   ReadsContent {X = X} old new t c content IsOfType Is result =
       (x : X) (n : Name) (rest : List Record) (outer : Ahead) → IsOfType x →
       ReadsBack old new (scalar t c n (content x) ∷ []) rest outer (λ w. Is w x) result
+
+  -- A call that reads the bytes of an open type, of any name: of those that the codec takes as one value, it answers what `Is`
+  -- holds of.
+  abbrev pub ReadsOpenType : {V : Type 0} → D → D → (V → List ℕ → Type 0) → Result V DecodeError → Type 0
+  ReadsOpenType old new Is result =
+      (bytes : List ℕ) (n : Name) (rest : List Record) (outer : Ahead) → IsTrue (R.takes bytes) →
+      ReadsBack old new (raw n bytes ∷ []) rest outer (λ w. Is w bytes) result
+
+  -- a call that goes past this presence mark
+  abbrev pub ReadsMark : {V : Type 0} → D → D → Mark → Result V DecodeError → Type 0
+  ReadsMark old new m result =
+      (rest : List Record) (outer : Ahead) → Moves old new 0 ((mark m ∷ rest) ∷ outer) (rest ∷ outer) (λ _. ⊤) result
 
   -- A call that reads a value of a well-tagged type, under this tag, these constraints and any name: of each that is of the
   -- type and valid, it answers one that is equal.
@@ -185,6 +197,13 @@ module _ {D : Type 0} (R : Reader D) where
         Moves old new 0 ((r ∷ items) ∷ rest ∷ outer) ((r ∷ items) ∷ rest ∷ outer) (λ b. b ≡ true) result
     pub none : (rest : List Record) (outer : Ahead) → Moves old new 0 ([] ∷ rest ∷ outer) ([] ∷ rest ∷ outer) (λ b. b ≡ false) result
 
+  -- A call that tells a tag of the component whose record is next in the innermost scope, and goes past the presence marks
+  -- before it. Inside no scope it tells nothing.
+  abbrev pub TellsNextTag : {V : Type 0} → D → D → List (ComponentType V) → Result (Option Tag) DecodeError → Type 0
+  TellsNextTag old new cs result =
+      (items rest : List Record) (outer : Ahead) →
+      Moves old new 0 (items ∷ rest ∷ outer) (marks_passed items ∷ rest ∷ outer) (IsNextTag cs items) result
+
   -- a call that opens a record of this head and any name; this holds of its answer and what is inside
   abbrev pub Opens : {V : Type 0} → D → D → (Name → Head) → (List Record → V → Type 0) → Result V DecodeError → Type 0
   Opens old new head Is result =
@@ -202,6 +221,11 @@ module _ {D : Type 0} (R : Reader D) where
   OpensSet old new head Is result =
       (n : Name) (items rest : List Record) (outer : Ahead) → R.stands old ((holding (head n) items ∷ rest) ∷ outer) →
       MatchResult result (λ w. SetIsOpen old new items rest outer (Is items w)) (MayFail (R.allowance old) 1)
+
+  -- a call that closes the innermost scope, of which all was read
+  abbrev pub ReadsEnd : {V : Type 0} → D → D → Result V DecodeError → Type 0
+  ReadsEnd old new result =
+      (rest : List Record) (outer : Ahead) → Moves old new 0 ([] ∷ rest ∷ outer) (rest ∷ outer) (λ _. ⊤) result
 
   -- What a call does to the decoder that leaves as many scopes open as there were: an error makes it failed, and one that
   -- has failed answers so.

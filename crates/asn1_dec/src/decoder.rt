@@ -3,14 +3,14 @@ ghost use Rattle.asn1_choices.specs.Alternatives.{CanBeChosen, Each, HaveDistinc
 ghost use Rattle.asn1_choices.specs.ChosenTags.{TellsAlternative, chosen_tag};
 ghost use Rattle.asn1_components.specs.ComponentLists.{CanBeInSequence, EachIsOfType, EachIsValid, trees_of};
 ghost use Rattle.asn1_components.specs.Components.{all_components, component_records, is_sequence, is_set, lines};
-ghost use Rattle.asn1_dec.specs.Reading.{Ahead, Enters, IsLawful, IsNextTag, Keeps, Leaves, Moves, NeedsAllowance, Opens, OpensSet, Reader, ReadsBack, ReadsContent, ReadsDefault, ReadsOption, ReadsOptionAfterTag, ReadsValue, Stays, TellsMore, TellsPresence, marks_passed, records_in};
+ghost use Rattle.asn1_dec.specs.Reading.{Ahead, Enters, IsLawful, Keeps, Leaves, NeedsAllowance, Opens, OpensSet, Reader, ReadsBack, ReadsContent, ReadsDefault, ReadsEnd, ReadsMark, ReadsOpenType, ReadsOption, ReadsOptionAfterTag, ReadsValue, Stays, TellsMore, TellsNextTag, TellsPresence, records_in};
 ghost use Rattle.asn1_dec.specs.SetParts.{CanBeInSet};
 ghost use Rattle.asn1_enumerations.specs.Enumerations.{number_of};
 ghost use Rattle.asn1_enumerations.specs.Labels.{HasNumber, labels_of};
 ghost use Rattle.asn1_model.specs.Composites.{alternative_records, group_records, list_records, prefix_records, sequence_records, set_of_records, set_records};
 ghost use Rattle.asn1_model.specs.ConstraintSets.{ConstraintSet, constraint_set, unconstrained};
 ghost use Rattle.asn1_model.specs.Meaning.{CanStandInside, own_records};
-ghost use Rattle.asn1_model.specs.Records.{Name, Record, absent, alternative, arcs, bits, bmp, discriminant, general, graphic, group_absent, group_end, group_start, ia5, in_additions, in_root, mark, marks_alone, null, number, numeric, octet, prefix, present, printable, raw, sequence, sequence_of, set, set_of, teletex, truth, units, utf8, visible};
+ghost use Rattle.asn1_model.specs.Records.{Name, Record, absent, alternative, arcs, bits, bmp, discriminant, general, graphic, group_absent, group_end, group_start, ia5, in_additions, in_root, marks_alone, null, number, numeric, octet, prefix, present, printable, sequence, sequence_of, set, set_of, teletex, truth, units, utf8, visible};
 ghost use Rattle.asn1_model.specs.Tags.{ShareNone, first_tags, tree_tags};
 ghost use Rattle.asn1_tags.specs.Trees.{choice, shape};
 ghost use Rattle.asn1_tags.specs.declared.tags.Tag.{Tag};
@@ -18,7 +18,7 @@ ghost use Rattle.asn1_strings.specs.Alphabets.{is_ia5, is_numeric, is_printable,
 ghost use Rattle.std.specs.Cmp.Lexicographic.{pointwise};
 ghost use Rattle.std.specs.List.{flat_map};
 ghost use Rattle.std.specs.Option.{option_eq, option_map};
-ghost use Rattle.std.specs.Prelude.{◌≡◌, ◌≤◌, ◌<◌, ◌^◌, [], ◌∷◌, ⊤, All, IfSome, IsTrue, List, Ok, Option, false, ℕ, true};
+ghost use Rattle.std.specs.Prelude.{◌≡◌, ◌≤◌, ◌<◌, ◌^◌, ⊤, All, IfSome, IsTrue, List, Ok, Option, false, true};
 ghost use Rattle.std.specs.Str.{IsUtf8};
 ghost use Rattle.std.specs.String.{string_bytes};
 
@@ -209,7 +209,7 @@ pub trait Decoder {
 
     /// A value of an open type, by its bytes, under whatever tag.
     fn decode_any(&mut self, tag: Tag) -> Result<Any, DecodeError>
-        ensures read { (bytes : List ℕ) (n : Name) (rest : List Record) (outer : Ahead) → IsTrue (reader.takes bytes) → ReadsBack reader self.old self.new (raw n bytes ∷ []) rest outer (λ w. w ≡ bytes) result }
+        ensures read { ReadsOpenType reader self.old self.new (λ w bytes. w ≡ bytes) result }
         ensures stays { Stays reader self.old self.new result };
 
     /// Whether the component of the root is there that is written under this tag, and begins with a tag of the tree. A codec
@@ -238,7 +238,7 @@ pub trait Decoder {
 
     /// Closes a group of which all components were read.
     fn close_group(&mut self) -> Result<(), DecodeError>
-        ensures read { (rest : List Record) (outer : Ahead) → Moves reader self.old self.new 0 ((mark group_end ∷ rest) ∷ outer) (rest ∷ outer) (λ _. ⊤) result }
+        ensures read { ReadsMark reader self.old self.new group_end result }
         ensures stays { Stays reader self.old self.new result };
 
     /// Opens a SEQUENCE, whose components are those of the table of `C`.
@@ -257,10 +257,7 @@ pub trait Decoder {
     /// A tag of the component of the next record of a SET, if one is left, by the table of `C`. Presence marks before it are
     /// passed over. It is asked inside a scope: at the outermost list a codec need not know whether all was read.
     fn next_component<C: FieldTable>(&mut self) -> Result<Option<Tag>, DecodeError>
-        ensures read { (items rest : List Record) (outer : Ahead) →
-            Moves reader self.old self.new 0 (items ∷ rest ∷ outer)
-            (marks_passed items ∷ rest ∷ outer)
-            (IsNextTag (all_components C.components) items) result }
+        ensures read { TellsNextTag reader self.old self.new (all_components C.components) result }
         ensures stays { Stays reader self.old self.new result };
 
     /// Opens a SEQUENCE OF, and answers a bound on the number of its elements.
@@ -298,7 +295,7 @@ pub trait Decoder {
 
     /// Closes the innermost scope, of which all was read.
     fn close(&mut self) -> Result<(), DecodeError>
-        ensures read { (rest : List Record) (outer : Ahead) → Moves reader self.old self.new 0 ([] ∷ rest ∷ outer) (rest ∷ outer) (λ _. ⊤) result }
+        ensures read { ReadsEnd reader self.old self.new result }
         ensures leaves { Leaves reader self.old self.new result };
 
     // The law of a codec.

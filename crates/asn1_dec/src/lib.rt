@@ -40,13 +40,14 @@
 //!   give: `EachApart` of `asn1_components`. Where each value of a type is a single record, anything may follow (`MayFollow`).
 //! - A codec states before what it stands, whether it has failed, its allowance, and which byte strings it takes as one value of
 //!   an open type (`Reader`). The order inside sets means nothing to it (`IsLawful`): so it opens a set before some
-//!   rearrangement of what was written.
+//!   rearrangement of what was written. That follows of a codec which states before which lists exactly it is (`up_to_order` of
+//!   `specs/Orders.antt`).
 //! - The components of a SET are read one by one, as parts, in whatever order they come, and then put together (`ReadsPart`,
 //!   `MakesValue` of `specs/SetParts.antt`); no value is made where a component came twice, or one is missing (`EachFits`).
 //!   Which component a record is follows from its tag and the table of the type.
 //!
 //! `proofs/PartWays.antt` has lemmas for authors of types whose components are read in their order, and `proofs/ReadParts.antt`
-//! and `proofs/SlotLaws.antt` those for authors of a SET.
+//! and `proofs/SlotLaws.antt` those for authors of a SET. `proofs/UpToOrder.antt` has those for authors of a codec.
 //!
 //! Calls that make values take memory, and those with constraints that have a permitted alphabet.
 #![tactic(auto)]

@@ -2,17 +2,15 @@
 use Rattle.std.specs.Prelude.{◌≡◌, List, [], ◌∷◌, ◌++◌, Result, Ok, Err, Some, refl}
 use Rattle.std.proofs.Common.{subst, ◌∙◌}
 use Rattle.asn1_model.specs.Composites.{group_records}
-use Rattle.asn1_model.specs.Records.{Record, Head, held, holding}
+use Rattle.asn1_model.specs.Orders.{SameRecords}
+use Rattle.asn1_model.specs.Records.{Record, Head, holding}
 use Rattle.asn1_model.specs.Tables.{Line, Table}
-use Rattle.asn1_model.proofs.SameUpToOrder.{SameAll-refl, SameAll-sym, SameAll-trans, SameAll-append, same-marks_alone, same_holding, same_group_records}
+use Rattle.asn1_model.proofs.SameUpToOrder.{SameRecords-refl, SameAll-sym, SameAll-trans, SameAll-append, same-marks_alone, same_holding, same_group_records}
 use Rattle.asn1_enc.specs.declared.error.EncodeError.{EncodeError}
 use Rattle.asn1_enc.specs.Orders.{RejectsByParts, WroteUpToOrder, RejectsUpToOrder, up_to_order}
-use Rattle.asn1_enc.specs.Writing.{Writer, Written, outermost, in_scope, in_group, followed_by, SameRecords, SameWritten, same_outermost, same_scope, same_group, IsLawful, Appends, IsError, Fails, Writes, ScopeIsOpen, ScopeIsNotOpen, Opens, ScopeIsClosed, ScopeIsNotClosed, Closes, GroupIsOpen, GroupIsNotOpen, OpensGroup, GroupIsClosed, GroupIsNotClosed, ClosesGroup, Refuses}
+use Rattle.asn1_enc.specs.Writing.{Writer, Written, outermost, in_scope, in_group, followed_by, SameWritten, same_outermost, same_scope, same_group, IsLawful, Appends, IsError, Fails, Writes, ScopeIsOpen, ScopeIsNotOpen, Opens, ScopeIsClosed, ScopeIsNotClosed, Closes, GroupIsOpen, GroupIsNotOpen, OpensGroup, GroupIsClosed, GroupIsNotClosed, ClosesGroup, Refuses}
 
--- Lists of records that are the same, and what has been written.
-pub SameRecords-refl : (rs : List Record) → SameRecords rs rs
-SameRecords-refl rs = SameAll-refl (held rs)
-
+-- What has been written is the same.
 pub SameWritten-refl : (w : Written) → SameWritten w w
 SameWritten-refl (outermost rs) = same_outermost (SameRecords-refl rs)
 SameWritten-refl (in_scope h rs w) = same_scope h (SameRecords-refl rs) (SameWritten-refl w)

@@ -1,8 +1,8 @@
 -- What an encoder has written, and what a call of it does.
 use Rattle.std.specs.Prelude.{◌≡◌, ◌≢◌, ◌↔◌, ℕ, suc, ◌≤◌, ◌<◌, ⊤, Bool, true, false, List, [], ◌∷◌, ◌++◌, MatchResult, Result, Some}
 use Rattle.asn1_model.specs.Composites.{group_records}
-use Rattle.asn1_model.specs.Orders.{SameAll}
-use Rattle.asn1_model.specs.Records.{Record, Head, held, holding, highest, marks_alone}
+use Rattle.asn1_model.specs.Orders.{SameRecords}
+use Rattle.asn1_model.specs.Records.{Record, Head, holding, highest, marks_alone}
 use Rattle.asn1_model.specs.Tables.{Line, Table}
 use Rattle.asn1_enc.specs.declared.error.EncodeError.{EncodeError}
 use Rattle.asn1_enc.specs.declared.error.EncodeError.TheVariants.{Memory, Depth, Failed, Custom}
@@ -19,10 +19,6 @@ abbrev pub followed_by : Written → List Record → Written
 followed_by (outermost done) rs = outermost (done ++ rs)
 followed_by (in_scope h done outer) rs = in_scope h (done ++ rs) outer
 followed_by (in_group table done outer) rs = in_group table (done ++ rs) outer
-
--- Lists of records that are the same up to the order inside sets.
-abbrev pub SameRecords : List Record → List Record → Type 0
-SameRecords rs ss = SameAll (held rs) (held ss)
 
 -- What has been written is the same, list by list, up to the order inside sets.
 pub data SameWritten : Written → Written → Type 0 where

@@ -1,8 +1,9 @@
 //! Laws of what no other contract names: what the derives and the conversion of the error give, and what is the
 //! same of what has been written.
 ghost use Rattle.asn1_enc.specs.Errors.{reason};
-ghost use Rattle.asn1_enc.specs.Writing.{SameRecords, SameWritten, Written, followed_by};
+ghost use Rattle.asn1_enc.specs.Writing.{SameWritten, Written, followed_by};
 ghost use Rattle.asn1_enc.specs.declared.error.EncodeError.TheVariants.{Memory};
+ghost use Rattle.asn1_model.specs.Orders.{SameRecords};
 ghost use Rattle.asn1_model.specs.Records.{Record};
 ghost use Rattle.asn1_tags.specs.Derives.{ClonesAll};
 ghost use Rattle.std.specs.Prelude.{◌≡◌, ◌↔◌, IsTrue, List};

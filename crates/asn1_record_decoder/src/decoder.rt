@@ -50,17 +50,18 @@ struct Opened {
 impl<'a> RecordDecoder<'a> {
     ghost use Rattle.asn1_dec.specs.declared.error.DecodeError.TheVariants.{Failed, Memory};
     ghost use Rattle.asn1_dec.specs.Errors.{custom, reason};
-    ghost use Rattle.asn1_dec.specs.Reading.{Ahead, Enters, MayFail, ReadsContent, Stays, TellsPresence};
+    ghost use Rattle.asn1_dec.specs.Reading.{Ahead, Enters, Opens, OpensSet, ReadsContent, Stays, TellsPresence, records_in};
     ghost use Rattle.asn1_model.specs.ConstraintSets.{ConstraintSet};
+    ghost use Rattle.asn1_model.specs.Orders.{is_unordered};
     ghost use Rattle.asn1_model.specs.Records as model;
-    ghost use Rattle.asn1_model.specs.Records.{absent, holding, present};
+    ghost use Rattle.asn1_model.specs.Records.{Name, absent, present};
     ghost use Rattle.asn1_model.specs.Tags.{Tags};
-    ghost use Rattle.asn1_record_decoder.specs.Found.{Meets, OpenedAs, Took};
-    ghost use Rattle.asn1_record_decoder.specs.Reading.{StandsBefore, record_reader, sees};
+    ghost use Rattle.asn1_record_decoder.specs.Found.{Meets, OpensWanted, Took};
+    ghost use Rattle.asn1_record_decoder.specs.Reading.{StandsBefore, StandsExactly, record_reader, sees};
     ghost use Rattle.asn1_records.specs.Carried.{Carries};
     ghost use Rattle.asn1_records.specs.WithoutConstraints.{content_without};
     ghost use Rattle.asn1_records.specs.Records.{record_of, records_of, side_of};
-    ghost use Rattle.std.specs.Prelude.{◌≡◌, ◌≢◌, ◌↔◌, ◌∷◌, [], Err, IfErr, IfOk, IfSome, IsOk, List, MatchResult, None, OnErr, OnOk, codes, false, length, suc, true};
+    ghost use Rattle.std.specs.Prelude.{◌≡◌, ◌≢◌, ◌↔◌, ◌≤◌, ◌∷◌, [], ⊤, Err, IfErr, IfOk, IfSome, IsOk, List, MatchResult, None, OnErr, OnOk, codes, false, length, suc, true};
 
     /// A decoder that is before these records, and may open so many scopes in one another.
     pub fn new(alloc: Global, records: &'a [Record], depth: usize) -> RecordDecoder<'a>
@@ -122,7 +123,9 @@ impl<'a> RecordDecoder<'a> {
 
     /// The next record.
     fn next(&mut self) -> Result<&'a Record, DecodeError>
-        ensures took { (r : model.Record) (rest : List model.Record) (outer : Ahead) → StandsBefore self.old ((r ∷ rest) ∷ outer) → MatchResult result (λ x. Took x.now self.new r rest outer) (λ _. ⊥) }
+        ensures took { (r : model.Record) (rest : List model.Record) (outer : Ahead) →
+            StandsExactly self.old ((r ∷ rest) ∷ outer) →
+            MatchResult result (λ x. Took x.now self.new r rest outer) (λ _. ⊥) }
         ensures stays { Stays record_reader self.old self.new result }
     {
         if self.failed {
@@ -201,7 +204,7 @@ impl<'a> RecordDecoder<'a> {
 
     /// Opens a scope.
     fn open(&mut self, wanted: Wanted) -> Result<Opened, DecodeError>
-        ensures read { (h : model.Head) (items rest : List model.Record) (outer : Ahead) → Meets wanted h → StandsBefore self.old ((holding h items ∷ rest) ∷ outer) → MatchResult result (λ w. OpenedAs h items rest outer w.tag w.bound self.old self.new) (MayFail self.old.allowance 1) }
+        ensures read { OpensWanted wanted self.old self.new result }
         ensures enters { Enters record_reader self.old self.new result }
     {
         if self.failed {
@@ -216,11 +219,35 @@ impl<'a> RecordDecoder<'a> {
             None => Err(self.fail(BAD_ITEM)),
         }
     }
+
+    /// Opens a scope in which the order of the records means something.
+    fn open_in_order(&mut self, wanted: Wanted) -> Result<(), DecodeError>
+        ensures read { (head : Name → model.Head) → ((n : Name) → Meets wanted (head n)) →
+            ((n : Name) → is_unordered (head n) ≡ false) →
+            Opens record_reader self.old self.new head (λ _ _. ⊤) result }
+        ensures enters { Enters record_reader self.old self.new result }
+    {
+        self.open(wanted)?;
+        Ok(())
+    }
+
+    /// Opens a list of elements or the components of a set, and answers how many records and marks are in it.
+    fn open_list(&mut self, wanted: Wanted) -> Result<usize, DecodeError>
+        ensures read { (head : Name → model.Head) → ((n : Name) → Meets wanted (head n)) →
+            ((n : Name) → is_unordered (head n) ≡ false) →
+            Opens record_reader self.old self.new head (λ items bound. records_in items ≤ bound) result }
+        ensures read_set { (head : Name → model.Head) → ((n : Name) → Meets wanted (head n)) →
+            OpensSet record_reader self.old self.new head (λ items bound. records_in items ≤ bound) result }
+        ensures enters { Enters record_reader self.old self.new result }
+    {
+        let opened = self.open(wanted)?;
+        Ok(opened.bound)
+    }
 }
 
 impl<'a> Decoder for RecordDecoder<'a> {
-    ghost use Rattle.asn1_record_decoder.specs.Laws.{stands_in_any_order};
-    ghost use Rattle.asn1_record_decoder.specs.Reading.{record_reader};
+    ghost use Rattle.asn1_dec.proofs.UpToOrder.{lawful};
+    ghost use Rattle.asn1_record_decoder.specs.Reading.{in_one_order, record_reader};
     ghost use Rattle.std.specs.Prelude.{◌≡◌};
 
     ghost reader = { record_reader };
@@ -397,13 +424,11 @@ impl<'a> Decoder for RecordDecoder<'a> {
     }
 
     fn open_sequence<C: FieldTable>(&mut self, tag: Tag) -> Result<(), DecodeError> {
-        self.open(Wanted::Sequence(tag))?;
-        Ok(())
+        self.open_in_order(Wanted::Sequence(tag))
     }
 
     fn open_set<C: FieldTable>(&mut self, tag: Tag) -> Result<usize, DecodeError> {
-        let opened = self.open(Wanted::Set(tag))?;
-        Ok(opened.bound)
+        self.open_list(Wanted::Set(tag))
     }
 
     fn next_component<C: FieldTable>(&mut self) -> Result<Option<Tag>, DecodeError> {
@@ -422,8 +447,7 @@ impl<'a> Decoder for RecordDecoder<'a> {
         tag: Tag,
         _constraints: &Constraints<'_>,
     ) -> Result<usize, DecodeError> {
-        let opened = self.open(Wanted::SequenceOf(tag))?;
-        Ok(opened.bound)
+        self.open_list(Wanted::SequenceOf(tag))
     }
 
     fn open_set_of(
@@ -431,13 +455,11 @@ impl<'a> Decoder for RecordDecoder<'a> {
         tag: Tag,
         _constraints: &Constraints<'_>,
     ) -> Result<usize, DecodeError> {
-        let opened = self.open(Wanted::SetOf(tag))?;
-        Ok(opened.bound)
+        self.open_list(Wanted::SetOf(tag))
     }
 
     fn open_explicit_prefix(&mut self, tag: Tag) -> Result<(), DecodeError> {
-        self.open(Wanted::Prefix(tag))?;
-        Ok(())
+        self.open_in_order(Wanted::Prefix(tag))
     }
 
     fn open_choice<T: Choice>(
@@ -475,5 +497,5 @@ impl<'a> Decoder for RecordDecoder<'a> {
         }
     }
 
-    ghost lawful = { record { in_any_order = stands_in_any_order } };
+    ghost lawful = { lawful in_one_order };
 }

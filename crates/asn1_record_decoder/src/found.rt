@@ -5,7 +5,7 @@ ghost use Rattle.asn1_model.specs.Records.{Name, absent, group_absent, group_end
 ghost use Rattle.asn1_model.specs.Tables.{Line, Table, no_table};
 ghost use Rattle.asn1_model.specs.Tags.{Has, head_tag, record_tags};
 ghost use Rattle.asn1_dec.specs.declared.error.DecodeError.TheVariants.{Depth, Memory};
-ghost use Rattle.asn1_record_decoder.specs.Found.{FoundIn, HoldsRecords, IsBytes, IsContentUnder, IsRecord, Meets};
+ghost use Rattle.asn1_record_decoder.specs.Found.{AreRecords, FoundIn, IsBytes, IsContentUnder, IsRecord, Meets};
 ghost use Rattle.asn1_records.specs.WithoutConstraints.{content_without};
 ghost use Rattle.asn1_records.specs.Records.{content_of, head_of, record_of, records_of, side_of};
 ghost use Rattle.std.specs.Prelude.{◌≡◌, ◌≢◌, ⊤, Err, IfOk, IfSome, IsSomeAnd, List, MatchResult, OnOk, ℕ, false, if◌then◌else◌, true};
@@ -130,7 +130,7 @@ pub(crate) fn end_of_group(item: &Record) -> Result<(), DecodeError>
 /// What is in a scope that is as it is wanted.
 pub(crate) fn inner_scope(item: &Record, wanted: Wanted) -> Option<Scope<'_>>
     ensures tag { (h : model.Head) (items : List model.Record) → Meets wanted h → IsRecord item.now (holding h items) → IsSomeAnd result (λ scope. scope.tag ≡ head_tag h) }
-    ensures records { (h : model.Head) (items : List model.Record) → Meets wanted h → IsRecord item.now (holding h items) → IsSomeAnd result (λ scope. HoldsRecords scope.records.now h items) }
+    ensures records { (h : model.Head) (items : List model.Record) → Meets wanted h → IsRecord item.now (holding h items) → IsSomeAnd result (λ scope. AreRecords scope.records.now items) }
     ensures only { IfSome result (λ scope. (h : model.Head) × Meets wanted h × (record_of item.now ≡ holding h (records_of scope.records.now))) }
 {
     match item {

@@ -1,6 +1,7 @@
 //! Laws of what no other contract names: what the encoder is as types see it, what holds of outputs whatever is written, and what
 //! derives give.
-ghost use Rattle.asn1_enc.specs.Writing.{SameRecords, Written};
+ghost use Rattle.asn1_enc.specs.Writing.{Written};
+ghost use Rattle.asn1_model.specs.Orders.{SameRecords};
 ghost use Rattle.asn1_model.specs.Records as model;
 ghost use Rattle.asn1_records.specs.Carried.{Carries};
 ghost use Rattle.asn1_records.specs.Encoder.{record_writer};

@@ -4,7 +4,7 @@ use Rattle.asn1_components.specs.Components.{component_records, lines}
 use Rattle.asn1_dec.proofs.Steps.{fails_inside, flat_failure, within_scope}
 use Rattle.asn1_model.specs.Records.{set}
 use Rattle.asn1_model.proofs.SameRecords.{highest-permutation}
-use Rattle.asn1_dec.proofs.SetItems.{records_in-permutation}
+use Rattle.asn1_dec.proofs.RecordsIn.{records_in-permutation}
 use Rattle.asn1_dec.proofs.sets.read_components.Goals as goal
 
 pub returns-in_err-parts-clause-read : goal.returns-in_err-parts-clause-read
