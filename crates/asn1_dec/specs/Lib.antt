@@ -2,3 +2,4 @@ pub mod Errors
 pub mod Reading
 pub mod Refusals
 pub mod SetParts
+pub mod Sides

@@ -63,7 +63,9 @@ pub trait Decode: AsnType + Eq + Sized + Drop {
         ensures refuses { Refuses D.reader refused Self.meaning.tag Self.meaning.constraints
             decoder.old decoder.new result }
     {
-        Self::decode_with_tag(decoder, Self::tag())
+        let table = Self::table();
+        let constraints = table.constraints.to_constraints(decoder.global())?;
+        Self::decode_with_tag_and_constraints(decoder, table.tag, &constraints)
     }
 
     /// Reads a value under a tag.

@@ -19,6 +19,7 @@ ghost use Rattle.std.specs.Str.{IsUtf8};
 
 use crate::encode::{Encode, EncodeChoice, EncodeFields};
 use crate::error::EncodeError;
+use crate::own_constraints::make_constraints;
 use asn1_bounds::{Codec, Constraints};
 use asn1_choices::{Choice, ChoiceType};
 use asn1_components::{ConstructedType, FieldTable};
@@ -475,15 +476,14 @@ pub trait Encoder {
         ensures writes { Writes writer self.old (T.meaning.records value.now tag (constraint_set constraints.now) (name_of name)) (T.meaning.IsOfType value.now) self.new result }
         ensures depth_first { NeedsAllowance writer self.old result }
     {
-        let name = name.or(T::identifier());
+        let table = T::table();
+        let name = name.or(table.identifier);
         if tag.is_choice() {
             return self.encode_choice(constraints, value, name);
         }
         self.open_explicit_prefix(tag, name)?;
-        let Ok(own_constraints) = T::constraints(self.global()) else {
-            return Err(self.refuse_memory());
-        };
-        self.encode_choice(&own_constraints, value, T::identifier())?;
+        let own_constraints = make_constraints(self, &table)?;
+        self.encode_choice(&own_constraints, value, table.identifier)?;
         self.close()
     }
 
@@ -502,7 +502,9 @@ pub trait Encoder {
             (name_of name))))
             (T.meaning.IsOfType value.now) self.new result }
     {
-        self.encode_some_with_tag(T::tag(), value, name)
+        let table = T::table();
+        let constraints = make_constraints(self, &table)?;
+        self.encode_some_with_tag_and_constraints(table.tag, &constraints, value, name)
     }
 
     /// A component that may be absent, and is there, under a tag and a name.
@@ -519,9 +521,7 @@ pub trait Encoder {
             (Some (T.meaning.records value.now tag T.meaning.constraints (name_of name))))
             (T.meaning.IsOfType value.now) self.new result }
     {
-        let Ok(constraints) = T::constraints(self.global()) else {
-            return Err(self.refuse_memory());
-        };
+        let constraints = make_constraints(self, &T::table())?;
         self.encode_some_with_tag_and_constraints(tag, &constraints, value, name)
     }
 
@@ -579,7 +579,9 @@ pub trait Encoder {
             (name_of name)))
             (equal ≡ false → T.meaning.IsOfType value.now) self.new result }
     {
-        self.encode_default_with_tag(T::tag(), value, default, name)
+        let table = T::table();
+        let constraints = make_constraints(self, &table)?;
+        self.encode_default_with_tag_and_constraints(table.tag, &constraints, value, default, name)
     }
 
     /// The same as `encode_default`, under a tag.
@@ -597,9 +599,7 @@ pub trait Encoder {
             (T.meaning.records value.now tag T.meaning.constraints (name_of name)))
             (equal ≡ false → T.meaning.IsOfType value.now) self.new result }
     {
-        let Ok(constraints) = T::constraints(self.global()) else {
-            return Err(self.refuse_memory());
-        };
+        let constraints = make_constraints(self, &T::table())?;
         self.encode_default_with_tag_and_constraints(tag, &constraints, value, default, name)
     }
 
@@ -702,7 +702,13 @@ pub trait Encoder {
             (name_of name)))
             (equal ≡ false → T.meaning.IsOfType value.now) self.new result }
     {
-        self.encode_with_tag_or_default(T::tag(), value, name)
+        let table = T::table();
+        if *value == T::default() {
+            self.encode_none_with_tag(table.tag, name)
+        } else {
+            let constraints = make_constraints(self, &table)?;
+            self.encode_some_with_tag_and_constraints(table.tag, &constraints, value, name)
+        }
     }
 
     /// The same as `encode_or_default`, under a tag.
@@ -769,9 +775,7 @@ pub trait Encoder {
             (option_copied value.entry)))
             (IfSome (option_copied value.entry) T.meaning.IsOfType) self.new result }
     {
-        let Ok(constraints) = T::constraints(self.global()) else {
-            return Err(self.refuse_memory());
-        };
+        let constraints = make_constraints(self, &T::table())?;
         self.encode_extension_addition(tag, &constraints, value, name)
     }
 
