@@ -1,7 +1,7 @@
 -- A component that may be absent, or has a default.
 use Rattle.std.proofs.Common.{◌≡◌, Bool, true, false, List, ◌∷◌, ◌++◌, Option, None, Some, Result, Ok, Err, refl, inl, inr, arith, sym, ◌∙◌, subst}
 use Rattle.std.specs.Cmp.{IsEquivalence}
-use Rattle.std.specs.Option.{IfSome, IfNone, option_map}
+use Rattle.std.specs.Option.{IfSome, IfNone, option_eq, option_map}
 use Rattle.std.specs.Result.{MatchResult}
 use Rattle.asn1_tags.specs.declared.tags.Tag.{Tag}
 use Rattle.asn1_model.specs.Composites.{option_records, prefix_records}
@@ -81,7 +81,35 @@ module _ {D V : Type 0} (R : Reader D) (side : Side) (t : Tag) (own : Tags) (rec
           let p = tells.there (records n x ++ rest) outer (begins_with x n rest can) at in
           fails_below _ _ _ (sym same) (omega arith) (reads x n rest outer can of_type valid p.at)
 
+      -- it is there, and what follows reads it
+      pub is_read : (new : D) (result : Result (Option V) DecodeError) →
+          ((x : V) (n : Name) (rest : List Record) (outer : Ahead) → Can → IsOfType x → IsValid x → ReadsBack R mid new (records n x) rest outer (λ w. option_eq eq w (Some x) ≡ true) result) → Optional old new result
+      is_read new result reads None n rest outer can of_type valid apart at =
+          let wrong = (tells.away rest outer (apart_from rest (apart refl)) at).answer in cc
+      is_read new (Ok w) reads (Some x) n rest outer can of_type valid apart at =
+          let p = tells.there (records n x ++ rest) outer (begins_with x n rest can) at in
+          let r = reads x n rest outer can of_type valid p.at in
+          record { answer = r.answer; at = r.at; within_allowance = omega (arith, r.within_allowance, same) }
+      is_read new (Err e) reads (Some x) n rest outer can of_type valid apart at =
+          let p = tells.there (records n x ++ rest) outer (begins_with x n rest can) at in
+          fails_below _ _ _ (sym same) (omega arith) (reads x n rest outer can of_type valid p.at)
+
 module _ {D V : Type 0} (R : Reader D) (side : Side) (m : Meaning V) (eq : V → V → Bool) (t : Tag) (c : ConstraintSet) where
+  module _ (old mid : D) (asked : Tags) (is : asked ≡ tags m t) where
+    -- whether a component under a tag is there could not be told
+    pub option_not_told : {e : DecodeError} → TellsPresence R old mid (present side t) (absent side t) asked (Err e) → ReadsOption R side m eq t c old mid (Err e)
+    option_not_told tells = not_told R side t (tags m t) (λ n v. m.records v t c n) (CanStandInsideUnder m t) m.IsOfType (m.IsValid R.takes) eq (under_tag m t c) old mid asked is tells
+
+    -- it is not there
+    pub option_is_absent : {b : Bool} → TellsPresence R old mid (present side t) (absent side t) asked (Ok b) → b ≡ false → ReadsOption R side m eq t c old mid (Ok None)
+    option_is_absent tells miss = is_absent R side t (tags m t) (λ n v. m.records v t c n) (CanStandInsideUnder m t) m.IsOfType (m.IsValid R.takes) eq (under_tag m t c) old mid asked is tells miss
+
+    -- it is there, and what follows reads it
+    pub option_is_read : {b : Bool} → TellsPresence R old mid (present side t) (absent side t) asked (Ok b) → b ≡ true → R.allowance mid ≡ R.allowance old → (new : D) (result : Result (Option V) DecodeError) →
+        ((x : V) (n : Name) (rest : List Record) (outer : Ahead) → CanStandInsideUnder m t → m.IsOfType x → m.IsValid R.takes x → ReadsBack R mid new (m.records x t c n) rest outer (λ w. option_eq eq w (Some x) ≡ true) result) →
+        ReadsOption R side m eq t c old new result
+    option_is_read tells hit same new result reads = is_read R side t (tags m t) (λ n v. m.records v t c n) (CanStandInsideUnder m t) m.IsOfType (m.IsValid R.takes) eq (under_tag m t c) old mid asked is tells hit same new result reads
+
   -- a component with a default is one that may be absent
   pub default_fails : (IsUsual : V → Type 0) (old new : D) (e : DecodeError) → ReadsOption R side m eq t c old new (Err e) → ReadsDefault R side IsUsual m eq t c old new (Err e)
   default_fails IsUsual old new e reads v true n rest outer is can of_type valid apart at = reads None n rest outer can tt tt (λ _. apart refl) at

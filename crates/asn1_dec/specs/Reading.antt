@@ -9,6 +9,7 @@ use Rattle.asn1_model.specs.Meaning.{Meaning, CanStandInside, CanStandInsideUnde
 use Rattle.asn1_model.specs.Orders.{SameRecords}
 use Rattle.asn1_model.specs.Records.{Name, Record, Head, Mark, Side, Content, scalar, raw, mark, holding, highest, is_mark, marks_alone}
 use Rattle.asn1_model.specs.Tags.{Tags, only, BeginsWithin, Has, LiesIn, ShareNone, first_tags, tree_tags}
+use Rattle.asn1_dec.specs.Refusals.{Refusals}
 use Rattle.asn1_dec.specs.declared.error.DecodeError.{DecodeError}
 use Rattle.asn1_dec.specs.declared.error.DecodeError.TheVariants.{Memory, Depth, Failed}
 
@@ -109,8 +110,8 @@ module _ {D : Type 0} (R : Reader D) where
       m.IsWellTagged t → m.IsOfType v → m.IsValid R.takes v → MayFollow m t (m.records v t c n) rest →
       ReadsBack old new (m.records v t c n) rest outer (λ w. eq w v ≡ true) result
 
-  -- A type's own error, which is not one of depth, nor that of a failed decoder. The decoder has read past the records of a
-  -- value: where it was before those of a valid one, it is after them.
+  -- A type's own error, which is not one of depth, nor that of a failed decoder; and the decoder has not failed. It has read
+  -- past the records of a value: where it was before those of a valid one, it is after them.
   pub record HasReadPast {V : Type 0} (m : Meaning V) (t : Tag) (c : ConstraintSet) (old new : D) (result : Result V DecodeError) : Type 0 where
     pub same_allowance : R.allowance new ≡ R.allowance old
     pub at : (v : V) (n : Name) (rest : List Record) (outer : Ahead) →
@@ -118,11 +119,14 @@ module _ {D : Type 0} (R : Reader D) where
         R.stands old ((m.records v t c n ++ rest) ∷ outer) → R.stands new (rest ∷ outer)
     pub not_too_deep : IfErr result (λ e. e ≢ Depth)
     pub not_failed : IfErr result (λ e. e ≢ Failed)
+    pub no_failure : R.failed new ≡ false
 
-  -- What a call leaves that reads a value of a type. After a success the allowance is as it was. An error makes the decoder
-  -- failed, or it is the type's own. Where each value of the type is a record, a failed decoder answers so.
+  -- What a call leaves that reads a value of a type. After a success the allowance is as it was, and the decoder has failed
+  -- only if it had failed before. An error makes the decoder failed, or it is the type's own. Where each value of the type is a
+  -- record, a failed decoder answers so.
   pub record LeavesDecoder {V : Type 0} (m : Meaning V) (t : Tag) (c : ConstraintSet) (old new : D) (result : Result V DecodeError) : Type 0 where
     pub same_allowance : OnOk result (R.allowance new ≡ R.allowance old)
+    pub no_failure : OnOk result (R.failed new ≡ R.failed old)
     pub after_error : OnErr result (R.failed new ≡ true) ⊎ HasReadPast m t c old new result
     pub refused : m.IsSingleRecord → R.failed old ≡ true → result ≡ Err Failed
 
@@ -135,6 +139,7 @@ module _ {D : Type 0} (R : Reader D) where
   -- What a call leaves that makes the type's own constraints, and then reads a value.
   pub record LeavesDecoderWithOwnConstraints {V : Type 0} (m : Meaning V) (t : Tag) (old new : D) (result : Result V DecodeError) : Type 0 where
     pub same_allowance : OnOk result (R.allowance new ≡ R.allowance old)
+    pub no_failure : OnOk result (R.failed new ≡ R.failed old)
     pub after_error : OnErr result (R.failed new ≡ true) ⊎ (HasReadPast m t m.constraints old new result ⊎ HadNoMemory m old new result)
     pub refused : m.IsSingleRecord → R.failed old ≡ true → (result ≡ Err Failed) ⊎ HadNoMemory m old new result
 
@@ -171,17 +176,26 @@ module _ {D : Type 0} (R : Reader D) where
       (equal ≡ true → ShareNone (tags m t) (first_tags rest)) →
       ReadsBack old new (default_records side equal t (m.records v t c n)) rest outer (λ w. eq w v ≡ true) result
 
-  -- A type's own error: the decoder stands before what follows the records, and the allowance is as it was.
+  -- A type's own error: the decoder stands before what follows the records, the allowance is as it was, and the decoder has
+  -- not failed.
   pub record IsOwnError (old new : D) (rest : List Record) (outer : Ahead) (own e : DecodeError) : Type 0 where
     pub error : e ≡ own
     pub at : R.stands new (rest ∷ outer)
     pub same_allowance : R.allowance new ≡ R.allowance old
+    pub no_failure : R.failed new ≡ false
 
   -- a call that reads these records, before those, and refuses what they say by an error of its type's own
   abbrev pub ReadsAndRefuses : {V : Type 0} → D → D → List Record → List Record → Ahead → DecodeError → Result V DecodeError → Type 0
   ReadsAndRefuses old new rs rest outer own result =
       R.stands old ((rs ++ rest) ∷ outer) →
       MatchResult result (λ _. ⊥) (λ e. MayFail (R.allowance old) (highest rs) e ⊎ IsOwnError old new rest outer own e)
+
+  -- A call that reads the records that a type refuses, under this tag and these constraints, and refuses them by the error of
+  -- the type.
+  abbrev pub Refuses : {V : Type 0} → Refusals → Tag → ConstraintSet → D → D → Result V DecodeError → Type 0
+  Refuses refused t c old new result =
+      (rs rest : List Record) (outer : Ahead) (e : DecodeError) → refused R.takes t c rs e →
+      ReadsAndRefuses old new rs rest outer e result
 
   -- A call that tells whether a component is there, which has these tags, and goes past the presence mark that says so. A
   -- component that is there begins with one of its tags; what follows one that is absent begins with none.
@@ -227,17 +241,17 @@ module _ {D : Type 0} (R : Reader D) where
   ReadsEnd old new result =
       (rest : List Record) (outer : Ahead) → Moves old new 0 ([] ∷ rest ∷ outer) (rest ∷ outer) (λ _. ⊤) result
 
-  -- What a call does to the decoder that leaves as many scopes open as there were: an error makes it failed, and one that
-  -- has failed answers so.
+  -- What a call does to the decoder that leaves as many scopes open as there were: after a success it has not failed, an error
+  -- makes it failed, and one that has failed answers so.
   pub record Keeps {V : Type 0} (old new : D) (result : Result V DecodeError) : Type 0 where
     pub same_allowance : OnOk result (R.allowance new ≡ R.allowance old)
+    pub no_failure : OnOk result (R.failed new ≡ false)
     pub failing : OnErr result (R.failed new ≡ true)
     pub refused : R.failed old ≡ true → result ≡ Err Failed
 
   -- A call that opens no scope is not too deep.
   pub record Stays {V : Type 0} (old new : D) (result : Result V DecodeError) : Type 0 where
     pub keeps : Keeps old new result
-    pub sound : OnOk result (R.failed new ≡ false)
     pub not_too_deep : result ≢ Err Depth
 
   -- A call that opens a scope, before anything else: where there is no allowance it says so, and so before anything but that the
@@ -248,7 +262,7 @@ module _ {D : Type 0} (R : Reader D) where
   -- A call that opens a scope takes one from the allowance. It is too deep if and only if there is none.
   pub record Enters {V : Type 0} (old new : D) (result : Result V DecodeError) : Type 0 where
     pub one_less : OnOk result (R.allowance old ≡ suc (R.allowance new))
-    pub sound : OnOk result (R.failed new ≡ false)
+    pub no_failure : OnOk result (R.failed new ≡ false)
     pub failing : OnErr result (R.failed new ≡ true)
     pub refused : R.failed old ≡ true → result ≡ Err Failed
     pub too_deep : result ≡ Err Depth → R.allowance old ≡ 0
@@ -257,7 +271,7 @@ module _ {D : Type 0} (R : Reader D) where
   -- A call that closes a scope gives it back.
   pub record Leaves {V : Type 0} (old new : D) (result : Result V DecodeError) : Type 0 where
     pub one_more : OnOk result (R.allowance new ≡ suc (R.allowance old))
-    pub sound : OnOk result (R.failed new ≡ false)
+    pub no_failure : OnOk result (R.failed new ≡ false)
     pub failing : OnErr result (R.failed new ≡ true)
     pub refused : R.failed old ≡ true → result ≡ Err Failed
     pub not_too_deep : result ≢ Err Depth

@@ -25,9 +25,10 @@ ghost use Rattle.std.specs.String.{string_bytes};
 use crate::choices::read_choice;
 use crate::decode::{Decode, DecodeChoice, DecodeFields};
 use crate::decode_set::DecodeSet;
-use crate::defaults::or_default;
+use crate::defaults::{read_default, read_default_with_constraints};
 use crate::elements::read_elements;
 use crate::error::DecodeError;
+use crate::optionals::{Side, read_optional, read_optional_with_constraints};
 use crate::sequences::read_sequence;
 use crate::sets::read_set;
 use crate::sets_of::read_set_of;
@@ -383,7 +384,7 @@ pub trait Decoder {
             self.old self.new result }
         ensures keeps { Keeps reader self.old self.new result }
     {
-        self.decode_optional_with_tag(T::tag())
+        read_optional(self, Side::Root, None)
     }
 
     /// The same as `decode_optional`, under a tag.
@@ -397,13 +398,7 @@ pub trait Decoder {
             self.new result }
         ensures keeps { Keeps reader self.old self.new result }
     {
-        if !self.presence(tag, T::tag_tree_under(tag))? {
-            return Ok(None);
-        }
-        match T::decode_with_tag(self, tag) {
-            Ok(value) => Ok(Some(value)),
-            Err(error) => Err(self.refuse(error)),
-        }
+        read_optional(self, Side::Root, Some(tag))
     }
 
     /// The same as `decode_optional`, under constraints.
@@ -417,7 +412,7 @@ pub trait Decoder {
             (constraint_set constraints.now) self.old self.new result }
         ensures keeps { Keeps reader self.old self.new result }
     {
-        self.decode_optional_with_tag_and_constraints(T::tag(), constraints)
+        read_optional_with_constraints(self, Side::Root, None, constraints)
     }
 
     /// The same as `decode_optional`, under a tag and constraints.
@@ -432,13 +427,7 @@ pub trait Decoder {
             (constraint_set constraints.now) self.old self.new result }
         ensures keeps { Keeps reader self.old self.new result }
     {
-        if !self.presence(tag, T::tag_tree_under(tag))? {
-            return Ok(None);
-        }
-        match T::decode_with_tag_and_constraints(self, tag, constraints) {
-            Ok(value) => Ok(Some(value)),
-            Err(error) => Err(self.refuse(error)),
-        }
+        read_optional_with_constraints(self, Side::Root, Some(tag), constraints)
     }
 
     /// The same as `decode_optional`, after an explicit tag.
@@ -467,7 +456,7 @@ pub trait Decoder {
             T.meaning.constraints self.old self.new result }
         ensures keeps { Keeps reader self.old self.new result }
     {
-        self.decode_extension_addition_with_tag(T::tag())
+        read_optional(self, Side::Additions, None)
     }
 
     /// The same as `decode_extension_addition`, under a tag.
@@ -481,13 +470,7 @@ pub trait Decoder {
             self.old self.new result }
         ensures keeps { Keeps reader self.old self.new result }
     {
-        if !self.addition_presence(tag, T::tag_tree_under(tag))? {
-            return Ok(None);
-        }
-        match T::decode_with_tag(self, tag) {
-            Ok(value) => Ok(Some(value)),
-            Err(error) => Err(self.refuse(error)),
-        }
+        read_optional(self, Side::Additions, Some(tag))
     }
 
     /// The same as `decode_extension_addition`, under constraints.
@@ -501,7 +484,7 @@ pub trait Decoder {
             (constraint_set constraints.now) self.old self.new result }
         ensures keeps { Keeps reader self.old self.new result }
     {
-        self.decode_extension_addition_with_tag_and_constraints(T::tag(), constraints)
+        read_optional_with_constraints(self, Side::Additions, None, constraints)
     }
 
     /// The same as `decode_extension_addition`, under a tag and constraints.
@@ -516,13 +499,7 @@ pub trait Decoder {
             (constraint_set constraints.now) self.old self.new result }
         ensures keeps { Keeps reader self.old self.new result }
     {
-        if !self.addition_presence(tag, T::tag_tree_under(tag))? {
-            return Ok(None);
-        }
-        match T::decode_with_tag_and_constraints(self, tag, constraints) {
-            Ok(value) => Ok(Some(value)),
-            Err(error) => Err(self.refuse(error)),
-        }
+        read_optional_with_constraints(self, Side::Additions, Some(tag), constraints)
     }
 
     /// The same as `decode_extension_addition`, after an explicit tag, with constraints of the value.
@@ -556,7 +533,7 @@ pub trait Decoder {
             T.meaning T.eq T.meaning.tag T.meaning.constraints self.old self.new result }
         ensures keeps { Keeps reader self.old self.new result }
     {
-        self.decode_default_with_tag(T::tag(), default)
+        read_default(self, Side::Root, None, default)
     }
 
     /// The same as `decode_default`, under a tag.
@@ -572,8 +549,7 @@ pub trait Decoder {
             T.meaning T.eq tag T.meaning.constraints self.old self.new result }
         ensures keeps { Keeps reader self.old self.new result }
     {
-        let value = self.decode_optional_with_tag::<T>(tag)?;
-        or_default(self, value, default)
+        read_default(self, Side::Root, Some(tag), default)
     }
 
     /// The same as `decode_default`, under constraints.
@@ -589,7 +565,7 @@ pub trait Decoder {
             T.meaning T.eq T.meaning.tag (constraint_set constraints.now) self.old self.new result }
         ensures keeps { Keeps reader self.old self.new result }
     {
-        self.decode_default_with_tag_and_constraints(T::tag(), default, constraints)
+        read_default_with_constraints(self, Side::Root, None, default, constraints)
     }
 
     /// The same as `decode_default`, under a tag and constraints.
@@ -604,8 +580,7 @@ pub trait Decoder {
             T.meaning T.eq tag (constraint_set constraints.now) self.old self.new result }
         ensures keeps { Keeps reader self.old self.new result }
     {
-        let value = self.decode_optional_with_tag_and_constraints::<T>(tag, constraints)?;
-        or_default(self, value, default)
+        read_default_with_constraints(self, Side::Root, Some(tag), default, constraints)
     }
 
     /// An addition with a default, which is what the closure answers where the addition is absent.
@@ -621,7 +596,7 @@ pub trait Decoder {
             T.meaning.constraints self.old self.new result }
         ensures keeps { Keeps reader self.old self.new result }
     {
-        self.decode_extension_addition_with_default_and_tag(T::tag(), default)
+        read_default(self, Side::Additions, None, default)
     }
 
     /// The same as `decode_extension_addition_with_default`, under a tag.
@@ -637,8 +612,7 @@ pub trait Decoder {
             T.meaning.constraints self.old self.new result }
         ensures keeps { Keeps reader self.old self.new result }
     {
-        let value = self.decode_extension_addition_with_tag::<T>(tag)?;
-        or_default(self, value, default)
+        read_default(self, Side::Additions, Some(tag), default)
     }
 
     /// The same as `decode_extension_addition_with_default`, under constraints.
@@ -654,11 +628,7 @@ pub trait Decoder {
             (constraint_set constraints.now) self.old self.new result }
         ensures keeps { Keeps reader self.old self.new result }
     {
-        self.decode_extension_addition_with_default_and_tag_and_constraints(
-            T::tag(),
-            default,
-            constraints,
-        )
+        read_default_with_constraints(self, Side::Additions, None, default, constraints)
     }
 
     /// The same as `decode_extension_addition_with_default`, under a tag and constraints.
@@ -674,8 +644,7 @@ pub trait Decoder {
             (constraint_set constraints.now) self.old self.new result }
         ensures keeps { Keeps reader self.old self.new result }
     {
-        let value = self.decode_extension_addition_with_tag_and_constraints::<T>(tag, constraints)?;
-        or_default(self, value, default)
+        read_default_with_constraints(self, Side::Additions, Some(tag), default, constraints)
     }
 
     /// A group of additions, which may be absent. One that is there writes a component. What follows it begins with no tag of its

@@ -1,5 +1,5 @@
 -- What an encoder has written, and what a call of it does.
-use Rattle.std.specs.Prelude.{◌≡◌, ◌≢◌, ◌↔◌, ℕ, suc, ◌≤◌, ◌<◌, ⊤, Bool, true, false, List, [], ◌∷◌, ◌++◌, MatchResult, Result, Some}
+use Rattle.std.specs.Prelude.{◌≡◌, ◌≢◌, ◌↔◌, ℕ, suc, ◌≤◌, ◌<◌, ⊤, Bool, true, false, List, [], ◌∷◌, ◌++◌, Err, MatchResult, Result, Some}
 use Rattle.asn1_model.specs.Composites.{group_records}
 use Rattle.asn1_model.specs.Orders.{SameRecords}
 use Rattle.asn1_model.specs.Records.{Record, Head, holding, highest, marks_alone}
@@ -91,6 +91,11 @@ module _ {E : Type 0} (W : Writer E) where
     pub too_deep : e ≡ Depth → W.allowance old ≡ 0
     pub depth_first : W.failed old ≡ false → W.allowance old ≡ 0 → e ≡ Depth
     pub rejected : IsCustom e → (rs : List Record) → W.rejects (holding h rs ∷ [])
+
+  -- A call that opens a scope before anything else: where there is no allowance it says so, and so before anything but that the
+  -- encoder has failed.
+  abbrev pub NeedsAllowance : {A : Type 0} → E → Result A EncodeError → Type 0
+  NeedsAllowance old result = W.failed old ≡ false → W.allowance old ≡ 0 → result ≡ Err Depth
 
   -- a call that opens a scope
   abbrev pub Opens : {A : Type 0} → E → Head → E → Result A EncodeError → Type 0

@@ -3,7 +3,7 @@ ghost use Rattle.asn1_choices.specs.Alternatives.{all_of, chosen_meaning, table_
 ghost use Rattle.asn1_choices.specs.ChosenTags.{chosen_tag as tag_of_chosen};
 ghost use Rattle.asn1_components.specs.ComponentLists.{EachIsOfType};
 ghost use Rattle.asn1_components.specs.Components.{all_components, component_records, is_sequence, is_set, lines};
-ghost use Rattle.asn1_enc.specs.Writing.{Closes, ClosesGroup, IsLawful, Opens, OpensGroup, Refuses, Writer, Writes};
+ghost use Rattle.asn1_enc.specs.Writing.{Closes, ClosesGroup, IsLawful, NeedsAllowance, Opens, OpensGroup, Refuses, Writer, Writes};
 ghost use Rattle.asn1_enumerations.specs.Enumerations.{number_of};
 ghost use Rattle.asn1_enumerations.specs.Labels.{labels_of};
 ghost use Rattle.asn1_model.specs.Composites.{alternative_records, default_records, group_records, list_records, option_records, prefix_records, raw_records, sequence_records, set_of_records, set_records};
@@ -19,6 +19,7 @@ ghost use Rattle.std.specs.Str.{IsUtf8};
 
 use crate::encode::{Encode, EncodeChoice, EncodeFields};
 use crate::error::EncodeError;
+use crate::own_constraints::make_constraints;
 use asn1_bounds::{Codec, Constraints};
 use asn1_choices::{Choice, ChoiceType};
 use asn1_components::{ConstructedType, FieldTable};
@@ -325,7 +326,8 @@ pub trait Encoder {
     ) -> Result<(), EncodeError>
     where
         Self: Sized,
-        ensures { Writes writer self.old (prefix_records tag (name_of name) (own_records T.meaning value.now)) (T.meaning.IsOfType value.now) self.new result }
+        ensures writes { Writes writer self.old (prefix_records tag (name_of name) (own_records T.meaning value.now)) (T.meaning.IsOfType value.now) self.new result }
+        ensures depth_first { NeedsAllowance writer self.old result }
     {
         self.open_explicit_prefix(tag, name)?;
         value.encode(self)?;
@@ -347,6 +349,7 @@ pub trait Encoder {
             (component_records C.components value.now))
             (EachIsOfType (all_components C.components) value.now) self.new result }
         ensures as_meant { C.components.kind ≡ is_sequence → Writes writer self.old (C.meaning.records value.now tag unconstrained (name_of name)) (C.meaning.IsOfType value.now) self.new result }
+        ensures depth_first { NeedsAllowance writer self.old result }
     {
         self.open_sequence::<C>(tag, name)?;
         value.encode_fields(self)?;
@@ -363,7 +366,8 @@ pub trait Encoder {
     ) -> Result<(), EncodeError>
     where
         Self: Sized,
-        ensures { Writes writer self.old (list_records tag (constraint_set constraints.now) (name_of name) (flat_map (own_records T.meaning) elements.now)) (All T.meaning.IsOfType elements.now) self.new result }
+        ensures writes { Writes writer self.old (list_records tag (constraint_set constraints.now) (name_of name) (flat_map (own_records T.meaning) elements.now)) (All T.meaning.IsOfType elements.now) self.new result }
+        ensures depth_first { NeedsAllowance writer self.old result }
     {
         self.open_sequence_of(tag, constraints, name, elements.len())?;
         for element in elements {
@@ -408,6 +412,7 @@ pub trait Encoder {
             (component_records C.components value.now))
             (EachIsOfType (all_components C.components) value.now) self.new result }
         ensures as_meant { C.components.kind ≡ is_set → Writes writer self.old (C.meaning.records value.now tag unconstrained (name_of name)) (C.meaning.IsOfType value.now) self.new result }
+        ensures depth_first { NeedsAllowance writer self.old result }
     {
         self.open_set::<C>(tag, name)?;
         value.encode_fields(self)?;
@@ -424,7 +429,8 @@ pub trait Encoder {
     ) -> Result<(), EncodeError>
     where
         Self: Sized,
-        ensures { Writes writer self.old (set_of_records tag (constraint_set constraints.now) (name_of name) (flat_map (own_records T.meaning) elements.now)) (All T.meaning.IsOfType elements.now) self.new result }
+        ensures writes { Writes writer self.old (set_of_records tag (constraint_set constraints.now) (name_of name) (flat_map (own_records T.meaning) elements.now)) (All T.meaning.IsOfType elements.now) self.new result }
+        ensures depth_first { NeedsAllowance writer self.old result }
     {
         self.open_set_of(tag, constraints, name, elements.len())?;
         for element in elements.iter() {
@@ -442,13 +448,14 @@ pub trait Encoder {
     ) -> Result<(), EncodeError>
     where
         Self: Sized,
-        ensures { Writes writer self.old
+        ensures writes { Writes writer self.old
             (alternative_records (tag_of_chosen (all_of T.alternatives) (T.pick value.now))
             (constraint_set constraints.now)
             (table_of T.alternatives)
             (name_of name)
             (chosen_meaning (all_of T.alternatives) (T.pick value.now)).records)
             (chosen_meaning (all_of T.alternatives) (T.pick value.now)).IsOfType self.new result }
+        ensures depth_first { NeedsAllowance writer self.old result }
     {
         self.open_choice::<T>(value.chosen_tag(), constraints, name)?;
         value.encode_alternative(self)?;
@@ -466,17 +473,17 @@ pub trait Encoder {
     ) -> Result<(), EncodeError>
     where
         Self: Sized,
-        ensures { Writes writer self.old (T.meaning.records value.now tag (constraint_set constraints.now) (name_of name)) (T.meaning.IsOfType value.now) self.new result }
+        ensures writes { Writes writer self.old (T.meaning.records value.now tag (constraint_set constraints.now) (name_of name)) (T.meaning.IsOfType value.now) self.new result }
+        ensures depth_first { NeedsAllowance writer self.old result }
     {
-        let name = name.or(T::identifier());
+        let table = T::table();
+        let name = name.or(table.identifier);
         if tag.is_choice() {
             return self.encode_choice(constraints, value, name);
         }
-        let Ok(own_constraints) = T::constraints(self.global()) else {
-            return Err(self.refuse_memory());
-        };
         self.open_explicit_prefix(tag, name)?;
-        self.encode_choice(&own_constraints, value, T::identifier())?;
+        let own_constraints = make_constraints(self, &table)?;
+        self.encode_choice(&own_constraints, value, table.identifier)?;
         self.close()
     }
 
@@ -495,7 +502,9 @@ pub trait Encoder {
             (name_of name))))
             (T.meaning.IsOfType value.now) self.new result }
     {
-        self.encode_some_with_tag(T::tag(), value, name)
+        let table = T::table();
+        let constraints = make_constraints(self, &table)?;
+        self.encode_some_with_tag_and_constraints(table.tag, &constraints, value, name)
     }
 
     /// A component that may be absent, and is there, under a tag and a name.
@@ -512,9 +521,7 @@ pub trait Encoder {
             (Some (T.meaning.records value.now tag T.meaning.constraints (name_of name))))
             (T.meaning.IsOfType value.now) self.new result }
     {
-        let Ok(constraints) = T::constraints(self.global()) else {
-            return Err(self.refuse_memory());
-        };
+        let constraints = make_constraints(self, &T::table())?;
         self.encode_some_with_tag_and_constraints(tag, &constraints, value, name)
     }
 
@@ -572,7 +579,9 @@ pub trait Encoder {
             (name_of name)))
             (equal ≡ false → T.meaning.IsOfType value.now) self.new result }
     {
-        self.encode_default_with_tag(T::tag(), value, default, name)
+        let table = T::table();
+        let constraints = make_constraints(self, &table)?;
+        self.encode_default_with_tag_and_constraints(table.tag, &constraints, value, default, name)
     }
 
     /// The same as `encode_default`, under a tag.
@@ -590,9 +599,7 @@ pub trait Encoder {
             (T.meaning.records value.now tag T.meaning.constraints (name_of name)))
             (equal ≡ false → T.meaning.IsOfType value.now) self.new result }
     {
-        let Ok(constraints) = T::constraints(self.global()) else {
-            return Err(self.refuse_memory());
-        };
+        let constraints = make_constraints(self, &T::table())?;
         self.encode_default_with_tag_and_constraints(tag, &constraints, value, default, name)
     }
 
@@ -695,7 +702,13 @@ pub trait Encoder {
             (name_of name)))
             (equal ≡ false → T.meaning.IsOfType value.now) self.new result }
     {
-        self.encode_with_tag_or_default(T::tag(), value, name)
+        let table = T::table();
+        if *value == T::default() {
+            self.encode_none_with_tag(table.tag, name)
+        } else {
+            let constraints = make_constraints(self, &table)?;
+            self.encode_some_with_tag_and_constraints(table.tag, &constraints, value, name)
+        }
     }
 
     /// The same as `encode_or_default`, under a tag.
@@ -762,9 +775,7 @@ pub trait Encoder {
             (option_copied value.entry)))
             (IfSome (option_copied value.entry) T.meaning.IsOfType) self.new result }
     {
-        let Ok(constraints) = T::constraints(self.global()) else {
-            return Err(self.refuse_memory());
-        };
+        let constraints = make_constraints(self, &T::table())?;
         self.encode_extension_addition(tag, &constraints, value, name)
     }
 

@@ -40,6 +40,13 @@ fn a_number_outside_its_type_is_refused(rt: HostRuntime) {
 }
 
 #[test]
+fn an_error_of_an_element_is_that_of_the_list(rt: HostRuntime) {
+    let alloc = rt.alloc();
+    let list = written(&rt, alloc, &[7u8, 11u8]);
+    refused::<Vec<ConstrainedInteger<1, 10>>>(&rt, alloc, "11", list, DecodeError::OutOfRange);
+}
+
+#[test]
 fn too_few_records_are_refused(rt: HostRuntime) {
     let alloc = rt.alloc();
     let none = DecodeError::Incomplete(Needed::Unknown);
