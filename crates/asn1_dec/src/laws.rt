@@ -39,11 +39,11 @@ pub fn refused_memory_is_an_error_of_memory(refused: AllocError) -> DecodeError
 
 /// A law of what types refuse: an INTEGER with limits a number outside of them (`limits`), an array a list of another length
 /// (`length`), and what holds a value and means the same what that refuses (`boxed`, `cow`, `implicit`).
-pub fn types_refuse_what_they_say<T: Decode, G: AsnType, L: Limits, const N: usize>()
+pub fn types_refuse_what_they_say<'a, T: Decode + 'a, G: AsnType, L: Limits, const N: usize>()
     ensures limits { RefuseTheSame ⟦<LimitedInteger<L> as Decode>⟧.refused
         (λ takes. IsOutside L.start L.end) }
     ensures length { RefuseTheSame ⟦<Array<T, N> as Decode>⟧.refused (HasOtherLength T.meaning N) }
     ensures boxed { RefuseTheSame ⟦<Box<T> as Decode>⟧.refused T.refused }
-    ensures cow { RefuseTheSame ⟦<Cow<'static, T> as Decode>⟧.refused T.refused }
+    ensures cow { RefuseTheSame ⟦<Cow<'a, T> as Decode>⟧.refused T.refused }
     ensures implicit { RefuseTheSame ⟦<Implicit<G, T> as Decode>⟧.refused T.refused }
 {}

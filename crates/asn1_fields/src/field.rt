@@ -29,8 +29,13 @@ impl<'a> Field<'a> {
     /// A component that is always there.
     pub fn new_required(index: usize, tag: Tag, tag_tree: TagTree<'a>, name: &'a str) -> Self
         ensures { entry_of result ≡
-            record { index = index; tag = tag; tree = shape tag_tree.entry;
-            presence = FieldPresence.Required; name = name.now } }
+            record {
+              index = index;
+              tag = tag;
+              tree = shape tag_tree.entry;
+              presence = FieldPresence.Required;
+              name = name.now;
+            } }
     {
         Field {
             index,
@@ -44,8 +49,13 @@ impl<'a> Field<'a> {
     /// A component that is marked OPTIONAL.
     pub fn new_optional(index: usize, tag: Tag, tag_tree: TagTree<'a>, name: &'a str) -> Self
         ensures { entry_of result ≡
-            record { index = index; tag = tag; tree = shape tag_tree.entry;
-            presence = FieldPresence.Optional; name = name.now } }
+            record {
+              index = index;
+              tag = tag;
+              tree = shape tag_tree.entry;
+              presence = FieldPresence.Optional;
+              name = name.now;
+            } }
     {
         Field {
             index,
@@ -59,8 +69,13 @@ impl<'a> Field<'a> {
     /// A component that is marked DEFAULT.
     pub fn new_default(index: usize, tag: Tag, tag_tree: TagTree<'a>, name: &'a str) -> Self
         ensures { entry_of result ≡
-            record { index = index; tag = tag; tree = shape tag_tree.entry;
-            presence = FieldPresence.Default; name = name.now } }
+            record {
+              index = index;
+              tag = tag;
+              tree = shape tag_tree.entry;
+              presence = FieldPresence.Default;
+              name = name.now;
+            } }
     {
         Field {
             index,
@@ -120,8 +135,13 @@ impl<'a> Field<'a> {
     #[tactic(auto, using(asn1_tags::proofs::Leaves::tree_shapes))]
     pub fn new_required_explicit(index: usize, tag: Tag, name: &'a str) -> Self
         ensures { entry_of result ≡
-            record { index = index; tag = tag; tree = leaf tag; presence = FieldPresence.Required;
-            name = name.now } }
+            record {
+              index = index;
+              tag = tag;
+              tree = leaf tag;
+              presence = FieldPresence.Required;
+              name = name.now;
+            } }
     {
         Field::new_required(index, tag, TagTree::Leaf(tag), name)
     }
@@ -130,8 +150,13 @@ impl<'a> Field<'a> {
     #[tactic(auto, using(asn1_tags::proofs::Leaves::tree_shapes))]
     pub fn new_optional_explicit(index: usize, tag: Tag, name: &'a str) -> Self
         ensures { entry_of result ≡
-            record { index = index; tag = tag; tree = leaf tag; presence = FieldPresence.Optional;
-            name = name.now } }
+            record {
+              index = index;
+              tag = tag;
+              tree = leaf tag;
+              presence = FieldPresence.Optional;
+              name = name.now;
+            } }
     {
         Field::new_optional(index, tag, TagTree::Leaf(tag), name)
     }
@@ -140,8 +165,13 @@ impl<'a> Field<'a> {
     #[tactic(auto, using(asn1_tags::proofs::Leaves::tree_shapes))]
     pub fn new_default_explicit(index: usize, tag: Tag, name: &'a str) -> Self
         ensures { entry_of result ≡
-            record { index = index; tag = tag; tree = leaf tag; presence = FieldPresence.Default;
-            name = name.now } }
+            record {
+              index = index;
+              tag = tag;
+              tree = leaf tag;
+              presence = FieldPresence.Default;
+              name = name.now;
+            } }
     {
         Field::new_default(index, tag, TagTree::Leaf(tag), name)
     }
@@ -150,8 +180,13 @@ impl<'a> Field<'a> {
     #[tactic(auto, using(asn1_tags::proofs::Leaves::tree_shapes))]
     pub fn new_group(index: usize, trees: &'a [TagTree<'a>], name: &'a str) -> Self
         ensures { entry_of result ≡
-            record { index = index; tag = CHOICE; tree = choice (shapes trees.now);
-            presence = FieldPresence.Optional; name = name.now } }
+            record {
+              index = index;
+              tag = CHOICE;
+              tree = choice (shapes trees.now);
+              presence = FieldPresence.Optional;
+              name = name.now;
+            } }
     {
         Field::new_optional(index, Tag::CHOICE, TagTree::Choice(trees), name)
     }

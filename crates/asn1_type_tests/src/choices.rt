@@ -70,10 +70,11 @@ fn nested(inner: Box<Nested>)
 /// The table beside a chosen alternative: the names and tags of those in the root, and of those after the extension marker.
 fn table_of_replies()
     ensures { table_of ⟦<Reply as Choice>⟧.alternatives ≡ record {
-        root = record { name = codes "accepted"; tree = leaf (universal 1); may_be_absent = false } ∷
-        record { name = codes "refused"; tree = leaf (universal 5); may_be_absent = false } ∷ [];
-        additions = Some (
-        record { name = codes "later"; tree = leaf (context 0); may_be_absent = false } ∷ []) } }
+      root = record { name = codes "accepted"; tree = leaf (universal 1); may_be_absent = false } ∷
+          record { name = codes "refused"; tree = leaf (universal 5); may_be_absent = false } ∷ [];
+      additions = Some (
+          record { name = codes "later"; tree = leaf (context 0); may_be_absent = false } ∷ []);
+    } }
 {}
 
 /// The constraint of an alternative's place counts those of the root, and is extensible where there is a marker.

@@ -9,9 +9,10 @@ use std::process::Abort;
 /// The labels beside a number: those of the root, and those after the extension marker.
 fn labels_of_colors()
     ensures { labels_of ⟦<Color as Enumerated>⟧.enumeration ≡ record {
-        root = record { number = pos 0; name = codes "red" } ∷
-        record { number = pos 1; name = codes "green" } ∷ [];
-        additions = Some (record { number = pos 5; name = codes "blue" } ∷ []) } }
+      root = record { number = pos 0; name = codes "red" } ∷
+          record { number = pos 1; name = codes "green" } ∷ [];
+      additions = Some (record { number = pos 5; name = codes "blue" } ∷ []);
+    } }
 {}
 
 fn assert_color(rt: &impl Abort, color: Color, number: isize, name: &str) {
