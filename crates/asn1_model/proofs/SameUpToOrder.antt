@@ -8,10 +8,10 @@ use Rattle.asn1_tags.specs.declared.tags.Tag.{Tag}
 use Rattle.asn1_model.specs.Composites.{group_records}
 use Rattle.asn1_model.specs.ConstraintSets.{ConstraintSet}
 use Rattle.asn1_model.specs.Orders.{is_unordered, Same, SameAll, SameRecords, equal, in_place, in_any_order, at_end, next}
-use Rattle.asn1_model.specs.Records.{Name, Content, Mark, Head, Record, Records, scalar, scope, raw, mark, none, more, held, listed, holding, highest, marks_alone, is_mark, group_start, group_absent, group_end}
+use Rattle.asn1_model.specs.Records.{Name, Content, Mark, Head, Record, Records, scalar, scope, raw, mark, none, more, held, listed, holding, highest, marks_alone, is_mark, group_start, group_absent, group_end, listed-held}
 use Rattle.asn1_model.specs.Tables.{Line, Table}
 use Rattle.asn1_model.specs.Tags.{first_tags, record_tags}
-use Rattle.asn1_model.proofs.Lists.{listed-held, held-listed, inner_height-held}
+use Rattle.asn1_model.proofs.Lists.{held-listed, inner_height-held}
 use Rattle.asn1_model.proofs.SameRecords.{same-mark, same-tags, same-inner_height}
 
 -- each list is the same as itself

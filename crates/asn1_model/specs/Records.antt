@@ -1,5 +1,6 @@
 -- What a value means to a codec: a list of records and presence marks.
-use Rattle.std.specs.Prelude.{ℕ, suc, max, ℤ, Bool, true, false, ◌&&◌, List, [], ◌∷◌, Option, None, Some}
+use Rattle.std.specs.Prelude.{◌≡◌, ℕ, suc, max, ℤ, Bool, true, false, ◌&&◌, List, [], ◌∷◌, Option, None, Some, refl}
+use Rattle.std.proofs.Common.{ap}
 use Rattle.asn1_tags.specs.declared.tags.Tag.{Tag}
 use Rattle.asn1_model.specs.ConstraintSets.{ConstraintSet}
 use Rattle.asn1_model.specs.Tables.{Label, Line, Table}
@@ -86,6 +87,11 @@ held (r ∷ rs) = more r (held rs)
 abbrev pub listed : Records → List Record
 listed none = []
 listed (more r rs) = r ∷ listed rs
+
+-- the same list, where it is held and listed again
+pub listed-held : (rs : List Record) → listed (held rs) ≡ rs
+listed-held [] = refl
+listed-held (r ∷ rs) = ap (λ later. r ∷ later) (listed-held rs)
 
 -- the record of this head that holds the list
 abbrev pub holding : Head → List Record → Record

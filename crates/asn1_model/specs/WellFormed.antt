@@ -6,10 +6,9 @@ use Rattle.std.specs.Option.{option_map}
 use Rattle.std.proofs.lemmas.List.Elements.{All-head, All-tail}
 use Rattle.asn1_tags.specs.declared.tags.Tag.{Tag}
 use Rattle.asn1_tags.specs.Tags.{tag_eq}
-use Rattle.asn1_model.proofs.Lists.{listed-held}
 use Rattle.asn1_model.specs.Composites.{alternative_records, choice_records, option_records, prefix_records}
 use Rattle.asn1_model.specs.ConstraintSets.{ConstraintSet}
-use Rattle.asn1_model.specs.Records.{Head, Name, name_or, Record, Records, Side, alternative, none, more, prefix, scalar, scope, sequence, sequence_of, set, set_of, raw, mark, held, holding, listed}
+use Rattle.asn1_model.specs.Records.{Head, Name, name_or, Record, Records, Side, alternative, none, more, prefix, scalar, scope, sequence, sequence_of, set, set_of, raw, mark, held, holding, listed, listed-held}
 use Rattle.asn1_model.specs.Tables.{Line, Table}
 use Rattle.asn1_model.specs.Tags.{CHOICE, HasOwnTag, HoldsItsTag, first_tag}
 

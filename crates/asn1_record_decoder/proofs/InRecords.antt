@@ -1,9 +1,8 @@
 -- What a record of the program is that holds others, by what it is in the model.
 use Rattle.std.proofs.Common.{◌≡◌, List, ap, ◌∙◌, sym, refl}
 use Rattle.asn1_model.specs.Records as model
-use Rattle.asn1_model.specs.Records.{holding, listed, held, scalar, scope, raw, mark, sequence, set, sequence_of, set_of, prefix, alternative}
+use Rattle.asn1_model.specs.Records.{holding, listed, held, scalar, scope, raw, mark, sequence, set, sequence_of, set_of, prefix, alternative, listed-held}
 use Rattle.asn1_model.specs.Tags.{head_tag, only, record_tags}
-use Rattle.asn1_model.proofs.Lists.{listed-held}
 use Rattle.asn1_records.specs.declared.record.Record.{Record}
 use Rattle.asn1_records.specs.declared.record.Head.{Head}
 use Rattle.asn1_record_decoder.specs.Found.{AreRecords, IsRecord}

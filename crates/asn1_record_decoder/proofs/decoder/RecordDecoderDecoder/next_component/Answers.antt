@@ -10,12 +10,12 @@ pub returns-in-empty-clause-read : goal.returns-in-empty-clause-read
 returns-in-empty-clause-read g c =
     tells_next_tag in_one_order c.args.self.now _ (all_components g.C.FieldTable.components) (Ok None)
     (λ items rest outer at.
-        none_found (all_components g.C.FieldTable.components) c.args.self.now _ c.skip_marks-self.ensures refl c.if-self.false
-        (nil_from_length c.skip_marks-self.result.now (omega (arith, c.in-empty.len_below))) items (rest ∷ outer) at)
+    none_found (all_components g.C.FieldTable.components) c.args.self.now _ c.skip_marks-self.ensures refl c.if-self.false
+    (nil_from_length c.skip_marks-self.result.now (omega (arith, c.in-empty.len_below))) items (rest ∷ outer) at)
 
 pub returns-in-len1-up-clause-read : goal.returns-in-len1-up-clause-read
 returns-in-len1-up-clause-read g c =
     tells_next_tag in_one_order c.args.self.now _ (all_components g.C.FieldTable.components) (Ok (Some c.first_tag.result))
     (λ items rest outer at.
-        next_found (all_components g.C.FieldTable.components) c.args.self.now _ c.record-item.result c.first_tag.result c.skip_marks-self.ensures refl c.if-self.false
-        c.record-item.is c.in-len1-up.len_at_least c.first_tag.ensures items (rest ∷ outer) at)
+    next_found (all_components g.C.FieldTable.components) c.args.self.now _ c.record-item.result c.first_tag.result c.skip_marks-self.ensures refl c.if-self.false
+    c.record-item.is c.in-len1-up.len_at_least c.first_tag.ensures items (rest ∷ outer) at)
