@@ -98,7 +98,7 @@ other_than_default side type can w false = present_or_absent side type Default (
     can (Some w)
 
 -- its records are well formed where what is written is valid
-well_formed_default : {W : Type 0} (side : Side) (type : TaggedType W) (takes : List ℕ → Bool) (w : W)
+pub well_formed_default : {W : Type 0} (side : Side) (type : TaggedType W) (takes : List ℕ → Bool) (w : W)
     (is_default : Bool) → (is_default ≡ false → type.IsValid takes w) →
     AreWellFormed takes (default_records side is_default type.tag (type.records w))
 well_formed_default side type takes w true valid = (tt, tt)

@@ -60,7 +60,7 @@ pub label_is_valid : (takes : List ℕ → Bool) (label : Option (String Global)
 label_is_valid takes None = tt
 label_is_valid takes (Some _) = tt
 
-children_are_valid : (takes : List ℕ → Bool) (children : List WrittenNode) →
+pub children_are_valid : (takes : List ℕ → Bool) (children : List WrittenNode) →
     All (written_child.IsValid takes) children
 children_are_valid takes [] = All-nil (written_child.IsValid takes)
 children_are_valid takes (child ∷ children) =
