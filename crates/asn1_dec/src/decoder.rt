@@ -36,12 +36,15 @@ use asn1_bounds::{Codec, Constraints};
 use asn1_choices::{Choice, ChoiceType};
 use asn1_components::{ConstructedType, FieldTable};
 use asn1_enumerations::{Enumerated, EnumeratedTable};
+use asn1_strings::kind::{
+    Bits, Bmp, General, Graphic, Ia5, Numeric, Octets, Printable, Teletex, Visible,
+};
 use asn1_strings::{
     BitString, BmpString, GeneralString, GraphicString, Ia5String, NumericString, ObjectIdentifier,
     PrintableString, TeletexString, VisibleString,
 };
 use asn1_tags::{Tag, TagTree};
-use asn1_types::{Any, SetOf};
+use asn1_types::{Any, CodecString, SetOf, Utf8};
 use asn1_values::IntegerType;
 use std::alloc::{AllocError, Global};
 
@@ -109,103 +112,15 @@ pub trait Decoder {
         ensures read { ReadsContent reader self.old self.new tag (constraint_set constraints.now) number I.fits (λ w z. I.number w ≡ z) result }
         ensures stays { Stays reader self.old self.new result };
 
-    /// A BIT STRING.
-    fn decode_bit_string(
+    /// A string of the kind `K`. The kind says what its units are ([`CodecString::kind`]), and makes the answer of the string that
+    /// was read ([`CodecString::from_any`]).
+    fn decode_string<U, K: CodecString<U>>(
         &mut self,
         tag: Tag,
         constraints: &Constraints<'_>,
-    ) -> Result<BitString, DecodeError>
-        ensures read { ReadsContent reader self.old self.new tag (constraint_set constraints.now) bits (λ _. ⊤) (λ w v. w ≡ v) result }
-        ensures stays { Stays reader self.old self.new result };
-
-    /// An OCTET STRING.
-    fn decode_octet_string(
-        &mut self,
-        tag: Tag,
-        constraints: &Constraints<'_>,
-    ) -> Result<Vec<u8>, DecodeError>
-        ensures read { ReadsContent reader self.old self.new tag (constraint_set constraints.now) (units octet) (All (λ unit. unit < 2 ^ 8)) (λ w v. w.items ≡ v) result }
-        ensures stays { Stays reader self.old self.new result };
-
-    /// A UTF8String.
-    fn decode_utf8_string(
-        &mut self,
-        tag: Tag,
-        constraints: &Constraints<'_>,
-    ) -> Result<String, DecodeError>
-        ensures read { ReadsContent reader self.old self.new tag (constraint_set constraints.now) (units utf8) IsUtf8 (λ w v. string_bytes w ≡ v) result }
-        ensures stays { Stays reader self.old self.new result };
-
-    /// A GeneralString.
-    fn decode_general_string(
-        &mut self,
-        tag: Tag,
-        constraints: &Constraints<'_>,
-    ) -> Result<GeneralString, DecodeError>
-        ensures read { ReadsContent reader self.old self.new tag (constraint_set constraints.now) (units general) (All (λ unit. unit < 2 ^ 8)) (λ w v. w ≡ v) result }
-        ensures stays { Stays reader self.old self.new result };
-
-    /// A GraphicString.
-    fn decode_graphic_string(
-        &mut self,
-        tag: Tag,
-        constraints: &Constraints<'_>,
-    ) -> Result<GraphicString, DecodeError>
-        ensures read { ReadsContent reader self.old self.new tag (constraint_set constraints.now) (units graphic) (All (λ unit. unit < 2 ^ 8)) (λ w v. w ≡ v) result }
-        ensures stays { Stays reader self.old self.new result };
-
-    /// A VisibleString.
-    fn decode_visible_string(
-        &mut self,
-        tag: Tag,
-        constraints: &Constraints<'_>,
-    ) -> Result<VisibleString, DecodeError>
-        ensures read { ReadsContent reader self.old self.new tag (constraint_set constraints.now) (units visible) (All (λ unit. IsTrue (is_visible unit))) (λ w v. w ≡ v) result }
-        ensures stays { Stays reader self.old self.new result };
-
-    /// An IA5String.
-    fn decode_ia5_string(
-        &mut self,
-        tag: Tag,
-        constraints: &Constraints<'_>,
-    ) -> Result<Ia5String, DecodeError>
-        ensures read { ReadsContent reader self.old self.new tag (constraint_set constraints.now) (units ia5) (All (λ unit. IsTrue (is_ia5 unit))) (λ w v. w ≡ v) result }
-        ensures stays { Stays reader self.old self.new result };
-
-    /// A PrintableString.
-    fn decode_printable_string(
-        &mut self,
-        tag: Tag,
-        constraints: &Constraints<'_>,
-    ) -> Result<PrintableString, DecodeError>
-        ensures read { ReadsContent reader self.old self.new tag (constraint_set constraints.now) (units printable) (All (λ unit. IsTrue (is_printable unit))) (λ w v. w ≡ v) result }
-        ensures stays { Stays reader self.old self.new result };
-
-    /// A NumericString.
-    fn decode_numeric_string(
-        &mut self,
-        tag: Tag,
-        constraints: &Constraints<'_>,
-    ) -> Result<NumericString, DecodeError>
-        ensures read { ReadsContent reader self.old self.new tag (constraint_set constraints.now) (units numeric) (All (λ unit. IsTrue (is_numeric unit))) (λ w v. w ≡ v) result }
-        ensures stays { Stays reader self.old self.new result };
-
-    /// A TeletexString.
-    fn decode_teletex_string(
-        &mut self,
-        tag: Tag,
-        constraints: &Constraints<'_>,
-    ) -> Result<TeletexString, DecodeError>
-        ensures read { ReadsContent reader self.old self.new tag (constraint_set constraints.now) (units teletex) (All (λ unit. unit < 2 ^ 32)) (λ w v. w ≡ v) result }
-        ensures stays { Stays reader self.old self.new result };
-
-    /// A BMPString.
-    fn decode_bmp_string(
-        &mut self,
-        tag: Tag,
-        constraints: &Constraints<'_>,
-    ) -> Result<BmpString, DecodeError>
-        ensures read { ReadsContent reader self.old self.new tag (constraint_set constraints.now) (units bmp) (All (λ unit. unit < 2 ^ 16)) (λ w v. w ≡ v) result }
+    ) -> Result<K::Owned, DecodeError>
+        ensures read { ReadsContent reader self.old self.new tag (constraint_set constraints.now)
+            K.content K.AreOfKind (λ w v. K.units_in w ≡ v) result }
         ensures stays { Stays reader self.old self.new result };
 
     /// A value of an open type, by its bytes, under whatever tag.
@@ -301,6 +216,171 @@ pub trait Decoder {
 
     // The law of a codec.
     ghost lawful: { IsLawful reader };
+
+    /// A BIT STRING.
+    final fn decode_bit_string(
+        &mut self,
+        tag: Tag,
+        constraints: &Constraints<'_>,
+    ) -> Result<BitString, DecodeError>
+    where
+        Self: Sized,
+        ensures read { ReadsContent reader self.old self.new tag (constraint_set constraints.now)
+            bits (λ _. ⊤) (λ w v. w ≡ v) result }
+        ensures stays { Stays reader self.old self.new result }
+    {
+        self.decode_string::<bool, Bits>(tag, constraints)
+    }
+
+    /// An OCTET STRING.
+    final fn decode_octet_string(
+        &mut self,
+        tag: Tag,
+        constraints: &Constraints<'_>,
+    ) -> Result<Vec<u8>, DecodeError>
+    where
+        Self: Sized,
+        ensures read { ReadsContent reader self.old self.new tag (constraint_set constraints.now)
+            (units octet) (All (λ unit. unit < 2 ^ 8)) (λ w v. w.items ≡ v) result }
+        ensures stays { Stays reader self.old self.new result }
+    {
+        self.decode_string::<u8, Octets>(tag, constraints)
+    }
+
+    /// A UTF8String.
+    final fn decode_utf8_string(
+        &mut self,
+        tag: Tag,
+        constraints: &Constraints<'_>,
+    ) -> Result<String, DecodeError>
+    where
+        Self: Sized,
+        ensures read { ReadsContent reader self.old self.new tag (constraint_set constraints.now)
+            (units utf8) IsUtf8 (λ w v. string_bytes w ≡ v) result }
+        ensures stays { Stays reader self.old self.new result }
+    {
+        self.decode_string::<u8, Utf8>(tag, constraints)
+    }
+
+    /// A GeneralString.
+    final fn decode_general_string(
+        &mut self,
+        tag: Tag,
+        constraints: &Constraints<'_>,
+    ) -> Result<GeneralString, DecodeError>
+    where
+        Self: Sized,
+        ensures read { ReadsContent reader self.old self.new tag (constraint_set constraints.now)
+            (units general) (All (λ unit. unit < 2 ^ 8)) (λ w v. w ≡ v) result }
+        ensures stays { Stays reader self.old self.new result }
+    {
+        self.decode_string::<u8, General>(tag, constraints)
+    }
+
+    /// A GraphicString.
+    final fn decode_graphic_string(
+        &mut self,
+        tag: Tag,
+        constraints: &Constraints<'_>,
+    ) -> Result<GraphicString, DecodeError>
+    where
+        Self: Sized,
+        ensures read { ReadsContent reader self.old self.new tag (constraint_set constraints.now)
+            (units graphic) (All (λ unit. unit < 2 ^ 8)) (λ w v. w ≡ v) result }
+        ensures stays { Stays reader self.old self.new result }
+    {
+        self.decode_string::<u8, Graphic>(tag, constraints)
+    }
+
+    /// A VisibleString.
+    final fn decode_visible_string(
+        &mut self,
+        tag: Tag,
+        constraints: &Constraints<'_>,
+    ) -> Result<VisibleString, DecodeError>
+    where
+        Self: Sized,
+        ensures read { ReadsContent reader self.old self.new tag (constraint_set constraints.now)
+            (units visible) (All (λ unit. IsTrue (is_visible unit))) (λ w v. w ≡ v) result }
+        ensures stays { Stays reader self.old self.new result }
+    {
+        self.decode_string::<u8, Visible>(tag, constraints)
+    }
+
+    /// An IA5String.
+    final fn decode_ia5_string(
+        &mut self,
+        tag: Tag,
+        constraints: &Constraints<'_>,
+    ) -> Result<Ia5String, DecodeError>
+    where
+        Self: Sized,
+        ensures read { ReadsContent reader self.old self.new tag (constraint_set constraints.now)
+            (units ia5) (All (λ unit. IsTrue (is_ia5 unit))) (λ w v. w ≡ v) result }
+        ensures stays { Stays reader self.old self.new result }
+    {
+        self.decode_string::<u8, Ia5>(tag, constraints)
+    }
+
+    /// A PrintableString.
+    final fn decode_printable_string(
+        &mut self,
+        tag: Tag,
+        constraints: &Constraints<'_>,
+    ) -> Result<PrintableString, DecodeError>
+    where
+        Self: Sized,
+        ensures read { ReadsContent reader self.old self.new tag (constraint_set constraints.now)
+            (units printable) (All (λ unit. IsTrue (is_printable unit))) (λ w v. w ≡ v) result }
+        ensures stays { Stays reader self.old self.new result }
+    {
+        self.decode_string::<u8, Printable>(tag, constraints)
+    }
+
+    /// A NumericString.
+    final fn decode_numeric_string(
+        &mut self,
+        tag: Tag,
+        constraints: &Constraints<'_>,
+    ) -> Result<NumericString, DecodeError>
+    where
+        Self: Sized,
+        ensures read { ReadsContent reader self.old self.new tag (constraint_set constraints.now)
+            (units numeric) (All (λ unit. IsTrue (is_numeric unit))) (λ w v. w ≡ v) result }
+        ensures stays { Stays reader self.old self.new result }
+    {
+        self.decode_string::<u8, Numeric>(tag, constraints)
+    }
+
+    /// A TeletexString.
+    final fn decode_teletex_string(
+        &mut self,
+        tag: Tag,
+        constraints: &Constraints<'_>,
+    ) -> Result<TeletexString, DecodeError>
+    where
+        Self: Sized,
+        ensures read { ReadsContent reader self.old self.new tag (constraint_set constraints.now)
+            (units teletex) (All (λ unit. unit < 2 ^ 32)) (λ w v. w ≡ v) result }
+        ensures stays { Stays reader self.old self.new result }
+    {
+        self.decode_string::<u32, Teletex>(tag, constraints)
+    }
+
+    /// A BMPString.
+    final fn decode_bmp_string(
+        &mut self,
+        tag: Tag,
+        constraints: &Constraints<'_>,
+    ) -> Result<BmpString, DecodeError>
+    where
+        Self: Sized,
+        ensures read { ReadsContent reader self.old self.new tag (constraint_set constraints.now)
+            (units bmp) (All (λ unit. unit < 2 ^ 16)) (λ w v. w ≡ v) result }
+        ensures stays { Stays reader self.old self.new result }
+    {
+        self.decode_string::<u16, Bmp>(tag, constraints)
+    }
 
     /// A value of an ENUMERATED type, by its number. Where no item of the type has the number, the error is
     /// [`DecodeError::Custom`].

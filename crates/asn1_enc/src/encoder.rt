@@ -25,12 +25,15 @@ use asn1_choices::{Choice, ChoiceType};
 use asn1_components::{ConstructedType, FieldTable};
 use asn1_enumerations::{Enumerated, EnumeratedTable};
 use asn1_model::AsnType;
+use asn1_strings::kind::{
+    Bits, Bmp, General, Graphic, Ia5, Numeric, Octets, Printable, Teletex, Visible,
+};
 use asn1_strings::{
     BmpString, GeneralString, GraphicString, Ia5String, NumericString, PrintableString,
     TeletexString, VisibleString,
 };
 use asn1_tags::{Identifier, Tag};
-use asn1_types::{Any, SetOf};
+use asn1_types::{Any, CodecString, SetOf, Utf8};
 use asn1_values::IntegerType;
 use std::alloc::{AllocError, Global};
 
@@ -101,115 +104,19 @@ pub trait Encoder {
     ) -> Result<(), EncodeError>
         ensures { Writes writer self.old (scalar tag (constraint_set constraints.now) (name_of name) (number (T.number value.now)) ∷ []) (T.fits (T.number value.now)) self.new result };
 
-    /// A BIT STRING.
-    fn encode_bit_string(
+    /// A string of the kind `K`, by its units. The kind makes of them the string of whatever kind that a codec looks at
+    /// ([`CodecString::as_any`]).
+    fn encode_string<U, K: CodecString<U>>(
         &mut self,
         tag: Tag,
         constraints: &Constraints<'_>,
-        value: &[bool],
+        value: &[U],
         name: Identifier,
     ) -> Result<(), EncodeError>
-        ensures { Writes writer self.old (scalar tag (constraint_set constraints.now) (name_of name) (bits value.now) ∷ []) ⊤ self.new result };
-
-    /// An OCTET STRING.
-    fn encode_octet_string(
-        &mut self,
-        tag: Tag,
-        constraints: &Constraints<'_>,
-        value: &[u8],
-        name: Identifier,
-    ) -> Result<(), EncodeError>
-        ensures { Writes writer self.old (scalar tag (constraint_set constraints.now) (name_of name) (units octet value.now) ∷ []) (All (λ unit. unit < 2 ^ 8) value.now) self.new result };
-
-    /// A UTF8String.
-    fn encode_utf8_string(
-        &mut self,
-        tag: Tag,
-        constraints: &Constraints<'_>,
-        value: &str,
-        name: Identifier,
-    ) -> Result<(), EncodeError>
-        ensures { Writes writer self.old (scalar tag (constraint_set constraints.now) (name_of name) (units utf8 value.now) ∷ []) (IsUtf8 value.now) self.new result };
-
-    /// A GeneralString.
-    fn encode_general_string(
-        &mut self,
-        tag: Tag,
-        constraints: &Constraints<'_>,
-        value: &GeneralString,
-        name: Identifier,
-    ) -> Result<(), EncodeError>
-        ensures { Writes writer self.old (scalar tag (constraint_set constraints.now) (name_of name) (units general value.now) ∷ []) (All (λ unit. unit < 2 ^ 8) value.now) self.new result };
-
-    /// A GraphicString.
-    fn encode_graphic_string(
-        &mut self,
-        tag: Tag,
-        constraints: &Constraints<'_>,
-        value: &GraphicString,
-        name: Identifier,
-    ) -> Result<(), EncodeError>
-        ensures { Writes writer self.old (scalar tag (constraint_set constraints.now) (name_of name) (units graphic value.now) ∷ []) (All (λ unit. unit < 2 ^ 8) value.now) self.new result };
-
-    /// A VisibleString.
-    fn encode_visible_string(
-        &mut self,
-        tag: Tag,
-        constraints: &Constraints<'_>,
-        value: &VisibleString,
-        name: Identifier,
-    ) -> Result<(), EncodeError>
-        ensures { Writes writer self.old (scalar tag (constraint_set constraints.now) (name_of name) (units visible value.now) ∷ []) (All (λ unit. IsTrue (is_visible unit)) value.now) self.new result };
-
-    /// An IA5String.
-    fn encode_ia5_string(
-        &mut self,
-        tag: Tag,
-        constraints: &Constraints<'_>,
-        value: &Ia5String,
-        name: Identifier,
-    ) -> Result<(), EncodeError>
-        ensures { Writes writer self.old (scalar tag (constraint_set constraints.now) (name_of name) (units ia5 value.now) ∷ []) (All (λ unit. IsTrue (is_ia5 unit)) value.now) self.new result };
-
-    /// A PrintableString.
-    fn encode_printable_string(
-        &mut self,
-        tag: Tag,
-        constraints: &Constraints<'_>,
-        value: &PrintableString,
-        name: Identifier,
-    ) -> Result<(), EncodeError>
-        ensures { Writes writer self.old (scalar tag (constraint_set constraints.now) (name_of name) (units printable value.now) ∷ []) (All (λ unit. IsTrue (is_printable unit)) value.now) self.new result };
-
-    /// A NumericString.
-    fn encode_numeric_string(
-        &mut self,
-        tag: Tag,
-        constraints: &Constraints<'_>,
-        value: &NumericString,
-        name: Identifier,
-    ) -> Result<(), EncodeError>
-        ensures { Writes writer self.old (scalar tag (constraint_set constraints.now) (name_of name) (units numeric value.now) ∷ []) (All (λ unit. IsTrue (is_numeric unit)) value.now) self.new result };
-
-    /// A TeletexString.
-    fn encode_teletex_string(
-        &mut self,
-        tag: Tag,
-        constraints: &Constraints<'_>,
-        value: &TeletexString,
-        name: Identifier,
-    ) -> Result<(), EncodeError>
-        ensures { Writes writer self.old (scalar tag (constraint_set constraints.now) (name_of name) (units teletex value.now) ∷ []) (All (λ unit. unit < 2 ^ 32) value.now) self.new result };
-
-    /// A BMPString.
-    fn encode_bmp_string(
-        &mut self,
-        tag: Tag,
-        constraints: &Constraints<'_>,
-        value: &BmpString,
-        name: Identifier,
-    ) -> Result<(), EncodeError>
-        ensures { Writes writer self.old (scalar tag (constraint_set constraints.now) (name_of name) (units bmp value.now) ∷ []) (All (λ unit. unit < 2 ^ 16) value.now) self.new result };
+        requires { K.AreOfKind value.now }
+        ensures { Writes writer self.old
+            (scalar tag (constraint_set constraints.now) (name_of name) (K.content value.now) ∷ [])
+            ⊤ self.new result };
 
     /// A value of an open type, by its bytes, under whatever tag.
     fn encode_any(&mut self, tag: Tag, value: &Any, name: Identifier) -> Result<(), EncodeError>
@@ -299,6 +206,200 @@ pub trait Encoder {
 
     // The law of a codec.
     ghost lawful: { IsLawful writer };
+
+    /// A BIT STRING.
+    final fn encode_bit_string(
+        &mut self,
+        tag: Tag,
+        constraints: &Constraints<'_>,
+        value: &[bool],
+        name: Identifier,
+    ) -> Result<(), EncodeError>
+    where
+        Self: Sized,
+        ensures { Writes writer self.old
+            (scalar tag (constraint_set constraints.now) (name_of name) (bits value.now) ∷ [])
+            ⊤ self.new result }
+    {
+        self.encode_string::<bool, Bits>(tag, constraints, value, name)
+    }
+
+    /// An OCTET STRING.
+    final fn encode_octet_string(
+        &mut self,
+        tag: Tag,
+        constraints: &Constraints<'_>,
+        value: &[u8],
+        name: Identifier,
+    ) -> Result<(), EncodeError>
+    where
+        Self: Sized,
+        ensures { Writes writer self.old
+            (scalar tag (constraint_set constraints.now) (name_of name)
+            (units octet value.now) ∷ [])
+            (All (λ unit. unit < 2 ^ 8) value.now) self.new result }
+    {
+        self.encode_string::<u8, Octets>(tag, constraints, value, name)
+    }
+
+    /// A UTF8String.
+    final fn encode_utf8_string(
+        &mut self,
+        tag: Tag,
+        constraints: &Constraints<'_>,
+        value: &str,
+        name: Identifier,
+    ) -> Result<(), EncodeError>
+    where
+        Self: Sized,
+        ensures { Writes writer self.old
+            (scalar tag (constraint_set constraints.now) (name_of name) (units utf8 value.now) ∷ [])
+            (IsUtf8 value.now) self.new result }
+    {
+        self.encode_string::<u8, Utf8>(tag, constraints, value.as_bytes(), name)
+    }
+
+    /// A GeneralString.
+    final fn encode_general_string(
+        &mut self,
+        tag: Tag,
+        constraints: &Constraints<'_>,
+        value: &GeneralString,
+        name: Identifier,
+    ) -> Result<(), EncodeError>
+    where
+        Self: Sized,
+        ensures { Writes writer self.old
+            (scalar tag (constraint_set constraints.now) (name_of name)
+            (units general value.now) ∷ [])
+            (All (λ unit. unit < 2 ^ 8) value.now) self.new result }
+    {
+        self.encode_string::<u8, General>(tag, constraints, value.as_slice(), name)
+    }
+
+    /// A GraphicString.
+    final fn encode_graphic_string(
+        &mut self,
+        tag: Tag,
+        constraints: &Constraints<'_>,
+        value: &GraphicString,
+        name: Identifier,
+    ) -> Result<(), EncodeError>
+    where
+        Self: Sized,
+        ensures { Writes writer self.old
+            (scalar tag (constraint_set constraints.now) (name_of name)
+            (units graphic value.now) ∷ [])
+            (All (λ unit. unit < 2 ^ 8) value.now) self.new result }
+    {
+        self.encode_string::<u8, Graphic>(tag, constraints, value.as_slice(), name)
+    }
+
+    /// A VisibleString.
+    final fn encode_visible_string(
+        &mut self,
+        tag: Tag,
+        constraints: &Constraints<'_>,
+        value: &VisibleString,
+        name: Identifier,
+    ) -> Result<(), EncodeError>
+    where
+        Self: Sized,
+        ensures { Writes writer self.old
+            (scalar tag (constraint_set constraints.now) (name_of name)
+            (units visible value.now) ∷ [])
+            (All (λ unit. IsTrue (is_visible unit)) value.now) self.new result }
+    {
+        self.encode_string::<u8, Visible>(tag, constraints, value.as_slice(), name)
+    }
+
+    /// An IA5String.
+    final fn encode_ia5_string(
+        &mut self,
+        tag: Tag,
+        constraints: &Constraints<'_>,
+        value: &Ia5String,
+        name: Identifier,
+    ) -> Result<(), EncodeError>
+    where
+        Self: Sized,
+        ensures { Writes writer self.old
+            (scalar tag (constraint_set constraints.now) (name_of name) (units ia5 value.now) ∷ [])
+            (All (λ unit. IsTrue (is_ia5 unit)) value.now) self.new result }
+    {
+        self.encode_string::<u8, Ia5>(tag, constraints, value.as_slice(), name)
+    }
+
+    /// A PrintableString.
+    final fn encode_printable_string(
+        &mut self,
+        tag: Tag,
+        constraints: &Constraints<'_>,
+        value: &PrintableString,
+        name: Identifier,
+    ) -> Result<(), EncodeError>
+    where
+        Self: Sized,
+        ensures { Writes writer self.old
+            (scalar tag (constraint_set constraints.now) (name_of name)
+            (units printable value.now) ∷ [])
+            (All (λ unit. IsTrue (is_printable unit)) value.now) self.new result }
+    {
+        self.encode_string::<u8, Printable>(tag, constraints, value.as_slice(), name)
+    }
+
+    /// A NumericString.
+    final fn encode_numeric_string(
+        &mut self,
+        tag: Tag,
+        constraints: &Constraints<'_>,
+        value: &NumericString,
+        name: Identifier,
+    ) -> Result<(), EncodeError>
+    where
+        Self: Sized,
+        ensures { Writes writer self.old
+            (scalar tag (constraint_set constraints.now) (name_of name)
+            (units numeric value.now) ∷ [])
+            (All (λ unit. IsTrue (is_numeric unit)) value.now) self.new result }
+    {
+        self.encode_string::<u8, Numeric>(tag, constraints, value.as_slice(), name)
+    }
+
+    /// A TeletexString.
+    final fn encode_teletex_string(
+        &mut self,
+        tag: Tag,
+        constraints: &Constraints<'_>,
+        value: &TeletexString,
+        name: Identifier,
+    ) -> Result<(), EncodeError>
+    where
+        Self: Sized,
+        ensures { Writes writer self.old
+            (scalar tag (constraint_set constraints.now) (name_of name)
+            (units teletex value.now) ∷ [])
+            (All (λ unit. unit < 2 ^ 32) value.now) self.new result }
+    {
+        self.encode_string::<u32, Teletex>(tag, constraints, value.as_slice(), name)
+    }
+
+    /// A BMPString.
+    final fn encode_bmp_string(
+        &mut self,
+        tag: Tag,
+        constraints: &Constraints<'_>,
+        value: &BmpString,
+        name: Identifier,
+    ) -> Result<(), EncodeError>
+    where
+        Self: Sized,
+        ensures { Writes writer self.old
+            (scalar tag (constraint_set constraints.now) (name_of name) (units bmp value.now) ∷ [])
+            (All (λ unit. unit < 2 ^ 16) value.now) self.new result }
+    {
+        self.encode_string::<u16, Bmp>(tag, constraints, value.as_slice(), name)
+    }
 
     /// A value of an ENUMERATED type, by its number.
     final fn encode_enumerated<T: Enumerated>(

@@ -2,7 +2,7 @@
 ghost use Rattle.std.specs.Prelude.{◌+◌, ◌<◌, ◌^◌, vec_len};
 
 use crate::found::{self, BAD_ITEM};
-use crate::from_content::FromContent;
+use crate::from_content::{FromContent, StringOf};
 use crate::marks::skip_marks;
 use crate::wanted::Wanted;
 use asn1_bounds::{Codec, Constraints};
@@ -11,12 +11,9 @@ use asn1_components::FieldTable;
 use asn1_dec::{DecodeError, Decoder, Needed};
 use asn1_enumerations::EnumeratedTable;
 use asn1_records::{Record, Side};
-use asn1_strings::{
-    BitString, BmpString, GeneralString, GraphicString, Ia5String, NumericString, ObjectIdentifier,
-    PrintableString, TeletexString, VisibleString,
-};
+use asn1_strings::ObjectIdentifier;
 use asn1_tags::{Tag, TagTree};
-use asn1_types::Any;
+use asn1_types::{Any, CodecString};
 use asn1_values::{Integer, IntegerType};
 use std::alloc::Global;
 
@@ -305,92 +302,13 @@ impl<'a> Decoder for RecordDecoder<'a> {
         }
     }
 
-    fn decode_bit_string(
+    fn decode_string<U, K: CodecString<U>>(
         &mut self,
         tag: Tag,
         _constraints: &Constraints<'_>,
-    ) -> Result<BitString, DecodeError> {
-        self.scalar(tag)
-    }
-
-    fn decode_octet_string(
-        &mut self,
-        tag: Tag,
-        _constraints: &Constraints<'_>,
-    ) -> Result<Vec<u8>, DecodeError> {
-        self.scalar(tag)
-    }
-
-    fn decode_utf8_string(
-        &mut self,
-        tag: Tag,
-        _constraints: &Constraints<'_>,
-    ) -> Result<String, DecodeError> {
-        self.scalar(tag)
-    }
-
-    fn decode_general_string(
-        &mut self,
-        tag: Tag,
-        _constraints: &Constraints<'_>,
-    ) -> Result<GeneralString, DecodeError> {
-        self.scalar(tag)
-    }
-
-    fn decode_graphic_string(
-        &mut self,
-        tag: Tag,
-        _constraints: &Constraints<'_>,
-    ) -> Result<GraphicString, DecodeError> {
-        self.scalar(tag)
-    }
-
-    fn decode_visible_string(
-        &mut self,
-        tag: Tag,
-        _constraints: &Constraints<'_>,
-    ) -> Result<VisibleString, DecodeError> {
-        self.scalar(tag)
-    }
-
-    fn decode_ia5_string(
-        &mut self,
-        tag: Tag,
-        _constraints: &Constraints<'_>,
-    ) -> Result<Ia5String, DecodeError> {
-        self.scalar(tag)
-    }
-
-    fn decode_printable_string(
-        &mut self,
-        tag: Tag,
-        _constraints: &Constraints<'_>,
-    ) -> Result<PrintableString, DecodeError> {
-        self.scalar(tag)
-    }
-
-    fn decode_numeric_string(
-        &mut self,
-        tag: Tag,
-        _constraints: &Constraints<'_>,
-    ) -> Result<NumericString, DecodeError> {
-        self.scalar(tag)
-    }
-
-    fn decode_teletex_string(
-        &mut self,
-        tag: Tag,
-        _constraints: &Constraints<'_>,
-    ) -> Result<TeletexString, DecodeError> {
-        self.scalar(tag)
-    }
-
-    fn decode_bmp_string(
-        &mut self,
-        tag: Tag,
-        _constraints: &Constraints<'_>,
-    ) -> Result<BmpString, DecodeError> {
-        self.scalar(tag)
+    ) -> Result<K::Owned, DecodeError> {
+        let found: StringOf<U, K> = self.scalar(tag)?;
+        Ok(found.string)
     }
 
     fn decode_any(&mut self, _tag: Tag) -> Result<Any, DecodeError> {

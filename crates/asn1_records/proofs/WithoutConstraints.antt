@@ -2,10 +2,21 @@
 use Rattle.std.proofs.Common.{◌≡◌, Bool, true, false, ◌&&◌, List, [], ◌∷◌, ◌++◌, if◌then◌else◌, refl, sym, ap, ◌∙◌, Some}
 use Rattle.std.proofs.lemmas.List.{map-append}
 use Rattle.asn1_enc.specs.Writing.{Written, outermost, in_scope, in_group, followed_by}
+use Rattle.asn1_types.specs.AnyStrings.{IsStringOf}
 use Rattle.asn1_model.specs.Composites.{group_records}
-use Rattle.asn1_model.specs.Records.{Record, more, held, scalar, scope, raw, mark, Head, holding, is_mark, marks_alone, group_start, group_absent, group_end}
+use Rattle.asn1_types.specs.declared.any_string.StringKind.{StringKind}
+use Rattle.asn1_types.specs.declared.any_string.StringKind.TheVariants as kinds
+use Rattle.asn1_model.specs.Records.{Record, Content, bits, units, more, held, scalar, scope, raw, mark, Head, holding, is_mark, marks_alone, group_start, group_absent, group_end}
 use Rattle.asn1_model.specs.Tables.{Line, Table, no_table}
-use Rattle.asn1_records.specs.WithoutConstraints.{head_without, record_without, inner_without, without_constraints, written_without}
+use Rattle.asn1_records.specs.WithoutConstraints.{content_without, head_without, record_without, inner_without, without_constraints, written_without}
+
+-- the content of a string is as it was
+pub content_without-string : (k : StringKind) (x : Content) → IsStringOf k x → content_without x ≡ x
+content_without-string kinds.Bits (bits list) is = refl
+content_without-string (kinds.Octets k) (units own list) is = refl
+content_without-string kinds.Bmp (units own list) is = refl
+content_without-string kinds.Teletex (units own list) is = refl
+content_without-string _ _ is = absurd is
 
 -- records that are held are each without constraints
 pub inner_without-held : (rs : List Record) → inner_without (held rs) ≡ held (without_constraints rs)

@@ -1,11 +1,12 @@
 -- What the records of a program are in the model. They have no constraints and no tables.
-use Rattle.std.specs.Prelude.{List, map, string_bytes}
+use Rattle.std.specs.Prelude.{List, map}
 use Rattle.asn1_tags.specs.Names.{name_of}
+use Rattle.asn1_types.specs.AnyStrings.{content_of_string}
 use Rattle.asn1_model.specs.ConstraintSets.{unconstrained}
 use Rattle.asn1_model.specs.Records as model
 use Rattle.asn1_model.specs.Tables.{no_table}
 use Rattle.asn1_records.specs.declared.content.Content.{Content}
-use Rattle.asn1_records.specs.declared.content.Content.TheVariants.{Null, Truth, Number, Discriminant, Arcs, Bits, Octets, Utf8, Visible, General, Graphic, Ia5, Printable, Numeric, Teletex, Bmp}
+use Rattle.asn1_records.specs.declared.content.Content.TheVariants.{Null, Truth, Number, Discriminant, Arcs, String}
 use Rattle.asn1_records.specs.declared.record.Head.{Head}
 use Rattle.asn1_records.specs.declared.record.Head.TheVariants.{Sequence, Set, SequenceOf, SetOf, Prefix, Alternative}
 use Rattle.asn1_records.specs.declared.record.Mark.{Mark}
@@ -23,17 +24,7 @@ content_of (Truth b) = model.truth b
 content_of (Number n) = model.number n
 content_of (Discriminant n) = model.discriminant no_table n
 content_of (Arcs arcs) = model.arcs arcs.items
-content_of (Bits bits) = model.bits bits.items
-content_of (Octets octets) = model.units model.octet octets.items
-content_of (Utf8 text) = model.units model.utf8 (string_bytes text)
-content_of (Visible text) = model.units model.visible text
-content_of (General text) = model.units model.general text
-content_of (Graphic text) = model.units model.graphic text
-content_of (Ia5 text) = model.units model.ia5 text
-content_of (Printable text) = model.units model.printable text
-content_of (Numeric text) = model.units model.numeric text
-content_of (Teletex text) = model.units model.teletex text
-content_of (Bmp text) = model.units model.bmp text
+content_of (String string) = content_of_string string
 
 -- the head, of no constraints
 abbrev pub head_of : Head → model.Head

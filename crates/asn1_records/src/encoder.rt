@@ -11,12 +11,8 @@ use asn1_choices::Choice;
 use asn1_components::FieldTable;
 use asn1_enc::{EncodeError, Encoder};
 use asn1_enumerations::EnumeratedTable;
-use asn1_strings::{
-    BmpString, GeneralString, GraphicString, Ia5String, NumericString, PrintableString,
-    TeletexString, VisibleString,
-};
 use asn1_tags::{Identifier, Tag};
-use asn1_types::Any;
+use asn1_types::{Any, CodecString};
 use asn1_values::IntegerType;
 use std::alloc::{AllocError, Global};
 use std::mem;
@@ -270,114 +266,14 @@ impl Encoder for RecordEncoder {
         self.append_scalar(tag, name, Content::number(self.alloc, value))
     }
 
-    fn encode_bit_string(
+    fn encode_string<U, K: CodecString<U>>(
         &mut self,
         tag: Tag,
         _constraints: &Constraints<'_>,
-        value: &[bool],
+        value: &[U],
         name: Identifier,
     ) -> Result<(), EncodeError> {
-        self.append_scalar(tag, name, Content::bits(self.alloc, value))
-    }
-
-    fn encode_octet_string(
-        &mut self,
-        tag: Tag,
-        _constraints: &Constraints<'_>,
-        value: &[u8],
-        name: Identifier,
-    ) -> Result<(), EncodeError> {
-        self.append_scalar(tag, name, Content::octets(self.alloc, value))
-    }
-
-    fn encode_utf8_string(
-        &mut self,
-        tag: Tag,
-        _constraints: &Constraints<'_>,
-        value: &str,
-        name: Identifier,
-    ) -> Result<(), EncodeError> {
-        self.append_scalar(tag, name, Content::utf8(self.alloc, value))
-    }
-
-    fn encode_general_string(
-        &mut self,
-        tag: Tag,
-        _constraints: &Constraints<'_>,
-        value: &GeneralString,
-        name: Identifier,
-    ) -> Result<(), EncodeError> {
-        self.append_scalar(tag, name, Content::general(self.alloc, value))
-    }
-
-    fn encode_graphic_string(
-        &mut self,
-        tag: Tag,
-        _constraints: &Constraints<'_>,
-        value: &GraphicString,
-        name: Identifier,
-    ) -> Result<(), EncodeError> {
-        self.append_scalar(tag, name, Content::graphic(self.alloc, value))
-    }
-
-    fn encode_visible_string(
-        &mut self,
-        tag: Tag,
-        _constraints: &Constraints<'_>,
-        value: &VisibleString,
-        name: Identifier,
-    ) -> Result<(), EncodeError> {
-        self.append_scalar(tag, name, Content::visible(self.alloc, value))
-    }
-
-    fn encode_ia5_string(
-        &mut self,
-        tag: Tag,
-        _constraints: &Constraints<'_>,
-        value: &Ia5String,
-        name: Identifier,
-    ) -> Result<(), EncodeError> {
-        self.append_scalar(tag, name, Content::ia5(self.alloc, value))
-    }
-
-    fn encode_printable_string(
-        &mut self,
-        tag: Tag,
-        _constraints: &Constraints<'_>,
-        value: &PrintableString,
-        name: Identifier,
-    ) -> Result<(), EncodeError> {
-        self.append_scalar(tag, name, Content::printable(self.alloc, value))
-    }
-
-    fn encode_numeric_string(
-        &mut self,
-        tag: Tag,
-        _constraints: &Constraints<'_>,
-        value: &NumericString,
-        name: Identifier,
-    ) -> Result<(), EncodeError> {
-        self.append_scalar(tag, name, Content::numeric(self.alloc, value))
-    }
-
-    fn encode_teletex_string(
-        &mut self,
-        tag: Tag,
-        _constraints: &Constraints<'_>,
-        value: &TeletexString,
-        name: Identifier,
-    ) -> Result<(), EncodeError> {
-        self.append_scalar(tag, name, Content::teletex(self.alloc, value))
-    }
-
-    fn encode_bmp_string(
-        &mut self,
-        tag: Tag,
-        _constraints: &Constraints<'_>,
-        value: &BmpString,
-        name: Identifier,
-    ) -> Result<(), EncodeError> {
-        self.append_scalar(tag, name, Content::bmp(self.alloc, value))
+        self.append_scalar(tag, name, Content::string(self.alloc, K::as_any(value)))
     }
 
     fn encode_any(&mut self, _tag: Tag, value: &Any, name: Identifier) -> Result<(), EncodeError> {

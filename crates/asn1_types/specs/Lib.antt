@@ -1,3 +1,4 @@
+pub mod AnyStrings
 pub mod Multisets
 pub mod MultisetLaws
 pub mod Kinds

@@ -17,6 +17,7 @@ ghost use Rattle.asn1_types.specs.declared.implicit.Implicit.{Implicit};
 ghost use Rattle.asn1_types.specs.declared.instance_of.InstanceOf.{InstanceOf};
 
 mod premises;
+mod strings;
 
 use crate::any::Any;
 use crate::array::Array;
@@ -29,6 +30,9 @@ use asn1_fields::FieldPresence;
 use asn1_model::AsnType;
 pub use premises::{types_are_tagged_as_their_contents, values_are_valid_as_their_contents};
 use std::hash::Hash;
+pub use strings::{
+    kinds_of_string_are_compared_as_they_are, kinds_of_string_say_what_their_types_say,
+};
 
 /// Laws of the derived traits. Values under another tag are compared, hashed and cloned as the values that they hold,
 /// values of open types are compared and hashed as their bytes, and those of an INSTANCE OF by the name of the type and then

@@ -9,12 +9,8 @@ use asn1_choices::Choice;
 use asn1_components::FieldTable;
 use asn1_enc::{EncodeError, Encoder};
 use asn1_enumerations::EnumeratedTable;
-use asn1_strings::{
-    BmpString, GeneralString, GraphicString, Ia5String, NumericString, PrintableString,
-    TeletexString, VisibleString,
-};
 use asn1_tags::{Identifier, Tag};
-use asn1_types::Any;
+use asn1_types::{Any, CodecString};
 use asn1_values::IntegerType;
 use std::alloc::Global;
 
@@ -136,121 +132,13 @@ impl Encoder for Listener {
         self.may_write()
     }
 
-    fn encode_bit_string(
+    fn encode_string<U, K: CodecString<U>>(
         &mut self,
         _tag: Tag,
         _constraints: &Constraints<'_>,
-        _value: &[bool],
+        _value: &[U],
         _name: Identifier,
     ) -> Result<(), EncodeError> {
-        self.may_write()
-    }
-
-    fn encode_octet_string(
-        &mut self,
-        _tag: Tag,
-        _constraints: &Constraints<'_>,
-        _value: &[u8],
-        _name: Identifier,
-    ) -> Result<(), EncodeError> {
-        self.may_write()
-    }
-
-    fn encode_utf8_string(
-        &mut self,
-        _tag: Tag,
-        _constraints: &Constraints<'_>,
-        _value: &str,
-        _name: Identifier,
-    ) -> Result<(), EncodeError> {
-        self.may_write()
-    }
-
-    fn encode_general_string(
-        &mut self,
-        _tag: Tag,
-        _constraints: &Constraints<'_>,
-        value: &GeneralString,
-        _name: Identifier,
-    ) -> Result<(), EncodeError> {
-        let _ = value.as_slice();
-        self.may_write()
-    }
-
-    fn encode_graphic_string(
-        &mut self,
-        _tag: Tag,
-        _constraints: &Constraints<'_>,
-        value: &GraphicString,
-        _name: Identifier,
-    ) -> Result<(), EncodeError> {
-        let _ = value.as_slice();
-        self.may_write()
-    }
-
-    fn encode_visible_string(
-        &mut self,
-        _tag: Tag,
-        _constraints: &Constraints<'_>,
-        value: &VisibleString,
-        _name: Identifier,
-    ) -> Result<(), EncodeError> {
-        let _ = value.as_slice();
-        self.may_write()
-    }
-
-    fn encode_ia5_string(
-        &mut self,
-        _tag: Tag,
-        _constraints: &Constraints<'_>,
-        value: &Ia5String,
-        _name: Identifier,
-    ) -> Result<(), EncodeError> {
-        let _ = value.as_slice();
-        self.may_write()
-    }
-
-    fn encode_printable_string(
-        &mut self,
-        _tag: Tag,
-        _constraints: &Constraints<'_>,
-        value: &PrintableString,
-        _name: Identifier,
-    ) -> Result<(), EncodeError> {
-        let _ = value.as_slice();
-        self.may_write()
-    }
-
-    fn encode_numeric_string(
-        &mut self,
-        _tag: Tag,
-        _constraints: &Constraints<'_>,
-        value: &NumericString,
-        _name: Identifier,
-    ) -> Result<(), EncodeError> {
-        let _ = value.as_slice();
-        self.may_write()
-    }
-
-    fn encode_teletex_string(
-        &mut self,
-        _tag: Tag,
-        _constraints: &Constraints<'_>,
-        value: &TeletexString,
-        _name: Identifier,
-    ) -> Result<(), EncodeError> {
-        let _ = value.as_slice();
-        self.may_write()
-    }
-
-    fn encode_bmp_string(
-        &mut self,
-        _tag: Tag,
-        _constraints: &Constraints<'_>,
-        value: &BmpString,
-        _name: Identifier,
-    ) -> Result<(), EncodeError> {
-        let _ = value.as_slice();
         self.may_write()
     }
 
