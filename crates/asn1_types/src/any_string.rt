@@ -104,13 +104,7 @@ impl AnyString {
             content_of_string self ≡ units (octet_kind kind) found.items) }
     {
         match self {
-            AnyString::Octets(own, octets) => {
-                if own == kind {
-                    Some(octets)
-                } else {
-                    None
-                }
-            }
+            AnyString::Octets(own, octets) => { if own == kind { Some(octets) } else { None } }
             _ => None,
         }
     }
