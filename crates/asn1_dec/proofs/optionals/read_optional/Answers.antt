@@ -1,4 +1,4 @@
-use Rattle.std.proofs.Common.{ap, inl, ◌∙◌}
+use Rattle.std.proofs.Common.{◌≡◌, ap, inl, ◌∙◌}
 use Rattle.std.proofs.lemmas.Result.{err_from_is_err_and}
 use Rattle.std.specs.Prelude.{Err, refl}
 use Rattle.asn1_dec.specs.declared.error.DecodeError.TheVariants.{Memory}
@@ -25,8 +25,8 @@ returns-then-not-branch-clause-read g c =
     let asked = ap tree_tags (c.under.ensures ∙ c.table.ensures.tree t) in
     rw (← is) (option_is_absent g.D.Decoder.reader (side_of c.args.side) m g.T.PartialEq.eq t m.constraints c.args.decoder.now c.is_there.new.decoder _ asked c.in_ok-is_there.ensures.read c.if-not-branch.true)
 
-pub returns-in-Err-clause-read : goal.returns-in-Err-clause-read
-returns-in-Err-clause-read g c =
+pub returns-in_default-clause-read : goal.returns-in_default-clause-read
+returns-in_default-clause-read g c =
     let m = g.T.AsnType.meaning in
     let t = c.unwrap_or-tag.result in
     let is : t ≡ unwrap_or c.args.tag m.tag = c.unwrap_or-tag.ensures ∙ ap (unwrap_or c.args.tag) c.table.ensures.tag in

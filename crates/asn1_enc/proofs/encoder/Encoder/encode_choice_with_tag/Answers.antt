@@ -16,7 +16,7 @@ returns-in_err-open_explicit_prefix-clause-writes g c =
     let means = chosen_meaning (all_of g.T.Choice.alternatives) (g.T.Choice.pick c.args.value.now) in
     as_tagged W m g.T.Choice.alternatives g.T.Choice.pick c.args.value.now c.args.tag (constraint_set c.args.constraints.now) (name_of c.args.name) (name_of c.or-name.result) _ _ _ g.met.T.ChoiceType.agrees
     (sym c.is_choice.ensures.parts ∙ c.if-is_choice.false)
-    (rw c.identifier.ensures at (named_or (name_of c.args.name) (name_of c.identifier.result) (name_of c.or-name.result) c.or-name.ensures.named c.or-name.ensures.empty))
+    (rw c.table-table.ensures.identifier at (named_or (name_of c.args.name) (name_of c.table-table.result.identifier) (name_of c.or-name.result) c.or-name.ensures.named c.or-name.ensures.empty))
     (exits W _ _ _ means.IsOfType _ c.from_residual.ensures.1
     (open_fails W (alternative_records (chosen_tag (all_of g.T.Choice.alternatives) (g.T.Choice.pick c.args.value.now)) m.constraints (table_of g.T.Choice.alternatives) m.name means.records) c.in_err-open_explicit_prefix.ensures))
 
@@ -26,6 +26,6 @@ returns-in_err-encode_choice-clause-writes g c =
     let m = g.T.AsnType.meaning in
     as_tagged W m g.T.Choice.alternatives g.T.Choice.pick c.args.value.now c.args.tag (constraint_set c.args.constraints.now) (name_of c.args.name) (name_of c.or-name.result) _ _ _ g.met.T.ChoiceType.agrees
     (sym c.is_choice.ensures.parts ∙ c.if-is_choice.false)
-    (rw c.identifier.ensures at (named_or (name_of c.args.name) (name_of c.identifier.result) (name_of c.or-name.result) c.or-name.ensures.named c.or-name.ensures.empty))
+    (rw c.table-table.ensures.identifier at (named_or (name_of c.args.name) (name_of c.table-table.result.identifier) (name_of c.or-name.result) c.or-name.ensures.named c.or-name.ensures.empty))
     (exits W _ _ _ _ _ c.from_residual-in_err-encode_choice.ensures.1
-    (inside_fails W g.met.Self.Encoder.lawful c.in_ok-open_explicit_prefix.ensures (rw (c.in-Ok.ensures.set, c.identifier-2.ensures) at c.in_err-encode_choice.ensures.writes)))
+    (inside_fails W g.met.Self.Encoder.lawful c.in_ok-open_explicit_prefix.ensures (rw (c.in_ok-own_constraints.ensures.made, c.table-table.ensures.constraints, c.table-table.ensures.identifier, c.in_ok-own_constraints.ensures.same) at c.in_err-encode_choice.ensures.writes)))
