@@ -55,9 +55,9 @@ module _ {D V W : Type 0} (R : Reader D) (m : Meaning V) (value : W → V) (t : 
   })
 
   -- What the type of the value refuses, the box does.
-  pub refuses_boxed : {refused : Refusals} (answer : Result V DecodeError) (result : Result W DecodeError) →
+  pub refuses_boxed : (refused : Refusals) (answer : Result V DecodeError) (result : Result W DecodeError) →
       Refuses R refused t c old new answer →
       MatchResult answer (λ v. MatchResult result (λ w. value w ≡ v) (λ e. e ≡ Memory)) (λ e. result ≡ Err e) →
       Refuses R refused t c old new result
-  refuses_boxed (Ok v) result refuses boxed = λ rs rest outer e is at. absurd (refuses rs rest outer e is at)
-  refuses_boxed (Err f) result refuses boxed = λ rs rest outer e is at. rw boxed (refuses rs rest outer e is at)
+  refuses_boxed refused (Ok v) result refuses boxed = λ rs rest outer e is at. absurd (refuses rs rest outer e is at)
+  refuses_boxed refused (Err f) result refuses boxed = λ rs rest outer e is at. rw boxed (refuses rs rest outer e is at)

@@ -28,4 +28,4 @@ returns-in_err-encode_choice-clause-writes g c =
     (sym c.is_choice.ensures.parts ∙ c.if-is_choice.false)
     (rw c.table-table.ensures.identifier at (named_or (name_of c.args.name) (name_of c.table-table.result.identifier) (name_of c.or-name.result) c.or-name.ensures.named c.or-name.ensures.empty))
     (exits W _ _ _ _ _ c.from_residual-in_err-encode_choice.ensures.1
-    (inside_fails W g.met.Self.Encoder.lawful c.in_ok-open_explicit_prefix.ensures (rw (c.in_ok-own_constraints.ensures.same, c.in_ok-own_constraints.ensures.made, c.table-table.ensures.constraints, c.table-table.ensures.identifier) at c.in_err-encode_choice.ensures.writes)))
+    (inside_fails W g.met.Self.Encoder.lawful c.in_ok-open_explicit_prefix.ensures (rw (c.in_ok-own_constraints.ensures.made, c.table-table.ensures.constraints, c.table-table.ensures.identifier, c.in_ok-own_constraints.ensures.same) at c.in_err-encode_choice.ensures.writes)))

@@ -15,4 +15,4 @@ returns-clause-leaves g c =
 pub returns-clause-refuses : goal.returns-clause-refuses
 returns-clause-refuses g c =
     let refuses : Refuses g.D.Decoder.reader g.T.Decode.refused c.args.tag (constraint_set c.args.constraints.now) c.args.decoder.now c.read_boxed.new.decoder c.read_boxed.ensures.0 = search rules in
-    refuses_boxed g.D.Decoder.reader g.T.AsnType.meaning (λ b. b.value) c.args.tag (constraint_set c.args.constraints.now) c.args.decoder.now c.read_boxed.new.decoder c.read_boxed.ensures.0 c.read_boxed.result refuses c.read_boxed.ensures.2
+    refuses_boxed g.D.Decoder.reader g.T.AsnType.meaning (λ b. b.value) c.args.tag (constraint_set c.args.constraints.now) c.args.decoder.now c.read_boxed.new.decoder g.T.Decode.refused c.read_boxed.ensures.0 c.read_boxed.result refuses c.read_boxed.ensures.2
