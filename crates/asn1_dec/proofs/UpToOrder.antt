@@ -11,10 +11,10 @@ use Rattle.asn1_dec.proofs.MarksPassed.{same-marks_passed, same-next_tag}
 use Rattle.asn1_dec.proofs.RecordsIn.{records_in-permutation, same-records_in}
 use Rattle.asn1_model.specs.ConstraintSets.{ConstraintSet}
 use Rattle.asn1_model.specs.Orders.{Same, SameRecords, is_unordered}
-use Rattle.asn1_model.specs.Records.{Name, Record, Head, Mark, Content, scalar, raw, mark, holding, highest, is_mark}
-use Rattle.asn1_model.specs.Tags.{Tags, BeginsWithin, LiesIn, ShareNone, first_tags}
+use Rattle.asn1_model.specs.Records.{Name, Record, Head, Mark, Content, scalar, raw, mark, holding, highest}
+use Rattle.asn1_model.specs.Tags.{Tags, BeginsWithin, LiesIn, ShareNone}
 use Rattle.asn1_model.proofs.SameRecords.{same-mark}
-use Rattle.asn1_model.proofs.SameUpToOrder.{SameRecords-refl, same-first_tags, same-marks_alone, same_as_cons, same_as_holding, same_as_mark, same_as_none, same_as_raw, same_as_scalar}
+use Rattle.asn1_model.proofs.SameUpToOrder.{same-first_tags, same-marks_alone, same_as_cons, same_as_holding, same_as_mark, same_as_none, same_as_raw, same_as_scalar}
 use Rattle.asn1_tags.specs.declared.tags.Tag.{Tag}
 
 -- What is said of some records and an answer holds of the same records in another order too.
@@ -125,14 +125,14 @@ module _ {D : Type 0} (R : Reader D) where
   reads_mark old new m result reads rest outer =
       past_record old new (mark m) rest outer 0 (λ _. ⊤) result (λ q same. same_as_mark same) (λ others outside same. reads others outside)
 
-  pub tells_presence : (old new : D) (present absent : Mark) (own : Tags) (result : Result Bool DecodeError) →
-      TellsPresence R old new present absent own result → TellsPresence (up_to_order R) old new present absent own result
-  tells_presence old new present absent own result tells = record {
+  pub tells_presence : (old new : D) (is_there is_away : Mark) (own : Tags) (result : Result Bool DecodeError) →
+      TellsPresence R old new is_there is_away own result → TellsPresence (up_to_order R) old new is_there is_away own result
+  tells_presence old new is_there is_away own result tells = record {
     there = λ rest outer begins.
-        past_record old new (mark present) rest outer 0 (λ b. b ≡ true) result (λ q same. same_as_mark same)
+        past_record old new (mark is_there) rest outer 0 (λ b. b ≡ true) result (λ q same. same_as_mark same)
         (λ others outside same. tells.there others outside (begins_the_same own others rest same begins));
     away = λ rest outer apart.
-        past_record old new (mark absent) rest outer 0 (λ b. b ≡ false) result (λ q same. same_as_mark same)
+        past_record old new (mark is_away) rest outer 0 (λ b. b ≡ false) result (λ q same. same_as_mark same)
         (λ others outside same. tells.away others outside (subst (λ ts. ShareNone own ts) (sym (same-first_tags others rest same)) apart));
   }
 
