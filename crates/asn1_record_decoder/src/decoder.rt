@@ -307,8 +307,8 @@ impl<'a> Decoder for RecordDecoder<'a> {
         tag: Tag,
         _constraints: &Constraints<'_>,
     ) -> Result<K::Owned, DecodeError> {
-        let found: StringOf<U, K> = self.scalar(tag)?;
-        Ok(found.string)
+        let StringOf { string } = self.scalar::<StringOf<U, K>>(tag)?;
+        Ok(string)
     }
 
     fn decode_any(&mut self, _tag: Tag) -> Result<Any, DecodeError> {
