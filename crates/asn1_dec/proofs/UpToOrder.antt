@@ -125,14 +125,14 @@ module _ {D : Type 0} (R : Reader D) where
   reads_mark old new m result reads rest outer =
       past_record old new (mark m) rest outer 0 (λ _. ⊤) result (λ q same. same_as_mark same) (λ others outside same. reads others outside)
 
-  pub tells_presence : (old new : D) (there away : Mark) (own : Tags) (result : Result Bool DecodeError) →
-      TellsPresence R old new there away own result → TellsPresence (up_to_order R) old new there away own result
-  tells_presence old new there away own result tells = record {
+  pub tells_presence : (old new : D) (is_there is_away : Mark) (own : Tags) (result : Result Bool DecodeError) →
+      TellsPresence R old new is_there is_away own result → TellsPresence (up_to_order R) old new is_there is_away own result
+  tells_presence old new is_there is_away own result tells = record {
     there = λ rest outer begins.
-        past_record old new (mark there) rest outer 0 (λ b. b ≡ true) result (λ q same. same_as_mark same)
+        past_record old new (mark is_there) rest outer 0 (λ b. b ≡ true) result (λ q same. same_as_mark same)
         (λ others outside same. tells.there others outside (begins_the_same own others rest same begins));
     away = λ rest outer apart.
-        past_record old new (mark away) rest outer 0 (λ b. b ≡ false) result (λ q same. same_as_mark same)
+        past_record old new (mark is_away) rest outer 0 (λ b. b ≡ false) result (λ q same. same_as_mark same)
         (λ others outside same. tells.away others outside (subst (λ ts. ShareNone own ts) (sym (same-first_tags others rest same)) apart));
   }
 

@@ -14,5 +14,5 @@ returns-in_err-open-clause-read c = λ head meets ordered.
 
 pub returns-clause-read : goal.returns-clause-read
 returns-clause-read c = λ head meets ordered.
-    opens in_one_order c.args.self.now c.open.new.self head (λ _ _. ⊤) (Ok tt) ordered (answer_in_any_order (λ _. ⊤))
-    (was_opened c.args.self.now c.open.new.self c.args.wanted head (λ _ _. ⊤) _ tt (λ n items o. tt) meets c.in_ok-open.ensures.read)
+    opens in_one_order c.args.self.now c.open.new.self head (λ _ _. ⊤) (Ok (tt {0})) ordered (answer_in_any_order (λ _. ⊤))
+    (was_opened c.args.self.now c.open.new.self c.args.wanted head (λ _ _. ⊤) _ (tt {0}) (λ n items o. tt) meets c.in_ok-open.ensures.read)

@@ -12,7 +12,7 @@ returns-in_err-record-clause-read g c = λ content same_as k.
 
 pub returns-in-None-clause-read : goal.returns-in-None-clause-read
 returns-in-None-clause-read g c = λ content same_as k.
-    reads_content in_one_order c.args.self.now _ c.args.tag k content g.V.FromContent.IsOfType g.V.FromContent.Is (Err c.fail.result)
+    reads_content in_one_order c.args.self.now c.fail.new.self c.args.tag k content g.V.FromContent.IsOfType g.V.FromContent.Is (Err c.fail.result)
     (λ x n rest outer of_type at.
     let t = c.in_ok-record.ensures.took (scalar c.args.tag k n (content x)) rest outer at in
     absurd (c.in-None.ensures.found k n (content x) t.is))
