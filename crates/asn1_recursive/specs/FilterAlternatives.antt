@@ -1,5 +1,5 @@
 -- Filter ::= CHOICE { and [0] SET OF Filter, or [1] SET OF Filter, not [2] Filter, present [7] OCTET STRING }
-use Rattle.std.specs.Prelude.{◌↔◌, ℕ, ⊤, List, [], ◌∷◌, ◌++◌, Some, All, codes, refl}
+use Rattle.std.specs.Prelude.{◌↔◌, ℕ, List, [], ◌∷◌, ◌++◌, Some, All, codes, refl}
 use Rattle.std.proofs.Common.{ap, inl, inr}
 use Rattle.std.proofs.lemmas.List.Elements.{All-nil, All-cons, All-head, All-tail}
 use Rattle.std.specs.List.{flat_map}
@@ -112,7 +112,11 @@ set_agrees t filters =
     record { records = ap (set_of_records t unconstrained (Some (codes "SET_OF"))) same.records; of_type = same.of_type; valid = same.valid }
 
 pub filter_agrees : (v : Filter) → SaysTheSame (filter_means v) (chosen_meaning (all_of filter_alternatives) (filter_pick v))
-filter_agrees (And' shape filters) = set_agrees (context 0) filters
-filter_agrees (Or' shape filters) = set_agrees (context 1) filters
+filter_agrees (And' shape filters) =
+    let same = set_agrees (context 0) filters in
+    record { records = same.records; of_type = same.of_type; valid = same.valid }
+filter_agrees (Or' shape filters) =
+    let same = set_agrees (context 1) filters in
+    record { records = same.records; of_type = same.of_type; valid = same.valid }
 filter_agrees (Not' place inner) = says_itself
 filter_agrees (Present name) = says_itself
