@@ -1,13 +1,16 @@
 -- A value as a whole, written and read.
-use Rattle.std.proofs.Common.{◌≡◌, ℕ, true, false, List, [], ◌∷◌, ◌++◌, ap, sym, subst, ◌∙◌, append-nil}
-use Rattle.asn1_dec.proofs.Ahead.{same_as_end, same_as_record}
+use Rattle.std.proofs.Common.{◌≡◌, ◌⊎◌, ℕ, true, false, List, [], ◌∷◌, ◌++◌, ap, inl, inr, sym, subst, ◌∙◌, append-nil}
+use Rattle.asn1_dec.proofs.Ahead.{same_as_record}
+use Rattle.asn1_dec.proofs.UpToOrder.{at_the_end}
+use Rattle.asn1_dec.specs.Reading.{Ahead, IsOwnError, MayFail}
+use Rattle.asn1_dec.specs.declared.error.DecodeError.{DecodeError}
 use Rattle.asn1_enc.specs.declared.error.EncodeError.{EncodeError}
 use Rattle.asn1_enc.specs.Writing.{Fails, outermost}
 use Rattle.asn1_model.specs.Records.{Record}
 use Rattle.asn1_schema.specs.Rules.{IsNotWritten}
 use Rattle.asn1_records.specs.Encoder.{record_writer}
 use Rattle.asn1_records.specs.declared.encoder.RecordEncoder.{RecordEncoder}
-use Rattle.asn1_record_decoder.specs.Reading.{StandsBefore, ahead_without}
+use Rattle.asn1_record_decoder.specs.Reading.{StandsBefore, ahead_without, in_one_order, record_reader}
 use Rattle.asn1_record_decoder.specs.declared.decoder.RecordDecoder.{RecordDecoder}
 use Rattle.asn1_bench.specs.Outputs.{record_format}
 
@@ -31,6 +34,11 @@ alone d rs at = subst (λ l. StandsBefore d (l ∷ [])) (sym (append-nil rs)) at
 pub not_at_end : (d : RecordDecoder) (r : Record) (rest : List Record) → StandsBefore d ((r ∷ rest) ∷ []) → StandsBefore d ([] ∷ []) → ⊥
 not_at_end d r rest at end =
     let a = same_as_record at.same in
-    let b = same_as_end end.same in
-    let wrong = sym (at.sees_them ∙ ap ahead_without a.is) ∙ (end.sees_them ∙ ap ahead_without b.is) in
+    let wrong = sym (at.stands.sees_them ∙ ap ahead_without a.is) ∙ (at_the_end in_one_order d end).sees_them in
     cc
+
+-- why records are not read that the type refuses
+pub own_or_failed : {old new : RecordDecoder} {rest : List Record} {outer : Ahead} {allowance height : ℕ} {own e : DecodeError} →
+    MayFail allowance height e ⊎ IsOwnError record_reader old new rest outer own e → MayFail allowance height e ⊎ (e ≡ own)
+own_or_failed (inl fails) = inl fails
+own_or_failed (inr error) = inr error.error

@@ -10,7 +10,8 @@
 //!
 //! What the contracts promise, and the words that they use:
 //!
-//! - An output carries records that are it without constraints, up to the order inside sets (`Carries` of `asn1_records`).
+//! - An output carries records that are it without constraints and tables, up to the order inside sets (`Carries` of
+//!   `asn1_records`).
 //! - Nothing is rejected: a value that is not written is too high, or memory was short (`errors` of [`laws`]).
 //! - Any bytes are one value of an open type (`takes`).
 //!

@@ -44,7 +44,8 @@ impl<'a, T> Extensible<'a, T> {
     /// The constraint extensible with no additions as yet, or not extensible.
     pub fn set_extensible(self, extensible: bool) -> Self
         ensures root { result.constraint ≡ self.entry.constraint }
-        ensures extensible { OnTrue extensible (IsSomeAnd result.extensible (λ additions. additions.now ≡ [])) }
+        ensures extensible { OnTrue extensible
+            (IsSomeAnd result.extensible (λ additions. additions.now ≡ [])) }
         ensures fixed { OnFalse extensible (result.extensible ≡ None) }
     {
         self.extensible_with_constraints(if extensible { Some(&[]) } else { None })
@@ -52,7 +53,8 @@ impl<'a, T> Extensible<'a, T> {
 
     /// The constraint extensible by these, or not extensible.
     pub fn extensible_with_constraints(mut self, constraints: Option<&'a [T]>) -> Self
-        ensures { result ≡ record { constraint = self.entry.constraint; extensible = constraints.entry } }
+        ensures { result ≡
+            record { constraint = self.entry.constraint; extensible = constraints.entry } }
     {
         self.extensible = constraints;
         self
@@ -101,7 +103,8 @@ impl Extensible<'_, PermittedAlphabet> {
     /// What both constraints leave: extensible only where both are, with the additions of this one. Fails only where
     /// the allocator refuses room for the characters.
     pub fn intersect(&self, alloc: Global, other: &Self) -> Result<Self, AllocError>
-        ensures { IfOk result (λ both. both ≡ part_intersection common_characters self.now other.now) }
+        ensures { IfOk result (λ both. both ≡
+            part_intersection common_characters self.now other.now) }
     {
         Ok(Extensible {
             constraint: self.constraint.intersect(alloc, &other.constraint)?,

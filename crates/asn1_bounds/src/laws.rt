@@ -41,7 +41,8 @@ use std::hash::Hash;
 /// are hashed as these. The default has no bound, and a clone is its source.
 pub fn values_are_compared_by_bound()
     ensures equality { TellsApart ⟦<Value as PartialEq>⟧.eq }
-    ensures order { (a b : Value) → ⟦<Value as Ord>⟧.cmp a b ≡ ⟦<Bounded<i128> as Ord>⟧.cmp a.bound b.bound }
+    ensures order { (a b : Value) → ⟦<Value as Ord>⟧.cmp a b ≡
+        ⟦<Bounded<i128> as Ord>⟧.cmp a.bound b.bound }
     ensures partial_order { (a b : Value) →
         ⟦<Value as PartialOrd>⟧.partial_cmp a b ≡ Some (⟦<Value as Ord>⟧.cmp a b) }
     ensures hash { (a : Value) →
@@ -54,7 +55,8 @@ pub fn values_are_compared_by_bound()
 /// are hashed as these. The default has no bound, and a clone is its source.
 pub fn sizes_are_compared_by_bound()
     ensures equality { TellsApart ⟦<Size as PartialEq>⟧.eq }
-    ensures order { (a b : Size) → ⟦<Size as Ord>⟧.cmp a b ≡ ⟦<Bounded<usize> as Ord>⟧.cmp a.bound b.bound }
+    ensures order { (a b : Size) → ⟦<Size as Ord>⟧.cmp a b ≡
+        ⟦<Bounded<usize> as Ord>⟧.cmp a.bound b.bound }
     ensures partial_order { (a b : Size) →
         ⟦<Size as PartialOrd>⟧.partial_cmp a b ≡ Some (⟦<Size as Ord>⟧.cmp a b) }
     ensures hash { (a : Size) →
@@ -67,10 +69,12 @@ pub fn sizes_are_compared_by_bound()
 /// hashed as slices.
 pub fn alphabets_are_compared_by_characters()
     ensures equality { TellsApart ⟦<PermittedAlphabet as PartialEq>⟧.eq }
-    ensures order { (a b : PermittedAlphabet) → ⟦<PermittedAlphabet as Ord>⟧.cmp a b ≡ slice_cmp nat_cmp a b }
+    ensures order { (a b : PermittedAlphabet) → ⟦<PermittedAlphabet as Ord>⟧.cmp a b ≡
+        slice_cmp nat_cmp a b }
     ensures partial_order { (a b : PermittedAlphabet) →
         ⟦<PermittedAlphabet as PartialOrd>⟧.partial_cmp a b ≡ Some (⟦<PermittedAlphabet as Ord>⟧.cmp a b) }
-    ensures hash { (a : PermittedAlphabet) → ⟦<PermittedAlphabet as Hash>⟧.hash_input a ≡ fed.slice fed.u32 a }
+    ensures hash { (a : PermittedAlphabet) → ⟦<PermittedAlphabet as Hash>⟧.hash_input a ≡
+        fed.slice fed.u32 a }
 {}
 
 /// Two constraints with additions are equal if their roots are equal, and either neither is extensible or both are, with
@@ -97,8 +101,10 @@ pub fn constraints_are_compared_by_parts<'a>()
     ensures alphabets { (a b : Extensible PermittedAlphabet) →
         ⟦<Constraint<'a> as PartialEq>⟧.eq (constraint.PermittedAlphabet a) (constraint.PermittedAlphabet b)
         ≡ ⟦<Extensible<'a, PermittedAlphabet> as PartialEq>⟧.eq a b }
-    ensures markers { IsTrue (⟦<Constraint<'a> as PartialEq>⟧.eq constraint.Extensible constraint.Extensible) }
-    ensures kinds { (a b : Constraint) → IsTrue (⟦<Constraint<'a> as PartialEq>⟧.eq a b) → kind_of a ≡ kind_of b }
+    ensures markers { IsTrue
+        (⟦<Constraint<'a> as PartialEq>⟧.eq constraint.Extensible constraint.Extensible) }
+    ensures kinds { (a b : Constraint) → IsTrue (⟦<Constraint<'a> as PartialEq>⟧.eq a b) →
+        kind_of a ≡ kind_of b }
 {}
 
 /// Kinds of constraint, codecs and errors are equal if and only if they are the same case, of the same number or name.
@@ -109,9 +115,12 @@ pub fn names_are_compared_by_case()
     ensures widths { TellsApart ⟦<TooWide as PartialEq>⟧.eq }
     ensures errors { (a b : InnerSubtypeConstraintError) →
         IsTrue (⟦<InnerSubtypeConstraintError as PartialEq>⟧.eq a b) ↔ (refusal_of a ≡ refusal_of b) }
-    ensures discriminant_clones { ClonesExactly ⟦<ConstraintDiscriminant as Clone>⟧.is_clone ⟦<ConstraintDiscriminant as Clone>⟧.is_infallible }
-    ensures codec_clones { ClonesExactly ⟦<Codec as Clone>⟧.is_clone ⟦<Codec as Clone>⟧.is_infallible }
-    ensures width_clones { ClonesExactly ⟦<TooWide as Clone>⟧.is_clone ⟦<TooWide as Clone>⟧.is_infallible }
+    ensures discriminant_clones { ClonesExactly ⟦<ConstraintDiscriminant as Clone>⟧.is_clone
+        ⟦<ConstraintDiscriminant as Clone>⟧.is_infallible }
+    ensures codec_clones { ClonesExactly ⟦<Codec as Clone>⟧.is_clone
+        ⟦<Codec as Clone>⟧.is_infallible }
+    ensures width_clones { ClonesExactly ⟦<TooWide as Clone>⟧.is_clone
+        ⟦<TooWide as Clone>⟧.is_infallible }
     ensures error_clones { ClonesExactly ⟦<InnerSubtypeConstraintError as Clone>⟧.is_clone
         ⟦<InnerSubtypeConstraintError as Clone>⟧.is_infallible }
     ensures table_clones { ClonesExactly ⟦<ConstraintTable<'static> as Clone>⟧.is_clone
@@ -146,5 +155,6 @@ pub fn conversions_keep_the_constraint<'a, T: FitsI128, U: 'a>()
         ⟦<ConstraintTable<'a> as From<Size>>⟧.from_gives kind table → owned table ≡ set_of (constraint.Size (fixed kind)) }
     ensures memory { (refused : AllocError) (error : InnerSubtypeConstraintError) →
         ⟦<InnerSubtypeConstraintError as From<AllocError>>⟧.from_gives refused error → refusal_of error ≡ no_memory }
-    ensures default_set { (set : Constraints) → ⟦<Constraints<'a> as Default>⟧.is_default set → set ≡ no_constraints }
+    ensures default_set { (set : Constraints) → ⟦<Constraints<'a> as Default>⟧.is_default set →
+        set ≡ no_constraints }
 {}

@@ -22,7 +22,7 @@
 //! - `PermittedAlphabet::intersect` permits the common characters (`members`), in the left order with repeats (`shape`).
 //! - `Constraints::new` admits exactly what each constraint admits (`values`, `lengths`, `characters`), and
 //!   `Constraints::intersect` of two sets is the set of the two lists one after the other (`composes`).
-//! - `ConstraintTable::to_constraints` answers the set that the table stands for (`set`).
+//! - `ConstraintTable::to_constraints` answers the set that the table represents (`set`).
 //! - What `validate_and_decode_containing` answers, each implementation of `InnerSubtypeConstraint` states
 //!   (`validation_gives`); `validate_components` answers that without a codec.
 //! - What derived comparisons, hashes, copies and defaults answer, and what a conversion gives, is said by the functions
@@ -30,12 +30,12 @@
 //!
 //! Memory is taken for permitted alphabets alone, and by `InnerSubtypeConstraint` at types that want some. Where no
 //! argument has an alphabet, `new`, `intersect`, `try_clone` and `to_constraints` succeed (`without_alphabet`). A call
-//! that fails for want of memory changes no argument, since each borrows them to read.
+//! that fails because memory runs out changes no argument, since each borrows them to read.
 //!
 //! The words of the clauses are defined in `specs`: `Admitted` for what a constraint admits, `ConstraintKind` for the
 //! kind of one and its part, `Sets` for sets of them, `Tables` for the set of a table, `InnerSubtype` for the answers of
 //! a constraint of components, and `Lending` for the bound that `Size::bounded_mut` lends. The words on bounds, and on
-//! derived comparisons, are those of `asn1_ranges`, which `specs/Lib` hands on.
+//! derived comparisons, are those of `asn1_ranges`, which `specs/Lib` re-exports.
 #![tactic(auto)]
 
 pub use alphabet::PermittedAlphabet;

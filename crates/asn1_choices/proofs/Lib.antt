@@ -1,1 +1,2 @@
+mod TableLines
 mod Variants

@@ -1,12 +1,14 @@
 -- The alternatives of a CHOICE, each said once, and what follows from them: the trees, the names, and what each value is.
-use Rattle.std.specs.Prelude.{◌≡◌, ◌↔◌, ◌⊎◌, ℕ, pos, ◌-ℤ◌, ⊤, Bool, false, List, [], ◌∷◌, ◌++◌, length, map, Option, None, Some, IsTrue, refl}
+use Rattle.std.specs.Prelude.{◌≡◌, ◌↔◌, ◌⊎◌, ℕ, pos, ◌-ℤ◌, ⊤, Bool, false, List, [], ◌∷◌, ◌++◌, length, map, Option, None, Some, IsTrue, refl, unwrap_or}
 use Rattle.std.specs.Option.{option_map}
 use Rattle.std.proofs.Common.{inl, inr}
 use Rattle.asn1_ranges.specs.declared.bounded.Bounded.TheVariants.{Range}
 use Rattle.asn1_tags.specs.Tags.{distinct}
 use Rattle.asn1_tags.specs.Trees.{Trees, none, more, is_open, leaves_of}
 use Rattle.asn1_model.specs.ConstraintSets.{ConstraintSet, unconstrained}
+use Rattle.asn1_model.specs.WellFormed.{AreWellFormed}
 use Rattle.asn1_model.specs.Records.{Record}
+use Rattle.asn1_model.specs.Tables.{Line, Table}
 use Rattle.asn1_model.specs.TaggedTypes.{TaggedType}
 
 -- An alternative is a named type (X.680, 29.1): a name, and a type under a tag.
@@ -48,6 +50,23 @@ abbrev pub added_trees_of : Alternatives → Option Trees
 added_trees_of (closed root) = None
 added_trees_of (extensible root added) = Some (trees_of added)
 
+-- their table, as records have it
+abbrev pub line_of : Alternative → Line
+line_of a = record { name = a.name; tree = a.type.tree; may_be_absent = false }
+
+abbrev pub table_of : Alternatives → Table Line
+table_of (closed root) = record { root = map line_of root; additions = None }
+table_of (extensible root added) = record { root = map line_of root; additions = Some (map line_of added) }
+
+-- all lines of a table, those of the root first
+abbrev pub all_lines : Table Line → List Line
+all_lines table = table.root ++ unwrap_or table.additions []
+
+-- the tags with which what is in each of some lines can begin
+abbrev pub trees_in : List Line → Trees
+trees_in [] = none
+trees_in (l ∷ ls) = more l.tree (trees_in ls)
+
 -- The constraint of the alternative's place: from 0 to one less than there are alternatives in the root, and extensible
 -- if and only if there is an extension marker.
 abbrev pub variance_of : Alternatives → ConstraintSet
@@ -72,14 +91,24 @@ abbrev pub HaveDistinctTags : List Alternative → Type 0
 HaveDistinctTags alts = IsTrue (distinct (leaves_of (trees_of alts)))
 
 -- What a type says of one value: what it is to a codec, whether it has what each value of the type has, and whether it
--- is valid.
+-- is valid, when its records are well formed.
 pub record ValueMeaning : Type 1 where
   pub records : List Record
   pub IsOfType : Type 0
   pub IsValid : (List ℕ → Bool) → Type 0
+  pub well_formed : (takes : List ℕ → Bool) → IsValid takes → AreWellFormed takes records
 
 abbrev pub value_meaning : {W : Type 0} → TaggedType W → W → ValueMeaning
-value_meaning type w = record { records = type.records w; IsOfType = type.IsOfType w; IsValid = λ takes. type.IsValid takes w }
+value_meaning type w = record {
+  records = type.records w;
+  IsOfType = type.IsOfType w;
+  IsValid = λ takes. type.IsValid takes w;
+  well_formed = λ takes. type.well_formed takes w;
+}
+
+-- what nothing says
+abbrev pub none_say : ValueMeaning
+none_say = record { records = []; IsOfType = ⊤; IsValid = λ _. ⊤; well_formed = λ _ _. tt }
 
 -- Two that say the same of a value.
 pub record SaysTheSame (one other : ValueMeaning) : Type 0 where

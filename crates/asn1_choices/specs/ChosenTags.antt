@@ -75,3 +75,21 @@ tag_tells alts apart can x = record {
   its_own = chosen_has_own alts can x;
   no_other = others_lack alts apart can x;
 }
+
+-- Each alternative that can begin with the first tag can begin with the second.
+abbrev pub TellsAlternative : Tag → Tag → List Alternative → Type 0
+TellsAlternative u t alts = Each
+    (λ a. Has (tree_tags a.type.tree) u → Has (tree_tags a.type.tree) t) alts
+
+-- so the chosen one can, where the first is its own
+pub tells_chosen : (alts : List Alternative) (x : OneOf alts) (u t : Tag) →
+    TellsAlternative u t alts → Has (tree_tags (chosen alts x).type.tree) u →
+    Has (tree_tags (chosen alts x).type.tree) t
+tells_chosen [] x u t tells has = absurd x
+tells_chosen (a ∷ alts) (inl w) u t tells has = tells.0 has
+tells_chosen (a ∷ alts) (inr x) u t tells has = tells_chosen alts x u t tells.1 has
+
+-- a tag tells of itself
+pub tells_itself : (alts : List Alternative) (t : Tag) → TellsAlternative t t alts
+tells_itself [] t = tt
+tells_itself (a ∷ alts) t = (λ has. has, tells_itself alts t)

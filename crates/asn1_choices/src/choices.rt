@@ -1,10 +1,10 @@
 //! CHOICE types.
-ghost use Rattle.std.specs.Prelude.{◌≡◌, length, map, IfOk, IsOk};
+ghost use Rattle.std.specs.Prelude.{◌≡◌, All, length, map, false, IfOk, IsOk};
 ghost use Rattle.std.specs.Option.{option_copied, option_map};
 ghost use Rattle.asn1_model.specs.ConstraintSets.{constraint_set};
 ghost use Rattle.asn1_tags.specs.Trees.{shapes};
 ghost use Rattle.asn1_tags.specs.declared.tags.Tag.{Tag};
-ghost use Rattle.asn1_choices.specs.Alternatives.{Alternatives, OneOf, root_of, all_of, names_of, trees_of, added_trees_of, variance_of};
+ghost use Rattle.asn1_choices.specs.Alternatives.{Alternatives, OneOf, root_of, all_of, all_lines, names_of, table_of, trees_in, trees_of, added_trees_of, variance_of};
 ghost use Rattle.asn1_choices.specs.ChosenTags.{TagTellsAlternative};
 ghost use Rattle.asn1_choices.specs.ChoiceTypes.{AgreesWithChoice};
 
@@ -71,5 +71,19 @@ pub trait ChoiceType: AsnType + Choice {
 /// Of a value of a well tagged CHOICE, the chosen alternative is one record, which begins with one of the alternative's own
 /// tags, and no other alternative has that tag (X.680, 29.3). So a decoder knows the alternative by the next tag.
 pub fn the_chosen_tag_tells_the_alternative<T: ChoiceType>()
-    ensures { (t : Tag) (v : T) → T.meaning.IsWellTagged t → TagTellsAlternative (all_of T.alternatives) (T.pick v) }
+    ensures { (t : Tag) (v : T) → T.meaning.IsWellTagged t →
+        TagTellsAlternative (all_of T.alternatives) (T.pick v) }
+{}
+
+/// The table that records have of a CHOICE is what the calls of the type answer: the trees of the root are those of `variants`
+/// (`root`), where there is an extension marker those after it are those of `extended_variants` (`additions`), the names are
+/// those of `identifiers` (`names`), and no alternative may be absent (`always_there`).
+pub fn alternatives_are_as_in_records<T: Choice>()
+    ensures root { trees_in (table_of T.alternatives).root ≡ trees_of (root_of T.alternatives) }
+    ensures additions { option_map trees_in (table_of T.alternatives).additions ≡
+        added_trees_of T.alternatives }
+    ensures names { map (λ l. l.name) (all_lines (table_of T.alternatives)) ≡
+        names_of (all_of T.alternatives) }
+    ensures always_there { All (λ l. l.may_be_absent ≡
+        false) (all_lines (table_of T.alternatives)) }
 {}

@@ -9,12 +9,15 @@
 //! | [`Choice`] | the alternatives of a type: their trees, their names, how many there are, and the constraint of their places |
 //! | [`ChoiceType`] | a type of ASN.1 whose meaning is that of its alternatives |
 //! | [`the_chosen_tag_tells_the_alternative`] | the law that a decoder of a CHOICE rests on |
+//! | [`alternatives_are_as_in_records`] | the law that the table in records is what the calls of a type answer |
 //!
 //! What the contracts promise, and the words that they use:
 //!
 //! - `specs/Alternatives.antt` says what alternatives are (`Alternatives`: those of the root, and those after the extension
 //!   marker where there is one), and what a value of one of them is (`OneOf`). The trees (`trees_of`), the names
 //!   (`names_of`) and the constraint of the places (`variance_of`) are by this list, and each call of `Choice` answers them.
+//!   The table that records carry (`table_of`) is too, and `alternatives_are_as_in_records` says that it is what these calls
+//!   answer.
 //! - `specs/ChoiceTypes.antt` says what a CHOICE of alternatives means (`choice_of`), and what it is for a type to mean the
 //!   same (`AgreesWithChoice`, the law of `ChoiceType`): its records are those of the chosen alternative, and it is well tagged
 //!   if and only if all alternatives can be chosen and have distinct tags. `choice_agrees` proves the law of each `choice_of`.
@@ -29,4 +32,6 @@
 
 mod choices;
 
-pub use choices::{Choice, ChoiceType, the_chosen_tag_tells_the_alternative};
+pub use choices::{
+    Choice, ChoiceType, alternatives_are_as_in_records, the_chosen_tag_tells_the_alternative,
+};

@@ -1,4 +1,4 @@
--- The rules on distinct tags look at nothing of a tree but its leaves, and whether a choice of nothing stands in it.
+-- The rules on distinct tags look at nothing of a tree but its leaves, and whether a choice of nothing is in it.
 use Rattle.std.proofs.Common.{◌≡◌, ℕ, Bool, true, false, ◌==◌, List, [], ◌∷◌, length, map, Option, refl, sym, ap, subst, ◌∙◌, arith}
 use Rattle.std.proofs.lemmas.Bool.Decides.{nat_tests}
 use Rattle.asn1_tags.specs.Trees.{Tree, leaves, leaves_of, is_open, is_any_open}

@@ -130,7 +130,7 @@ pub record Neighbours (all : List Occurrence) (n i j : ℕ) : Type 0 where
 pub no_neighbours : (all : List Occurrence) → IsLeast (Neighbours all 1) None
 no_neighbours all i j h = let lt = h.within in omega arith
 
--- what stands later in order is not less
+-- what comes later in order is not less
 not_above : (all : List Occurrence) → IsSorted occurrence_cmp all → (x y : ℕ) (a b : Occurrence) → x ≤ y → y < length all → get_or all x a ≡ a → get_or all y b ≡ b →
     is_lt (occurrence_cmp b a) ≡ false
 not_above all up x y a b le lt at_x at_y =
@@ -246,7 +246,7 @@ IsPair p i j = (p.0 ≡ i) × (p.1 ≡ j)
 pair_alone : (p : ℕ × ℕ) → IsLeast (IsPair p) (Some p)
 pair_alone p = ((refl, refl), λ i j e. inr (e.0, let f = e.1 in omega arith))
 
--- neighbours among the first n are neighbours among the first m, where both stand among these
+-- neighbours among the first n are neighbours among the first m, where both are among these
 among : (all : List Occurrence) (n m i j : ℕ) (u : Neighbours all n i j) → u.at + 1 < m → Neighbours all m i j
 among all n m i j u lt = record {
   at = u.at;

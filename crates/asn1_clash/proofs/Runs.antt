@@ -47,7 +47,7 @@ clash_by_runs (c ∷ cs) = by_test (may_be_absent c.presence) refl (clash_by_run
         ∙ ap (option_or (set_clash (c ∷ run))) (shifted-shifted 1 n later ∙ ap (λ k. shifted k later) longer)))
     by_test false there rest = refl
 
--- the components up to the first that must be there stand first
+-- the components up to the first that must be there come first
 pub up_to_required-take : (cs : List Component) → take (length (up_to_required cs)) cs ≡ up_to_required cs
 up_to_required-take [] = refl
 up_to_required-take (c ∷ cs) = by_test (may_be_absent c.presence) (up_to_required-take cs)

@@ -23,14 +23,14 @@ use Rattle.asn1_tags.proofs.Distinct.{AllPairs-from_distinct, distinct-from_AllP
 pub tags_ranked : IsStrictWeakOrder (λ s t. is_lt (tag_cmp s t))
 tags_ranked = ranks_by tag_total (λ t. t)
 
--- a test that says whether one stands before the other
+-- a test that says whether one comes before the other
 pub tells_less : (r : Bool) (o : Ordering) → (IsTrue r ↔ (o ≡ Less)) → r ≡ is_lt o
 tells_less true o says = ap is_lt (sym (says.0 refl))
 tells_less false Less says = says.1 refl
 tells_less false Equal says = refl
 tells_less false Greater says = refl
 
--- no tag stands twice among tags of which each stands before the next
+-- no tag occurs twice among tags of which each comes before the next
 distinct-from_rising : (ts : List Tag) → IsSorted tag_cmp ts → AllAdjacentBelow (λ s t. true ≡ is_lt (tag_cmp s t)) ts (length ts) → distinct ts ≡ true
 distinct-from_rising ts up rising =
     distinct-from_AllPairs ts
@@ -39,7 +39,7 @@ distinct-from_rising ts up rising =
     let far = sorted_far (λ s t. is_lt (tag_cmp s t)) tags_ranked ts up (i + 1) j d (omega arith) within in
     false≢true (sym (subst (λ t. is_lt (tag_cmp t (get_or ts (i + 1) d)) ≡ false) (sym same) far) ∙ sym first))
 
--- a tag that does not stand before the next one is that one
+-- a tag that does not come before the next one is that one
 repeated-from_level : (ts : List Tag) (k : _) → IsSorted tag_cmp ts → k + 1 < length ts → ((d : Tag) → false ≡ is_lt (tag_cmp (get_or ts k d) (get_or ts (k + 1) d))) →
     distinct ts ≡ false
 repeated-from_level [] k up within level = absurd (omega arith)
@@ -52,7 +52,7 @@ repeated-from_level (t ∷ ts) k up within level = by_test (distinct (t ∷ ts))
         let above = IsAtMost-from_not_less (get_or (t ∷ ts) (k + 1) t) (get_or (t ∷ ts) k t) (up k t (omega arith) within) in
         absurd (AllPairs-from_distinct (t ∷ ts) is k (k + 1) t (omega arith) within (IsAtMost-antisym _ _ above below))
 
--- in order, no tag stands twice if and only if each is below the next
+-- in order, no tag occurs twice if and only if each is below the next
 pub distinct-in_order : (ts : List Tag) (r : Bool) → IsSorted tag_cmp ts → IsAllAdjacentAnswer (λ s t b. b ≡ is_lt (tag_cmp s t)) ts r → r ≡ distinct ts
 distinct-in_order ts true up answer = sym (distinct-from_rising ts up answer)
 distinct-in_order ts false up answer = sym (repeated-from_level ts answer.0 up answer.1 answer.2)

@@ -1,4 +1,4 @@
--- Trees of tags, flattened: what the rules on distinct tags look at in a tree is its leaves, and whether a choice of nothing stands in it.
+-- Trees of tags, flattened: what the rules on distinct tags look at in a tree is its leaves, and whether a choice of nothing is in it.
 use Rattle.std.specs.Prelude.{Bool, if◌then◌else◌, List, [], ◌∷◌}
 use Rattle.asn1_tags.specs.Trees.{Tree, Trees, leaf, choice, none, more, leaves, is_open}
 use Rattle.asn1_tags.specs.declared.tags.Tag.{Tag}

@@ -12,7 +12,7 @@ use Rattle.asn1_clash.specs.declared.search.Occurrence.{Occurrence}
 abbrev pub occurrences_at : ℕ → List Tag → List Occurrence
 occurrences_at place tags = map (λ tag. record { tag = tag; place = place }) tags
 
--- the leaves of components, of which the first stands at a place
+-- the leaves of components, of which the first is at a place
 abbrev pub occurrences : ℕ → List Component → List Occurrence
 occurrences place [] = []
 occurrences place (component ∷ components) = occurrences_at place (leaves component.tree) ++ occurrences (place + 1) components
@@ -41,7 +41,7 @@ pub record HasOpen (components : List Component) (i j : ℕ) : Type 0 where
   pub before : i < j
   pub open_one : IsTrue (is_open first.tree || is_open second.tree)
 
--- whether the first pair stands before the second
+-- whether the first pair comes before the second
 abbrev pub pair_less : ℕ × ℕ → ℕ × ℕ → Bool
 pair_less p q = nat_lt p.0 q.0 || ((p.0 == q.0) && nat_lt p.1 q.1)
 

@@ -1,4 +1,4 @@
--- What the types of this crate stand for.
+-- What the types of this crate represent.
 use Rattle.std.specs.Prelude.{◌≡◌, ◌++◌, ◌||◌, List, map}
 use Rattle.asn1_tags.specs.Trees.{Tree, leaves, is_open}
 use Rattle.asn1_fields.specs.Entries.{Component}
@@ -18,7 +18,7 @@ component_seen component = record { presence = component.presence; tree = tree_s
 abbrev pub components_seen : List FlatComponent → List Component
 components_seen components = map component_seen components
 
--- A tree was added after what was there: its leaves, and whether a choice of nothing stands in it.
+-- A tree was added after what was there: its leaves, and whether a choice of nothing is in it.
 pub record Adds (old new : FlatTree) (tree : Tree) : Type 0 where
   pub tags : new.tags.items ≡ old.tags.items ++ leaves tree
   pub empty_choice : new.has_empty_choice ≡ (old.has_empty_choice || is_open tree)

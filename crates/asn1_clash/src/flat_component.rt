@@ -35,7 +35,8 @@ impl FlatComponent {
 
     /// What the rules look at in a field table.
     pub fn of_fields(alloc: Global, fields: &[Field<'_>]) -> Result<Vec<FlatComponent>, AllocError>
-        ensures flattened { IfOk result (λ all. components_seen all.items ≡ map flat_component (components fields.now)) }
+        ensures flattened { IfOk result (λ all. components_seen all.items ≡
+            map flat_component (components fields.now)) }
     {
         let mut all = Vec::new(alloc);
         for field in fields {
@@ -72,7 +73,7 @@ impl FlatComponent {
         self.tree.smallest_tag()
     }
 
-    /// Whether this component may stand before the other in canonical order: its smallest tag is not above the other's.
+    /// Whether this component may come before the other in canonical order: its smallest tag is not above the other's.
     pub fn is_in_order(&self, next: &FlatComponent) -> bool
         ensures { result ≡ in_order (component_seen self.now) (component_seen next.now) }
     {

@@ -9,12 +9,12 @@ use std::alloc::{AllocError, Global};
 use std::slice;
 
 /// A tree of tags as the rules on distinct tags look at it: its leaves from left to right, and whether a choice of nothing
-/// stands anywhere in it.
+/// is anywhere in it.
 #[derive(Drop)]
 pub struct FlatTree {
     /// The leaves, from left to right.
     pub tags: Vec<Tag>,
-    /// Whether a choice of nothing stands in the tree, so that it stands for every tag.
+    /// Whether a choice of nothing is in the tree, so that it represents every tag.
     pub has_empty_choice: bool,
 }
 
@@ -35,7 +35,8 @@ impl FlatTree {
     /// The tree, flattened.
     pub fn of(alloc: Global, tree: &TagTree<'_>) -> Result<FlatTree, AllocError>
         ensures tags { IfOk result (λ seen. seen.tags.items ≡ leaves (shape tree.now)) }
-        ensures empty_choice { IfOk result (λ seen. seen.has_empty_choice ≡ is_open (shape tree.now)) }
+        ensures empty_choice { IfOk result (λ seen. seen.has_empty_choice ≡
+            is_open (shape tree.now)) }
         ensures flattened { IfOk result (λ seen. tree_seen seen ≡ flat (shape tree.now)) }
     {
         let leaves = Variants::new(alloc, slice::from_ref(tree))?;
@@ -69,7 +70,7 @@ impl FlatTree {
         self.has_empty_choice = true;
     }
 
-    /// Whether the tree stands for every tag: a choice of nothing stands in it, or it has no leaf.
+    /// Whether the tree represents every tag: a choice of nothing is in it, or it has no leaf.
     pub fn is_open(&self) -> bool
         ensures { result ≡ is_open (tree_seen self.now) }
     {
@@ -87,7 +88,7 @@ impl FlatTree {
     }
 }
 
-/// The greatest tag of all, which stands for the smallest of no tags.
+/// The greatest tag of all, which serves as the smallest of no tags.
 pub(crate) const GREATEST: Tag = Tag {
     class: Class::Private,
     value: u32::MAX,

@@ -7,11 +7,11 @@
 //!
 //! | Item | What it is |
 //! |---|---|
-//! | [`FlatTree`] | a tree of tags as the rules look at it: its leaves, and whether a choice of nothing stands in it |
-//! | [`TreeSummary`] | whether a tag stands twice in a tree, its smallest tag, and how many leaves it has |
+//! | [`FlatTree`] | a tree of tags as the rules look at it: its leaves, and whether a choice of nothing is in it |
+//! | [`TreeSummary`] | whether a tag occurs twice in a tree, its smallest tag, and how many leaves it has |
 //! | [`FlatComponent`] | a component: whether it may be absent, and its tree |
 //! | [`find_sequence_clash`], [`find_set_clash`] | the least pair of components that do not have distinct tags |
-//! | [`is_canonical`] | whether components stand in canonical order |
+//! | [`is_canonical`] | whether components are in canonical order |
 //!
 //! What the contracts promise, and the words that they use:
 //!
@@ -22,9 +22,9 @@
 //!   `least_of_table`), so a caller with a field table has the very answers of the calls of `asn1_fields`.
 //! - A flat tree is seen as a tree again, with the leaves side by side (`tree_seen`, `component_seen` in
 //!   `specs/Seen.antt`; `flat` in `specs/Flat.antt`). `FlatTree::of` and `FlatComponent::of_fields` make the flat form of
-//!   what they are given (`flattened`; of a tree its leaves, `tags`, and whether it stands for every tag,
+//!   what they are given (`flattened`; of a tree its leaves, `tags`, and whether it represents every tag,
 //!   `empty_choice`).
-//! - A `TreeSummary` says that no tag stands twice (`unique`), the smallest tag (`smallest`) and the number of leaves
+//! - A `TreeSummary` says that no tag occurs twice (`unique`), the smallest tag (`smallest`) and the number of leaves
 //!   (`count`); the leaves stay the same (`same_leaves`).
 //!
 //! An error comes only where memory runs out.

@@ -7,7 +7,7 @@ ghost use Rattle.asn1_clash.specs.Seen.{components_seen};
 
 use crate::flat_component::FlatComponent;
 
-/// Whether the components stand in canonical order: no component's smallest tag is above the next one's (X.680, 8.6).
+/// Whether the components are in canonical order: no component's smallest tag is above the next one's (X.680, 8.6).
 pub fn is_canonical(components: &[FlatComponent]) -> bool
     ensures ordered { IsTrue result ↔ IsCanonical (components_seen components.now) }
     ensures report { result ≡ canonical (components_seen components.now) }

@@ -38,7 +38,7 @@ pub fn find_set_clash(
     ))
 }
 
-/// The least pair of places whose components must have distinct tags in a SEQUENCE, and have not; `None` where there is no
+/// The least pair of places whose components share a tag although a SEQUENCE forbids it; `None` where there is no
 /// such pair (X.680, 25.6 and 25.6.1).
 ///
 /// Each run of components that may be absent, together with the component right after the run, is checked as a SET.
@@ -46,7 +46,8 @@ pub fn find_sequence_clash(
     alloc: Global,
     components: &[FlatComponent],
 ) -> Result<Option<(usize, usize)>, AllocError>
-    ensures report { IfOk result (λ clash. clash ≡ sequence_clash (components_seen components.now)) }
+    ensures report { IfOk result (λ clash. clash ≡
+        sequence_clash (components_seen components.now)) }
     ensures least { IfOk result (IsLeast (IsSequenceClash (components_seen components.now))) }
 
     // The same of each table of which these are the flat components.
@@ -78,9 +79,10 @@ fn run_length(components: &[FlatComponent]) -> usize
     }
 }
 
-// How many components stand before the first that is always there.
+// How many components come before the first that is always there.
 fn place_of_required(components: &[FlatComponent]) -> Option<usize>
-    ensures { result ≡ position (λ component. not (may_be_absent component.presence)) components.now }
+    ensures { result ≡
+        position (λ component. not (may_be_absent component.presence)) components.now }
 {
     components
         .iter()
@@ -121,7 +123,7 @@ fn occurrences_in(
     Ok(occurrences)
 }
 
-// The least pair of places that have a tag in common, from the leaves in order: an equal tag stands at neighbours.
+// The least pair of places that have a tag in common, from the leaves in order: an equal tag is at neighbours.
 fn pair_with_equal_tags(all: &[Occurrence]) -> Option<(usize, usize)>
     requires { IsSorted occurrence_cmp all.now }
     ensures { IsLeast (OccursTwice all.now) result }
@@ -144,9 +146,10 @@ fn pair_of(first: &Occurrence, second: &Occurrence) -> Option<(usize, usize)>
     }
 }
 
-// How many components stand before the first that can begin with any tag.
+// How many components come before the first that can begin with any tag.
 fn place_of_open(components: &[FlatComponent]) -> Option<usize>
-    ensures { result ≡ position (λ component. is_open (component_seen component).tree) components.now }
+    ensures { result ≡
+        position (λ component. is_open (component_seen component).tree) components.now }
 {
     components.iter().position(|component| component.is_open())
 }
@@ -178,7 +181,7 @@ fn lesser_pair(
     }
 }
 
-// Whether the first pair stands before the second.
+// Whether the first pair comes before the second.
 fn is_less(first: (usize, usize), second: (usize, usize)) -> bool
     ensures { result ≡ pair_less first second }
 {

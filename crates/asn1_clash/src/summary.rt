@@ -7,10 +7,10 @@ ghost use Rattle.asn1_tags.specs.Tags.{distinct, smallest, tag_cmp};
 use crate::flat_tree::GREATEST;
 use asn1_tags::Tag;
 
-/// Whether a tag stands twice among the leaves of a tree, the smallest leaf, and how many leaves there are.
+/// Whether a tag occurs twice among the leaves of a tree, the smallest leaf, and how many leaves there are.
 #[derive(Clone, Copy)]
 pub struct TreeSummary {
-    /// Whether no tag stands at two leaves.
+    /// Whether no tag is at two leaves.
     pub is_unique: bool,
     /// The smallest leaf, and the greatest tag of all where there is none.
     pub smallest_tag: Tag,

@@ -1,10 +1,12 @@
 -- A field table has as many lines as there are components.
-use Rattle.std.proofs.Common.{◌≡◌, ℕ, suc, ◌+◌, Bool, true, false, cond, List, [], ◌∷◌, length, refl, ap, ◌∙◌, length-append, arith}
+use Rattle.std.proofs.Common.{◌≡◌, ℕ, suc, ◌+◌, Bool, true, false, cond, List, [], ◌∷◌, ◌++◌, drop, length, map, take, None, Some, refl, sym, ap, ◌∙◌, append-nil, length-append, arith}
+use Rattle.std.proofs.lemmas.List.{length-map, map-append}
+use Rattle.std.proofs.Math.Seq.{drop-append_seam, take-append_seam}
 use Rattle.asn1_components.specs.ComponentLists.{entries_from}
-use Rattle.asn1_components.specs.Components.{Components, Kind, is_sequence, is_set, added, all_components, in_canonical_order, put_in_order, table, table_in}
+use Rattle.asn1_components.specs.Components.{Components, Extension, Kind, is_sequence, is_set, added, all_components, lines, marker, marker_place, no_marker, parted, in_canonical_order, put_in_order, table, table_in}
 use Rattle.asn1_components.specs.ComponentTypes.{ComponentType}
 use Rattle.asn1_fields.specs.CanonicalOrder.{in_order}
-use Rattle.asn1_fields.specs.Entries.{Entry, component_of}
+use Rattle.asn1_fields.specs.Entries.{Entry, component_of, line_of}
 
 one_entry_more : (b : Bool) (e f : Entry) (put es : List Entry) → length put ≡ suc (length es) → length (cond b (e ∷ f ∷ es) (f ∷ put)) ≡ suc (suc (length es))
 one_entry_more true e f put es h = refl
@@ -38,3 +40,27 @@ length-table components =
       length-entries 0 components.root,
       length-entries (length components.root) (added components),
     )
+
+-- What records have of a table is its lines.
+pub lines_of_table : {V : Type 0} (components : Components V) → lines components ≡ parted (map line_of (table components)) (marker_place components)
+lines_of_table components = by_extension components.extension
+  where
+    rs : List Entry
+    rs = table_in components.kind (entries_from 0 components.root)
+
+    as_long : length (map line_of rs) ≡ length components.root
+    as_long = length-map rs line_of ∙ length-table_in components.kind (entries_from 0 components.root) ∙ length-entries 0 components.root
+
+    by_extension : (x : Extension _) →
+        lines (record components { extension = x }) ≡ parted (map line_of (table (record components { extension = x }))) (marker_place (record components { extension = x }))
+    by_extension no_marker = ap (λ es. record { root = map line_of es; additions = None }) (sym (append-nil rs))
+    by_extension (marker additions) =
+        let n = length components.root in
+        let added = entries_from n additions in
+        let all = map line_of rs in
+        let more = map line_of added in
+        let joined : map line_of (rs ++ added) ≡ all ++ more = map-append line_of rs added in
+        let first : take n (map line_of (rs ++ added)) ≡ all = ap (take n) joined ∙ ap (λ k. take k (all ++ more)) (sym as_long) ∙ take-append_seam all more in
+        let second : drop n (map line_of (rs ++ added)) ≡ more = ap (drop n) joined ∙ ap (λ k. drop k (all ++ more)) (sym as_long) ∙ drop-append_seam all more in
+        ap (λ l. record { root = l; additions = Some more }) (sym first)
+        ∙ ap (λ l. record { root = take n (map line_of (rs ++ added)); additions = Some l }) (sym second)

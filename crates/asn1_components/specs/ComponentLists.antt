@@ -5,7 +5,9 @@ use Rattle.std.specs.Option.{option_map}
 use Rattle.asn1_tags.specs.Tags.{distinct}
 use Rattle.asn1_tags.specs.Trees.{Tree, Trees, choice, leaves, none, more}
 use Rattle.asn1_model.specs.Composites.{group_records}
-use Rattle.asn1_model.specs.Records.{Record, mark, group_start, group_end, group_absent, marks_alone}
+use Rattle.asn1_model.specs.Records.{Record, Side, mark, group_start, group_end, group_absent, marks_alone}
+use Rattle.asn1_model.specs.WellFormed.{AreWellFormed, well_formed_append}
+use Rattle.asn1_model.specs.Tables.{Line, Table}
 use Rattle.asn1_model.specs.Tags.{CHOICE, BeginsWithin, LiesIn, tree_tags, first_tags}
 use Rattle.asn1_model.proofs.FirstTags.{begins_before, first_passes, first_stays, alone_append}
 use Rattle.asn1_model.proofs.TagSets.{in_first_tree, in_later_trees}
@@ -48,6 +50,11 @@ abbrev pub EachMayBeAbsent : {V : Type 0} → List (ComponentType V) → Type 0
 EachMayBeAbsent [] = ⊤
 EachMayBeAbsent (c ∷ cs) = IsTrue (may_be_absent c.presence) × EachMayBeAbsent cs
 
+-- each can be on this side
+abbrev pub EachCanBeOn : {V : Type 0} → Side → List (ComponentType V) → Type 0
+EachCanBeOn side [] = ⊤
+EachCanBeOn side (c ∷ cs) = c.CanBeOn side × EachCanBeOn side cs
+
 -- no tag is twice in the tree of one of them, as it could be in that of a group
 abbrev pub EachTreeIsDistinct : {V : Type 0} → List (ComponentType V) → Type 0
 EachTreeIsDistinct [] = ⊤
@@ -62,6 +69,29 @@ EachIsOfType (c ∷ cs) v = c.IsOfType v × EachIsOfType cs v
 abbrev pub EachIsValid : {V : Type 0} → List (ComponentType V) → (List ℕ → Bool) → V → Type 0
 EachIsValid [] takes v = ⊤
 EachIsValid (c ∷ cs) takes v = c.IsValid takes v × EachIsValid cs takes v
+
+-- then their records are well formed
+pub all_well_formed : {V : Type 0} (cs : List (ComponentType V)) (takes : List ℕ → Bool) (v : V) →
+    EachIsValid cs takes v → AreWellFormed takes (all_records cs v)
+all_well_formed [] takes v valid = tt
+all_well_formed (c ∷ cs) takes v valid = well_formed_append takes (c.records v) (all_records cs v)
+    (c.well_formed takes v valid.0) (all_well_formed cs takes v valid.1)
+
+-- and so are those of a group of them
+well_formed_between : (table : Table Line) (takes : List ℕ → Bool) (rs : List Record) (b : Bool) →
+    AreWellFormed takes rs →
+    AreWellFormed takes (if b then mark group_absent ∷ [] else mark (group_start table) ∷ rs ++ mark group_end ∷ [])
+well_formed_between table takes rs true are = (tt, tt)
+well_formed_between table takes rs false are =
+    (tt, well_formed_append takes rs (mark group_end ∷ []) are (tt, tt))
+
+pub group_well_formed : {W : Type 0} (table : Table Line) (cs : List (ComponentType W))
+    (takes : List ℕ → Bool) (o : Option W) →
+    IfSome o (λ w. EachIsValid cs takes w × (marks_alone (all_records cs w) ≡ false)) →
+    AreWellFormed takes (group_records table (option_map (all_records cs) o))
+group_well_formed table cs takes None valid = (tt, tt)
+group_well_formed table cs takes (Some w) valid = well_formed_between table takes (all_records cs w)
+    (marks_alone (all_records cs w)) (all_well_formed cs takes w valid.0)
 
 -- In a SEQUENCE and in a group a component that may be absent shares no tag with those after it, up to and including the
 -- next that is always there (X.680, 25.6).
@@ -96,31 +126,36 @@ begins_with_one : {V : Type 0} (cs : List (ComponentType V)) → EachCanStandIns
 begins_with_one [] can v some = cc
 begins_with_one (c ∷ cs) can v some = first_or_later c cs v some (c.fits can.0 v) (begins_with_one cs can.1 v)
 
-between_marks : (tree : Tree) (rs : List Record) (b : Bool) → marks_alone rs ≡ b → (marks_alone rs ≡ false → BeginsWithin (tree_tags tree) rs) →
-    Fits Optional tree (if b then mark group_absent ∷ [] else mark group_start ∷ rs ++ mark group_end ∷ [])
-between_marks tree rs true e f = inr (refl, refl)
-between_marks tree rs false e f =
+between_marks : (table : Table Line) (tree : Tree) (rs : List Record) (b : Bool) →
+    marks_alone rs ≡ b → (marks_alone rs ≡ false → BeginsWithin (tree_tags tree) rs) →
+    Fits Optional tree (if b then mark group_absent ∷ [] else mark (group_start table) ∷ rs ++ mark group_end ∷ [])
+between_marks table tree rs true e f = inr (refl, refl)
+between_marks table tree rs false e f =
     let h = begins_before (tree_tags tree) rs (mark group_end ∷ []) (f e) in
     inl (record { some = h.some; within = h.within })
 
-pub group_fits : {W : Type 0} (cs : List (ComponentType W)) → EachCanStandInside cs → (o : Option W) →
-    Fits Optional (choice (trees_of cs)) (group_records (option_map (all_records cs) o))
-group_fits cs can None = inr (refl, refl)
-group_fits cs can (Some w) =
-    between_marks (choice (trees_of cs)) (all_records cs w) (marks_alone (all_records cs w)) refl (λ some.
+pub group_fits : {W : Type 0} (table : Table Line) (cs : List (ComponentType W)) →
+    EachCanStandInside cs → (o : Option W) →
+    Fits Optional (choice (trees_of cs)) (group_records table (option_map (all_records cs) o))
+group_fits table cs can None = inr (refl, refl)
+group_fits table cs can (Some w) =
+    between_marks table (choice (trees_of cs)) (all_records cs w) (marks_alone (all_records cs w)) refl (λ some.
     record { some = some; within = begins_with_one cs can w some })
 
 -- A group of additions (X.680, 25.1, "ExtensionAdditionGroup"): it has the tags of all of its components, and one that is
--- there writes a component.
-abbrev pub group_of : {V W : Type 0} → List ℕ → (V → Option W) → List (ComponentType W) → ComponentType V
-group_of name get cs = record {
+-- there writes a component. It has a table of its own. Its marks say no side, so it can also be inside another group.
+abbrev pub group_of : {V W : Type 0} → List ℕ → (V → Option W) → Table Line →
+    List (ComponentType W) → ComponentType V
+group_of name get table cs = record {
   name = name;
+  CanBeOn = λ _. ⊤;
   presence = Optional;
   tag = CHOICE;
   tree = choice (trees_of cs);
-  records = λ v. group_records (option_map (all_records cs) (get v));
+  records = λ v. group_records table (option_map (all_records cs) (get v));
   CanStandInside = CanBeInSequence cs;
   IsOfType = λ v. IfSome (get v) (EachIsOfType cs);
   IsValid = λ takes v. IfSome (get v) (λ w. EachIsValid cs takes w × (marks_alone (all_records cs w) ≡ false));
-  fits = λ can v. group_fits cs can.0 (get v);
+  fits = λ can v. group_fits table cs can.0 (get v);
+  well_formed = λ takes v. group_well_formed table cs takes (get v);
 }

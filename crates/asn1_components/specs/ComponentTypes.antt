@@ -5,7 +5,8 @@ use Rattle.std.specs.Option.{option_map}
 use Rattle.asn1_tags.specs.declared.tags.Tag.{Tag}
 use Rattle.asn1_tags.specs.Trees.{Tree}
 use Rattle.asn1_model.specs.Composites.{option_records, default_records}
-use Rattle.asn1_model.specs.Records.{Record, marks_alone}
+use Rattle.asn1_model.specs.Records.{Record, Side, in_additions, in_root, marks_alone}
+use Rattle.asn1_model.specs.WellFormed.{AreWellFormed, well_formed_option}
 use Rattle.asn1_model.specs.TaggedTypes.{TaggedType}
 use Rattle.asn1_model.specs.Tags.{BeginsWithin, tree_tags}
 use Rattle.asn1_model.proofs.FirstTags.{one_begins, present_begins}
@@ -21,6 +22,8 @@ Fits presence tree rs = BeginsWithin (tree_tags tree) rs ⊎ (IsTrue (may_be_abs
 -- A component of the values V.
 pub record ComponentType (V : Type 0) : Type 1 where
   pub name : List ℕ
+  -- it can be on this side of its definition, as its presence marks say
+  pub CanBeOn : Side → Type 0
   pub presence : FieldPresence
   -- the tag under which it is written, and the tags with which it can begin
   pub tag : Tag
@@ -34,11 +37,14 @@ pub record ComponentType (V : Type 0) : Type 1 where
   pub IsValid : (List ℕ → Bool) → V → Type 0
   -- what is written of it begins with one of its tags, or it is absent
   pub fits : CanStandInside → (v : V) → Fits presence tree (records v)
+  -- and what is written of it in a valid value is well formed
+  pub well_formed : (takes : List ℕ → Bool) (v : V) → IsValid takes v → AreWellFormed takes (records v)
 
 -- one that is always there
 abbrev pub required : {V W : Type 0} → List ℕ → (V → W) → TaggedType W → ComponentType V
 required name get type = record {
   name = name;
+  CanBeOn = λ side. side ≡ in_root;
   presence = Required;
   tag = type.tag;
   tree = type.tree;
@@ -47,47 +53,80 @@ required name get type = record {
   IsOfType = λ v. type.IsOfType (get v);
   IsValid = λ takes v. type.IsValid takes (get v);
   fits = λ can v. inl (one_begins (tree_tags type.tree) (type.records (get v)) (type.one_record can (get v)));
+  well_formed = λ takes v. type.well_formed takes (get v);
 }
 
-pub present_or_absent : {W : Type 0} (type : TaggedType W) (presence : FieldPresence) → Fits presence type.tree (option_records type.tag None) →
-    type.CanStandInside → (o : Option W) → Fits presence type.tree (option_records type.tag (option_map type.records o))
-present_or_absent type presence absent can None = absent
-present_or_absent type presence absent can (Some w) = inl (present_begins (tree_tags type.tree) type.tag (type.records w) (type.one_record can w))
+pub present_or_absent : {W : Type 0} (side : Side) (type : TaggedType W)
+    (presence : FieldPresence) → Fits presence type.tree (option_records side type.tag None) →
+    type.CanStandInside → (o : Option W) → Fits presence type.tree (option_records side type.tag
+    (option_map type.records o))
+present_or_absent side type presence absent can None = absent
+present_or_absent side type presence absent can (Some w) = inl
+    (present_begins (tree_tags type.tree) side type.tag (type.records w) (type.one_record can w))
 
--- one that is marked OPTIONAL
-abbrev pub optional : {V W : Type 0} → List ℕ → (V → Option W) → TaggedType W → ComponentType V
-optional name get type = record {
+-- one that is marked OPTIONAL, on this side
+abbrev pub optional_in : {V W : Type 0} → Side → List ℕ → (V → Option W) → TaggedType W →
+    ComponentType V
+optional_in side name get type = record {
   name = name;
+  CanBeOn = λ other. other ≡ side;
   presence = Optional;
   tag = type.tag;
   tree = type.tree;
-  records = λ v. option_records type.tag (option_map type.records (get v));
+  records = λ v. option_records side type.tag (option_map type.records (get v));
   CanStandInside = type.CanStandInside;
   IsOfType = λ v. IfSome (get v) type.IsOfType;
   IsValid = λ takes v. IfSome (get v) (type.IsValid takes);
-  fits = λ can v. present_or_absent type Optional (inr (refl, refl)) can (get v);
+  fits = λ can v. present_or_absent side type Optional (inr (refl, refl)) can (get v);
+  well_formed = λ takes v. well_formed_option takes side type.tag (type.IsValid takes) type.records
+      (type.well_formed takes) (get v);
 }
+
+-- one of the root
+abbrev pub optional : {V W : Type 0} → List ℕ → (V → Option W) → TaggedType W → ComponentType V
+optional = optional_in in_root
 
 -- an addition (X.680, 25.1): it may be absent at will, since the sender may know an earlier version of the type
 abbrev pub addition : {V W : Type 0} → List ℕ → (V → Option W) → TaggedType W → ComponentType V
-addition = optional
+addition = optional_in in_additions
 
-pub other_than_default : {W : Type 0} (type : TaggedType W) → type.CanStandInside → (w : W) (is_default : Bool) →
-    Fits Default type.tree (default_records is_default type.tag (type.records w))
-other_than_default type can w true = inr (refl, refl)
-other_than_default type can w false = present_or_absent type Default (inr (refl, refl)) can (Some w)
+pub other_than_default : {W : Type 0} (side : Side) (type : TaggedType W) → type.CanStandInside →
+    (w : W) (is_default : Bool) →
+    Fits Default type.tree (default_records side is_default type.tag (type.records w))
+other_than_default side type can w true = inr (refl, refl)
+other_than_default side type can w false = present_or_absent side type Default (inr (refl, refl))
+    can (Some w)
 
--- one with a DEFAULT: whether the value's is that. A default is not written, so nothing is told of it
+-- its records are well formed where what is written is valid
+pub well_formed_default : {W : Type 0} (side : Side) (type : TaggedType W) (takes : List ℕ → Bool) (w : W)
+    (is_default : Bool) → (is_default ≡ false → type.IsValid takes w) →
+    AreWellFormed takes (default_records side is_default type.tag (type.records w))
+well_formed_default side type takes w true valid = (tt, tt)
+well_formed_default side type takes w false valid = (tt, type.well_formed takes w (valid refl))
+
+-- one with a DEFAULT, on this side: whether the value's is that. A default is not written, so nothing is told of it
 -- and nothing is asked.
-abbrev pub with_default : {V W : Type 0} → List ℕ → (V → W) → (V → Bool) → TaggedType W → ComponentType V
-with_default name get is_default type = record {
+abbrev pub default_in : {V W : Type 0} → Side → List ℕ → (V → W) → (V → Bool) → TaggedType W →
+    ComponentType V
+default_in side name get is_default type = record {
   name = name;
+  CanBeOn = λ other. other ≡ side;
   presence = Default;
   tag = type.tag;
   tree = type.tree;
-  records = λ v. default_records (is_default v) type.tag (type.records (get v));
+  records = λ v. default_records side (is_default v) type.tag (type.records (get v));
   CanStandInside = type.CanStandInside;
   IsOfType = λ v. is_default v ≡ false → type.IsOfType (get v);
   IsValid = λ takes v. is_default v ≡ false → type.IsValid takes (get v);
-  fits = λ can v. other_than_default type can (get v) (is_default v);
+  fits = λ can v. other_than_default side type can (get v) (is_default v);
+  well_formed = λ takes v. well_formed_default side type takes (get v) (is_default v);
 }
+
+-- one of the root, and an addition
+abbrev pub with_default : {V W : Type 0} → List ℕ → (V → W) → (V → Bool) → TaggedType W →
+    ComponentType V
+with_default = default_in in_root
+
+abbrev pub addition_with_default : {V W : Type 0} → List ℕ → (V → W) → (V → Bool) → TaggedType W →
+    ComponentType V
+addition_with_default = default_in in_additions

@@ -1,16 +1,17 @@
 -- The components of a SEQUENCE, a SET or a group, each written once: the records of a value, the lines of the field table,
 -- whether the tags are distinct, and which values are valid follow from them.
-use Rattle.std.specs.Prelude.{◌≡◌, ◌↔◌, ℕ, ⊤, Bool, true, false, List, [], ◌∷◌, ◌++◌, length, Option, Some, refl, if◌then◌else◌}
+use Rattle.std.specs.Prelude.{◌≡◌, ◌↔◌, ℕ, ⊤, Bool, true, false, List, [], ◌∷◌, ◌++◌, drop, length, map, take, Option, None, Some, refl, if◌then◌else◌}
 use Rattle.asn1_tags.specs.declared.tags.Tag.{Tag}
 use Rattle.asn1_tags.specs.Trees.{leaf}
 use Rattle.asn1_model.specs.ConstraintSets.{ConstraintSet, unconstrained}
 use Rattle.asn1_model.specs.Kinds.{Inside, scope_type}
 use Rattle.asn1_model.specs.Meaning.{Meaning}
-use Rattle.asn1_model.specs.Records.{Name, Record, Head, sequence as sequence_head, set as set_head, holding}
-use Rattle.asn1_model.specs.Tags.{IsATag, head_tag, universal}
+use Rattle.asn1_model.specs.Records.{Name, Record, Head, in_additions, in_root, sequence as sequence_head, set as set_head, holding}
+use Rattle.asn1_model.specs.Tables.{Line, Table, no_table}
+use Rattle.asn1_model.specs.Tags.{IsATag, HasOwnTag, universal}
 use Rattle.asn1_fields.specs.CanonicalOrder.{in_order}
-use Rattle.asn1_fields.specs.Entries.{Entry, component_of}
-use Rattle.asn1_components.specs.ComponentLists.{all_records, entries_from, EachCanStandInside, EachMayBeAbsent, EachIsOfType, EachIsValid, AreDistinctInSequence, AreDistinctInSet, CanBeInSequence, group_fits, group_of}
+use Rattle.asn1_fields.specs.Entries.{Entry, component_of, line_of}
+use Rattle.asn1_components.specs.ComponentLists.{all_records, entries_from, EachCanStandInside, EachCanBeOn, EachMayBeAbsent, EachIsOfType, EachIsValid, all_well_formed, AreDistinctInSequence, AreDistinctInSet, CanBeInSequence, group_fits, group_of}
 use Rattle.asn1_components.specs.ComponentTypes.{ComponentType}
 
 -- A SEQUENCE (X.680, 25) or a SET (27); a group is a SEQUENCE here.
@@ -64,13 +65,14 @@ AreDistinctIn is_sequence cs = AreDistinctInSequence cs
 AreDistinctIn is_set cs = AreDistinctInSet cs
 
 -- what a value's record is, apart from what is inside
-abbrev pub head_in : Kind → Tag → Name → Head
-head_in is_sequence t n = sequence_head t n
-head_in is_set t n = set_head t n
+abbrev pub head_in : Kind → Tag → Table Line → Name → Head
+head_in is_sequence t table n = sequence_head t table n
+head_in is_set t table n = set_head t table n
 
-pub head_has_tag : (kind : Kind) (t : Tag) (n : Name) → head_tag (head_in kind t n) ≡ t
-head_has_tag is_sequence t n = refl
-head_has_tag is_set t n = refl
+pub head_has_tag : (kind : Kind) (t : Tag) (table : Table Line) (n : Name) →
+    HasOwnTag t (head_in kind t table n)
+head_has_tag is_sequence t table n = refl
+head_has_tag is_set t table n = refl
 
 -- the tag that X.680 assigns to the kind (8.4, table 1)
 abbrev pub tag_of : Kind → Tag
@@ -86,6 +88,21 @@ has_marker (marker additions) = true
 abbrev pub additions_of : {V : Type 0} → Extension V → List (ComponentType V)
 additions_of no_marker = []
 additions_of (marker additions) = additions
+
+-- how many components come before the extension marker, where there is one
+abbrev pub place_of_marker : {V : Type 0} → Extension V → ℕ → Option ℕ
+place_of_marker no_marker k = None
+place_of_marker (marker additions) k = Some k
+
+-- these lines after the extension marker, where there is one
+abbrev pub after_marker : {V : Type 0} → Extension V → List Line → Option (List Line)
+after_marker no_marker lines = None
+after_marker (marker additions) lines = Some lines
+
+-- lines of a table, those after the extension marker apart, by the place of the marker
+abbrev pub parted : List Line → Option ℕ → Table Line
+parted ls None = record { root = ls; additions = None }
+parted ls (Some k) = record { root = take k ls; additions = Some (drop k ls) }
 
 module _ {V : Type 0} (components : Components V) where
   -- the additions, none where there is no extension marker
@@ -111,10 +128,23 @@ module _ {V : Type 0} (components : Components V) where
   abbrev pub table : List Entry
   table = root_entries ++ added_entries
 
-  -- The type of each component can be there, additions may be absent at will, and tags are distinct.
+  -- the same, as records have it
+  abbrev pub lines : Table Line
+  lines = record { root = map line_of root_entries; additions = after_marker components.extension (map line_of added_entries) }
+
+  -- how many components come before the extension marker, where there is one
+  abbrev pub marker_place : Option ℕ
+  marker_place = place_of_marker components.extension (length components.root)
+
+  -- each component is written where it is defined, in the root or among the additions, which may be absent at will
+  abbrev pub AreInPlace : Type 0
+  AreInPlace = EachCanBeOn in_root components.root × EachCanBeOn in_additions added ×
+      EachMayBeAbsent added
+
+  -- The type of each component can be there, each is in its place, and tags are distinct.
   abbrev pub CanStandTogether : Type 0
-  CanStandTogether =
-      EachCanStandInside all_components × EachMayBeAbsent added × AreDistinctIn components.kind all_components
+  CanStandTogether = EachCanStandInside all_components × AreInPlace ×
+      AreDistinctIn components.kind all_components
 
   -- what a value has inside
   abbrev pub inside : Inside V
@@ -123,12 +153,13 @@ module _ {V : Type 0} (components : Components V) where
     CanStandInside = CanStandTogether;
     AreOfType = EachIsOfType all_components;
     AreValid = EachIsValid all_components;
+    well_formed = all_well_formed all_components;
   }
 
   -- The type of these components, under a tag of its own, and with a name.
   abbrev pub constructed_type_under : Tag → List ℕ → Meaning V
   constructed_type_under tag name =
-      scope_type (λ t c n. head_in components.kind t n) (λ t c n. head_has_tag components.kind t n) tag unconstrained (Some name) inside
+      scope_type (λ t c n. head_in components.kind t lines n) (λ t c n. head_has_tag components.kind t lines n) tag unconstrained (Some name) inside
 
 -- The type of these components, under the tag of its kind.
 abbrev pub constructed_type : {V : Type 0} → List ℕ → Components V → Meaning V
@@ -136,18 +167,19 @@ constructed_type name components = constructed_type_under components (tag_of com
 
 -- A group of additions (X.680, 25.1), by its components: those of a SEQUENCE, without an extension marker of its own.
 abbrev pub group : {V W : Type 0} → List ℕ → (V → Option W) → Components W → ComponentType V
-group name get components = record (group_of name get (all_components components)) {
-  CanStandInside = CanBeInSequence (all_components components) × (components.kind ≡ is_sequence) × (has_marker components.extension ≡ false);
-  fits = λ can v. group_fits (all_components components) can.0.0 (get v);
+group name get components = record (group_of name get (lines components) (all_components components)) {
+  CanStandInside = CanBeInSequence (all_components components) × (components.kind ≡ is_sequence) ×
+      (has_marker components.extension ≡ false) × EachCanBeOn in_root components.root;
+  fits = λ can v. group_fits (lines components) (all_components components) can.0.0 (get v);
 }
 
 -- The law of a type of components: its meaning is that of these. A value is always there, begins with the tag of the type,
--- and holds the records of theirs; it is well tagged if and only if they can stand together; and what a value has by its type, and
+-- and holds the records of theirs; it is well tagged if and only if they can be together; and what a value has by its type, and
 -- whether it is valid, is what they have and are.
 pub record AgreesWithComponents {V : Type 0} (components : Components V) (m : Meaning V) : Type 0 where
   pub tree : (t : Tag) → m.tree t ≡ leaf t
   pub records : (v : V) (t : Tag) (c : ConstraintSet) (n : Name) →
-      m.records v t c n ≡ holding (head_in components.kind t n) (component_records components v) ∷ []
+      m.records v t c n ≡ holding (head_in components.kind t (lines components) n) (component_records components v) ∷ []
   pub single : m.IsSingleRecord
   pub present : (v : V) → m.is_present v ≡ true
   pub well_tagged : (t : Tag) → m.IsWellTagged t ↔ (IsATag t × CanStandTogether components)
@@ -167,24 +199,42 @@ constructed_agrees = record {
   valid = λ takes v. (λ h. h, λ h. h);
 }
 
--- A type that holds itself. Its components speak of it, so its records, what it has by its type and which values are valid
--- are defined first, by recursion over its values. This is what it means to its own components, of which nothing is asked
--- there.
-abbrev pub inside_itself : {V : Type 0} → List ℕ → Kind → (V → List Record) → (V → Type 0) → ((List ℕ → Bool) → V → Type 0) → Meaning V
-inside_itself name kind fields AreOfType AreValid =
-    scope_type (λ t c n. head_in kind t n) (λ t c n. head_has_tag kind t n) (tag_of kind) unconstrained (Some name) (record {
-      records = fields;
-      CanStandInside = ⊤;
-      AreOfType = AreOfType;
-      AreValid = AreValid;
-    })
+-- A type of this name and kind whose values are one record each, by its table and what is inside.
+abbrev pub holding_type : {V : Type 0} → List ℕ → Kind → Table Line → Inside V → Meaning V
+holding_type name kind table inside =
+    scope_type (λ t c n. head_in kind t table n) (λ t c n. head_has_tag kind t table n) (tag_of kind)
+    unconstrained (Some name) inside
 
--- And this is what it means to all others, with its components, which speak of it by the word above.
-abbrev pub holding_itself : {V : Type 0} → List ℕ → (V → List Record) → (V → Type 0) → ((List ℕ → Bool) → V → Type 0) → Components V → Meaning V
-holding_itself name fields AreOfType AreValid components =
-    scope_type (λ t c n. head_in components.kind t n) (λ t c n. head_has_tag components.kind t n) (tag_of components.kind) unconstrained (Some name) (record {
-      records = fields;
-      CanStandInside = CanStandTogether components;
-      AreOfType = AreOfType;
-      AreValid = AreValid;
-    })
+-- A type that holds itself. Its components speak of it, so what is inside its values is said first, by recursion over
+-- these. This is what it means to its own components, where nothing is asked of it.
+abbrev pub inside_itself : {V : Type 0} → List ℕ → Kind → Table Line → Inside V → Meaning V
+inside_itself name kind table inside =
+    holding_type name kind table (record inside { CanStandInside = ⊤ })
+
+-- nothing inside
+abbrev nothing : {V : Type 0} → Inside V
+nothing = record {
+  records = λ _. [];
+  CanStandInside = ⊤;
+  AreOfType = λ _. ⊤;
+  AreValid = λ _ _. ⊤;
+  well_formed = λ _ _ _. tt;
+}
+
+-- The table, by the components beside what the type is to them: it rests on nothing that the type says of values.
+abbrev pub table_with_itself : {V W : Type 0} → List ℕ → Kind → (Meaning W → Components V) →
+    Table Line
+table_with_itself name kind components_with =
+    lines (components_with (inside_itself name kind no_table nothing))
+
+-- Its components, which speak of it by the words above.
+abbrev pub components_with_itself : {V : Type 0} → List ℕ → Kind → (Meaning V → Components V) →
+    Inside V → Components V
+components_with_itself name kind components_with inside =
+    components_with (inside_itself name kind (table_with_itself name kind components_with) inside)
+
+-- And this is what it means to all others.
+abbrev pub holding_itself : {V : Type 0} → List ℕ → Inside V → Components V → Meaning V
+holding_itself name inside components =
+    holding_type name components.kind (lines components)
+    (record inside { CanStandInside = CanStandTogether components })

@@ -20,8 +20,11 @@ pub trait Constructed<const RL: usize, const EL: usize>: FieldTable {
         ensures { entries result.now ≡ added_entries Self.components };
 
     /// Whether the type has an extension marker.
-    fn is_extensible() -> bool
-        ensures { result ≡ has_marker Self.components.extension };
+    final fn is_extensible() -> bool
+        ensures { result ≡ has_marker Self.components.extension }
+    {
+        Self::marker_place().is_some()
+    }
 
     /// The fields of the root, as a table.
     final fn fields() -> Fields<'static, RL>

@@ -24,6 +24,8 @@
 //! - `specs/Following.antt` has the words for what follows a component. `components_are_told_apart` says that it begins with
 //!   none of the component's tags, where the component may be absent; also where a run of absent components goes on past the
 //!   end of a group. `tables_are_in_order` says that a SET's table is canonical, and that no index is twice.
+//! - The table is in records too (`lines`), with the lines after the extension marker apart (`marker_place`). That these are
+//!   the lines that `FieldTable` answers is a clause of `tables_are_in_order` (`as_in_records`).
 //! - A type that holds itself says by recursion what a value is. To its own components it is `inside_itself`, where nothing is
 //!   asked of it, and to all others `holding_itself`.
 //!

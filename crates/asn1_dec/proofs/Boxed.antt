@@ -1,5 +1,5 @@
 -- A value that is read into a box.
-use Rattle.std.proofs.Common.{◌≡◌, Bool, Result, Ok, Err, inl, inr}
+use Rattle.std.proofs.Common.{◌≡◌, ◌⊎◌, Bool, true, false, Result, Ok, Err, inl, inr, refl}
 use Rattle.std.specs.Result.{MatchResult}
 use Rattle.asn1_tags.specs.declared.tags.Tag.{Tag}
 use Rattle.asn1_model.specs.ConstraintSets.{ConstraintSet}
@@ -8,7 +8,8 @@ use Rattle.asn1_model.specs.Meaning.{Meaning}
 use Rattle.asn1_model.specs.Records.{name_or}
 use Rattle.asn1_dec.specs.declared.error.DecodeError.{DecodeError}
 use Rattle.asn1_dec.specs.declared.error.DecodeError.TheVariants.{Memory}
-use Rattle.asn1_dec.specs.Reading.{Reader, LeavesDecoder, ReadsValue}
+use Rattle.asn1_dec.specs.Reading.{Reader, HasReadPast, LeavesDecoder, ReadsValue, Refuses}
+use Rattle.asn1_dec.specs.Refusals.{Refusals}
 
 module _ {D V W : Type 0} (R : Reader D) (m : Meaning V) (value : W → V) (t : Tag) (c : ConstraintSet) (old new : D) where
   -- The decoder is as the reading of the value left it, also where there was no memory for the box.
@@ -18,21 +19,28 @@ module _ {D V W : Type 0} (R : Reader D) (m : Meaning V) (value : W → V) (t : 
       LeavesDecoder R (under_own_name (through value m)) t c old new result
   leaves_boxed eq (Ok v) (Ok w) read leaves boxed = record {
     same_allowance = leaves.same_allowance;
+    no_failure = leaves.no_failure;
     after_error = inl tt;
     refused = λ single failed. let wrong = leaves.refused single failed in cc;
   }
   leaves_boxed eq (Ok v) (Err e) read leaves boxed = record {
     same_allowance = tt;
-    after_error = inr (record {
-      same_allowance = leaves.same_allowance;
-      at = λ w n rest outer tagged of_type valid follow at. (read (value w) (name_or n m.name) rest outer tagged of_type valid follow at).at;
-      not_too_deep = λ deep. cc;
-      not_failed = λ failed. cc;
-    });
+    no_failure = tt;
+    after_error = elim (R.failed new) as (λ b. R.failed new ≡ b → (R.failed new ≡ true) ⊎ HasReadPast R (under_own_name (through value m)) t c old new (Err e)) [
+      | true ↦ λ failed. inl failed
+      | false ↦ λ sound. inr (record {
+        same_allowance = leaves.same_allowance;
+        at = λ w n rest outer tagged of_type valid follow at. (read (value w) (name_or n m.name) rest outer tagged of_type valid follow at).at;
+        not_too_deep = λ deep. cc;
+        not_failed = λ failed. cc;
+        no_failure = sound;
+      })
+    ] refl;
     refused = λ single failed. let wrong = leaves.refused single failed in cc;
   }
   leaves_boxed eq (Err e) result read leaves boxed = rw boxed (record {
     same_allowance = tt;
+    no_failure = tt;
     after_error = elim leaves.after_error [
       | inl failed ↦ inl failed
       | inr past ↦ inr (record {
@@ -40,7 +48,16 @@ module _ {D V W : Type 0} (R : Reader D) (m : Meaning V) (value : W → V) (t : 
         at = λ w n rest outer tagged of_type valid follow at. past.at (value w) (name_or n m.name) rest outer tagged of_type valid follow at;
         not_too_deep = past.not_too_deep;
         not_failed = past.not_failed;
+        no_failure = past.no_failure;
       })
     ];
     refused = λ single failed. let same = leaves.refused single failed in cc;
   })
+
+  -- What the type of the value refuses, the box does.
+  pub refuses_boxed : (refused : Refusals) (answer : Result V DecodeError) (result : Result W DecodeError) →
+      Refuses R refused t c old new answer →
+      MatchResult answer (λ v. MatchResult result (λ w. value w ≡ v) (λ e. e ≡ Memory)) (λ e. result ≡ Err e) →
+      Refuses R refused t c old new result
+  refuses_boxed refused (Ok v) result refuses boxed = λ rs rest outer e is at. absurd (refuses rs rest outer e is at)
+  refuses_boxed refused (Err f) result refuses boxed = λ rs rest outer e is at. rw boxed (refuses rs rest outer e is at)

@@ -1,6 +1,6 @@
 -- A CHOICE under a tag.
 use Rattle.std.proofs.Common.{◌≡◌, Bool, true, false, if◌then◌else◌, List, Result, ap, sym, ◌∙◌, subst}
-use Rattle.asn1_choices.specs.Alternatives.{Alternatives, OneOf, CanBeChosen, Each, HaveDistinctTags, all_of, chosen_meaning}
+use Rattle.asn1_choices.specs.Alternatives.{Alternatives, OneOf, CanBeChosen, Each, HaveDistinctTags, all_of, chosen_meaning, table_of}
 use Rattle.asn1_choices.specs.ChoiceTypes.{AgreesWithChoice}
 use Rattle.asn1_choices.specs.ChosenTags.{chosen_tag}
 use Rattle.asn1_dec.specs.Reading.{Ahead, Reader, ReadsBack, ReadsValue}
@@ -16,7 +16,7 @@ use Rattle.asn1_tags.specs.declared.tags.Tag.{Tag}
 module _ {D V : Type 0} (R : Reader D) (m : Meaning V) (alts : Alternatives) (pick : V → OneOf (all_of alts)) (eq : V → V → Bool) where
   -- what the chosen alternative of a value is, under these constraints and this name
   abbrev chosen_records : ConstraintSet → Name → V → List Record
-  chosen_records c n v = alternative_records (chosen_tag (all_of alts) (pick v)) c n (chosen_meaning (all_of alts) (pick v)).records
+  chosen_records c n v = alternative_records (chosen_tag (all_of alts) (pick v)) c (table_of alts) n (chosen_meaning (all_of alts) (pick v)).records
 
   -- a call that reads these records of each value of a CHOICE, by what its alternatives say
   abbrev pub ReadsAlternative : (V → List Record) → D → D → Result V DecodeError → Type 0

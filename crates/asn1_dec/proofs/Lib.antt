@@ -6,13 +6,17 @@ pub mod Chosen
 pub mod ComponentTags
 pub mod Constructed
 pub mod Groups
+pub mod MarksPassed
 pub mod Midway
 pub mod OneRecordEach
 pub mod PartWays
 pub mod ReadParts
 pub mod Rearrangements
+pub mod RecordsIn
 pub mod SetItems
 pub mod SetMidway
 pub mod SlotLaws
 pub mod Steps
 pub mod TwoComponents
+pub mod Tells
+pub mod UpToOrder

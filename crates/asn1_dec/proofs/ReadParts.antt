@@ -7,7 +7,7 @@ use Rattle.asn1_components.specs.ComponentTypes.{ComponentType}
 use Rattle.asn1_dec.specs.Reading.{Ahead, MayFail, Moved, Moves, Reader, ReadsBack}
 use Rattle.asn1_dec.specs.declared.error.DecodeError.{DecodeError}
 use Rattle.asn1_model.specs.Composites.{option_records}
-use Rattle.asn1_model.specs.Records.{Record}
+use Rattle.asn1_model.specs.Records.{Record, Side}
 use Rattle.asn1_model.specs.TaggedTypes.{TaggedType}
 use Rattle.asn1_model.specs.Tags.{IsOneRecord, Tags}
 use Rattle.asn1_dec.specs.SetParts.{ReadsPart, unmarked, written_of}
@@ -47,17 +47,17 @@ module _ {D P W : Type 0} (R : Reader D) (old new : D) (make : W → P) where
         one_part v (get v) rest outer reads cases (is v) (can can_all) (of_type v of_types) (valid v valids) (written_of cs v k) (written v))
 
     -- of one that may be absent
-    pub optional_part : index ≡ k → (get : V → Option W) → ((v : V) → written_of cs v k ≡ unmarked (option_records type.tag (option_map type.records (get v)))) → (EachCanStandInside cs → type.CanStandInside) →
+    pub optional_part : (side : Side) → index ≡ k → (get : V → Option W) → ((v : V) → written_of cs v k ≡ unmarked (option_records side type.tag (option_map type.records (get v)))) → (EachCanStandInside cs → type.CanStandInside) →
         ((v : V) → EachIsOfType cs v → IfSome (get v) type.IsOfType) → ((v : V) → EachIsValid cs R.takes v → IfSome (get v) (type.IsValid R.takes)) →
         ReadsOne → MatchResult result (λ x. IsOkAnd made (λ p. p ≡ make x)) (λ e. made ≡ Err e) →
         ((v : V) (x : W) → option_eq eq (Some x) (get v) ≡ true → (index_of (make x) ≡ k) × IsPartOf v (make x)) →
         ReadsPart cs index_of IsPartOf R index old new made
-    optional_part own get written can of_type valid reads cases is =
+    optional_part side own get written can of_type valid reads cases is =
         subst (λ j. ReadsPart cs index_of IsPartOf R j old new made) (sym own) (λ v rest outer can_all of_types valids there.
         where_there v rest outer can_all there (get v) (of_type v of_types) (valid v valids) (written v) (is v))
       where
         where_there : (v : V) (rest : List Record) (outer : Ahead) → EachCanStandInside cs → written_of cs v k ≢ [] → (o : Option W) → IfSome o type.IsOfType → IfSome o (type.IsValid R.takes) →
-            written_of cs v k ≡ unmarked (option_records type.tag (option_map type.records o)) → ((x : W) → option_eq eq (Some x) o ≡ true → (index_of (make x) ≡ k) × IsPartOf v (make x)) →
+            written_of cs v k ≡ unmarked (option_records side type.tag (option_map type.records o)) → ((x : W) → option_eq eq (Some x) o ≡ true → (index_of (make x) ≡ k) × IsPartOf v (make x)) →
             ReadsBack R old new (written_of cs v k) rest outer (λ p. (index_of p ≡ k) × IsPartOf v p) made
         where_there v rest outer can_all there None of_type valid same is = absurd (there same)
         where_there v rest outer can_all there (Some w) of_type valid same is = one_part v w rest outer reads cases is (can can_all) of_type valid (written_of cs v k) same

@@ -65,18 +65,6 @@ at_most_one [] v k one = omega arith
 at_most_one (c ∷ cs) v zero one = omega (arith, length-unmarked (c.records v), one.0)
 at_most_one (c ∷ cs) v (suc k) one = at_most_one cs v k one.1
 
--- and as many in another order
-records_in-sum : (rs : List Record) → records_in rs ≡ sum_by (λ r. cond (is_mark r) 0 1) rs
-records_in-sum [] = refl
-records_in-sum (scalar t c n x ∷ rs) = omega (arith, records_in-sum rs, sum_by-cons (λ r. cond (is_mark r) 0 1) (scalar t c n x) rs)
-records_in-sum (scope h inner ∷ rs) = omega (arith, records_in-sum rs, sum_by-cons (λ r. cond (is_mark r) 0 1) (scope h inner) rs)
-records_in-sum (raw n bytes ∷ rs) = omega (arith, records_in-sum rs, sum_by-cons (λ r. cond (is_mark r) 0 1) (raw n bytes) rs)
-records_in-sum (mark m ∷ rs) = omega (arith, records_in-sum rs, sum_by-cons (λ r. cond (is_mark r) 0 1) (mark m) rs)
-
-pub records_in-permutation : (rs ss : List Record) → IsPermutation rs ss → records_in rs ≡ records_in ss
-records_in-permutation rs ss moved =
-    records_in-sum rs ∙ sym (sum_by-IsPermutation (λ r. cond (is_mark r) 0 1) rs ss moved) ∙ sym (records_in-sum ss)
-
 -- The record is all that is written of its component.
 abbrev pub IsAll : {V : Type 0} → List (ComponentType V) → V → Item → Type 0
 IsAll cs v i = is_mark i.1 ≡ false → written_of cs v i.0 ≡ i.1 ∷ []

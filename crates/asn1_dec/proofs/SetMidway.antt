@@ -8,12 +8,11 @@ use Rattle.std.proofs.lemmas.List.Sums.{sum_by-append, sum_by-cons}
 use Rattle.asn1_components.specs.ComponentLists.{EachCanStandInside, all_records}
 use Rattle.asn1_components.specs.ComponentTypes.{ComponentType, Fits}
 use Rattle.asn1_components.specs.Following.{AllApart, ApartFromEach}
-use Rattle.asn1_dec.specs.Reading.{Ahead, IsNextTag, MayFail, Moves, Reader, marks_passed, records_in}
+use Rattle.asn1_dec.specs.Reading.{Ahead, IsNextTag, MayFail, Moves, Reader, TellsComponent, marks_passed, records_in}
 use Rattle.asn1_dec.specs.declared.error.DecodeError.{DecodeError}
 use Rattle.asn1_dec.proofs.Steps.{flat_failure}
 use Rattle.asn1_model.specs.Records.{Record, scalar, scope, raw, mark, highest, is_mark, marks_alone}
-use Rattle.asn1_model.specs.Tags.{Has, among, first_tags, record_tags, tree_tags}
-use Rattle.asn1_model.proofs.TagSets.{lies_has}
+use Rattle.asn1_model.specs.Tags.{Has, LiesIn, among, first_tags, record_tags, tree_tags}
 use Rattle.asn1_tags.specs.Trees.{Tree}
 use Rattle.asn1_tags.specs.declared.tags.Tag.{Tag}
 use Rattle.asn1_dec.specs.SetParts.{ArePartsOf, CanBeginWith, EachIsOneRecord, parts_at, unmarked, written_of}
@@ -45,16 +44,15 @@ no_records (mark m ∷ rs) alone = no_records rs alone
 first_of_one : (r : Record) (rs : List Record) → is_mark r ≡ false → first_tags (r ∷ rs) ≡ record_tags r
 first_of_one r rs no_mark = ap (λ b. cond b (first_tags rs) (record_tags r)) no_mark
 
-in_tree : {V : Type 0} (c : ComponentType V) (v : V) (r : Record) (t : Tag) → Fits c.presence c.tree (c.records v) → is_mark r ≡ false → unmarked (c.records v) ≡ r ∷ [] → Has (record_tags r) t → Has (tree_tags c.tree) t
-in_tree c v r t (inl begins) no_mark is has =
-    lies_has (first_tags (c.records v)) (tree_tags c.tree) begins.within t
-    (subst (λ a. Has a t) (sym (first-unmarked (c.records v) ∙ ap first_tags is ∙ first_of_one r [] no_mark)) has)
-in_tree c v r t (inr absent) no_mark is has = let none : unmarked (c.records v) ≡ [] = unmarked-marks (c.records v) absent.1 in cc
+in_tree : {V : Type 0} (c : ComponentType V) (v : V) (r : Record) → Fits c.presence c.tree (c.records v) → is_mark r ≡ false → unmarked (c.records v) ≡ r ∷ [] → LiesIn (record_tags r) (tree_tags c.tree)
+in_tree c v r (inl begins) no_mark is =
+    subst (λ a. LiesIn a (tree_tags c.tree)) (first-unmarked (c.records v) ∙ ap first_tags is ∙ first_of_one r [] no_mark) begins.within
+in_tree c v r (inr absent) no_mark is = let none : unmarked (c.records v) ≡ [] = unmarked-marks (c.records v) absent.1 in cc
 
-can_begin : {V : Type 0} (cs : List (ComponentType V)) (v : V) (k : ℕ) (r : Record) (t : Tag) → EachCanStandInside cs → is_mark r ≡ false → written_of cs v k ≡ r ∷ [] → Has (record_tags r) t → CanBeginWith cs k t
-can_begin [] v k r t can no_mark is has = cc
-can_begin (c ∷ cs) v zero r t can no_mark is has = in_tree c v r t (c.fits can.0 v) no_mark is has
-can_begin (c ∷ cs) v (suc k) r t can no_mark is has = can_begin cs v k r t can.1 no_mark is has
+can_begin : {V : Type 0} (cs : List (ComponentType V)) (v : V) (k : ℕ) (r : Record) (t : Tag) → EachCanStandInside cs → is_mark r ≡ false → written_of cs v k ≡ r ∷ [] → TellsComponent cs (record_tags r) t → CanBeginWith cs k t
+can_begin [] v k r t can no_mark is tells = cc
+can_begin (c ∷ cs) v zero r t can no_mark is tells = tells.0 (in_tree c v r (c.fits can.0 v) no_mark is)
+can_begin (c ∷ cs) v (suc k) r t can no_mark is tells = can_begin cs v k r t can.1 no_mark is tells.1
 
 -- no two components can begin with the same tag
 other_tree : {V : Type 0} (tree : Tree) (cs : List (ComponentType V)) (k : ℕ) (t : Tag) → ApartFromEach tree cs → Has (tree_tags tree) t → CanBeginWith cs k t → ⊥
@@ -130,7 +128,7 @@ module _ {D V P : Type 0} (R : Reader D) (cs : List (ComponentType V)) (v : V) (
 
   -- where the next tag could not be told
   pub not_told : (e : D) {d : D} {parts : List P} {height : ℕ} {next : List Record} {outer : Ahead} {place bound : ℕ} {error : DecodeError} (b h : ℕ) (m : Midway d parts height next outer place bound) →
-      Moves R d e 0 (records m.todo ∷ next ∷ outer) (marks_passed (records m.todo) ∷ next ∷ outer) (IsNextTag (records m.todo)) (Err error) → MayFail b h error
+      Moves R d e 0 (records m.todo ∷ next ∷ outer) (marks_passed (records m.todo) ∷ next ∷ outer) (IsNextTag cs (records m.todo)) (Err error) → MayFail b h error
   not_told e {error = error} b h m moves = flat_failure b h error (moves m.at)
 
   -- past the marks in front
@@ -151,24 +149,24 @@ module _ {D V P : Type 0} (R : Reader D) (cs : List (ComponentType V)) (v : V) (
       }
 
   -- the next record, after the marks
-  first_has : (j : Item) (js : List Item) (t : Tag) → is_mark j.1 ≡ false → Has (first_tags (records (j ∷ js))) t → Has (record_tags j.1) t
-  first_has j js t no_mark has = subst (λ a. Has a t) (first_of_one j.1 (records js) no_mark) has
+  first_tells : (j : Item) (js : List Item) (t : Tag) → is_mark j.1 ≡ false → TellsComponent cs (first_tags (records (j ∷ js))) t → TellsComponent cs (record_tags j.1) t
+  first_tells j js t no_mark tells = subst (λ a. TellsComponent cs a t) (first_of_one j.1 (records js) no_mark) tells
 
   none_has : (t : Tag) → Has (among []) t → ⊥
   none_has t (k, below, same) = omega (arith, below)
 
   -- where a component comes
   comes_first : {d : D} {parts : List P} {height : ℕ} {next : List Record} {outer : Ahead} {place bound : ℕ} (t : Tag) → EachCanStandInside cs → (m : Midway d parts height next outer place bound) →
-      BeginsWithRecord m.todo → Has (first_tags (records m.todo)) t → AnotherComes d parts height next outer place bound t
-  comes_first {d} {parts} {height} {next} {outer} {place} {bound} t can m begins has =
-      elim m.todo as (λ todo. BeginsWithRecord todo → Has (first_tags (records todo)) t → All (IsAll cs v) todo → ((k : ℕ) → parts_at index_of k parts + items_at k todo ≡ length (written_of cs v k)) →
+      BeginsWithRecord m.todo → (u : Tag) → Has (first_tags (records m.todo)) u → TellsComponent cs (first_tags (records m.todo)) t → AnotherComes d parts height next outer place bound t
+  comes_first {d} {parts} {height} {next} {outer} {place} {bound} t can m begins u has tells =
+      elim m.todo as (λ todo. BeginsWithRecord todo → Has (first_tags (records todo)) u → TellsComponent cs (first_tags (records todo)) t → All (IsAll cs v) todo → ((k : ℕ) → parts_at index_of k parts + items_at k todo ≡ length (written_of cs v k)) →
       records_in (records todo) + place ≤ bound → height ≤ max (R.allowance d) (highest (records todo)) → highest (records todo) ≤ height → R.stands d (records todo ∷ next ∷ outer) → AnotherComes d parts height next outer place bound t) [
-        | [] ↦ λ begins has are counted few low no_higher at. absurd (none_has t has)
-        | j ∷ js ↦ λ no_mark has are counted few low no_higher at.
+        | [] ↦ λ begins has tells are counted few low no_higher at. absurd (none_has u has)
+        | j ∷ js ↦ λ no_mark has tells are counted few low no_higher at.
             let is : written_of cs v j.0 ≡ j.1 ∷ [] = All-head (IsAll cs v) j js are no_mark in
             record {
               index = j.0;
-              begins = can_begin cs v j.0 j.1 t can no_mark is (first_has j js t no_mark has);
+              begins = can_begin cs v j.0 j.1 t can no_mark is (first_tells j js t no_mark tells);
               comes = record {
                 todo = js;
                 one_each = m.one_each;
@@ -183,15 +181,16 @@ module _ {D V P : Type 0} (R : Reader D) (cs : List (ComponentType V)) (v : V) (
               };
             }
       ]
-      begins has m.are m.counted m.few m.low m.no_higher m.at
+      begins has tells m.are m.counted m.few m.low m.no_higher m.at
 
   pub comes : {d : D} {parts : List P} {height : ℕ} {next : List Record} {outer : Ahead} {place bound : ℕ} (e : D) (t : Tag) → EachCanStandInside cs → (m : Midway d parts height next outer place bound) →
-      Moves R d e 0 (records m.todo ∷ next ∷ outer) (marks_passed (records m.todo) ∷ next ∷ outer) (IsNextTag (records m.todo)) (Ok (Some t)) → R.allowance e ≡ R.allowance d → AnotherComes e parts height next outer place bound t
+      Moves R d e 0 (records m.todo ∷ next ∷ outer) (marks_passed (records m.todo) ∷ next ∷ outer) (IsNextTag cs (records m.todo)) (Ok (Some t)) → R.allowance e ≡ R.allowance d → AnotherComes e parts height next outer place bound t
   unfolding ahead
   comes e t can m moves kept =
       let moved = moves m.at in
       let f = is_front m.todo in
-      comes_first t can (ahead e m moved.at kept) f.begins (subst (λ a. Has a t) f.tags (moved.answer.some t refl))
+      let told = moved.answer.some t refl in
+      comes_first t can (ahead e m moved.at kept) f.begins told.0 (subst (λ a. Has a told.0) f.tags told.1.0) (subst (λ a. TellsComponent cs a t) f.tags told.1.1)
 
   -- which no other can
   pub comes_at : {d : D} {parts : List P} {height : ℕ} {next : List Record} {outer : Ahead} {place bound : ℕ} {t : Tag} (index : ℕ) → AllApart cs → CanBeginWith cs index t →
@@ -218,7 +217,7 @@ module _ {D V P : Type 0} (R : Reader D) (cs : List (ComponentType V)) (v : V) (
       absurd (omega (arith, few, one))
 
   pub through : {d : D} {parts : List P} {height : ℕ} {next : List Record} {outer : Ahead} {place bound : ℕ} (e : D) → (m : Midway d parts height next outer place bound) →
-      Moves R d e 0 (records m.todo ∷ next ∷ outer) (marks_passed (records m.todo) ∷ next ∷ outer) (IsNextTag (records m.todo)) (Ok None) → R.allowance e ≡ R.allowance d → Through e parts height next outer
+      Moves R d e 0 (records m.todo ∷ next ∷ outer) (marks_passed (records m.todo) ∷ next ∷ outer) (IsNextTag cs (records m.todo)) (Ok None) → R.allowance e ≡ R.allowance d → Through e parts height next outer
   unfolding ahead
   through e m moves kept =
       let moved = moves m.at in
@@ -227,7 +226,7 @@ module _ {D V P : Type 0} (R : Reader D) (cs : List (ComponentType V)) (v : V) (
 
   -- where as many were read as there can be
   pub filled : {d : D} {parts : List P} {height : ℕ} {next : List Record} {outer : Ahead} {place bound : ℕ} (e : D) (answer : Option Tag) → (m : Midway d parts height next outer place bound) → bound ≤ place →
-      Moves R d e 0 (records m.todo ∷ next ∷ outer) (marks_passed (records m.todo) ∷ next ∷ outer) (IsNextTag (records m.todo)) (Ok answer) → R.allowance e ≡ R.allowance d → Through e parts height next outer
+      Moves R d e 0 (records m.todo ∷ next ∷ outer) (marks_passed (records m.todo) ∷ next ∷ outer) (IsNextTag cs (records m.todo)) (Ok answer) → R.allowance e ≡ R.allowance d → Through e parts height next outer
   unfolding ahead
   filled e answer m full moves kept =
       let moved = moves m.at in

@@ -6,6 +6,7 @@ use Rattle.std.proofs.lemmas.List.Elements.{All-contains, Contains-append_left, 
 use Rattle.std.proofs.lemmas.List.Sums.{sum_by-append, sum_by-cons}
 use Rattle.asn1_components.specs.ComponentTypes.{ComponentType}
 use Rattle.asn1_model.specs.Composites.{default_records, option_records}
+use Rattle.asn1_model.specs.Records.{Side}
 use Rattle.asn1_model.specs.TaggedTypes.{TaggedType}
 use Rattle.asn1_dec.specs.SetParts.{ArePartsOf, parts_at, unmarked, written_of}
 use Rattle.asn1_dec.proofs.SetItems.{nothing}
@@ -85,15 +86,15 @@ module _ {P X : Type 0} (index_of : P → ℕ) (k : ℕ) (make : X → P) where
     is_absent slot there = are.complete k (λ none. let wrong : 0 ≡ 1 = sym (ap length none) ∙ there in omega arith) slot.as_many
 
     -- a component that may be absent
-    pub optional_slot : (slot o : Option X) (type : TaggedType X) (eq : X → X → Bool) → Slot slot parts → written_of cs v k ≡ unmarked (option_records type.tag (option_map type.records o)) →
+    pub optional_slot : (side : Side) (slot o : Option X) (type : TaggedType X) (eq : X → X → Bool) → Slot slot parts → written_of cs v k ≡ unmarked (option_records side type.tag (option_map type.records o)) →
         ((x : X) → length (unmarked (type.records x)) ≡ 1) → ((x : X) → IsPart (make x) → option_eq eq (Some x) o ≡ true) → option_eq eq slot o ≡ true
-    optional_slot None None type eq slot written one is = refl
-    optional_slot None (Some w) type eq slot written one is = absurd (is_absent slot (ap length written ∙ one w))
-    optional_slot (Some x) o type eq slot written one is = is x (is_component x slot)
+    optional_slot side None None type eq slot written one is = refl
+    optional_slot side None (Some w) type eq slot written one is = absurd (is_absent slot (ap length written ∙ one w))
+    optional_slot side (Some x) o type eq slot written one is = is x (is_component x slot)
 
     -- a component with a default
-    pub default_slot : (slot : Option X) (x usual : X) (is_default : Bool) (type : TaggedType X) (eq : X → X → Bool) → Slot slot parts → written_of cs v k ≡ unmarked (default_records is_default type.tag (type.records x)) →
+    pub default_slot : (side : Side) (slot : Option X) (x usual : X) (is_default : Bool) (type : TaggedType X) (eq : X → X → Bool) → Slot slot parts → written_of cs v k ≡ unmarked (default_records side is_default type.tag (type.records x)) →
         length (unmarked (type.records x)) ≡ 1 → (is_default ≡ true → eq usual x ≡ true) → ((y : X) → IsPart (make y) → eq y x ≡ true) → eq (unwrap_or slot usual) x ≡ true
-    default_slot None x usual true type eq slot written one same is = same refl
-    default_slot None x usual false type eq slot written one same is = absurd (is_absent slot (ap length written ∙ one))
-    default_slot (Some y) x usual is_default type eq slot written one same is = is y (is_component y slot)
+    default_slot side None x usual true type eq slot written one same is = same refl
+    default_slot side None x usual false type eq slot written one same is = absurd (is_absent slot (ap length written ∙ one))
+    default_slot side (Some y) x usual is_default type eq slot written one same is = is y (is_component y slot)

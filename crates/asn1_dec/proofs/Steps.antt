@@ -4,7 +4,9 @@ use Rattle.std.specs.Cmp.{IsEquivalence}
 use Rattle.asn1_model.specs.Records.{Record, Head, height, highest, holding}
 use Rattle.asn1_model.proofs.Lists.{inner_height-held}
 use Rattle.asn1_dec.specs.declared.error.DecodeError.{DecodeError}
-use Rattle.asn1_dec.specs.Reading.{Ahead, Reader, MayFail, Moves}
+use Rattle.asn1_dec.specs.declared.error.DecodeError.TheVariants.{Memory}
+use Rattle.asn1_dec.specs.Reading.{Ahead, Reader, MayFail, Moved, Moves}
+use Rattle.std.specs.Prelude.{MatchResult, OnOk}
 
 pub highest-append : (rs ss : List Record) → highest (rs ++ ss) ≡ max (highest rs) (highest ss)
 highest-append [] ss = omega arith
@@ -54,3 +56,9 @@ module _ {D : Type 0} (R : Reader D) where
       ((w : V) → Is w → As w) → Moves R old new height before after Is result → Moves R old new height before after As result
   in_other_words old new height before after (Ok w) f moves = λ at. let m = moves at in record { answer = f w m.answer; at = m.at; within_allowance = m.within_allowance }
   in_other_words old new height before after (Err e) f moves = moves
+
+  -- what was found is answered, by a call that opens nothing
+  pub answered : {V : Type 0} (old mid new : D) (after : Ahead) (Is : V → Type 0) (result : Result V DecodeError) →
+      MatchResult result Is (λ e. e ≡ Memory) → OnOk result (new ≡ mid) → R.stands mid after → MatchResult result (λ w. Moved R old new 0 after (Is w)) (MayFail (R.allowance old) 0)
+  answered old mid new after Is (Ok w) found kept at = record { answer = found; at = subst (λ d. R.stands d after) (sym kept) at; within_allowance = omega arith }
+  answered old mid new after Is (Err e) found kept at = inl found

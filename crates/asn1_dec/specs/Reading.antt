@@ -1,13 +1,15 @@
 -- Before what a decoder stands, and what a call of it does.
-use Rattle.std.specs.Prelude.{◌≡◌, ◌≢◌, ◌⊎◌, ℕ, suc, ◌≤◌, ◌<◌, Bool, true, false, List, [], ◌∷◌, ◌++◌, IsPermutation, Option, None, Some, IfSome, IsSome, IfErr, Result, Err, MatchResult, OnOk, OnErr, if◌then◌else◌}
+use Rattle.std.specs.Prelude.{◌≡◌, ◌≢◌, ◌⊎◌, ℕ, suc, ◌≤◌, ◌<◌, ⊤, Bool, true, false, List, [], ◌∷◌, ◌++◌, IsPermutation, Option, None, Some, IfSome, IsSome, IfErr, IsTrue, Result, Err, MatchResult, OnOk, OnErr, if◌then◌else◌}
 use Rattle.std.specs.Option.{option_eq, option_map}
 use Rattle.asn1_tags.specs.declared.tags.Tag.{Tag}
+use Rattle.asn1_components.specs.ComponentTypes.{ComponentType}
 use Rattle.asn1_model.specs.Composites.{default_records, option_records, prefix_records}
 use Rattle.asn1_model.specs.ConstraintSets.{ConstraintSet}
 use Rattle.asn1_model.specs.Meaning.{Meaning, CanStandInside, CanStandInsideUnder, tags}
-use Rattle.asn1_model.specs.Orders.{SameAll}
-use Rattle.asn1_model.specs.Records.{Name, Record, Head, Mark, Content, scalar, mark, held, holding, highest, is_mark, marks_alone}
-use Rattle.asn1_model.specs.Tags.{Tags, only, BeginsWithin, Has, ShareNone, first_tags}
+use Rattle.asn1_model.specs.Orders.{SameRecords}
+use Rattle.asn1_model.specs.Records.{Name, Record, Head, Mark, Side, Content, scalar, raw, mark, holding, highest, is_mark, marks_alone}
+use Rattle.asn1_model.specs.Tags.{Tags, only, BeginsWithin, Has, LiesIn, ShareNone, first_tags, tree_tags}
+use Rattle.asn1_dec.specs.Refusals.{Refusals}
 use Rattle.asn1_dec.specs.declared.error.DecodeError.{DecodeError}
 use Rattle.asn1_dec.specs.declared.error.DecodeError.TheVariants.{Memory, Depth, Failed}
 
@@ -18,7 +20,7 @@ Ahead = List (List Record)
 -- What is left is the same, list by list, up to the order inside sets.
 pub data SameAhead : Ahead → Ahead → Type 0 where
   at_end : SameAhead [] []
-  next : {rs ss : List Record} {outer others : Ahead} → SameAll (held rs) (held ss) → SameAhead outer others → SameAhead (rs ∷ outer) (ss ∷ others)
+  next : {rs ss : List Record} {outer others : Ahead} → SameRecords rs ss → SameAhead outer others → SameAhead (rs ∷ outer) (ss ∷ others)
 
 -- how many records there are, presence marks apart
 abbrev pub records_in : List Record → ℕ
@@ -47,10 +49,19 @@ pub record Reader (D : Type 0) : Type 1 where
   pub allowance : D → ℕ
   pub takes : List ℕ → Bool
 
--- The tag with which the next record of a list begins; there is none where presence marks alone are left.
-pub record IsNextTag (items : List Record) (next : Option Tag) : Type 0 where
+-- Each component in which these tags lie can begin with the tag.
+abbrev pub TellsComponent : {V : Type 0} → List (ComponentType V) → Tags → Tag → Type 0
+TellsComponent [] own t = ⊤
+TellsComponent (c ∷ cs) own t = (LiesIn own (tree_tags c.tree) → Has (tree_tags c.tree) t) ×
+    TellsComponent cs own t
+
+-- A tag of the component whose record is next in a list; there is none where presence marks alone are left. It need not be
+-- that of the record, which a codec without tags does not know of a CHOICE.
+pub record IsNextTag {V : Type 0} (cs : List (ComponentType V)) (items : List Record)
+    (next : Option Tag) : Type 0 where
   pub none : next ≡ None → marks_alone items ≡ true
-  pub some : (t : Tag) → next ≡ Some t → Has (first_tags items) t
+  pub some : (t : Tag) → next ≡ Some t →
+      (u : Tag) × (Has (first_tags items) u × TellsComponent cs (first_tags items) t)
 
 module _ {D : Type 0} (R : Reader D) where
   -- What these relations keep to: the order inside sets means nothing.
@@ -79,6 +90,18 @@ module _ {D : Type 0} (R : Reader D) where
       (x : X) (n : Name) (rest : List Record) (outer : Ahead) → IsOfType x →
       ReadsBack old new (scalar t c n (content x) ∷ []) rest outer (λ w. Is w x) result
 
+  -- A call that reads the bytes of an open type, of any name: of those that the codec takes as one value, it answers what `Is`
+  -- holds of.
+  abbrev pub ReadsOpenType : {V : Type 0} → D → D → (V → List ℕ → Type 0) → Result V DecodeError → Type 0
+  ReadsOpenType old new Is result =
+      (bytes : List ℕ) (n : Name) (rest : List Record) (outer : Ahead) → IsTrue (R.takes bytes) →
+      ReadsBack old new (raw n bytes ∷ []) rest outer (λ w. Is w bytes) result
+
+  -- a call that goes past this presence mark
+  abbrev pub ReadsMark : {V : Type 0} → D → D → Mark → Result V DecodeError → Type 0
+  ReadsMark old new m result =
+      (rest : List Record) (outer : Ahead) → Moves old new 0 ((mark m ∷ rest) ∷ outer) (rest ∷ outer) (λ _. ⊤) result
+
   -- A call that reads a value of a well-tagged type, under this tag, these constraints and any name: of each that is of the
   -- type and valid, it answers one that is equal.
   abbrev pub ReadsValue : {V : Type 0} → Meaning V → (V → V → Bool) → Tag → ConstraintSet → D → D → Result V DecodeError → Type 0
@@ -87,8 +110,8 @@ module _ {D : Type 0} (R : Reader D) where
       m.IsWellTagged t → m.IsOfType v → m.IsValid R.takes v → MayFollow m t (m.records v t c n) rest →
       ReadsBack old new (m.records v t c n) rest outer (λ w. eq w v ≡ true) result
 
-  -- A type's own error, which is not one of depth, nor that of a failed decoder. The decoder has read past the records of a
-  -- value: where it was before those of a valid one, it is after them.
+  -- A type's own error, which is not one of depth, nor that of a failed decoder; and the decoder has not failed. It has read
+  -- past the records of a value: where it was before those of a valid one, it is after them.
   pub record HasReadPast {V : Type 0} (m : Meaning V) (t : Tag) (c : ConstraintSet) (old new : D) (result : Result V DecodeError) : Type 0 where
     pub same_allowance : R.allowance new ≡ R.allowance old
     pub at : (v : V) (n : Name) (rest : List Record) (outer : Ahead) →
@@ -96,11 +119,14 @@ module _ {D : Type 0} (R : Reader D) where
         R.stands old ((m.records v t c n ++ rest) ∷ outer) → R.stands new (rest ∷ outer)
     pub not_too_deep : IfErr result (λ e. e ≢ Depth)
     pub not_failed : IfErr result (λ e. e ≢ Failed)
+    pub no_failure : R.failed new ≡ false
 
-  -- What a call leaves that reads a value of a type. After a success the allowance is as it was. An error makes the decoder
-  -- failed, or it is the type's own. Where each value of the type is a record, a failed decoder answers so.
+  -- What a call leaves that reads a value of a type. After a success the allowance is as it was, and the decoder has failed
+  -- only if it had failed before. An error makes the decoder failed, or it is the type's own. Where each value of the type is a
+  -- record, a failed decoder answers so.
   pub record LeavesDecoder {V : Type 0} (m : Meaning V) (t : Tag) (c : ConstraintSet) (old new : D) (result : Result V DecodeError) : Type 0 where
     pub same_allowance : OnOk result (R.allowance new ≡ R.allowance old)
+    pub no_failure : OnOk result (R.failed new ≡ R.failed old)
     pub after_error : OnErr result (R.failed new ≡ true) ⊎ HasReadPast m t c old new result
     pub refused : m.IsSingleRecord → R.failed old ≡ true → result ≡ Err Failed
 
@@ -113,48 +139,63 @@ module _ {D : Type 0} (R : Reader D) where
   -- What a call leaves that makes the type's own constraints, and then reads a value.
   pub record LeavesDecoderWithOwnConstraints {V : Type 0} (m : Meaning V) (t : Tag) (old new : D) (result : Result V DecodeError) : Type 0 where
     pub same_allowance : OnOk result (R.allowance new ≡ R.allowance old)
+    pub no_failure : OnOk result (R.failed new ≡ R.failed old)
     pub after_error : OnErr result (R.failed new ≡ true) ⊎ (HasReadPast m t m.constraints old new result ⊎ HadNoMemory m old new result)
     pub refused : m.IsSingleRecord → R.failed old ≡ true → (result ≡ Err Failed) ⊎ HadNoMemory m old new result
 
-  -- A call that reads a component that may be absent, which is written under this tag and begins with one of these tags, by
-  -- the records of a value under any name. What follows one that is absent begins with none of its tags.
-  abbrev pub ReadsOptional : {V : Type 0} → Tag → Tags → (Name → V → List Record) → (CanStandInside : Type 0) → (V → Type 0) → (V → Type 0) → (V → V → Bool) → D → D → Result (Option V) DecodeError → Type 0
-  ReadsOptional {V = V} t own records CanStandInside IsOfType IsValid eq old new result =
+  -- A call that reads a component that may be absent, on this side, which is written under this tag and begins with one of
+  -- these tags, by the records of a value under any name. What follows one that is absent begins with none of its tags.
+  abbrev pub ReadsOptional : {V : Type 0} → Side → Tag → Tags → (Name → V → List Record) →
+      (CanStandInside : Type 0) → (V → Type 0) → (V → Type 0) → (V → V → Bool) → D → D →
+      Result (Option V) DecodeError → Type 0
+  ReadsOptional {V = V} side t own records CanStandInside IsOfType IsValid eq old new result =
       (v : Option V) (n : Name) (rest : List Record) (outer : Ahead) →
       CanStandInside → IfSome v IsOfType → IfSome v IsValid → (v ≡ None → ShareNone own (first_tags rest)) →
-      ReadsBack old new (option_records t (option_map (records n) v)) rest outer (λ w. option_eq eq w v ≡ true) result
+      ReadsBack old new (option_records side t (option_map (records n) v)) rest outer (λ w. option_eq eq w v ≡ true) result
 
   -- the same of a value of this type, under these constraints
-  abbrev pub ReadsOption : {V : Type 0} → Meaning V → (V → V → Bool) → Tag → ConstraintSet → D → D → Result (Option V) DecodeError → Type 0
-  ReadsOption m eq t c old new result =
-      ReadsOptional t (tags m t) (λ n v. m.records v t c n) (CanStandInsideUnder m t) m.IsOfType (m.IsValid R.takes) eq old new result
+  abbrev pub ReadsOption : {V : Type 0} → Side → Meaning V → (V → V → Bool) → Tag → ConstraintSet →
+      D → D → Result (Option V) DecodeError → Type 0
+  ReadsOption side m eq t c old new result =
+      ReadsOptional side t (tags m t) (λ n v. m.records v t c n) (CanStandInsideUnder m t) m.IsOfType (m.IsValid R.takes) eq old new result
 
   -- the same after an explicit tag, with the type's own constraints and name
-  abbrev pub ReadsOptionAfterTag : {V : Type 0} → Meaning V → (V → V → Bool) → Tag → ConstraintSet → D → D → Result (Option V) DecodeError → Type 0
-  ReadsOptionAfterTag m eq t c old new result =
-      ReadsOptional t (only t) (λ n v. prefix_records t n (m.records v m.tag c m.name)) (CanStandInside m) m.IsOfType (m.IsValid R.takes) eq old new result
+  abbrev pub ReadsOptionAfterTag : {V : Type 0} → Side → Meaning V → (V → V → Bool) → Tag →
+      ConstraintSet → D → D → Result (Option V) DecodeError → Type 0
+  ReadsOptionAfterTag side m eq t c old new result =
+      ReadsOptional side t (only t) (λ n v. prefix_records t n (m.records v m.tag c m.name)) (CanStandInside m) m.IsOfType (m.IsValid R.takes) eq old new result
 
   -- A call that reads a component with a default, which `IsUsual` holds of: it is absent where it equals that. Of an absent
   -- one nothing is asked, but that what follows begins with none of its tags.
-  abbrev pub ReadsDefault : {V : Type 0} → (V → Type 0) → Meaning V → (V → V → Bool) → Tag → ConstraintSet → D → D → Result V DecodeError → Type 0
-  ReadsDefault {V = V} IsUsual m eq t c old new result =
+  abbrev pub ReadsDefault : {V : Type 0} → Side → (V → Type 0) → Meaning V → (V → V → Bool) → Tag →
+      ConstraintSet → D → D → Result V DecodeError → Type 0
+  ReadsDefault {V = V} side IsUsual m eq t c old new result =
       (v : V) (equal : Bool) (n : Name) (rest : List Record) (outer : Ahead) →
       ((usual : V) → IsUsual usual → eq v usual ≡ equal) →
       CanStandInsideUnder m t → (equal ≡ false → m.IsOfType v) → (equal ≡ false → m.IsValid R.takes v) →
       (equal ≡ true → ShareNone (tags m t) (first_tags rest)) →
-      ReadsBack old new (default_records equal t (m.records v t c n)) rest outer (λ w. eq w v ≡ true) result
+      ReadsBack old new (default_records side equal t (m.records v t c n)) rest outer (λ w. eq w v ≡ true) result
 
-  -- A type's own error: the decoder stands before what follows the records, and the allowance is as it was.
+  -- A type's own error: the decoder stands before what follows the records, the allowance is as it was, and the decoder has
+  -- not failed.
   pub record IsOwnError (old new : D) (rest : List Record) (outer : Ahead) (own e : DecodeError) : Type 0 where
     pub error : e ≡ own
     pub at : R.stands new (rest ∷ outer)
     pub same_allowance : R.allowance new ≡ R.allowance old
+    pub no_failure : R.failed new ≡ false
 
   -- a call that reads these records, before those, and refuses what they say by an error of its type's own
   abbrev pub ReadsAndRefuses : {V : Type 0} → D → D → List Record → List Record → Ahead → DecodeError → Result V DecodeError → Type 0
   ReadsAndRefuses old new rs rest outer own result =
       R.stands old ((rs ++ rest) ∷ outer) →
       MatchResult result (λ _. ⊥) (λ e. MayFail (R.allowance old) (highest rs) e ⊎ IsOwnError old new rest outer own e)
+
+  -- A call that reads the records that a type refuses, under this tag and these constraints, and refuses them by the error of
+  -- the type.
+  abbrev pub Refuses : {V : Type 0} → Refusals → Tag → ConstraintSet → D → D → Result V DecodeError → Type 0
+  Refuses refused t c old new result =
+      (rs rest : List Record) (outer : Ahead) (e : DecodeError) → refused R.takes t c rs e →
+      ReadsAndRefuses old new rs rest outer e result
 
   -- A call that tells whether a component is there, which has these tags, and goes past the presence mark that says so. A
   -- component that is there begins with one of its tags; what follows one that is absent begins with none.
@@ -169,6 +210,13 @@ module _ {D : Type 0} (R : Reader D) where
     pub some : (r : Record) (items rest : List Record) (outer : Ahead) → is_mark r ≡ false →
         Moves old new 0 ((r ∷ items) ∷ rest ∷ outer) ((r ∷ items) ∷ rest ∷ outer) (λ b. b ≡ true) result
     pub none : (rest : List Record) (outer : Ahead) → Moves old new 0 ([] ∷ rest ∷ outer) ([] ∷ rest ∷ outer) (λ b. b ≡ false) result
+
+  -- A call that tells a tag of the component whose record is next in the innermost scope, and goes past the presence marks
+  -- before it. Inside no scope it tells nothing.
+  abbrev pub TellsNextTag : {V : Type 0} → D → D → List (ComponentType V) → Result (Option Tag) DecodeError → Type 0
+  TellsNextTag old new cs result =
+      (items rest : List Record) (outer : Ahead) →
+      Moves old new 0 (items ∷ rest ∷ outer) (marks_passed items ∷ rest ∷ outer) (IsNextTag cs items) result
 
   -- a call that opens a record of this head and any name; this holds of its answer and what is inside
   abbrev pub Opens : {V : Type 0} → D → D → (Name → Head) → (List Record → V → Type 0) → Result V DecodeError → Type 0
@@ -188,17 +236,22 @@ module _ {D : Type 0} (R : Reader D) where
       (n : Name) (items rest : List Record) (outer : Ahead) → R.stands old ((holding (head n) items ∷ rest) ∷ outer) →
       MatchResult result (λ w. SetIsOpen old new items rest outer (Is items w)) (MayFail (R.allowance old) 1)
 
-  -- What a call does to the decoder that leaves as many scopes open as there were: an error makes it failed, and one that
-  -- has failed answers so.
+  -- a call that closes the innermost scope, of which all was read
+  abbrev pub ReadsEnd : {V : Type 0} → D → D → Result V DecodeError → Type 0
+  ReadsEnd old new result =
+      (rest : List Record) (outer : Ahead) → Moves old new 0 ([] ∷ rest ∷ outer) (rest ∷ outer) (λ _. ⊤) result
+
+  -- What a call does to the decoder that leaves as many scopes open as there were: after a success it has not failed, an error
+  -- makes it failed, and one that has failed answers so.
   pub record Keeps {V : Type 0} (old new : D) (result : Result V DecodeError) : Type 0 where
     pub same_allowance : OnOk result (R.allowance new ≡ R.allowance old)
+    pub no_failure : OnOk result (R.failed new ≡ false)
     pub failing : OnErr result (R.failed new ≡ true)
     pub refused : R.failed old ≡ true → result ≡ Err Failed
 
   -- A call that opens no scope is not too deep.
   pub record Stays {V : Type 0} (old new : D) (result : Result V DecodeError) : Type 0 where
     pub keeps : Keeps old new result
-    pub sound : OnOk result (R.failed new ≡ false)
     pub not_too_deep : result ≢ Err Depth
 
   -- A call that opens a scope, before anything else: where there is no allowance it says so, and so before anything but that the
@@ -209,7 +262,7 @@ module _ {D : Type 0} (R : Reader D) where
   -- A call that opens a scope takes one from the allowance. It is too deep if and only if there is none.
   pub record Enters {V : Type 0} (old new : D) (result : Result V DecodeError) : Type 0 where
     pub one_less : OnOk result (R.allowance old ≡ suc (R.allowance new))
-    pub sound : OnOk result (R.failed new ≡ false)
+    pub no_failure : OnOk result (R.failed new ≡ false)
     pub failing : OnErr result (R.failed new ≡ true)
     pub refused : R.failed old ≡ true → result ≡ Err Failed
     pub too_deep : result ≡ Err Depth → R.allowance old ≡ 0
@@ -218,7 +271,7 @@ module _ {D : Type 0} (R : Reader D) where
   -- A call that closes a scope gives it back.
   pub record Leaves {V : Type 0} (old new : D) (result : Result V DecodeError) : Type 0 where
     pub one_more : OnOk result (R.allowance new ≡ suc (R.allowance old))
-    pub sound : OnOk result (R.failed new ≡ false)
+    pub no_failure : OnOk result (R.failed new ≡ false)
     pub failing : OnErr result (R.failed new ≡ true)
     pub refused : R.failed old ≡ true → result ≡ Err Failed
     pub not_too_deep : result ≢ Err Depth

@@ -1,13 +1,17 @@
 //! Types that are read.
-ghost use Rattle.asn1_choices.specs.Alternatives.{CanBeChosen, Each, HaveDistinctTags, all_of, chosen_meaning};
-ghost use Rattle.asn1_choices.specs.ChosenTags.{chosen_tag};
+ghost use Rattle.asn1_choices.specs.Alternatives.{CanBeChosen, Each, HaveDistinctTags, all_of, chosen, chosen_meaning};
+ghost use Rattle.asn1_choices.specs.ChosenTags.{LacksTag};
 ghost use Rattle.asn1_components.specs.ComponentLists.{CanBeInSequence, EachIsOfType, EachIsValid};
 ghost use Rattle.asn1_components.specs.Components.{all_components, component_records};
 ghost use Rattle.asn1_components.specs.Following.{EndsApart};
-ghost use Rattle.asn1_dec.specs.Reading.{Ahead, LeavesDecoder, LeavesDecoderWithOwnConstraints, ReadsBack, ReadsValue};
+ghost use Rattle.asn1_dec.specs.Errors.{no_valid_choice, reason};
+ghost use Rattle.asn1_dec.specs.Reading.{Ahead, LeavesDecoder, LeavesDecoderWithOwnConstraints, ReadsBack, ReadsValue, Refuses};
+ghost use Rattle.asn1_dec.specs.Refusals.{Refusals, no_refusals};
 ghost use Rattle.asn1_model.specs.ConstraintSets.{constraint_set};
 ghost use Rattle.asn1_model.specs.Records.{Record};
-ghost use Rattle.std.specs.Prelude.{◌≡◌, List, OnOk, true};
+ghost use Rattle.asn1_model.specs.Tags.{Has, tree_tags};
+ghost use Rattle.std.specs.Prelude.{◌≡◌, List, OnOk, [], true, unwrap_or};
+ghost use Rattle.std.specs.Result.{IsErrAnd};
 
 use crate::decoder::Decoder;
 use crate::error::DecodeError;
@@ -24,15 +28,22 @@ use asn1_tags::Tag;
 /// or where the records are higher than the allowance. What an entry point is not given is the type's own. Where a value may be
 /// absent, as an `Option`, what follows it begins with none of the type's tags.
 ///
-/// A success leaves the allowance as it was. An error either makes the decoder failed, or is the type's own, which is neither
-/// [`DecodeError::Depth`] nor [`DecodeError::Failed`]: then the allowance is as it was, and the decoder, if it was before the
-/// records of a valid value, is after them, as where a box had no memory. Of other records an implementation says in clauses
-/// of its own what its error leaves: `LimitedInteger` of a number outside its limits (`out_of_range`), `Array` of a list of
-/// another length (`other_length`). Where there was no memory for the type's own constraints, which only a permitted alphabet
-/// among them wants, the decoder is as it was.
+/// A success leaves the allowance as it was, and no decoder failed. An error either makes the decoder failed, or is the type's
+/// own, which is neither [`DecodeError::Depth`] nor [`DecodeError::Failed`]: then the decoder has not failed, the allowance is
+/// as it was, and the decoder, if it was before the records of a valid value, is after them, as where a box had no memory.
+/// Where there was no memory for the type's own constraints, which only a permitted alphabet among them wants, the decoder is
+/// as it was.
+///
+/// A type may refuse records that it has read, by an error of its own (`refused`): `LimitedInteger` a number outside its limits,
+/// `Array` a list of another length. Before such records an entry point answers that error, and the decoder, which has not
+/// failed, is after them; or it fails as it may before the records of a value. Most types refuse nothing.
 ///
 /// Where each value of the type is a record, a decoder that has failed answers [`DecodeError::Failed`].
 pub trait Decode: AsnType + Eq + Sized + Drop {
+    // Which records the type refuses, under a tag and constraints, and by which error. The codec's test tells the byte strings
+    // that it takes as one value of an open type.
+    ghost refused: { Refusals } = { no_refusals };
+
     /// Reads a value under a tag and constraints.
     fn decode_with_tag_and_constraints<D: Decoder>(
         decoder: &mut D,
@@ -40,21 +51,29 @@ pub trait Decode: AsnType + Eq + Sized + Drop {
         constraints: &Constraints<'_>,
     ) -> Result<Self, DecodeError>
         ensures read { ReadsValue D.reader Self.meaning Self.eq tag (constraint_set constraints.now) decoder.old decoder.new result }
-        ensures leaves { LeavesDecoder D.reader Self.meaning tag (constraint_set constraints.now) decoder.old decoder.new result };
+        ensures leaves { LeavesDecoder D.reader Self.meaning tag (constraint_set constraints.now) decoder.old decoder.new result }
+        ensures refuses { Refuses D.reader refused tag (constraint_set constraints.now) decoder.old
+            decoder.new result };
 
     /// Reads a value under the type's own tag and constraints. Where there is no memory for these, the error is
     /// [`DecodeError::Memory`].
     final fn decode<D: Decoder>(decoder: &mut D) -> Result<Self, DecodeError>
         ensures read { ReadsValue D.reader Self.meaning Self.eq Self.meaning.tag Self.meaning.constraints decoder.old decoder.new result }
         ensures leaves { LeavesDecoderWithOwnConstraints D.reader Self.meaning Self.meaning.tag decoder.old decoder.new result }
+        ensures refuses { Refuses D.reader refused Self.meaning.tag Self.meaning.constraints
+            decoder.old decoder.new result }
     {
-        Self::decode_with_tag(decoder, Self::tag())
+        let table = Self::table();
+        let constraints = table.constraints.to_constraints(decoder.global())?;
+        Self::decode_with_tag_and_constraints(decoder, table.tag, &constraints)
     }
 
     /// Reads a value under a tag.
     final fn decode_with_tag<D: Decoder>(decoder: &mut D, tag: Tag) -> Result<Self, DecodeError>
         ensures read { ReadsValue D.reader Self.meaning Self.eq tag Self.meaning.constraints decoder.old decoder.new result }
         ensures leaves { LeavesDecoderWithOwnConstraints D.reader Self.meaning tag decoder.old decoder.new result }
+        ensures refuses { Refuses D.reader refused tag Self.meaning.constraints decoder.old
+            decoder.new result }
     {
         let constraints = Self::constraints(decoder.global())?;
         Self::decode_with_tag_and_constraints(decoder, tag, &constraints)
@@ -67,6 +86,8 @@ pub trait Decode: AsnType + Eq + Sized + Drop {
     ) -> Result<Self, DecodeError>
         ensures read { ReadsValue D.reader Self.meaning Self.eq Self.meaning.tag (constraint_set constraints.now) decoder.old decoder.new result }
         ensures leaves { LeavesDecoder D.reader Self.meaning Self.meaning.tag (constraint_set constraints.now) decoder.old decoder.new result }
+        ensures refuses { Refuses D.reader refused Self.meaning.tag (constraint_set constraints.now)
+            decoder.old decoder.new result }
     {
         Self::decode_with_tag_and_constraints(decoder, Self::tag(), constraints)
     }
@@ -83,9 +104,20 @@ pub trait DecodeFields: FieldTable + Eq + Sized + Drop {
 
 /// A CHOICE whose alternatives are read.
 pub trait DecodeChoice: AsnType + Choice + Eq + Sized + Drop {
-    /// Reads the alternative that begins with the tag. After an error nothing is known of the decoder, until the caller makes it
-    /// failed ([`Decoder::refuse`]).
+    /// Reads the alternative that can begin with the tag. Where there is none, the error is [`DecodeError::NoValidChoice`], with
+    /// the name of the type. After an error nothing is known of the decoder, until the caller makes it failed
+    /// ([`Decoder::refuse`]).
     fn from_tag<D: Decoder>(decoder: &mut D, tag: Tag) -> Result<Self, DecodeError>
-        ensures read { (v : Self) (rest : List Record) (outer : Ahead) → HaveDistinctTags (all_of Self.alternatives) → Each CanBeChosen (all_of Self.alternatives) → (chosen_meaning (all_of Self.alternatives) (Self.pick v)).IsOfType → (chosen_meaning (all_of Self.alternatives) (Self.pick v)).IsValid D.reader.takes → tag ≡ chosen_tag (all_of Self.alternatives) (Self.pick v) → ReadsBack D.reader decoder.old decoder.new (chosen_meaning (all_of Self.alternatives) (Self.pick v)).records rest outer (λ w. Self.eq w v ≡ true) result }
+        ensures read { (v : Self) (rest : List Record) (outer : Ahead) →
+            HaveDistinctTags (all_of Self.alternatives) →
+            Each CanBeChosen (all_of Self.alternatives) →
+            (chosen_meaning (all_of Self.alternatives) (Self.pick v)).IsOfType →
+            (chosen_meaning (all_of Self.alternatives) (Self.pick v)).IsValid D.reader.takes →
+            Has (tree_tags (chosen (all_of Self.alternatives) (Self.pick v)).type.tree) tag →
+            ReadsBack D.reader decoder.old decoder.new
+            (chosen_meaning (all_of Self.alternatives) (Self.pick v)).records rest outer
+            (λ w. Self.eq w v ≡ true) result }
+        ensures unknown { Each (LacksTag tag) (all_of Self.alternatives) →
+            IsErrAnd result (λ e. reason e ≡ no_valid_choice (unwrap_or Self.meaning.name [])) }
         ensures same_allowance { OnOk result (D.reader.allowance decoder.new ≡ D.reader.allowance decoder.old) };
 }

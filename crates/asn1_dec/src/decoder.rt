@@ -1,16 +1,16 @@
 //! What a codec reads with.
-ghost use Rattle.asn1_choices.specs.Alternatives.{CanBeChosen, Each, HaveDistinctTags, all_of, chosen_meaning};
-ghost use Rattle.asn1_choices.specs.ChosenTags.{chosen_tag};
+ghost use Rattle.asn1_choices.specs.Alternatives.{CanBeChosen, Each, HaveDistinctTags, all_of, chosen_meaning, table_of};
+ghost use Rattle.asn1_choices.specs.ChosenTags.{TellsAlternative, chosen_tag};
 ghost use Rattle.asn1_components.specs.ComponentLists.{CanBeInSequence, EachIsOfType, EachIsValid, trees_of};
-ghost use Rattle.asn1_components.specs.Components.{all_components, component_records, is_sequence, is_set};
-ghost use Rattle.asn1_dec.specs.Reading.{Ahead, Enters, IsLawful, IsNextTag, Keeps, Leaves, Moves, NeedsAllowance, Opens, OpensSet, Reader, ReadsBack, ReadsContent, ReadsDefault, ReadsOption, ReadsOptionAfterTag, ReadsValue, Stays, TellsMore, TellsPresence, marks_passed, records_in};
+ghost use Rattle.asn1_components.specs.Components.{all_components, component_records, is_sequence, is_set, lines};
+ghost use Rattle.asn1_dec.specs.Reading.{Ahead, Enters, IsLawful, Keeps, Leaves, NeedsAllowance, Opens, OpensSet, Reader, ReadsBack, ReadsContent, ReadsDefault, ReadsEnd, ReadsMark, ReadsOpenType, ReadsOption, ReadsOptionAfterTag, ReadsValue, Stays, TellsMore, TellsNextTag, TellsPresence, records_in};
 ghost use Rattle.asn1_dec.specs.SetParts.{CanBeInSet};
 ghost use Rattle.asn1_enumerations.specs.Enumerations.{number_of};
-ghost use Rattle.asn1_enumerations.specs.Labels.{HasNumber};
+ghost use Rattle.asn1_enumerations.specs.Labels.{HasNumber, labels_of};
 ghost use Rattle.asn1_model.specs.Composites.{alternative_records, group_records, list_records, prefix_records, sequence_records, set_of_records, set_records};
 ghost use Rattle.asn1_model.specs.ConstraintSets.{ConstraintSet, constraint_set, unconstrained};
 ghost use Rattle.asn1_model.specs.Meaning.{CanStandInside, own_records};
-ghost use Rattle.asn1_model.specs.Records.{Name, Record, absent, alternative, arcs, bits, bmp, discriminant, general, graphic, group_absent, group_end, group_start, ia5, mark, marks_alone, null, number, numeric, octet, prefix, present, printable, raw, sequence, sequence_of, set, set_of, teletex, truth, units, utf8, visible};
+ghost use Rattle.asn1_model.specs.Records.{Name, Record, absent, alternative, arcs, bits, bmp, discriminant, general, graphic, group_absent, group_end, group_start, ia5, in_additions, in_root, marks_alone, null, number, numeric, octet, prefix, present, printable, sequence, sequence_of, set, set_of, teletex, truth, units, utf8, visible};
 ghost use Rattle.asn1_model.specs.Tags.{ShareNone, first_tags, tree_tags};
 ghost use Rattle.asn1_tags.specs.Trees.{choice, shape};
 ghost use Rattle.asn1_tags.specs.declared.tags.Tag.{Tag};
@@ -18,16 +18,17 @@ ghost use Rattle.asn1_strings.specs.Alphabets.{is_ia5, is_numeric, is_printable,
 ghost use Rattle.std.specs.Cmp.Lexicographic.{pointwise};
 ghost use Rattle.std.specs.List.{flat_map};
 ghost use Rattle.std.specs.Option.{option_eq, option_map};
-ghost use Rattle.std.specs.Prelude.{◌≡◌, ◌≤◌, ◌<◌, ◌^◌, [], ◌∷◌, ⊤, All, IfSome, IsTrue, List, Ok, Option, false, ℕ, true};
+ghost use Rattle.std.specs.Prelude.{◌≡◌, ◌≤◌, ◌<◌, ◌^◌, ⊤, All, IfSome, IsTrue, List, Ok, Option, false, true};
 ghost use Rattle.std.specs.Str.{IsUtf8};
 ghost use Rattle.std.specs.String.{string_bytes};
 
 use crate::choices::read_choice;
 use crate::decode::{Decode, DecodeChoice, DecodeFields};
 use crate::decode_set::DecodeSet;
-use crate::defaults::or_default;
+use crate::defaults::{read_default, read_default_with_constraints};
 use crate::elements::read_elements;
 use crate::error::DecodeError;
+use crate::optionals::{Side, read_optional, read_optional_with_constraints};
 use crate::sequences::read_sequence;
 use crate::sets::read_set;
 use crate::sets_of::read_set_of;
@@ -35,12 +36,15 @@ use asn1_bounds::{Codec, Constraints};
 use asn1_choices::{Choice, ChoiceType};
 use asn1_components::{ConstructedType, FieldTable};
 use asn1_enumerations::{Enumerated, EnumeratedTable};
+use asn1_strings::kind::{
+    Bits, Bmp, General, Graphic, Ia5, Numeric, Octets, Printable, Teletex, Visible,
+};
 use asn1_strings::{
     BitString, BmpString, GeneralString, GraphicString, Ia5String, NumericString, ObjectIdentifier,
     PrintableString, TeletexString, VisibleString,
 };
 use asn1_tags::{Tag, TagTree};
-use asn1_types::{Any, SetOf};
+use asn1_types::{Any, CodecString, SetOf, Utf8};
 use asn1_values::IntegerType;
 use std::alloc::{AllocError, Global};
 
@@ -88,7 +92,10 @@ pub trait Decoder {
         &mut self,
         tag: Tag,
     ) -> Result<isize, DecodeError>
-        ensures read { ReadsContent reader self.old self.new tag unconstrained discriminant (HasNumber E.labels) (λ w z. w ≡ z) result }
+        ensures read { ReadsContent reader self.old self.new tag unconstrained
+            (discriminant E.labels)
+            (HasNumber E.labels)
+            (λ w z. w ≡ z) result }
         ensures stays { Stays reader self.old self.new result };
 
     /// An OBJECT IDENTIFIER.
@@ -105,149 +112,68 @@ pub trait Decoder {
         ensures read { ReadsContent reader self.old self.new tag (constraint_set constraints.now) number I.fits (λ w z. I.number w ≡ z) result }
         ensures stays { Stays reader self.old self.new result };
 
-    /// A BIT STRING.
-    fn decode_bit_string(
+    /// A string of the kind `K`. The kind says what its units are ([`CodecString::kind`]), and makes the answer of the string that
+    /// was read ([`CodecString::from_any`]).
+    fn decode_string<U, K: CodecString<U>>(
         &mut self,
         tag: Tag,
         constraints: &Constraints<'_>,
-    ) -> Result<BitString, DecodeError>
-        ensures read { ReadsContent reader self.old self.new tag (constraint_set constraints.now) bits (λ _. ⊤) (λ w v. w ≡ v) result }
-        ensures stays { Stays reader self.old self.new result };
-
-    /// An OCTET STRING.
-    fn decode_octet_string(
-        &mut self,
-        tag: Tag,
-        constraints: &Constraints<'_>,
-    ) -> Result<Vec<u8>, DecodeError>
-        ensures read { ReadsContent reader self.old self.new tag (constraint_set constraints.now) (units octet) (All (λ unit. unit < 2 ^ 8)) (λ w v. w.items ≡ v) result }
-        ensures stays { Stays reader self.old self.new result };
-
-    /// A UTF8String.
-    fn decode_utf8_string(
-        &mut self,
-        tag: Tag,
-        constraints: &Constraints<'_>,
-    ) -> Result<String, DecodeError>
-        ensures read { ReadsContent reader self.old self.new tag (constraint_set constraints.now) (units utf8) IsUtf8 (λ w v. string_bytes w ≡ v) result }
-        ensures stays { Stays reader self.old self.new result };
-
-    /// A GeneralString.
-    fn decode_general_string(
-        &mut self,
-        tag: Tag,
-        constraints: &Constraints<'_>,
-    ) -> Result<GeneralString, DecodeError>
-        ensures read { ReadsContent reader self.old self.new tag (constraint_set constraints.now) (units general) (All (λ unit. unit < 2 ^ 8)) (λ w v. w ≡ v) result }
-        ensures stays { Stays reader self.old self.new result };
-
-    /// A GraphicString.
-    fn decode_graphic_string(
-        &mut self,
-        tag: Tag,
-        constraints: &Constraints<'_>,
-    ) -> Result<GraphicString, DecodeError>
-        ensures read { ReadsContent reader self.old self.new tag (constraint_set constraints.now) (units graphic) (All (λ unit. unit < 2 ^ 8)) (λ w v. w ≡ v) result }
-        ensures stays { Stays reader self.old self.new result };
-
-    /// A VisibleString.
-    fn decode_visible_string(
-        &mut self,
-        tag: Tag,
-        constraints: &Constraints<'_>,
-    ) -> Result<VisibleString, DecodeError>
-        ensures read { ReadsContent reader self.old self.new tag (constraint_set constraints.now) (units visible) (All (λ unit. IsTrue (is_visible unit))) (λ w v. w ≡ v) result }
-        ensures stays { Stays reader self.old self.new result };
-
-    /// An IA5String.
-    fn decode_ia5_string(
-        &mut self,
-        tag: Tag,
-        constraints: &Constraints<'_>,
-    ) -> Result<Ia5String, DecodeError>
-        ensures read { ReadsContent reader self.old self.new tag (constraint_set constraints.now) (units ia5) (All (λ unit. IsTrue (is_ia5 unit))) (λ w v. w ≡ v) result }
-        ensures stays { Stays reader self.old self.new result };
-
-    /// A PrintableString.
-    fn decode_printable_string(
-        &mut self,
-        tag: Tag,
-        constraints: &Constraints<'_>,
-    ) -> Result<PrintableString, DecodeError>
-        ensures read { ReadsContent reader self.old self.new tag (constraint_set constraints.now) (units printable) (All (λ unit. IsTrue (is_printable unit))) (λ w v. w ≡ v) result }
-        ensures stays { Stays reader self.old self.new result };
-
-    /// A NumericString.
-    fn decode_numeric_string(
-        &mut self,
-        tag: Tag,
-        constraints: &Constraints<'_>,
-    ) -> Result<NumericString, DecodeError>
-        ensures read { ReadsContent reader self.old self.new tag (constraint_set constraints.now) (units numeric) (All (λ unit. IsTrue (is_numeric unit))) (λ w v. w ≡ v) result }
-        ensures stays { Stays reader self.old self.new result };
-
-    /// A TeletexString.
-    fn decode_teletex_string(
-        &mut self,
-        tag: Tag,
-        constraints: &Constraints<'_>,
-    ) -> Result<TeletexString, DecodeError>
-        ensures read { ReadsContent reader self.old self.new tag (constraint_set constraints.now) (units teletex) (All (λ unit. unit < 2 ^ 32)) (λ w v. w ≡ v) result }
-        ensures stays { Stays reader self.old self.new result };
-
-    /// A BMPString.
-    fn decode_bmp_string(
-        &mut self,
-        tag: Tag,
-        constraints: &Constraints<'_>,
-    ) -> Result<BmpString, DecodeError>
-        ensures read { ReadsContent reader self.old self.new tag (constraint_set constraints.now) (units bmp) (All (λ unit. unit < 2 ^ 16)) (λ w v. w ≡ v) result }
+    ) -> Result<K::Owned, DecodeError>
+        ensures read { ReadsContent reader self.old self.new tag (constraint_set constraints.now)
+            K.content K.AreOfKind (λ w v. K.units_in w ≡ v) result }
         ensures stays { Stays reader self.old self.new result };
 
     /// A value of an open type, by its bytes, under whatever tag.
     fn decode_any(&mut self, tag: Tag) -> Result<Any, DecodeError>
-        ensures read { (bytes : List ℕ) (n : Name) (rest : List Record) (outer : Ahead) → IsTrue (reader.takes bytes) → ReadsBack reader self.old self.new (raw n bytes ∷ []) rest outer (λ w. w ≡ bytes) result }
+        ensures read { ReadsOpenType reader self.old self.new (λ w bytes. w ≡ bytes) result }
         ensures stays { Stays reader self.old self.new result };
 
     /// Whether the component of the root is there that is written under this tag, and begins with a tag of the tree. A codec
     /// without presence marks looks at the next tag; where it does not know the end of the outermost list, it is before no
     /// outermost list that has marks.
     fn presence(&mut self, tag: Tag, tree: TagTree<'static>) -> Result<bool, DecodeError>
-        ensures read { TellsPresence reader self.old self.new (present tag) (absent tag) (tree_tags (shape tree.entry)) result }
+        ensures read { TellsPresence reader self.old self.new (present in_root tag)
+            (absent in_root tag)
+            (tree_tags (shape tree.entry)) result }
         ensures stays { Stays reader self.old self.new result };
 
     /// The same of an addition, which some codecs write in another way. What `presence` says of the outermost list holds here too.
     fn addition_presence(&mut self, tag: Tag, tree: TagTree<'static>) -> Result<bool, DecodeError>
-        ensures read { TellsPresence reader self.old self.new (present tag) (absent tag) (tree_tags (shape tree.entry)) result }
+        ensures read { TellsPresence reader self.old self.new (present in_additions tag)
+            (absent in_additions tag)
+            (tree_tags (shape tree.entry)) result }
         ensures stays { Stays reader self.old self.new result };
 
     /// Whether the group of additions is there whose components are those of the table of `C`. If it is, the decoder then stands
     /// before its components. A group is no scope, and takes nothing from the allowance. What `presence` says of the outermost
     /// list holds here too.
     fn open_group<C: FieldTable>(&mut self) -> Result<bool, DecodeError>
-        ensures read { TellsPresence reader self.old self.new group_start group_absent (tree_tags (choice (trees_of (all_components C.components)))) result }
+        ensures read { TellsPresence reader self.old self.new (group_start (lines C.components))
+            group_absent (tree_tags (choice (trees_of (all_components C.components)))) result }
         ensures stays { Stays reader self.old self.new result };
 
     /// Closes a group of which all components were read.
     fn close_group(&mut self) -> Result<(), DecodeError>
-        ensures read { (rest : List Record) (outer : Ahead) → Moves reader self.old self.new 0 ((mark group_end ∷ rest) ∷ outer) (rest ∷ outer) (λ _. ⊤) result }
+        ensures read { ReadsMark reader self.old self.new group_end result }
         ensures stays { Stays reader self.old self.new result };
 
     /// Opens a SEQUENCE, whose components are those of the table of `C`.
     fn open_sequence<C: FieldTable>(&mut self, tag: Tag) -> Result<(), DecodeError>
-        ensures read { Opens reader self.old self.new (sequence tag) (λ _ _. ⊤) result }
+        ensures read { Opens reader self.old self.new (sequence tag (lines C.components)) (λ _ _. ⊤)
+            result }
         ensures enters { Enters reader self.old self.new result };
 
     /// Opens a SET, whose components are those of the table of `C`, and stand in any order. Answers a bound on the number of its
     /// records.
     fn open_set<C: FieldTable>(&mut self, tag: Tag) -> Result<usize, DecodeError>
-        ensures read { OpensSet reader self.old self.new (set tag) (λ items bound. records_in items ≤ bound) result }
+        ensures read { OpensSet reader self.old self.new (set tag (lines C.components))
+            (λ items bound. records_in items ≤ bound) result }
         ensures enters { Enters reader self.old self.new result };
 
-    /// The tag with which the next record of a SET begins, if one is left. Presence marks before it are passed over. It is asked
-    /// inside a scope: at the outermost list a codec need not know whether all was read.
-    fn next_component(&mut self) -> Result<Option<Tag>, DecodeError>
-        ensures read { (items rest : List Record) (outer : Ahead) → Moves reader self.old self.new 0 (items ∷ rest ∷ outer) (marks_passed items ∷ rest ∷ outer) (IsNextTag items) result }
+    /// A tag of the component of the next record of a SET, if one is left, by the table of `C`. Presence marks before it are
+    /// passed over. It is asked inside a scope: at the outermost list a codec need not know whether all was read.
+    fn next_component<C: FieldTable>(&mut self) -> Result<Option<Tag>, DecodeError>
+        ensures read { TellsNextTag reader self.old self.new (all_components C.components) result }
         ensures stays { Stays reader self.old self.new result };
 
     /// Opens a SEQUENCE OF, and answers a bound on the number of its elements.
@@ -269,9 +195,12 @@ pub trait Decoder {
         ensures read { Opens reader self.old self.new (prefix tag) (λ _ _. ⊤) result }
         ensures enters { Enters reader self.old self.new result };
 
-    /// Opens a CHOICE, whose alternatives are those of `T`, and answers the tag of the chosen one.
+    /// Opens a CHOICE, whose alternatives are those of `T`, and answers a tag of the chosen one.
     fn open_choice<T: Choice>(&mut self, constraints: &Constraints<'_>) -> Result<Tag, DecodeError>
-        ensures read { (chosen : Tag) → Opens reader self.old self.new (alternative chosen (constraint_set constraints.now)) (λ _ tag. tag ≡ chosen) result }
+        ensures read { (chosen : Tag) →
+            Opens reader self.old self.new
+            (alternative chosen (constraint_set constraints.now) (table_of T.alternatives))
+            (λ _ tag. TellsAlternative chosen tag (all_of T.alternatives)) result }
         ensures enters { Enters reader self.old self.new result };
 
     /// Whether a record is left in the innermost scope. Reads nothing. It is asked inside a scope: at the outermost list a codec
@@ -282,18 +211,186 @@ pub trait Decoder {
 
     /// Closes the innermost scope, of which all was read.
     fn close(&mut self) -> Result<(), DecodeError>
-        ensures read { (rest : List Record) (outer : Ahead) → Moves reader self.old self.new 0 ([] ∷ rest ∷ outer) (rest ∷ outer) (λ _. ⊤) result }
+        ensures read { ReadsEnd reader self.old self.new result }
         ensures leaves { Leaves reader self.old self.new result };
 
     // The law of a codec.
     ghost lawful: { IsLawful reader };
+
+    /// A BIT STRING.
+    final fn decode_bit_string(
+        &mut self,
+        tag: Tag,
+        constraints: &Constraints<'_>,
+    ) -> Result<BitString, DecodeError>
+    where
+        Self: Sized,
+        ensures read { ReadsContent reader self.old self.new tag (constraint_set constraints.now)
+            bits (λ _. ⊤) (λ w v. w ≡ v) result }
+        ensures stays { Stays reader self.old self.new result }
+    {
+        self.decode_string::<bool, Bits>(tag, constraints)
+    }
+
+    /// An OCTET STRING.
+    final fn decode_octet_string(
+        &mut self,
+        tag: Tag,
+        constraints: &Constraints<'_>,
+    ) -> Result<Vec<u8>, DecodeError>
+    where
+        Self: Sized,
+        ensures read { ReadsContent reader self.old self.new tag (constraint_set constraints.now)
+            (units octet) (All (λ unit. unit < 2 ^ 8)) (λ w v. w.items ≡ v) result }
+        ensures stays { Stays reader self.old self.new result }
+    {
+        self.decode_string::<u8, Octets>(tag, constraints)
+    }
+
+    /// A UTF8String.
+    final fn decode_utf8_string(
+        &mut self,
+        tag: Tag,
+        constraints: &Constraints<'_>,
+    ) -> Result<String, DecodeError>
+    where
+        Self: Sized,
+        ensures read { ReadsContent reader self.old self.new tag (constraint_set constraints.now)
+            (units utf8) IsUtf8 (λ w v. string_bytes w ≡ v) result }
+        ensures stays { Stays reader self.old self.new result }
+    {
+        self.decode_string::<u8, Utf8>(tag, constraints)
+    }
+
+    /// A GeneralString.
+    final fn decode_general_string(
+        &mut self,
+        tag: Tag,
+        constraints: &Constraints<'_>,
+    ) -> Result<GeneralString, DecodeError>
+    where
+        Self: Sized,
+        ensures read { ReadsContent reader self.old self.new tag (constraint_set constraints.now)
+            (units general) (All (λ unit. unit < 2 ^ 8)) (λ w v. w ≡ v) result }
+        ensures stays { Stays reader self.old self.new result }
+    {
+        self.decode_string::<u8, General>(tag, constraints)
+    }
+
+    /// A GraphicString.
+    final fn decode_graphic_string(
+        &mut self,
+        tag: Tag,
+        constraints: &Constraints<'_>,
+    ) -> Result<GraphicString, DecodeError>
+    where
+        Self: Sized,
+        ensures read { ReadsContent reader self.old self.new tag (constraint_set constraints.now)
+            (units graphic) (All (λ unit. unit < 2 ^ 8)) (λ w v. w ≡ v) result }
+        ensures stays { Stays reader self.old self.new result }
+    {
+        self.decode_string::<u8, Graphic>(tag, constraints)
+    }
+
+    /// A VisibleString.
+    final fn decode_visible_string(
+        &mut self,
+        tag: Tag,
+        constraints: &Constraints<'_>,
+    ) -> Result<VisibleString, DecodeError>
+    where
+        Self: Sized,
+        ensures read { ReadsContent reader self.old self.new tag (constraint_set constraints.now)
+            (units visible) (All (λ unit. IsTrue (is_visible unit))) (λ w v. w ≡ v) result }
+        ensures stays { Stays reader self.old self.new result }
+    {
+        self.decode_string::<u8, Visible>(tag, constraints)
+    }
+
+    /// An IA5String.
+    final fn decode_ia5_string(
+        &mut self,
+        tag: Tag,
+        constraints: &Constraints<'_>,
+    ) -> Result<Ia5String, DecodeError>
+    where
+        Self: Sized,
+        ensures read { ReadsContent reader self.old self.new tag (constraint_set constraints.now)
+            (units ia5) (All (λ unit. IsTrue (is_ia5 unit))) (λ w v. w ≡ v) result }
+        ensures stays { Stays reader self.old self.new result }
+    {
+        self.decode_string::<u8, Ia5>(tag, constraints)
+    }
+
+    /// A PrintableString.
+    final fn decode_printable_string(
+        &mut self,
+        tag: Tag,
+        constraints: &Constraints<'_>,
+    ) -> Result<PrintableString, DecodeError>
+    where
+        Self: Sized,
+        ensures read { ReadsContent reader self.old self.new tag (constraint_set constraints.now)
+            (units printable) (All (λ unit. IsTrue (is_printable unit))) (λ w v. w ≡ v) result }
+        ensures stays { Stays reader self.old self.new result }
+    {
+        self.decode_string::<u8, Printable>(tag, constraints)
+    }
+
+    /// A NumericString.
+    final fn decode_numeric_string(
+        &mut self,
+        tag: Tag,
+        constraints: &Constraints<'_>,
+    ) -> Result<NumericString, DecodeError>
+    where
+        Self: Sized,
+        ensures read { ReadsContent reader self.old self.new tag (constraint_set constraints.now)
+            (units numeric) (All (λ unit. IsTrue (is_numeric unit))) (λ w v. w ≡ v) result }
+        ensures stays { Stays reader self.old self.new result }
+    {
+        self.decode_string::<u8, Numeric>(tag, constraints)
+    }
+
+    /// A TeletexString.
+    final fn decode_teletex_string(
+        &mut self,
+        tag: Tag,
+        constraints: &Constraints<'_>,
+    ) -> Result<TeletexString, DecodeError>
+    where
+        Self: Sized,
+        ensures read { ReadsContent reader self.old self.new tag (constraint_set constraints.now)
+            (units teletex) (All (λ unit. unit < 2 ^ 32)) (λ w v. w ≡ v) result }
+        ensures stays { Stays reader self.old self.new result }
+    {
+        self.decode_string::<u32, Teletex>(tag, constraints)
+    }
+
+    /// A BMPString.
+    final fn decode_bmp_string(
+        &mut self,
+        tag: Tag,
+        constraints: &Constraints<'_>,
+    ) -> Result<BmpString, DecodeError>
+    where
+        Self: Sized,
+        ensures read { ReadsContent reader self.old self.new tag (constraint_set constraints.now)
+            (units bmp) (All (λ unit. unit < 2 ^ 16)) (λ w v. w ≡ v) result }
+        ensures stays { Stays reader self.old self.new result }
+    {
+        self.decode_string::<u16, Bmp>(tag, constraints)
+    }
 
     /// A value of an ENUMERATED type, by its number. Where no item of the type has the number, the error is
     /// [`DecodeError::Custom`].
     final fn decode_enumerated<E: Enumerated>(&mut self, tag: Tag) -> Result<E, DecodeError>
     where
         Self: Sized,
-        ensures read { ReadsContent reader self.old self.new tag unconstrained (λ v. discriminant (number_of E.eq E.enumeration v)) (λ _. ⊤) (λ w v. w ≡ v) result }
+        ensures read { ReadsContent reader self.old self.new tag unconstrained
+            (λ v. discriminant (labels_of E.enumeration) (number_of E.eq E.enumeration v))
+            (λ _. ⊤)
+            (λ w v. w ≡ v) result }
         ensures stays { Stays reader self.old self.new result }
     {
         let number = self.decode_enumerated_number::<E>(tag)?;
@@ -363,10 +460,11 @@ pub trait Decoder {
     final fn decode_optional<T: Decode>(&mut self) -> Result<Option<T>, DecodeError>
     where
         Self: Sized,
-        ensures read { ReadsOption reader T.meaning T.eq T.meaning.tag T.meaning.constraints self.old self.new result }
+        ensures read { ReadsOption reader in_root T.meaning T.eq T.meaning.tag T.meaning.constraints
+            self.old self.new result }
         ensures keeps { Keeps reader self.old self.new result }
     {
-        self.decode_optional_with_tag(T::tag())
+        read_optional(self, Side::Root, None)
     }
 
     /// The same as `decode_optional`, under a tag.
@@ -376,16 +474,11 @@ pub trait Decoder {
     ) -> Result<Option<T>, DecodeError>
     where
         Self: Sized,
-        ensures read { ReadsOption reader T.meaning T.eq tag T.meaning.constraints self.old self.new result }
+        ensures read { ReadsOption reader in_root T.meaning T.eq tag T.meaning.constraints self.old
+            self.new result }
         ensures keeps { Keeps reader self.old self.new result }
     {
-        if !self.presence(tag, T::tag_tree_under(tag))? {
-            return Ok(None);
-        }
-        match T::decode_with_tag(self, tag) {
-            Ok(value) => Ok(Some(value)),
-            Err(error) => Err(self.refuse(error)),
-        }
+        read_optional(self, Side::Root, Some(tag))
     }
 
     /// The same as `decode_optional`, under constraints.
@@ -395,10 +488,11 @@ pub trait Decoder {
     ) -> Result<Option<T>, DecodeError>
     where
         Self: Sized,
-        ensures read { ReadsOption reader T.meaning T.eq T.meaning.tag (constraint_set constraints.now) self.old self.new result }
+        ensures read { ReadsOption reader in_root T.meaning T.eq T.meaning.tag
+            (constraint_set constraints.now) self.old self.new result }
         ensures keeps { Keeps reader self.old self.new result }
     {
-        self.decode_optional_with_tag_and_constraints(T::tag(), constraints)
+        read_optional_with_constraints(self, Side::Root, None, constraints)
     }
 
     /// The same as `decode_optional`, under a tag and constraints.
@@ -409,16 +503,11 @@ pub trait Decoder {
     ) -> Result<Option<T>, DecodeError>
     where
         Self: Sized,
-        ensures read { ReadsOption reader T.meaning T.eq tag (constraint_set constraints.now) self.old self.new result }
+        ensures read { ReadsOption reader in_root T.meaning T.eq tag
+            (constraint_set constraints.now) self.old self.new result }
         ensures keeps { Keeps reader self.old self.new result }
     {
-        if !self.presence(tag, T::tag_tree_under(tag))? {
-            return Ok(None);
-        }
-        match T::decode_with_tag_and_constraints(self, tag, constraints) {
-            Ok(value) => Ok(Some(value)),
-            Err(error) => Err(self.refuse(error)),
-        }
+        read_optional_with_constraints(self, Side::Root, Some(tag), constraints)
     }
 
     /// The same as `decode_optional`, after an explicit tag.
@@ -428,7 +517,8 @@ pub trait Decoder {
     ) -> Result<Option<T>, DecodeError>
     where
         Self: Sized,
-        ensures read { ReadsOptionAfterTag reader T.meaning T.eq tag T.meaning.constraints self.old self.new result }
+        ensures read { ReadsOptionAfterTag reader in_root T.meaning T.eq tag T.meaning.constraints
+            self.old self.new result }
         ensures keeps { Keeps reader self.old self.new result }
     {
         if !self.presence(tag, TagTree::Leaf(tag))? {
@@ -442,10 +532,11 @@ pub trait Decoder {
     final fn decode_extension_addition<T: Decode>(&mut self) -> Result<Option<T>, DecodeError>
     where
         Self: Sized,
-        ensures read { ReadsOption reader T.meaning T.eq T.meaning.tag T.meaning.constraints self.old self.new result }
+        ensures read { ReadsOption reader in_additions T.meaning T.eq T.meaning.tag
+            T.meaning.constraints self.old self.new result }
         ensures keeps { Keeps reader self.old self.new result }
     {
-        self.decode_extension_addition_with_tag(T::tag())
+        read_optional(self, Side::Additions, None)
     }
 
     /// The same as `decode_extension_addition`, under a tag.
@@ -455,16 +546,11 @@ pub trait Decoder {
     ) -> Result<Option<T>, DecodeError>
     where
         Self: Sized,
-        ensures read { ReadsOption reader T.meaning T.eq tag T.meaning.constraints self.old self.new result }
+        ensures read { ReadsOption reader in_additions T.meaning T.eq tag T.meaning.constraints
+            self.old self.new result }
         ensures keeps { Keeps reader self.old self.new result }
     {
-        if !self.addition_presence(tag, T::tag_tree_under(tag))? {
-            return Ok(None);
-        }
-        match T::decode_with_tag(self, tag) {
-            Ok(value) => Ok(Some(value)),
-            Err(error) => Err(self.refuse(error)),
-        }
+        read_optional(self, Side::Additions, Some(tag))
     }
 
     /// The same as `decode_extension_addition`, under constraints.
@@ -474,10 +560,11 @@ pub trait Decoder {
     ) -> Result<Option<T>, DecodeError>
     where
         Self: Sized,
-        ensures read { ReadsOption reader T.meaning T.eq T.meaning.tag (constraint_set constraints.now) self.old self.new result }
+        ensures read { ReadsOption reader in_additions T.meaning T.eq T.meaning.tag
+            (constraint_set constraints.now) self.old self.new result }
         ensures keeps { Keeps reader self.old self.new result }
     {
-        self.decode_extension_addition_with_tag_and_constraints(T::tag(), constraints)
+        read_optional_with_constraints(self, Side::Additions, None, constraints)
     }
 
     /// The same as `decode_extension_addition`, under a tag and constraints.
@@ -488,16 +575,11 @@ pub trait Decoder {
     ) -> Result<Option<T>, DecodeError>
     where
         Self: Sized,
-        ensures read { ReadsOption reader T.meaning T.eq tag (constraint_set constraints.now) self.old self.new result }
+        ensures read { ReadsOption reader in_additions T.meaning T.eq tag
+            (constraint_set constraints.now) self.old self.new result }
         ensures keeps { Keeps reader self.old self.new result }
     {
-        if !self.addition_presence(tag, T::tag_tree_under(tag))? {
-            return Ok(None);
-        }
-        match T::decode_with_tag_and_constraints(self, tag, constraints) {
-            Ok(value) => Ok(Some(value)),
-            Err(error) => Err(self.refuse(error)),
-        }
+        read_optional_with_constraints(self, Side::Additions, Some(tag), constraints)
     }
 
     /// The same as `decode_extension_addition`, after an explicit tag, with constraints of the value.
@@ -508,7 +590,8 @@ pub trait Decoder {
     ) -> Result<Option<T>, DecodeError>
     where
         Self: Sized,
-        ensures read { ReadsOptionAfterTag reader T.meaning T.eq tag (constraint_set constraints.now) self.old self.new result }
+        ensures read { ReadsOptionAfterTag reader in_additions T.meaning T.eq tag
+            (constraint_set constraints.now) self.old self.new result }
         ensures keeps { Keeps reader self.old self.new result }
     {
         if !self.addition_presence(tag, TagTree::Leaf(tag))? {
@@ -526,10 +609,11 @@ pub trait Decoder {
     where
         Self: Sized,
         requires { F.IsAlwaysCallable default }
-        ensures read { ReadsDefault reader (λ usual. (a : _) × F.post default a (Ok usual)) T.meaning T.eq T.meaning.tag T.meaning.constraints self.old self.new result }
+        ensures read { ReadsDefault reader in_root (λ usual. (a : _) × F.post default a (Ok usual))
+            T.meaning T.eq T.meaning.tag T.meaning.constraints self.old self.new result }
         ensures keeps { Keeps reader self.old self.new result }
     {
-        self.decode_default_with_tag(T::tag(), default)
+        read_default(self, Side::Root, None, default)
     }
 
     /// The same as `decode_default`, under a tag.
@@ -541,11 +625,11 @@ pub trait Decoder {
     where
         Self: Sized,
         requires { F.IsAlwaysCallable default }
-        ensures read { ReadsDefault reader (λ usual. (a : _) × F.post default a (Ok usual)) T.meaning T.eq tag T.meaning.constraints self.old self.new result }
+        ensures read { ReadsDefault reader in_root (λ usual. (a : _) × F.post default a (Ok usual))
+            T.meaning T.eq tag T.meaning.constraints self.old self.new result }
         ensures keeps { Keeps reader self.old self.new result }
     {
-        let value = self.decode_optional_with_tag::<T>(tag)?;
-        or_default(self, value, default)
+        read_default(self, Side::Root, Some(tag), default)
     }
 
     /// The same as `decode_default`, under constraints.
@@ -557,10 +641,11 @@ pub trait Decoder {
     where
         Self: Sized,
         requires { F.IsAlwaysCallable default }
-        ensures read { ReadsDefault reader (λ usual. (a : _) × F.post default a (Ok usual)) T.meaning T.eq T.meaning.tag (constraint_set constraints.now) self.old self.new result }
+        ensures read { ReadsDefault reader in_root (λ usual. (a : _) × F.post default a (Ok usual))
+            T.meaning T.eq T.meaning.tag (constraint_set constraints.now) self.old self.new result }
         ensures keeps { Keeps reader self.old self.new result }
     {
-        self.decode_default_with_tag_and_constraints(T::tag(), default, constraints)
+        read_default_with_constraints(self, Side::Root, None, default, constraints)
     }
 
     /// The same as `decode_default`, under a tag and constraints.
@@ -571,11 +656,11 @@ pub trait Decoder {
     where
         Self: Sized,
         requires { F.IsAlwaysCallable default }
-        ensures read { ReadsDefault reader (λ usual. (a : _) × F.post default a (Ok usual)) T.meaning T.eq tag (constraint_set constraints.now) self.old self.new result }
+        ensures read { ReadsDefault reader in_root (λ usual. (a : _) × F.post default a (Ok usual))
+            T.meaning T.eq tag (constraint_set constraints.now) self.old self.new result }
         ensures keeps { Keeps reader self.old self.new result }
     {
-        let value = self.decode_optional_with_tag_and_constraints::<T>(tag, constraints)?;
-        or_default(self, value, default)
+        read_default_with_constraints(self, Side::Root, Some(tag), default, constraints)
     }
 
     /// An addition with a default, which is what the closure answers where the addition is absent.
@@ -586,10 +671,12 @@ pub trait Decoder {
     where
         Self: Sized,
         requires { F.IsAlwaysCallable default }
-        ensures read { ReadsDefault reader (λ usual. (a : _) × F.post default a (Ok usual)) T.meaning T.eq T.meaning.tag T.meaning.constraints self.old self.new result }
+        ensures read { ReadsDefault reader in_additions
+            (λ usual. (a : _) × F.post default a (Ok usual)) T.meaning T.eq T.meaning.tag
+            T.meaning.constraints self.old self.new result }
         ensures keeps { Keeps reader self.old self.new result }
     {
-        self.decode_extension_addition_with_default_and_tag(T::tag(), default)
+        read_default(self, Side::Additions, None, default)
     }
 
     /// The same as `decode_extension_addition_with_default`, under a tag.
@@ -600,11 +687,12 @@ pub trait Decoder {
     where
         Self: Sized,
         requires { F.IsAlwaysCallable default }
-        ensures read { ReadsDefault reader (λ usual. (a : _) × F.post default a (Ok usual)) T.meaning T.eq tag T.meaning.constraints self.old self.new result }
+        ensures read { ReadsDefault reader in_additions
+            (λ usual. (a : _) × F.post default a (Ok usual)) T.meaning T.eq tag
+            T.meaning.constraints self.old self.new result }
         ensures keeps { Keeps reader self.old self.new result }
     {
-        let value = self.decode_extension_addition_with_tag::<T>(tag)?;
-        or_default(self, value, default)
+        read_default(self, Side::Additions, Some(tag), default)
     }
 
     /// The same as `decode_extension_addition_with_default`, under constraints.
@@ -615,14 +703,12 @@ pub trait Decoder {
     where
         Self: Sized,
         requires { F.IsAlwaysCallable default }
-        ensures read { ReadsDefault reader (λ usual. (a : _) × F.post default a (Ok usual)) T.meaning T.eq T.meaning.tag (constraint_set constraints.now) self.old self.new result }
+        ensures read { ReadsDefault reader in_additions
+            (λ usual. (a : _) × F.post default a (Ok usual)) T.meaning T.eq T.meaning.tag
+            (constraint_set constraints.now) self.old self.new result }
         ensures keeps { Keeps reader self.old self.new result }
     {
-        self.decode_extension_addition_with_default_and_tag_and_constraints(
-            T::tag(),
-            default,
-            constraints,
-        )
+        read_default_with_constraints(self, Side::Additions, None, default, constraints)
     }
 
     /// The same as `decode_extension_addition_with_default`, under a tag and constraints.
@@ -633,11 +719,12 @@ pub trait Decoder {
     where
         Self: Sized,
         requires { F.IsAlwaysCallable default }
-        ensures read { ReadsDefault reader (λ usual. (a : _) × F.post default a (Ok usual)) T.meaning T.eq tag (constraint_set constraints.now) self.old self.new result }
+        ensures read { ReadsDefault reader in_additions
+            (λ usual. (a : _) × F.post default a (Ok usual)) T.meaning T.eq tag
+            (constraint_set constraints.now) self.old self.new result }
         ensures keeps { Keeps reader self.old self.new result }
     {
-        let value = self.decode_extension_addition_with_tag_and_constraints::<T>(tag, constraints)?;
-        or_default(self, value, default)
+        read_default_with_constraints(self, Side::Additions, Some(tag), default, constraints)
     }
 
     /// A group of additions, which may be absent. One that is there writes a component. What follows it begins with no tag of its
@@ -647,7 +734,17 @@ pub trait Decoder {
     ) -> Result<Option<C>, DecodeError>
     where
         Self: Sized,
-        ensures read { (v : Option C) (rest : List Record) (outer : Ahead) → CanBeInSequence (all_components C.components) → IfSome v (EachIsOfType (all_components C.components)) → IfSome v (λ w. EachIsValid (all_components C.components) reader.takes w × (marks_alone (component_records C.components w) ≡ false)) → ShareNone (tree_tags (choice (trees_of (all_components C.components)))) (first_tags rest) → ReadsBack reader self.old self.new (group_records (option_map (component_records C.components) v)) rest outer (λ w. option_eq C.eq w v ≡ true) result }
+        ensures read { (v : Option C) (rest : List Record) (outer : Ahead) →
+            CanBeInSequence (all_components C.components) →
+            IfSome v (EachIsOfType (all_components C.components)) →
+            IfSome v
+            (λ w. EachIsValid (all_components C.components) reader.takes w ×
+            (marks_alone (component_records C.components w) ≡ false)) →
+            ShareNone (tree_tags (choice (trees_of (all_components C.components))))
+            (first_tags rest) →
+            ReadsBack reader self.old self.new
+            (group_records (lines C.components) (option_map (component_records C.components) v))
+            rest outer (λ w. option_eq C.eq w v ≡ true) result }
         ensures keeps { Keeps reader self.old self.new result }
     {
         if !self.open_group::<C>()? {
@@ -668,7 +765,13 @@ pub trait Decoder {
     ) -> Result<C, DecodeError>
     where
         Self: Sized,
-        ensures components { (v : C) (n : Name) (rest : List Record) (outer : Ahead) → CanBeInSequence (all_components C.components) → EachIsOfType (all_components C.components) v → EachIsValid (all_components C.components) reader.takes v → ReadsBack reader self.old self.new (sequence_records tag n (component_records C.components v)) rest outer (λ w. C.eq w v ≡ true) result }
+        ensures components { (v : C) (n : Name) (rest : List Record) (outer : Ahead) →
+            CanBeInSequence (all_components C.components) →
+            EachIsOfType (all_components C.components) v →
+            EachIsValid (all_components C.components) reader.takes v →
+            ReadsBack reader self.old self.new
+            (sequence_records tag (lines C.components) n (component_records C.components v))
+            rest outer (λ w. C.eq w v ≡ true) result }
         ensures as_meant { C.components.kind ≡ is_sequence → (c : ConstraintSet) → ReadsValue reader C.meaning C.eq tag c self.old self.new result }
         ensures keeps { Keeps reader self.old self.new result }
         ensures depth_first { NeedsAllowance reader self.old result }
@@ -683,7 +786,16 @@ pub trait Decoder {
     ) -> Result<T, DecodeError>
     where
         Self: Sized,
-        ensures read { (v : T) (n : Name) (rest : List Record) (outer : Ahead) → HaveDistinctTags (all_of T.alternatives) → Each CanBeChosen (all_of T.alternatives) → (chosen_meaning (all_of T.alternatives) (T.pick v)).IsOfType → (chosen_meaning (all_of T.alternatives) (T.pick v)).IsValid reader.takes → ReadsBack reader self.old self.new (alternative_records (chosen_tag (all_of T.alternatives) (T.pick v)) (constraint_set constraints.now) n (chosen_meaning (all_of T.alternatives) (T.pick v)).records) rest outer (λ w. T.eq w v ≡ true) result }
+        ensures read { (v : T) (n : Name) (rest : List Record) (outer : Ahead) →
+            HaveDistinctTags (all_of T.alternatives) → Each CanBeChosen (all_of T.alternatives) →
+            (chosen_meaning (all_of T.alternatives) (T.pick v)).IsOfType →
+            (chosen_meaning (all_of T.alternatives) (T.pick v)).IsValid reader.takes →
+            ReadsBack reader self.old self.new
+            (alternative_records (chosen_tag (all_of T.alternatives) (T.pick v))
+            (constraint_set constraints.now)
+            (table_of T.alternatives) n
+            (chosen_meaning (all_of T.alternatives) (T.pick v)).records) rest outer
+            (λ w. T.eq w v ≡ true) result }
         ensures keeps { Keeps reader self.old self.new result }
         ensures depth_first { NeedsAllowance reader self.old result }
     {
@@ -735,7 +847,13 @@ pub trait Decoder {
     ) -> Result<S, DecodeError>
     where
         Self: Sized,
-        ensures components { (v : S) (n : Name) (rest : List Record) (outer : Ahead) → CanBeInSet (all_components S.components) → EachIsOfType (all_components S.components) v → EachIsValid (all_components S.components) reader.takes v → ReadsBack reader self.old self.new (set_records tag n (component_records S.components v)) rest outer (λ w. S.eq w v ≡ true) result }
+        ensures components { (v : S) (n : Name) (rest : List Record) (outer : Ahead) →
+            CanBeInSet (all_components S.components) →
+            EachIsOfType (all_components S.components) v →
+            EachIsValid (all_components S.components) reader.takes v →
+            ReadsBack reader self.old self.new
+            (set_records tag (lines S.components) n (component_records S.components v)) rest
+            outer (λ w. S.eq w v ≡ true) result }
         ensures as_meant { S.components.kind ≡ is_set → (c : ConstraintSet) → ReadsValue reader S.meaning S.eq tag c self.old self.new result }
         ensures depth_first { NeedsAllowance reader self.old result }
         ensures keeps { Keeps reader self.old self.new result }

@@ -1,14 +1,21 @@
 //! A component that is absent where it equals a default.
+ghost use Rattle.asn1_dec.specs.Reading.{Keeps, ReadsDefault};
+ghost use Rattle.asn1_dec.specs.Sides.{side_of};
 ghost use Rattle.asn1_dec.specs.declared.error.DecodeError.TheVariants.{Memory};
-ghost use Rattle.std.specs.Prelude.{◌≡◌, IfNone, IfSome, MatchResult, Ok, true};
+ghost use Rattle.asn1_model.specs.ConstraintSets.{constraint_set};
+ghost use Rattle.std.specs.Prelude.{◌≡◌, IfNone, IfSome, MatchResult, Ok, true, unwrap_or};
 
+use crate::decode::Decode;
 use crate::decoder::Decoder;
 use crate::error::DecodeError;
+use crate::optionals::{Side, read_optional, read_optional_with_constraints};
+use asn1_bounds::Constraints;
+use asn1_tags::Tag;
 use std::alloc::{AllocError, Global};
 
 /// The value that was read, or what the closure answers where there is none. Where it answers nothing, for want of memory, the
 /// decoder has failed.
-pub(crate) fn or_default<T: Drop, D: Decoder, F: FnOnce(Global) -> Result<T, AllocError>>(
+fn or_default<T: Drop, D: Decoder, F: FnOnce(Global) -> Result<T, AllocError>>(
     decoder: &mut D,
     value: Option<T>,
     default: F,
@@ -24,4 +31,44 @@ pub(crate) fn or_default<T: Drop, D: Decoder, F: FnOnce(Global) -> Result<T, All
             Err(_) => Err(decoder.refuse(DecodeError::Memory)),
         },
     }
+}
+
+/// A component with a default, under a tag, or the type's own where none is given, and the type's own constraints.
+pub(crate) fn read_default<T: Decode, D: Decoder, F: FnOnce(Global) -> Result<T, AllocError>>(
+    decoder: &mut D,
+    side: Side,
+    tag: Option<Tag>,
+    default: F,
+) -> Result<T, DecodeError>
+    requires { F.IsAlwaysCallable default }
+    ensures read { ReadsDefault D.reader (side_of side)
+        (λ usual. (a : _) × F.post default a (Ok usual)) T.meaning T.eq
+        (unwrap_or tag T.meaning.tag) T.meaning.constraints decoder.old decoder.new result }
+    ensures keeps { Keeps D.reader decoder.old decoder.new result }
+{
+    let value = read_optional::<T, D>(decoder, side, tag)?;
+    or_default(decoder, value, default)
+}
+
+/// The same under given constraints.
+pub(crate) fn read_default_with_constraints<
+    T: Decode,
+    D: Decoder,
+    F: FnOnce(Global) -> Result<T, AllocError>,
+>(
+    decoder: &mut D,
+    side: Side,
+    tag: Option<Tag>,
+    default: F,
+    constraints: &Constraints<'_>,
+) -> Result<T, DecodeError>
+    requires { F.IsAlwaysCallable default }
+    ensures read { ReadsDefault D.reader (side_of side)
+        (λ usual. (a : _) × F.post default a (Ok usual)) T.meaning T.eq
+        (unwrap_or tag T.meaning.tag) (constraint_set constraints.now) decoder.old decoder.new
+        result }
+    ensures keeps { Keeps D.reader decoder.old decoder.new result }
+{
+    let value = read_optional_with_constraints::<T, D>(decoder, side, tag, constraints)?;
+    or_default(decoder, value, default)
 }

@@ -1,6 +1,6 @@
 //! A SEQUENCE, by its components.
 ghost use Rattle.asn1_components.specs.ComponentLists.{CanBeInSequence, EachIsOfType, EachIsValid};
-ghost use Rattle.asn1_components.specs.Components.{all_components, component_records};
+ghost use Rattle.asn1_components.specs.Components.{all_components, component_records, lines};
 ghost use Rattle.asn1_dec.specs.Reading.{Ahead, Keeps, NeedsAllowance, ReadsBack};
 ghost use Rattle.asn1_model.specs.Composites.{sequence_records};
 ghost use Rattle.asn1_model.specs.Records.{Name, Record};
@@ -16,7 +16,13 @@ pub(crate) fn read_sequence<C: DecodeFields, D: Decoder>(
     decoder: &mut D,
     tag: Tag,
 ) -> Result<C, DecodeError>
-    ensures read { (v : C) (n : Name) (rest : List Record) (outer : Ahead) → CanBeInSequence (all_components C.components) → EachIsOfType (all_components C.components) v → EachIsValid (all_components C.components) D.reader.takes v → ReadsBack D.reader decoder.old decoder.new (sequence_records tag n (component_records C.components v)) rest outer (λ w. C.eq w v ≡ true) result }
+    ensures read { (v : C) (n : Name) (rest : List Record) (outer : Ahead) →
+        CanBeInSequence (all_components C.components) →
+        EachIsOfType (all_components C.components) v →
+        EachIsValid (all_components C.components) D.reader.takes v →
+        ReadsBack D.reader decoder.old decoder.new
+        (sequence_records tag (lines C.components) n (component_records C.components v)) rest
+        outer (λ w. C.eq w v ≡ true) result }
     ensures keeps { Keeps D.reader decoder.old decoder.new result }
     ensures depth_first { NeedsAllowance D.reader decoder.old result }
 {

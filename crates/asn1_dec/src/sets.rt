@@ -1,6 +1,6 @@
 //! A SET, by its components.
 ghost use Rattle.asn1_components.specs.ComponentLists.{EachIsOfType, EachIsValid};
-ghost use Rattle.asn1_components.specs.Components.{all_components, component_records, is_set};
+ghost use Rattle.asn1_components.specs.Components.{all_components, component_records, is_set, lines};
 ghost use Rattle.asn1_dec.specs.Reading.{Ahead, Keeps, Moves, NeedsAllowance, ReadsBack, ReadsValue, records_in};
 ghost use Rattle.asn1_model.specs.Composites.{set_records};
 ghost use Rattle.asn1_model.specs.ConstraintSets.{ConstraintSet};
@@ -26,7 +26,7 @@ fn read_parts<S: DecodeSet, D: Decoder>(
 {
     let mut parts = Vec::new(decoder.global());
     for place in 0..bound {
-        let tag = match decoder.next_component()? {
+        let tag = match decoder.next_component::<S>()? {
             Some(tag) => tag,
             None => return Ok(parts),
         };
@@ -43,13 +43,18 @@ fn read_parts<S: DecodeSet, D: Decoder>(
             Err(_) => return Err(decoder.refuse(DecodeError::Memory)),
         }
     }
-    let _ = decoder.next_component()?;
+    let _ = decoder.next_component::<S>()?;
     Ok(parts)
 }
 
 /// A SET under a tag.
 fn read_components<S: DecodeSet, D: Decoder>(decoder: &mut D, tag: Tag) -> Result<S, DecodeError>
-    ensures read { (v : S) (n : Name) (rest : List Record) (outer : Ahead) → CanBeInSet (all_components S.components) → EachIsOfType (all_components S.components) v → EachIsValid (all_components S.components) D.reader.takes v → ReadsBack D.reader decoder.old decoder.new (set_records tag n (component_records S.components v)) rest outer (λ w. S.eq w v ≡ true) result }
+    ensures read { (v : S) (n : Name) (rest : List Record) (outer : Ahead) →
+        CanBeInSet (all_components S.components) → EachIsOfType (all_components S.components) v →
+        EachIsValid (all_components S.components) D.reader.takes v →
+        ReadsBack D.reader decoder.old decoder.new
+        (set_records tag (lines S.components) n (component_records S.components v)) rest outer
+        (λ w. S.eq w v ≡ true) result }
     ensures depth_first { NeedsAllowance D.reader decoder.old result }
     ensures keeps { Keeps D.reader decoder.old decoder.new result }
 {
@@ -69,7 +74,12 @@ pub(crate) fn read_set<S: DecodeSet + ConstructedType, D: Decoder>(
     decoder: &mut D,
     tag: Tag,
 ) -> Result<S, DecodeError>
-    ensures components { (v : S) (n : Name) (rest : List Record) (outer : Ahead) → CanBeInSet (all_components S.components) → EachIsOfType (all_components S.components) v → EachIsValid (all_components S.components) D.reader.takes v → ReadsBack D.reader decoder.old decoder.new (set_records tag n (component_records S.components v)) rest outer (λ w. S.eq w v ≡ true) result }
+    ensures components { (v : S) (n : Name) (rest : List Record) (outer : Ahead) →
+        CanBeInSet (all_components S.components) → EachIsOfType (all_components S.components) v →
+        EachIsValid (all_components S.components) D.reader.takes v →
+        ReadsBack D.reader decoder.old decoder.new
+        (set_records tag (lines S.components) n (component_records S.components v)) rest outer
+        (λ w. S.eq w v ≡ true) result }
     ensures as_meant { S.components.kind ≡ is_set → (c : ConstraintSet) → ReadsValue D.reader S.meaning S.eq tag c decoder.old decoder.new result }
     ensures depth_first { NeedsAllowance D.reader decoder.old result }
     ensures keeps { Keeps D.reader decoder.old decoder.new result }

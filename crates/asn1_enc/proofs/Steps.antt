@@ -2,11 +2,12 @@
 use Rattle.std.proofs.Common.{◌≡◌, ℕ, suc, max, Bool, true, false, ◌&&◌, List, [], ◌∷◌, ◌++◌, if◌then◌else◌, refl, sym, ap, ◌∙◌, subst, append_assoc, append-nil, zero-le, arith, Some, Result, Ok, Err}
 use Rattle.std.specs.Result.{IsErrAnd}
 use Rattle.asn1_components.specs.ComponentLists.{EachIsOfType}
-use Rattle.asn1_components.specs.Components.{Components, Kind, AgreesWithComponents, all_components, component_records, head_in}
+use Rattle.asn1_components.specs.Components.{Components, Kind, AgreesWithComponents, all_components, component_records, head_in, lines}
 use Rattle.asn1_model.specs.Composites.{group_records}
 use Rattle.asn1_model.specs.ConstraintSets.{ConstraintSet}
 use Rattle.asn1_model.specs.Meaning.{Meaning}
 use Rattle.asn1_model.specs.Records.{Record, Head, Name, scalar, scope, raw, mark, group_start, group_absent, group_end, holding, height, highest, is_mark, marks_alone}
+use Rattle.asn1_model.specs.Tables.{Line, Table}
 use Rattle.asn1_model.proofs.Lists.{inner_height-held}
 use Rattle.asn1_tags.specs.declared.tags.Tag.{Tag}
 use Rattle.asn1_enc.specs.declared.error.EncodeError.{EncodeError}
@@ -16,12 +17,12 @@ use Rattle.asn1_enc.specs.Writing.{Writer, Written, outermost, in_scope, in_grou
 followed_twice : (w : Written) (rs ss : List Record) → followed_by (followed_by w rs) ss ≡ followed_by w (rs ++ ss)
 followed_twice (outermost done) rs ss = ap outermost (append_assoc done rs ss)
 followed_twice (in_scope h done outer) rs ss = ap (λ l. in_scope h l outer) (append_assoc done rs ss)
-followed_twice (in_group done outer) rs ss = ap (λ l. in_group l outer) (append_assoc done rs ss)
+followed_twice (in_group table done outer) rs ss = ap (λ l. in_group table l outer) (append_assoc done rs ss)
 
 followed_by_none : (w : Written) → w ≡ followed_by w []
 followed_by_none (outermost done) = ap outermost (sym (append-nil done))
 followed_by_none (in_scope h done outer) = ap (λ l. in_scope h l outer) (sym (append-nil done))
-followed_by_none (in_group done outer) = ap (λ l. in_group l outer) (sym (append-nil done))
+followed_by_none (in_group table done outer) = ap (λ l. in_group table l outer) (sym (append-nil done))
 
 pub highest-append : (rs ss : List Record) → highest (rs ++ ss) ≡ max (highest rs) (highest ss)
 highest-append [] ss = omega arith
@@ -50,18 +51,18 @@ marks-height (r ∷ rs) alone =
     omega (arith, mark-height r both.0, marks-height rs both.1)
 
 -- a group is as high as its components
-group-height : (b : Bool) (rs : List Record) → (b ≡ true → highest rs ≡ 0) → highest (if b then mark group_absent ∷ [] else mark group_start ∷ rs ++ mark group_end ∷ []) ≡ highest rs
-group-height true rs flat = sym (flat refl)
-group-height false rs flat = omega (arith, highest-append rs (mark group_end ∷ []))
+group-height : (table : Table Line) (b : Bool) (rs : List Record) → (b ≡ true → highest rs ≡ 0) → highest (if b then mark group_absent ∷ [] else mark (group_start table) ∷ rs ++ mark group_end ∷ []) ≡ highest rs
+group-height table true rs flat = sym (flat refl)
+group-height table false rs flat = omega (arith, highest-append rs (mark group_end ∷ []))
 
-highest-group : (rs : List Record) → highest (group_records (Some rs)) ≡ highest rs
-highest-group rs = group-height (marks_alone rs) rs (marks-height rs)
+highest-group : (table : Table Line) (rs : List Record) → highest (group_records table (Some rs)) ≡ highest rs
+highest-group table rs = group-height table (marks_alone rs) rs (marks-height rs)
 
 -- a group is rejected where its components are
-group_rejected : (rejects : List Record → Type 0) (b : Bool) (rs : List Record) → ((before rs after : List Record) → rejects rs → rejects (before ++ (rs ++ after))) → (b ≡ true → ¬ rejects rs) →
-    rejects rs → rejects (if b then mark group_absent ∷ [] else mark group_start ∷ rs ++ mark group_end ∷ [])
-group_rejected rejects true rs part marks is = absurd (marks refl is)
-group_rejected rejects false rs part marks is = part (mark group_start ∷ []) rs (mark group_end ∷ []) is
+group_rejected : (table : Table Line) (rejects : List Record → Type 0) (b : Bool) (rs : List Record) → ((before rs after : List Record) → rejects rs → rejects (before ++ (rs ++ after))) → (b ≡ true → ¬ rejects rs) →
+    rejects rs → rejects (if b then mark group_absent ∷ [] else mark (group_start table) ∷ rs ++ mark group_end ∷ [])
+group_rejected table rejects true rs part marks is = absurd (marks refl is)
+group_rejected table rejects false rs part marks is = part (mark (group_start table) ∷ []) rs (mark group_end ∷ []) is
 
 -- a refusal for want of memory is no error of depth
 refusal_is_not_deep : (b : Bool) (e : EncodeError) → (b ≡ false → e ≡ Memory) → (b ≡ true → e ≡ Failed) → ¬ (e ≡ Depth)
@@ -174,27 +175,27 @@ module _ {E : Type 0} (W : Writer E) where
     rejected = λ is w wrote. absurd (q.not_rejected is);
   }
 
-  pub group_fails : {a b c : E} {rs : List Record} {e : EncodeError} → IsLawful W → GroupIsOpen W a b → Fails W b rs c e → Fails W a (group_records (Some rs)) c e
-  group_fails {rs = rs} law p q = record {
+  pub group_fails : {a b c : E} {table : Table Line} {rs : List Record} {e : EncodeError} → IsLawful W → GroupIsOpen W a table b → Fails W b rs c e → Fails W a (group_records table (Some rs)) c e
+  group_fails {table = table} {rs} law p q = record {
     error = later_error (p.no_failure ∙ sym p.had_not_failed) q.error;
-    too_high = λ is. let high = q.too_high is in omega (arith, highest-group rs, high, p.same_allowance);
-    rejected = λ is w wrote. group_rejected W.rejects (marks_alone rs) rs law.part (law.marks rs) (q.rejected is _ (p.opened w wrote));
+    too_high = λ is. let high = q.too_high is in omega (arith, highest-group table rs, high, p.same_allowance);
+    rejected = λ is w wrote. group_rejected table W.rejects (marks_alone rs) rs law.part (law.marks rs) (q.rejected is _ (p.opened w wrote));
   }
 
-  pub writes_group : {a b c : E} {rs : List Record} {T : Type 0} (d : E) {A : Type 0} (result : Result A EncodeError) →
-      GroupIsOpen W a b → Appends W b rs T c → ClosesGroup W c d result → Writes W a (group_records (Some rs)) T d result
-  writes_group {rs = rs} d (Ok x) p q r = record {
-    written = λ w wrote. r.closed rs w (q.written (in_group [] w) (p.opened w wrote));
+  pub writes_group : {a b c : E} {table : Table Line} {rs : List Record} {T : Type 0} (d : E) {A : Type 0} (result : Result A EncodeError) →
+      GroupIsOpen W a table b → Appends W b rs T c → ClosesGroup W c d result → Writes W a (group_records table (Some rs)) T d result
+  writes_group {table = table} {rs} d (Ok x) p q r = record {
+    written = λ w wrote. r.closed table rs w (q.written (in_group table [] w) (p.opened w wrote));
     no_failure = r.no_failure ∙ sym p.had_not_failed;
     unless_failed = λ failed. absurd (let x : false ≡ true = sym p.had_not_failed ∙ failed in cc);
     same_allowance = r.same_allowance ∙ q.same_allowance ∙ p.same_allowance;
-    within_allowance = omega (arith, highest-group rs, p.same_allowance, q.within_allowance);
+    within_allowance = omega (arith, highest-group table rs, p.same_allowance, q.within_allowance);
     of_type = q.of_type;
   }
-  writes_group {rs = rs} d (Err e) p q r = record {
+  writes_group {table = table} {rs} d (Err e) p q r = record {
     error = later_error (q.no_failure ∙ p.no_failure ∙ sym p.had_not_failed) r.error;
     too_high = λ is. absurd (r.not_too_deep is);
-    rejected = λ is w wrote. r.rejected is rs w (q.written (in_group [] w) (p.opened w wrote));
+    rejected = λ is w wrote. r.rejected is table rs w (q.written (in_group table [] w) (p.opened w wrote));
   }
 
   -- What is said of the value may be said in other words.
@@ -212,9 +213,9 @@ module _ {E : Type 0} (W : Writer E) where
   -- the records of a SEQUENCE or a SET, by the law that ties its meaning to its components
   pub as_meant : {V : Type 0} (m : Meaning V) (components : Components V) (kind : Kind) (v : V) (t : Tag) (c : ConstraintSet) (n : Name) (a b : E) {A : Type 0} (result : Result A EncodeError) →
       AgreesWithComponents components m → components.kind ≡ kind →
-      Writes W a (holding (head_in kind t n) (component_records components v) ∷ []) (EachIsOfType (all_components components) v) b result →
+      Writes W a (holding (head_in kind t (lines components) n) (component_records components v) ∷ []) (EachIsOfType (all_components components) v) b result →
       Writes W a (m.records v t c n) (m.IsOfType v) b result
   as_meant m components kind v t c n a b result law is q =
       subst (λ l. Writes W a l (m.IsOfType v) b result)
-      (sym (law.records v t c n ∙ ap (λ k. holding (head_in k t n) (component_records components v) ∷ []) is))
+      (sym (law.records v t c n ∙ ap (λ k. holding (head_in k t (lines components) n) (component_records components v) ∷ []) is))
       (in_other_words a b _ result ((law.of_type v).1) q)

@@ -2,36 +2,35 @@
 use Rattle.std.specs.Prelude.{◌≡◌, List, [], ◌∷◌, ◌++◌, Result, Ok, Err, Some, refl}
 use Rattle.std.proofs.Common.{subst, ◌∙◌}
 use Rattle.asn1_model.specs.Composites.{group_records}
-use Rattle.asn1_model.specs.Records.{Record, Head, held, holding}
-use Rattle.asn1_model.proofs.SameUpToOrder.{SameAll-refl, SameAll-sym, SameAll-trans, SameAll-append, same-marks_alone, same_holding, same_group_records}
+use Rattle.asn1_model.specs.Orders.{SameRecords}
+use Rattle.asn1_model.specs.Records.{Record, Head, holding}
+use Rattle.asn1_model.specs.Tables.{Line, Table}
+use Rattle.asn1_model.proofs.SameUpToOrder.{SameRecords-refl, SameAll-sym, SameAll-trans, SameAll-append, same-marks_alone, same_holding, same_group_records}
 use Rattle.asn1_enc.specs.declared.error.EncodeError.{EncodeError}
 use Rattle.asn1_enc.specs.Orders.{RejectsByParts, WroteUpToOrder, RejectsUpToOrder, up_to_order}
-use Rattle.asn1_enc.specs.Writing.{Writer, Written, outermost, in_scope, in_group, followed_by, SameRecords, SameWritten, same_outermost, same_scope, same_group, IsLawful, Appends, IsError, Fails, Writes, ScopeIsOpen, ScopeIsNotOpen, Opens, ScopeIsClosed, ScopeIsNotClosed, Closes, GroupIsOpen, GroupIsNotOpen, OpensGroup, GroupIsClosed, GroupIsNotClosed, ClosesGroup, Refuses}
+use Rattle.asn1_enc.specs.Writing.{Writer, Written, outermost, in_scope, in_group, followed_by, SameWritten, same_outermost, same_scope, same_group, IsLawful, Appends, IsError, Fails, Writes, ScopeIsOpen, ScopeIsNotOpen, Opens, ScopeIsClosed, ScopeIsNotClosed, Closes, GroupIsOpen, GroupIsNotOpen, OpensGroup, GroupIsClosed, GroupIsNotClosed, ClosesGroup, Refuses}
 
--- Lists of records that are the same, and what has been written.
-pub SameRecords-refl : (rs : List Record) → SameRecords rs rs
-SameRecords-refl rs = SameAll-refl (held rs)
-
+-- What has been written is the same.
 pub SameWritten-refl : (w : Written) → SameWritten w w
 SameWritten-refl (outermost rs) = same_outermost (SameRecords-refl rs)
 SameWritten-refl (in_scope h rs w) = same_scope h (SameRecords-refl rs) (SameWritten-refl w)
-SameWritten-refl (in_group rs w) = same_group (SameRecords-refl rs) (SameWritten-refl w)
+SameWritten-refl (in_group table rs w) = same_group table (SameRecords-refl rs) (SameWritten-refl w)
 
 pub SameWritten-sym : {w x : Written} → SameWritten w x → SameWritten x w
 SameWritten-sym (same_outermost rs) = same_outermost (SameAll-sym rs)
 SameWritten-sym (same_scope h rs w) = same_scope h (SameAll-sym rs) (SameWritten-sym w)
-SameWritten-sym (same_group rs w) = same_group (SameAll-sym rs) (SameWritten-sym w)
+SameWritten-sym (same_group table rs w) = same_group table (SameAll-sym rs) (SameWritten-sym w)
 
 pub SameWritten-trans : {w x y : Written} → SameWritten w x → SameWritten x y → SameWritten w y
 SameWritten-trans (same_outermost rs) (same_outermost ss) = same_outermost (SameAll-trans rs ss)
 SameWritten-trans (same_scope h rs w) (same_scope _ ss x) = same_scope h (SameAll-trans rs ss) (SameWritten-trans w x)
-SameWritten-trans (same_group rs w) (same_group ss x) = same_group (SameAll-trans rs ss) (SameWritten-trans w x)
+SameWritten-trans (same_group table rs w) (same_group _ ss x) = same_group table (SameAll-trans rs ss) (SameWritten-trans w x)
 
 -- with more records that are the same
 pub same_followed_by : {w x : Written} (rs ss : List Record) → SameWritten w x → SameRecords rs ss → SameWritten (followed_by w rs) (followed_by x ss)
 same_followed_by rs ss (same_outermost {rs = ds} {ss = es} done) more = same_outermost (SameAll-append ds es rs ss done more)
 same_followed_by rs ss (same_scope h {rs = ds} {ss = es} done outer) more = same_scope h (SameAll-append ds es rs ss done more) outer
-same_followed_by rs ss (same_group {rs = ds} {ss = es} done outer) more = same_group (SameAll-append ds es rs ss done more) outer
+same_followed_by rs ss (same_group table {rs = ds} {ss = es} done outer) more = same_group table (SameAll-append ds es rs ss done more) outer
 
 -- What is the same as one outermost list, as a scope that is open, or as a group.
 pub record OutermostIsTheSame (x : Written) (rs : List Record) : Type 0 where
@@ -52,15 +51,15 @@ pub record ScopeIsTheSame (x : Written) (h : Head) (rs : List Record) (w : Writt
 pub same_as_scope : {x : Written} {h : Head} {rs : List Record} {w : Written} → SameWritten x (in_scope h rs w) → ScopeIsTheSame x h rs w
 same_as_scope (same_scope h {rs = ss} {w = y} same outer) = record { records = ss; outer = y; is = refl; same = same; same_outer = outer }
 
-pub record GroupIsTheSame (x : Written) (rs : List Record) (w : Written) : Type 0 where
+pub record GroupIsTheSame (x : Written) (table : Table Line) (rs : List Record) (w : Written) : Type 0 where
   pub records : List Record
   pub outer : Written
-  pub is : x ≡ in_group records outer
+  pub is : x ≡ in_group table records outer
   pub same : SameRecords records rs
   pub same_outer : SameWritten outer w
 
-pub same_as_group : {x : Written} {rs : List Record} {w : Written} → SameWritten x (in_group rs w) → GroupIsTheSame x rs w
-same_as_group (same_group {rs = ss} {w = y} same outer) = record { records = ss; outer = y; is = refl; same = same; same_outer = outer }
+pub same_as_group : {x : Written} {table : Table Line} {rs : List Record} {w : Written} → SameWritten x (in_group table rs w) → GroupIsTheSame x table rs w
+same_as_group (same_group table {rs = ss} {w = y} same outer) = record { records = ss; outer = y; is = refl; same = same; same_outer = outer }
 
 module _ {E : Type 0} (W : Writer E) where
   -- what holds exactly holds up to order
@@ -158,9 +157,9 @@ module _ {E : Type 0} (W : Writer E) where
         };
   }
 
-  pub group_is_open : {old new : E} → GroupIsOpen W old new → GroupIsOpen (up_to_order W) old new
-  group_is_open p = record {
-    opened = λ w q. record { exactly = in_group [] q.exactly; wrote = p.opened q.exactly q.wrote; same = same_group (SameRecords-refl []) q.same };
+  pub group_is_open : {old new : E} {table : Table Line} → GroupIsOpen W old table new → GroupIsOpen (up_to_order W) old table new
+  group_is_open {table = table} p = record {
+    opened = λ w q. record { exactly = in_group table [] q.exactly; wrote = p.opened q.exactly q.wrote; same = same_group table (SameRecords-refl []) q.same };
     had_not_failed = p.had_not_failed;
     no_failure = p.no_failure;
     same_allowance = p.same_allowance;
@@ -171,12 +170,12 @@ module _ {E : Type 0} (W : Writer E) where
 
   pub group_is_closed : {old new : E} → GroupIsClosed W old new → GroupIsClosed (up_to_order W) old new
   group_is_closed {old} p = record {
-    closed = λ rs w q.
+    closed = λ table rs w q.
         let s = same_as_group q.same in
         record {
-          exactly = followed_by s.outer (group_records (Some s.records));
-          wrote = p.closed s.records s.outer (subst (λ y. W.wrote old y) s.is q.wrote);
-          same = same_followed_by (group_records (Some s.records)) (group_records (Some rs)) s.same_outer (same_group_records s.records rs s.same);
+          exactly = followed_by s.outer (group_records table (Some s.records));
+          wrote = p.closed table s.records s.outer (subst (λ y. W.wrote old y) s.is q.wrote);
+          same = same_followed_by (group_records table (Some s.records)) (group_records table (Some rs)) s.same_outer (same_group_records table s.records rs s.same);
         };
     had_not_failed = p.had_not_failed;
     no_failure = p.no_failure;
@@ -187,12 +186,12 @@ module _ {E : Type 0} (W : Writer E) where
   group_is_not_closed {old} p = record {
     error = is_error p.error;
     not_too_deep = p.not_too_deep;
-    rejected = λ custom rs w q.
+    rejected = λ custom table rs w q.
         let s = same_as_group q.same in
         record {
-          exactly = group_records (Some s.records);
-          rejects = p.rejected custom s.records s.outer (subst (λ y. W.wrote old y) s.is q.wrote);
-          same = same_group_records s.records rs s.same;
+          exactly = group_records table (Some s.records);
+          rejects = p.rejected custom table s.records s.outer (subst (λ y. W.wrote old y) s.is q.wrote);
+          same = same_group_records table s.records rs s.same;
         };
   }
 
@@ -212,9 +211,9 @@ module _ {E : Type 0} (W : Writer E) where
   closes old new (Ok x) p = scope_is_closed p
   closes old new (Err e) p = scope_is_not_closed p
 
-  pub opens_group : (old new : E) {A : Type 0} (result : Result A EncodeError) → OpensGroup W old new result → OpensGroup (up_to_order W) old new result
-  opens_group old new (Ok x) p = group_is_open p
-  opens_group old new (Err e) p = group_is_not_open p
+  pub opens_group : (old new : E) (table : Table Line) {A : Type 0} (result : Result A EncodeError) → OpensGroup W old table new result → OpensGroup (up_to_order W) old table new result
+  opens_group old new table (Ok x) p = group_is_open p
+  opens_group old new table (Err e) p = group_is_not_open p
 
   pub closes_group : (old new : E) {A : Type 0} (result : Result A EncodeError) → ClosesGroup W old new result → ClosesGroup (up_to_order W) old new result
   closes_group old new (Ok x) p = group_is_closed p

@@ -1,7 +1,8 @@
 -- What a codec says of itself where the order inside sets means nothing, by what it says of the very records that it wrote.
 use Rattle.std.specs.Prelude.{◌≡◌, true, List, [], ◌∷◌, ◌++◌}
+use Rattle.asn1_model.specs.Orders.{SameRecords}
 use Rattle.asn1_model.specs.Records.{Record, Head, holding, marks_alone}
-use Rattle.asn1_enc.specs.Writing.{Writer, Written, SameRecords, SameWritten}
+use Rattle.asn1_enc.specs.Writing.{Writer, Written, SameWritten}
 
 module _ {E : Type 0} (W : Writer E) where
   -- What a codec rejects, apart from order. Records are rejected where a part of them is, or what one of them holds;

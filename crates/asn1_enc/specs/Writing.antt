@@ -1,32 +1,31 @@
 -- What an encoder has written, and what a call of it does.
-use Rattle.std.specs.Prelude.{◌≡◌, ◌≢◌, ◌↔◌, ℕ, suc, ◌≤◌, ◌<◌, ⊤, Bool, true, false, List, [], ◌∷◌, ◌++◌, MatchResult, Result, Some}
+use Rattle.std.specs.Prelude.{◌≡◌, ◌≢◌, ◌↔◌, ℕ, suc, ◌≤◌, ◌<◌, ⊤, Bool, true, false, List, [], ◌∷◌, ◌++◌, Err, MatchResult, Result, Some}
 use Rattle.asn1_model.specs.Composites.{group_records}
-use Rattle.asn1_model.specs.Orders.{SameAll}
-use Rattle.asn1_model.specs.Records.{Record, Head, held, holding, highest, marks_alone}
+use Rattle.asn1_model.specs.Orders.{SameRecords}
+use Rattle.asn1_model.specs.Records.{Record, Head, holding, highest, marks_alone}
+use Rattle.asn1_model.specs.Tables.{Line, Table}
 use Rattle.asn1_enc.specs.declared.error.EncodeError.{EncodeError}
 use Rattle.asn1_enc.specs.declared.error.EncodeError.TheVariants.{Memory, Depth, Failed, Custom}
 
--- What has been written: the records of the outermost list, and of each scope and group that is open, innermost first.
+-- What has been written: the records of the outermost list, and of each scope and group that is open, innermost first. A group
+-- has a table of its own.
 pub data Written : Type 0 where
   outermost : List Record → Written
   in_scope : Head → List Record → Written → Written
-  in_group : List Record → Written → Written
+  in_group : Table Line → List Record → Written → Written
 
 -- with more records in the innermost list
 abbrev pub followed_by : Written → List Record → Written
 followed_by (outermost done) rs = outermost (done ++ rs)
 followed_by (in_scope h done outer) rs = in_scope h (done ++ rs) outer
-followed_by (in_group done outer) rs = in_group (done ++ rs) outer
-
--- Lists of records that are the same up to the order inside sets.
-abbrev pub SameRecords : List Record → List Record → Type 0
-SameRecords rs ss = SameAll (held rs) (held ss)
+followed_by (in_group table done outer) rs = in_group table (done ++ rs) outer
 
 -- What has been written is the same, list by list, up to the order inside sets.
 pub data SameWritten : Written → Written → Type 0 where
   same_outermost : {rs ss : List Record} → SameRecords rs ss → SameWritten (outermost rs) (outermost ss)
   same_scope : (h : Head) {rs ss : List Record} {w x : Written} → SameRecords rs ss → SameWritten w x → SameWritten (in_scope h rs w) (in_scope h ss x)
-  same_group : {rs ss : List Record} {w x : Written} → SameRecords rs ss → SameWritten w x → SameWritten (in_group rs w) (in_group ss x)
+  same_group : (table : Table Line) {rs ss : List Record} {w x : Written} → SameRecords rs ss →
+      SameWritten w x → SameWritten (in_group table rs w) (in_group table ss x)
 
 -- the error has a message of the codec's own: the records were rejected
 abbrev pub IsCustom : EncodeError → Type 0
@@ -93,6 +92,11 @@ module _ {E : Type 0} (W : Writer E) where
     pub depth_first : W.failed old ≡ false → W.allowance old ≡ 0 → e ≡ Depth
     pub rejected : IsCustom e → (rs : List Record) → W.rejects (holding h rs ∷ [])
 
+  -- A call that opens a scope before anything else: where there is no allowance it says so, and so before anything but that the
+  -- encoder has failed.
+  abbrev pub NeedsAllowance : {A : Type 0} → E → Result A EncodeError → Type 0
+  NeedsAllowance old result = W.failed old ≡ false → W.allowance old ≡ 0 → result ≡ Err Depth
+
   -- a call that opens a scope
   abbrev pub Opens : {A : Type 0} → E → Head → E → Result A EncodeError → Type 0
   Opens old h new result = MatchResult result (λ _. ScopeIsOpen old h new) (ScopeIsNotOpen old h new)
@@ -114,9 +118,9 @@ module _ {E : Type 0} (W : Writer E) where
   abbrev pub Closes : {A : Type 0} → E → E → Result A EncodeError → Type 0
   Closes old new result = MatchResult result (λ _. ScopeIsClosed old new) (ScopeIsNotClosed old new)
 
-  -- A group of additions has been opened, which is no scope.
-  pub record GroupIsOpen (old new : E) : Type 0 where
-    pub opened : (w : Written) → W.wrote old w → W.wrote new (in_group [] w)
+  -- A group of additions of this table has been opened, which is no scope.
+  pub record GroupIsOpen (old : E) (table : Table Line) (new : E) : Type 0 where
+    pub opened : (w : Written) → W.wrote old w → W.wrote new (in_group table [] w)
     pub had_not_failed : W.failed old ≡ false
     pub no_failure : W.failed new ≡ false
     pub same_allowance : W.allowance new ≡ W.allowance old
@@ -128,12 +132,15 @@ module _ {E : Type 0} (W : Writer E) where
     pub not_rejected : ¬ IsCustom e
 
   -- a call that opens a group
-  abbrev pub OpensGroup : {A : Type 0} → E → E → Result A EncodeError → Type 0
-  OpensGroup old new result = MatchResult result (λ _. GroupIsOpen old new) (GroupIsNotOpen old new)
+  abbrev pub OpensGroup : {A : Type 0} → E → Table Line → E → Result A EncodeError → Type 0
+  OpensGroup old table new result = MatchResult result (λ _. GroupIsOpen old table new)
+      (GroupIsNotOpen old new)
 
   -- The innermost group has been closed. It is absent where its components are marks alone.
   pub record GroupIsClosed (old new : E) : Type 0 where
-    pub closed : (rs : List Record) (w : Written) → W.wrote old (in_group rs w) → W.wrote new (followed_by w (group_records (Some rs)))
+    pub closed : (table : Table Line) (rs : List Record) (w : Written) →
+        W.wrote old (in_group table rs w) →
+        W.wrote new (followed_by w (group_records table (Some rs)))
     pub had_not_failed : W.failed old ≡ false
     pub no_failure : W.failed new ≡ false
     pub same_allowance : W.allowance new ≡ W.allowance old
@@ -142,7 +149,8 @@ module _ {E : Type 0} (W : Writer E) where
   pub record GroupIsNotClosed (old new : E) (e : EncodeError) : Type 0 where
     pub error : IsError old new e
     pub not_too_deep : e ≢ Depth
-    pub rejected : IsCustom e → (rs : List Record) (w : Written) → W.wrote old (in_group rs w) → W.rejects (group_records (Some rs))
+    pub rejected : IsCustom e → (table : Table Line) (rs : List Record) (w : Written) →
+        W.wrote old (in_group table rs w) → W.rejects (group_records table (Some rs))
 
   -- a call that closes the innermost group
   abbrev pub ClosesGroup : {A : Type 0} → E → E → Result A EncodeError → Type 0

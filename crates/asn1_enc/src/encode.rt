@@ -12,6 +12,7 @@ ghost use Rattle.std.specs.Prelude.{◌≡◌};
 
 use crate::encoder::Encoder;
 use crate::error::EncodeError;
+use crate::own_constraints::make_constraints;
 use asn1_bounds::Constraints;
 use asn1_choices::Choice;
 use asn1_components::FieldTable;
@@ -38,7 +39,9 @@ pub trait Encode: AsnType {
     final fn encode<E: Encoder>(&self, encoder: &mut E) -> Result<(), EncodeError>
         ensures { Writes E.writer encoder.old (own_records Self.meaning self.now) (Self.meaning.IsOfType self.now) encoder.new result }
     {
-        self.encode_with_tag_and_identifier(encoder, Self::tag(), Self::identifier())
+        let table = Self::table();
+        let constraints = make_constraints(encoder, &table)?;
+        self.encode_with_tag_and_constraints(encoder, table.tag, &constraints, table.identifier)
     }
 
     /// Writes the value under a tag.
@@ -49,7 +52,9 @@ pub trait Encode: AsnType {
     ) -> Result<(), EncodeError>
         ensures { Writes E.writer encoder.old (Self.meaning.records self.now tag Self.meaning.constraints Self.meaning.name) (Self.meaning.IsOfType self.now) encoder.new result }
     {
-        self.encode_with_tag_and_identifier(encoder, tag, Self::identifier())
+        let table = Self::table();
+        let constraints = make_constraints(encoder, &table)?;
+        self.encode_with_tag_and_constraints(encoder, tag, &constraints, table.identifier)
     }
 
     /// Writes the value under a name.
@@ -60,7 +65,9 @@ pub trait Encode: AsnType {
     ) -> Result<(), EncodeError>
         ensures { Writes E.writer encoder.old (Self.meaning.records self.now Self.meaning.tag Self.meaning.constraints (name_of name)) (Self.meaning.IsOfType self.now) encoder.new result }
     {
-        self.encode_with_tag_and_identifier(encoder, Self::tag(), name)
+        let table = Self::table();
+        let constraints = make_constraints(encoder, &table)?;
+        self.encode_with_tag_and_constraints(encoder, table.tag, &constraints, name)
     }
 
     /// Writes the value under a tag and a name.
@@ -72,9 +79,7 @@ pub trait Encode: AsnType {
     ) -> Result<(), EncodeError>
         ensures { Writes E.writer encoder.old (Self.meaning.records self.now tag Self.meaning.constraints (name_of name)) (Self.meaning.IsOfType self.now) encoder.new result }
     {
-        let Ok(constraints) = Self::constraints(encoder.global()) else {
-            return Err(encoder.refuse_memory());
-        };
+        let constraints = make_constraints(encoder, &Self::table())?;
         self.encode_with_tag_and_constraints(encoder, tag, &constraints, name)
     }
 
@@ -86,7 +91,8 @@ pub trait Encode: AsnType {
     ) -> Result<(), EncodeError>
         ensures { Writes E.writer encoder.old (Self.meaning.records self.now Self.meaning.tag (constraint_set constraints.now) Self.meaning.name) (Self.meaning.IsOfType self.now) encoder.new result }
     {
-        self.encode_with_tag_and_constraints(encoder, Self::tag(), constraints, Self::identifier())
+        let table = Self::table();
+        self.encode_with_tag_and_constraints(encoder, table.tag, constraints, table.identifier)
     }
 
     /// Writes the value under constraints and a name.

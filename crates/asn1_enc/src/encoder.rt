@@ -1,14 +1,15 @@
 //! What a codec writes with.
-ghost use Rattle.asn1_choices.specs.Alternatives.{all_of, chosen_meaning};
+ghost use Rattle.asn1_choices.specs.Alternatives.{all_of, chosen_meaning, table_of};
 ghost use Rattle.asn1_choices.specs.ChosenTags.{chosen_tag as tag_of_chosen};
 ghost use Rattle.asn1_components.specs.ComponentLists.{EachIsOfType};
-ghost use Rattle.asn1_components.specs.Components.{all_components, component_records, is_sequence, is_set};
-ghost use Rattle.asn1_enc.specs.Writing.{Closes, ClosesGroup, IsLawful, Opens, OpensGroup, Refuses, Writer, Writes};
+ghost use Rattle.asn1_components.specs.Components.{all_components, component_records, is_sequence, is_set, lines};
+ghost use Rattle.asn1_enc.specs.Writing.{Closes, ClosesGroup, IsLawful, NeedsAllowance, Opens, OpensGroup, Refuses, Writer, Writes};
 ghost use Rattle.asn1_enumerations.specs.Enumerations.{number_of};
+ghost use Rattle.asn1_enumerations.specs.Labels.{labels_of};
 ghost use Rattle.asn1_model.specs.Composites.{alternative_records, default_records, group_records, list_records, option_records, prefix_records, raw_records, sequence_records, set_of_records, set_records};
 ghost use Rattle.asn1_model.specs.ConstraintSets.{constraint_set, unconstrained};
 ghost use Rattle.asn1_model.specs.Meaning.{own_records};
-ghost use Rattle.asn1_model.specs.Records.{absent, alternative, arcs, bits, bmp, discriminant, general, graphic, group_absent, ia5, mark, null, number, numeric, octet, prefix, present, printable, scalar, sequence, sequence_of, set, set_of, teletex, truth, units, utf8, visible};
+ghost use Rattle.asn1_model.specs.Records.{absent, alternative, arcs, bits, bmp, discriminant, general, graphic, group_absent, ia5, in_additions, in_root, mark, null, number, numeric, octet, prefix, present, printable, scalar, sequence, sequence_of, set, set_of, teletex, truth, units, utf8, visible};
 ghost use Rattle.asn1_tags.specs.Names.{name_of};
 ghost use Rattle.asn1_strings.specs.Alphabets.{is_ia5, is_numeric, is_printable, is_visible};
 ghost use Rattle.std.specs.List.{flat_map};
@@ -17,19 +18,22 @@ ghost use Rattle.std.specs.Prelude.{◌≡◌, ◌<◌, ◌^◌, [], ◌∷◌, 
 ghost use Rattle.std.specs.Str.{IsUtf8};
 
 use crate::encode::{Encode, EncodeChoice, EncodeFields};
-use crate::enumerated_value::EnumeratedValue;
 use crate::error::EncodeError;
+use crate::own_constraints::make_constraints;
 use asn1_bounds::{Codec, Constraints};
 use asn1_choices::{Choice, ChoiceType};
 use asn1_components::{ConstructedType, FieldTable};
-use asn1_enumerations::Enumerated;
+use asn1_enumerations::{Enumerated, EnumeratedTable};
 use asn1_model::AsnType;
+use asn1_strings::kind::{
+    Bits, Bmp, General, Graphic, Ia5, Numeric, Octets, Printable, Teletex, Visible,
+};
 use asn1_strings::{
     BmpString, GeneralString, GraphicString, Ia5String, NumericString, PrintableString,
     TeletexString, VisibleString,
 };
 use asn1_tags::{Identifier, Tag};
-use asn1_types::{Any, SetOf};
+use asn1_types::{Any, CodecString, SetOf, Utf8};
 use asn1_values::IntegerType;
 use std::alloc::{AllocError, Global};
 
@@ -69,14 +73,17 @@ pub trait Encoder {
     fn encode_null(&mut self, tag: Tag, name: Identifier) -> Result<(), EncodeError>
         ensures { Writes writer self.old (scalar tag unconstrained (name_of name) null ∷ []) ⊤ self.new result };
 
-    /// A value of an ENUMERATED type, whose number is its content.
-    fn encode_enumerated_value(
+    /// The number of a value of an ENUMERATED type, whose items are those of the table of `E`: some codecs write the number,
+    /// some the item's name, and some its place.
+    fn encode_enumerated_number<E: EnumeratedTable>(
         &mut self,
         tag: Tag,
-        value: EnumeratedValue,
+        number: isize,
         name: Identifier,
     ) -> Result<(), EncodeError>
-        ensures { Writes writer self.old (scalar tag unconstrained (name_of name) (discriminant value.number) ∷ []) ⊤ self.new result };
+        ensures { Writes writer self.old
+            (scalar tag unconstrained (name_of name) (discriminant E.labels number) ∷ []) ⊤
+            self.new result };
 
     /// An OBJECT IDENTIFIER, by its arcs.
     fn encode_object_identifier(
@@ -97,115 +104,19 @@ pub trait Encoder {
     ) -> Result<(), EncodeError>
         ensures { Writes writer self.old (scalar tag (constraint_set constraints.now) (name_of name) (number (T.number value.now)) ∷ []) (T.fits (T.number value.now)) self.new result };
 
-    /// A BIT STRING.
-    fn encode_bit_string(
+    /// A string of the kind `K`, by its units. The kind makes of them the string of whatever kind that a codec looks at
+    /// ([`CodecString::as_any`]).
+    fn encode_string<U, K: CodecString<U>>(
         &mut self,
         tag: Tag,
         constraints: &Constraints<'_>,
-        value: &[bool],
+        value: &[U],
         name: Identifier,
     ) -> Result<(), EncodeError>
-        ensures { Writes writer self.old (scalar tag (constraint_set constraints.now) (name_of name) (bits value.now) ∷ []) ⊤ self.new result };
-
-    /// An OCTET STRING.
-    fn encode_octet_string(
-        &mut self,
-        tag: Tag,
-        constraints: &Constraints<'_>,
-        value: &[u8],
-        name: Identifier,
-    ) -> Result<(), EncodeError>
-        ensures { Writes writer self.old (scalar tag (constraint_set constraints.now) (name_of name) (units octet value.now) ∷ []) (All (λ unit. unit < 2 ^ 8) value.now) self.new result };
-
-    /// A UTF8String.
-    fn encode_utf8_string(
-        &mut self,
-        tag: Tag,
-        constraints: &Constraints<'_>,
-        value: &str,
-        name: Identifier,
-    ) -> Result<(), EncodeError>
-        ensures { Writes writer self.old (scalar tag (constraint_set constraints.now) (name_of name) (units utf8 value.now) ∷ []) (IsUtf8 value.now) self.new result };
-
-    /// A GeneralString.
-    fn encode_general_string(
-        &mut self,
-        tag: Tag,
-        constraints: &Constraints<'_>,
-        value: &GeneralString,
-        name: Identifier,
-    ) -> Result<(), EncodeError>
-        ensures { Writes writer self.old (scalar tag (constraint_set constraints.now) (name_of name) (units general value.now) ∷ []) (All (λ unit. unit < 2 ^ 8) value.now) self.new result };
-
-    /// A GraphicString.
-    fn encode_graphic_string(
-        &mut self,
-        tag: Tag,
-        constraints: &Constraints<'_>,
-        value: &GraphicString,
-        name: Identifier,
-    ) -> Result<(), EncodeError>
-        ensures { Writes writer self.old (scalar tag (constraint_set constraints.now) (name_of name) (units graphic value.now) ∷ []) (All (λ unit. unit < 2 ^ 8) value.now) self.new result };
-
-    /// A VisibleString.
-    fn encode_visible_string(
-        &mut self,
-        tag: Tag,
-        constraints: &Constraints<'_>,
-        value: &VisibleString,
-        name: Identifier,
-    ) -> Result<(), EncodeError>
-        ensures { Writes writer self.old (scalar tag (constraint_set constraints.now) (name_of name) (units visible value.now) ∷ []) (All (λ unit. IsTrue (is_visible unit)) value.now) self.new result };
-
-    /// An IA5String.
-    fn encode_ia5_string(
-        &mut self,
-        tag: Tag,
-        constraints: &Constraints<'_>,
-        value: &Ia5String,
-        name: Identifier,
-    ) -> Result<(), EncodeError>
-        ensures { Writes writer self.old (scalar tag (constraint_set constraints.now) (name_of name) (units ia5 value.now) ∷ []) (All (λ unit. IsTrue (is_ia5 unit)) value.now) self.new result };
-
-    /// A PrintableString.
-    fn encode_printable_string(
-        &mut self,
-        tag: Tag,
-        constraints: &Constraints<'_>,
-        value: &PrintableString,
-        name: Identifier,
-    ) -> Result<(), EncodeError>
-        ensures { Writes writer self.old (scalar tag (constraint_set constraints.now) (name_of name) (units printable value.now) ∷ []) (All (λ unit. IsTrue (is_printable unit)) value.now) self.new result };
-
-    /// A NumericString.
-    fn encode_numeric_string(
-        &mut self,
-        tag: Tag,
-        constraints: &Constraints<'_>,
-        value: &NumericString,
-        name: Identifier,
-    ) -> Result<(), EncodeError>
-        ensures { Writes writer self.old (scalar tag (constraint_set constraints.now) (name_of name) (units numeric value.now) ∷ []) (All (λ unit. IsTrue (is_numeric unit)) value.now) self.new result };
-
-    /// A TeletexString.
-    fn encode_teletex_string(
-        &mut self,
-        tag: Tag,
-        constraints: &Constraints<'_>,
-        value: &TeletexString,
-        name: Identifier,
-    ) -> Result<(), EncodeError>
-        ensures { Writes writer self.old (scalar tag (constraint_set constraints.now) (name_of name) (units teletex value.now) ∷ []) (All (λ unit. unit < 2 ^ 32) value.now) self.new result };
-
-    /// A BMPString.
-    fn encode_bmp_string(
-        &mut self,
-        tag: Tag,
-        constraints: &Constraints<'_>,
-        value: &BmpString,
-        name: Identifier,
-    ) -> Result<(), EncodeError>
-        ensures { Writes writer self.old (scalar tag (constraint_set constraints.now) (name_of name) (units bmp value.now) ∷ []) (All (λ unit. unit < 2 ^ 16) value.now) self.new result };
+        requires { K.AreOfKind value.now }
+        ensures { Writes writer self.old
+            (scalar tag (constraint_set constraints.now) (name_of name) (K.content value.now) ∷ [])
+            ⊤ self.new result };
 
     /// A value of an open type, by its bytes, under whatever tag.
     fn encode_any(&mut self, tag: Tag, value: &Any, name: Identifier) -> Result<(), EncodeError>
@@ -213,19 +124,19 @@ pub trait Encoder {
 
     /// The mark of a component of the root that is there.
     fn mark_present(&mut self, tag: Tag) -> Result<(), EncodeError>
-        ensures { Writes writer self.old (mark (present tag) ∷ []) ⊤ self.new result };
+        ensures { Writes writer self.old (mark (present in_root tag) ∷ []) ⊤ self.new result };
 
     /// The mark of a component of the root that is absent.
     fn mark_absent(&mut self, tag: Tag) -> Result<(), EncodeError>
-        ensures { Writes writer self.old (mark (absent tag) ∷ []) ⊤ self.new result };
+        ensures { Writes writer self.old (mark (absent in_root tag) ∷ []) ⊤ self.new result };
 
     /// The mark of an addition that is there.
     fn mark_addition_present(&mut self, tag: Tag) -> Result<(), EncodeError>
-        ensures { Writes writer self.old (mark (present tag) ∷ []) ⊤ self.new result };
+        ensures { Writes writer self.old (mark (present in_additions tag) ∷ []) ⊤ self.new result };
 
     /// The mark of an addition that is absent.
     fn mark_addition_absent(&mut self, tag: Tag) -> Result<(), EncodeError>
-        ensures { Writes writer self.old (mark (absent tag) ∷ []) ⊤ self.new result };
+        ensures { Writes writer self.old (mark (absent in_additions tag) ∷ []) ⊤ self.new result };
 
     /// The mark of a group of additions that is absent.
     fn mark_group_absent(&mut self) -> Result<(), EncodeError>
@@ -237,11 +148,13 @@ pub trait Encoder {
         tag: Tag,
         name: Identifier,
     ) -> Result<(), EncodeError>
-        ensures { Opens writer self.old (sequence tag (name_of name)) self.new result };
+        ensures { Opens writer self.old (sequence tag (lines C.components) (name_of name))
+            self.new result };
 
     /// Opens a SET, whose components are those of the table of `C`.
     fn open_set<C: FieldTable>(&mut self, tag: Tag, name: Identifier) -> Result<(), EncodeError>
-        ensures { Opens writer self.old (set tag (name_of name)) self.new result };
+        ensures { Opens writer self.old (set tag (lines C.components) (name_of name))
+            self.new result };
 
     /// Opens a SEQUENCE OF so many elements.
     fn open_sequence_of(
@@ -274,7 +187,9 @@ pub trait Encoder {
         constraints: &Constraints<'_>,
         name: Identifier,
     ) -> Result<(), EncodeError>
-        ensures { Opens writer self.old (alternative chosen (constraint_set constraints.now) (name_of name)) self.new result };
+        ensures { Opens writer self.old
+            (alternative chosen (constraint_set constraints.now) (table_of T.alternatives)
+            (name_of name)) self.new result };
 
     /// Closes the innermost scope.
     fn close(&mut self) -> Result<(), EncodeError>
@@ -283,7 +198,7 @@ pub trait Encoder {
     /// Opens a group of additions, whose components are those of the table of `C`. It is no scope, and takes nothing from the
     /// allowance.
     fn open_group<C: FieldTable>(&mut self) -> Result<(), EncodeError>
-        ensures { OpensGroup writer self.old self.new result };
+        ensures { OpensGroup writer self.old (lines C.components) self.new result };
 
     /// Closes the innermost group, which is absent where it holds marks alone.
     fn close_group(&mut self) -> Result<(), EncodeError>
@@ -291,6 +206,200 @@ pub trait Encoder {
 
     // The law of a codec.
     ghost lawful: { IsLawful writer };
+
+    /// A BIT STRING.
+    final fn encode_bit_string(
+        &mut self,
+        tag: Tag,
+        constraints: &Constraints<'_>,
+        value: &[bool],
+        name: Identifier,
+    ) -> Result<(), EncodeError>
+    where
+        Self: Sized,
+        ensures { Writes writer self.old
+            (scalar tag (constraint_set constraints.now) (name_of name) (bits value.now) ∷ [])
+            ⊤ self.new result }
+    {
+        self.encode_string::<bool, Bits>(tag, constraints, value, name)
+    }
+
+    /// An OCTET STRING.
+    final fn encode_octet_string(
+        &mut self,
+        tag: Tag,
+        constraints: &Constraints<'_>,
+        value: &[u8],
+        name: Identifier,
+    ) -> Result<(), EncodeError>
+    where
+        Self: Sized,
+        ensures { Writes writer self.old
+            (scalar tag (constraint_set constraints.now) (name_of name)
+            (units octet value.now) ∷ [])
+            (All (λ unit. unit < 2 ^ 8) value.now) self.new result }
+    {
+        self.encode_string::<u8, Octets>(tag, constraints, value, name)
+    }
+
+    /// A UTF8String.
+    final fn encode_utf8_string(
+        &mut self,
+        tag: Tag,
+        constraints: &Constraints<'_>,
+        value: &str,
+        name: Identifier,
+    ) -> Result<(), EncodeError>
+    where
+        Self: Sized,
+        ensures { Writes writer self.old
+            (scalar tag (constraint_set constraints.now) (name_of name) (units utf8 value.now) ∷ [])
+            (IsUtf8 value.now) self.new result }
+    {
+        self.encode_string::<u8, Utf8>(tag, constraints, value.as_bytes(), name)
+    }
+
+    /// A GeneralString.
+    final fn encode_general_string(
+        &mut self,
+        tag: Tag,
+        constraints: &Constraints<'_>,
+        value: &GeneralString,
+        name: Identifier,
+    ) -> Result<(), EncodeError>
+    where
+        Self: Sized,
+        ensures { Writes writer self.old
+            (scalar tag (constraint_set constraints.now) (name_of name)
+            (units general value.now) ∷ [])
+            (All (λ unit. unit < 2 ^ 8) value.now) self.new result }
+    {
+        self.encode_string::<u8, General>(tag, constraints, value.as_slice(), name)
+    }
+
+    /// A GraphicString.
+    final fn encode_graphic_string(
+        &mut self,
+        tag: Tag,
+        constraints: &Constraints<'_>,
+        value: &GraphicString,
+        name: Identifier,
+    ) -> Result<(), EncodeError>
+    where
+        Self: Sized,
+        ensures { Writes writer self.old
+            (scalar tag (constraint_set constraints.now) (name_of name)
+            (units graphic value.now) ∷ [])
+            (All (λ unit. unit < 2 ^ 8) value.now) self.new result }
+    {
+        self.encode_string::<u8, Graphic>(tag, constraints, value.as_slice(), name)
+    }
+
+    /// A VisibleString.
+    final fn encode_visible_string(
+        &mut self,
+        tag: Tag,
+        constraints: &Constraints<'_>,
+        value: &VisibleString,
+        name: Identifier,
+    ) -> Result<(), EncodeError>
+    where
+        Self: Sized,
+        ensures { Writes writer self.old
+            (scalar tag (constraint_set constraints.now) (name_of name)
+            (units visible value.now) ∷ [])
+            (All (λ unit. IsTrue (is_visible unit)) value.now) self.new result }
+    {
+        self.encode_string::<u8, Visible>(tag, constraints, value.as_slice(), name)
+    }
+
+    /// An IA5String.
+    final fn encode_ia5_string(
+        &mut self,
+        tag: Tag,
+        constraints: &Constraints<'_>,
+        value: &Ia5String,
+        name: Identifier,
+    ) -> Result<(), EncodeError>
+    where
+        Self: Sized,
+        ensures { Writes writer self.old
+            (scalar tag (constraint_set constraints.now) (name_of name) (units ia5 value.now) ∷ [])
+            (All (λ unit. IsTrue (is_ia5 unit)) value.now) self.new result }
+    {
+        self.encode_string::<u8, Ia5>(tag, constraints, value.as_slice(), name)
+    }
+
+    /// A PrintableString.
+    final fn encode_printable_string(
+        &mut self,
+        tag: Tag,
+        constraints: &Constraints<'_>,
+        value: &PrintableString,
+        name: Identifier,
+    ) -> Result<(), EncodeError>
+    where
+        Self: Sized,
+        ensures { Writes writer self.old
+            (scalar tag (constraint_set constraints.now) (name_of name)
+            (units printable value.now) ∷ [])
+            (All (λ unit. IsTrue (is_printable unit)) value.now) self.new result }
+    {
+        self.encode_string::<u8, Printable>(tag, constraints, value.as_slice(), name)
+    }
+
+    /// A NumericString.
+    final fn encode_numeric_string(
+        &mut self,
+        tag: Tag,
+        constraints: &Constraints<'_>,
+        value: &NumericString,
+        name: Identifier,
+    ) -> Result<(), EncodeError>
+    where
+        Self: Sized,
+        ensures { Writes writer self.old
+            (scalar tag (constraint_set constraints.now) (name_of name)
+            (units numeric value.now) ∷ [])
+            (All (λ unit. IsTrue (is_numeric unit)) value.now) self.new result }
+    {
+        self.encode_string::<u8, Numeric>(tag, constraints, value.as_slice(), name)
+    }
+
+    /// A TeletexString.
+    final fn encode_teletex_string(
+        &mut self,
+        tag: Tag,
+        constraints: &Constraints<'_>,
+        value: &TeletexString,
+        name: Identifier,
+    ) -> Result<(), EncodeError>
+    where
+        Self: Sized,
+        ensures { Writes writer self.old
+            (scalar tag (constraint_set constraints.now) (name_of name)
+            (units teletex value.now) ∷ [])
+            (All (λ unit. unit < 2 ^ 32) value.now) self.new result }
+    {
+        self.encode_string::<u32, Teletex>(tag, constraints, value.as_slice(), name)
+    }
+
+    /// A BMPString.
+    final fn encode_bmp_string(
+        &mut self,
+        tag: Tag,
+        constraints: &Constraints<'_>,
+        value: &BmpString,
+        name: Identifier,
+    ) -> Result<(), EncodeError>
+    where
+        Self: Sized,
+        ensures { Writes writer self.old
+            (scalar tag (constraint_set constraints.now) (name_of name) (units bmp value.now) ∷ [])
+            (All (λ unit. unit < 2 ^ 16) value.now) self.new result }
+    {
+        self.encode_string::<u16, Bmp>(tag, constraints, value.as_slice(), name)
+    }
 
     /// A value of an ENUMERATED type, by its number.
     final fn encode_enumerated<T: Enumerated>(
@@ -301,9 +410,12 @@ pub trait Encoder {
     ) -> Result<(), EncodeError>
     where
         Self: Sized,
-        ensures { Writes writer self.old (scalar tag unconstrained (name_of name) (discriminant (number_of T.eq T.enumeration value.now)) ∷ []) ⊤ self.new result }
+        ensures { Writes writer self.old
+            (scalar tag unconstrained (name_of name)
+            (discriminant (labels_of T.enumeration) (number_of T.eq T.enumeration value.now)) ∷
+            []) ⊤ self.new result }
     {
-        self.encode_enumerated_value(tag, EnumeratedValue::new(value), name)
+        self.encode_enumerated_number::<T>(tag, value.discriminant(), name)
     }
 
     /// A value after an explicit tag.
@@ -315,7 +427,8 @@ pub trait Encoder {
     ) -> Result<(), EncodeError>
     where
         Self: Sized,
-        ensures { Writes writer self.old (prefix_records tag (name_of name) (own_records T.meaning value.now)) (T.meaning.IsOfType value.now) self.new result }
+        ensures writes { Writes writer self.old (prefix_records tag (name_of name) (own_records T.meaning value.now)) (T.meaning.IsOfType value.now) self.new result }
+        ensures depth_first { NeedsAllowance writer self.old result }
     {
         self.open_explicit_prefix(tag, name)?;
         value.encode(self)?;
@@ -332,8 +445,12 @@ pub trait Encoder {
     ) -> Result<(), EncodeError>
     where
         Self: Sized,
-        ensures components { Writes writer self.old (sequence_records tag (name_of name) (component_records C.components value.now)) (EachIsOfType (all_components C.components) value.now) self.new result }
+        ensures components { Writes writer self.old
+            (sequence_records tag (lines C.components) (name_of name)
+            (component_records C.components value.now))
+            (EachIsOfType (all_components C.components) value.now) self.new result }
         ensures as_meant { C.components.kind ≡ is_sequence → Writes writer self.old (C.meaning.records value.now tag unconstrained (name_of name)) (C.meaning.IsOfType value.now) self.new result }
+        ensures depth_first { NeedsAllowance writer self.old result }
     {
         self.open_sequence::<C>(tag, name)?;
         value.encode_fields(self)?;
@@ -350,7 +467,8 @@ pub trait Encoder {
     ) -> Result<(), EncodeError>
     where
         Self: Sized,
-        ensures { Writes writer self.old (list_records tag (constraint_set constraints.now) (name_of name) (flat_map (own_records T.meaning) elements.now)) (All T.meaning.IsOfType elements.now) self.new result }
+        ensures writes { Writes writer self.old (list_records tag (constraint_set constraints.now) (name_of name) (flat_map (own_records T.meaning) elements.now)) (All T.meaning.IsOfType elements.now) self.new result }
+        ensures depth_first { NeedsAllowance writer self.old result }
     {
         self.open_sequence_of(tag, constraints, name, elements.len())?;
         for element in elements {
@@ -369,7 +487,12 @@ pub trait Encoder {
     ) -> Result<(), EncodeError>
     where
         Self: Sized,
-        ensures { Writes writer self.old (option_records tag (Some (T.meaning.records value.now tag (constraint_set constraints.now) (name_of name)))) (T.meaning.IsOfType value.now) self.new result }
+        ensures { Writes writer self.old
+            (option_records in_root tag
+            (Some
+            (T.meaning.records value.now tag (constraint_set constraints.now)
+            (name_of name))))
+            (T.meaning.IsOfType value.now) self.new result }
     {
         self.mark_present(tag)?;
         value.encode_with_tag_and_constraints(self, tag, constraints, name)
@@ -385,8 +508,12 @@ pub trait Encoder {
     ) -> Result<(), EncodeError>
     where
         Self: Sized,
-        ensures components { Writes writer self.old (set_records tag (name_of name) (component_records C.components value.now)) (EachIsOfType (all_components C.components) value.now) self.new result }
+        ensures components { Writes writer self.old
+            (set_records tag (lines C.components) (name_of name)
+            (component_records C.components value.now))
+            (EachIsOfType (all_components C.components) value.now) self.new result }
         ensures as_meant { C.components.kind ≡ is_set → Writes writer self.old (C.meaning.records value.now tag unconstrained (name_of name)) (C.meaning.IsOfType value.now) self.new result }
+        ensures depth_first { NeedsAllowance writer self.old result }
     {
         self.open_set::<C>(tag, name)?;
         value.encode_fields(self)?;
@@ -403,7 +530,8 @@ pub trait Encoder {
     ) -> Result<(), EncodeError>
     where
         Self: Sized,
-        ensures { Writes writer self.old (set_of_records tag (constraint_set constraints.now) (name_of name) (flat_map (own_records T.meaning) elements.now)) (All T.meaning.IsOfType elements.now) self.new result }
+        ensures writes { Writes writer self.old (set_of_records tag (constraint_set constraints.now) (name_of name) (flat_map (own_records T.meaning) elements.now)) (All T.meaning.IsOfType elements.now) self.new result }
+        ensures depth_first { NeedsAllowance writer self.old result }
     {
         self.open_set_of(tag, constraints, name, elements.len())?;
         for element in elements.iter() {
@@ -421,7 +549,14 @@ pub trait Encoder {
     ) -> Result<(), EncodeError>
     where
         Self: Sized,
-        ensures { Writes writer self.old (alternative_records (tag_of_chosen (all_of T.alternatives) (T.pick value.now)) (constraint_set constraints.now) (name_of name) (chosen_meaning (all_of T.alternatives) (T.pick value.now)).records) (chosen_meaning (all_of T.alternatives) (T.pick value.now)).IsOfType self.new result }
+        ensures writes { Writes writer self.old
+            (alternative_records (tag_of_chosen (all_of T.alternatives) (T.pick value.now))
+            (constraint_set constraints.now)
+            (table_of T.alternatives)
+            (name_of name)
+            (chosen_meaning (all_of T.alternatives) (T.pick value.now)).records)
+            (chosen_meaning (all_of T.alternatives) (T.pick value.now)).IsOfType self.new result }
+        ensures depth_first { NeedsAllowance writer self.old result }
     {
         self.open_choice::<T>(value.chosen_tag(), constraints, name)?;
         value.encode_alternative(self)?;
@@ -439,17 +574,17 @@ pub trait Encoder {
     ) -> Result<(), EncodeError>
     where
         Self: Sized,
-        ensures { Writes writer self.old (T.meaning.records value.now tag (constraint_set constraints.now) (name_of name)) (T.meaning.IsOfType value.now) self.new result }
+        ensures writes { Writes writer self.old (T.meaning.records value.now tag (constraint_set constraints.now) (name_of name)) (T.meaning.IsOfType value.now) self.new result }
+        ensures depth_first { NeedsAllowance writer self.old result }
     {
-        let name = name.or(T::identifier());
+        let table = T::table();
+        let name = name.or(table.identifier);
         if tag.is_choice() {
             return self.encode_choice(constraints, value, name);
         }
-        let Ok(own_constraints) = T::constraints(self.global()) else {
-            return Err(self.refuse_memory());
-        };
         self.open_explicit_prefix(tag, name)?;
-        self.encode_choice(&own_constraints, value, T::identifier())?;
+        let own_constraints = make_constraints(self, &table)?;
+        self.encode_choice(&own_constraints, value, table.identifier)?;
         self.close()
     }
 
@@ -461,9 +596,16 @@ pub trait Encoder {
     ) -> Result<(), EncodeError>
     where
         Self: Sized,
-        ensures { Writes writer self.old (option_records T.meaning.tag (Some (T.meaning.records value.now T.meaning.tag T.meaning.constraints (name_of name)))) (T.meaning.IsOfType value.now) self.new result }
+        ensures { Writes writer self.old
+            (option_records in_root T.meaning.tag
+            (Some
+            (T.meaning.records value.now T.meaning.tag T.meaning.constraints
+            (name_of name))))
+            (T.meaning.IsOfType value.now) self.new result }
     {
-        self.encode_some_with_tag(T::tag(), value, name)
+        let table = T::table();
+        let constraints = make_constraints(self, &table)?;
+        self.encode_some_with_tag_and_constraints(table.tag, &constraints, value, name)
     }
 
     /// A component that may be absent, and is there, under a tag and a name.
@@ -475,11 +617,12 @@ pub trait Encoder {
     ) -> Result<(), EncodeError>
     where
         Self: Sized,
-        ensures { Writes writer self.old (option_records tag (Some (T.meaning.records value.now tag T.meaning.constraints (name_of name)))) (T.meaning.IsOfType value.now) self.new result }
+        ensures { Writes writer self.old
+            (option_records in_root tag
+            (Some (T.meaning.records value.now tag T.meaning.constraints (name_of name))))
+            (T.meaning.IsOfType value.now) self.new result }
     {
-        let Ok(constraints) = T::constraints(self.global()) else {
-            return Err(self.refuse_memory());
-        };
+        let constraints = make_constraints(self, &T::table())?;
         self.encode_some_with_tag_and_constraints(tag, &constraints, value, name)
     }
 
@@ -492,7 +635,10 @@ pub trait Encoder {
     ) -> Result<(), EncodeError>
     where
         Self: Sized,
-        ensures { Writes writer self.old (option_records tag (Some (prefix_records tag (name_of name) (own_records T.meaning value.now)))) (T.meaning.IsOfType value.now) self.new result }
+        ensures { Writes writer self.old
+            (option_records in_root tag
+            (Some (prefix_records tag (name_of name) (own_records T.meaning value.now))))
+            (T.meaning.IsOfType value.now) self.new result }
     {
         self.mark_present(tag)?;
         self.encode_explicit_prefix(tag, value, name)
@@ -502,7 +648,8 @@ pub trait Encoder {
     final fn encode_none<T: AsnType>(&mut self, name: Identifier) -> Result<(), EncodeError>
     where
         Self: Sized,
-        ensures { Writes writer self.old (option_records T.meaning.tag None) ⊤ self.new result }
+        ensures { Writes writer self.old (option_records in_root T.meaning.tag None) ⊤
+            self.new result }
     {
         self.encode_none_with_tag(T::tag(), name)
     }
@@ -511,7 +658,7 @@ pub trait Encoder {
     final fn encode_none_with_tag(&mut self, tag: Tag, _name: Identifier) -> Result<(), EncodeError>
     where
         Self: Sized,
-        ensures { Writes writer self.old (option_records tag None) ⊤ self.new result }
+        ensures { Writes writer self.old (option_records in_root tag None) ⊤ self.new result }
     {
         self.mark_absent(tag)
     }
@@ -525,9 +672,17 @@ pub trait Encoder {
     where
         Self: Sized,
         requires { F.IsAlwaysCallable default }
-        ensures { (equal : Bool) → ((a : _) (usual : T) → F.post default a (Ok usual) → T.eq value.now usual ≡ equal) → Writes writer self.old (default_records equal T.meaning.tag (T.meaning.records value.now T.meaning.tag T.meaning.constraints (name_of name))) (equal ≡ false → T.meaning.IsOfType value.now) self.new result }
+        ensures { (equal : Bool) →
+            ((a : _) (usual : T) → F.post default a (Ok usual) → T.eq value.now usual ≡ equal) →
+            Writes writer self.old
+            (default_records in_root equal T.meaning.tag
+            (T.meaning.records value.now T.meaning.tag T.meaning.constraints
+            (name_of name)))
+            (equal ≡ false → T.meaning.IsOfType value.now) self.new result }
     {
-        self.encode_default_with_tag(T::tag(), value, default, name)
+        let table = T::table();
+        let constraints = make_constraints(self, &table)?;
+        self.encode_default_with_tag_and_constraints(table.tag, &constraints, value, default, name)
     }
 
     /// The same as `encode_default`, under a tag.
@@ -538,11 +693,14 @@ pub trait Encoder {
     where
         Self: Sized,
         requires { F.IsAlwaysCallable default }
-        ensures { (equal : Bool) → ((a : _) (usual : T) → F.post default a (Ok usual) → T.eq value.now usual ≡ equal) → Writes writer self.old (default_records equal tag (T.meaning.records value.now tag T.meaning.constraints (name_of name))) (equal ≡ false → T.meaning.IsOfType value.now) self.new result }
+        ensures { (equal : Bool) →
+            ((a : _) (usual : T) → F.post default a (Ok usual) → T.eq value.now usual ≡ equal) →
+            Writes writer self.old
+            (default_records in_root equal tag
+            (T.meaning.records value.now tag T.meaning.constraints (name_of name)))
+            (equal ≡ false → T.meaning.IsOfType value.now) self.new result }
     {
-        let Ok(constraints) = T::constraints(self.global()) else {
-            return Err(self.refuse_memory());
-        };
+        let constraints = make_constraints(self, &T::table())?;
         self.encode_default_with_tag_and_constraints(tag, &constraints, value, default, name)
     }
 
@@ -560,7 +718,13 @@ pub trait Encoder {
     where
         Self: Sized,
         requires { F.IsAlwaysCallable default }
-        ensures { (equal : Bool) → ((a : _) (usual : T) → F.post default a (Ok usual) → T.eq value.now usual ≡ equal) → Writes writer self.old (default_records equal T.meaning.tag (T.meaning.records value.now T.meaning.tag (constraint_set constraints.now) (name_of name))) (equal ≡ false → T.meaning.IsOfType value.now) self.new result }
+        ensures { (equal : Bool) →
+            ((a : _) (usual : T) → F.post default a (Ok usual) → T.eq value.now usual ≡ equal) →
+            Writes writer self.old
+            (default_records in_root equal T.meaning.tag
+            (T.meaning.records value.now T.meaning.tag (constraint_set constraints.now)
+            (name_of name)))
+            (equal ≡ false → T.meaning.IsOfType value.now) self.new result }
     {
         self.encode_default_with_tag_and_constraints(T::tag(), constraints, value, default, name)
     }
@@ -580,7 +744,13 @@ pub trait Encoder {
     where
         Self: Sized,
         requires { F.IsAlwaysCallable default }
-        ensures { (equal : Bool) → ((a : _) (usual : T) → F.post default a (Ok usual) → T.eq value.now usual ≡ equal) → Writes writer self.old (default_records equal tag (T.meaning.records value.now tag (constraint_set constraints.now) (name_of name))) (equal ≡ false → T.meaning.IsOfType value.now) self.new result }
+        ensures { (equal : Bool) →
+            ((a : _) (usual : T) → F.post default a (Ok usual) → T.eq value.now usual ≡ equal) →
+            Writes writer self.old
+            (default_records in_root equal tag
+            (T.meaning.records value.now tag (constraint_set constraints.now)
+            (name_of name)))
+            (equal ≡ false → T.meaning.IsOfType value.now) self.new result }
     {
         let Ok(usual) = default(self.global()) else {
             return Err(self.refuse_memory());
@@ -600,7 +770,12 @@ pub trait Encoder {
     where
         Self: Sized,
         requires { F.IsAlwaysCallable default }
-        ensures { (equal : Bool) → ((a : _) (usual : T) → F.post default a (Ok usual) → T.eq value.now usual ≡ equal) → Writes writer self.old (default_records equal tag (prefix_records tag (name_of name) (own_records T.meaning value.now))) (equal ≡ false → T.meaning.IsOfType value.now) self.new result }
+        ensures { (equal : Bool) →
+            ((a : _) (usual : T) → F.post default a (Ok usual) → T.eq value.now usual ≡ equal) →
+            Writes writer self.old
+            (default_records in_root equal tag
+            (prefix_records tag (name_of name) (own_records T.meaning value.now)))
+            (equal ≡ false → T.meaning.IsOfType value.now) self.new result }
     {
         let Ok(usual) = default(self.global()) else {
             return Err(self.refuse_memory());
@@ -620,9 +795,21 @@ pub trait Encoder {
     ) -> Result<(), EncodeError>
     where
         Self: Sized,
-        ensures { (equal : Bool) → ((usual : T) → T.is_default usual → T.eq value.now usual ≡ equal) → Writes writer self.old (default_records equal T.meaning.tag (T.meaning.records value.now T.meaning.tag T.meaning.constraints (name_of name))) (equal ≡ false → T.meaning.IsOfType value.now) self.new result }
+        ensures { (equal : Bool) →
+            ((usual : T) → T.is_default usual → T.eq value.now usual ≡ equal) →
+            Writes writer self.old
+            (default_records in_root equal T.meaning.tag
+            (T.meaning.records value.now T.meaning.tag T.meaning.constraints
+            (name_of name)))
+            (equal ≡ false → T.meaning.IsOfType value.now) self.new result }
     {
-        self.encode_with_tag_or_default(T::tag(), value, name)
+        let table = T::table();
+        if *value == T::default() {
+            self.encode_none_with_tag(table.tag, name)
+        } else {
+            let constraints = make_constraints(self, &table)?;
+            self.encode_some_with_tag_and_constraints(table.tag, &constraints, value, name)
+        }
     }
 
     /// The same as `encode_or_default`, under a tag.
@@ -634,7 +821,12 @@ pub trait Encoder {
     ) -> Result<(), EncodeError>
     where
         Self: Sized,
-        ensures { (equal : Bool) → ((usual : T) → T.is_default usual → T.eq value.now usual ≡ equal) → Writes writer self.old (default_records equal tag (T.meaning.records value.now tag T.meaning.constraints (name_of name))) (equal ≡ false → T.meaning.IsOfType value.now) self.new result }
+        ensures { (equal : Bool) →
+            ((usual : T) → T.is_default usual → T.eq value.now usual ≡ equal) →
+            Writes writer self.old
+            (default_records in_root equal tag
+            (T.meaning.records value.now tag T.meaning.constraints (name_of name)))
+            (equal ≡ false → T.meaning.IsOfType value.now) self.new result }
     {
         if *value == T::default() {
             self.encode_none_with_tag(tag, name)
@@ -653,7 +845,12 @@ pub trait Encoder {
     ) -> Result<(), EncodeError>
     where
         Self: Sized,
-        ensures { Writes writer self.old (option_records tag (option_map (λ v. T.meaning.records v tag (constraint_set constraints.now) (name_of name)) (option_copied value.entry))) (IfSome (option_copied value.entry) T.meaning.IsOfType) self.new result }
+        ensures { Writes writer self.old
+            (option_records in_additions tag
+            (option_map
+            (λ v. T.meaning.records v tag (constraint_set constraints.now) (name_of name))
+            (option_copied value.entry)))
+            (IfSome (option_copied value.entry) T.meaning.IsOfType) self.new result }
     {
         match value {
             None => self.mark_addition_absent(tag),
@@ -673,11 +870,13 @@ pub trait Encoder {
     ) -> Result<(), EncodeError>
     where
         Self: Sized,
-        ensures { Writes writer self.old (option_records tag (option_map (λ v. T.meaning.records v tag T.meaning.constraints (name_of name)) (option_copied value.entry))) (IfSome (option_copied value.entry) T.meaning.IsOfType) self.new result }
+        ensures { Writes writer self.old
+            (option_records in_additions tag
+            (option_map (λ v. T.meaning.records v tag T.meaning.constraints (name_of name))
+            (option_copied value.entry)))
+            (IfSome (option_copied value.entry) T.meaning.IsOfType) self.new result }
     {
-        let Ok(constraints) = T::constraints(self.global()) else {
-            return Err(self.refuse_memory());
-        };
+        let constraints = make_constraints(self, &T::table())?;
         self.encode_extension_addition(tag, &constraints, value, name)
     }
 
@@ -690,7 +889,11 @@ pub trait Encoder {
     ) -> Result<(), EncodeError>
     where
         Self: Sized,
-        ensures { Writes writer self.old (option_records tag (option_map (λ v. prefix_records tag (name_of name) (own_records T.meaning v)) (option_copied value.entry))) (IfSome (option_copied value.entry) T.meaning.IsOfType) self.new result }
+        ensures { Writes writer self.old
+            (option_records in_additions tag
+            (option_map (λ v. prefix_records tag (name_of name) (own_records T.meaning v))
+            (option_copied value.entry)))
+            (IfSome (option_copied value.entry) T.meaning.IsOfType) self.new result }
     {
         match value {
             None => self.mark_addition_absent(tag),
@@ -709,7 +912,11 @@ pub trait Encoder {
     ) -> Result<(), EncodeError>
     where
         Self: Sized,
-        ensures { Writes writer self.old (group_records (option_map (component_records C.components) (option_copied value.entry))) (IfSome (option_copied value.entry) (EachIsOfType (all_components C.components))) self.new result }
+        ensures { Writes writer self.old
+            (group_records (lines C.components)
+            (option_map (component_records C.components) (option_copied value.entry)))
+            (IfSome (option_copied value.entry) (EachIsOfType (all_components C.components)))
+            self.new result }
     {
         match value {
             None => self.mark_group_absent(),

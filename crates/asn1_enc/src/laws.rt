@@ -1,13 +1,13 @@
-//! Laws of what no other contract names: what the derives and the conversion of the error give, what a clone of an item is, and
-//! what is the same of what has been written.
+//! Laws of what no other contract names: what the derives and the conversion of the error give, and what is the
+//! same of what has been written.
 ghost use Rattle.asn1_enc.specs.Errors.{reason};
-ghost use Rattle.asn1_enc.specs.Writing.{SameRecords, SameWritten, Written, followed_by};
+ghost use Rattle.asn1_enc.specs.Writing.{SameWritten, Written, followed_by};
 ghost use Rattle.asn1_enc.specs.declared.error.EncodeError.TheVariants.{Memory};
+ghost use Rattle.asn1_model.specs.Orders.{SameRecords};
 ghost use Rattle.asn1_model.specs.Records.{Record};
 ghost use Rattle.asn1_tags.specs.Derives.{ClonesAll};
 ghost use Rattle.std.specs.Prelude.{◌≡◌, ◌↔◌, IsTrue, List};
 
-use crate::enumerated_value::EnumeratedValue;
 use crate::error::EncodeError;
 use std::alloc::AllocError;
 
@@ -25,11 +25,6 @@ pub fn refused_memory_is_an_error_of_memory(refused: AllocError) -> EncodeError
 {
     EncodeError::from(refused)
 }
-
-/// A law of the derived clone: that of a value of an ENUMERATED type is its source.
-pub fn values_of_enumerated_types_are_cloned()
-    ensures clones { ClonesAll ⟦<EnumeratedValue as Clone>⟧.is_clone ⟦<EnumeratedValue as Clone>⟧.is_infallible }
-{}
 
 /// A law of writing: what has been written is compared up to the order inside sets by an equivalence, and more records that
 /// are the same keep it the same.

@@ -9,7 +9,6 @@
 //! | [`Encode`] | a type whose values are written, by seven entry points; one of them is the type's own |
 //! | [`EncodeFields`] | a type whose components are written, each by its place: a SEQUENCE, a SET or a group of additions |
 //! | [`EncodeChoice`] | a CHOICE whose chosen alternative is written |
-//! | [`EnumeratedValue`] | a value of an ENUMERATED type, as a codec sees it |
 //! | [`EncodeError`] | why a value was not written |
 //! | [`laws`] | what the derives of the error give |
 //!
@@ -31,6 +30,8 @@
 //!   a group is no scope (`OpensGroup`, `ClosesGroup`), and where there is no allowance the error is `Depth`, before any other
 //!   but `Failed`. What it rejects and has written keeps to `IsLawful`: a list is rejected where a part of it is, or what a
 //!   record of it holds, presence marks alone never are, and the order inside sets means nothing.
+//! - The calls for whole types that open a scope at once answer `Depth` before any other error but `Failed` too
+//!   (`NeedsAllowance`).
 //! - `EncodeFields::encode_fields` is a loop over the places of the field table, proved once for all types. A type states a
 //!   line for each component (`encode_field`, `specs/Places.antt`), and no proof.
 //! - `encode_sequence` and `encode_set` (`as_meant`) and `encode_choice_with_tag` write the records of the type, by the law that
@@ -43,12 +44,11 @@
 
 mod encode;
 mod encoder;
-mod enumerated_value;
 mod error;
 mod impls;
 pub mod laws;
+mod own_constraints;
 
 pub use encode::{Encode, EncodeChoice, EncodeFields};
 pub use encoder::Encoder;
-pub use enumerated_value::EnumeratedValue;
 pub use error::EncodeError;

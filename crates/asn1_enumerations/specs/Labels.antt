@@ -1,17 +1,12 @@
 -- What tells the items of an ENUMERATED type apart, without its values (X.680, clause 20).
 use Rattle.std.specs.Prelude.{◌≢◌, ◌++◌, ℤ, ℕ, List, [], Option, Contains, map, unwrap_or}
 use Rattle.std.specs.Option.{option_map}
+use Rattle.asn1_model.specs.Tables.{Label, Table}
 use Rattle.asn1_enumerations.specs.Enumerations.{Enumeration, Item}
 
--- The number and the name of an item (20.1).
-pub record Label : Type 0 where
-  pub number : ℤ
-  pub name : List ℕ
-
--- The labels of the items of the root, and where there is an extension marker, of those after the marker.
-pub record Labels : Type 0 where
-  pub root : List Label
-  pub additions : Option (List Label)
+-- the labels of the items of the root, and where there is an extension marker, of those after the marker
+abbrev pub Labels : Type 0
+Labels = Table Label
 
 -- the labels of some items, and those of an enumeration
 abbrev pub label_of : {V : Type 0} → Item V → Label

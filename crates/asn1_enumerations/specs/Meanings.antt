@@ -8,19 +8,21 @@ use Rattle.asn1_model.specs.Meaning.{Meaning}
 use Rattle.asn1_model.specs.Records.{Name, discriminant, scalar}
 use Rattle.asn1_model.specs.Tags.{IsATag, universal}
 use Rattle.asn1_enumerations.specs.Enumerations.{Enumeration, number_of}
+use Rattle.asn1_enumerations.specs.Labels.{labels_of}
 
 -- an ENUMERATED type by its name, its enumeration, and the equality of its values: each is its number under the tag that
 -- X.680 assigns (8.4, table 1)
 abbrev pub enumeration_type : {V : Type 0} → List ℕ → Enumeration V → (V → V → Bool) → Meaning V
-enumeration_type name e eq = enumerated_type (universal 10) unconstrained (Some name) (number_of eq e)
+enumeration_type name e eq = enumerated_type (universal 10) unconstrained (Some name) (labels_of e)
+    (number_of eq e)
 
--- The law of an ENUMERATED type: its meaning is that of its enumeration. A value begins with the tag that the type is
--- written under, and is one record without constraints, which has its number; the type is well tagged under every tag
--- there is; and each value is there, has what its type says, and is valid.
+-- The law of an ENUMERATED type: its meaning is that of its enumeration. A value begins with the tag that the type is written
+-- under, and is one record without constraints, which has its number beside the labels of all; the type is well tagged under
+-- every tag there is; and each value is there, has what its type says, and is valid.
 pub record AgreesWithEnumeration {V : Type 0} (eq : V → V → Bool) (enumeration : Enumeration V) (m : Meaning V) : Type 0 where
   pub tree : (t : Tag) → m.tree t ≡ leaf t
   pub records : (v : V) (t : Tag) (c : ConstraintSet) (n : Name) →
-      m.records v t c n ≡ scalar t unconstrained n (discriminant (number_of eq enumeration v)) ∷ []
+      m.records v t c n ≡ scalar t unconstrained n (discriminant (labels_of enumeration) (number_of eq enumeration v)) ∷ []
   pub single : m.IsSingleRecord
   pub present : (v : V) → m.is_present v ≡ true
   pub well_tagged : (t : Tag) → m.IsWellTagged t ↔ IsATag t

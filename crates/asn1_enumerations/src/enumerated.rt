@@ -103,8 +103,10 @@ pub trait Enumerated: Sized + Copy + Eq + 'static {
 
     /// The place of this value in its own table.
     final fn enumeration_index(&self) -> usize
-        ensures root { Contains (values enumeration.root) self.now → slice_get (values enumeration.root) result ≡ Some self.now }
-        ensures extended { Contains (values (added enumeration)) self.now → slice_get (values (added enumeration)) result ≡ Some self.now }
+        ensures root { Contains (values enumeration.root) self.now →
+            slice_get (values enumeration.root) result ≡ Some self.now }
+        ensures extended { Contains (values (added enumeration)) self.now →
+            slice_get (values (added enumeration)) result ≡ Some self.now }
     {
         match place_in(self, Self::items()) {
             Some(place) => place,
@@ -117,7 +119,8 @@ pub trait Enumerated: Sized + Copy + Eq + 'static {
 
     /// The value of that number; `None` where no value has it.
     final fn from_discriminant(discriminant: isize) -> Option<Self>
-        ensures back { (v : Self) → number_of Self.eq enumeration v ≡ discriminant → result ≡ Some v }
+        ensures back { (v : Self) → number_of Self.eq enumeration v ≡ discriminant →
+            result ≡ Some v }
         ensures only { IfSome result (λ v. number_of Self.eq enumeration v ≡ discriminant) }
     {
         with_number(discriminant, Self::items(), added_lines::<Self>())
@@ -139,7 +142,8 @@ pub trait Enumerated: Sized + Copy + Eq + 'static {
 
     /// The value of that name; `None` where no value has it.
     final fn from_identifier(identifier: &str) -> Option<Self>
-        ensures back { (v : Self) → name_of Self.eq enumeration v ≡ identifier.now → result ≡ Some v }
+        ensures back { (v : Self) → name_of Self.eq enumeration v ≡ identifier.now →
+            result ≡ Some v }
         ensures only { IfSome result (λ v. name_of Self.eq enumeration v ≡ identifier.now) }
     {
         with_name(identifier, Self::items(), added_lines::<Self>())
@@ -178,7 +182,8 @@ fn with_value<'a, T: Eq>(
     root: &'a [EnumerationItem<T>],
     additions: &'a [EnumerationItem<T>],
 ) -> Option<&'a EnumerationItem<T>>
-    ensures { option_copied result ≡ find (λ l. T.eq l.value value.now) (root.now ++ additions.now) }
+    ensures { option_copied result ≡
+        find (λ l. T.eq l.value value.now) (root.now ++ additions.now) }
 {
     root.iter()
         .chain(additions.iter())
@@ -191,7 +196,8 @@ fn with_number<T: Copy>(
     root: &[EnumerationItem<T>],
     additions: &[EnumerationItem<T>],
 ) -> Option<T>
-    ensures { result ≡ option_map (λ l. l.value) (find (λ l. int_eq l.number number) (root.now ++ additions.now)) }
+    ensures { result ≡
+        option_map (λ l. l.value) (find (λ l. int_eq l.number number) (root.now ++ additions.now)) }
 {
     root.iter()
         .chain(additions.iter())
@@ -205,7 +211,9 @@ fn with_name<T: Copy>(
     root: &[EnumerationItem<T>],
     additions: &[EnumerationItem<T>],
 ) -> Option<T>
-    ensures { result ≡ option_map (λ l. l.value) (find (λ l. bytes_eq l.name.now name.now) (root.now ++ additions.now)) }
+    ensures { result ≡
+        option_map (λ l. l.value) (find (λ l. bytes_eq l.name.now name.now)
+        (root.now ++ additions.now)) }
 {
     root.iter()
         .chain(additions.iter())

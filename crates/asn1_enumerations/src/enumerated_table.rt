@@ -41,11 +41,13 @@ pub trait EnumeratedTable {
 
     /// The name of the item of that number; `None` where there is none.
     fn name_of_number(number: isize) -> Option<&'static str>
-        ensures { option_map (λ name. name.now) result ≡ option_map (λ l. l.name) (find (λ l. int_eq l.number number) (all_labels labels)) };
+        ensures { option_map (λ name. name.now) result ≡
+            option_map (λ l. l.name) (find (λ l. int_eq l.number number) (all_labels labels)) };
 
     /// The number of the item of that name; `None` where there is none.
     fn number_of_name(name: &str) -> Option<isize>
-        ensures { result ≡ option_map (λ l. l.number) (find (λ l. bytes_eq l.name name.now) (all_labels labels)) };
+        ensures { result ≡
+            option_map (λ l. l.number) (find (λ l. bytes_eq l.name name.now) (all_labels labels)) };
 
     // no number and no name is in two items
     ghost distinct: { AllPairs LabelsDiffer (all_labels labels) };
@@ -111,7 +113,9 @@ fn name_of<T>(
     root: &[EnumerationItem<T>],
     additions: &[EnumerationItem<T>],
 ) -> Option<&'static str>
-    ensures { option_map (λ name. name.now) result ≡ option_map (λ l. l.name.now) (find (λ l. int_eq l.number number) (root.now ++ additions.now)) }
+    ensures { option_map (λ name. name.now) result ≡
+        option_map (λ l. l.name.now)
+        (find (λ l. int_eq l.number number) (root.now ++ additions.now)) }
 {
     root.iter()
         .chain(additions.iter())
@@ -125,7 +129,9 @@ fn number_of<T>(
     root: &[EnumerationItem<T>],
     additions: &[EnumerationItem<T>],
 ) -> Option<isize>
-    ensures { result ≡ option_map (λ l. l.number) (find (λ l. bytes_eq l.name.now name.now) (root.now ++ additions.now)) }
+    ensures { result ≡
+        option_map (λ l. l.number) (find (λ l. bytes_eq l.name.now name.now)
+        (root.now ++ additions.now)) }
 {
     root.iter()
         .chain(additions.iter())

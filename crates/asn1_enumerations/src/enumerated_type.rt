@@ -1,5 +1,6 @@
 //! ENUMERATED types as types of ASN.1.
 ghost use Rattle.std.specs.Prelude.{◌≡◌, [], ◌∷◌};
+ghost use Rattle.asn1_enumerations.specs.Labels.{labels_of};
 ghost use Rattle.asn1_enumerations.specs.Meanings.{AgreesWithEnumeration};
 ghost use Rattle.asn1_model.specs.ConstraintSets.{ConstraintSet, unconstrained};
 ghost use Rattle.asn1_model.specs.Records.{Name, discriminant, scalar};
@@ -16,7 +17,9 @@ pub trait EnumeratedType: AsnType + Enumerated {
 
 /// The number in the records of the value, the same under every tag, constraints and name.
 pub fn written_number<T: EnumeratedType>(value: &T) -> isize
-    ensures { (t : Tag) (c : ConstraintSet) (n : Name) → T.meaning.records value.now t c n ≡ scalar t unconstrained n (discriminant result) ∷ [] }
+    ensures { (t : Tag) (c : ConstraintSet) (n : Name) →
+        T.meaning.records value.now t c n ≡
+        scalar t unconstrained n (discriminant (labels_of T.enumeration) result) ∷ [] }
 {
     value.discriminant()
 }

@@ -70,7 +70,8 @@ pub struct ItemIdentifierIter<'a, T> {
 
 impl<'a, T> ItemIdentifierIter<'a, T> {
     pub(crate) fn new(root: &'a [EnumerationItem<T>], additions: &'a [EnumerationItem<T>]) -> Self
-        ensures { identifiers_left result ≡ names (table_items root.now ++ table_items additions.now) }
+        ensures { identifiers_left result ≡
+            names (table_items root.now ++ table_items additions.now) }
     {
         ItemIdentifierIter {
             root: root.iter(),

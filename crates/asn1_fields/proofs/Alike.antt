@@ -13,7 +13,7 @@ use Rattle.asn1_fields.specs.Entries.{Component, may_be_absent}
 use Rattle.asn1_fields.specs.declared.presence.FieldPresence.{FieldPresence}
 use Rattle.asn1_tags.proofs.PlacesInLists.{position-map}
 
--- its presence, the leaves of its tree, and whether a choice of nothing stands in the tree
+-- its presence, the leaves of its tree, and whether a choice of nothing is in the tree
 pub record Look : Type 0 where
   pub presence : FieldPresence
   pub leaves : List Tag
@@ -83,6 +83,6 @@ canonical-looks [] = refl
 canonical-looks (c ∷ []) = refl
 canonical-looks (c ∷ (d ∷ cs)) = ap (λ b. is_le (tag_cmp (smallest (leaves c.tree)) (smallest (leaves d.tree))) && b) (canonical-looks (d ∷ cs))
 
--- and stand in order alike
+-- and are in order alike
 pub canonical-alike : (cs ds : List Component) → map look_at cs ≡ map look_at ds → canonical cs ≡ canonical ds
 canonical-alike cs ds alike = canonical-looks cs ∙ (ap canonical_look alike ∙ sym (canonical-looks ds))

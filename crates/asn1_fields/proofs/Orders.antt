@@ -76,7 +76,7 @@ module _ {X : Type 0} (seen : X → Component) where
   canonical-seen xs true h = sym (all_in_order xs h)
   canonical-seen xs false h = sym (some_not_in_order xs h.0 h.1 h.2)
 
--- whether two fields stand in order
+-- whether two fields are in order
 abbrev pub fields_in_order : Field → Field → Bool
 fields_in_order f g = in_order (component_of (entry_of f)) (component_of (entry_of g))
 

@@ -10,7 +10,7 @@ use Rattle.asn1_tags.proofs.Distinct.{HaveCommonTag-from_meet, meet-from_HaveCom
 use Rattle.asn1_model.specs.Tags.{Has, among, every, tree_tags}
 use Rattle.asn1_fields.specs.DistinctTags.{ShareTag, share_tag}
 
--- a tag of a tree: each one where a choice of nothing stands in it, and else a leaf
+-- a tag of a tree: each one where a choice of nothing is in it, and else a leaf
 pub tag-from_open_or_leaf : (t : Tree) (tag : Tag) → IsTrue (is_open t) ⊎ Contains (leaves t) tag → Has (tree_tags t) tag
 tag-from_open_or_leaf t tag h = by_open (is_open t) h
   where

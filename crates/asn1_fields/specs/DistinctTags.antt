@@ -1,4 +1,4 @@
--- Which components of a SEQUENCE or a SET must have distinct tags, and which of them have not (X.680, 25.6, 25.6.1 and 27.3).
+-- Which components of a SEQUENCE or a SET must have distinct tags, and which of them share one (X.680, 25.6, 25.6.1 and 27.3).
 use Rattle.std.specs.Prelude.{◌≡◌, ◌⊎◌, ◌<◌, ◌≤◌, ℕ, ◌+◌, Bool, ◌||◌, if◌then◌else◌, IsTrue, List, [], ◌∷◌, Option, None, Some, MatchOption, IfSome, option_map, position, slice_get}
 use Rattle.std.specs.Option.{option_or}
 use Rattle.asn1_tags.specs.Trees.{Tree, is_open, leaves}
@@ -8,17 +8,17 @@ use Rattle.asn1_model.specs.Tags.{Has, tree_tags}
 use Rattle.asn1_fields.specs.Entries.{Component, may_be_absent}
 
 -- Two types do not have distinct tags: some tag is a tag of both. A type's tags are the leaves of its tree, or every tag
--- where a choice of nothing stands anywhere in the tree.
+-- where a choice of nothing is anywhere in the tree.
 pub record ShareTag (s t : Tree) : Type 0 where
   pub tag : Tag
   pub of_first : Has (tree_tags s) tag
   pub of_second : Has (tree_tags t) tag
 
--- The same as a test: a choice of nothing stands anywhere in either tree, or they have a leaf in common.
+-- The same as a test: a choice of nothing is anywhere in either tree, or they have a leaf in common.
 abbrev pub share_tag : Tree → Tree → Bool
 share_tag s t = is_open s || is_open t || meet (leaves s) (leaves t)
 
--- All components of a SET must have distinct tags (X.680, 27.3). Two of them, the first before the second, have not.
+-- All components of a SET must have distinct tags (X.680, 27.3). Two of them, the first before the second, share one.
 pub record IsSetClash (cs : List Component) (i j : ℕ) : Type 0 where
   pub first : Component
   pub second : Component
@@ -28,7 +28,7 @@ pub record IsSetClash (cs : List Component) (i j : ℕ) : Type 0 where
   pub shared : ShareTag first.tree second.tree
 
 -- In a SEQUENCE each run of components that may be absent, together with the component right after the run, must have
--- distinct tags (X.680, 25.6 and 25.6.1). Two of them have not: from the first on, all before the second may be absent.
+-- distinct tags (X.680, 25.6 and 25.6.1). Two of them share one: from the first on, all before the second may be absent.
 pub record IsSequenceClash (cs : List Component) (i j : ℕ) : Type 0 where
   pub pair : IsSetClash cs i j
   pub run : (k : ℕ) → i ≤ k → k < j → IfSome (slice_get cs k) (λ c. IsTrue (may_be_absent c.presence))

@@ -3,6 +3,7 @@ use Rattle.std.specs.Prelude.{ℕ, Bool, true, false, List, map}
 use Rattle.asn1_tags.specs.Trees.{Tree, shape}
 use Rattle.asn1_tags.specs.declared.tags.Tag.{Tag}
 use Rattle.asn1_model.specs.Meaning.{Meaning}
+use Rattle.asn1_model.specs.Tables.{Line}
 use Rattle.asn1_fields.specs.declared.field.Field.{Field}
 use Rattle.asn1_fields.specs.declared.presence.FieldPresence.{FieldPresence}
 use Rattle.asn1_fields.specs.declared.presence.FieldPresence.TheVariants.{Required, Optional, Default}
@@ -41,6 +42,10 @@ typed_entry index type presence name = tagged_entry index type type.tag presence
 -- what the rules on tags look at in an entry
 abbrev pub component_of : Entry → Component
 component_of e = record { presence = e.presence; tree = e.tree }
+
+-- what records have of an entry
+abbrev pub line_of : Entry → Line
+line_of e = record { name = e.name; tree = e.tree; may_be_absent = may_be_absent e.presence }
 
 -- what several fields say
 abbrev pub entries : List Field → List Entry

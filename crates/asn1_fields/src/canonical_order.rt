@@ -23,7 +23,8 @@ pub fn at_most_one_rearrangement_is_canonical()
 // Whether the first field's smallest tag is not above the second's.
 #[tactic(auto, using(asn1_tags::proofs::Smallest::smallest_cmp))]
 fn are_in_order(field: &Field<'_>, next: &Field<'_>) -> bool
-    ensures { result ≡ in_order (component_of (entry_of field.now)) (component_of (entry_of next.now)) }
+    ensures { result ≡
+        in_order (component_of (entry_of field.now)) (component_of (entry_of next.now)) }
 {
     let smallest = field.tag_tree.smallest_tag();
     smallest.const_cmp(&next.tag_tree.smallest_tag()).is_le()

@@ -6,7 +6,7 @@ ghost use Rattle.asn1_fields.specs.Entries.{component_of, components, entry_of, 
 
 use crate::field::Field;
 
-/// The least pair of places whose fields must have distinct tags in a SEQUENCE, and have not; `None` where there is
+/// The least pair of places whose fields share a tag although a SEQUENCE forbids it; `None` where there is
 /// no such pair (X.680, 25.6 and 25.6.1).
 ///
 /// The first of the two may be absent. The second is after it, up to and including the next field that is always
@@ -40,7 +40,8 @@ pub fn first_set_clash(fields: &[Field<'_>]) -> Option<(usize, usize)>
 
 // Of the fields that follow this one, those that must have other tags in a SEQUENCE.
 fn sequence_rivals<'a>(field: &Field<'_>, following: &'a [Field<'a>]) -> &'a [Field<'a>]
-    ensures { components result.now ≡ rivals (component_of (entry_of field.now)) (components following.now) }
+    ensures { components result.now ≡
+        rivals (component_of (entry_of field.now)) (components following.now) }
 {
     if field.is_not_optional_or_default() {
         return &[];
@@ -51,7 +52,7 @@ fn sequence_rivals<'a>(field: &Field<'_>, following: &'a [Field<'a>]) -> &'a [Fi
     }
 }
 
-// How many of the fields stand before the first that is always there.
+// How many of the fields come before the first that is always there.
 fn place_of_required(fields: &[Field<'_>]) -> Option<usize>
     ensures { result ≡ position (λ field. not (may_be_absent field.presence)) fields.now }
 {
@@ -60,9 +61,10 @@ fn place_of_required(fields: &[Field<'_>]) -> Option<usize>
         .position(|field| field.is_not_optional_or_default())
 }
 
-// How many of the others stand before the first that has a tag in common with the field.
+// How many of the others come before the first that has a tag in common with the field.
 fn place_of_clash(field: &Field<'_>, others: &[Field<'_>]) -> Option<usize>
-    ensures { result ≡ position (λ other. share_tag (shape field.now.tag_tree) (shape other.tag_tree)) others.now }
+    ensures { result ≡
+        position (λ other. share_tag (shape field.now.tag_tree) (shape other.tag_tree)) others.now }
 {
     others.iter().position(|other| share_tag(field, other))
 }

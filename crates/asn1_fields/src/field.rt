@@ -10,7 +10,7 @@ use asn1_tags::{Tag, TagTree};
 
 /// A line of a field table: what is known of a component of a SEQUENCE or a SET before any value is.
 ///
-/// Fields are ordered by their parts, as these stand here.
+/// Fields are ordered by their parts, in the order of this list.
 #[derive(Clone, Copy, PartialEq, Eq, PartialOrd, Ord, Debug)]
 pub struct Field<'a> {
     /// The place of the component in the definition of its type.
@@ -28,7 +28,14 @@ pub struct Field<'a> {
 impl<'a> Field<'a> {
     /// A component that is always there.
     pub fn new_required(index: usize, tag: Tag, tag_tree: TagTree<'a>, name: &'a str) -> Self
-        ensures { entry_of result ≡ record { index = index; tag = tag; tree = shape tag_tree.entry; presence = FieldPresence.Required; name = name.now } }
+        ensures { entry_of result ≡
+            record {
+              index = index;
+              tag = tag;
+              tree = shape tag_tree.entry;
+              presence = FieldPresence.Required;
+              name = name.now;
+            } }
     {
         Field {
             index,
@@ -41,7 +48,14 @@ impl<'a> Field<'a> {
 
     /// A component that is marked OPTIONAL.
     pub fn new_optional(index: usize, tag: Tag, tag_tree: TagTree<'a>, name: &'a str) -> Self
-        ensures { entry_of result ≡ record { index = index; tag = tag; tree = shape tag_tree.entry; presence = FieldPresence.Optional; name = name.now } }
+        ensures { entry_of result ≡
+            record {
+              index = index;
+              tag = tag;
+              tree = shape tag_tree.entry;
+              presence = FieldPresence.Optional;
+              name = name.now;
+            } }
     {
         Field {
             index,
@@ -54,7 +68,14 @@ impl<'a> Field<'a> {
 
     /// A component that is marked DEFAULT.
     pub fn new_default(index: usize, tag: Tag, tag_tree: TagTree<'a>, name: &'a str) -> Self
-        ensures { entry_of result ≡ record { index = index; tag = tag; tree = shape tag_tree.entry; presence = FieldPresence.Default; name = name.now } }
+        ensures { entry_of result ≡
+            record {
+              index = index;
+              tag = tag;
+              tree = shape tag_tree.entry;
+              presence = FieldPresence.Default;
+              name = name.now;
+            } }
     {
         Field {
             index,
@@ -88,21 +109,24 @@ impl<'a> Field<'a> {
 
     /// A component that is always there, under a tag in the place of its type's own.
     pub fn new_required_type_with_tag<T: AsnType>(index: usize, tag: Tag, name: &'a str) -> Self
-        ensures { entry_of result ≡ tagged_entry index T.meaning tag FieldPresence.Required name.now }
+        ensures { entry_of result ≡
+            tagged_entry index T.meaning tag FieldPresence.Required name.now }
     {
         Field::new_required(index, tag, T::tag_tree_under(tag), name)
     }
 
     /// A component that is marked OPTIONAL, under a tag in the place of its type's own.
     pub fn new_optional_type_with_tag<T: AsnType>(index: usize, tag: Tag, name: &'a str) -> Self
-        ensures { entry_of result ≡ tagged_entry index T.meaning tag FieldPresence.Optional name.now }
+        ensures { entry_of result ≡
+            tagged_entry index T.meaning tag FieldPresence.Optional name.now }
     {
         Field::new_optional(index, tag, T::tag_tree_under(tag), name)
     }
 
     /// A component that is marked DEFAULT, under a tag in the place of its type's own.
     pub fn new_default_type_with_tag<T: AsnType>(index: usize, tag: Tag, name: &'a str) -> Self
-        ensures { entry_of result ≡ tagged_entry index T.meaning tag FieldPresence.Default name.now }
+        ensures { entry_of result ≡
+            tagged_entry index T.meaning tag FieldPresence.Default name.now }
     {
         Field::new_default(index, tag, T::tag_tree_under(tag), name)
     }
@@ -110,7 +134,14 @@ impl<'a> Field<'a> {
     /// A component that is always there, after an explicit tag (X.680, 31.2.7), which is the one that it can begin with.
     #[tactic(auto, using(asn1_tags::proofs::Leaves::tree_shapes))]
     pub fn new_required_explicit(index: usize, tag: Tag, name: &'a str) -> Self
-        ensures { entry_of result ≡ record { index = index; tag = tag; tree = leaf tag; presence = FieldPresence.Required; name = name.now } }
+        ensures { entry_of result ≡
+            record {
+              index = index;
+              tag = tag;
+              tree = leaf tag;
+              presence = FieldPresence.Required;
+              name = name.now;
+            } }
     {
         Field::new_required(index, tag, TagTree::Leaf(tag), name)
     }
@@ -118,7 +149,14 @@ impl<'a> Field<'a> {
     /// A component that is marked OPTIONAL, after an explicit tag (X.680, 31.2.7), which is the one that it can begin with.
     #[tactic(auto, using(asn1_tags::proofs::Leaves::tree_shapes))]
     pub fn new_optional_explicit(index: usize, tag: Tag, name: &'a str) -> Self
-        ensures { entry_of result ≡ record { index = index; tag = tag; tree = leaf tag; presence = FieldPresence.Optional; name = name.now } }
+        ensures { entry_of result ≡
+            record {
+              index = index;
+              tag = tag;
+              tree = leaf tag;
+              presence = FieldPresence.Optional;
+              name = name.now;
+            } }
     {
         Field::new_optional(index, tag, TagTree::Leaf(tag), name)
     }
@@ -126,7 +164,14 @@ impl<'a> Field<'a> {
     /// A component that is marked DEFAULT, after an explicit tag (X.680, 31.2.7), which is the one that it can begin with.
     #[tactic(auto, using(asn1_tags::proofs::Leaves::tree_shapes))]
     pub fn new_default_explicit(index: usize, tag: Tag, name: &'a str) -> Self
-        ensures { entry_of result ≡ record { index = index; tag = tag; tree = leaf tag; presence = FieldPresence.Default; name = name.now } }
+        ensures { entry_of result ≡
+            record {
+              index = index;
+              tag = tag;
+              tree = leaf tag;
+              presence = FieldPresence.Default;
+              name = name.now;
+            } }
     {
         Field::new_default(index, tag, TagTree::Leaf(tag), name)
     }
@@ -134,7 +179,14 @@ impl<'a> Field<'a> {
     /// A group of additions (X.680, 25.1): it has the tags of all of its components, and none of its own.
     #[tactic(auto, using(asn1_tags::proofs::Leaves::tree_shapes))]
     pub fn new_group(index: usize, trees: &'a [TagTree<'a>], name: &'a str) -> Self
-        ensures { entry_of result ≡ record { index = index; tag = CHOICE; tree = choice (shapes trees.now); presence = FieldPresence.Optional; name = name.now } }
+        ensures { entry_of result ≡
+            record {
+              index = index;
+              tag = CHOICE;
+              tree = choice (shapes trees.now);
+              presence = FieldPresence.Optional;
+              name = name.now;
+            } }
     {
         Field::new_optional(index, Tag::CHOICE, TagTree::Choice(trees), name)
     }

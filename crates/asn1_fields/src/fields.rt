@@ -56,7 +56,8 @@ impl<'a, const N: usize> Fields<'a, N> {
     /// Whether a field is always there.
     #[tactic(auto, using(crate::proofs::Required::required_fields))]
     pub fn has_required_field(&self) -> bool
-        ensures { IsTrue result ↔ Any (λ field. field.presence ≡ FieldPresence.Required) (fields_of self.now) }
+        ensures { IsTrue result ↔
+            Any (λ field. field.presence ≡ FieldPresence.Required) (fields_of self.now) }
     {
         have_required_field(self.fields)
     }

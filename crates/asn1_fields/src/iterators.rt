@@ -52,7 +52,8 @@ impl<'a> Iterator for FieldIter<'a> {
     fn size_hint(&self) -> (usize, Option<usize>)
         ensures lower { result.0 ≤ length (fields_left self.now) }
         ensures upper { IfSome result.1 (UpTo (item_count fields_left self.now)) }
-        ensures exact { result ≡ (length (fields_left self.now), Some (length (fields_left self.now))) }
+        ensures exact { result ≡
+            (length (fields_left self.now), Some (length (fields_left self.now))) }
     {
         let count = self.len();
         (count, Some(count))
@@ -114,7 +115,8 @@ impl<'a> Iterator for OptionalFieldIter<'a> {
     fn size_hint(&self) -> (usize, Option<usize>)
         ensures lower { result.0 ≤ length (optional_left self.now) }
         ensures upper { IfSome result.1 (UpTo (item_count optional_left self.now)) }
-        ensures exact { result ≡ (length (optional_left self.now), Some (length (optional_left self.now))) }
+        ensures exact { result ≡
+            (length (optional_left self.now), Some (length (optional_left self.now))) }
     {
         let count = self.len();
         (count, Some(count))
@@ -177,7 +179,8 @@ impl<'a> Iterator for IdentifierIter<'a> {
     fn size_hint(&self) -> (usize, Option<usize>)
         ensures lower { result.0 ≤ length (names_left self.now) }
         ensures upper { IfSome result.1 (UpTo (item_count names_left self.now)) }
-        ensures exact { result ≡ (length (names_left self.now), Some (length (names_left self.now))) }
+        ensures exact { result ≡
+            (length (names_left self.now), Some (length (names_left self.now))) }
     {
         let count = self.len();
         (count, Some(count))

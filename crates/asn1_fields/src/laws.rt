@@ -21,24 +21,38 @@ use crate::presence::FieldPresence;
 /// they say the same, and go by what they say, part after part. A clone is its source, and none fails; one of an
 /// iterator has the same items left.
 pub fn derives_take_every_part()
-    ensures presence_equal { (p q : FieldPresence) → IsTrue (⟦<FieldPresence as PartialEq>⟧.eq p q) ↔ (p ≡ q) }
-    ensures presence_order { (p q : FieldPresence) → ⟦<FieldPresence as Ord>⟧.cmp p q ≡ presence_cmp p q }
-    ensures presence_default { (p : FieldPresence) → ⟦<FieldPresence as Default>⟧.is_default p → p ≡ presences.Default }
-    ensures presence_clone { ClonesAll ⟦<FieldPresence as Clone>⟧.is_clone ⟦<FieldPresence as Clone>⟧.is_infallible }
-    ensures field_equal { (f g : Field) → IsTrue (⟦<Field<'static> as PartialEq>⟧.eq f g) ↔ (entry_of f ≡ entry_of g) }
-    ensures field_order { (f g : Field) → ⟦<Field<'static> as Ord>⟧.cmp f g ≡ entry_cmp (entry_of f) (entry_of g) }
-    ensures field_clone { ClonesAll ⟦<Field<'static> as Clone>⟧.is_clone ⟦<Field<'static> as Clone>⟧.is_infallible }
-    ensures iter_clone { (i j : FieldIter) → ⟦<FieldIter<'static> as Clone>⟧.is_clone i j → fields_left j ≡ fields_left i }
-    ensures optional_iter_clone { (i j : OptionalFieldIter) → ⟦<OptionalFieldIter<'static> as Clone>⟧.is_clone i j → optional_left j ≡ optional_left i }
-    ensures identifier_iter_clone { (i j : IdentifierIter) → ⟦<IdentifierIter<'static> as Clone>⟧.is_clone i j → names_left j ≡ names_left i }
-    ensures iter_clone_succeeds { (i : FieldIter) → ⟦<FieldIter<'static> as Clone>⟧.is_infallible i }
-    ensures optional_iter_clone_succeeds { (i : OptionalFieldIter) → ⟦<OptionalFieldIter<'static> as Clone>⟧.is_infallible i }
-    ensures identifier_iter_clone_succeeds { (i : IdentifierIter) → ⟦<IdentifierIter<'static> as Clone>⟧.is_infallible i }
+    ensures presence_equal { (p q : FieldPresence) →
+        IsTrue (⟦<FieldPresence as PartialEq>⟧.eq p q) ↔ (p ≡ q) }
+    ensures presence_order { (p q : FieldPresence) → ⟦<FieldPresence as Ord>⟧.cmp p q ≡
+        presence_cmp p q }
+    ensures presence_default { (p : FieldPresence) → ⟦<FieldPresence as Default>⟧.is_default p →
+        p ≡ presences.Default }
+    ensures presence_clone { ClonesAll ⟦<FieldPresence as Clone>⟧.is_clone
+        ⟦<FieldPresence as Clone>⟧.is_infallible }
+    ensures field_equal { (f g : Field) → IsTrue (⟦<Field<'static> as PartialEq>⟧.eq f g) ↔
+        (entry_of f ≡ entry_of g) }
+    ensures field_order { (f g : Field) → ⟦<Field<'static> as Ord>⟧.cmp f g ≡
+        entry_cmp (entry_of f) (entry_of g) }
+    ensures field_clone { ClonesAll ⟦<Field<'static> as Clone>⟧.is_clone
+        ⟦<Field<'static> as Clone>⟧.is_infallible }
+    ensures iter_clone { (i j : FieldIter) → ⟦<FieldIter<'static> as Clone>⟧.is_clone i j →
+        fields_left j ≡ fields_left i }
+    ensures optional_iter_clone { (i j : OptionalFieldIter) →
+        ⟦<OptionalFieldIter<'static> as Clone>⟧.is_clone i j → optional_left j ≡ optional_left i }
+    ensures identifier_iter_clone { (i j : IdentifierIter) →
+        ⟦<IdentifierIter<'static> as Clone>⟧.is_clone i j → names_left j ≡ names_left i }
+    ensures iter_clone_succeeds { (i : FieldIter) →
+        ⟦<FieldIter<'static> as Clone>⟧.is_infallible i }
+    ensures optional_iter_clone_succeeds { (i : OptionalFieldIter) →
+        ⟦<OptionalFieldIter<'static> as Clone>⟧.is_infallible i }
+    ensures identifier_iter_clone_succeeds { (i : IdentifierIter) →
+        ⟦<IdentifierIter<'static> as Clone>⟧.is_infallible i }
 {}
 
 /// A law of tables: a clone is its source, and none fails.
 pub fn tables_are_cloned_as_they_are<'a, const N: usize>()
-    ensures { ClonesAll ⟦<Fields<'a, N> as Clone>⟧.is_clone ⟦<Fields<'a, N> as Clone>⟧.is_infallible }
+    ensures { ClonesAll ⟦<Fields<'a, N> as Clone>⟧.is_clone
+        ⟦<Fields<'a, N> as Clone>⟧.is_infallible }
 {}
 
 /// A law of loops: `for` over a table, or over a reference to it, gives its fields in order, each once.

@@ -9,7 +9,7 @@
 //! | [`Field`] | a line of a table: place, tag, tree of tags, presence and name | `field.rt` | `Entries` |
 //! | [`FieldPresence`] | whether a component is always there, OPTIONAL or has a DEFAULT | `presence.rt` | `Entries` |
 //! | [`Fields`] | a table of a known number of fields | `fields.rt` | `FieldLists` |
-//! | [`FieldIter`] and its kin | its fields, those that may be absent, and its names | `iterators.rt` | `FieldLists` |
+//! | [`FieldIter`] and the like | its fields, those that may be absent, and its names | `iterators.rt` | `FieldLists` |
 //! | [`laws`] | laws of equality, order, default and clones | `laws.rt` | `EntryOrder` |
 //! | [`first_sequence_clash`], [`first_set_clash`] | the rules on distinct tags | `distinct_tags.rt` | `DistinctTags` |
 //! | [`is_canonical`] | the canonical order | `canonical_order.rt` | `CanonicalOrder` |
@@ -30,14 +30,14 @@
 //!   requires that there are as many fields as its type says.
 //! - Fields are equal if and only if they say the same (`field_equal`), and go by what they say, part after part
 //!   (`field_order`). Presences go as they are listed, and the default one is `Default`.
-//! - `Field::new_required_type` and its kin take the tree of tags from the type's meaning (`typed_entry`,
+//! - `Field::new_required_type` and the like take the tree of tags from the type's meaning (`typed_entry`,
 //!   `tagged_entry`).
 //!
 //! No call takes memory.
 //!
 //! For proofs in other crates, `proofs/` has the test of shared tags (`SharedTags`), the law of the definitions of
 //! clashes (`Clashes`) and of the canonical order (`Orders`), and that all of them look at nothing of a tree but its
-//! leaves, and whether a choice of nothing stands in it (`Alike`).
+//! leaves, and whether a choice of nothing is in it (`Alike`).
 #![tactic(auto)]
 
 mod canonical_order;

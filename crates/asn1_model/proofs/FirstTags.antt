@@ -3,7 +3,7 @@ use Rattle.std.specs.Prelude.{◌≡◌, Bool, true, false, ◌&&◌, List, [], 
 use Rattle.std.proofs.Common.{ap, sym, ◌∙◌, subst, cond}
 use Rattle.std.proofs.lemmas.Bool.{and_parts}
 use Rattle.asn1_tags.specs.declared.tags.Tag.{Tag}
-use Rattle.asn1_model.specs.Records.{Record, scalar, scope, raw, mark, present, is_mark, marks_alone}
+use Rattle.asn1_model.specs.Records.{Record, Side, scalar, scope, raw, mark, present, is_mark, marks_alone}
 use Rattle.asn1_model.specs.Tags.{Tags, every, among, Has, LiesIn, IsOneRecord, BeginsWithin, head_tag, first_of, first_tag, first_tags, record_tags}
 use Rattle.asn1_model.proofs.TagSets.{only_has}
 
@@ -16,8 +16,8 @@ one_begins tags rs one = record {
   within = one.within;
 }
 
-pub present_begins : (tags : Tags) (t : Tag) (rs : List Record) → IsOneRecord tags rs → BeginsWithin tags (mark (present t) ∷ rs)
-present_begins tags t rs one = let b = one_begins tags rs one in record { some = b.some; within = b.within }
+pub present_begins : (tags : Tags) (side : Side) (t : Tag) (rs : List Record) → IsOneRecord tags rs → BeginsWithin tags (mark (present side t) ∷ rs)
+present_begins tags side t rs one = let b = one_begins tags rs one in record { some = b.some; within = b.within }
 
 -- marks are passed over
 pub first_passes : (rs rest : List Record) → marks_alone rs ≡ true → first_tags (rs ++ rest) ≡ first_tags rest

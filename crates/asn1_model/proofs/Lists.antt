@@ -3,10 +3,6 @@ use Rattle.std.specs.Prelude.{◌≡◌, max, List, [], ◌∷◌, refl}
 use Rattle.std.proofs.Common.{ap}
 use Rattle.asn1_model.specs.Records.{Record, Records, none, more, held, listed, height, inner_height, highest}
 
-pub listed-held : (rs : List Record) → listed (held rs) ≡ rs
-listed-held [] = refl
-listed-held (r ∷ rs) = ap (λ l. r ∷ l) (listed-held rs)
-
 pub held-listed : (rs : Records) → held (listed rs) ≡ rs
 held-listed none = refl
 held-listed (more r rs) = ap (λ l. more r l) (held-listed rs)

@@ -7,15 +7,20 @@ use Rattle.std.proofs.lemmas.List.Sorted.{IsPermutation-refl, IsPermutation-sym,
 use Rattle.asn1_tags.specs.declared.tags.Tag.{Tag}
 use Rattle.asn1_model.specs.Composites.{group_records}
 use Rattle.asn1_model.specs.ConstraintSets.{ConstraintSet}
-use Rattle.asn1_model.specs.Orders.{is_unordered, Same, SameAll, equal, in_place, in_any_order, at_end, next}
-use Rattle.asn1_model.specs.Records.{Name, Content, Mark, Head, Record, Records, scalar, scope, raw, mark, none, more, held, listed, holding, highest, marks_alone, is_mark, group_start, group_absent, group_end}
-use Rattle.asn1_model.proofs.Lists.{listed-held, held-listed, inner_height-held}
-use Rattle.asn1_model.proofs.SameRecords.{same-mark, same-inner_height}
+use Rattle.asn1_model.specs.Orders.{is_unordered, Same, SameAll, SameRecords, equal, in_place, in_any_order, at_end, next}
+use Rattle.asn1_model.specs.Records.{Name, Content, Mark, Head, Record, Records, scalar, scope, raw, mark, none, more, held, listed, holding, highest, marks_alone, is_mark, group_start, group_absent, group_end, listed-held}
+use Rattle.asn1_model.specs.Tables.{Line, Table}
+use Rattle.asn1_model.specs.Tags.{first_tags, record_tags}
+use Rattle.asn1_model.proofs.Lists.{held-listed, inner_height-held}
+use Rattle.asn1_model.proofs.SameRecords.{same-mark, same-tags, same-inner_height}
 
 -- each list is the same as itself
 pub SameAll-refl : (rs : Records) → SameAll rs rs
 SameAll-refl none = at_end
 SameAll-refl (more r rs) = next (equal r) (SameAll-refl rs)
+
+pub SameRecords-refl : (rs : List Record) → SameRecords rs rs
+SameRecords-refl rs = SameAll-refl (held rs)
 
 -- two lists that are the same are so place by place
 pub SameAll-cons : {r s : Record} {rs ss : Records} → SameAll (more r rs) (more s ss) → Same r s × SameAll rs ss
@@ -146,6 +151,17 @@ same-marks_alone (r ∷ rs) (s ∷ ss) all =
 pub same-highest : (rs ss : List Record) → SameAll (held rs) (held ss) → highest rs ≡ highest ss
 same-highest rs ss all = sym (inner_height-held rs) ∙ (same-inner_height all ∙ inner_height-held ss)
 
+-- and begin with the same tags
+pub same-first_tags : (rs ss : List Record) → SameRecords rs ss → first_tags rs ≡ first_tags ss
+same-first_tags [] [] all = refl
+same-first_tags [] (s ∷ ss) all = elim all [ ]
+same-first_tags (r ∷ rs) [] all = elim all [ ]
+same-first_tags (r ∷ rs) (s ∷ ss) all =
+    let both = SameAll-cons all in
+    ap (λ b. if b then first_tags rs else record_tags r) (same-mark both.0)
+    ∙ ap (λ ts. if is_mark s then ts else record_tags r) (same-first_tags rs ss both.1)
+    ∙ ap (λ ts. if is_mark s then first_tags ss else ts) (same-tags both.0)
+
 -- records of one head that hold the same are the same
 pub same_holding : (h : Head) (rs ss : List Record) → SameAll (held rs) (held ss) → SameAll (held (holding h rs ∷ [])) (held (holding h ss ∷ []))
 same_holding h rs ss all = next (in_place h all) at_end
@@ -156,16 +172,16 @@ same_rearranged h rs qs ss unordered all moved =
     in_any_order h unordered all (subst (λ l. IsPermutation l (listed (held ss))) (sym (listed-held qs)) (subst (λ l. IsPermutation qs l) (sym (listed-held ss)) moved))
 
 -- a group, which is absent where the other is
-pub same_group_records : (rs ss : List Record) → SameAll (held rs) (held ss) → SameAll (held (group_records (Some rs))) (held (group_records (Some ss)))
-same_group_records rs ss all = by_marks (marks_alone rs) (marks_alone ss) (same-marks_alone rs ss all)
+pub same_group_records : (table : Table Line) (rs ss : List Record) → SameAll (held rs) (held ss) → SameAll (held (group_records table (Some rs))) (held (group_records table (Some ss)))
+same_group_records table rs ss all = by_marks (marks_alone rs) (marks_alone ss) (same-marks_alone rs ss all)
   where
     by_marks : (a b : Bool) → a ≡ b →
-        SameAll (held (if a then mark group_absent ∷ [] else mark group_start ∷ rs ++ mark group_end ∷ [])) (held (if b then mark group_absent ∷ [] else mark group_start ∷ ss ++ mark group_end ∷ []))
+        SameAll (held (if a then mark group_absent ∷ [] else mark (group_start table) ∷ rs ++ mark group_end ∷ [])) (held (if b then mark group_absent ∷ [] else mark (group_start table) ∷ ss ++ mark group_end ∷ []))
     by_marks true true e = SameAll-refl (held (mark group_absent ∷ []))
     by_marks true false e = cc
     by_marks false true e = cc
     by_marks false false e =
-        next (equal (mark group_start)) (SameAll-append rs ss (mark group_end ∷ []) (mark group_end ∷ []) all (SameAll-refl (held (mark group_end ∷ []))))
+        next (equal (mark (group_start table))) (SameAll-append rs ss (mark group_end ∷ []) (mark group_end ∷ []) all (SameAll-refl (held (mark group_end ∷ []))))
 
 -- What holds no other records is the same as itself alone.
 pub same_as_scalar : {q : Record} {t : Tag} {c : ConstraintSet} {n : Name} {x : Content} → Same q (scalar t c n x) → q ≡ scalar t c n x

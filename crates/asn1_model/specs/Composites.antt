@@ -3,15 +3,16 @@ use Rattle.std.specs.Prelude.{ℕ, Bool, List, [], ◌∷◌, ◌++◌, Option, 
 use Rattle.asn1_tags.specs.declared.tags.Tag.{Tag}
 use Rattle.asn1_tags.specs.Tags.{tag_eq}
 use Rattle.asn1_model.specs.ConstraintSets.{ConstraintSet}
-use Rattle.asn1_model.specs.Records.{Name, name_or, Record, raw, mark, holding, marks_alone, sequence, set, sequence_of, set_of, prefix, alternative, present, absent, group_start, group_absent, group_end}
+use Rattle.asn1_model.specs.Records.{Name, name_or, Record, Side, raw, mark, holding, marks_alone, sequence, set, sequence_of, set_of, prefix, alternative, present, absent, group_start, group_absent, group_end}
+use Rattle.asn1_model.specs.Tables.{Line, Table}
 use Rattle.asn1_model.specs.Tags.{CHOICE}
 
--- A SEQUENCE or a SET of components, in the order of their definition (X.680, 25 and 27).
-abbrev pub sequence_records : Tag → Name → List Record → List Record
-sequence_records t n components = holding (sequence t n) components ∷ []
+-- A SEQUENCE or a SET of components, in the order of their definition (X.680, 25 and 27), by the table of the type.
+abbrev pub sequence_records : Tag → Table Line → Name → List Record → List Record
+sequence_records t table n components = holding (sequence t table n) components ∷ []
 
-abbrev pub set_records : Tag → Name → List Record → List Record
-set_records t n components = holding (set t n) components ∷ []
+abbrev pub set_records : Tag → Table Line → Name → List Record → List Record
+set_records t table n components = holding (set t table n) components ∷ []
 
 -- A SEQUENCE OF or a SET OF elements (X.680, 26 and 28).
 abbrev pub list_records : Tag → ConstraintSet → Name → List Record → List Record
@@ -24,17 +25,18 @@ set_of_records t c n elements = holding (set_of t c n) elements ∷ []
 abbrev pub prefix_records : Tag → Name → List Record → List Record
 prefix_records t n rs = holding (prefix t n) rs ∷ []
 
--- The alternative of a CHOICE that was chosen, whose tag is the first of its record (X.680, 29).
-abbrev pub alternative_records : Tag → ConstraintSet → Name → List Record → List Record
-alternative_records chosen c n rs = holding (alternative chosen c n) rs ∷ []
+-- The alternative of a CHOICE that was chosen, whose tag is the first of its record (X.680, 29), by the table of all.
+abbrev pub alternative_records : Tag → ConstraintSet → Table Line → Name → List Record → List Record
+alternative_records chosen c table n rs = holding (alternative chosen c table n) rs ∷ []
 
--- A CHOICE has no tag. Under the tag that stands for none it is its alternative. Under any other it is that under an
+-- A CHOICE has no tag. Under the CHOICE marker tag it is its alternative. Under any other it is that under an
 -- explicit tag, with its own constraints and name inside (X.680, 31.2.7 c).
-abbrev pub choice_records : Tag → List Record → ConstraintSet → Name → Tag → ConstraintSet → Name → List Record
-choice_records chosen rs own_constraints own_name t c n =
+abbrev pub choice_records : Tag → Table Line → List Record → ConstraintSet → Name → Tag →
+    ConstraintSet → Name → List Record
+choice_records chosen table rs own_constraints own_name t c n =
     if tag_eq t CHOICE
-    then alternative_records chosen c (name_or n own_name) rs
-    else prefix_records t (name_or n own_name) (alternative_records chosen own_constraints own_name rs)
+    then alternative_records chosen c table (name_or n own_name) rs
+    else prefix_records t (name_or n own_name) (alternative_records chosen own_constraints table own_name rs)
 
 -- An open type (X.681, 14) is its bytes, under whatever tag.
 abbrev pub raw_records : Name → List ℕ → List Record
@@ -42,17 +44,17 @@ raw_records n bytes = raw n bytes ∷ []
 
 -- A component that may be absent (X.680, 25.1) is a presence mark that says so, or one that says that it is there, and its
 -- records.
-abbrev pub option_records : Tag → Option (List Record) → List Record
-option_records t None = mark (absent t) ∷ []
-option_records t (Some rs) = mark (present t) ∷ rs
+abbrev pub option_records : Side → Tag → Option (List Record) → List Record
+option_records side t None = mark (absent side t) ∷ []
+option_records side t (Some rs) = mark (present side t) ∷ rs
 
 -- A component with a default (X.680, 25.1) is absent where it equals that, as canonical encodings ask (X.690, 11.5).
-abbrev pub default_records : Bool → Tag → List Record → List Record
-default_records is_default t rs = option_records t (if is_default then None else Some rs)
+abbrev pub default_records : Side → Bool → Tag → List Record → List Record
+default_records side is_default t rs = option_records side t (if is_default then None else Some rs)
 
 -- An extension addition group is between two presence marks. It is absent where there is none, and where its components are
 -- marks alone, as PER has it (X.691, 19.9).
-abbrev pub group_records : Option (List Record) → List Record
-group_records None = mark group_absent ∷ []
-group_records (Some components) =
-    if marks_alone components then mark group_absent ∷ [] else mark group_start ∷ components ++ mark group_end ∷ []
+abbrev pub group_records : Table Line → Option (List Record) → List Record
+group_records table None = mark group_absent ∷ []
+group_records table (Some components) =
+    if marks_alone components then mark group_absent ∷ [] else mark (group_start table) ∷ components ++ mark group_end ∷ []

@@ -51,6 +51,6 @@ values_of bound = record unconstrained { value = Some (record { root = record { 
 abbrev pub characters_of : List ℕ → ConstraintSet
 characters_of alphabet = record unconstrained { permitted_alphabet = Some (record { root = alphabet; additions = None }) }
 
--- so many elements
+-- this many elements
 abbrev pub size_of : ℕ → ConstraintSet
 size_of n = record unconstrained { size = Some (record { root = record { bound = bounded.Single n }; additions = None }) }

@@ -9,10 +9,12 @@ use Rattle.asn1_tags.specs.Trees.{Tree, Trees, leaf, choice, leaves}
 use Rattle.asn1_ranges.specs.Members.{IsMember}
 use Rattle.asn1_ranges.specs.declared.bounded.Bounded.{Bounded}
 use Rattle.asn1_model.specs.ConstraintSets.{ConstraintSet, unconstrained, values_of, size_of}
-use Rattle.asn1_model.specs.Records.{Name, Record, name_or, Content, Head, arcs, number, null, units, utf8, scalar, discriminant, holding, sequence_of}
-use Rattle.asn1_model.specs.Tags.{universal, CHOICE, Has, IsATag, head_tag, tree_tags}
+use Rattle.asn1_model.specs.Records.{Name, Record, name_or, Content, Head, arcs, in_root, number, null, units, utf8, scalar, discriminant, holding, sequence_of}
+use Rattle.asn1_model.specs.Tables.{Label, Line, Table}
+use Rattle.asn1_model.specs.Tags.{universal, CHOICE, Has, HasOwnTag, IsATag, first_tag, tree_tags}
 use Rattle.asn1_model.specs.Composites.{option_records, choice_records}
 use Rattle.asn1_model.specs.Meaning.{Meaning, own_records, CanStandInside, CanStandInsideUnder}
+use Rattle.asn1_model.specs.WellFormed.{AreWellFormed, well_formed_choice, well_formed_elements, well_formed_option, well_formed_scope}
 use Rattle.asn1_model.specs.OneRecord.{scalar_is_one, scope_is_one, choice_is_one}
 
 -- A type whose values are contents, each of them one record.
@@ -30,6 +32,7 @@ scalar_type tag constraints name content = record {
   IsOfType = λ _. ⊤;
   IsValid = λ _ _. ⊤;
   one_record = λ v t c n _ _. scalar_is_one t c n (content v);
+  well_formed = λ takes v t c n _. (tt, tt);
 }
 
 -- the type, whose values are written without constraints
@@ -37,6 +40,7 @@ abbrev pub without_constraints : {V : Type 0} → Meaning V → Meaning V
 without_constraints m = record m {
   records = λ v t c n. m.records v t unconstrained n;
   one_record = λ v t c n. m.one_record v t unconstrained n;
+  well_formed = λ takes v t c n. m.well_formed takes v t unconstrained n;
 }
 
 -- the type, whose values are written under its own name where no other is given
@@ -44,6 +48,7 @@ abbrev pub under_own_name : {V : Type 0} → Meaning V → Meaning V
 under_own_name m = record m {
   records = λ v t c n. m.records v t c (name_or n m.name);
   one_record = λ v t c n. m.one_record v t c (name_or n m.name);
+  well_formed = λ takes v t c n. m.well_formed takes v t c (name_or n m.name);
 }
 
 -- A kind of string (X.680, 22, 23 and 41), by its tag, its name, the units that a string can hold, and what these are to
@@ -72,6 +77,7 @@ integer_type number_of bound = record (scalar_type (universal 2) (values_of boun
 abbrev pub limited_integer_type : Bounded ℤ → Meaning ℤ
 limited_integer_type bound = record (scalar_type (universal 2) (values_of bound) (Some (codes "INTEGER")) number) {
   IsValid = λ _ n. IsMember (λ z. z) bound n;
+  well_formed = λ takes v t c n _. (tt, tt);
 }
 
 -- An INTEGER (X.680, 19) of any size.
@@ -93,6 +99,7 @@ through target m = record {
   IsOfType = λ w. m.IsOfType (target w);
   IsValid = λ takes w. m.IsValid takes (target w);
   one_record = λ w. m.one_record (target w);
+  well_formed = λ takes w. m.well_formed takes (target w);
 }
 
 -- A component that may be absent (X.680, 25.1). It is no record of its own where it is absent, so it can be a
@@ -105,26 +112,29 @@ option_type m = record {
   tree = m.tree;
   is_choice = m.is_choice;
   is_present = λ o. is_some o;
-  records = λ o t c n. option_records t (option_map (λ v. m.records v t c n) o);
+  records = λ o t c n. option_records in_root t (option_map (λ v. m.records v t c n) o);
   IsSingleRecord = ⊥;
   IsWellTagged = CanStandInsideUnder m;
   IsOfType = λ o. IfSome o m.IsOfType;
   IsValid = λ takes o. IfSome o (m.IsValid takes);
   one_record = λ v t c n single _. absurd single;
+  well_formed = λ takes o t c n. well_formed_option takes in_root t (m.IsValid takes)
+      (λ v. m.records v t c n) (λ v. m.well_formed takes v t c n) o;
 }
 
--- What a type of values that hold others says of what is inside: whether its types can be there, with distinct tags;
--- whether a value's are of their types; and whether they are valid.
+-- What a type of values that hold others says of what is inside: the records of a value's; whether its types can be there,
+-- with distinct tags; whether a value's are of their types; and whether they are valid, when their records are well formed.
 pub record Inside (V : Type 0) : Type 1 where
   pub records : V → List Record
   pub CanStandInside : Type 0
   pub AreOfType : V → Type 0
   pub AreValid : (List ℕ → Bool) → V → Type 0
+  pub well_formed : (takes : List ℕ → Bool) (v : V) → AreValid takes v → AreWellFormed takes (records v)
 
 -- A type whose value is one record that holds others: by the head of that record, which has the tag that the type is
 -- written under, the type's tag, constraints and name, and what is inside.
 abbrev pub scope_type : {V : Type 0} → (head : Tag → ConstraintSet → Name → Head) →
-    ((t : Tag) (c : ConstraintSet) (n : Name) → head_tag (head t c n) ≡ t) →
+    ((t : Tag) (c : ConstraintSet) (n : Name) → HasOwnTag t (head t c n)) →
     Tag → ConstraintSet → Name → Inside V → Meaning V
 scope_type head at tag constraints name inside = record {
   tag = tag;
@@ -139,11 +149,13 @@ scope_type head at tag constraints name inside = record {
   IsOfType = inside.AreOfType;
   IsValid = inside.AreValid;
   one_record = λ v t c n _ _. scope_is_one t (head t c n) (inside.records v) (at t c n);
+  well_formed = λ takes v t c n valid.
+      well_formed_scope takes t (head t c n) (inside.records v) (at t c n) (inside.well_formed takes v valid);
 }
 
 -- A type of elements of one type, by the head of its record, its tag, name and constraints.
 abbrev pub elements_type : {V W : Type 0} → (head : Tag → ConstraintSet → Name → Head) →
-    ((t : Tag) (c : ConstraintSet) (n : Name) → head_tag (head t c n) ≡ t) →
+    ((t : Tag) (c : ConstraintSet) (n : Name) → HasOwnTag t (head t c n)) →
     Tag → List ℕ → ConstraintSet → (W → List V) → Meaning V → Meaning W
 elements_type head at tag name constraints elements m =
     under_own_name (scope_type head at tag constraints (Some name) (record {
@@ -151,6 +163,8 @@ elements_type head at tag name constraints elements m =
       CanStandInside = CanStandInside m;
       AreOfType = λ w. All m.IsOfType (elements w);
       AreValid = λ takes w. All (m.IsValid takes) (elements w);
+      well_formed = λ takes w. well_formed_elements takes (m.IsValid takes) (own_records m)
+          (λ v. m.well_formed takes v m.tag m.constraints m.name) (elements w);
     }))
 
 -- A SEQUENCE OF (X.680, 26).
@@ -158,7 +172,7 @@ abbrev pub list_type : {V W : Type 0} → (W → List V) → ConstraintSet → M
 list_type elements constraints =
     elements_type sequence_of (λ _ _ _. refl) (universal 16) (codes "SEQUENCE_OF") constraints elements
 
--- A SEQUENCE OF so many elements.
+-- A SEQUENCE OF this many elements.
 abbrev pub array_type : {V : Type 0} → ℕ → Meaning V → Meaning (List V)
 array_type size m = record (list_type (λ elements. elements) (size_of size) m) {
   IsOfType = λ elements. (length elements ≡ size) × All m.IsOfType elements;
@@ -179,27 +193,30 @@ empty_type = record {
   IsOfType = λ _. ⊤;
   IsValid = λ _ _. ⊤;
   one_record = λ v t c n single _. absurd single;
+  well_formed = λ _ _ _ _ _ _. tt;
 }
 
 -- The marker of a tag that X.680 assigns (8.4, table 1): a NULL under this tag.
 abbrev pub marker_type : {V : Type 0} → Tag → Meaning V
 marker_type tag = without_constraints (scalar_type tag unconstrained None (λ _. null))
 
--- An ENUMERATED (X.680, 20), by its tag, constraints and name, and by the number of each value.
-abbrev pub enumerated_type : {V : Type 0} → Tag → ConstraintSet → Name → (V → ℤ) → Meaning V
-enumerated_type tag constraints name number_of =
-    without_constraints (scalar_type tag constraints name (λ v. discriminant (number_of v)))
+-- An ENUMERATED (X.680, 20), by its tag, constraints and name, the labels of its items, and the number of each value.
+abbrev pub enumerated_type : {V : Type 0} → Tag → ConstraintSet → Name → Table Label → (V → ℤ) →
+    Meaning V
+enumerated_type tag constraints name labels number_of =
+    without_constraints (scalar_type tag constraints name (λ v. discriminant labels (number_of v)))
 
 -- the tags with which a CHOICE can begin: those of its alternatives where it is untagged, else the tag alone (X.680, 29)
 abbrev pub choice_tree : Tree → Tag → Tree
 choice_tree alternatives t = if tag_eq t CHOICE then alternatives else leaf t
 
--- What a CHOICE says of its alternatives: their trees, and of each value the tag of the chosen one, which is one of
--- theirs, as the first tag of what is inside.
+-- What a CHOICE says of its alternatives: their table and their trees. The chosen tag is the first of what is inside a value,
+-- and one of theirs.
 pub record Chosen {V : Type 0} (inside : Inside V) : Type 0 where
+  pub table : Table Line
   pub alternatives : Trees
-  pub tag : V → Tag
-  pub among : inside.CanStandInside → (v : V) → Has (tree_tags (choice alternatives)) (tag v)
+  pub among : inside.CanStandInside → (v : V) →
+      Has (tree_tags (choice alternatives)) (first_tag (inside.records v))
 
 -- A CHOICE (X.680, 29), by its name and constraints, the chosen alternative, and what is said of all. Untagged it begins
 -- with the tag of the chosen one. It is well tagged where no tag is twice among its alternatives (29.3) and their types
@@ -212,10 +229,14 @@ choice_type name constraints inside chosen = record {
   tree = choice_tree (choice chosen.alternatives);
   is_choice = true;
   is_present = λ _. true;
-  records = λ v. choice_records (chosen.tag v) (inside.records v) constraints name;
+  records = λ v. choice_records (first_tag (inside.records v)) chosen.table (inside.records v) constraints name;
   IsSingleRecord = ⊤;
   IsWellTagged = λ _. IsTrue (distinct (leaves (choice chosen.alternatives))) × inside.CanStandInside;
   IsOfType = inside.AreOfType;
   IsValid = inside.AreValid;
-  one_record = λ v t c n _ well. choice_is_one (choice chosen.alternatives) (chosen.tag v) (inside.records v) constraints name (chosen.among well.1 v) t c n;
+  one_record = λ v t c n _ well. choice_is_one (choice chosen.alternatives)
+      (first_tag (inside.records v)) chosen.table (inside.records v) constraints name
+      (chosen.among well.1 v) t c n;
+  well_formed = λ takes v t c n valid. well_formed_choice takes chosen.table (inside.records v)
+      constraints name t c n (inside.well_formed takes v valid);
 }

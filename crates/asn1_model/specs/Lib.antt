@@ -1,4 +1,5 @@
 pub mod ConstraintSets
+pub mod Tables
 pub mod Records
 pub mod Tags
 pub mod Orders
@@ -7,5 +8,6 @@ pub mod Meaning
 pub mod Kinds
 pub mod TypeTables
 pub mod OneRecord
+pub mod WellFormed
 pub mod TaggedTypes
 pub mod Premises

@@ -5,6 +5,7 @@ use Rattle.asn1_tags.specs.Trees.{Tree}
 use Rattle.asn1_model.specs.ConstraintSets.{ConstraintSet}
 use Rattle.asn1_model.specs.Records.{Name, Record}
 use Rattle.asn1_model.specs.Tags.{Tags, tree_tags, IsOneRecord}
+use Rattle.asn1_model.specs.WellFormed.{AreWellFormed}
 
 -- The meaning of a type with the values V.
 pub record Meaning (V : Type 0) : Type 1 where
@@ -37,6 +38,9 @@ pub record Meaning (V : Type 0) : Type 1 where
   -- with one of the type's tags.
   pub one_record : (v : V) (t : Tag) (c : ConstraintSet) (n : Name) →
       IsSingleRecord → IsWellTagged t → IsOneRecord (tree_tags (tree t)) (records v t c n)
+  -- The law of valid values: their records are well formed.
+  pub well_formed : (takes : List ℕ → Bool) (v : V) (t : Tag) (c : ConstraintSet) (n : Name) →
+      IsValid takes v → AreWellFormed takes (records v t c n)
 
 module _ {V : Type 0} (m : Meaning V) where
   -- the tags with which a value under the tag can begin

@@ -1,15 +1,15 @@
 -- The same records, up to the order of what a SET or a SET OF holds.
-use Rattle.std.specs.Prelude.{◌≡◌, Bool, true, false, IsPermutation}
-use Rattle.asn1_model.specs.Records.{Record, Records, scope, none, more, listed, Head, sequence, set, sequence_of, set_of, prefix, alternative}
+use Rattle.std.specs.Prelude.{◌≡◌, Bool, true, false, List, IsPermutation}
+use Rattle.asn1_model.specs.Records.{Record, Records, scope, none, more, held, listed, Head, sequence, set, sequence_of, set_of, prefix, alternative}
 
--- the order of what stands in it means nothing: the components of a SET, the elements of a SET OF (X.680, 27 and 28)
+-- the order of what is in it means nothing: the components of a SET, the elements of a SET OF (X.680, 27 and 28)
 abbrev pub is_unordered : Head → Bool
-is_unordered (sequence t n) = false
-is_unordered (set t n) = true
+is_unordered (sequence t table n) = false
+is_unordered (set t table n) = true
 is_unordered (sequence_of t c n) = false
 is_unordered (set_of t c n) = true
 is_unordered (prefix t n) = false
-is_unordered (alternative t c n) = false
+is_unordered (alternative t c table n) = false
 
 -- Two records are the same up to order if they are equal, or if they have one head and hold lists that are the same up
 -- to order place by place, where the order means nothing after some rearrangement of the second.
@@ -22,3 +22,7 @@ mutual
   pub data SameAll : Records → Records → Type 0 where
     at_end : SameAll none none
     next : {r s : Record} {rs ss : Records} → Same r s → SameAll rs ss → SameAll (more r rs) (more s ss)
+
+-- Lists of records that are the same up to the order inside sets.
+abbrev pub SameRecords : List Record → List Record → Type 0
+SameRecords rs ss = SameAll (held rs) (held ss)

@@ -1,7 +1,9 @@
 -- What a value means to a codec: a list of records and presence marks.
-use Rattle.std.specs.Prelude.{ℕ, suc, max, ℤ, Bool, true, false, ◌&&◌, List, [], ◌∷◌, Option, None, Some}
+use Rattle.std.specs.Prelude.{◌≡◌, ℕ, suc, max, ℤ, Bool, true, false, ◌&&◌, List, [], ◌∷◌, Option, None, Some, refl}
+use Rattle.std.proofs.Common.{ap}
 use Rattle.asn1_tags.specs.declared.tags.Tag.{Tag}
 use Rattle.asn1_model.specs.ConstraintSets.{ConstraintSet}
+use Rattle.asn1_model.specs.Tables.{Label, Line, Table}
 
 -- the name of a type, as the list of its characters, or no name
 abbrev pub Name : Type 0
@@ -26,32 +28,40 @@ pub data StringKind : Type 0 where
   bmp : StringKind
 
 -- What is in a record that holds no others (X.680, 18 to 24, 32 and 41). Each kind of type has contents of its own:
--- an INTEGER and an ENUMERATED of one number differ, and so do two strings of the same units and different kinds.
+-- an INTEGER and an ENUMERATED of one number differ, and so do two strings of the same units and different kinds. The number
+-- of an ENUMERATED value is beside the labels of its type.
 pub data Content : Type 0 where
   null : Content
   truth : Bool → Content
   number : ℤ → Content
-  discriminant : ℤ → Content
+  discriminant : Table Label → ℤ → Content
   arcs : List ℕ → Content
   bits : List Bool → Content
   units : StringKind → List ℕ → Content
 
 -- What a record is that holds others, apart from these (X.680, 25 to 31): the components of a SEQUENCE or a SET in the
 -- order of their definition, the elements of a SEQUENCE OF or a SET OF, what follows an explicit tag, or the
--- chosen alternative of a CHOICE, whose tag is that of the alternative.
+-- chosen alternative of a CHOICE, whose tag is that of the alternative. Components and alternatives are beside the table of
+-- their type.
 pub data Head : Type 0 where
-  sequence : Tag → Name → Head
-  set : Tag → Name → Head
+  sequence : Tag → Table Line → Name → Head
+  set : Tag → Table Line → Name → Head
   sequence_of : Tag → ConstraintSet → Name → Head
   set_of : Tag → ConstraintSet → Name → Head
   prefix : Tag → Name → Head
-  alternative : Tag → ConstraintSet → Name → Head
+  alternative : Tag → ConstraintSet → Table Line → Name → Head
 
--- A presence mark: whether a component is there, and where the components of a group begin and end.
+-- Where a component is in its definition: in the root, or among the additions (X.680, 25.1).
+pub data Side : Type 0 where
+  in_root : Side
+  in_additions : Side
+
+-- A presence mark: whether a component is there, and where the components of a group begin, which has a table of its own,
+-- and end.
 pub data Mark : Type 0 where
-  present : Tag → Mark
-  absent : Tag → Mark
-  group_start : Mark
+  present : Side → Tag → Mark
+  absent : Side → Tag → Mark
+  group_start : Table Line → Mark
   group_absent : Mark
   group_end : Mark
 
@@ -78,11 +88,16 @@ abbrev pub listed : Records → List Record
 listed none = []
 listed (more r rs) = r ∷ listed rs
 
+-- the same list, where it is held and listed again
+pub listed-held : (rs : List Record) → listed (held rs) ≡ rs
+listed-held [] = refl
+listed-held (r ∷ rs) = ap (λ later. r ∷ later) (listed-held rs)
+
 -- the record of this head that holds the list
 abbrev pub holding : Head → List Record → Record
 holding h rs = scope h (held rs)
 
--- How many records are in one another: none in a content, and one more than in the highest of those that it holds.
+-- How deeply records are nested: not at all in a content, and one deeper than the highest of those that it holds.
 abbrev mutual
   pub height : Record → ℕ
   height (scalar t c n x) = 0

@@ -5,6 +5,7 @@ use Rattle.asn1_tags.specs.Trees.{Tree, leaf}
 use Rattle.asn1_model.specs.Composites.{prefix_records}
 use Rattle.asn1_model.specs.Meaning.{Meaning, own_records, CanStandInside, CanStandInsideUnder}
 use Rattle.asn1_model.specs.OneRecord.{scope_is_one}
+use Rattle.asn1_model.specs.WellFormed.{AreWellFormed}
 use Rattle.asn1_model.specs.Records.{Name, Record, prefix}
 use Rattle.asn1_model.specs.Tags.{IsATag, IsOneRecord, tree_tags}
 
@@ -23,6 +24,9 @@ pub record TaggedType (W : Type 0) : Type 1 where
   pub IsValid : (List ℕ → Bool) → W → Type 0
   -- then each value is one record, which begins with one of the tags
   pub one_record : CanStandInside → (w : W) → IsOneRecord (tree_tags tree) (records w)
+  -- and the records of each valid value are well formed
+  pub well_formed : (takes : List ℕ → Bool) (w : W) →
+      IsValid takes w → AreWellFormed takes (records w)
 
 -- under a tag in the place of its own; a CHOICE is after it, as after an explicit tag (31.2.7 c)
 abbrev pub tagged : {W : Type 0} → Tag → Meaning W → TaggedType W
@@ -34,6 +38,7 @@ tagged t m = record {
   IsOfType = m.IsOfType;
   IsValid = m.IsValid;
   one_record = λ can w. m.one_record w t m.constraints m.name can.0 can.1;
+  well_formed = λ takes w. m.well_formed takes w t m.constraints m.name;
 }
 
 -- under its own tag; a CHOICE is untagged there
@@ -50,6 +55,7 @@ explicitly_tagged_as name t m = record {
   IsOfType = m.IsOfType;
   IsValid = m.IsValid;
   one_record = λ _ w. scope_is_one t (prefix t name) (own_records m w) refl;
+  well_formed = λ takes w valid. ((tt, m.well_formed takes w m.tag m.constraints m.name valid), tt);
 }
 
 -- after an explicit tag, which has the type's name

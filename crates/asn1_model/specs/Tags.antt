@@ -14,11 +14,11 @@ universal n = record { class = Universal; value = n }
 abbrev pub context : ℕ → Tag
 context n = record { class = Context; value = n }
 
--- the tag that stands for none: a CHOICE under it is untagged
+-- the CHOICE marker tag: a CHOICE under it is untagged
 abbrev pub CHOICE : Tag
 CHOICE = universal 0
 
--- the tag is one that a type can have, and not the one that stands for none
+-- the tag is one that a type can have, and not the CHOICE marker tag
 abbrev pub IsATag : Tag → Type 0
 IsATag t = tag_eq t CHOICE ≡ false
 
@@ -49,12 +49,21 @@ LiesIn (among ts) b = (t : Tag) → Contains ts t → Has b t
 
 -- the tag of a record that holds others: an alternative has that of what was chosen
 abbrev pub head_tag : Head → Tag
-head_tag (sequence t n) = t
-head_tag (set t n) = t
+head_tag (sequence t table n) = t
+head_tag (set t table n) = t
 head_tag (sequence_of t c n) = t
 head_tag (set_of t c n) = t
 head_tag (prefix t n) = t
-head_tag (alternative t c n) = t
+head_tag (alternative t c table n) = t
+
+-- the head has this tag as that of its own record, and so is no alternative
+abbrev pub HasOwnTag : Tag → Head → Type 0
+HasOwnTag u (sequence t table n) = t ≡ u
+HasOwnTag u (set t table n) = t ≡ u
+HasOwnTag u (sequence_of t c n) = t ≡ u
+HasOwnTag u (set_of t c n) = t ≡ u
+HasOwnTag u (prefix t n) = t ≡ u
+HasOwnTag u (alternative t c table n) = ⊥
 
 -- the tags with which a record can begin: its own, for a value as its bytes every tag, for a presence mark none
 abbrev pub record_tags : Record → Tags
@@ -68,15 +77,24 @@ abbrev pub first_tags : List Record → Tags
 first_tags [] = among []
 first_tags (r ∷ rs) = if is_mark r then first_tags rs else record_tags r
 
--- the first of a list of tags, or the tag that stands for none
+-- the first of a list of tags, or the CHOICE marker tag
 abbrev pub first_of : Tags → Tag
 first_of every = CHOICE
 first_of (among []) = CHOICE
 first_of (among (t ∷ ts)) = t
 
--- the tag with which a list begins, or the tag that stands for none where it can be any
+-- the tag with which a list begins, or the CHOICE marker tag where it can be any
 abbrev pub first_tag : List Record → Tag
 first_tag rs = first_of (first_tags rs)
+
+-- an alternative has the first tag of what is inside
+abbrev pub HoldsItsTag : Head → List Record → Type 0
+HoldsItsTag (sequence t table n) rs = ⊤
+HoldsItsTag (set t table n) rs = ⊤
+HoldsItsTag (sequence_of t c n) rs = ⊤
+HoldsItsTag (set_of t c n) rs = ⊤
+HoldsItsTag (prefix t n) rs = ⊤
+HoldsItsTag (alternative t c table n) rs = first_tag rs ≡ t
 
 -- The list is one record, which is no presence mark, and its first tags lie in these.
 pub record IsOneRecord (tags : Tags) (rs : List Record) : Type 0 where

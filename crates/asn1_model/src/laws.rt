@@ -37,7 +37,8 @@ pub use records::{
 /// A law of the markers: each name is that of the number that X.680 gives its type (8.4, table 1), and the marker of a
 /// number is a NULL under it.
 pub fn markers_have_their_numbers<const NUMBER: u32>(_marker: Marker<NUMBER>)
-    ensures records { own_records ⟦<Marker<NUMBER> as AsnType>⟧.meaning _marker.entry ≡ scalar (universal NUMBER) unconstrained None null ∷ [] }
+    ensures records { own_records ⟦<Marker<NUMBER> as AsnType>⟧.meaning _marker.entry ≡
+        scalar (universal NUMBER) unconstrained None null ∷ [] }
     ensures eoc { ⟦<EOC as AsnType>⟧.meaning.tag ≡ universal 0 }
     ensures bool { ⟦<BOOL as AsnType>⟧.meaning.tag ≡ universal 1 }
     ensures integer { ⟦<INTEGER as AsnType>⟧.meaning.tag ≡ universal 2 }
@@ -100,16 +101,26 @@ pub fn strings_have_the_records_of_their_kinds()
 /// A law of the kinds of string: which units a string of each kind can have (X.680, 22, 23, 32 and 41).
 pub fn strings_have_the_units_of_their_kinds()
     ensures bit_string { (s : List Bool) → ⟦<BitString as AsnType>⟧.meaning.IsOfType s }
-    ensures octet_string { (s : List ℕ) → ⟦<OctetString as AsnType>⟧.meaning.IsOfType s ↔ All (λ unit. unit < 2 ^ 8) s }
-    ensures object_identifier { (s : List ℕ) → ⟦<ObjectIdentifier as AsnType>⟧.meaning.IsOfType s ↔ All (λ unit. unit < 2 ^ 32) s }
-    ensures numeric_string { (s : List ℕ) → ⟦<NumericString as AsnType>⟧.meaning.IsOfType s ↔ All (λ unit. IsTrue (is_numeric unit)) s }
-    ensures printable_string { (s : List ℕ) → ⟦<PrintableString as AsnType>⟧.meaning.IsOfType s ↔ All (λ unit. IsTrue (is_printable unit)) s }
-    ensures teletex_string { (s : List ℕ) → ⟦<TeletexString as AsnType>⟧.meaning.IsOfType s ↔ All (λ unit. unit < 2 ^ 32) s }
-    ensures ia5_string { (s : List ℕ) → ⟦<Ia5String as AsnType>⟧.meaning.IsOfType s ↔ All (λ unit. IsTrue (is_ia5 unit)) s }
-    ensures graphic_string { (s : List ℕ) → ⟦<GraphicString as AsnType>⟧.meaning.IsOfType s ↔ All (λ unit. unit < 2 ^ 8) s }
-    ensures visible_string { (s : List ℕ) → ⟦<VisibleString as AsnType>⟧.meaning.IsOfType s ↔ All (λ unit. IsTrue (is_visible unit)) s }
-    ensures general_string { (s : List ℕ) → ⟦<GeneralString as AsnType>⟧.meaning.IsOfType s ↔ All (λ unit. unit < 2 ^ 8) s }
-    ensures bmp_string { (s : List ℕ) → ⟦<BmpString as AsnType>⟧.meaning.IsOfType s ↔ All (λ unit. unit < 2 ^ 16) s }
+    ensures octet_string { (s : List ℕ) → ⟦<OctetString as AsnType>⟧.meaning.IsOfType s ↔
+        All (λ unit. unit < 2 ^ 8) s }
+    ensures object_identifier { (s : List ℕ) → ⟦<ObjectIdentifier as AsnType>⟧.meaning.IsOfType s ↔
+        All (λ unit. unit < 2 ^ 32) s }
+    ensures numeric_string { (s : List ℕ) → ⟦<NumericString as AsnType>⟧.meaning.IsOfType s ↔
+        All (λ unit. IsTrue (is_numeric unit)) s }
+    ensures printable_string { (s : List ℕ) → ⟦<PrintableString as AsnType>⟧.meaning.IsOfType s ↔
+        All (λ unit. IsTrue (is_printable unit)) s }
+    ensures teletex_string { (s : List ℕ) → ⟦<TeletexString as AsnType>⟧.meaning.IsOfType s ↔
+        All (λ unit. unit < 2 ^ 32) s }
+    ensures ia5_string { (s : List ℕ) → ⟦<Ia5String as AsnType>⟧.meaning.IsOfType s ↔
+        All (λ unit. IsTrue (is_ia5 unit)) s }
+    ensures graphic_string { (s : List ℕ) → ⟦<GraphicString as AsnType>⟧.meaning.IsOfType s ↔
+        All (λ unit. unit < 2 ^ 8) s }
+    ensures visible_string { (s : List ℕ) → ⟦<VisibleString as AsnType>⟧.meaning.IsOfType s ↔
+        All (λ unit. IsTrue (is_visible unit)) s }
+    ensures general_string { (s : List ℕ) → ⟦<GeneralString as AsnType>⟧.meaning.IsOfType s ↔
+        All (λ unit. unit < 2 ^ 8) s }
+    ensures bmp_string { (s : List ℕ) → ⟦<BmpString as AsnType>⟧.meaning.IsOfType s ↔
+        All (λ unit. unit < 2 ^ 16) s }
 {}
 
 /// A law of the built-in integers: the numbers of a type are those of its width, and each value is one of them.
@@ -156,6 +167,7 @@ pub fn built_in_integers_are_numbers_of_their_widths(
 
 /// A law of tables: a clone is its source, and none fails.
 pub fn tables_are_cloned_as_they_are()
-    ensures tables { ClonesAll ⟦<TypeTable as Clone>⟧.is_clone ⟦<TypeTable as Clone>⟧.is_infallible }
+    ensures tables { ClonesAll ⟦<TypeTable as Clone>⟧.is_clone
+        ⟦<TypeTable as Clone>⟧.is_infallible }
     ensures forms { ClonesAll ⟦<TreeForm as Clone>⟧.is_clone ⟦<TreeForm as Clone>⟧.is_infallible }
 {}

@@ -24,11 +24,15 @@
 //! - The law of types is a part of each meaning (`one_record` of `specs/Meaning.antt`): a value of a type whose values are
 //!   single records (`IsSingleRecord`), and whose tags are distinct (`IsWellTagged`), is one record, which begins with one
 //!   of the type's tags.
+//! - The law of valid values is a part of each meaning too (`well_formed`): their records hold open types that the codec
+//!   takes, and each chosen tag is the first of what is inside (`records_of_a_valid_value_are_well_formed`).
 //! - A meaning tells apart what every value has that a program can make (`IsOfType`) and what is asked of whoever writes it
 //!   (`IsValid`).
-//! - `specs/Records.antt` has the records, marks and heights; `specs/Tags.antt` the first tags of a list of records and
-//!   the tags of a tree; `specs/Orders.antt` what it is to be the same up to order; `specs/ConstraintSets.antt` a set of
-//!   constraints apart from where it lies in memory; `specs/TypeTables.antt` the tree of tags that a table stands for.
+//! - `specs/Records.antt` has the records, marks and heights; `specs/Tables.antt` the table of a type that records carry
+//!   beside a value; `specs/Tags.antt` the first tags of a list of records and the tags of a tree; `specs/Orders.antt` what
+//!   it is to be the same up to order; `specs/WellFormed.antt` what it is to be well formed; `specs/ConstraintSets.antt` a
+//!   set of constraints apart from where it lies in memory; `specs/TypeTables.antt` the tree of tags that a table
+//!   means.
 //! - `specs/Composites.antt` has the records of what is put together of parts, a word for each: `sequence_records`,
 //!   `option_records`, `group_records` and their kin. `specs/Meaning.antt` says what a meaning is, and `specs/Kinds.antt`
 //!   has that of each kind of type: `scalar_type`, `list_type`, `option_type` and so on. `specs/OneRecord.antt` has what
@@ -48,8 +52,10 @@ mod orders;
 mod strings;
 pub mod tag;
 mod type_table;
+mod well_formed;
 
 pub use asn_type::AsnType;
 pub use orders::order_inside_sets_is_not_seen;
 pub use strings::StringType;
 pub use type_table::{TreeForm, TypeTable};
+pub use well_formed::records_of_a_valid_value_are_well_formed;

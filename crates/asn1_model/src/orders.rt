@@ -20,5 +20,6 @@ pub fn sameness_is_an_equivalence()
     ensures transitive { (r s t : Record) → Same r s → Same s t → Same r t }
     ensures reflexive_of_lists { (rs : Records) → SameAll rs rs }
     ensures symmetric_of_lists { (rs ss : Records) → SameAll rs ss → SameAll ss rs }
-    ensures transitive_of_lists { (rs ss ts : Records) → SameAll rs ss → SameAll ss ts → SameAll rs ts }
+    ensures transitive_of_lists { (rs ss ts : Records) → SameAll rs ss → SameAll ss ts →
+        SameAll rs ts }
 {}

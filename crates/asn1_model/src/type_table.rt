@@ -13,7 +13,7 @@ use asn1_tags::{Identifier, Tag, TagTree};
 pub enum TreeForm {
     /// That tag alone.
     Leaf,
-    /// The alternatives of a CHOICE: their tags under [`Tag::CHOICE`], which stands for no tag; under any other that one.
+    /// The alternatives of a CHOICE: their tags under the marker [`Tag::CHOICE`]; under any other tag that one.
     Choice(&'static [TagTree<'static>]),
     /// Every tag, whatever the type is written under: an open type.
     Open,
@@ -90,7 +90,8 @@ impl TypeTable {
         ensures tag { result.tag ≡ self.tag }
         ensures tree { result.tree ≡ self.tree }
         ensures identifier { result.identifier ≡ self.identifier }
-        ensures constraints { table_constraints result.constraints ≡ table_constraints constraints.entry }
+        ensures constraints { table_constraints result.constraints ≡
+            table_constraints constraints.entry }
     {
         TypeTable {
             constraints,

@@ -8,7 +8,7 @@ use Rattle.asn1_ranges.specs.Ends.{start_of, end_of}
 abbrev pub is_signed : Bounded ℤ → Bool
 is_signed b = option_map_or (λ start. int_lt start (pos 0)) (start_of b) true
 
--- so many octets hold the number, in two's complement where there is a sign
+-- this many octets hold the number, in two's complement where there is a sign
 abbrev pub fits_octets : Bool → ℕ → ℤ → Bool
 fits_octets true octets n = int_le (neg_ℤ (pos (2 ^ (8 * octets - 1)))) n && int_lt n (pos (2 ^ (8 * octets - 1)))
 fits_octets false octets n = int_le (pos 0) n && int_lt n (pos (2 ^ (8 * octets)))

@@ -162,7 +162,8 @@ impl<T: WholeNumber> Bounded<T> {
     /// What a codec writes of a member: its offset (`Left`) from the start of a range that has one, and else the
     /// value itself (`Right`).
     pub fn effective_value(&self, value: T) -> Either<T, T>
-        requires above { ForSome (range_start self.now) (λ start. T.number start ≤ℤ T.number value) }
+        requires above { ForSome (range_start self.now)
+            (λ start. T.number start ≤ℤ T.number value) }
         requires fits { ForSome (range_start self.now)
             (λ start. distance T.number start value ≤ℤ T.greatest) }
         ensures offset { IfSome (range_start self.now)

@@ -17,7 +17,8 @@ pub fn bounds_are_compared_by_ends<T: Ord + Hash>()
     ensures order { (a b : Bounded T) → ⟦<Bounded<T> as Ord>⟧.cmp a b ≡ bound_cmp T.cmp a b }
     ensures partial_order { (a b : Bounded T) →
         ⟦<Bounded<T> as PartialOrd>⟧.partial_cmp a b ≡ Some (⟦<Bounded<T> as Ord>⟧.cmp a b) }
-    ensures hash { (a : Bounded T) → ⟦<Bounded<T> as Hash>⟧.hash_input a ≡ bound_hash T.hash_input a }
+    ensures hash { (a : Bounded T) → ⟦<Bounded<T> as Hash>⟧.hash_input a ≡
+        bound_hash T.hash_input a }
     ensures default { (a : Bounded T) → ⟦<Bounded<T> as Default>⟧.is_default a → a ≡ Bounded.None }
 {}
 
@@ -25,7 +26,8 @@ pub fn bounds_are_compared_by_ends<T: Ord + Hash>()
 pub fn bounds_of_numbers_are_told_apart()
     ensures values { TellsApart ⟦<Bounded<i128> as PartialEq>⟧.eq }
     ensures lengths { TellsApart ⟦<Bounded<usize> as PartialEq>⟧.eq }
-    ensures clone { ClonesExactly ⟦<Bounded<i128> as Clone>⟧.is_clone ⟦<Bounded<i128> as Clone>⟧.is_infallible }
+    ensures clone { ClonesExactly ⟦<Bounded<i128> as Clone>⟧.is_clone
+        ⟦<Bounded<i128> as Clone>⟧.is_infallible }
 {}
 
 /// The text of a bound is that of its ends, with two dots between those of a range.
@@ -33,7 +35,7 @@ pub fn bounds_are_printed_by_ends<T: fmt::Display>()
     ensures { (a : Bounded T) → ⟦<Bounded<T> as fmt::Display>⟧.output a ≡ bound_text T.output a }
 {}
 
-/// The number that a value of a built-in integer type stands for in contracts is the value.
+/// The number that a value of a built-in integer type represents in contracts is the value.
 pub fn whole_numbers_are_their_values()
     ensures of_u8 { (n : ℕ) → ⟦<u8 as WholeNumber>⟧.number n ≡ pos n }
     ensures of_u16 { (n : ℕ) → ⟦<u16 as WholeNumber>⟧.number n ≡ pos n }

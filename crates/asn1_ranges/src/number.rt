@@ -18,7 +18,8 @@ pub trait WholeNumber: Copy + Ord {
     /// How many whole numbers there are from this one to `last`: none where `last` is below this one, and the
     /// greatest number of the type where there are more than it can tell.
     fn count_to(self, last: Self) -> Self
-        ensures { number result ≡ int_min (pos (numbers_between (number self) (number last))) greatest };
+        ensures { number result ≡
+            int_min (pos (numbers_between (number self) (number last))) greatest };
 
     /// How far this number is above `start`, where it is not below it and the type has a number for that. Otherwise
     /// some number of the type.

@@ -32,7 +32,7 @@ fn first_width(widths: &[u8], signed: bool, start: i128, end: i128) -> Option<u8
         && fits_octets(signed, *octets, end))
 }
 
-// Whether so many octets hold the number, in two's complement where there is a sign.
+// Whether this many octets hold the number, in two's complement where there is a sign.
 fn fits_octets(signed: bool, octets: u8, number: i128) -> bool
     ensures { result ≡ fits_octets signed octets number }
 {

@@ -1,35 +1,28 @@
 -- What a record of the program is, and what is found in it.
-use Rattle.std.specs.Prelude.{◌≡◌, ℕ, ◌≤◌, ⊤, false, List, ◌∷◌, IsPermutation, Result, MatchResult}
+use Rattle.std.specs.Prelude.{◌≡◌, ℕ, ◌≤◌, ⊤, List, ◌∷◌, Result, MatchResult}
 use Rattle.asn1_tags.specs.declared.tags.Tag.{Tag}
-use Rattle.asn1_model.specs.Orders.{Same, SameAll, is_unordered}
 use Rattle.asn1_model.specs.Records as model
-use Rattle.asn1_model.specs.Records.{scalar, scope, raw, mark, held, sequence, set, sequence_of, set_of, prefix, alternative}
+use Rattle.asn1_model.specs.Records.{scalar, scope, raw, mark, holding, sequence, set, sequence_of, set_of, prefix, alternative}
 use Rattle.asn1_model.specs.Tags.{head_tag}
-use Rattle.asn1_dec.specs.Reading.{Ahead, records_in}
+use Rattle.asn1_dec.specs.Reading.{Ahead, Moves, records_in}
 use Rattle.asn1_dec.specs.declared.error.DecodeError.{DecodeError}
 use Rattle.asn1_dec.specs.declared.error.DecodeError.TheVariants.{Memory}
-use Rattle.asn1_record_decoder.specs.Reading.{StandsBefore}
+use Rattle.asn1_record_decoder.specs.Reading.{StandsExactly, in_one_order}
 use Rattle.asn1_records.specs.Records.{record_of, records_of}
 use Rattle.asn1_records.specs.WithoutConstraints.{record_without, without_constraints}
+use Rattle.asn1_record_decoder.specs.declared.decoder.Opened.{Opened}
 use Rattle.asn1_record_decoder.specs.declared.decoder.RecordDecoder.{RecordDecoder}
 use Rattle.asn1_records.specs.declared.record.Record.{Record}
 use Rattle.asn1_record_decoder.specs.declared.wanted.Wanted.{Wanted}
 use Rattle.asn1_record_decoder.specs.declared.wanted.Wanted.TheVariants.{Sequence, Set, SequenceOf, SetOf, Prefix, Alternative}
 
--- The record of the program is this one, up to the order inside sets and apart from constraints.
-pub record IsRecord (x : Record) (r : model.Record) : Type 0 where
-  pub exactly : model.Record
-  pub is : record_of x ≡ record_without exactly
-  pub same : Same exactly r
+-- the record of the program is this one, apart from constraints
+abbrev pub IsRecord : Record → model.Record → Type 0
+IsRecord x r = record_of x ≡ record_without r
 
--- The records of the program are these that are held under a head, up to order and apart from constraints.
-pub record HoldsRecords (xs : List Record) (h : model.Head) (items : List model.Record) : Type 0 where
-  pub exactly : List model.Record
-  pub are : records_of xs ≡ without_constraints exactly
-  pub order : List model.Record
-  pub same : SameAll (held exactly) (held order)
-  pub moved : IsPermutation order items
-  pub unmoved : is_unordered h ≡ false → order ≡ items
+-- and the records are these
+abbrev pub AreRecords : List Record → List model.Record → Type 0
+AreRecords xs rs = records_of xs ≡ without_constraints rs
 
 -- the record is this content under this tag, by any name
 abbrev pub IsContentUnder : Tag → model.Content → model.Record → Type 0
@@ -49,27 +42,28 @@ IsBytes bytes (mark m) = ⊥
 abbrev pub FoundIn : {V : Type 0} → Record → model.Record → (V → Type 0) → Result V DecodeError → Type 0
 FoundIn x r Is result = IsRecord x r → MatchResult result Is (λ e. e ≡ Memory)
 
--- The next record was taken: it is this one, and the decoder is before what follows.
+-- The next record was taken: it is this one, and the decoder is exactly before what follows.
 pub record Took (x : Record) (new : RecordDecoder) (r : model.Record) (rest : List model.Record) (outer : Ahead) : Type 0 where
   pub is : IsRecord x r
-  pub at : StandsBefore new (rest ∷ outer)
+  pub at : StandsExactly new (rest ∷ outer)
 
 -- the head is what is wanted
 abbrev pub Meets : Wanted → model.Head → Type 0
-Meets (Sequence t) (sequence u n) = t ≡ u
-Meets (Set t) (set u n) = t ≡ u
+Meets (Sequence t) (sequence u table n) = t ≡ u
+Meets (Set t) (set u table n) = t ≡ u
 Meets (SequenceOf t) (sequence_of u c n) = t ≡ u
 Meets (SetOf t) (set_of u c n) = t ≡ u
 Meets (Prefix t) (prefix u n) = t ≡ u
-Meets Alternative (alternative u c n) = ⊤
+Meets Alternative (alternative u c table n) = ⊤
 Meets _ _ = ⊥
 
--- A scope was opened: the decoder is before what is in it, in the order in which it comes.
-pub record OpenedAs (h : model.Head) (items rest : List model.Record) (outer : Ahead) (tag : Tag) (bound : ℕ) (old new : RecordDecoder) : Type 0 where
-  pub order : List model.Record
-  pub moved : IsPermutation order items
-  pub unmoved : is_unordered h ≡ false → order ≡ items
-  pub at : StandsBefore new (order ∷ rest ∷ outer)
-  pub had_allowance : 1 ≤ old.allowance
-  pub has_tag : tag ≡ head_tag h
-  pub is_bound : records_in items ≤ bound
+-- What was opened is a record of this head, which holds these.
+pub record IsOpened (h : model.Head) (items : List model.Record) (opened : Opened) : Type 0 where
+  pub has_tag : opened.tag ≡ head_tag h
+  pub is_bound : records_in items ≤ opened.bound
+
+-- A call that opens a record whose head is what is wanted, exactly before what is in it, in the order in which it comes.
+abbrev pub OpensWanted : Wanted → RecordDecoder → RecordDecoder → Result Opened DecodeError → Type 0
+OpensWanted wanted old new result =
+    (h : model.Head) (items rest : List model.Record) (outer : Ahead) → Meets wanted h →
+    Moves in_one_order old new 1 ((holding h items ∷ rest) ∷ outer) (items ∷ rest ∷ outer) (IsOpened h items) result

@@ -1,6 +1,7 @@
 -- Before what a record decoder stands.
 use Rattle.std.specs.Prelude.{◌≡◌, true, false, List, [], ◌∷◌, map}
-use Rattle.asn1_dec.specs.Reading.{Ahead, Reader, SameAhead}
+use Rattle.asn1_dec.specs.Orders.{up_to_order}
+use Rattle.asn1_dec.specs.Reading.{Ahead, Reader}
 use Rattle.asn1_records.specs.Records.{records_of}
 use Rattle.asn1_records.specs.WithoutConstraints.{without_constraints}
 use Rattle.asn1_record_decoder.specs.declared.decoder.Rest.{Rest}
@@ -19,18 +20,24 @@ sees d = records_of d.left.now ∷ left_of [] d.outer.items
 abbrev pub ahead_without : Ahead → Ahead
 ahead_without = map without_constraints
 
--- The decoder is before these lists: up to the order inside sets, and apart from constraints, they are what is left.
-pub record StandsBefore (d : RecordDecoder) (ahead : Ahead) : Type 0 where
+-- The decoder is before exactly these lists: apart from constraints, they are what is left.
+pub record StandsExactly (d : RecordDecoder) (ahead : Ahead) : Type 0 where
   pub no_failure : d.failed ≡ false
-  pub exactly : Ahead
-  pub sees_them : sees d ≡ ahead_without exactly
-  pub same : SameAhead exactly ahead
+  pub sees_them : sees d ≡ ahead_without ahead
 
--- what the decoder says of itself: it takes any bytes as one value of an open type
-abbrev pub record_reader : Reader RecordDecoder
-record_reader = record {
-  stands = λ d a. StandsBefore d a;
+-- The decoder in the order in which its records come. It takes any bytes as one value of an open type.
+abbrev pub in_one_order : Reader RecordDecoder
+in_one_order = record {
+  stands = λ d ahead. StandsExactly d ahead;
   failed = λ d. d.failed;
   allowance = λ d. d.allowance;
   takes = λ _. true;
 }
+
+-- the decoder as types see it: the order inside sets means nothing
+abbrev pub record_reader : Reader RecordDecoder
+record_reader = up_to_order in_one_order
+
+-- the decoder is before these lists: up to the order inside sets, and apart from constraints, they are what is left
+abbrev pub StandsBefore : RecordDecoder → Ahead → Type 0
+StandsBefore d ahead = record_reader.stands d ahead

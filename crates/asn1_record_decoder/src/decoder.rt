@@ -2,7 +2,7 @@
 ghost use Rattle.std.specs.Prelude.{◌+◌, ◌<◌, ◌^◌, vec_len};
 
 use crate::found::{self, BAD_ITEM};
-use crate::from_content::FromContent;
+use crate::from_content::{FromContent, StringOf};
 use crate::marks::skip_marks;
 use crate::wanted::Wanted;
 use asn1_bounds::{Codec, Constraints};
@@ -10,13 +10,10 @@ use asn1_choices::Choice;
 use asn1_components::FieldTable;
 use asn1_dec::{DecodeError, Decoder, Needed};
 use asn1_enumerations::EnumeratedTable;
-use asn1_records::Record;
-use asn1_strings::{
-    BitString, BmpString, GeneralString, GraphicString, Ia5String, NumericString, ObjectIdentifier,
-    PrintableString, TeletexString, VisibleString,
-};
+use asn1_records::{Record, Side};
+use asn1_strings::ObjectIdentifier;
 use asn1_tags::{Tag, TagTree};
-use asn1_types::Any;
+use asn1_types::{Any, CodecString};
 use asn1_values::{Integer, IntegerType};
 use std::alloc::Global;
 
@@ -50,16 +47,18 @@ struct Opened {
 impl<'a> RecordDecoder<'a> {
     ghost use Rattle.asn1_dec.specs.declared.error.DecodeError.TheVariants.{Failed, Memory};
     ghost use Rattle.asn1_dec.specs.Errors.{custom, reason};
-    ghost use Rattle.asn1_dec.specs.Reading.{Ahead, Enters, MayFail, ReadsContent, Stays, TellsPresence};
+    ghost use Rattle.asn1_dec.specs.Reading.{Ahead, Enters, Opens, OpensSet, ReadsContent, Stays, TellsPresence, records_in};
     ghost use Rattle.asn1_model.specs.ConstraintSets.{ConstraintSet};
+    ghost use Rattle.asn1_model.specs.Orders.{is_unordered};
     ghost use Rattle.asn1_model.specs.Records as model;
-    ghost use Rattle.asn1_model.specs.Records.{absent, holding, present};
+    ghost use Rattle.asn1_model.specs.Records.{Name, absent, present};
     ghost use Rattle.asn1_model.specs.Tags.{Tags};
-    ghost use Rattle.asn1_record_decoder.specs.Found.{Meets, OpenedAs, Took};
-    ghost use Rattle.asn1_record_decoder.specs.Reading.{StandsBefore, record_reader, sees};
+    ghost use Rattle.asn1_record_decoder.specs.Found.{Meets, OpensWanted, Took};
+    ghost use Rattle.asn1_record_decoder.specs.Reading.{StandsBefore, StandsExactly, record_reader, sees};
     ghost use Rattle.asn1_records.specs.Carried.{Carries};
-    ghost use Rattle.asn1_records.specs.Records.{record_of, records_of};
-    ghost use Rattle.std.specs.Prelude.{◌≡◌, ◌≢◌, ◌↔◌, ◌∷◌, [], Err, IfErr, IfOk, IfSome, IsOk, List, MatchResult, None, OnErr, OnOk, codes, false, length, suc, true};
+    ghost use Rattle.asn1_records.specs.WithoutConstraints.{content_without};
+    ghost use Rattle.asn1_records.specs.Records.{record_of, records_of, side_of};
+    ghost use Rattle.std.specs.Prelude.{◌≡◌, ◌≢◌, ◌↔◌, ◌≤◌, ◌∷◌, [], ⊤, Err, IfErr, IfOk, IfSome, IsOk, List, MatchResult, None, OnErr, OnOk, codes, false, length, suc, true};
 
     /// A decoder that is before these records, and may open so many scopes in one another.
     pub fn new(alloc: Global, records: &'a [Record], depth: usize) -> RecordDecoder<'a>
@@ -121,7 +120,9 @@ impl<'a> RecordDecoder<'a> {
 
     /// The next record.
     fn next(&mut self) -> Result<&'a Record, DecodeError>
-        ensures took { (r : model.Record) (rest : List model.Record) (outer : Ahead) → StandsBefore self.old ((r ∷ rest) ∷ outer) → MatchResult result (λ x. Took x.now self.new r rest outer) (λ _. ⊥) }
+        ensures took { (r : model.Record) (rest : List model.Record) (outer : Ahead) →
+            StandsExactly self.old ((r ∷ rest) ∷ outer) →
+            MatchResult result (λ x. Took x.now self.new r rest outer) (λ _. ⊥) }
         ensures stays { Stays record_reader self.old self.new result }
     {
         if self.failed {
@@ -150,7 +151,9 @@ impl<'a> RecordDecoder<'a> {
 
     /// A content under a tag.
     fn scalar<V: FromContent>(&mut self, tag: Tag) -> Result<V, DecodeError>
-        ensures read { (c : ConstraintSet) → ReadsContent record_reader self.old self.new tag c V.content V.IsOfType V.Is result }
+        ensures read { (content : V.Value → model.Content) →
+            ((x : V.Value) → content_without (content x) ≡ V.content x) → (c : ConstraintSet) →
+            ReadsContent record_reader self.old self.new tag c content V.IsOfType V.Is result }
         ensures stays { Stays record_reader self.old self.new result }
     {
         let record = self.next()?;
@@ -163,13 +166,14 @@ impl<'a> RecordDecoder<'a> {
         }
     }
 
-    /// Whether the component of this tag is there.
-    fn tell_presence(&mut self, tag: Tag) -> Result<bool, DecodeError>
-        ensures read { (own : Tags) → TellsPresence record_reader self.old self.new (present tag) (absent tag) own result }
+    /// Whether the component of this tag, on this side, is there.
+    fn tell_presence(&mut self, side: Side, tag: Tag) -> Result<bool, DecodeError>
+        ensures read { (own : Tags) → TellsPresence record_reader self.old self.new
+            (present (side_of side) tag) (absent (side_of side) tag) own result }
         ensures stays { Stays record_reader self.old self.new result }
     {
         let record = self.next()?;
-        let found = found::presence(record, tag);
+        let found = found::presence(record, side, tag);
         self.answer(found)
     }
 
@@ -197,7 +201,7 @@ impl<'a> RecordDecoder<'a> {
 
     /// Opens a scope.
     fn open(&mut self, wanted: Wanted) -> Result<Opened, DecodeError>
-        ensures read { (h : model.Head) (items rest : List model.Record) (outer : Ahead) → Meets wanted h → StandsBefore self.old ((holding h items ∷ rest) ∷ outer) → MatchResult result (λ w. OpenedAs h items rest outer w.tag w.bound self.old self.new) (MayFail self.old.allowance 1) }
+        ensures read { OpensWanted wanted self.old self.new result }
         ensures enters { Enters record_reader self.old self.new result }
     {
         if self.failed {
@@ -212,11 +216,35 @@ impl<'a> RecordDecoder<'a> {
             None => Err(self.fail(BAD_ITEM)),
         }
     }
+
+    /// Opens a scope in which the order of the records means something.
+    fn open_in_order(&mut self, wanted: Wanted) -> Result<(), DecodeError>
+        ensures read { (head : Name → model.Head) → ((n : Name) → Meets wanted (head n)) →
+            ((n : Name) → is_unordered (head n) ≡ false) →
+            Opens record_reader self.old self.new head (λ _ _. ⊤) result }
+        ensures enters { Enters record_reader self.old self.new result }
+    {
+        self.open(wanted)?;
+        Ok(())
+    }
+
+    /// Opens a list of elements or the components of a set, and answers how many records and marks are in it.
+    fn open_list(&mut self, wanted: Wanted) -> Result<usize, DecodeError>
+        ensures read { (head : Name → model.Head) → ((n : Name) → Meets wanted (head n)) →
+            ((n : Name) → is_unordered (head n) ≡ false) →
+            Opens record_reader self.old self.new head (λ items bound. records_in items ≤ bound) result }
+        ensures read_set { (head : Name → model.Head) → ((n : Name) → Meets wanted (head n)) →
+            OpensSet record_reader self.old self.new head (λ items bound. records_in items ≤ bound) result }
+        ensures enters { Enters record_reader self.old self.new result }
+    {
+        let opened = self.open(wanted)?;
+        Ok(opened.bound)
+    }
 }
 
 impl<'a> Decoder for RecordDecoder<'a> {
-    ghost use Rattle.asn1_record_decoder.specs.Laws.{stands_in_any_order};
-    ghost use Rattle.asn1_record_decoder.specs.Reading.{record_reader};
+    ghost use Rattle.asn1_dec.proofs.UpToOrder.{lawful};
+    ghost use Rattle.asn1_record_decoder.specs.Reading.{in_one_order, record_reader};
     ghost use Rattle.std.specs.Prelude.{◌≡◌};
 
     ghost reader = { record_reader };
@@ -274,92 +302,13 @@ impl<'a> Decoder for RecordDecoder<'a> {
         }
     }
 
-    fn decode_bit_string(
+    fn decode_string<U, K: CodecString<U>>(
         &mut self,
         tag: Tag,
         _constraints: &Constraints<'_>,
-    ) -> Result<BitString, DecodeError> {
-        self.scalar(tag)
-    }
-
-    fn decode_octet_string(
-        &mut self,
-        tag: Tag,
-        _constraints: &Constraints<'_>,
-    ) -> Result<Vec<u8>, DecodeError> {
-        self.scalar(tag)
-    }
-
-    fn decode_utf8_string(
-        &mut self,
-        tag: Tag,
-        _constraints: &Constraints<'_>,
-    ) -> Result<String, DecodeError> {
-        self.scalar(tag)
-    }
-
-    fn decode_general_string(
-        &mut self,
-        tag: Tag,
-        _constraints: &Constraints<'_>,
-    ) -> Result<GeneralString, DecodeError> {
-        self.scalar(tag)
-    }
-
-    fn decode_graphic_string(
-        &mut self,
-        tag: Tag,
-        _constraints: &Constraints<'_>,
-    ) -> Result<GraphicString, DecodeError> {
-        self.scalar(tag)
-    }
-
-    fn decode_visible_string(
-        &mut self,
-        tag: Tag,
-        _constraints: &Constraints<'_>,
-    ) -> Result<VisibleString, DecodeError> {
-        self.scalar(tag)
-    }
-
-    fn decode_ia5_string(
-        &mut self,
-        tag: Tag,
-        _constraints: &Constraints<'_>,
-    ) -> Result<Ia5String, DecodeError> {
-        self.scalar(tag)
-    }
-
-    fn decode_printable_string(
-        &mut self,
-        tag: Tag,
-        _constraints: &Constraints<'_>,
-    ) -> Result<PrintableString, DecodeError> {
-        self.scalar(tag)
-    }
-
-    fn decode_numeric_string(
-        &mut self,
-        tag: Tag,
-        _constraints: &Constraints<'_>,
-    ) -> Result<NumericString, DecodeError> {
-        self.scalar(tag)
-    }
-
-    fn decode_teletex_string(
-        &mut self,
-        tag: Tag,
-        _constraints: &Constraints<'_>,
-    ) -> Result<TeletexString, DecodeError> {
-        self.scalar(tag)
-    }
-
-    fn decode_bmp_string(
-        &mut self,
-        tag: Tag,
-        _constraints: &Constraints<'_>,
-    ) -> Result<BmpString, DecodeError> {
-        self.scalar(tag)
+    ) -> Result<K::Owned, DecodeError> {
+        let StringOf { string } = self.scalar::<StringOf<U, K>>(tag)?;
+        Ok(string)
     }
 
     fn decode_any(&mut self, _tag: Tag) -> Result<Any, DecodeError> {
@@ -369,7 +318,7 @@ impl<'a> Decoder for RecordDecoder<'a> {
     }
 
     fn presence(&mut self, tag: Tag, _tree: TagTree<'static>) -> Result<bool, DecodeError> {
-        self.tell_presence(tag)
+        self.tell_presence(Side::Root, tag)
     }
 
     fn addition_presence(
@@ -377,7 +326,7 @@ impl<'a> Decoder for RecordDecoder<'a> {
         tag: Tag,
         _tree: TagTree<'static>,
     ) -> Result<bool, DecodeError> {
-        self.tell_presence(tag)
+        self.tell_presence(Side::Additions, tag)
     }
 
     fn open_group<C: FieldTable>(&mut self) -> Result<bool, DecodeError> {
@@ -393,16 +342,14 @@ impl<'a> Decoder for RecordDecoder<'a> {
     }
 
     fn open_sequence<C: FieldTable>(&mut self, tag: Tag) -> Result<(), DecodeError> {
-        self.open(Wanted::Sequence(tag))?;
-        Ok(())
+        self.open_in_order(Wanted::Sequence(tag))
     }
 
     fn open_set<C: FieldTable>(&mut self, tag: Tag) -> Result<usize, DecodeError> {
-        let opened = self.open(Wanted::Set(tag))?;
-        Ok(opened.bound)
+        self.open_list(Wanted::Set(tag))
     }
 
-    fn next_component(&mut self) -> Result<Option<Tag>, DecodeError> {
+    fn next_component<C: FieldTable>(&mut self) -> Result<Option<Tag>, DecodeError> {
         if self.failed {
             return Err(DecodeError::Failed);
         }
@@ -418,8 +365,7 @@ impl<'a> Decoder for RecordDecoder<'a> {
         tag: Tag,
         _constraints: &Constraints<'_>,
     ) -> Result<usize, DecodeError> {
-        let opened = self.open(Wanted::SequenceOf(tag))?;
-        Ok(opened.bound)
+        self.open_list(Wanted::SequenceOf(tag))
     }
 
     fn open_set_of(
@@ -427,13 +373,11 @@ impl<'a> Decoder for RecordDecoder<'a> {
         tag: Tag,
         _constraints: &Constraints<'_>,
     ) -> Result<usize, DecodeError> {
-        let opened = self.open(Wanted::SetOf(tag))?;
-        Ok(opened.bound)
+        self.open_list(Wanted::SetOf(tag))
     }
 
     fn open_explicit_prefix(&mut self, tag: Tag) -> Result<(), DecodeError> {
-        self.open(Wanted::Prefix(tag))?;
-        Ok(())
+        self.open_in_order(Wanted::Prefix(tag))
     }
 
     fn open_choice<T: Choice>(
@@ -471,5 +415,5 @@ impl<'a> Decoder for RecordDecoder<'a> {
         }
     }
 
-    ghost lawful = { record { in_any_order = stands_in_any_order } };
+    ghost lawful = { lawful in_one_order };
 }

@@ -2,15 +2,17 @@
 ghost use Rattle.asn1_model.specs.ConstraintSets.{ConstraintSet};
 ghost use Rattle.asn1_model.specs.Records as model;
 ghost use Rattle.asn1_model.specs.Records.{Name, absent, group_absent, group_end, group_start, holding, is_mark, mark, present, raw, scalar};
+ghost use Rattle.asn1_model.specs.Tables.{Line, Table, no_table};
 ghost use Rattle.asn1_model.specs.Tags.{Has, head_tag, record_tags};
 ghost use Rattle.asn1_dec.specs.declared.error.DecodeError.TheVariants.{Depth, Memory};
-ghost use Rattle.asn1_record_decoder.specs.Found.{FoundIn, HoldsRecords, IsBytes, IsContentUnder, IsRecord, Meets};
-ghost use Rattle.asn1_records.specs.Records.{content_of, head_of, record_of, records_of};
+ghost use Rattle.asn1_record_decoder.specs.Found.{AreRecords, FoundIn, IsBytes, IsContentUnder, IsRecord, Meets};
+ghost use Rattle.asn1_records.specs.WithoutConstraints.{content_without};
+ghost use Rattle.asn1_records.specs.Records.{content_of, head_of, record_of, records_of, side_of};
 ghost use Rattle.std.specs.Prelude.{◌≡◌, ◌≢◌, ⊤, Err, IfOk, IfSome, IsSomeAnd, List, MatchResult, OnOk, ℕ, false, if◌then◌else◌, true};
 
 use crate::wanted::Wanted;
 use asn1_dec::DecodeError;
-use asn1_records::{Content, Head, Mark, Record};
+use asn1_records::{Content, Head, Mark, Record, Side};
 use asn1_tags::Tag;
 use asn1_types::Any;
 use std::alloc::Global;
@@ -59,7 +61,9 @@ pub(crate) fn first_tag(item: &Record) -> Tag
 
 /// The content under a tag.
 pub(crate) fn content(item: &Record, tag: Tag) -> Option<&Content>
-    ensures found { (c : ConstraintSet) (n : Name) (x : model.Content) → IsRecord item.now (scalar tag c n x) → IsSomeAnd result (λ content. content_of content.now ≡ x) }
+    ensures found { (c : ConstraintSet) (n : Name) (x : model.Content) →
+        IsRecord item.now (scalar tag c n x) →
+        IsSomeAnd result (λ content. content_of content.now ≡ content_without x) }
     ensures only { IfSome result (λ content. IsContentUnder tag (content_of content.now) (record_of item.now)) }
 {
     match item {
@@ -80,25 +84,28 @@ pub(crate) fn bytes(item: &Record, alloc: Global) -> Result<Any, DecodeError>
     }
 }
 
-/// Whether the component of this tag is there, by the mark that says so.
-pub(crate) fn presence(item: &Record, tag: Tag) -> Result<bool, DecodeError>
-    ensures there { FoundIn item.now (mark (present tag)) (λ b. b ≡ true) result }
-    ensures away { FoundIn item.now (mark (absent tag)) (λ b. b ≡ false) result }
-    ensures only { IfOk result (λ b. record_of item.now ≡ mark (if b then present tag else absent tag)) }
+/// Whether the component of this tag, on this side, is there, by the mark that says so.
+pub(crate) fn presence(item: &Record, side: Side, tag: Tag) -> Result<bool, DecodeError>
+    ensures there { FoundIn item.now (mark (present (side_of side) tag)) (λ b. b ≡ true) result }
+    ensures away { FoundIn item.now (mark (absent (side_of side) tag)) (λ b. b ≡ false) result }
+    ensures only { IfOk result (λ b.
+        record_of item.now ≡ mark (if b then present (side_of side) tag else absent (side_of side) tag)) }
     ensures not_too_deep { result ≢ Err Depth }
 {
     match item {
-        Record::Mark(Mark::Present(own)) if *own == tag => Ok(true),
-        Record::Mark(Mark::Absent(own)) if *own == tag => Ok(false),
+        Record::Mark(Mark::Present(own_side, own)) if *own_side == side && *own == tag => Ok(true),
+        Record::Mark(Mark::Absent(own_side, own)) if *own_side == side && *own == tag => Ok(false),
         _ => Err(BAD_ITEM),
     }
 }
 
 /// Whether a group is there, by the mark that says so.
 pub(crate) fn group(item: &Record) -> Result<bool, DecodeError>
-    ensures there { FoundIn item.now (mark group_start) (λ b. b ≡ true) result }
+    ensures there { (table : Table Line) →
+        FoundIn item.now (mark (group_start table)) (λ b. b ≡ true) result }
     ensures away { FoundIn item.now (mark group_absent) (λ b. b ≡ false) result }
-    ensures only { IfOk result (λ b. record_of item.now ≡ mark (if b then group_start else group_absent)) }
+    ensures only { IfOk result
+        (λ b. record_of item.now ≡ mark (if b then group_start no_table else group_absent)) }
     ensures not_too_deep { result ≢ Err Depth }
 {
     match item {
@@ -123,7 +130,7 @@ pub(crate) fn end_of_group(item: &Record) -> Result<(), DecodeError>
 /// What is in a scope that is as it is wanted.
 pub(crate) fn inner_scope(item: &Record, wanted: Wanted) -> Option<Scope<'_>>
     ensures tag { (h : model.Head) (items : List model.Record) → Meets wanted h → IsRecord item.now (holding h items) → IsSomeAnd result (λ scope. scope.tag ≡ head_tag h) }
-    ensures records { (h : model.Head) (items : List model.Record) → Meets wanted h → IsRecord item.now (holding h items) → IsSomeAnd result (λ scope. HoldsRecords scope.records.now h items) }
+    ensures records { (h : model.Head) (items : List model.Record) → Meets wanted h → IsRecord item.now (holding h items) → IsSomeAnd result (λ scope. AreRecords scope.records.now items) }
     ensures only { IfSome result (λ scope. (h : model.Head) × Meets wanted h × (record_of item.now ≡ holding h (records_of scope.records.now))) }
 {
     match item {

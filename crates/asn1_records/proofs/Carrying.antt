@@ -1,7 +1,7 @@
 -- The order inside sets means nothing for what records carry.
 use Rattle.std.proofs.Common.{List}
-use Rattle.asn1_enc.specs.Writing.{SameRecords}
 use Rattle.asn1_model.proofs.SameUpToOrder.{SameAll-trans}
+use Rattle.asn1_model.specs.Orders.{SameRecords}
 use Rattle.asn1_model.specs.Records as model
 use Rattle.asn1_records.specs.Carried.{Carries}
 use Rattle.asn1_records.specs.declared.record.Record.{Record}

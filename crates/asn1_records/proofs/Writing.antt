@@ -8,6 +8,7 @@ use Rattle.asn1_enc.specs.Writing.{Written, outermost, in_scope, in_group, follo
 use Rattle.asn1_model.specs.Composites.{group_records}
 use Rattle.asn1_model.specs.Records as model
 use Rattle.asn1_model.specs.Records.{holding, height}
+use Rattle.asn1_model.specs.Tables.{Line, Table, no_table}
 use Rattle.asn1_records.specs.Records.{head_of, record_of, records_of}
 use Rattle.asn1_enc.specs.Orders.{WroteUpToOrder}
 use Rattle.asn1_enc.proofs.UpToOrder.{same_as_outermost, wrote_exactly}
@@ -109,10 +110,10 @@ scope_opened old new f head h inner is outer moved none allowance was now = reco
   one_less = allowance;
 }
 
-pub group_opened : (old new : RecordEncoder) (f : Frame) → f.inner ≡ Group →
+pub group_opened : (table : Table Line) (old new : RecordEncoder) (f : Frame) → f.inner ≡ Group →
     new.outer.items ≡ old.outer.items ++ f ∷ [] → f.records.items ≡ old.records.items → new.records.items ≡ [] →
-    old.allowance ≡ new.allowance → old.failed ≡ false → new.failed ≡ false → GroupIsOpen in_one_order old new
-group_opened old new f inner outer moved none allowance was now = record {
+    old.allowance ≡ new.allowance → old.failed ≡ false → new.failed ≡ false → GroupIsOpen in_one_order old table new
+group_opened table old new f inner outer moved none allowance was now = record {
   opened = λ w wrote. opened old new f w outer moved none wrote ∙ ap (λ i. inside i (written_without w) []) inner;
   had_not_failed = was;
   no_failure = now;
@@ -140,17 +141,17 @@ scope_closed old new f head x inner is outer records allowance was now = record 
 }
 
 pub group_closed : (old new : RecordEncoder) (f : Frame) → f.inner ≡ Group →
-    old.outer.items ≡ new.outer.items ++ f ∷ [] → records_of new.records.items ≡ records_of f.records.items ++ group_records (Some (records_of old.records.items)) →
+    old.outer.items ≡ new.outer.items ++ f ∷ [] → records_of new.records.items ≡ records_of f.records.items ++ group_records no_table (Some (records_of old.records.items)) →
     new.allowance ≡ old.allowance → old.failed ≡ false → new.failed ≡ false → GroupIsClosed in_one_order old new
 group_closed old new f inner outer records allowance was now = record {
-  closed = λ rs w wrote.
+  closed = λ table rs w wrote.
       let outside = inside_all outermost new.outer.items (records_of f.records.items) in
-      let stood : in_group (records_of old.records.items) outside ≡ in_group (without_constraints rs) (written_without w) =
+      let stood : in_group no_table (records_of old.records.items) outside ≡ in_group no_table (without_constraints rs) (written_without w) =
       sym (before_closing old new f outer ∙ ap (λ i. inside i outside (records_of old.records.items)) inner) ∙ wrote in
       let same_inner : records_of old.records.items ≡ without_constraints rs = cc in
       let same_outside : outside ≡ written_without w = cc in
-      wrote_more new.outer.items f.records.items new.records.items (group_records (Some (records_of old.records.items))) w (group_records (Some rs)) records
-      (ap (λ l. group_records (Some l)) same_inner ∙ sym (group_records-without rs)) same_outside;
+      wrote_more new.outer.items f.records.items new.records.items (group_records no_table (Some (records_of old.records.items))) w (group_records table (Some rs)) records
+      (ap (λ l. group_records no_table (Some l)) same_inner ∙ sym (group_records-without table rs)) same_outside;
   had_not_failed = was;
   no_failure = now;
   same_allowance = allowance;
@@ -176,7 +177,7 @@ pub no_group : (old new : RecordEncoder) (m : _) → length old.outer.items ≡ 
 no_group old new m none was now = record {
   error = own_error old new m was now;
   not_too_deep = λ is. cc;
-  rejected = λ is rs w wrote. let stood : outermost (records_of old.records.items) ≡ written_without (in_group rs w) = ap (λ fs. inside_all outermost fs (records_of old.records.items)) (sym (nothing_open old.outer.items none)) ∙ wrote in cc;
+  rejected = λ is table rs w wrote. let stood : outermost (records_of old.records.items) ≡ written_without (in_group table rs w) = ap (λ fs. inside_all outermost fs (records_of old.records.items)) (sym (nothing_open old.outer.items none)) ∙ wrote in cc;
 }
 
 pub group_inside : (old new : RecordEncoder) (f : Frame) (m : _) → f.inner ≡ Group → old.outer.items ≡ new.outer.items ++ f ∷ [] → old.failed ≡ false → new.failed ≡ true → ScopeIsNotClosed in_one_order old new (Custom m)
@@ -185,16 +186,16 @@ group_inside old new f m inner outer was now = record {
   not_too_deep = λ is. cc;
   rejected = λ is h rs w wrote.
       let outside = inside_all outermost new.outer.items (records_of f.records.items) in
-      let stood : in_group (records_of old.records.items) outside ≡ written_without (in_scope h rs w) = sym (before_closing old new f outer ∙ ap (λ i. inside i outside (records_of old.records.items)) inner) ∙ wrote in cc;
+      let stood : in_group no_table (records_of old.records.items) outside ≡ written_without (in_scope h rs w) = sym (before_closing old new f outer ∙ ap (λ i. inside i outside (records_of old.records.items)) inner) ∙ wrote in cc;
 }
 
 pub scope_inside : (old new : RecordEncoder) (f : Frame) (head : Head) (m : _) → f.inner ≡ Scope head → old.outer.items ≡ new.outer.items ++ f ∷ [] → old.failed ≡ false → new.failed ≡ true → GroupIsNotClosed in_one_order old new (Custom m)
 scope_inside old new f head m inner outer was now = record {
   error = own_error old new m was now;
   not_too_deep = λ is. cc;
-  rejected = λ is rs w wrote.
+  rejected = λ is table rs w wrote.
       let outside = inside_all outermost new.outer.items (records_of f.records.items) in
-      let stood : in_scope (head_of head) (records_of old.records.items) outside ≡ written_without (in_group rs w) = sym (before_closing old new f outer ∙ ap (λ i. inside i outside (records_of old.records.items)) inner) ∙ wrote in cc;
+      let stood : in_scope (head_of head) (records_of old.records.items) outside ≡ written_without (in_group table rs w) = sym (before_closing old new f outer ∙ ap (λ i. inside i outside (records_of old.records.items)) inner) ∙ wrote in cc;
 }
 
 -- The scopes that are open, and those that may be.
@@ -226,7 +227,7 @@ room_with_group fs gs f n inner is room =
 abbrev IsOutermost : Written → Type 0
 IsOutermost (outermost rs) = ⊤
 IsOutermost (in_scope h rs w) = ⊥
-IsOutermost (in_group rs w) = ⊥
+IsOutermost (in_group table rs w) = ⊥
 
 not_outermost : (i : Inner) (w : Written) (rs : List model.Record) → IsOutermost (inside i w rs) → ⊥
 not_outermost (Scope h) w rs is = is

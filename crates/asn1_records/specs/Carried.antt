@@ -1,6 +1,6 @@
 -- What records of a program carry.
 use Rattle.std.specs.Prelude.{◌≡◌, List}
-use Rattle.asn1_enc.specs.Writing.{SameRecords}
+use Rattle.asn1_model.specs.Orders.{SameRecords}
 use Rattle.asn1_model.specs.Records as model
 use Rattle.asn1_records.specs.Records.{records_of}
 use Rattle.asn1_records.specs.WithoutConstraints.{without_constraints}

@@ -3,6 +3,7 @@ use Rattle.std.specs.Prelude.{◌≡◌, List, [], ◌∷◌}
 use Rattle.asn1_enc.specs.Orders.{up_to_order}
 use Rattle.asn1_enc.specs.Writing.{Writer, Written, outermost, in_scope, in_group}
 use Rattle.asn1_model.specs.Records as model
+use Rattle.asn1_model.specs.Tables.{no_table}
 use Rattle.asn1_records.specs.Records.{head_of, records_of}
 use Rattle.asn1_records.specs.WithoutConstraints.{written_without}
 use Rattle.asn1_records.specs.declared.frame.Frame.{Frame}
@@ -13,7 +14,7 @@ use Rattle.asn1_records.specs.declared.encoder.RecordEncoder.{RecordEncoder}
 -- the records, inside what has been written outside them
 abbrev pub inside : Inner → Written → List model.Record → Written
 inside (Scope h) outer rs = in_scope (head_of h) rs outer
-inside Group outer rs = in_group rs outer
+inside Group outer rs = in_group no_table rs outer
 
 -- The records, inside the lists that are open, outermost first. In the first of them is what comes before.
 abbrev pub inside_all : (List model.Record → Written) → List Frame → List model.Record → Written

@@ -1,14 +1,18 @@
--- What the records of a program are in the model. They have no constraints.
-use Rattle.std.specs.Prelude.{List, map, string_bytes}
+-- What the records of a program are in the model. They have no constraints and no tables.
+use Rattle.std.specs.Prelude.{List, map}
 use Rattle.asn1_tags.specs.Names.{name_of}
+use Rattle.asn1_types.specs.AnyStrings.{content_of_string}
 use Rattle.asn1_model.specs.ConstraintSets.{unconstrained}
 use Rattle.asn1_model.specs.Records as model
+use Rattle.asn1_model.specs.Tables.{no_table}
 use Rattle.asn1_records.specs.declared.content.Content.{Content}
-use Rattle.asn1_records.specs.declared.content.Content.TheVariants.{Null, Truth, Number, Discriminant, Arcs, Bits, Octets, Utf8, Visible, General, Graphic, Ia5, Printable, Numeric, Teletex, Bmp}
+use Rattle.asn1_records.specs.declared.content.Content.TheVariants.{Null, Truth, Number, Discriminant, Arcs, String}
 use Rattle.asn1_records.specs.declared.record.Head.{Head}
 use Rattle.asn1_records.specs.declared.record.Head.TheVariants.{Sequence, Set, SequenceOf, SetOf, Prefix, Alternative}
 use Rattle.asn1_records.specs.declared.record.Mark.{Mark}
 use Rattle.asn1_records.specs.declared.record.Mark.TheVariants.{Present, Absent, GroupStart, GroupAbsent, GroupEnd}
+use Rattle.asn1_records.specs.declared.record.Side.{Side}
+use Rattle.asn1_records.specs.declared.record.Side.TheVariants.{Root, Additions}
 use Rattle.asn1_records.specs.declared.record.Record.{Record, Record-F}
 use Rattle.asn1_records.specs.declared.record.Record.TheOpen.{Scalar, Scope, Raw, Mark as MarkRecord}
 use Rattle.asn1_records.specs.declared.record.Record.TheFolds.{fold-Record}
@@ -18,34 +22,29 @@ abbrev pub content_of : Content → model.Content
 content_of Null = model.null
 content_of (Truth b) = model.truth b
 content_of (Number n) = model.number n
-content_of (Discriminant n) = model.discriminant n
+content_of (Discriminant n) = model.discriminant no_table n
 content_of (Arcs arcs) = model.arcs arcs.items
-content_of (Bits bits) = model.bits bits.items
-content_of (Octets octets) = model.units model.octet octets.items
-content_of (Utf8 text) = model.units model.utf8 (string_bytes text)
-content_of (Visible text) = model.units model.visible text
-content_of (General text) = model.units model.general text
-content_of (Graphic text) = model.units model.graphic text
-content_of (Ia5 text) = model.units model.ia5 text
-content_of (Printable text) = model.units model.printable text
-content_of (Numeric text) = model.units model.numeric text
-content_of (Teletex text) = model.units model.teletex text
-content_of (Bmp text) = model.units model.bmp text
+content_of (String string) = content_of_string string
 
 -- the head, of no constraints
 abbrev pub head_of : Head → model.Head
-head_of (Sequence t n) = model.sequence t (name_of n)
-head_of (Set t n) = model.set t (name_of n)
+head_of (Sequence t n) = model.sequence t no_table (name_of n)
+head_of (Set t n) = model.set t no_table (name_of n)
 head_of (SequenceOf t n) = model.sequence_of t unconstrained (name_of n)
 head_of (SetOf t n) = model.set_of t unconstrained (name_of n)
 head_of (Prefix t n) = model.prefix t (name_of n)
-head_of (Alternative t n) = model.alternative t unconstrained (name_of n)
+head_of (Alternative t n) = model.alternative t unconstrained no_table (name_of n)
+
+-- where the component of a presence mark is
+abbrev pub side_of : Side → model.Side
+side_of Root = model.in_root
+side_of Additions = model.in_additions
 
 -- the presence mark
 abbrev pub mark_of : Mark → model.Mark
-mark_of (Present t) = model.present t
-mark_of (Absent t) = model.absent t
-mark_of GroupStart = model.group_start
+mark_of (Present s t) = model.present (side_of s) t
+mark_of (Absent s t) = model.absent (side_of s) t
+mark_of GroupStart = model.group_start no_table
 mark_of GroupAbsent = model.group_absent
 mark_of GroupEnd = model.group_end
 

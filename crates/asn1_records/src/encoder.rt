@@ -5,17 +5,14 @@ ghost use Rattle.std.specs.Prelude.{◌+◌, ◌<◌, ◌^◌};
 use crate::content::Content;
 use crate::frame::{Frame, Inner};
 use crate::group::append_group;
-use crate::record::{Head, Mark, Record};
+use crate::record::{Head, Mark, Record, Side};
 use asn1_bounds::{Codec, Constraints};
 use asn1_choices::Choice;
 use asn1_components::FieldTable;
-use asn1_enc::{EncodeError, Encoder, EnumeratedValue};
-use asn1_strings::{
-    BmpString, GeneralString, GraphicString, Ia5String, NumericString, PrintableString,
-    TeletexString, VisibleString,
-};
+use asn1_enc::{EncodeError, Encoder};
+use asn1_enumerations::EnumeratedTable;
 use asn1_tags::{Identifier, Tag};
-use asn1_types::Any;
+use asn1_types::{Any, CodecString};
 use asn1_values::IntegerType;
 use std::alloc::{AllocError, Global};
 use std::mem;
@@ -35,12 +32,13 @@ impl RecordEncoder {
     ghost use Rattle.asn1_records.specs.Carried.{Carries};
     ghost use Rattle.asn1_records.specs.Encoder.{record_writer};
     ghost use Rattle.asn1_records.specs.Records.{content_of, head_of, mark_of, record_of};
-    ghost use Rattle.asn1_records.specs.WithoutConstraints.{head_without, record_without};
+    ghost use Rattle.asn1_records.specs.WithoutConstraints.{content_without, head_without, mark_without, record_without};
     ghost use Rattle.asn1_enc.specs.declared.error.EncodeError.TheVariants.{Memory};
     ghost use Rattle.asn1_enc.specs.Writing.{Closes, ClosesGroup, Opens, OpensGroup, Refuses, Writes, outermost};
     ghost use Rattle.asn1_model.specs.ConstraintSets.{ConstraintSet};
     ghost use Rattle.asn1_model.specs.Records as model;
     ghost use Rattle.asn1_model.specs.Records.{height, mark, scalar};
+    ghost use Rattle.asn1_model.specs.Tables.{Line, Table};
     ghost use Rattle.asn1_tags.specs.Names.{name_of};
     ghost use Rattle.std.specs.Prelude.{◌≡◌, [], ◌∷◌, ⊤, IfOk, List, false};
 
@@ -99,7 +97,9 @@ impl RecordEncoder {
         name: Identifier,
         content: Result<Content, AllocError>,
     ) -> Result<(), EncodeError>
-        ensures { (c : ConstraintSet) (x : model.Content) → IfOk content (λ kept. content_of kept ≡ x) → Writes record_writer self.old (scalar tag c (name_of name) x ∷ []) ⊤ self.new result }
+        ensures { (c : ConstraintSet) (x : model.Content) →
+            IfOk content (λ kept. content_of kept ≡ content_without x) →
+            Writes record_writer self.old (scalar tag c (name_of name) x ∷ []) ⊤ self.new result }
     {
         match content {
             Ok(content) => self.append(Record::Scalar(tag, name, content)),
@@ -109,7 +109,8 @@ impl RecordEncoder {
 
     /// Appends a presence mark.
     fn append_mark(&mut self, sign: Mark) -> Result<(), EncodeError>
-        ensures { Writes record_writer self.old (mark (mark_of sign) ∷ []) ⊤ self.new result }
+        ensures { (m : model.Mark) → mark_of sign ≡ mark_without m →
+            Writes record_writer self.old (mark m ∷ []) ⊤ self.new result }
     {
         self.append(Record::Mark(sign))
     }
@@ -163,7 +164,7 @@ impl RecordEncoder {
 
     /// Opens a group.
     fn open_inner_group(&mut self) -> Result<(), EncodeError>
-        ensures { OpensGroup record_writer self.old self.new result }
+        ensures { (table : Table Line) → OpensGroup record_writer self.old table self.new result }
     {
         if self.failed {
             return Err(EncodeError::Failed);
@@ -237,13 +238,13 @@ impl Encoder for RecordEncoder {
         self.append_scalar(tag, name, Ok(Content::Null))
     }
 
-    fn encode_enumerated_value(
+    fn encode_enumerated_number<E: EnumeratedTable>(
         &mut self,
         tag: Tag,
-        value: EnumeratedValue,
+        number: isize,
         name: Identifier,
     ) -> Result<(), EncodeError> {
-        self.append_scalar(tag, name, Ok(Content::Discriminant(value.number)))
+        self.append_scalar(tag, name, Ok(Content::Discriminant(number)))
     }
 
     fn encode_object_identifier(
@@ -265,114 +266,14 @@ impl Encoder for RecordEncoder {
         self.append_scalar(tag, name, Content::number(self.alloc, value))
     }
 
-    fn encode_bit_string(
+    fn encode_string<U, K: CodecString<U>>(
         &mut self,
         tag: Tag,
         _constraints: &Constraints<'_>,
-        value: &[bool],
+        value: &[U],
         name: Identifier,
     ) -> Result<(), EncodeError> {
-        self.append_scalar(tag, name, Content::bits(self.alloc, value))
-    }
-
-    fn encode_octet_string(
-        &mut self,
-        tag: Tag,
-        _constraints: &Constraints<'_>,
-        value: &[u8],
-        name: Identifier,
-    ) -> Result<(), EncodeError> {
-        self.append_scalar(tag, name, Content::octets(self.alloc, value))
-    }
-
-    fn encode_utf8_string(
-        &mut self,
-        tag: Tag,
-        _constraints: &Constraints<'_>,
-        value: &str,
-        name: Identifier,
-    ) -> Result<(), EncodeError> {
-        self.append_scalar(tag, name, Content::utf8(self.alloc, value))
-    }
-
-    fn encode_general_string(
-        &mut self,
-        tag: Tag,
-        _constraints: &Constraints<'_>,
-        value: &GeneralString,
-        name: Identifier,
-    ) -> Result<(), EncodeError> {
-        self.append_scalar(tag, name, Content::general(self.alloc, value))
-    }
-
-    fn encode_graphic_string(
-        &mut self,
-        tag: Tag,
-        _constraints: &Constraints<'_>,
-        value: &GraphicString,
-        name: Identifier,
-    ) -> Result<(), EncodeError> {
-        self.append_scalar(tag, name, Content::graphic(self.alloc, value))
-    }
-
-    fn encode_visible_string(
-        &mut self,
-        tag: Tag,
-        _constraints: &Constraints<'_>,
-        value: &VisibleString,
-        name: Identifier,
-    ) -> Result<(), EncodeError> {
-        self.append_scalar(tag, name, Content::visible(self.alloc, value))
-    }
-
-    fn encode_ia5_string(
-        &mut self,
-        tag: Tag,
-        _constraints: &Constraints<'_>,
-        value: &Ia5String,
-        name: Identifier,
-    ) -> Result<(), EncodeError> {
-        self.append_scalar(tag, name, Content::ia5(self.alloc, value))
-    }
-
-    fn encode_printable_string(
-        &mut self,
-        tag: Tag,
-        _constraints: &Constraints<'_>,
-        value: &PrintableString,
-        name: Identifier,
-    ) -> Result<(), EncodeError> {
-        self.append_scalar(tag, name, Content::printable(self.alloc, value))
-    }
-
-    fn encode_numeric_string(
-        &mut self,
-        tag: Tag,
-        _constraints: &Constraints<'_>,
-        value: &NumericString,
-        name: Identifier,
-    ) -> Result<(), EncodeError> {
-        self.append_scalar(tag, name, Content::numeric(self.alloc, value))
-    }
-
-    fn encode_teletex_string(
-        &mut self,
-        tag: Tag,
-        _constraints: &Constraints<'_>,
-        value: &TeletexString,
-        name: Identifier,
-    ) -> Result<(), EncodeError> {
-        self.append_scalar(tag, name, Content::teletex(self.alloc, value))
-    }
-
-    fn encode_bmp_string(
-        &mut self,
-        tag: Tag,
-        _constraints: &Constraints<'_>,
-        value: &BmpString,
-        name: Identifier,
-    ) -> Result<(), EncodeError> {
-        self.append_scalar(tag, name, Content::bmp(self.alloc, value))
+        self.append_scalar(tag, name, Content::string(self.alloc, K::as_any(value)))
     }
 
     fn encode_any(&mut self, _tag: Tag, value: &Any, name: Identifier) -> Result<(), EncodeError> {
@@ -383,19 +284,19 @@ impl Encoder for RecordEncoder {
     }
 
     fn mark_present(&mut self, tag: Tag) -> Result<(), EncodeError> {
-        self.append_mark(Mark::Present(tag))
+        self.append_mark(Mark::Present(Side::Root, tag))
     }
 
     fn mark_absent(&mut self, tag: Tag) -> Result<(), EncodeError> {
-        self.append_mark(Mark::Absent(tag))
+        self.append_mark(Mark::Absent(Side::Root, tag))
     }
 
     fn mark_addition_present(&mut self, tag: Tag) -> Result<(), EncodeError> {
-        self.append_mark(Mark::Present(tag))
+        self.append_mark(Mark::Present(Side::Additions, tag))
     }
 
     fn mark_addition_absent(&mut self, tag: Tag) -> Result<(), EncodeError> {
-        self.append_mark(Mark::Absent(tag))
+        self.append_mark(Mark::Absent(Side::Additions, tag))
     }
 
     fn mark_group_absent(&mut self) -> Result<(), EncodeError> {

@@ -2,6 +2,7 @@
 ghost use Rattle.asn1_records.specs.Records.{record_of, records_of};
 ghost use Rattle.asn1_model.specs.Composites.{group_records};
 ghost use Rattle.asn1_model.specs.Records.{is_mark};
+ghost use Rattle.asn1_model.specs.Tables.{no_table};
 ghost use Rattle.std.specs.List.{list_all};
 ghost use Rattle.std.specs.Prelude.{◌≡◌, ◌++◌, IfOk, Some};
 
@@ -13,7 +14,10 @@ pub(crate) fn append_group(
     records: &mut Vec<Record>,
     mut components: Vec<Record>,
 ) -> Result<(), AllocError>
-    ensures { IfOk result (λ _. records_of records.new.items ≡ records_of records.old.items ++ group_records (Some (records_of components.items))) }
+    ensures { IfOk result
+        (λ _. records_of records.new.items ≡
+        records_of records.old.items ++
+        group_records no_table (Some (records_of components.items))) }
 {
     if are_marks(&components) {
         records.push(Record::Mark(Mark::GroupAbsent))?;

@@ -7,8 +7,8 @@ use crate::content::Content;
 use asn1_tags::{Identifier, Tag};
 use asn1_types::Any;
 
-/// A record, without constraints: a content, or a scope that holds other records and presence marks, or the bytes of an open
-/// type, or a presence mark.
+/// A record, without constraints and tables: a content, or a scope that holds other records and presence marks, or the bytes
+/// of an open type, or a presence mark.
 #[derive(Drop)]
 pub enum Record {
     /// A content under a tag and a name.
@@ -38,13 +38,22 @@ pub enum Head {
     Alternative(Tag, Identifier),
 }
 
+/// Where a component is in its definition.
+#[derive(Clone, Copy, Debug, PartialEq, Eq)]
+pub enum Side {
+    /// In the root.
+    Root,
+    /// Among the additions.
+    Additions,
+}
+
 /// A presence mark.
 #[derive(Clone, Copy, Debug, PartialEq, Eq)]
 pub enum Mark {
     /// The component of this tag is there.
-    Present(Tag),
+    Present(Side, Tag),
     /// The component of this tag is absent.
-    Absent(Tag),
+    Absent(Side, Tag),
     /// The components of a group begin.
     GroupStart,
     /// A group is absent.

@@ -10,13 +10,13 @@ use Rattle.asn1_enc.proofs.Steps.{highest-append, highest-holding}
 use Rattle.asn1_model.specs.Composites.{list_records, option_records}
 use Rattle.asn1_model.specs.ConstraintSets.{unconstrained}
 use Rattle.asn1_model.specs.Meaning.{own_records}
-use Rattle.asn1_model.specs.Records.{Record, highest, sequence, sequence_of}
+use Rattle.asn1_model.specs.Records.{Record, highest, in_root, sequence, sequence_of}
 use Rattle.asn1_model.specs.Tags.{universal}
-use Rattle.asn1_recursive.specs.NodeComponents.{node_agrees, node_meaning, text}
+use Rattle.asn1_recursive.specs.NodeComponents.{node_agrees, node_meaning, node_table, text}
 use Rattle.asn1_recursive.specs.declared.node.Node.{Node, out-Node}
 
 abbrev pub label_records : Option (String Global) → List Record
-label_records label = option_records (universal 12) (option_map (own_records text) label)
+label_records label = option_records in_root (universal 12) (option_map (own_records text) label)
 
 pub label_height : (label : Option (String Global)) → highest (label_records label) ≡ 0
 label_height None = refl
@@ -31,7 +31,7 @@ node_height n =
     let label = label_records (out-Node n).label in
     let children = list_records (universal 16) unconstrained (Some (codes "SEQUENCE_OF")) (children_records n) in
     ap highest (node_agrees.records n (universal 16) unconstrained (Some (codes "Node")))
-    ∙ highest-holding (sequence (universal 16) (Some (codes "Node"))) (label ++ (children ++ []))
+    ∙ highest-holding (sequence (universal 16) node_table (Some (codes "Node"))) (label ++ (children ++ []))
     ∙ ap suc (highest-append label (children ++ [])
     ∙ ap (λ h. max h (highest children)) (label_height (out-Node n).label)
     ∙ zero-max (highest children)

@@ -16,7 +16,7 @@ use Rattle.asn1_model.specs.Records.{Name, Record, highest, holding, sequence, s
 use Rattle.asn1_model.specs.Tags.{ShareNone, first_tags, universal}
 use Rattle.asn1_tags.specs.declared.tags.Tag.{Tag}
 use Rattle.asn1_recursive.proofs.NodeHeights.{label_records, node_height}
-use Rattle.asn1_recursive.specs.NodeComponents.{node_agrees, node_components, node_meaning, text}
+use Rattle.asn1_recursive.specs.NodeComponents.{node_agrees, node_components, node_meaning, node_table, text}
 use Rattle.asn1_recursive.specs.contracts.node.NodePartialEq.TheImpl.{ghosts}
 use Rattle.asn1_recursive.specs.contracts.node.NodePartialEq.TheImpl.Laws.{is}
 use Rattle.asn1_recursive.specs.declared.node.Node.{Node, out-Node}
@@ -36,7 +36,7 @@ node_can = search rules
 
 -- so that the decoder stands before its label, once the record is open
 pub one_level : {D : Type 0} (R : Reader D) (d : D) (v : Node) (t : Tag) (c : ConstraintSet) (n : Name) (rest : List Record) (outer : Ahead) →
-    R.stands d ((node_meaning.records v t c n ++ rest) ∷ outer) → R.stands d ((holding (sequence t n) (inside_node v) ∷ rest) ∷ outer)
+    R.stands d ((node_meaning.records v t c n ++ rest) ∷ outer) → R.stands d ((holding (sequence t node_table n) (inside_node v) ∷ rest) ∷ outer)
 one_level R d v t c n rest outer at = subst (λ l. R.stands d ((l ++ rest) ∷ outer)) (node_agrees.records v t c n) at
 
 -- no label begins as the children do

@@ -1,12 +1,12 @@
 -- Each value of these types is valid.
 use Rattle.std.proofs.Common.{List, [], ◌∷◌, ℕ, Bool}
-use Rattle.std.specs.Prelude.{All, IfSome, None, Option, Some}
+use Rattle.std.specs.Prelude.{All, IfSome, Option}
 use Rattle.std.proofs.lemmas.List.Elements.{All-nil, All-cons}
 use Rattle.std.specs.declared.alloc.Global.{Global}
 use Rattle.std.specs.declared.string.String.{String}
 use Rattle.asn1_recursive.specs.FilterAlternatives.{filter_means, filters_mean}
 use Rattle.asn1_recursive.specs.NestedAlternatives.{nested_means}
-use Rattle.asn1_recursive.specs.NodeComponents.{labels, node_is_valid, text}
+use Rattle.asn1_recursive.specs.NodeComponents.{label_is_valid, labels, node_is_valid, text}
 use Rattle.asn1_recursive.specs.declared.filter.Filter.{Filter, And', Or', Not', Present, Row_of-Filter, end_of-Filter, more_of-Filter}
 use Rattle.asn1_recursive.specs.declared.nested.Nested.{Nested, Null, Flag, Inner'}
 use Rattle.asn1_recursive.specs.declared.node.Node.{Node}
@@ -32,13 +32,9 @@ each_nested_valid Null takes = tt
 each_nested_valid (Flag b) takes = tt
 each_nested_valid (Inner' p inner) takes = each_nested_valid inner takes
 
-label_valid : (takes : List ℕ → Bool) (label : Option (String Global)) → IfSome label (text.IsValid takes)
-label_valid takes None = tt
-label_valid takes (Some _) = tt
-
 labels_valid : (takes : List ℕ → Bool) (found : List (Option (String Global))) → All (λ label. IfSome label (text.IsValid takes)) found
 labels_valid takes [] = All-nil (λ label. IfSome label (text.IsValid takes))
-labels_valid takes (label ∷ rest) = All-cons (λ label. IfSome label (text.IsValid takes)) label rest (label_valid takes label) (labels_valid takes rest)
+labels_valid takes (label ∷ rest) = All-cons (λ label. IfSome label (text.IsValid takes)) label rest (label_is_valid takes label) (labels_valid takes rest)
 
 -- and a node by the labels inside it
 pub each_node_valid : (n : Node) (takes : List ℕ → Bool) → node_is_valid takes n

@@ -1,5 +1,5 @@
 -- Filter ::= CHOICE { and [0] SET OF Filter, or [1] SET OF Filter, not [2] Filter, present [7] OCTET STRING }
-use Rattle.std.specs.Prelude.{◌↔◌, ℕ, ⊤, List, [], ◌∷◌, ◌++◌, Some, All, codes, refl}
+use Rattle.std.specs.Prelude.{◌↔◌, ℕ, List, [], ◌∷◌, ◌++◌, Some, All, codes, refl}
 use Rattle.std.proofs.Common.{ap, inl, inr}
 use Rattle.std.proofs.lemmas.List.Elements.{All-nil, All-cons, All-head, All-tail}
 use Rattle.std.specs.List.{flat_map}
@@ -10,10 +10,12 @@ use Rattle.asn1_model.specs.Kinds.{string_type}
 use Rattle.asn1_model.specs.Meaning.{Meaning, own_records}
 use Rattle.asn1_model.specs.contracts.strings.OctetsStringTypeU8.TheImpl.{ghosts as octets}
 use Rattle.asn1_strings.specs.contracts.strings.string_unit.U8StringUnit.TheImpl.{ghosts as octet}
+use Rattle.asn1_model.specs.Tables.{Line, Table}
+use Rattle.asn1_model.specs.WellFormed.{well_formed_append, well_formed_elements}
 use Rattle.asn1_model.specs.TaggedTypes.{tagged}
 use Rattle.asn1_model.specs.Tags.{CHOICE, context}
-use Rattle.asn1_choices.specs.Alternatives.{Alternatives, OneOf, SaysTheSame, ValueMeaning, all_of, alternative, chosen_meaning, closed, says_itself, value_meaning}
-use Rattle.asn1_choices.specs.ChoiceTypes.{inside_itself, itself_under}
+use Rattle.asn1_choices.specs.Alternatives.{Alternatives, OneOf, SaysTheSame, ValueMeaning, all_of, alternative, chosen_meaning, closed, none_say, says_itself, value_meaning}
+use Rattle.asn1_choices.specs.ChoiceTypes.{alternatives_with_itself, inside_itself, itself_under, table_with_itself}
 use Rattle.asn1_types.specs.Kinds.{set_of_type}
 use Rattle.asn1_recursive.specs.declared.filter.Filter.{Filter, And', Or', Not', Present, Row_of-Filter, end_of-Filter, more_of-Filter, items-the_row-Filter}
 
@@ -21,9 +23,16 @@ use Rattle.asn1_recursive.specs.declared.filter.Filter.{Filter, And', Or', Not',
 abbrev pub octet_string : Meaning (List ℕ)
 octet_string = string_type octets.own_tag octets.own_name octet.IsInRange octets.content
 
--- what no elements say together
-abbrev pub none_say : ValueMeaning
-none_say = record { records = []; IsOfType = ⊤; IsValid = λ _. ⊤ }
+-- the alternatives, beside what a filter is to them
+abbrev pub filter_alternatives_with : Meaning Filter → Alternatives
+filter_alternatives_with itself = closed (
+    alternative (codes "and") (tagged (context 0) (set_of_type (λ filters. filters) itself)) ∷
+    alternative (codes "or") (tagged (context 1) (set_of_type (λ filters. filters) itself)) ∷
+    alternative (codes "not") (tagged (context 2) itself) ∷
+    alternative (codes "present") (tagged (context 7) octet_string) ∷ [])
+
+abbrev pub filter_table : Table Line
+filter_table = table_with_itself (codes "Filter") filter_alternatives_with
 
 -- what an element and those after it say together
 abbrev pub both_say : ValueMeaning → ValueMeaning → ValueMeaning
@@ -31,34 +40,38 @@ both_say one rest = record {
   records = one.records ++ rest.records;
   IsOfType = one.IsOfType × rest.IsOfType;
   IsValid = λ takes. one.IsValid takes × rest.IsValid takes;
+  well_formed = λ takes valid. well_formed_append takes one.records rest.records
+      (one.well_formed takes valid.0) (rest.well_formed takes valid.1);
 }
 
 -- what a set under this tag says, by what its elements say together
 abbrev pub set_says : Tag → ValueMeaning → ValueMeaning
-set_says t elements = record elements { records = set_of_records t unconstrained (Some (codes "SET_OF")) elements.records }
+set_says t elements = record elements {
+  records = set_of_records t unconstrained (Some (codes "SET_OF")) elements.records;
+  well_formed = λ takes valid. ((tt, elements.well_formed takes valid), tt);
+}
 
 -- what the chosen alternative says of each filter
 abbrev mutual
   pub filter_means : Filter → ValueMeaning
   filter_means (And' shape filters) = set_says (context 0) (filters_mean filters)
   filter_means (Or' shape filters) = set_says (context 1) (filters_mean filters)
-  filter_means (Not' place inner) = itself_under (codes "Filter") (context 2) (filter_means inner)
+  filter_means (Not' place inner) = itself_under (codes "Filter") filter_table (context 2)
+      (filter_means inner)
   filter_means (Present name) = value_meaning (tagged (context 7) octet_string) name
 
   pub filters_mean : {m : _} → Row_of-Filter m → ValueMeaning
   filters_mean end_of-Filter = none_say
-  filters_mean (more_of-Filter filter rest) = both_say (itself_under (codes "Filter") CHOICE (filter_means filter)) (filters_mean rest)
+  filters_mean (more_of-Filter filter rest) = both_say
+      (itself_under (codes "Filter") filter_table CHOICE (filter_means filter))
+      (filters_mean rest)
 
 -- a filter inside another
 abbrev pub inner_filter : Meaning Filter
-inner_filter = inside_itself (codes "Filter") filter_means
+inner_filter = inside_itself (codes "Filter") filter_table filter_means
 
 abbrev pub filter_alternatives : Alternatives
-filter_alternatives = closed (
-    alternative (codes "and") (tagged (context 0) (set_of_type (λ filters. filters) inner_filter)) ∷
-    alternative (codes "or") (tagged (context 1) (set_of_type (λ filters. filters) inner_filter)) ∷
-    alternative (codes "not") (tagged (context 2) inner_filter) ∷
-    alternative (codes "present") (tagged (context 7) octet_string) ∷ [])
+filter_alternatives = alternatives_with_itself (codes "Filter") filter_alternatives_with filter_means
 
 abbrev pub filter_pick : Filter → OneOf (all_of filter_alternatives)
 filter_pick (And' shape filters) = inl (items-the_row-Filter _ filters)
@@ -72,6 +85,8 @@ together filters = record {
   records = flat_map (own_records inner_filter) filters;
   IsOfType = All inner_filter.IsOfType filters;
   IsValid = λ takes. All (inner_filter.IsValid takes) filters;
+  well_formed = λ takes. well_formed_elements takes (inner_filter.IsValid takes) (own_records inner_filter)
+      (λ v. inner_filter.well_formed takes v inner_filter.tag inner_filter.constraints inner_filter.name) filters;
 }
 
 each_of : {X : Type 0} (P : X → Type 0) (x : X) (xs : List X) {Rest : Type 0} → Rest ↔ All P xs → (P x × Rest) ↔ All P (x ∷ xs)
@@ -97,7 +112,11 @@ set_agrees t filters =
     record { records = ap (set_of_records t unconstrained (Some (codes "SET_OF"))) same.records; of_type = same.of_type; valid = same.valid }
 
 pub filter_agrees : (v : Filter) → SaysTheSame (filter_means v) (chosen_meaning (all_of filter_alternatives) (filter_pick v))
-filter_agrees (And' shape filters) = set_agrees (context 0) filters
-filter_agrees (Or' shape filters) = set_agrees (context 1) filters
+filter_agrees (And' shape filters) =
+    let same = set_agrees (context 0) filters in
+    record { records = same.records; of_type = same.of_type; valid = same.valid }
+filter_agrees (Or' shape filters) =
+    let same = set_agrees (context 1) filters in
+    record { records = same.records; of_type = same.of_type; valid = same.valid }
 filter_agrees (Not' place inner) = says_itself
 filter_agrees (Present name) = says_itself

@@ -4,22 +4,32 @@ use Rattle.std.proofs.Common.{inl, inr}
 use Rattle.asn1_model.specs.Tags.{context}
 use Rattle.asn1_model.specs.contracts.impls.null.UnitAsnType.TheImpl.{ghosts as null}
 use Rattle.asn1_model.specs.contracts.impls.boolean.BoolAsnType.TheImpl.{ghosts as boolean}
+use Rattle.asn1_model.specs.Meaning.{Meaning}
+use Rattle.asn1_model.specs.Tables.{Line, Table}
 use Rattle.asn1_model.specs.TaggedTypes.{tagged, untagged}
 use Rattle.asn1_choices.specs.Alternatives.{Alternatives, OneOf, SaysTheSame, ValueMeaning, all_of, alternative, closed, chosen_meaning, says_itself, value_meaning}
-use Rattle.asn1_choices.specs.ChoiceTypes.{inside_itself, itself_under}
+use Rattle.asn1_choices.specs.ChoiceTypes.{alternatives_with_itself, itself_under, table_with_itself}
 use Rattle.asn1_recursive.specs.declared.nested.Nested.{Nested, Null, Flag, Inner'}
+
+-- the alternatives, beside what a value inside another is to them
+abbrev pub nested_alternatives_with : Meaning Nested → Alternatives
+nested_alternatives_with itself = closed (
+    alternative (codes "null") (untagged null.meaning) ∷
+    alternative (codes "flag") (untagged boolean.meaning) ∷
+    alternative (codes "inner") (tagged (context 0) itself) ∷ [])
+
+abbrev pub nested_table : Table Line
+nested_table = table_with_itself (codes "Nested") nested_alternatives_with
 
 -- what the chosen alternative says of each value
 abbrev pub nested_means : Nested → ValueMeaning
 nested_means Null = value_meaning (untagged null.meaning) tt
 nested_means (Flag b) = value_meaning (untagged boolean.meaning) b
-nested_means (Inner' p inner) = itself_under (codes "Nested") (context 0) (nested_means inner)
+nested_means (Inner' p inner) = itself_under (codes "Nested") nested_table (context 0)
+    (nested_means inner)
 
 abbrev pub nested_alternatives : Alternatives
-nested_alternatives = closed (
-    alternative (codes "null") (untagged null.meaning) ∷
-    alternative (codes "flag") (untagged boolean.meaning) ∷
-    alternative (codes "inner") (tagged (context 0) (inside_itself (codes "Nested") nested_means)) ∷ [])
+nested_alternatives = alternatives_with_itself (codes "Nested") nested_alternatives_with nested_means
 
 abbrev pub nested_pick : Nested → OneOf (all_of nested_alternatives)
 nested_pick Null = inl tt

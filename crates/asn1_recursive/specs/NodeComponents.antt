@@ -1,6 +1,7 @@
 -- Node ::= SEQUENCE { label UTF8String OPTIONAL, children SEQUENCE OF Node }
-use Rattle.std.specs.Prelude.{◌≡◌, ◌↔◌, ◌++◌, ℕ, ⊤, Bool, List, [], ◌∷◌, Option, Some, IfSome, All, codes, refl}
+use Rattle.std.specs.Prelude.{◌≡◌, ◌↔◌, ◌++◌, ℕ, ⊤, Bool, List, [], ◌∷◌, Option, None, Some, IfSome, All, codes, refl}
 use Rattle.std.proofs.Common.{ap, sym, ◌∙◌, subst}
+use Rattle.std.proofs.lemmas.List.Elements.{All-nil, All-cons}
 use Rattle.std.proofs.lemmas.List.Folds.{flat_map-map}
 use Rattle.std.specs.List.{flat_map}
 use Rattle.std.specs.Option.{option_map}
@@ -8,16 +9,19 @@ use Rattle.std.specs.String.{string_bytes}
 use Rattle.std.specs.declared.alloc.Global.{Global}
 use Rattle.std.specs.declared.string.String.{String}
 use Rattle.asn1_components.proofs.HeldInside.{all_own_and_inside}
-use Rattle.asn1_components.specs.Components.{AgreesWithComponents, Components, component_records, head_in, holding_itself, inside_itself, is_sequence, sequence}
+use Rattle.asn1_components.specs.ComponentLists.{all_well_formed}
+use Rattle.asn1_components.specs.Components.{AgreesWithComponents, Components, all_components, component_records, components_with_itself, head_in, holding_itself, inside_itself, is_sequence, sequence, table_with_itself}
 use Rattle.asn1_components.specs.ComponentTypes.{optional, required}
 use Rattle.asn1_recursive.specs.declared.node.Node.{Node, Node-F, out-Node, fold-Node, fold_out-Node}
 use Rattle.asn1_model.specs.Composites.{list_records, option_records}
 use Rattle.asn1_model.specs.ConstraintSets.{unconstrained}
-use Rattle.asn1_model.specs.Kinds.{list_type, utf8_string}
+use Rattle.asn1_model.specs.Kinds.{Inside, list_type, utf8_string}
 use Rattle.asn1_model.specs.Meaning.{Meaning, own_records}
-use Rattle.asn1_model.specs.Records.{Record, holding}
+use Rattle.asn1_model.specs.Records.{Record, holding, in_root}
+use Rattle.asn1_model.specs.Tables.{Line, Table}
 use Rattle.asn1_model.specs.TaggedTypes.{untagged}
 use Rattle.asn1_model.specs.Tags.{universal}
+use Rattle.asn1_model.specs.WellFormed.{AreWellFormed}
 
 -- what a label means
 abbrev pub text : Meaning (String Global)
@@ -29,13 +33,53 @@ components_with fields child = sequence (
     optional (codes "label") (λ v. (fields v).label) (untagged text) ∷
     required (codes "children") (λ v. (fields v).children) (untagged (list_type (λ children. children.items) unconstrained child)) ∷ [])
 
--- a child that is given by the records of its components
-abbrev pub written_child : Meaning (List Record)
-written_child = inside_itself (codes "Node") is_sequence (λ records. records) (λ _. ⊤) (λ _ _. ⊤)
+-- A node that has been written: the records of its components, which are well formed whatever a codec takes, since no node
+-- holds an open type.
+pub record WrittenNode : Type 0 where
+  pub records : List Record
+  pub well_formed : (takes : List ℕ → Bool) → AreWellFormed takes records
+
+-- the table, which is that of any node
+abbrev pub node_table : Table Line
+node_table = table_with_itself {W = WrittenNode} (codes "Node") is_sequence
+    (components_with (λ n. n))
+
+-- a child that has been written
+abbrev pub written_child : Meaning WrittenNode
+written_child = inside_itself (codes "Node") is_sequence node_table (record {
+  records = λ child. child.records;
+  CanStandInside = ⊤;
+  AreOfType = λ _. ⊤;
+  AreValid = λ _ _. ⊤;
+  well_formed = λ takes child _. child.well_formed takes;
+})
+
+-- each label is valid, and so is each child
+pub label_is_valid : (takes : List ℕ → Bool) (label : Option (String Global)) →
+    IfSome label (text.IsValid takes)
+label_is_valid takes None = tt
+label_is_valid takes (Some _) = tt
+
+pub children_are_valid : (takes : List ℕ → Bool) (children : List WrittenNode) →
+    All (written_child.IsValid takes) children
+children_are_valid takes [] = All-nil (written_child.IsValid takes)
+children_are_valid takes (child ∷ children) =
+    All-cons (written_child.IsValid takes) child children tt (children_are_valid takes children)
+
+-- a node is written by its components, where each child has been written
+abbrev pub write_node : Node-F WrittenNode → WrittenNode
+write_node n = record {
+  records = component_records (components_with (λ n. n) written_child) n;
+  well_formed = λ takes. all_well_formed (all_components (components_with (λ n. n) written_child)) takes n
+      (label_is_valid takes n.label, (children_are_valid takes n.children.items, tt));
+}
+
+abbrev pub written_node : Node → WrittenNode
+written_node = fold-Node WrittenNode write_node
 
 -- the records of a node's components
 abbrev pub node_records : Node → List Record
-node_records = fold-Node (List Record) (component_records (components_with (λ n. n) written_child))
+node_records n = (written_node n).records
 
 -- the labels of a node and of all nodes inside it
 abbrev pub labels : Node → List (Option (String Global))
@@ -49,19 +93,29 @@ node_is_of_type n = All (λ label. IfSome label text.IsOfType) (labels n)
 abbrev pub node_is_valid : (List ℕ → Bool) → Node → Type 0
 node_is_valid takes n = All (λ label. IfSome label (text.IsValid takes)) (labels n)
 
+-- what is inside a node's record
+abbrev pub own_inside : Inside Node
+own_inside = record {
+  records = node_records;
+  CanStandInside = ⊤;
+  AreOfType = node_is_of_type;
+  AreValid = node_is_valid;
+  well_formed = λ takes n _. (written_node n).well_formed takes;
+}
+
 -- A node's components, where each child is a node.
 abbrev pub node_components : Components Node
-node_components = components_with out-Node (inside_itself (codes "Node") is_sequence node_records node_is_of_type node_is_valid)
+node_components = components_with_itself (codes "Node") is_sequence (components_with out-Node) own_inside
 
 -- What a node means.
 abbrev pub node_meaning : Meaning Node
-node_meaning = holding_itself (codes "Node") node_records node_is_of_type node_is_valid node_components
+node_meaning = holding_itself (codes "Node") own_inside node_components
 
 node_records_are : (n : Node) → node_records n ≡ component_records node_components n
 node_records_are n =
-    fold_out-Node (List Record) (component_records (components_with (λ n. n) written_child)) n
-    ∙ ap (λ children. option_records (universal 12) (option_map (own_records text) (out-Node n).label) ++ (list_records (universal 16) unconstrained (Some (codes "SEQUENCE_OF")) children ++ []))
-    (flat_map-map (own_records written_child) node_records (out-Node n).children.items)
+    ap (λ (written : WrittenNode). written.records) (fold_out-Node WrittenNode write_node n)
+    ∙ ap (λ children. option_records in_root (universal 12) (option_map (own_records text) (out-Node n).label) ++ (list_records (universal 16) unconstrained (Some (codes "SEQUENCE_OF")) children ++ []))
+    (flat_map-map (own_records written_child) written_node (out-Node n).children.items)
 
 labels_are : (n : Node) → labels n ≡ (out-Node n).label ∷ flat_map labels (out-Node n).children.items
 labels_are n =
@@ -80,7 +134,9 @@ node_agrees = record {
   tree = λ _. refl;
   single = tt;
   present = λ _. refl;
-  records = λ v t c n. ap (λ components. holding (head_in is_sequence t n) components ∷ []) (node_records_are v);
+  records = λ v t c n. ap
+      (λ components. holding (head_in is_sequence t node_table n) components ∷ [])
+      (node_records_are v);
   well_tagged = λ t. (λ h. h, λ h. h);
   of_type = each_label (λ label. IfSome label text.IsOfType);
   valid = λ takes. each_label (λ label. IfSome label (text.IsValid takes));

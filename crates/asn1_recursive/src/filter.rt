@@ -11,7 +11,7 @@
 ghost use Rattle.std.specs.Prelude.{Bool, List, ℕ, codes};
 ghost use Rattle.asn1_model.specs.Meaning.{CanStandInside};
 ghost use Rattle.asn1_choices.specs.ChoiceTypes.{choice_holding_itself, itself_agrees};
-ghost use Rattle.asn1_recursive.specs.FilterAlternatives.{filter_alternatives, filter_pick, filter_means, filter_agrees};
+ghost use Rattle.asn1_recursive.specs.FilterAlternatives.{filter_alternatives, filter_alternatives_with, filter_pick, filter_means, filter_agrees};
 
 use asn1_strings::OctetString;
 use asn1_types::{AsnType, Choice, ChoiceType, Class, Identifier, SetOf, Tag, TagTree, TypeTable};
@@ -75,7 +75,7 @@ impl Choice for Filter {
 }
 
 impl AsnType for Filter {
-    ghost meaning = { choice_holding_itself (codes "Filter") filter_alternatives filter_pick filter_means filter_agrees };
+    ghost meaning = { choice_holding_itself (codes "Filter") filter_alternatives_with filter_means filter_pick filter_agrees };
 
     fn table() -> TypeTable {
         TypeTable::choice(Identifier(Some("Filter")), Filter::variants())

@@ -2,7 +2,7 @@
 ghost use Rattle.std.specs.Prelude.{Bool, List, ℕ, codes};
 ghost use Rattle.asn1_model.specs.Meaning.{CanStandInside};
 ghost use Rattle.asn1_choices.specs.ChoiceTypes.{choice_holding_itself, itself_agrees};
-ghost use Rattle.asn1_recursive.specs.NestedAlternatives.{nested_alternatives, nested_pick, nested_means, nested_agrees};
+ghost use Rattle.asn1_recursive.specs.NestedAlternatives.{nested_alternatives, nested_alternatives_with, nested_pick, nested_means, nested_agrees};
 
 use asn1_types::{AsnType, Choice, ChoiceType, Class, Identifier, Tag, TagTree, TypeTable};
 
@@ -47,7 +47,7 @@ impl Choice for Nested {
 }
 
 impl AsnType for Nested {
-    ghost meaning = { choice_holding_itself (codes "Nested") nested_alternatives nested_pick nested_means nested_agrees };
+    ghost meaning = { choice_holding_itself (codes "Nested") nested_alternatives_with nested_means nested_pick nested_agrees };
 
     fn table() -> TypeTable {
         TypeTable::choice(Identifier(Some("Nested")), Nested::variants())

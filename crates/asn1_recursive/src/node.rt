@@ -2,7 +2,7 @@
 ghost use Rattle.std.specs.List.{flat_map};
 ghost use Rattle.std.specs.Prelude.{◌≡◌, ◌+◌, Bool, List, [], ◌∷◌, None, Some, codes, ℕ};
 ghost use Rattle.std.specs.String.{string_bytes};
-ghost use Rattle.asn1_types.specs.Words.{universal, CanStandInside, own_records, holding, sequence_head, sequence_of, scalar, mark, absent, present, units, utf8, unconstrained};
+ghost use Rattle.asn1_types.specs.Words.{lines, in_root, universal, CanStandInside, own_records, holding, sequence_head, sequence_of, scalar, mark, absent, present, units, utf8, unconstrained};
 ghost use Rattle.asn1_model.specs.Records.{highest};
 ghost use Rattle.asn1_recursive.specs.NodeComponents.{node_components, node_agrees, node_meaning};
 ghost use Rattle.asn1_recursive.specs.declared.node.Node.{out-Node};
@@ -37,6 +37,10 @@ impl FieldTable for Node {
             1 => Some(Field::new_required_type::<Vec<Node>>(1, "children")),
             _ => None,
         }
+    }
+
+    fn marker_place() -> Option<usize> {
+        None
     }
 }
 
@@ -106,11 +110,11 @@ pub fn node_records(parent: &Node, child: &Node, label: &Utf8String)
     ensures { (out-Node parent.now).label ≡ None → (out-Node parent.now).children.items ≡ child.now ∷ [] →
         (out-Node child.now).label ≡ Some label.now → (out-Node child.now).children.items ≡ [] →
         own_records ⟦<Node as AsnType>⟧.meaning parent.now ≡
-        holding (sequence_head (universal 16) (Some (codes "Node"))) (
-        mark (absent (universal 12)) ∷
+        holding (sequence_head (universal 16) (lines ⟦<Node as FieldTable>⟧.components) (Some (codes "Node"))) (
+        mark (absent in_root (universal 12)) ∷
         holding (sequence_of (universal 16) unconstrained (Some (codes "SEQUENCE_OF"))) (
-        holding (sequence_head (universal 16) (Some (codes "Node"))) (
-        mark (present (universal 12)) ∷
+        holding (sequence_head (universal 16) (lines ⟦<Node as FieldTable>⟧.components) (Some (codes "Node"))) (
+        mark (present in_root (universal 12)) ∷
         scalar (universal 12) unconstrained (Some (codes "UTF8String")) (units utf8 (string_bytes label.now)) ∷
         holding (sequence_of (universal 16) unconstrained (Some (codes "SEQUENCE_OF"))) [] ∷ []) ∷ []) ∷ []) ∷ [] }
 {}

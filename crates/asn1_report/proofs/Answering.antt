@@ -1,111 +1,44 @@
--- How an answer is made.
-use Rattle.std.proofs.Common.{◌≡◌, ℕ, ◌<◌, arith, Bool, true, false, not, cond, nat_lt, List, [], ◌∷◌, ◌++◌, length, map, Option, Some, None, option_map, option_and_then, refl, sym, ap, subst, ◌∙◌}
-use Rattle.std.specs.Prelude.{IsSomeAnd, is_some, unwrap_or}
-use Rattle.std.specs.Borrow.{Bor}
-use Rattle.std.proofs.lemmas.List.{append-nil}
-use Rattle.asn1_fields.specs.Entries.{Component}
-use Rattle.asn1_clash.specs.declared.flat_component.FlatComponent.{FlatComponent}
+-- What is given is the answer of the definition.
+use Rattle.std.proofs.Common.{◌≡◌, ℕ, Bool, List, [], ◌++◌, length, Option, None, Some, option_map, refl, sym, ap, ◌∙◌}
+use Rattle.std.specs.Prelude.{is_some}
+use Rattle.std.specs.Option.{option_map_or}
+use Rattle.asn1_tags.specs.Tags.{distinct, smallest}
+use Rattle.asn1_tags.specs.Trees.{leaves}
+use Rattle.asn1_tags.specs.declared.tags.Tag.{Tag}
+use Rattle.asn1_clash.specs.Seen.{tree_seen}
+use Rattle.asn1_clash.specs.declared.flat_tree.FlatTree.{FlatTree}
+use Rattle.asn1_clash.proofs.Flat.{leaves-flat_tree}
+use Rattle.asn1_report.specs.Flattened.{Gives, HasAnswered, flat_state, flat_statement}
+use Rattle.asn1_report.specs.Report.{State, answer_of, answer_to, in_next_line, refusal}
+use Rattle.asn1_report.specs.Seen.{state_seen, table_seen}
+use Rattle.asn1_report.specs.Statements.{Statement, statement_of}
+use Rattle.asn1_report.specs.Texts.{tree_verdict, verdict_of}
+use Rattle.asn1_report.specs.declared.reporter.Reporter.{Reporter}
 use Rattle.asn1_report.specs.declared.table.Table as declared
-use Rattle.asn1_report.specs.Grammar.{adds_component}
-use Rattle.asn1_report.specs.Seen.{place_seen, table_seen}
-use Rattle.asn1_clash.specs.Seen.{component_seen, components_seen}
-use Rattle.asn1_report.specs.Flattened.{Gives, GivesIfAny, flat_table}
-use Rattle.asn1_clash.specs.Flat.{flat_component}
-use Rattle.asn1_report.specs.Tables.{Table, most_components, unchecked, with_component}
-use Rattle.asn1_report.specs.Report.{Answer, Place, answer_inside, answer_if_understood, answer_to, is_understood, refusal}
-use Rattle.asn1_clash.proofs.Flat.{flat-flat_tree}
-use Rattle.asn1_report.proofs.Flattening.{map-after}
+use Rattle.asn1_report.proofs.Flattening.{answer_to-flat}
 
-seen_flat : (fs : List FlatComponent) → map flat_component (components_seen fs) ≡ components_seen fs
-seen_flat [] = refl
-seen_flat (f ∷ fs) = λ i. record { presence = f.presence; tree = flat-flat_tree f.tree.tags.items f.tree.has_empty_choice i } ∷ seen_flat fs i
+is_some-seen : (t : Option declared.Table) → is_some t ≡ is_some (option_map table_seen t)
+is_some-seen None = refl
+is_some-seen (Some t) = refl
 
--- the program keeps flat trees
-table_flat : (t : declared.Table) → flat_table (table_seen t) ≡ table_seen t
-table_flat t = λ i. record (table_seen t) { components = seen_flat t.components.items i }
-
-tables_flat : (t : Option declared.Table) → option_map flat_table (option_map table_seen t) ≡ option_map table_seen t
-tables_flat None = refl
-tables_flat (Some t) = ap Some (table_flat t)
-
--- an empty line changes nothing
-pub empty_answered : (t : Option declared.Table) (text : List ℕ) → Gives (record { text = []; table = option_map table_seen t }) text text (option_map table_seen t)
-empty_answered t text = record { text = sym (append-nil text); table = sym (tables_flat t) }
-
-pub empty_line : (t : Option declared.Table) (text : List ℕ) (line : Option (Bor (List ℕ))) (bytes : Bor (List ℕ)) → line ≡ Some bytes → length bytes.now < 1 →
-    IsSomeAnd (answer_if_understood (option_map table_seen t) (option_map (λ b. b.now) line)) (λ a. Gives a text text (option_map table_seen t))
-empty_line t text line bytes is short =
-    let P : Option (List ℕ) → Type 0 = λ l. IsSomeAnd (answer_if_understood (option_map table_seen t) l) (λ a. Gives a text text (option_map table_seen t)) in
-    subst P (sym (ap (option_map (λ b. b.now)) is ∙ ap Some (nothing bytes.now short))) (empty_answered t text)
-  where
-    nothing : (xs : List ℕ) → length xs < 1 → xs ≡ []
-    nothing [] h = refl
-    nothing (x ∷ xs) h = absurd (omega arith)
-
--- there is room
-pub has_room : (b : Bool) → false ≡ not b → b ≡ true
-has_room true h = refl
-has_room false h = h
-
--- a component goes into the table
-pub component_added : (old new : declared.Table) (field : FlatComponent) (component : Option Component) → Some (component_seen field) ≡ option_map flat_component component →
-    nat_lt (length (table_seen old).components) most_components ≡ true → table_seen new ≡ with_component (table_seen old) (component_seen field) →
-    IsSomeAnd (option_and_then (answer_inside (table_seen old)) (option_map (λ c. adds_component c) component)) (λ a. Gives a [] [] (Some (table_seen new)))
-component_added old new field None read room added = absurd (never read)
-  where
-    never : Some (component_seen field) ≡ None → ⊥
-    never h = cc
-component_added old new field (Some c) read room added =
-    let P : Bool → Type 0 = λ b. IsSomeAnd (cond b (Some (record { text = []; table = Some (with_component (table_seen old) c) })) None) (λ a. Gives a [] [] (Some (table_seen new))) in
-    let same : component_seen field ≡ flat_component c = cc in
-    let fields = old.components.items in
-    subst P (sym room)
-    (record {
-      text = refl;
-      table =
-          ap Some
-          (added
-          ∙ λ i. record (table_seen old) {
-            components =
-                (ap (λ d. components_seen fields ++ d ∷ []) same
-                ∙ (ap (λ ds. ds ++ flat_component c ∷ []) (sym (seen_flat fields)) ∙ sym (map-after (components_seen fields) c))) i;
-          });
-    })
-
--- what is said of a line's answer
-pub record Answered (place : Place) (line : Option (List ℕ)) (understood : Bool) (text : List ℕ) (table : Option Table) : Type 0 where
-  pub text_is : text ≡ (answer_to place line).text
-  pub table_is : table ≡ option_map flat_table (answer_to place line).table
-  pub understood_is : understood ≡ is_understood place line
-
--- a line that is understood is answered so
-pub answered : (number : ℕ) (t : Option Table) (new_table : Option Table) (line : Option (List ℕ)) (old new : List ℕ) → old ≡ [] →
-    GivesIfAny true (answer_if_understood t line) old new t new_table → Answered (record { number = number; table = t }) line true new new_table
-answered number t new_table line old new nothing given = with_answer (answer_if_understood t line) refl given
-  where
-    with_answer : (r : Option Answer) → answer_if_understood t line ≡ r → IsSomeAnd r (λ a. Gives a old new new_table) → Answered (record { number = number; table = t }) line true new new_table
-    with_answer None is gives = absurd gives
-    with_answer (Some a) is gives =
-        let whole : answer_to (record { number = number; table = t }) line ≡ a = ap (λ r. unwrap_or r (refusal (record { number = number; table = t }))) is in
-        record {
-          text_is = gives.text ∙ (ap (λ xs. xs ++ a.text) nothing ∙ ap (λ b. b.text) (sym whole));
-          table_is = gives.table ∙ ap (λ b. option_map flat_table b.table) (sym whole);
-          understood_is = sym (ap is_some is);
-        }
-
-unchecked_flat : (t : Option declared.Table) → option_map flat_table (option_map unchecked (option_map table_seen t)) ≡ option_map unchecked (option_map table_seen t)
-unchecked_flat None = refl
-unchecked_flat (Some t) = ap (λ u. Some (unchecked u)) (table_flat t)
-
--- and one that is not
-pub refused : (number : ℕ) (t : Option declared.Table) (mid_table new_table : Option Table) (line : Option (List ℕ)) (old mid new : List ℕ) → old ≡ [] →
-    GivesIfAny false (answer_if_understood (option_map table_seen t) line) old mid (option_map table_seen t) mid_table →
-    new_table ≡ option_map unchecked mid_table → new ≡ mid ++ (refusal (place_seen number t)).text →
-    Answered (place_seen number t) line false new new_table
-refused number t mid_table new_table line old mid new nothing given kept wrote =
-    let whole : answer_to (place_seen number t) line ≡ refusal (place_seen number t) = ap (λ r. unwrap_or r (refusal (place_seen number t))) given.0 in
+-- what is given for what was read of a line is the answer to the line
+pub answered : (s : State) (line : Option (List ℕ)) (old mid new : Reporter) (in_table : Bool) (read : Option Statement) → state_seen old ≡ flat_state s →
+    in_table ≡ is_some old.table → read ≡ option_map flat_statement (statement_of in_table line) →
+    mid.text.items ≡ [] → state_seen mid ≡ in_next_line (state_seen old) →
+    Gives (option_map_or (answer_of (state_seen mid)) read (refusal (state_seen mid))) mid new → HasAnswered (answer_to s line) new
+answered s line old mid new in_table read stands is_in_table is empty next gives =
+    let in_table_there : in_table ≡ is_some (flat_state s).table = is_in_table ∙ (is_some-seen old.table ∙ ap (λ state. is_some state.table) stands) in
+    let here : state_seen mid ≡ in_next_line (flat_state s) = next ∙ ap in_next_line stands in
+    let same =
+    ap (λ state. option_map_or (answer_of state) read (refusal state)) here
+    ∙ answer_to-flat s line read (is ∙ ap (λ b. option_map flat_statement (statement_of b line)) in_table_there) in
     record {
-      text_is = wrote ∙ (ap (λ xs. xs ++ (refusal (place_seen number t)).text) (given.1 ∙ nothing) ∙ ap (λ b. b.text) (sym whole));
-      table_is = kept ∙ (ap (option_map unchecked) given.2 ∙ (sym (unchecked_flat t) ∙ ap (λ b. option_map flat_table b.table) (sym whole)));
-      understood_is = sym (ap is_some given.0);
+      text = gives.text ∙ (λ i. empty i ++ (same i).text);
+      state = gives.state ∙ ap (λ answer. answer.state) same;
     }
+
+-- the verdict on a tree is that on its leaves
+pub tree_said : (tree : FlatTree) (tags : List Tag) (unique : Bool) (tag : Tag) (count : ℕ) → tags ≡ tree.tags.items → unique ≡ distinct tags → tag ≡ smallest tags →
+    count ≡ length tags → verdict_of unique tag count ≡ tree_verdict (leaves (tree_seen tree))
+tree_said tree tags unique tag count same is_unique is_smallest is_count =
+    (λ i. verdict_of (is_unique i) (is_smallest i) (is_count i)) ∙ ap tree_verdict (same ∙ sym (leaves-flat_tree tree.tags.items tree.has_empty_choice))

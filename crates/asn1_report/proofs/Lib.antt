@@ -1,10 +1,11 @@
-pub mod PartsLemmas
+pub mod Elements
 pub mod Numbers
 pub mod TreeLemmas
+pub mod Lines
 pub mod Flattening
 pub mod Answering
-pub mod Progress
-pub mod Reports
+pub mod Taking
+pub mod Reading
 pub mod Spellings
 pub mod Respellings
 pub mod Beginnings

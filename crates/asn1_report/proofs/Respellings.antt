@@ -22,55 +22,55 @@ use Rattle.asn1_tags.specs.declared.classes.Class.TheVariants.{Universal, Applic
 use Rattle.asn1_tags.specs.declared.tags.Tag.{Tag}
 use Rattle.asn1_tags.specs.Trees.{Tree, Trees, leaf, choice, none, more, leaves, leaves_of}
 use Rattle.asn1_report.specs.Names.{is_plain_number, number_of}
-use Rattle.asn1_report.specs.Parts.{depth_after, parts_at, parts_of}
-use Rattle.asn1_report.specs.Grammar.{class_of, tag_of, between_brackets, elements_of, all_trees, tree_of}
+use Rattle.asn1_report.specs.Elements.{depth_after, elements_at, elements_of}
+use Rattle.asn1_report.specs.Grammar.{class_of, tag_of, between_brackets, all_trees, tree_of}
 use Rattle.asn1_report.specs.Spelling.{letter_of, spelling, spelling_of, spelling_after, brackets, brackets_of}
-use Rattle.asn1_report.proofs.PartsLemmas.{before_first, before_first-onto_first, parts_start}
+use Rattle.asn1_report.proofs.Elements.{before_first, before_first-onto_first, elements_start}
 use Rattle.asn1_report.proofs.TreeLemmas.{tree_of-inside, tree_of-tag}
 
--- where so many brackets are open before the text, no part ends in it, and as many are open after it
+-- where this many brackets are open before the text, no element ends in it, and as many are open after it
 abbrev Passes : ℕ → List ℕ → Type 0
-Passes depth text = (rest : List ℕ) → parts_at depth (text ++ rest) ≡ before_first text (parts_at depth rest)
+Passes depth text = (rest : List ℕ) → elements_at depth (text ++ rest) ≡ before_first text (elements_at depth rest)
 
-onto_first-before_first : (byte : ℕ) (bytes : List ℕ) (parts : List (List ℕ)) → onto_first byte (before_first bytes parts) ≡ before_first (byte ∷ bytes) parts
+onto_first-before_first : (byte : ℕ) (bytes : List ℕ) (texts : List (List ℕ)) → onto_first byte (before_first bytes texts) ≡ before_first (byte ∷ bytes) texts
 onto_first-before_first byte bytes [] = refl
-onto_first-before_first byte bytes (part ∷ parts) = refl
+onto_first-before_first byte bytes (text ∷ texts) = refl
 
-before_first-append : (front back : List ℕ) (parts : List (List ℕ)) → before_first front (before_first back parts) ≡ before_first (front ++ back) parts
+before_first-append : (front back : List ℕ) (texts : List (List ℕ)) → before_first front (before_first back texts) ≡ before_first (front ++ back) texts
 before_first-append front back [] = refl
-before_first-append front back (part ∷ parts) = ap (λ first. first ∷ parts) (sym (append_assoc front back part))
+before_first-append front back (text ∷ texts) = ap (λ first. first ∷ texts) (sym (append_assoc front back text))
 
--- a byte that is no space outside all brackets goes onto the first part
+-- a byte that is no space outside all brackets goes onto the first element
 byte_passes : (depth after byte : ℕ) (bytes : List ℕ) → ((depth == 0) && (byte == 32)) ≡ false → depth_after depth byte ≡ after →
-    parts_at depth (byte ∷ bytes) ≡ onto_first byte (parts_at after bytes)
+    elements_at depth (byte ∷ bytes) ≡ onto_first byte (elements_at after bytes)
 byte_passes depth after byte bytes inside is =
-    ap (λ b. cond b ([] ∷ parts_at 0 bytes) (onto_first byte (parts_at (depth_after depth byte) bytes))) inside
-    ∙ ap (λ d. onto_first byte (parts_at d bytes)) is
+    ap (λ b. cond b ([] ∷ elements_at 0 bytes) (onto_first byte (elements_at (depth_after depth byte) bytes))) inside
+    ∙ ap (λ d. onto_first byte (elements_at d bytes)) is
 
 Passes-nil : (depth : ℕ) → Passes depth []
-Passes-nil depth rest = sym (parts_start rest depth)
+Passes-nil depth rest = sym (elements_start rest depth)
 
 Passes-cons : (depth byte : ℕ) (bytes : List ℕ) → ((depth == 0) && (byte == 32)) ≡ false → depth_after depth byte ≡ depth → Passes depth bytes → Passes depth (byte ∷ bytes)
 Passes-cons depth byte bytes inside same passes rest =
     byte_passes depth depth byte (bytes ++ rest) inside same
-    ∙ (ap (onto_first byte) (passes rest) ∙ onto_first-before_first byte bytes (parts_at depth rest))
+    ∙ (ap (onto_first byte) (passes rest) ∙ onto_first-before_first byte bytes (elements_at depth rest))
 
 Passes-append : (depth : ℕ) (front back : List ℕ) → Passes depth front → Passes depth back → Passes depth (front ++ back)
 Passes-append depth front back front_passes back_passes rest =
-    ap (parts_at depth) (append_assoc front back rest)
-    ∙ (front_passes (back ++ rest) ∙ (ap (before_first front) (back_passes rest) ∙ before_first-append front back (parts_at depth rest)))
+    ap (elements_at depth) (append_assoc front back rest)
+    ∙ (front_passes (back ++ rest) ∙ (ap (before_first front) (back_passes rest) ∙ before_first-append front back (elements_at depth rest)))
 
 Passes-brackets : (depth : ℕ) (inside : List ℕ) → Passes (depth + 1) inside → Passes depth (40 ∷ (inside ++ 41 ∷ []))
 Passes-brackets depth inside passes rest =
     byte_passes depth (depth + 1) 40 ((inside ++ 41 ∷ []) ++ rest) (and-false (depth == 0)) refl
-    ∙ (ap (onto_first 40) closed ∙ onto_first-before_first 40 (inside ++ 41 ∷ []) (parts_at depth rest))
+    ∙ (ap (onto_first 40) closed ∙ onto_first-before_first 40 (inside ++ 41 ∷ []) (elements_at depth rest))
   where
-    closed : parts_at (depth + 1) ((inside ++ 41 ∷ []) ++ rest) ≡ before_first (inside ++ 41 ∷ []) (parts_at depth rest)
+    closed : elements_at (depth + 1) ((inside ++ 41 ∷ []) ++ rest) ≡ before_first (inside ++ 41 ∷ []) (elements_at depth rest)
     closed =
-        ap (parts_at (depth + 1)) (append_assoc inside (41 ∷ []) rest)
+        ap (elements_at (depth + 1)) (append_assoc inside (41 ∷ []) rest)
         ∙ (passes (41 ∷ rest)
         ∙ (ap (before_first inside) (byte_passes (depth + 1) depth 41 rest (and-false (depth + 1 == 0)) (omega arith))
-        ∙ before_first-onto_first inside 41 (parts_at depth rest)))
+        ∙ before_first-onto_first inside 41 (elements_at depth rest)))
 
 -- each byte is above those of the space and of the brackets, as letters and digits are
 abbrev IsAboveBrackets : List ℕ → Type 0
@@ -114,7 +114,7 @@ letter_above_brackets Application = omega arith
 letter_above_brackets Context = omega arith
 letter_above_brackets Private = omega arith
 
--- inside brackets a space ends no part
+-- inside brackets a space ends no element
 Passes-space : (depth : ℕ) (bytes : List ℕ) → 0 < depth → Passes depth bytes → Passes depth (32 ∷ bytes)
 Passes-space depth bytes deep =
     Passes-cons depth 32 bytes (ap (λ b. b && true) (ne_eqb depth 0 (λ e. omega (arith, deep)))) refl
@@ -141,24 +141,20 @@ abbrev spelling_each : Trees → List (List ℕ)
 spelling_each none = []
 spelling_each (more tree trees) = spelling tree ∷ spelling_each trees
 
-parts-spelling_after : (trees : Trees) (tree : Tree) → parts_of (spelling tree ++ spelling_after trees) ≡ spelling tree ∷ spelling_each trees
-parts-spelling_after none tree = Passes-spelling tree 0 [] ∙ ap (λ part. part ∷ []) (append-nil (spelling tree))
-parts-spelling_after (more next trees) tree =
+elements-spelling_after : (trees : Trees) (tree : Tree) → elements_at 0 (spelling tree ++ spelling_after trees) ≡ spelling tree ∷ spelling_each trees
+elements-spelling_after none tree = Passes-spelling tree 0 [] ∙ ap (λ text. text ∷ []) (append-nil (spelling tree))
+elements-spelling_after (more next trees) tree =
     Passes-spelling tree 0 (spelling_after (more next trees))
-    ∙ (λ i. append-nil (spelling tree) i ∷ parts-spelling_after trees next i)
-
--- the parts of a tree's text are that text alone
-pub parts-spelling : (tree : Tree) → parts_of (spelling tree) ≡ spelling tree ∷ []
-parts-spelling tree = ap parts_of (sym (append-nil (spelling tree))) ∙ parts-spelling_after none tree
+    ∙ (λ i. append-nil (spelling tree) i ∷ elements-spelling_after trees next i)
 
 -- the text of a tree has a byte
-elements_of-spelling : (tree : Tree) (rest : List ℕ) → elements_of (spelling tree ++ rest) ≡ parts_of (spelling tree ++ rest)
+elements_of-spelling : (tree : Tree) (rest : List ℕ) → elements_of (spelling tree ++ rest) ≡ elements_at 0 (spelling tree ++ rest)
 elements_of-spelling (leaf tag) rest = refl
 elements_of-spelling (choice trees) rest = refl
 
 elements_of-spelling_of : (trees : Trees) → elements_of (spelling_of trees) ≡ spelling_each trees
 elements_of-spelling_of none = refl
-elements_of-spelling_of (more tree trees) = elements_of-spelling tree (spelling_after trees) ∙ parts-spelling_after trees tree
+elements_of-spelling_of (more tree trees) = elements_of-spelling tree (spelling_after trees) ∙ elements-spelling_after trees tree
 
 ends-push : (byte : ℕ) (bytes : List ℕ) → ends_with_byte byte (bytes ++ byte ∷ []) ≡ true
 ends-push byte bytes =
@@ -245,7 +241,7 @@ mutual
       ap (option_and_then (λ t. option_map (more t) (all_trees (tree_of depth) (spelling_each trees)))) (tree_respelled depth tree (omega arith) (small_front (leaves tree) (leaves_of trees) small))
       ∙ ap (option_map (more tree)) (trees_respelled depth trees (omega arith) (small_back (leaves tree) (leaves_of trees) small))
 
--- at most so many of the tree's brackets are open at once, and its tags' numbers are small
+-- at most this many of the tree's brackets are open at once, and its tags' numbers are small
 abbrev Fits : ℕ → Tree → Type 0
 Fits depth tree = (brackets tree ≤ depth) × All HasSmallNumber (leaves tree)
 

@@ -14,44 +14,44 @@ use Rattle.asn1_tags.specs.declared.classes.Class.TheVariants.{Universal, Applic
 use Rattle.asn1_tags.specs.declared.tags.Tag.{Tag}
 use Rattle.asn1_tags.specs.Trees.{Tree, Trees, leaf, choice, none, more}
 use Rattle.asn1_report.specs.Names.{number_of}
-use Rattle.asn1_report.specs.Parts.{depth_after, parts_at}
-use Rattle.asn1_report.specs.Grammar.{class_of, tag_of, between_brackets, elements_of, all_trees, tree_of}
+use Rattle.asn1_report.specs.Elements.{depth_after, elements_at, elements_of}
+use Rattle.asn1_report.specs.Grammar.{class_of, tag_of, between_brackets, all_trees, tree_of}
 use Rattle.asn1_report.proofs.Numbers.{number_decimal}
-use Rattle.asn1_report.proofs.PartsLemmas.{IsSome, some-parts_at}
+use Rattle.asn1_report.proofs.Elements.{IsNonempty, nonempty-elements_at}
 use Rattle.asn1_report.proofs.TreeLemmas.{no_tree_less}
 use Rattle.asn1_report.specs.Spelling.{letter_of, spelling, spelling_of, spelling_after}
 
--- parts with a space between each two
+-- texts with a space between each two
 abbrev joined_after : List (List ℕ) → List ℕ
 joined_after [] = []
-joined_after (part ∷ parts) = 32 ∷ (part ++ joined_after parts)
+joined_after (text ∷ texts) = 32 ∷ (text ++ joined_after texts)
 
 abbrev joined : List (List ℕ) → List ℕ
 joined [] = []
-joined (part ∷ parts) = part ++ joined_after parts
+joined (text ∷ texts) = text ++ joined_after texts
 
-joined-onto_first : (byte : ℕ) (parts : List (List ℕ)) → joined (onto_first byte parts) ≡ byte ∷ joined parts
+joined-onto_first : (byte : ℕ) (texts : List (List ℕ)) → joined (onto_first byte texts) ≡ byte ∷ joined texts
 joined-onto_first byte [] = refl
-joined-onto_first byte (part ∷ parts) = refl
+joined-onto_first byte (text ∷ texts) = refl
 
-joined-cons : (parts : List (List ℕ)) → IsSome parts → joined_after parts ≡ 32 ∷ joined parts
+joined-cons : (texts : List (List ℕ)) → IsNonempty texts → joined_after texts ≡ 32 ∷ joined texts
 joined-cons [] some = absurd some
-joined-cons (part ∷ parts) some = refl
+joined-cons (text ∷ texts) some = refl
 
--- the parts of a text give it back
-joined-parts_at : (depth : ℕ) (text : List ℕ) → joined (parts_at depth text) ≡ text
-joined-parts_at depth [] = refl
-joined-parts_at depth (byte ∷ bytes) = by_test (byte == 32) refl (depth == 0) (joined-parts_at 0 bytes) (joined-parts_at (depth_after depth byte) bytes)
+-- the elements of a text give it back
+joined-elements_at : (depth : ℕ) (text : List ℕ) → joined (elements_at depth text) ≡ text
+joined-elements_at depth [] = refl
+joined-elements_at depth (byte ∷ bytes) = by_test (byte == 32) refl (depth == 0) (joined-elements_at 0 bytes) (joined-elements_at (depth_after depth byte) bytes)
   where
-    by_test : (space : Bool) → (byte == 32) ≡ space → (b : Bool) → joined (parts_at 0 bytes) ≡ bytes → joined (parts_at (depth_after depth byte) bytes) ≡ bytes →
-        joined (cond (b && (byte == 32)) ([] ∷ parts_at 0 bytes) (onto_first byte (parts_at (depth_after depth byte) bytes))) ≡ byte ∷ bytes
+    by_test : (space : Bool) → (byte == 32) ≡ space → (b : Bool) → joined (elements_at 0 bytes) ≡ bytes → joined (elements_at (depth_after depth byte) bytes) ≡ bytes →
+        joined (cond (b && (byte == 32)) ([] ∷ elements_at 0 bytes) (onto_first byte (elements_at (depth_after depth byte) bytes))) ≡ byte ∷ bytes
     by_test true is true anew on =
-        ap (λ t. joined (cond t ([] ∷ parts_at 0 bytes) (onto_first byte (parts_at (depth_after depth byte) bytes)))) is
-        ∙ (joined-cons (parts_at 0 bytes) (some-parts_at 0 bytes) ∙ (ap (λ t. 32 ∷ t) anew ∙ ap (λ x. x ∷ bytes) (sym (eqb-true byte 32 is))))
+        ap (λ t. joined (cond t ([] ∷ elements_at 0 bytes) (onto_first byte (elements_at (depth_after depth byte) bytes)))) is
+        ∙ (joined-cons (elements_at 0 bytes) (nonempty-elements_at 0 bytes) ∙ (ap (λ t. 32 ∷ t) anew ∙ ap (λ x. x ∷ bytes) (sym (eqb-true byte 32 is))))
     by_test false is true anew on =
-        ap (λ t. joined (cond t ([] ∷ parts_at 0 bytes) (onto_first byte (parts_at (depth_after depth byte) bytes)))) is
-        ∙ (joined-onto_first byte (parts_at (depth_after depth byte) bytes) ∙ ap (λ t. byte ∷ t) on)
-    by_test space is false anew on = joined-onto_first byte (parts_at (depth_after depth byte) bytes) ∙ ap (λ t. byte ∷ t) on
+        ap (λ t. joined (cond t ([] ∷ elements_at 0 bytes) (onto_first byte (elements_at (depth_after depth byte) bytes)))) is
+        ∙ (joined-onto_first byte (elements_at (depth_after depth byte) bytes) ∙ ap (λ t. byte ∷ t) on)
+    by_test space is false anew on = joined-onto_first byte (elements_at (depth_after depth byte) bytes) ∙ ap (λ t. byte ∷ t) on
 
 -- a letter that names a class is its letter
 class_letter : (letter : ℕ) (class : Class) → class_of letter ≡ Some class → letter ≡ letter_of class
@@ -140,7 +140,7 @@ trees_spelled tree_in spelled (text ∷ texts) (more t ts) is =
 
 elements_joined : (inside : List ℕ) → joined (elements_of inside) ≡ inside
 elements_joined [] = refl
-elements_joined (byte ∷ bytes) = joined-parts_at 0 (byte ∷ bytes)
+elements_joined (byte ∷ bytes) = joined-elements_at 0 (byte ∷ bytes)
 
 leaf_spelled : (text : List ℕ) (tree : Tree) → option_map leaf (tag_of text) ≡ Some tree → text ≡ spelling tree
 leaf_spelled text tree is = with_tag (tag_of text) refl is

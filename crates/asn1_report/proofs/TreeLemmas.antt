@@ -6,7 +6,8 @@ use Rattle.std.proofs.Math.Bool.{or_assoc, or-false}
 use Rattle.asn1_tags.specs.Trees.{Tree, Trees, leaf, choice, none, more, leaves, leaves_of, is_open, is_any_open, is_nothing}
 use Rattle.asn1_clash.specs.Seen.{Adds}
 use Rattle.asn1_clash.specs.declared.flat_tree.FlatTree.{FlatTree}
-use Rattle.asn1_report.specs.Grammar.{tag_of, between_brackets, elements_of, all_trees, tree_of}
+use Rattle.asn1_report.specs.Elements.{elements_of}
+use Rattle.asn1_report.specs.Grammar.{tag_of, between_brackets, all_trees, tree_of}
 
 -- the trees of one list, then those of the other
 abbrev pub join : Trees → Trees → Trees

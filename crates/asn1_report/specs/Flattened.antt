@@ -1,21 +1,37 @@
--- What the program keeps of a table, and of an answer: trees are flat there.
-use Rattle.std.specs.Prelude.{◌≡◌, ℕ, Bool, ◌++◌, List, map, Option, None, option_map, IsSomeAnd, MatchBool}
-use Rattle.asn1_clash.specs.Flat.{flat_component}
-use Rattle.asn1_report.specs.Report.{Answer}
+-- What the program keeps of trees: their flat forms.
+use Rattle.std.specs.Prelude.{◌≡◌, ◌++◌, map, Option, option_map}
+use Rattle.asn1_clash.specs.Flat.{flat, flat_component}
+use Rattle.asn1_report.specs.Report.{Answer, State}
+use Rattle.asn1_report.specs.Seen.{state_seen, statement_seen}
+use Rattle.asn1_report.specs.Statements.{Statement, names_tree, adds_component}
 use Rattle.asn1_report.specs.Tables.{Table}
+use Rattle.asn1_report.specs.declared.reporter.Reporter.{Reporter}
+use Rattle.asn1_report.specs.declared.statement.Statement as declared
+
+-- a statement whose tree is flat
+abbrev pub flat_statement : Statement → Statement
+flat_statement (names_tree name tree) = names_tree name (flat tree)
+flat_statement (adds_component component) = adds_component (flat_component component)
+flat_statement statement = statement
+
+-- What was read is what is said, with a flat tree.
+abbrev pub IsSaid : Option Statement → Option declared.Statement → Type 0
+IsSaid said read = option_map statement_seen read ≡ option_map flat_statement said
 
 -- a table whose trees are flat
 abbrev pub flat_table : Table → Table
 flat_table table = record table { components = map flat_component table.components }
 
--- An answer was given: its text was written after what was there, and its table is kept with flat trees.
-pub record Gives (answer : Answer) (old_text new_text : List ℕ) (new_table : Option Table) : Type 0 where
-  pub text : new_text ≡ old_text ++ answer.text
-  pub table : new_table ≡ option_map flat_table answer.table
+-- a state whose table has flat trees
+abbrev pub flat_state : State → State
+flat_state s = record s { table = option_map flat_table s.table }
 
--- An answer was given if there is one, and else all is as it was.
-abbrev pub GivesIfAny : Bool → Option Answer → List ℕ → List ℕ → Option Table → Option Table → Type 0
-GivesIfAny given answer old_text new_text old_table new_table =
-    MatchBool given
-    (IsSomeAnd answer (λ a. Gives a old_text new_text new_table))
-    ((answer ≡ None) × (new_text ≡ old_text) × (new_table ≡ old_table))
+-- An answer was given: its text was added, and the reporter is in the state after it.
+pub record Gives (answer : Answer) (old new : Reporter) : Type 0 where
+  pub text : new.text.items ≡ old.text.items ++ answer.text
+  pub state : state_seen new ≡ answer.state
+
+-- The answer that the definition gives is the text of the reporter, which is in the state after it, with flat trees.
+pub record HasAnswered (answer : Answer) (reporter : Reporter) : Type 0 where
+  pub text : reporter.text.items ≡ answer.text
+  pub state : state_seen reporter ≡ flat_state answer.state

@@ -1,13 +1,15 @@
 pub mod Lines
 pub mod Parts
-pub mod PartsLeft
+pub mod Elements
 pub mod Names
 pub mod Grammar
+pub mod Statements
 pub mod Spelling
+pub mod Texts
 pub mod Tables
 pub mod Report
-pub mod Reading
 pub mod Seen
 pub mod Flattened
+pub mod Reading
 pub mod Verdict
 pub mod Errors

@@ -1,17 +1,16 @@
--- The parts of a text: what stands between the spaces outside all brackets.
-use Rattle.std.specs.Prelude.{ℕ, ◌+◌, ◌-◌, ◌&&◌, ◌==◌, if◌then◌else◌, List, [], ◌∷◌}
-use Rattle.std.specs.List.{onto_first}
+-- How a text is cut into parts.
+use Rattle.std.specs.Prelude.{ℕ, ◌+◌, ◌==◌, List, [], ◌∷◌, Option, option_map, position, take, drop}
+use Rattle.std.specs.Option.{option_map_or}
 
--- how many brackets are open after the byte, where so many are open before it
-abbrev pub depth_after : ℕ → ℕ → ℕ
-depth_after depth byte = if byte == 40 then depth + 1 else (if byte == 41 then depth - 1 else depth)
+-- a text cut at the first byte of that value: what stands before it, and what stands after it
+unfoldable pub split_once : ℕ → List ℕ → Option (List ℕ × List ℕ)
+split_once separator text =
+    option_map (λ place. (take place text, drop (place + 1) text)) (position (λ byte. byte == separator) text)
 
--- the parts of a text before which so many brackets are open
-abbrev pub parts_at : ℕ → List ℕ → List (List ℕ)
-parts_at depth [] = [] ∷ []
-parts_at depth (byte ∷ bytes) =
-    if (depth == 0) && (byte == 32) then [] ∷ parts_at 0 bytes else onto_first byte (parts_at (depth_after depth byte) bytes)
-
--- the parts of a text: one more than it has spaces outside all brackets
-abbrev pub parts_of : List ℕ → List (List ℕ)
-parts_of text = parts_at 0 text
+-- the parts of a text: its first word, its second, and what stands after these, with a space between each two
+unfoldable pub parts_of : List ℕ → List (List ℕ)
+parts_of text =
+    option_map_or
+    (λ (first, rest). option_map_or (λ (second, last). first ∷ second ∷ last ∷ []) (split_once 32 rest) (first ∷ rest ∷ []))
+    (split_once 32 text)
+    (text ∷ [])

@@ -46,7 +46,7 @@ abbrev pub may_follow : Tree → List ℕ → Bool
 may_follow (leaf tag) left = not (begins_with_digit left)
 may_follow (choice trees) left = true
 
--- A text begins with the text of this tree, with at most so many brackets open at once and tags below 2 ^ 32; this is left.
+-- A text begins with the text of this tree, with at most this many brackets open at once and tags below 2 ^ 32; this is left.
 pub record BeginsWithTree (depth : ℕ) (text : List ℕ) (tree : Tree) (left : List ℕ) : Type 0 where
   pub spelled : text ≡ spelling tree ++ left
   pub shallow : brackets tree ≤ depth

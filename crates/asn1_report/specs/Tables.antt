@@ -1,12 +1,12 @@
 -- Tables: the components of a SEQUENCE or a SET, line by line, and what is said of them.
-use Rattle.std.specs.Prelude.{ℕ, Bool, true, false, ◌++◌, if◌then◌else◌, codes, List, [], ◌∷◌, Option, None, Some}
-use Rattle.std.specs.Option.{option_map_or}
+use Rattle.std.specs.Prelude.{ℕ, Bool, true, false, ◌++◌, nat_lt, if◌then◌else◌, codes, List, [], ◌∷◌, Option, None, Some, length}
 use Rattle.std.specs.Fmt.{decimal}
 use Rattle.asn1_fields.specs.CanonicalOrder.{canonical}
 use Rattle.asn1_fields.specs.DistinctTags.{sequence_clash, set_clash}
 use Rattle.asn1_fields.specs.Entries.{Component}
 use Rattle.asn1_report.specs.declared.kind.Kind.{Kind}
 use Rattle.asn1_report.specs.declared.kind.Kind.TheVariants.{Sequence, Set}
+use Rattle.asn1_report.specs.Texts.{named_line}
 
 -- the word that begins a table of that kind
 abbrev pub kind_word : Kind → List ℕ
@@ -51,9 +51,17 @@ with_component table component = record table { components = table.components ++
 abbrev pub unchecked : Table → Table
 unchecked table = record table { understood = false }
 
+-- whether a table has room for one more component
+abbrev pub has_room : Table → Bool
+has_room table = nat_lt (length table.components) most_components
+
 -- a table's line of text: its head line, and what is said of it
 abbrev pub table_line : Table → List ℕ → List ℕ
-table_line table text = kind_word table.kind ++ codes " " ++ table.name ++ codes ": " ++ text ++ 10 ∷ []
+table_line table said = named_line (kind_word table.kind) table.name said
+
+-- what is said of a table of which a line was not understood, or which has no `end`
+abbrev pub unchecked_text : List ℕ
+unchecked_text = codes "not checked"
 
 -- the text for the `end` of a table
 abbrev pub table_verdict : Table → List ℕ
@@ -61,8 +69,4 @@ table_verdict table =
     table_line table
     (if table.understood
     then clash_text (clash_of table.kind table.components) ++ codes ", " ++ order_text (canonical table.components)
-    else codes "not checked")
-
--- the text for the end of an input: a table without `end` is not checked
-abbrev pub text_at_end : Option Table → List ℕ
-text_at_end table = option_map_or (λ begun. table_line begun (codes "not checked")) table []
+    else unchecked_text)

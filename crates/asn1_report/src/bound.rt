@@ -1,16 +1,15 @@
 //! Bounds, as they are written.
-ghost use Rattle.std.specs.Prelude.{◌≡◌, ◌==◌, option_map, position};
+ghost use Rattle.std.specs.Prelude.{◌≡◌};
+ghost use Rattle.asn1_report.specs.Grammar.{end_of, range_of, bound_of, bounds_of};
 ghost use Rattle.asn1_report.specs.Parts.{parts_of};
-ghost use Rattle.asn1_report.specs.Grammar.{end_of, range_of, bound_of, bound_line};
 
-use crate::names::is_name;
 use crate::number::read_integer;
-use crate::parts::Parts;
+use crate::parts::{Parts, split_once};
 use asn1_ranges::Bounded;
 
 // The end of a range, which may be missing.
 fn read_end(text: &[u8]) -> Option<Option<i128>>
-    ensures { result ≡ end_of text.now }
+    ensures read { result ≡ end_of text.now }
 {
     if text.is_empty() {
         Some(None)
@@ -21,7 +20,7 @@ fn read_end(text: &[u8]) -> Option<Option<i128>>
 
 // The range whose start has the first text, and whose end stands after a dot of the second.
 fn read_range(start: &[u8], after: &[u8]) -> Option<Bounded<i128>>
-    ensures { result ≡ range_of start.now after.now }
+    ensures read { result ≡ range_of start.now after.now }
 {
     match after {
         [b'.', end @ ..] => Some(Bounded::Range {
@@ -32,42 +31,31 @@ fn read_range(start: &[u8], after: &[u8]) -> Option<Bounded<i128>>
     }
 }
 
-// Where the first dot stands.
-fn dot_in(text: &[u8]) -> Option<usize>
-    ensures { result ≡ position (λ byte. byte == 46) text.now }
-{
-    text.iter().position(|byte| *byte == b'.')
-}
-
 // The bound that the text spells: `none`, a number, or two dots with an optional number on each side.
 fn read_bound(text: &[u8]) -> Option<Bounded<i128>>
-    ensures { result ≡ bound_of text.now }
+    ensures read { result ≡ bound_of text.now }
 {
     if text == b"none".as_slice() {
         return Some(Bounded::None);
     }
-    match dot_in(text) {
-        Some(dot) => read_range(&text[..dot], &text[dot + 1..]),
+    match split_once(text, b'.') {
+        Some((start, after)) => read_range(start, after),
         None => read_integer(text).map(Bounded::Single),
     }
 }
 
-/// The name and the bounds, where the line has five parts: `bound`, a name, a bound, `&` and a bound.
-pub(crate) fn bound_line(line: &[u8]) -> Option<(&[u8], Bounded<i128>, Bounded<i128>)>
-    ensures { option_map (λ (name, a, b). (name.now, a, b)) result ≡ bound_line (parts_of line.now) }
+/// The bounds that the text spells: a bound, `&` and a bound.
+pub(crate) fn read_bounds(text: &[u8]) -> Option<(Bounded<i128>, Bounded<i128>)>
+    ensures read { result ≡ bounds_of (parts_of text.now) }
 {
-    let mut parts = Parts::of(line);
-    let keyword = parts.next()?;
-    if keyword != b"bound".as_slice() {
-        return None;
-    }
-    let name = parts.next()?;
-    let first = parts.next()?;
-    let ampersand = parts.next()?;
-    let second = parts.next()?;
-    if parts.next().is_none() && is_name(name) && ampersand == b"&".as_slice() {
-        Some((name, read_bound(first)?, read_bound(second)?))
-    } else {
-        None
+    match Parts::of(text) {
+        Parts::Three(first, sign, second) => {
+            if sign == b"&".as_slice() {
+                Some((read_bound(first)?, read_bound(second)?))
+            } else {
+                None
+            }
+        }
+        _ => None,
     }
 }

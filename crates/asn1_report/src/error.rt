@@ -10,11 +10,11 @@ use std::fmt;
 /// Why a check ended before the end of its input.
 #[derive(Clone, Copy, Debug, PartialEq, Eq)]
 pub enum CheckError {
-    /// A read failed, or so many reads met no end of the input that a program gives up.
+    /// A read failed, or 2^64 - 1 reads met no end of the input.
     Reading,
     /// A write failed.
     Writing,
-    /// There was no memory for a buffer, for the leaves of a tree, for a table or for a line's text.
+    /// Memory ran out for a buffer, the leaves of a tree, a table or a line's text.
     Memory,
 }
 

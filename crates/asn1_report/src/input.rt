@@ -1,13 +1,14 @@
 //! The check of an input.
-ghost use Rattle.std.specs.Prelude.{◌≡◌, ◌++◌, ℕ, List, IfSome, IfOk, OnOk, IsErrOf};
+ghost use Rattle.std.specs.Prelude.{◌≡◌, ◌<◌, ◌++◌, ℕ, List, length, IfSome, IfOk, OnOk, IsErrOf};
 ghost use Rattle.std.specs.Io.KnownBytes.{Appends, Consumes, IsAtEnd};
 ghost use Rattle.asn1_report.specs.Lines.{whole_lines};
+ghost use Rattle.asn1_report.specs.Reading.{ReadInPart, ReadSoFar, ReadToEnd};
 ghost use Rattle.asn1_report.specs.Report.{report, all_understood, text_for};
 
 use crate::checker::Checker;
 use crate::error::CheckError;
 use std::alloc::Global;
-use std::io::{Read, Write};
+use std::io::{ErrorKind, Read, Write};
 
 // How many bytes a read may give.
 const BUFFER_LENGTH: usize = 32 * 1024;
@@ -31,10 +32,11 @@ pub fn check<R: Read, W: Write>(
     // What is written is the report of what was read, to the end.
     ensures report { OnOk result (IfSome (R.remaining reader.old) (λ input.
         Appends (W.contents writer.old) (W.contents writer.new) (report input))) }
-    ensures understood { IfOk result (λ answer. IfSome (R.remaining reader.old) (λ input. answer ≡ all_understood input)) }
+    ensures understood { IfOk result (λ answer.
+        IfSome (R.remaining reader.old) (λ input. answer ≡ all_understood input)) }
     ensures read { OnOk result (IsAtEnd (R.remaining reader.new)) }
 
-    // After an error it is the text for the lines that were ended among the bytes given so far, or among the first of them.
+    // After an error it is the text for the lines that had ended among what was read, or among the first bytes of it.
     ensures reading { IsErrOf result CheckError.Reading → (given : List ℕ)
         × Consumes (R.remaining reader.old) (R.remaining reader.new) given
         × Appends (W.contents writer.old) (W.contents writer.new) (text_for (whole_lines given)) }
@@ -42,18 +44,45 @@ pub fn check<R: Read, W: Write>(
         × Consumes (R.remaining reader.old) (R.remaining reader.new) (given ++ more)
         × Appends (W.contents writer.old) (W.contents writer.new) (text_for (whole_lines given)) }
 {
-    let Ok(mut checker) = Checker::new(alloc) else {
-        return Err(CheckError::Memory);
-    };
-    let Ok(mut buffer) = vec![in alloc; 0; BUFFER_LENGTH] else {
-        return Err(CheckError::Memory);
-    };
-    let outcome = checker.read_to_end(reader, &mut buffer, writer);
-    if matches!(outcome, Err(CheckError::Writing)) || writer.flush().is_err() {
+    let mut buffer = vec![in alloc; 0; BUFFER_LENGTH]?;
+    let answer = read_to_end(alloc, reader, &mut buffer, writer);
+    if matches!(answer, Err(CheckError::Writing)) || writer.flush().is_err() {
         return Err(CheckError::Writing);
     }
-    match outcome {
-        Ok(()) => Ok(checker.all_understood),
-        Err(error) => Err(error),
+    answer
+}
+
+// Reads to the end of the input, writes the text for each line, and says whether all was understood. After each read the
+// text for all lines that have ended is handed on.
+//
+// An interrupted read is tried again. After an error some of the input may be read.
+fn read_to_end<R: Read, W: Write>(
+    alloc: Global,
+    reader: &mut R,
+    buffer: &mut [u8],
+    writer: &mut W,
+) -> Result<bool, CheckError>
+    requires room { 0 < length buffer.old }
+    ensures finished { IfOk result (ReadToEnd (R.remaining reader.old) (R.remaining reader.new)
+        (W.contents writer.old) (W.contents writer.new)) }
+    ensures reading { IsErrOf result CheckError.Reading →
+        ReadSoFar (R.remaining reader.old) (R.remaining reader.new)
+        (W.contents writer.old) (W.contents writer.new) }
+    ensures memory { IsErrOf result CheckError.Memory →
+        ReadInPart (R.remaining reader.old) (R.remaining reader.new)
+        (W.contents writer.old) (W.contents writer.new) }
+{
+    let mut checker = Checker::new(alloc)?;
+    for _ in 0..u64::MAX {
+        match reader.read(buffer) {
+            Ok(0) => return checker.end_input(writer),
+            Ok(count) => checker.take(&buffer[..count], writer)?,
+            Err(error) => {
+                if error.kind() != ErrorKind::Interrupted {
+                    return Err(CheckError::Reading);
+                }
+            }
+        }
     }
+    Err(CheckError::Reading)
 }

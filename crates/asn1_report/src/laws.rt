@@ -11,7 +11,8 @@ use std::alloc::AllocError;
 ///
 /// This does nothing: its contract is what the derives and the conversion of the error have to mean.
 pub fn errors_are_compared_by_case()
-    ensures equality { (a b : CheckError) → (IsTrue (⟦<CheckError as PartialEq>⟧.eq a b) ↔ (a ≡ b)) }
+    ensures equality { (a b : CheckError) →
+        (IsTrue (⟦<CheckError as PartialEq>⟧.eq a b) ↔ (a ≡ b)) }
     ensures clone { (a b : CheckError) → ⟦<CheckError as Clone>⟧.is_clone a b → b ≡ a }
     ensures clone_succeeds { (a : CheckError) → ⟦<CheckError as Clone>⟧.is_infallible a }
     ensures memory { (refused : AllocError) (error : CheckError) →

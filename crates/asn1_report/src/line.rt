@@ -1,6 +1,6 @@
 //! The line that is being read.
-ghost use Rattle.std.specs.Prelude.{◌≡◌, ◌≤◌, [], Some, length, IfOk, OnOk, option_map};
-ghost use Rattle.asn1_report.specs.Reading.{with_bytes};
+ghost use Rattle.std.specs.Prelude.{◌≡◌, ◌≤◌, ◌++◌, [], Some, length, IfOk, OnOk, option_map, option_and_then};
+ghost use Rattle.asn1_report.specs.Lines.{within_limit};
 
 use std::alloc::{AllocError, Global};
 
@@ -20,7 +20,7 @@ impl Line {
 
     /// A line of no bytes yet, with room for the longest.
     pub(crate) fn new(alloc: Global) -> Result<Line, AllocError>
-        ensures { IfOk result (λ line. line_seen line ≡ Some []) }
+        ensures empty { IfOk result (λ line. line_seen line ≡ Some []) }
     {
         let bytes = Vec::with_capacity(alloc, LONGEST)?;
         Ok(Line {
@@ -31,7 +31,7 @@ impl Line {
 
     /// The bytes so far, unless they are too many.
     pub(crate) fn as_slice(&self) -> Option<&[u8]>
-        ensures { option_map (λ bytes. bytes.now) result ≡ line_seen self.now }
+        ensures bytes { option_map (λ bytes. bytes.now) result ≡ line_seen self.now }
     {
         if self.is_too_long {
             None
@@ -41,11 +41,12 @@ impl Line {
     }
 
     /// Adds bytes after the others.
-    pub(crate) fn extend(&mut self, bytes: &[u8]) -> Result<(), AllocError>
-        ensures ok { OnOk result (line_seen self.new ≡ with_bytes (line_seen self.old) bytes.now) }
+    pub(crate) fn extend(&mut self, more: &[u8]) -> Result<(), AllocError>
+        ensures longer { OnOk result (line_seen self.new
+            ≡ option_and_then (λ bytes. within_limit (bytes ++ more.now)) (line_seen self.old)) }
     {
-        if self.bytes.len() + bytes.len() <= LONGEST {
-            self.bytes.extend_from_slice(bytes)?;
+        if self.bytes.len() + more.len() <= LONGEST {
+            self.bytes.extend_from_slice(more)?;
         } else {
             self.is_too_long = true;
         }
@@ -54,7 +55,7 @@ impl Line {
 
     /// Begins the next line.
     pub(crate) fn clear(&mut self)
-        ensures { line_seen self.new ≡ Some [] }
+        ensures empty { line_seen self.new ≡ Some [] }
     {
         self.bytes.clear();
         self.is_too_long = false;

@@ -5,7 +5,7 @@ ghost use Rattle.asn1_report.specs.Names.{is_name, is_name_byte};
 
 /// Whether the text is a name: 1 to 64 ASCII letters, digits, `-` and `_`.
 pub(crate) fn is_name(text: &[u8]) -> bool
-    ensures { result ≡ is_name text.now }
+    ensures name { result ≡ is_name text.now }
 {
     match text.len() {
         1..=64 => has_name_bytes(text),
@@ -13,8 +13,9 @@ pub(crate) fn is_name(text: &[u8]) -> bool
     }
 }
 
+// Whether each byte may stand in a name.
 fn has_name_bytes(text: &[u8]) -> bool
-    ensures { result ≡ list_all is_name_byte text.now }
+    ensures name_bytes { result ≡ list_all is_name_byte text.now }
 {
     text.iter().all(|byte| byte.is_ascii_alphanumeric() || *byte == b'-' || *byte == b'_')
 }

@@ -9,7 +9,8 @@ ghost use Rattle.asn1_report.specs.Names.{BeginsWithNumber, begins_with_digit, i
 /// after its last digit.
 #[inline(always)]
 pub(crate) fn read_number(text: &[u8]) -> Option<(u32, &[u8])>
-    ensures { MatchOption result ((number : ℕ) (left : List ℕ) → ¬ BeginsWithNumber text.now number left)
+    ensures begins { MatchOption result
+        ((number : ℕ) (left : List ℕ) → ¬ BeginsWithNumber text.now number left)
         (λ (number, left). BeginsWithNumber text.now number left.now) }
 {
     match text {
@@ -20,8 +21,9 @@ pub(crate) fn read_number(text: &[u8]) -> Option<(u32, &[u8])>
     }
 }
 
+// Whether the text begins with a digit.
 fn begins_with_digit(text: &[u8]) -> bool
-    ensures { result ≡ begins_with_digit text.now }
+    ensures digit { result ≡ begins_with_digit text.now }
 {
     text.first().is_some_and(u8::is_ascii_digit)
 }
@@ -29,9 +31,9 @@ fn begins_with_digit(text: &[u8]) -> bool
 // The number below 2^32 that the digits write with which the text begins, and what is left of the text after them.
 #[inline(always)]
 fn read_digits(text: &[u8]) -> Option<(u32, &[u8])>
-    ensures { let value = digits_value 10 (take_while is_ascii_digit text.now) in
-        MatchOption result (2 ^ 32 ≤ value)
-        (λ (number, left). (number ≡ value) × (number < 2 ^ 32) × (left.now ≡ drop (prefix_len is_ascii_digit text.now) text.now)) }
+    ensures digits { let value = digits_value 10 (take_while is_ascii_digit text.now) in
+        MatchOption result (2 ^ 32 ≤ value) (λ (number, left). (number ≡ value) × (number < 2 ^ 32)
+        × (left.now ≡ drop (prefix_len is_ascii_digit text.now) text.now)) }
 {
     let mut number: u32 = 0;
     let mut left = text;
@@ -47,7 +49,7 @@ fn read_digits(text: &[u8]) -> Option<(u32, &[u8])>
 /// The number that the text spells: decimal, without leading zeros, with a minus in front where it is below 0, and
 /// of 128 bits.
 pub(crate) fn read_integer(text: &[u8]) -> Option<i128>
-    ensures { result ≡ integer_of text.now }
+    ensures read { result ≡ integer_of text.now }
 {
     match text {
         [b'-', digits @ ..] => negative_of(read_magnitude(digits)?),
@@ -57,7 +59,8 @@ pub(crate) fn read_integer(text: &[u8]) -> Option<i128>
 
 // The number of that magnitude below 0, if 128 bits hold it.
 fn negative_of(magnitude: u128) -> Option<i128>
-    ensures { result ≡ (if nat_le 1 magnitude && nat_le magnitude (2 ^ 127) then Some (neg_ℤ (pos magnitude)) else None) }
+    ensures negative { result ≡ (if nat_le 1 magnitude && nat_le magnitude (2 ^ 127)
+        then Some (neg_ℤ (pos magnitude)) else None) }
 {
     let below = i128::try_from(magnitude.checked_sub(1)?).ok()?;
     Some(-1 - below)
@@ -65,7 +68,8 @@ fn negative_of(magnitude: u128) -> Option<i128>
 
 // The number that the text spells in decimal, without leading zeros; one above 2^127 may be refused.
 fn read_magnitude(text: &[u8]) -> Option<u128>
-    ensures { MatchOption result (is_plain_number text.now ≡ true → 2 ^ 127 < digits_value 10 text.now)
+    ensures read { MatchOption result
+        (is_plain_number text.now ≡ true → 2 ^ 127 < digits_value 10 text.now)
         (λ number. (is_plain_number text.now ≡ true) × (number ≡ digits_value 10 text.now)) }
 {
     match text {
@@ -79,8 +83,10 @@ const DIGITS_OF_64_BITS: usize = 19;
 
 // The number that the text writes, if it is digits alone; one above 2^127 may be refused.
 fn read_u128(text: &[u8]) -> Option<u128>
-    ensures { MatchOption result (list_all is_ascii_digit text.now ≡ true → 2 ^ 127 < digits_value 10 text.now)
-        (λ number. (list_all is_ascii_digit text.now ≡ true) × (number ≡ digits_value 10 text.now)) }
+    ensures read { MatchOption result
+        (list_all is_ascii_digit text.now ≡ true → 2 ^ 127 < digits_value 10 text.now)
+        (λ number. (list_all is_ascii_digit text.now ≡ true)
+        × (number ≡ digits_value 10 text.now)) }
 {
     let (high, low) = text.split_at(text.len().saturating_sub(DIGITS_OF_64_BITS));
     let high = read_u64(high)?;
@@ -90,8 +96,8 @@ fn read_u128(text: &[u8]) -> Option<u128>
 
 // The number that the text writes, if it is digits alone and 64 bits hold the number: 0, if the text is empty.
 fn read_u64(text: &[u8]) -> Option<u64>
-    ensures { result ≡ (if list_all is_ascii_digit text.now && nat_lt (digits_value 10 text.now) (2 ^ 64)
-        then Some (digits_value 10 text.now) else None) }
+    ensures read { let value = digits_value 10 text.now in
+        result ≡ (if list_all is_ascii_digit text.now && nat_lt value (2 ^ 64) then Some value else None) }
 {
     let mut number: u64 = 0;
     for byte in text {

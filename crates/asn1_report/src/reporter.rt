@@ -1,160 +1,182 @@
 //! The answers to lines.
-ghost use Rattle.std.specs.Prelude.{◌≡◌, ◌++◌, [], Some, None, is_none, not, IfOk, OnOk, option_map, option_and_then};
-ghost use Rattle.asn1_report.specs.Grammar.{adds_component, component_of, statement_of};
-ghost use Rattle.asn1_report.specs.Seen.{place_seen, table_seen};
-ghost use Rattle.asn1_report.specs.Flattened.{GivesIfAny, flat_table};
-ghost use Rattle.asn1_report.specs.Report.{answer_outside, answer_inside, answer_by_place, answer_if_understood, answer_to, is_understood};
-ghost use Rattle.asn1_report.specs.Tables.{text_at_end, unchecked};
+ghost use Rattle.std.specs.Prelude.{◌≡◌, OnOk, option_map};
+ghost use Rattle.asn1_clash.specs.Seen.{component_seen, tree_seen};
+ghost use Rattle.asn1_report.specs.Report.{State, start, refusal, answer_of, answer_to, answer_to_end};
+ghost use Rattle.asn1_report.specs.Statements.{names_tree, names_bounds, begins_table, adds_component, ends_table};
 
-use crate::bound::bound_line;
-use crate::component::read_component;
-use crate::kind::head_line;
+use crate::kind::Kind;
+use crate::statement::{Reader, Statement};
 use crate::table::Table;
 use crate::texts::{write_refusal, write_verdict};
-use crate::tree_line::read_tree_line;
-use crate::verdict::Common;
-use asn1_clash::FlatTree;
+use crate::verdict::TreeVerdict;
+use asn1_clash::{FlatComponent, FlatTree, TreeSummary};
+use asn1_ranges::Bounded;
 use std::alloc::{AllocError, Global};
 
-/// Makes the text for one line after another.
+/// Answers one line after another.
 #[derive(Drop)]
 pub(crate) struct Reporter {
     alloc: Global,
-    // The table in which the next line stands.
+    reader: Reader,
+    // How many lines there were.
+    number: u64,
+    // The table that is open.
     table: Option<Table>,
-    // Room for the leaves of a line's tree.
-    scratch: FlatTree,
-    // The text for the last line.
+    // Whether each line was understood.
+    all_understood: bool,
+    // The text of the last answer.
     text: Vec<u8>,
 }
 
 impl Reporter {
+    ghost use Rattle.asn1_report.specs.Flattened.{Gives, HasAnswered, flat_state};
+    ghost use Rattle.asn1_report.specs.Seen.{state_seen, statement_seen};
+
     /// Before the first line.
     pub(crate) fn new(alloc: Global) -> Reporter
-        ensures { result.table ≡ None }
+        ensures state { state_seen result ≡ start }
     {
         Reporter {
             alloc,
+            reader: Reader::new(alloc),
+            number: 0,
             table: None,
-            scratch: FlatTree::new(alloc),
+            all_understood: true,
             text: Vec::new(alloc),
         }
     }
 
-    /// The text for the last line.
+    /// The text of the last answer.
     pub(crate) fn text(&self) -> &[u8]
-        ensures { result.now ≡ self.now.text.items }
+        ensures text { result.now ≡ self.now.text.items }
     {
         self.text.as_slice()
     }
 
-    // Adds the text for a line outside of tables, and says whether the line is understood.
-    fn answer_outside(&mut self, line: &[u8]) -> Result<bool, AllocError>
-        requires { self.old.table ≡ None }
-        ensures { IfOk result (λ understood. GivesIfAny understood (option_map answer_outside (statement_of line.now))
-            self.old.text.items self.new.text.items None (option_map table_seen self.new.table)) }
+    /// Whether each line was understood, and each table had its `end`.
+    pub(crate) fn all_understood(&self) -> bool
+        ensures understood { result ≡ self.now.all_understood }
     {
-        if let Some((name, verdict)) = read_tree_line(line, &mut self.scratch)? {
-            write_verdict("tree", name, verdict, &mut self.text)?;
-            return Ok(true);
-        }
-        if let Some((name, first, second)) = bound_line(line) {
-            write_verdict("bound", name, Common::of(&first, &second), &mut self.text)?;
-            return Ok(true);
-        }
-        if let Some((kind, name)) = head_line(line) {
-            self.table = Some(Table::new(self.alloc, kind, name)?);
-            return Ok(true);
-        }
-        Ok(false)
+        self.all_understood
     }
 
-    // Adds the text for a line where it stands, and says whether the line is understood.
-    fn answer_by_place(&mut self, line: &[u8]) -> Result<bool, AllocError>
-        ensures { IfOk result (λ understood. GivesIfAny understood (answer_by_place (option_map table_seen self.old.table) line.now)
-            self.old.text.items self.new.text.items (option_map table_seen self.old.table) (option_map table_seen self.new.table)) }
-    {
-        match &mut self.table {
-            None => self.answer_outside(line),
-            Some(table) => {
-                if line == b"end".as_slice() {
-                    table.write_end(self.alloc, &mut self.text)?;
-                    self.table = None;
-                    Ok(true)
-                } else {
-                    add_component(self.alloc, line, table)
-                }
-            }
-        }
-    }
-
-    // Adds the text for a line, as far as it is looked at, and says whether the line is empty or understood.
-    fn answer_if_understood(&mut self, line: Option<&[u8]>) -> Result<bool, AllocError>
-        ensures { IfOk result (λ understood. GivesIfAny understood
-            (answer_if_understood (option_map table_seen self.old.table) (option_map (λ bytes. bytes.now) line.entry))
-            self.old.text.items self.new.text.items (option_map table_seen self.old.table) (option_map table_seen self.new.table)) }
-    {
-        match line {
-            None => Ok(false),
-            Some([]) => Ok(true),
-            Some(bytes) => self.answer_by_place(bytes),
-        }
-    }
-
-    /// Makes the text for a line of that number, as far as it is looked at, and says whether the line is empty or
-    /// understood.
-    pub(crate) fn answer(&mut self, line: Option<&[u8]>, number: u64) -> Result<bool, AllocError>
-        ensures text { OnOk result (self.new.text.items
-            ≡ (answer_to (place_seen number self.old.table) (option_map (λ bytes. bytes.now) line.entry)).text) }
-        ensures table { OnOk result (option_map table_seen self.new.table
-            ≡ option_map flat_table (answer_to (place_seen number self.old.table) (option_map (λ bytes. bytes.now) line.entry)).table) }
-        ensures understood { IfOk result (λ understood.
-            understood ≡ is_understood (place_seen number self.old.table) (option_map (λ bytes. bytes.now) line.entry)) }
+    /// Answers a line, as far as it is looked at.
+    pub(crate) fn answer(&mut self, line: Option<&[u8]>) -> Result<(), AllocError>
+        ensures answered { (s : State) → state_seen self.old ≡ flat_state s →
+            OnOk result
+            (HasAnswered (answer_to s (option_map (λ bytes. bytes.now) line.entry)) self.new) }
     {
         self.text.clear();
-        if self.answer_if_understood(line)? {
-            return Ok(true);
+        self.number = self.number.saturating_add(1);
+        let in_table = self.table.is_some();
+        match self.reader.read(line, in_table)? {
+            Some(statement) => self.answer_statement(statement),
+            None => self.refuse_line(),
         }
-        refuse_line(&mut self.table);
-        write_refusal(number, &mut self.text)?;
-        Ok(false)
     }
 
-    /// Adds the text for the end of the input to that for the last line, and says whether no table lacks its `end`.
-    pub(crate) fn answer_end(&mut self) -> Result<bool, AllocError>
-        ensures text { OnOk result (self.new.text.items ≡ self.old.text.items ++ text_at_end (option_map table_seen self.old.table)) }
-        ensures ended { IfOk result (λ ended. ended ≡ is_none (option_map table_seen self.old.table)) }
+    /// Adds the answer to the end of the input to the last answer.
+    pub(crate) fn answer_end(&mut self) -> Result<(), AllocError>
+        ensures given { OnOk result
+            (Gives (answer_to_end (state_seen self.old)) self.old self.new) }
     {
-        match &self.table {
-            None => Ok(true),
-            Some(table) => {
-                table.write_not_checked(&mut self.text)?;
-                Ok(false)
-            }
+        if let Some(table) = &self.table {
+            self.all_understood = false;
+            table.write_not_checked(&mut self.text)?;
+        }
+        Ok(())
+    }
+
+    // Adds the answer to what a line says.
+    fn answer_statement(&mut self, statement: Statement<'_>) -> Result<(), AllocError>
+        ensures given { OnOk result
+            (Gives (answer_of (state_seen self.old) (statement_seen statement.entry))
+            self.old self.new) }
+    {
+        match statement {
+            Statement::SaysNothing => Ok(()),
+            Statement::NamesTree { name, tree } => self.answer_tree(name, tree),
+            Statement::NamesBounds {
+                name,
+                first,
+                second,
+            } => self.answer_bounds(name, first, second),
+            Statement::BeginsTable { kind, name } => self.begin_table(kind, name),
+            Statement::AddsComponent(component) => self.add_component(component),
+            Statement::EndsTable => self.end_table(),
         }
     }
-}
 
-// Takes a line that is not `end` into the table, and says whether the line is understood.
-fn add_component(alloc: Global, line: &[u8], table: &mut Table) -> Result<bool, AllocError>
-    ensures { IfOk result (λ understood. GivesIfAny understood
-        (option_and_then (answer_inside (table_seen table.old)) (option_map adds_component (component_of line.now)))
-        [] [] (Some (table_seen table.old)) (Some (table_seen table.new))) }
-{
-    match read_component(alloc, line)? {
-        Some(component) if !table.is_full() => {
-            table.push(component)?;
-            Ok(true)
-        }
-        _ => Ok(false),
+    // Adds the verdict on a tree, whose room the next tree takes.
+    fn answer_tree(&mut self, name: &[u8], mut tree: FlatTree) -> Result<(), AllocError>
+        ensures given { OnOk result
+            (Gives (answer_of (state_seen self.old) (names_tree name.now (tree_seen tree)))
+            self.old self.new) }
+    {
+        let verdict = TreeVerdict(TreeSummary::of(&mut tree.tags));
+        write_verdict("tree", name, verdict, &mut self.text)?;
+        self.reader.reuse(tree);
+        Ok(())
     }
-}
 
-// Keeps in mind that a line was not understood, where it stands in a table.
-fn refuse_line(table: &mut Option<Table>)
-    ensures { option_map table_seen table.new ≡ option_map unchecked (option_map table_seen table.old) }
-{
-    if let Some(begun) = table {
-        begun.refuse_line();
+    // Adds what two bounds have in common.
+    fn answer_bounds(
+        &mut self,
+        name: &[u8],
+        first: Bounded<i128>,
+        second: Bounded<i128>,
+    ) -> Result<(), AllocError>
+        ensures given { OnOk result
+            (Gives (answer_of (state_seen self.old) (names_bounds name.now first second))
+            self.old self.new) }
+    {
+        match first.intersect(second) {
+            Some(bound) => write_verdict("bound", name, bound, &mut self.text),
+            None => write_verdict("bound", name, "nothing in common", &mut self.text),
+        }
+    }
+
+    // Begins a table.
+    fn begin_table(&mut self, kind: Kind, name: &[u8]) -> Result<(), AllocError>
+        ensures given { OnOk result
+            (Gives (answer_of (state_seen self.old) (begins_table kind name.now))
+            self.old self.new) }
+    {
+        self.table = Some(Table::new(self.alloc, kind, name)?);
+        Ok(())
+    }
+
+    // Adds a component to the table that is open, unless it is one too many.
+    fn add_component(&mut self, component: FlatComponent) -> Result<(), AllocError>
+        ensures given { OnOk result
+            (Gives (answer_of (state_seen self.old) (adds_component (component_seen component)))
+            self.old self.new) }
+    {
+        match &mut self.table {
+            Some(table) if table.has_room() => table.push(component),
+            _ => self.refuse_line(),
+        }
+    }
+
+    // Ends the table that is open, and adds the verdict on it.
+    fn end_table(&mut self) -> Result<(), AllocError>
+        ensures given { OnOk result
+            (Gives (answer_of (state_seen self.old) ends_table) self.old self.new) }
+    {
+        match self.table.take() {
+            Some(table) => table.write_end(self.alloc, &mut self.text),
+            None => self.refuse_line(),
+        }
+    }
+
+    // Adds that the line is not understood, which the table that is open keeps in mind.
+    fn refuse_line(&mut self) -> Result<(), AllocError>
+        ensures given { OnOk result (Gives (refusal (state_seen self.old)) self.old self.new) }
+    {
+        self.all_understood = false;
+        if let Some(table) = &mut self.table {
+            table.refuse_line();
+        }
+        write_refusal(self.number, &mut self.text)
     }
 }

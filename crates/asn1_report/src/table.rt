@@ -1,11 +1,12 @@
 //! A table whose `end` has not come yet.
-ghost use Rattle.std.specs.Prelude.{◌≡◌, ◌++◌, codes, length, not, nat_lt, IfOk, OnOk};
-ghost use Rattle.asn1_report.specs.Tables.{clash_of, most_components, new_table, table_line, table_verdict, unchecked, with_component};
+ghost use Rattle.std.specs.Prelude.{◌≡◌, ◌++◌, IfOk, OnOk};
+ghost use Rattle.asn1_clash.specs.Seen.{component_seen, components_seen};
+ghost use Rattle.asn1_report.specs.Tables.{clash_of, has_room, new_table, table_line, table_verdict, unchecked, unchecked_text, with_component};
 
 use crate::kind::Kind;
 use crate::texts::write_verdict;
 use crate::verdict::TableVerdict;
-use asn1_clash::{FlatComponent, find_sequence_clash, find_set_clash};
+use asn1_clash::{FlatComponent, find_sequence_clash, find_set_clash, is_canonical};
 use std::alloc::{AllocError, Global};
 
 // How many components a table may have.
@@ -22,11 +23,10 @@ pub(crate) struct Table {
 
 impl Table {
     ghost use Rattle.asn1_report.specs.Seen.{table_seen};
-    ghost use Rattle.asn1_clash.specs.Seen.{component_seen, components_seen};
 
     /// A table that begins.
     pub(crate) fn new(alloc: Global, kind: Kind, name: &[u8]) -> Result<Table, AllocError>
-        ensures { IfOk result (λ table. table_seen table ≡ new_table kind name.now) }
+        ensures begun { IfOk result (λ table. table_seen table ≡ new_table kind name.now) }
     {
         Ok(Table {
             kind,
@@ -36,16 +36,17 @@ impl Table {
         })
     }
 
-    /// Whether the table has as many components as it may have.
-    pub(crate) fn is_full(&self) -> bool
-        ensures { result ≡ not (nat_lt (length (table_seen self.now).components) most_components) }
+    /// Whether the table has room for one more component.
+    pub(crate) fn has_room(&self) -> bool
+        ensures room { result ≡ has_room (table_seen self.now) }
     {
-        MOST_COMPONENTS <= self.components.len()
+        self.components.len() < MOST_COMPONENTS
     }
 
     /// Adds a component after the others.
     pub(crate) fn push(&mut self, component: FlatComponent) -> Result<(), AllocError>
-        ensures { OnOk result (table_seen self.new ≡ with_component (table_seen self.old) (component_seen component)) }
+        ensures added { OnOk result (table_seen self.new
+            ≡ with_component (table_seen self.old) (component_seen component)) }
     {
         self.components.push(component)?;
         Ok(())
@@ -53,32 +54,38 @@ impl Table {
 
     /// Keeps in mind that a line of the table was not understood.
     pub(crate) fn refuse_line(&mut self)
-        ensures { table_seen self.new ≡ unchecked (table_seen self.old) }
+        ensures refused { table_seen self.new ≡ unchecked (table_seen self.old) }
     {
         self.is_understood = false;
     }
 
     /// Writes the text for the table's `end`.
     pub(crate) fn write_end(&self, alloc: Global, text: &mut Vec<u8>) -> Result<(), AllocError>
-        ensures { OnOk result (text.new.items ≡ text.old.items ++ table_verdict (table_seen self.now)) }
+        ensures verdict { OnOk result
+            (text.new.items ≡ text.old.items ++ table_verdict (table_seen self.now)) }
     {
         if !self.is_understood {
             return self.write_not_checked(text);
         }
-        let verdict = TableVerdict::on(self.first_clash(alloc)?, &self.components);
+        let verdict = TableVerdict {
+            clash: self.first_clash(alloc)?,
+            is_canonical: is_canonical(&self.components),
+        };
         write_verdict(self.kind.word(), &self.name, verdict, text)
     }
 
     /// Writes that the table is not checked.
     pub(crate) fn write_not_checked(&self, text: &mut Vec<u8>) -> Result<(), AllocError>
-        ensures { OnOk result (text.new.items ≡ text.old.items ++ table_line (table_seen self.now) (codes "not checked")) }
+        ensures verdict { OnOk result
+            (text.new.items ≡ text.old.items ++ table_line (table_seen self.now) unchecked_text) }
     {
         write_verdict(self.kind.word(), &self.name, "not checked", text)
     }
 
-    // The least pair of places whose components must have distinct tags, and have not.
+    // The least pair of places whose components share a tag although X.680 forbids it.
     fn first_clash(&self, alloc: Global) -> Result<Option<(usize, usize)>, AllocError>
-        ensures { IfOk result (λ clash. clash ≡ clash_of self.now.kind (components_seen self.now.components.items)) }
+        ensures least { IfOk result
+            (λ clash. clash ≡ clash_of self.now.kind (components_seen self.now.components.items)) }
     {
         match self.kind {
             Kind::Sequence => find_sequence_clash(alloc, &self.components),

@@ -1,6 +1,6 @@
 //! The texts of answers.
-ghost use Rattle.std.specs.Prelude.{◌≡◌, ◌++◌, ◌∷◌, [], codes, IfSome, OnOk};
-ghost use Rattle.std.specs.Fmt.{decimal};
+ghost use Rattle.std.specs.Prelude.{◌≡◌, ◌++◌, IfSome, OnOk};
+ghost use Rattle.asn1_report.specs.Texts.{named_line, refusal_text};
 
 use std::alloc::AllocError;
 use std::fmt::Display;
@@ -13,24 +13,32 @@ pub(crate) fn write_verdict<V: Display + Drop>(
     verdict: V,
     text: &mut Vec<u8>,
 ) -> Result<(), AllocError>
-    ensures { OnOk result (IfSome (V.output verdict) (λ said. text.new.items ≡ text.old.items
-        ++ (kind.now ++ codes " " ++ name.now ++ codes ": " ++ said ++ 10 ∷ []))) }
+    ensures line { OnOk result (IfSome (V.output verdict) (λ said.
+        text.new.items ≡ text.old.items ++ named_line kind.now name.now said)) }
 {
     text.extend_from_slice(kind.as_bytes())?;
     text.extend_from_slice(b" ")?;
     text.extend_from_slice(name)?;
-    match writeln!(text, ": {verdict}") {
-        Ok(()) => Ok(()),
-        Err(_) => Err(AllocError),
-    }
+    text.extend_from_slice(b": ")?;
+    show(verdict, text)?;
+    text.extend_from_slice(b"\n")
 }
 
 /// Writes that the line of that number is not understood.
 pub(crate) fn write_refusal(number: u64, text: &mut Vec<u8>) -> Result<(), AllocError>
-    ensures { OnOk result (text.new.items ≡ text.old.items
-        ++ (codes "line " ++ decimal number ++ codes ": not understood" ++ 10 ∷ [])) }
+    ensures line { OnOk result (text.new.items ≡ text.old.items ++ refusal_text number) }
 {
-    match writeln!(text, "line {number}: not understood") {
+    text.extend_from_slice(b"line ")?;
+    show(number, text)?;
+    text.extend_from_slice(b": not understood\n")
+}
+
+// Writes what `{}` shows of the value.
+fn show<V: Display + Drop>(shown: V, text: &mut Vec<u8>) -> Result<(), AllocError>
+    ensures shown { OnOk result
+        (IfSome (V.output shown) (λ said. text.new.items ≡ text.old.items ++ said)) }
+{
+    match write!(text, "{shown}") {
         Ok(()) => Ok(()),
         Err(_) => Err(AllocError),
     }

@@ -18,7 +18,7 @@ const DEEPEST: u8 = 16;
 ///
 /// Adds the tree to `flat`. Where the text is no tree, something of it may be added too.
 pub(crate) fn read_whole_tree(text: &[u8], flat: &mut FlatTree) -> Result<bool, AllocError>
-    ensures { IfOk result (λ is_tree. MatchBool is_tree
+    ensures read { IfOk result (λ is_tree. MatchBool is_tree
         (IsSomeAnd (tree_of deepest text.now) (Adds flat.old flat.new))
         (tree_of deepest text.now ≡ None)) }
 {
@@ -40,7 +40,7 @@ fn read_tree<'a>(
     depth: u8,
     flat: &mut FlatTree,
 ) -> Result<Option<&'a [u8]>, AllocError>
-    ensures { IfOk result (λ left. MatchOption left
+    ensures read { IfOk result (λ left. MatchOption left
         ((tree : Tree) (rest : List ℕ) → ¬ BeginsWithTree depth text.now tree rest)
         (λ left. ReadsTree depth text.now left.now flat.old flat.new)) }
 {
@@ -67,7 +67,7 @@ fn read_choice<'a>(
     depth: u8,
     flat: &mut FlatTree,
 ) -> Result<Option<&'a [u8]>, AllocError>
-    ensures { IfOk result (λ left. MatchOption left
+    ensures read { IfOk result (λ left. MatchOption left
         ((trees : Trees) (rest : List ℕ) → ¬ BeginsWithTrees depth inside.now trees rest)
         (λ left. ReadsChoice depth inside.now left.now flat.old flat.new)) }
 {
@@ -89,7 +89,7 @@ fn read_choice<'a>(
 // Reads the tag with which the text begins, the letter of its class and its number, and gives what is left of the text.
 #[inline(always)]
 fn read_tag(text: &[u8]) -> Option<(Tag, &[u8])>
-    ensures { MatchOption result
+    ensures read { MatchOption result
         ((tag : Tag) (left : List ℕ) → ¬ BeginsWithTree 0 text.now (leaf tag) left)
         (λ (tag, left). BeginsWithTree 0 text.now (leaf tag) left.now) }
 {
@@ -103,9 +103,10 @@ fn read_tag(text: &[u8]) -> Option<(Tag, &[u8])>
     }
 }
 
+// The class that the letter names.
 #[inline(always)]
 fn read_class(letter: u8) -> Option<Class>
-    ensures { result ≡ class_of letter }
+    ensures class { result ≡ class_of letter }
 {
     match letter {
         b'U' => Some(Class::Universal),
@@ -117,12 +118,15 @@ fn read_class(letter: u8) -> Option<Class>
 }
 
 /// A law of the definition that [`read_whole_tree`] meets: a text is read as a tree if and only if it is that tree's text,
-/// at most `depth` brackets of it are open at once, and each tag's number is below 2 ^ 32. So no byte of a text is passed
-/// over, and no two texts are read as one tree.
+/// at most `depth` brackets of it are open at once, and each tag's number is below 2 ^ 32. So no byte of a text is
+/// skipped, and no two texts are read as one tree.
 pub fn trees_are_read_of_their_texts()
-    ensures text { (depth : ℕ) (text : List ℕ) (tree : Tree) → tree_of depth text ≡ Some tree → text ≡ spelling tree }
-    ensures within_limits { (depth : ℕ) (text : List ℕ) (tree : Tree) → tree_of depth text ≡ Some tree
-        → (brackets tree ≤ depth) × All (λ tag. tag.value < 2 ^ 32) (leaves tree) }
-    ensures read { (depth : ℕ) (tree : Tree) → brackets tree ≤ depth → All (λ tag. tag.value < 2 ^ 32) (leaves tree)
-        → tree_of depth (spelling tree) ≡ Some tree }
+    ensures text { (depth : ℕ) (text : List ℕ) (tree : Tree) →
+        tree_of depth text ≡ Some tree → text ≡ spelling tree }
+    ensures within_limits { (depth : ℕ) (text : List ℕ) (tree : Tree) →
+        tree_of depth text ≡ Some tree →
+        (brackets tree ≤ depth) × All (λ tag. tag.value < 2 ^ 32) (leaves tree) }
+    ensures read { (depth : ℕ) (tree : Tree) →
+        brackets tree ≤ depth → All (λ tag. tag.value < 2 ^ 32) (leaves tree) →
+        tree_of depth (spelling tree) ≡ Some tree }
 {}

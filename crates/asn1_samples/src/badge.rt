@@ -1,6 +1,6 @@
 //! `Badge ::= SET { id INTEGER (0..4294967295), label VisibleString OPTIONAL, shape Shape }`
 ghost use Rattle.std.specs.Prelude.{◌≡◌, [], ◌∷◌, None, OnOk, Some, map, pos, codes};
-ghost use Rattle.asn1_types.specs.Words.{context, universal, untagged, required, optional, set, constructed_type, constructed_agrees, CanStandInside, own_records, holding, set_head, alternative_head, scalar, mark, absent, present, number, null, units, visible, unconstrained, values_of, Range};
+ghost use Rattle.asn1_types.specs.Words.{lines, table_of, in_root, context, universal, untagged, required, optional, set, constructed_type, constructed_agrees, CanStandInside, own_records, holding, set_head, alternative_head, scalar, mark, absent, present, number, null, units, visible, unconstrained, values_of, Range};
 ghost use Rattle.asn1_components.specs.Components.{all_components, root_entries, table};
 ghost use Rattle.asn1_dec.specs.SetParts.{EachFits, MakesValue};
 ghost use Rattle.asn1_fields.specs.CanonicalOrder.{IsCanonical};
@@ -12,7 +12,7 @@ use asn1_dec::{Decode, DecodeError, DecodeSet, Decoder, keep_once};
 use asn1_enc::{Encode, EncodeError, EncodeFields, Encoder};
 use asn1_strings::VisibleString;
 use asn1_types::{
-    AsnType, Constraints, ConstructedType, Field, FieldTable, Identifier, Tag, TypeTable,
+    AsnType, Choice, Constraints, ConstructedType, Field, FieldTable, Identifier, Tag, TypeTable,
 };
 use std::alloc::Global;
 
@@ -55,6 +55,10 @@ impl FieldTable for Badge {
             2 => Some(Field::new_optional_type::<VisibleString>(1, "label")),
             _ => None,
         }
+    }
+
+    fn marker_place() -> Option<usize> {
+        None
     }
 }
 
@@ -173,17 +177,17 @@ impl Decode for Badge {
 pub fn badge_records(badge: &Badge, label: &VisibleString)
     ensures ring { label.now ≡ codes "x" → badge.now ≡ record { id = 7; label = Some label.now; shape = Ring 300 } →
         own_records ⟦<Badge as AsnType>⟧.meaning badge.now ≡
-        holding (set_head (universal 17) (Some (codes "Badge"))) (
+        holding (set_head (universal 17) (lines ⟦<Badge as FieldTable>⟧.components) (Some (codes "Badge"))) (
         scalar (universal 2) (values_of (Range (Some (pos 0)) (Some (pos 4294967295)))) (Some (codes "INTEGER")) (number (pos 7)) ∷
-        mark (present (universal 26)) ∷
+        mark (present in_root (universal 26)) ∷
         scalar (universal 26) unconstrained (Some (codes "VisibleString")) (units visible (codes "x")) ∷
-        holding (alternative_head (context 0) unconstrained (Some (codes "Shape"))) (
+        holding (alternative_head (context 0) unconstrained (table_of ⟦<Shape as Choice>⟧.alternatives) (Some (codes "Shape"))) (
         scalar (context 0) (values_of (Range (Some (pos 0)) (Some (pos 65535)))) (Some (codes "INTEGER")) (number (pos 300)) ∷ []) ∷ []) ∷ [] }
     ensures dot { badge.now ≡ record { id = 7; label = None; shape = Dot tt } →
         own_records ⟦<Badge as AsnType>⟧.meaning badge.now ≡
-        holding (set_head (universal 17) (Some (codes "Badge"))) (
+        holding (set_head (universal 17) (lines ⟦<Badge as FieldTable>⟧.components) (Some (codes "Badge"))) (
         scalar (universal 2) (values_of (Range (Some (pos 0)) (Some (pos 4294967295)))) (Some (codes "INTEGER")) (number (pos 7)) ∷
-        mark (absent (universal 26)) ∷
-        holding (alternative_head (universal 5) unconstrained (Some (codes "Shape"))) (
+        mark (absent in_root (universal 26)) ∷
+        holding (alternative_head (universal 5) unconstrained (table_of ⟦<Shape as Choice>⟧.alternatives) (Some (codes "Shape"))) (
         scalar (universal 5) unconstrained (Some (codes "NULL")) null ∷ []) ∷ []) ∷ [] }
 {}

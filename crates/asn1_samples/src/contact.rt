@@ -45,6 +45,10 @@ impl FieldTable for Contact {
             _ => None,
         }
     }
+
+    fn marker_place() -> Option<usize> {
+        None
+    }
 }
 
 impl EncodeFields for Contact {

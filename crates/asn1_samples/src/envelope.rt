@@ -1,6 +1,6 @@
 //! `Envelope ::= SEQUENCE { kind INTEGER (0..255), body ANY }`, where ANY is an open type.
 ghost use Rattle.std.specs.Prelude.{◌≡◌, ◌↔◌, ℕ, Bool, IsTrue, List, [], ◌∷◌, None, Some, pos, codes};
-ghost use Rattle.asn1_types.specs.Words.{universal, untagged, required, sequence, constructed_type, constructed_agrees, CanStandInside, own_records, holding, sequence_head, scalar, raw, number, values_of, Range};
+ghost use Rattle.asn1_types.specs.Words.{lines, universal, untagged, required, sequence, constructed_type, constructed_agrees, CanStandInside, own_records, holding, sequence_head, scalar, raw, number, values_of, Range};
 
 use asn1_dec::{Decode, DecodeError, DecodeFields, Decoder};
 use asn1_enc::{Encode, EncodeError, EncodeFields, Encoder};
@@ -32,6 +32,10 @@ impl FieldTable for Envelope {
             1 => Some(Field::new_required_type::<Any>(1, "body")),
             _ => None,
         }
+    }
+
+    fn marker_place() -> Option<usize> {
+        None
     }
 }
 
@@ -100,7 +104,7 @@ impl DecodeFields for Envelope {
 pub fn envelope_records(envelope: &Envelope)
     ensures { envelope.now.kind ≡ 1 →
         own_records ⟦<Envelope as AsnType>⟧.meaning envelope.now ≡
-        holding (sequence_head (universal 16) (Some (codes "Envelope"))) (
+        holding (sequence_head (universal 16) (lines ⟦<Envelope as FieldTable>⟧.components) (Some (codes "Envelope"))) (
         scalar (universal 2) (values_of (Range (Some (pos 0)) (Some (pos 255)))) (Some (codes "INTEGER")) (number (pos 1)) ∷
         raw None envelope.now.body ∷ []) ∷ [] }
 {}

@@ -4,7 +4,7 @@ ghost use Rattle.std.specs.Cmp.{nat_eq_equiv, on_equiv, on_per, partial_equiv_fr
 ghost use Rattle.std.specs.Hash as fed;
 ghost use Rattle.std.specs.Hash.{on_Alike, same_Alike};
 ghost use Rattle.std.specs.Ordering.{on};
-ghost use Rattle.asn1_types.specs.Words.{context, universal, tagged, required, sequence, constructed_type, constructed_agrees, CanStandInside, own_records, holding, sequence_head, scalar, number, values_of, Range};
+ghost use Rattle.asn1_types.specs.Words.{lines, context, universal, tagged, required, sequence, constructed_type, constructed_agrees, CanStandInside, own_records, holding, sequence_head, scalar, number, values_of, Range};
 
 use asn1_dec::{Decode, DecodeError, DecodeFields, Decoder};
 use asn1_enc::{Encode, EncodeError, EncodeFields, Encoder};
@@ -71,6 +71,10 @@ impl FieldTable for Labelled {
             1 => Some(Field::new_required_type_with_tag::<u8>(1, NOTE, "note")),
             _ => None,
         }
+    }
+
+    fn marker_place() -> Option<usize> {
+        None
     }
 }
 
@@ -139,7 +143,7 @@ impl DecodeFields for Labelled {
 pub fn labelled_records(labelled: Labelled)
     ensures { labelled ≡ record { key = 1; note = 9 } →
         own_records ⟦<Labelled as AsnType>⟧.meaning labelled ≡
-        holding (sequence_head (universal 16) (Some (codes "Labelled"))) (
+        holding (sequence_head (universal 16) (lines ⟦<Labelled as FieldTable>⟧.components) (Some (codes "Labelled"))) (
         scalar (context 0) (values_of (Range (Some (pos 0)) (Some (pos 255)))) (Some (codes "INTEGER")) (number (pos 1)) ∷
         scalar (context 1) (values_of (Range (Some (pos 0)) (Some (pos 255)))) (Some (codes "INTEGER")) (number (pos 9)) ∷ []) ∷ [] }
 {}

@@ -1,7 +1,7 @@
 //! `Notice ::= SEQUENCE { id [0] INTEGER (0..255), urgent [1] EXPLICIT BOOLEAN OPTIONAL, text [2] UTF8String }`
 ghost use Rattle.std.specs.Prelude.{◌≡◌, [], ◌∷◌, None, Some, true, pos, codes};
 ghost use Rattle.std.specs.String.{string_bytes};
-ghost use Rattle.asn1_types.specs.Words.{context, universal, tagged, explicitly_tagged, required, optional, sequence, constructed_type, constructed_agrees, CanStandInside, own_records, holding, sequence_head, prefix, scalar, mark, absent, present, number, truth, units, utf8, unconstrained, values_of, Range};
+ghost use Rattle.asn1_types.specs.Words.{lines, in_root, context, universal, tagged, explicitly_tagged, required, optional, sequence, constructed_type, constructed_agrees, CanStandInside, own_records, holding, sequence_head, prefix, scalar, mark, absent, present, number, truth, units, utf8, unconstrained, values_of, Range};
 
 use asn1_dec::{Decode, DecodeError, DecodeFields, Decoder};
 use asn1_enc::{Encode, EncodeError, EncodeFields, Encoder};
@@ -54,6 +54,10 @@ impl FieldTable for Notice {
             2 => Some(Field::new_required_type_with_tag::<Utf8String>(2, TEXT, "text")),
             _ => None,
         }
+    }
+
+    fn marker_place() -> Option<usize> {
+        None
     }
 }
 
@@ -131,10 +135,11 @@ pub fn notice_records(notice: &Notice)
     ensures urgent { notice.now.id ≡ 7 → notice.now.urgent ≡ Some true →
         string_bytes notice.now.text ≡ codes "Come" →
         own_records ⟦<Notice as AsnType>⟧.meaning notice.now ≡
-        holding (sequence_head (universal 16) (Some (codes "Notice"))) (
+        holding (sequence_head (universal 16)
+        (lines ⟦<Notice as FieldTable>⟧.components) (Some (codes "Notice"))) (
         scalar (context 0) (values_of (Range (Some (pos 0)) (Some (pos 255))))
         (Some (codes "INTEGER")) (number (pos 7)) ∷
-        mark (present (context 1)) ∷
+        mark (present in_root (context 1)) ∷
         holding (prefix (context 1) (Some (codes "BOOLEAN"))) (
         scalar (universal 1) unconstrained (Some (codes "BOOLEAN")) (truth true) ∷ []) ∷
         scalar (context 2) unconstrained
@@ -142,10 +147,11 @@ pub fn notice_records(notice: &Notice)
     ensures plain { notice.now.id ≡ 7 → notice.now.urgent ≡ None →
         string_bytes notice.now.text ≡ codes "Come" →
         own_records ⟦<Notice as AsnType>⟧.meaning notice.now ≡
-        holding (sequence_head (universal 16) (Some (codes "Notice"))) (
+        holding (sequence_head (universal 16)
+        (lines ⟦<Notice as FieldTable>⟧.components) (Some (codes "Notice"))) (
         scalar (context 0) (values_of (Range (Some (pos 0)) (Some (pos 255))))
         (Some (codes "INTEGER")) (number (pos 7)) ∷
-        mark (absent (context 1)) ∷
+        mark (absent in_root (context 1)) ∷
         scalar (context 2) unconstrained
         (Some (codes "UTF8String")) (units utf8 (codes "Come")) ∷ []) ∷ [] }
 {}

@@ -1,6 +1,6 @@
 //! `Pair{T, U} ::= SEQUENCE { first T, second [0] U OPTIONAL }`
 ghost use Rattle.std.specs.Prelude.{◌≡◌, ◌↔◌, ℕ, Bool, List, [], ◌∷◌, None, Some, IfSome, true, pos, codes};
-ghost use Rattle.asn1_types.specs.Words.{context, universal, tagged, untagged, required, optional, sequence, constructed_type, constructed_agrees, CanStandInside, CanStandInsideUnder, own_records, holding, sequence_head, scalar, mark, absent, present, number, truth, unconstrained, values_of, Range};
+ghost use Rattle.asn1_types.specs.Words.{lines, in_root, context, universal, tagged, untagged, required, optional, sequence, constructed_type, constructed_agrees, CanStandInside, CanStandInsideUnder, own_records, holding, sequence_head, scalar, mark, absent, present, number, truth, unconstrained, values_of, Range};
 
 use asn1_dec::{Decode, DecodeError, DecodeFields, Decoder};
 use asn1_enc::{Encode, EncodeError, EncodeFields, Encoder};
@@ -37,6 +37,10 @@ impl<T: AsnType, U: AsnType> FieldTable for Pair<T, U> {
             1 => Some(Field::new_optional_type_with_tag::<U>(1, SECOND, "second")),
             _ => None,
         }
+    }
+
+    fn marker_place() -> Option<usize> {
+        None
     }
 }
 
@@ -113,15 +117,17 @@ impl<T: Decode, U: Decode> DecodeFields for Pair<T, U> {
 pub fn pair_records(pair: &Pair<u8, bool>)
     ensures both { pair.now ≡ record { first = 7; second = Some true } →
         own_records ⟦<Pair<u8, bool> as AsnType>⟧.meaning pair.now ≡
-        holding (sequence_head (universal 16) (Some (codes "Pair"))) (
+        holding (sequence_head (universal 16)
+        (lines ⟦<Pair<u8, bool> as FieldTable>⟧.components) (Some (codes "Pair"))) (
         scalar (universal 2) (values_of (Range (Some (pos 0)) (Some (pos 255))))
         (Some (codes "INTEGER")) (number (pos 7)) ∷
-        mark (present (context 0)) ∷
+        mark (present in_root (context 0)) ∷
         scalar (context 0) unconstrained (Some (codes "BOOLEAN")) (truth true) ∷ []) ∷ [] }
     ensures alone { pair.now ≡ record { first = 7; second = None } →
         own_records ⟦<Pair<u8, bool> as AsnType>⟧.meaning pair.now ≡
-        holding (sequence_head (universal 16) (Some (codes "Pair"))) (
+        holding (sequence_head (universal 16)
+        (lines ⟦<Pair<u8, bool> as FieldTable>⟧.components) (Some (codes "Pair"))) (
         scalar (universal 2) (values_of (Range (Some (pos 0)) (Some (pos 255))))
         (Some (codes "INTEGER")) (number (pos 7)) ∷
-        mark (absent (context 0)) ∷ []) ∷ [] }
+        mark (absent in_root (context 0)) ∷ []) ∷ [] }
 {}

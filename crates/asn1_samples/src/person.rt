@@ -1,7 +1,7 @@
 //! `Person ::= SEQUENCE { age INTEGER, name UTF8String }`
 ghost use Rattle.std.specs.Prelude.{◌≡◌, [], ◌∷◌, Some, pos, codes};
 ghost use Rattle.std.specs.String.{string_bytes};
-ghost use Rattle.asn1_types.specs.Words.{universal, untagged, required, sequence, constructed_type, constructed_agrees, CanStandInside, own_records, holding, sequence_head, scalar, number, units, utf8, unconstrained};
+ghost use Rattle.asn1_types.specs.Words.{lines, universal, untagged, required, sequence, constructed_type, constructed_agrees, CanStandInside, own_records, holding, sequence_head, scalar, number, units, utf8, unconstrained};
 
 use asn1_dec::{Decode, DecodeError, DecodeFields, Decoder};
 use asn1_enc::{Encode, EncodeError, EncodeFields, Encoder};
@@ -35,6 +35,10 @@ impl FieldTable for Person {
             1 => Some(Field::new_required_type::<Utf8String>(1, "name")),
             _ => None,
         }
+    }
+
+    fn marker_place() -> Option<usize> {
+        None
     }
 }
 
@@ -103,7 +107,7 @@ impl DecodeFields for Person {
 pub fn person_records(person: &Person)
     ensures { person.now.age ≡ pos 30 → string_bytes person.now.name ≡ codes "Ann" →
         own_records ⟦<Person as AsnType>⟧.meaning person.now ≡
-        holding (sequence_head (universal 16) (Some (codes "Person"))) (
+        holding (sequence_head (universal 16) (lines ⟦<Person as FieldTable>⟧.components) (Some (codes "Person"))) (
         scalar (universal 2) unconstrained (Some (codes "INTEGER")) (number (pos 30)) ∷
         scalar (universal 12) unconstrained (Some (codes "UTF8String")) (units utf8 (codes "Ann")) ∷ []) ∷ [] }
 {}

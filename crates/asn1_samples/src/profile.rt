@@ -11,7 +11,7 @@
 //! ```
 ghost use Rattle.std.specs.Prelude.{◌≡◌, [], ◌∷◌, None, Some, pos, codes};
 ghost use Rattle.std.specs.String.{string_bytes};
-ghost use Rattle.asn1_types.specs.Words.{context, universal, tagged, required, optional, with_default, extensible_sequence, group, constructed_type, constructed_agrees, CanStandInside, own_records, holding, sequence_head, scalar, mark, absent, present, group_start, group_end, group_absent, number, discriminant, units, utf8, ia5, unconstrained, values_of, Range};
+ghost use Rattle.asn1_types.specs.Words.{lines, labels_of, in_root, context, universal, tagged, required, optional, with_default, extensible_sequence, group, constructed_type, constructed_agrees, CanStandInside, own_records, holding, sequence_head, scalar, mark, absent, present, group_start, group_end, group_absent, number, discriminant, units, utf8, ia5, unconstrained, values_of, Range};
 ghost use Rattle.asn1_samples.specs.declared.color.Color.TheVariants.{Red, Blue};
 
 use crate::color::Color;
@@ -70,6 +70,10 @@ impl FieldTable for Profile {
             3 => Some(Field::new_group(3, CONTACT, "contact")),
             _ => None,
         }
+    }
+
+    fn marker_place() -> Option<usize> {
+        Some(3)
     }
 }
 
@@ -154,30 +158,30 @@ impl DecodeFields for Profile {
 pub fn profile_records(profile: &Profile, nick: &Utf8String, mail: &Ia5String)
     ensures empty { profile.now ≡ record { nick = None; level = 7; color = Red; contact = None } →
         own_records ⟦<Profile as AsnType>⟧.meaning profile.now ≡
-        holding (sequence_head (universal 16) (Some (codes "Profile"))) (
-        mark (absent (context 0)) ∷
+        holding (sequence_head (universal 16) (lines ⟦<Profile as FieldTable>⟧.components) (Some (codes "Profile"))) (
+        mark (absent in_root (context 0)) ∷
         scalar (context 1) (values_of (Range (Some (pos 0)) (Some (pos 255)))) (Some (codes "INTEGER")) (number (pos 7)) ∷
-        mark (absent (context 2)) ∷
+        mark (absent in_root (context 2)) ∷
         mark group_absent ∷ []) ∷ [] }
     ensures empty_contact { profile.now ≡ record { nick = None; level = 7; color = Red; contact = Some (record { phone = None; mail = None }) } →
         own_records ⟦<Profile as AsnType>⟧.meaning profile.now ≡
-        holding (sequence_head (universal 16) (Some (codes "Profile"))) (
-        mark (absent (context 0)) ∷
+        holding (sequence_head (universal 16) (lines ⟦<Profile as FieldTable>⟧.components) (Some (codes "Profile"))) (
+        mark (absent in_root (context 0)) ∷
         scalar (context 1) (values_of (Range (Some (pos 0)) (Some (pos 255)))) (Some (codes "INTEGER")) (number (pos 7)) ∷
-        mark (absent (context 2)) ∷
+        mark (absent in_root (context 2)) ∷
         mark group_absent ∷ []) ∷ [] }
     ensures full { string_bytes nick.now ≡ codes "Al" → mail.now ≡ codes "a@b" →
         profile.now ≡ record { nick = Some nick.now; level = 255; color = Blue; contact = Some (record { phone = None; mail = Some mail.now }) } →
         own_records ⟦<Profile as AsnType>⟧.meaning profile.now ≡
-        holding (sequence_head (universal 16) (Some (codes "Profile"))) (
-        mark (present (context 0)) ∷
+        holding (sequence_head (universal 16) (lines ⟦<Profile as FieldTable>⟧.components) (Some (codes "Profile"))) (
+        mark (present in_root (context 0)) ∷
         scalar (context 0) unconstrained (Some (codes "UTF8String")) (units utf8 (codes "Al")) ∷
         scalar (context 1) (values_of (Range (Some (pos 0)) (Some (pos 255)))) (Some (codes "INTEGER")) (number (pos 255)) ∷
-        mark (present (context 2)) ∷
-        scalar (context 2) unconstrained (Some (codes "Color")) (discriminant (pos 5)) ∷
-        mark group_start ∷
-        mark (absent (context 3)) ∷
-        mark (present (context 4)) ∷
+        mark (present in_root (context 2)) ∷
+        scalar (context 2) unconstrained (Some (codes "Color")) (discriminant (labels_of ⟦<Color as asn1_types::Enumerated>⟧.enumeration) (pos 5)) ∷
+        mark (group_start (lines ⟦<Contact as FieldTable>⟧.components)) ∷
+        mark (absent in_root (context 3)) ∷
+        mark (present in_root (context 4)) ∷
         scalar (context 4) unconstrained (Some (codes "IA5String")) (units ia5 (codes "a@b")) ∷
         mark group_end ∷ []) ∷ [] }
 {}

@@ -1,6 +1,6 @@
 //! `Settings ::= SEQUENCE { entry [0] Labelled DEFAULT { key 1, note 0 } }`
 ghost use Rattle.std.specs.Prelude.{◌≡◌, [], ◌∷◌, Some, pos, codes};
-ghost use Rattle.asn1_types.specs.Words.{context, universal, tagged, with_default, sequence, constructed_type, constructed_agrees, CanStandInside, own_records, holding, sequence_head, scalar, mark, absent, present, number, values_of, Range};
+ghost use Rattle.asn1_types.specs.Words.{lines, in_root, context, universal, tagged, with_default, sequence, constructed_type, constructed_agrees, CanStandInside, own_records, holding, sequence_head, scalar, mark, absent, present, number, values_of, Range};
 
 use crate::labelled::Labelled;
 use asn1_dec::{Decode, DecodeError, DecodeFields, Decoder};
@@ -34,6 +34,10 @@ impl FieldTable for Settings {
             0 => Some(Field::new_default_type_with_tag::<Labelled>(0, ENTRY, "entry")),
             _ => None,
         }
+    }
+
+    fn marker_place() -> Option<usize> {
+        None
     }
 }
 
@@ -106,13 +110,13 @@ impl DecodeFields for Settings {
 pub fn settings_records(settings: &Settings)
     ensures default { settings.now.entry ≡ record { key = 1; note = 9 } →
         own_records ⟦<Settings as AsnType>⟧.meaning settings.now ≡
-        holding (sequence_head (universal 16) (Some (codes "Settings"))) (
-        mark (absent (context 0)) ∷ []) ∷ [] }
+        holding (sequence_head (universal 16) (lines ⟦<Settings as FieldTable>⟧.components) (Some (codes "Settings"))) (
+        mark (absent in_root (context 0)) ∷ []) ∷ [] }
     ensures another { settings.now.entry ≡ record { key = 2; note = 9 } →
         own_records ⟦<Settings as AsnType>⟧.meaning settings.now ≡
-        holding (sequence_head (universal 16) (Some (codes "Settings"))) (
-        mark (present (context 0)) ∷
-        holding (sequence_head (context 0) (Some (codes "Labelled"))) (
+        holding (sequence_head (universal 16) (lines ⟦<Settings as FieldTable>⟧.components) (Some (codes "Settings"))) (
+        mark (present in_root (context 0)) ∷
+        holding (sequence_head (context 0) (lines ⟦<Labelled as FieldTable>⟧.components) (Some (codes "Labelled"))) (
         scalar (context 0) (values_of (Range (Some (pos 0)) (Some (pos 255)))) (Some (codes "INTEGER")) (number (pos 2)) ∷
         scalar (context 1) (values_of (Range (Some (pos 0)) (Some (pos 255)))) (Some (codes "INTEGER")) (number (pos 9)) ∷ []) ∷ []) ∷ [] }
 {}

@@ -1,6 +1,6 @@
 //! `Shape ::= CHOICE { dot NULL, ring [0] INTEGER (0..65535), inner Corner }`
 ghost use Rattle.std.specs.Prelude.{◌≡◌, [], ◌∷◌, Some, true, pos, codes};
-ghost use Rattle.asn1_types.specs.Words.{context, universal, untagged, tagged, inl, inr, alternative, closed_choice, choice_of, choice_agrees, CanStandInside, own_records, holding, alternative_head, scalar, number, truth, unconstrained, values_of, Range};
+ghost use Rattle.asn1_types.specs.Words.{table_of, context, universal, untagged, tagged, inl, inr, alternative, closed_choice, choice_of, choice_agrees, CanStandInside, own_records, holding, alternative_head, scalar, number, truth, unconstrained, values_of, Range};
 ghost use Rattle.asn1_samples.specs.declared.corner.Corner.TheVariants as corner;
 ghost use Rattle.asn1_samples.specs.declared.shape.Shape.TheVariants.{Dot, Ring, Inner};
 
@@ -140,11 +140,11 @@ impl DecodeChoice for Shape {
 pub fn shape_records(shape: &Shape)
     ensures ring { shape.now ≡ Ring 300 →
         own_records ⟦<Shape as AsnType>⟧.meaning shape.now ≡
-        holding (alternative_head (context 0) unconstrained (Some (codes "Shape"))) (
+        holding (alternative_head (context 0) unconstrained (table_of ⟦<Shape as Choice>⟧.alternatives) (Some (codes "Shape"))) (
         scalar (context 0) (values_of (Range (Some (pos 0)) (Some (pos 65535)))) (Some (codes "INTEGER")) (number (pos 300)) ∷ []) ∷ [] }
     ensures inner { shape.now ≡ Inner (corner.Left true) →
         own_records ⟦<Shape as AsnType>⟧.meaning shape.now ≡
-        holding (alternative_head (universal 1) unconstrained (Some (codes "Shape"))) (
-        holding (alternative_head (universal 1) unconstrained (Some (codes "Corner"))) (
+        holding (alternative_head (universal 1) unconstrained (table_of ⟦<Shape as Choice>⟧.alternatives) (Some (codes "Shape"))) (
+        holding (alternative_head (universal 1) unconstrained (table_of ⟦<Corner as Choice>⟧.alternatives) (Some (codes "Corner"))) (
         scalar (universal 1) unconstrained (Some (codes "BOOLEAN")) (truth true) ∷ []) ∷ []) ∷ [] }
 {}

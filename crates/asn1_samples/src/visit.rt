@@ -10,7 +10,7 @@
 //! ```
 ghost use Rattle.std.specs.Prelude.{◌≡◌, [], ◌∷◌, None, Some, pos, codes};
 ghost use Rattle.std.specs.String.{string_bytes};
-ghost use Rattle.asn1_types.specs.Words.{context, universal, tagged, required, addition, extensible_sequence, group, constructed_type, constructed_agrees, CanStandInside, own_records, holding, sequence_head, scalar, mark, absent, present, group_start, group_end, number, units, utf8, numeric, unconstrained, values_of, Range};
+ghost use Rattle.asn1_types.specs.Words.{lines, in_root, in_additions, context, universal, tagged, required, addition, extensible_sequence, group, constructed_type, constructed_agrees, CanStandInside, own_records, holding, sequence_head, scalar, mark, absent, present, group_start, group_end, number, units, utf8, numeric, unconstrained, values_of, Range};
 
 use crate::contact::{CONTACT, Contact};
 use asn1_dec::{Decode, DecodeError, DecodeFields, Decoder};
@@ -58,6 +58,10 @@ impl FieldTable for Visit {
             2 => Some(Field::new_optional_type_with_tag::<Utf8String>(2, NOTE, "note")),
             _ => None,
         }
+    }
+
+    fn marker_place() -> Option<usize> {
+        Some(1)
     }
 }
 
@@ -134,24 +138,24 @@ pub fn visit_records(visit: &Visit, phone: &NumericString, note: &Utf8String)
     ensures noted { phone.now ≡ codes "12" → string_bytes note.now ≡ codes "ok" →
         visit.now ≡ record { day = 7; contact = Some (record { phone = Some phone.now; mail = None }); note = Some note.now } →
         own_records ⟦<Visit as AsnType>⟧.meaning visit.now ≡
-        holding (sequence_head (universal 16) (Some (codes "Visit"))) (
+        holding (sequence_head (universal 16) (lines ⟦<Visit as FieldTable>⟧.components) (Some (codes "Visit"))) (
         scalar (context 0) (values_of (Range (Some (pos 0)) (Some (pos 65535)))) (Some (codes "INTEGER")) (number (pos 7)) ∷
-        mark group_start ∷
-        mark (present (context 3)) ∷
+        mark (group_start (lines ⟦<Contact as FieldTable>⟧.components)) ∷
+        mark (present in_root (context 3)) ∷
         scalar (context 3) unconstrained (Some (codes "NumericString")) (units numeric (codes "12")) ∷
-        mark (absent (context 4)) ∷
+        mark (absent in_root (context 4)) ∷
         mark group_end ∷
-        mark (present (context 5)) ∷
+        mark (present in_additions (context 5)) ∷
         scalar (context 5) unconstrained (Some (codes "UTF8String")) (units utf8 (codes "ok")) ∷ []) ∷ [] }
     ensures bare { phone.now ≡ codes "12" →
         visit.now ≡ record { day = 7; contact = Some (record { phone = Some phone.now; mail = None }); note = None } →
         own_records ⟦<Visit as AsnType>⟧.meaning visit.now ≡
-        holding (sequence_head (universal 16) (Some (codes "Visit"))) (
+        holding (sequence_head (universal 16) (lines ⟦<Visit as FieldTable>⟧.components) (Some (codes "Visit"))) (
         scalar (context 0) (values_of (Range (Some (pos 0)) (Some (pos 65535)))) (Some (codes "INTEGER")) (number (pos 7)) ∷
-        mark group_start ∷
-        mark (present (context 3)) ∷
+        mark (group_start (lines ⟦<Contact as FieldTable>⟧.components)) ∷
+        mark (present in_root (context 3)) ∷
         scalar (context 3) unconstrained (Some (codes "NumericString")) (units numeric (codes "12")) ∷
-        mark (absent (context 4)) ∷
+        mark (absent in_root (context 4)) ∷
         mark group_end ∷
-        mark (absent (context 5)) ∷ []) ∷ [] }
+        mark (absent in_additions (context 5)) ∷ []) ∷ [] }
 {}

@@ -1,10 +1,11 @@
 -- What a codec as a whole says of itself, and what writing and reading a value answer.
 use Rattle.std.specs.Prelude.{◌≡◌, ◌≢◌, ◌⊎◌, ℕ, ◌≤◌, ◌<◌, Bool, List, [], ◌∷◌, ◌++◌, MatchResult, Result}
-use Rattle.asn1_enc.specs.Writing.{IsCustom, SameRecords}
+use Rattle.asn1_enc.specs.Writing.{IsCustom}
 use Rattle.asn1_enc.specs.declared.error.EncodeError.{EncodeError}
 use Rattle.asn1_enc.specs.declared.error.EncodeError.TheVariants as writing
 use Rattle.asn1_dec.specs.declared.error.DecodeError.{DecodeError}
-use Rattle.asn1_dec.specs.declared.error.DecodeError.TheVariants as reading
+use Rattle.asn1_dec.specs.Reading.{MayFail}
+use Rattle.asn1_model.specs.Orders.{SameRecords}
 use Rattle.asn1_model.specs.Records.{Record, Head, highest, holding}
 
 -- What the outputs of a codec are: which records an output carries, which records may be refused, and which byte strings are
@@ -44,4 +45,8 @@ module _ {O : Type 0} (F : Format O) where
 -- higher.
 abbrev pub ReadsWhole : {V : Type 0} → ℕ → ℕ → (V → Type 0) → Result V DecodeError → Type 0
 ReadsWhole height depth Is result =
-    MatchResult result (λ w. Is w × (height ≤ depth)) (λ e. (e ≡ reading.Memory) ⊎ ((e ≡ reading.Depth) × (depth < height)))
+    MatchResult result (λ w. Is w × (height ≤ depth)) (MayFail depth height)
+
+-- The answer is this error of the type; or there was no memory, or the records are higher than the depth.
+abbrev pub RefusesWhole : {V : Type 0} → ℕ → ℕ → DecodeError → Result V DecodeError → Type 0
+RefusesWhole height depth own result = MatchResult result (λ _. ⊥) (λ e. MayFail depth height e ⊎ (e ≡ own))

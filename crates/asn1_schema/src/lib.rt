@@ -17,7 +17,8 @@
 //!   value's own records, which are no higher than the depth, and tells that the value has what each value of its type has
 //!   (`IsWritten`); it fails as `IsNotWritten` says. Of an output that carries the own records of a valid value of a type that
 //!   can be inside others, `read_value` makes an equal value; it fails only for want of memory, or where the records are
-//!   higher than the depth (`ReadsWhole`).
+//!   higher than the depth (`ReadsWhole`). An error by which a type refuses what it has read is answered as it is
+//!   (`RefusesWhole`).
 //! - `round_trip` is the theorem (`back`): for every codec that keeps these laws and every such type, a valid value whose
 //!   writing succeeds is read back equal, unless memory is short or the depth of reading too little (`FailsAs` of
 //!   `specs/RoundTrips.antt`). Its premises are that the type's tags are distinct, and that the value is valid: open types in
@@ -51,7 +52,6 @@ pub use asn1_enc::EncodeChoice;
 pub use asn1_enc::EncodeError;
 pub use asn1_enc::EncodeFields;
 pub use asn1_enc::Encoder;
-pub use asn1_enc::EnumeratedValue;
 pub use asn1_enumerations::EnumeratedTable;
 pub use asn1_enumerations::item;
 pub use asn1_strings::Alphabet;
@@ -80,12 +80,15 @@ pub use asn1_strings::kind;
 pub use asn1_tags::Variants;
 pub use asn1_tags::VariantsError;
 pub use asn1_types::Any;
+pub use asn1_types::AnyStr;
+pub use asn1_types::AnyString;
 pub use asn1_types::Array;
 pub use asn1_types::AsnType;
 pub use asn1_types::Bounded;
 pub use asn1_types::Choice;
 pub use asn1_types::ChoiceType;
 pub use asn1_types::Class;
+pub use asn1_types::CodecString;
 pub use asn1_types::ConstraintTable;
 pub use asn1_types::Constraints;
 pub use asn1_types::Constructed;
@@ -106,18 +109,22 @@ pub use asn1_types::IdentifierIter;
 pub use asn1_types::Implicit;
 pub use asn1_types::InstanceOf;
 pub use asn1_types::ItemIdentifierIter;
+pub use asn1_types::OctetKind;
 pub use asn1_types::OptionalFieldIter;
 pub use asn1_types::PermittedAlphabet;
 pub use asn1_types::SequenceOf;
 pub use asn1_types::SetOf;
 pub use asn1_types::Size;
+pub use asn1_types::StringKind;
 pub use asn1_types::StringType;
 pub use asn1_types::Tag;
 pub use asn1_types::TagTree;
 pub use asn1_types::TreeForm;
 pub use asn1_types::TypeTable;
+pub use asn1_types::Utf8;
 pub use asn1_types::Value;
 pub use asn1_types::VariantIter;
+pub use asn1_types::alternatives_are_as_in_records;
 pub use asn1_types::at_most_one_rearrangement_is_canonical;
 pub use asn1_types::components_are_told_apart;
 pub use asn1_types::equal_sets_have_the_same_elements;
@@ -126,6 +133,7 @@ pub use asn1_types::first_sequence_clash;
 pub use asn1_types::first_set_clash;
 pub use asn1_types::is_canonical;
 pub use asn1_types::order_inside_sets_is_not_seen;
+pub use asn1_types::records_of_a_valid_value_are_well_formed;
 pub use asn1_types::tables_are_in_order;
 pub use asn1_types::tag;
 pub use asn1_types::the_chosen_tag_tells_the_alternative;

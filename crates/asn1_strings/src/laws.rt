@@ -27,7 +27,8 @@ pub fn unit_strings_are_compared_by_units<U: Ord + Hash, K>(
     b: &UnitString<U, K>,
 ) -> bool
     ensures same { result ≡ pointwise U.eq a.now b.now }
-    ensures partial_order { ⟦<UnitString<U, K> as PartialOrd>⟧.partial_cmp a.now b.now ≡ slice_partial_cmp U.partial_cmp a.now b.now }
+    ensures partial_order { ⟦<UnitString<U, K> as PartialOrd>⟧.partial_cmp a.now b.now ≡
+        slice_partial_cmp U.partial_cmp a.now b.now }
     ensures order { ⟦<UnitString<U, K> as Ord>⟧.cmp a.now b.now ≡ slice_cmp U.cmp a.now b.now }
     ensures hash { ⟦<UnitString<U, K> as Hash>⟧.hash_input a.now ≡ fed.slice U.hash_input a.now }
 {
@@ -40,9 +41,11 @@ pub fn alphabet_strings_are_compared_by_units<U: Ord + Hash, A: Alphabet<U>>(
     b: &AlphabetString<U, A>,
 ) -> bool
     ensures same { result ≡ pointwise U.eq a.now b.now }
-    ensures partial_order { ⟦<AlphabetString<U, A> as PartialOrd>⟧.partial_cmp a.now b.now ≡ slice_partial_cmp U.partial_cmp a.now b.now }
+    ensures partial_order { ⟦<AlphabetString<U, A> as PartialOrd>⟧.partial_cmp a.now b.now ≡
+        slice_partial_cmp U.partial_cmp a.now b.now }
     ensures order { ⟦<AlphabetString<U, A> as Ord>⟧.cmp a.now b.now ≡ slice_cmp U.cmp a.now b.now }
-    ensures hash { ⟦<AlphabetString<U, A> as Hash>⟧.hash_input a.now ≡ fed.slice U.hash_input a.now }
+    ensures hash { ⟦<AlphabetString<U, A> as Hash>⟧.hash_input a.now ≡
+        fed.slice U.hash_input a.now }
 {
     a == b
 }
@@ -92,7 +95,9 @@ pub fn is_numeric_string(units: Vec<u8>) -> bool
 /// Whether the units make a PrintableString, which holds the ASCII letters, digits, space and `'()+,-./:=?`.
 pub fn is_printable_string(units: Vec<u8>) -> bool
     ensures alphabet { IsTrue result ↔ AllPass is_printable units.items }
-    ensures characters { (c : ℕ) → IsTrue (is_printable c) ↔ (((65 ≤ c) × (c ≤ 90)) ⊎ ((97 ≤ c) × (c ≤ 122)) ⊎ ((48 ≤ c) × (c ≤ 57)) ⊎ IsTrue (is_among (codes " '()+,-./:=?") c)) }
+    ensures characters { (c : ℕ) → IsTrue (is_printable c) ↔
+        (((65 ≤ c) × (c ≤ 90)) ⊎ ((97 ≤ c) × (c ≤ 122)) ⊎ ((48 ≤ c) × (c ≤ 57)) ⊎
+        IsTrue (is_among (codes " '()+,-./:=?") c)) }
 {
     PrintableString::new(units).is_ok()
 }
@@ -146,14 +151,16 @@ pub fn object_identifier_errors_are_compared_by_case(
 
 /// An object identifier is written as its dotted text, and of this text the same one is read, if it has an arc.
 pub fn object_identifiers_are_read_as_they_are_written()
-    ensures text { (arcs : List ℕ) → ⟦<ObjectIdentifier as Display>⟧.output arcs ≡ Some (dotted arcs) }
+    ensures text { (arcs : List ℕ) → ⟦<ObjectIdentifier as Display>⟧.output arcs ≡
+        Some (dotted arcs) }
     ensures back { (arcs : List ℕ) → 0 < length arcs → All (λ arc. arc < 2 ^ 32) arcs →
         arcs_of (dotted arcs) ≡ Ok arcs }
 {}
 
 /// A string with an alphabet inside ASCII is written as its characters, with options such as a width as a text is.
 pub fn ascii_strings_are_written_as_their_characters<A: AsciiAlphabet>()
-    ensures text { (units : List ℕ) → ⟦<AlphabetString<u8, A> as Display>⟧.output units ≡ Some units }
+    ensures text { (units : List ℕ) → ⟦<AlphabetString<u8, A> as Display>⟧.output units ≡
+        Some units }
     ensures styled { (units : List ℕ) (options : _) →
         ⟦<AlphabetString<u8, A> as Display>⟧.styled_output units options ≡ Some (styled_text options units) }
 {}

@@ -58,7 +58,7 @@ distinct-from_AllPairs (t ∷ ts) h = by_test (distinct-from_AllPairs ts rest) (
         let within : found.0 < length ts = found.1 in
         absurd (h zero (suc found.0) t (omega arith) (omega arith) (sym found.2))
 
--- a tag that the test finds in both lists stands in both
+-- a tag that the test finds in both lists is in both
 pub HaveCommonTag-from_meet : (ts us : List Tag) → meet ts us ≡ true → HaveCommonTag ts us
 HaveCommonTag-from_meet ts us h =
     let found = Any-from_list_any (λ t. has t us) ts h in

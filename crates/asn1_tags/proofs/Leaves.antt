@@ -129,7 +129,7 @@ distinct-append (x ∷ xs) ys =
     ∙ ap (λ b. not (has x xs || has x ys) && b) (distinct-append xs ys)
     ∙ shuffle (has x xs) (has x ys) (distinct xs) (distinct ys) (meet xs ys)
 
--- a walk that looks for a tag that stands twice: the tree at i, and those after it
+-- a walk that looks for a tag that occurs twice: the tree at i, and those after it
 distinct_rest : (ts : List TagTree) (i : ℕ) (d : TagTree) → i < length ts →
     distinct (leaves_of (shapes (drop i ts)))
     ≡ (distinct (leaves (shape (get_or ts i d)))
@@ -207,7 +207,7 @@ second_false false b h = h
 second_false true b h = cc
 
 mutual
-  -- a tree in which no choice of nothing stands has a leaf
+  -- a tree without a choice of nothing in it has a leaf
   pub leaf_of : (t : Tree) → is_open t ≡ false → (tag : Tag) × Contains (leaves t) tag
   leaf_of (leaf t) shut = (t, (0, omega arith, refl))
   leaf_of (choice ts) shut = leaf_of_some ts (first_false (is_nothing ts) (is_any_open ts) shut) (second_false (is_nothing ts) (is_any_open ts) shut)
@@ -238,5 +238,5 @@ pub ruleset tree_shapes = (shape-Leaf, shape-Choice)
 -- steps of walks that look and count
 pub ruleset walks = (shape-Leaf, shape-Choice, has_more, has_at, count_more, count_upto, meet_more, meet_at)
 
--- steps of the walk that looks for a tag that stands twice
+-- steps of the walk that looks for a tag that occurs twice
 pub ruleset repeats = (shape-Leaf, shape-Choice, distinct_stop, distinct_clash, distinct_more)

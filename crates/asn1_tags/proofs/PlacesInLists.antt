@@ -37,7 +37,7 @@ position-missing p xs k y e at =
     let within = slice_get_within xs k y at in
     subst (λ x. p x ≡ false) (get_or_from_slice_get xs k y y at) (fails_before_first p xs k y (omega arith))
 
--- what stands at a place is in the list
+-- what is at a place is in the list
 pub Contains-from_slice_get : {X : Type 0} (xs : List X) (i : ℕ) (x : X) → slice_get xs i ≡ Some x → Contains xs x
 Contains-from_slice_get xs i x at = (i, slice_get_within xs i x at, get_or_from_slice_get xs i x x at)
 

@@ -74,7 +74,7 @@ passed_at t ts i n m d lt passed absent fits =
     let step = has_more t ts i d lt in
     (omega arith, grind (arith, common_steps, step))
 
--- the leaf after so many others of the tree at i
+-- the leaf after this many others of the tree at i
 pub leaf_after_at : (ts : List TagTree) (i k : ℕ) (d : TagTree) (t : Tag) → i < length ts → k < length (leaves (shape (get_or ts i d))) →
     get_or (leaves_of (shapes ts)) (length (leaves_of (shapes (take i ts))) + k) t ≡ get_or (leaves (shape (get_or ts i d))) k t
 leaf_after_at ts i k d t lt within =
@@ -113,14 +113,14 @@ position_of-some t ts h =
     let e = some_there (λ s. tag_eq s t) ts h in
     grind (arith, nat_tests)
 
--- and stands there
+-- and is there
 pub slice_get-position : (t : Tag) (ts : List Tag) → has t ts ≡ true → slice_get ts (position_or_len (λ s. tag_eq s t) ts) ≡ Some t
 slice_get-position t ts h =
     let q : Tag → Bool = λ s. tag_eq s t in
     let within = some_there q ts h in
     slice_get-get_or ts (position_or_len q ts) t within ∙ ap Some (tag_eq-true (get_or ts (position_or_len q ts) t) t (passes_at_first q ts t within))
 
--- where each tag stands once, a place is the first place of its tag
+-- where each tag occurs once, a place is the first place of its tag
 pub position_of-unique : (t : Tag) (ts : List Tag) (k : ℕ) → AllPairs (λ s u. s ≢ u) ts → slice_get ts k ≡ Some t → position_of t ts ≡ Some k
 position_of-unique t ts k apart e =
     let q : Tag → Bool = λ s. tag_eq s t in
@@ -136,12 +136,12 @@ position_of-unique t ts k apart e =
     before false j f lt here within = f
     before true j f lt here within = absurd (apart j k t lt within (tag_eq-true (get_or ts j t) t f ∙ sym here))
 
--- the tag after k others stands at k
+-- the tag after k others is at k
 pub IsTagAfter-is : (ts : List Tag) (k : ℕ) (r : Result Tag ℕ) → IsTagAfter ts k r → result_ok r ≡ slice_get ts k
 IsTagAfter-is ts k (Ok t) h = sym (slice_get-get_or ts k t h.0 ∙ ap Some (sym h.1))
 IsTagAfter-is ts k (Err left) h = sym (slice_get_past ts k (omega arith))
 
--- what stands at a place has that first place, where each tag stands once
+-- what is at a place has that first place, where each tag occurs once
 pub position_of-slice_get : (ts : List Tag) (k : ℕ) (r : Option Tag) → r ≡ slice_get ts k → AllPairs (λ s u. s ≢ u) ts →
     IfSome r (λ t. position_of t ts ≡ Some k)
 position_of-slice_get ts k None e apart = tt

@@ -11,7 +11,7 @@ use Rattle.asn1_tags.specs.declared.names.Identifier.{Identifier}
 abbrev pub name_of : Identifier → Option (List ℕ)
 name_of n = option_copied n.0
 
--- No name stands before every name, and names go lexicographically by their bytes.
+-- No name comes before every name, and names go lexicographically by their bytes.
 abbrev pub name_cmp : Option (List ℕ) → Option (List ℕ) → Ordering
 name_cmp None None = Equal
 name_cmp None (Some t) = Less

@@ -5,7 +5,7 @@ use Rattle.std.specs.Ordering.{on, then_cmp, ordering_then}
 use Rattle.asn1_tags.specs.Tags.{tag_cmp, smallest}
 use Rattle.asn1_tags.specs.Trees.{Tree, Trees, leaf, choice, none, more, leaves}
 
--- By structure: a leaf stands before a choice, leaves go by tag, and choices lexicographically by the structure of their trees.
+-- By structure: a leaf comes before a choice, leaves go by tag, and choices lexicographically by the structure of their trees.
 abbrev mutual
   pub structure_cmp : Tree → Tree → Ordering
   structure_cmp (leaf s) (leaf t) = tag_cmp s t

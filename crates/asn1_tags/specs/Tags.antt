@@ -27,7 +27,7 @@ IsAtMost s t = (class_number s.class < class_number t.class) ⊎ ((class_number 
 abbrev pub tag_eq : Tag → Tag → Bool
 tag_eq s t = (class_number s.class == class_number t.class) && (s.value == t.value)
 
--- whether the tag stands among these
+-- whether the tag is among these
 abbrev pub has : Tag → List Tag → Bool
 has t ts = list_any (λ s. tag_eq s t) ts
 
@@ -35,18 +35,18 @@ has t ts = list_any (λ s. tag_eq s t) ts
 abbrev pub position_of : Tag → List Tag → Option ℕ
 position_of t ts = position (λ s. tag_eq s t) ts
 
--- whether no tag stands twice among these
+-- whether no tag occurs twice among these
 abbrev pub distinct : List Tag → Bool
 distinct [] = true
 distinct (t ∷ ts) = not (has t ts) && distinct ts
 
--- Some tag stands in both lists.
+-- Some tag is in both lists.
 pub record HaveCommonTag (ts us : List Tag) : Type 0 where
   pub tag : Tag
   pub in_first : Contains ts tag
   pub in_second : Contains us tag
 
--- the greatest tag of all, which stands for the smallest of no tags
+-- the greatest tag of all, which serves as the smallest of no tags
 abbrev pub greatest : Tag
 greatest = record { class = Private; value = 4294967295 }
 
@@ -72,7 +72,7 @@ class_text Application = codes "application"
 class_text Context = codes "context"
 class_text Private = codes "private"
 
--- a class as it stands before a tag's number
+-- a class as it comes before a tag's number
 abbrev pub class_name : Class → List ℕ
 class_name Universal = codes "Universal"
 class_name Application = codes "Application"

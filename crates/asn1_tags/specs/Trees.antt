@@ -38,7 +38,7 @@ abbrev mutual
   leaves_of none = []
   leaves_of (more t ts) = leaves t ++ leaves_of ts
 
--- whether a choice of nothing stands anywhere in the tree, or in one of several trees
+-- whether a choice of nothing is anywhere in the tree, or in one of several trees
 abbrev mutual
   pub is_open : Tree → Bool
   is_open (leaf t) = false

@@ -4,7 +4,7 @@ use Rattle.std.specs.List.{list_any, position_or_len}
 use Rattle.asn1_tags.specs.Tags.{IsAtMost, has, lesser, tag_eq}
 use Rattle.asn1_tags.specs.declared.tags.Tag.{Tag}
 
--- whether a tag stands in both lists
+-- whether a tag is in both lists
 abbrev pub meet : List Tag → List Tag → Bool
 meet ts us = list_any (λ t. has t us) ts
 
@@ -16,7 +16,7 @@ IsFirstPlaceOf t ts r =
     (λ place. (has t ts ≡ true) × (place ≡ position_or_len (λ s. tag_eq s t) ts))
     (λ count. (has t ts ≡ false) × (count ≡ length ts))
 
--- the tag after so many others, or how many more there would have to be
+-- the tag after this many others, or how many more there would have to be
 abbrev pub IsTagAfter : List Tag → ℕ → Result Tag ℕ → Type 0
 IsTagAfter ts skipped r =
     MatchResult

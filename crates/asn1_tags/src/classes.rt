@@ -13,7 +13,7 @@ pub enum Class {
     Universal = 0,
     /// Tags that one application, or one other standard, assigns.
     Application = 1,
-    /// Tags that mean something only where they stand.
+    /// Tags that mean something only in their context.
     Context = 2,
     /// Tags that one enterprise assigns.
     Private = 3,

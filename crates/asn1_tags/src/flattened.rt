@@ -16,7 +16,7 @@ use std::marker::Model;
 /// The leaves of trees in one list, from left to right, and beside it a table for quick look-ups, or none.
 ///
 /// A table has an entry for each tag of the list: the tag and its position. The entries ascend by
-/// tag, and by position where a tag stands at several places. A constructor walks the trees once.
+/// tag, and by position where a tag is at several places. A constructor walks the trees once.
 #[derive(Debug, Drop)]
 pub struct Variants {
     tags: Vec<Tag>,
@@ -85,8 +85,10 @@ impl Variants {
         ensures list { IfOk result (λ variants. variants.tags ≡ leaves_of (shapes nodes.now)) }
         ensures table { IfOk result (λ variants. variants.table ≡ Some table.items) }
         ensures fits { IfOk result (λ _. TableFits (leaves_of (shapes nodes.now)) table.items) }
-        ensures fitting { TableFits (leaves_of (shapes nodes.now)) table.items → IsOkUnless result VariantsError.Memory }
-        ensures mismatch { (index : ℕ) → IsErrOf result (VariantsError.TableMismatch index) → FailsFirstAt (leaves_of (shapes nodes.now)) table.items index }
+        ensures fitting { TableFits (leaves_of (shapes nodes.now)) table.items →
+            IsOkUnless result VariantsError.Memory }
+        ensures mismatch { (index : ℕ) → IsErrOf result (VariantsError.TableMismatch index) →
+            FailsFirstAt (leaves_of (shapes nodes.now)) table.items index }
     {
         let tags = flatten(alloc, nodes)?;
         match tables::first_mismatch(&tags, &table) {

@@ -23,20 +23,29 @@ use std::hash::Hash;
 /// all names. What is hashed of a tag is its class and then its number. A clone is its source.
 pub fn derives_take_every_part()
     ensures class_eq { ComparesAll ⟦<Class as PartialEq>⟧.eq }
-    ensures class_cmp { (a b : Class) → ⟦<Class as Ord>⟧.cmp a b ≡ nat_cmp (class_number a) (class_number b) }
-    ensures class_hash { (a : Class) → ⟦<Class as Hash>⟧.hash_input a ≡ fed.isize (pos (class_number a)) }
+    ensures class_cmp { (a b : Class) → ⟦<Class as Ord>⟧.cmp a b ≡
+        nat_cmp (class_number a) (class_number b) }
+    ensures class_hash { (a : Class) → ⟦<Class as Hash>⟧.hash_input a ≡
+        fed.isize (pos (class_number a)) }
     ensures class_clone { ClonesAll ⟦<Class as Clone>⟧.is_clone ⟦<Class as Clone>⟧.is_infallible }
     ensures tag_eq { ComparesAll ⟦<Tag as PartialEq>⟧.eq }
     ensures tag_cmp { (a b : Tag) → ⟦<Tag as Ord>⟧.cmp a b ≡ tag_cmp a b }
-    ensures tag_hash { (a : Tag) → ⟦<Tag as Hash>⟧.hash_input a ≡ ⟦<Class as Hash>⟧.hash_input a.class ++ fed.u32 a.value }
+    ensures tag_hash { (a : Tag) → ⟦<Tag as Hash>⟧.hash_input a ≡
+        ⟦<Class as Hash>⟧.hash_input a.class ++ fed.u32 a.value }
     ensures tag_clone { ClonesAll ⟦<Tag as Clone>⟧.is_clone ⟦<Tag as Clone>⟧.is_infallible }
-    ensures tree_clone { ClonesAll ⟦<TagTree<'static> as Clone>⟧.is_clone ⟦<TagTree<'static> as Clone>⟧.is_infallible }
-    ensures name_eq { (a b : Identifier) → (IsTrue (⟦<Identifier as PartialEq>⟧.eq a b) ↔ (name_of a ≡ name_of b)) }
-    ensures name_cmp { (a b : Identifier) → ⟦<Identifier as Ord>⟧.cmp a b ≡ name_cmp (name_of a) (name_of b) }
-    ensures name_hash { (a : Identifier) → ⟦<Identifier as Hash>⟧.hash_input a ≡ fed.option fed.str (name_of a) }
-    ensures name_clone { ClonesAll ⟦<Identifier as Clone>⟧.is_clone ⟦<Identifier as Clone>⟧.is_infallible }
+    ensures tree_clone { ClonesAll ⟦<TagTree<'static> as Clone>⟧.is_clone
+        ⟦<TagTree<'static> as Clone>⟧.is_infallible }
+    ensures name_eq { (a b : Identifier) →
+        (IsTrue (⟦<Identifier as PartialEq>⟧.eq a b) ↔ (name_of a ≡ name_of b)) }
+    ensures name_cmp { (a b : Identifier) → ⟦<Identifier as Ord>⟧.cmp a b ≡
+        name_cmp (name_of a) (name_of b) }
+    ensures name_hash { (a : Identifier) → ⟦<Identifier as Hash>⟧.hash_input a ≡
+        fed.option fed.str (name_of a) }
+    ensures name_clone { ClonesAll ⟦<Identifier as Clone>⟧.is_clone
+        ⟦<Identifier as Clone>⟧.is_infallible }
     ensures error_eq { ComparesAll ⟦<VariantsError as PartialEq>⟧.eq }
-    ensures error_clone { ClonesAll ⟦<VariantsError as Clone>⟧.is_clone ⟦<VariantsError as Clone>⟧.is_infallible }
+    ensures error_clone { ClonesAll ⟦<VariantsError as Clone>⟧.is_clone
+        ⟦<VariantsError as Clone>⟧.is_infallible }
 {}
 
 /// What `tag!` gives for each of its four forms, in the order of the classes.

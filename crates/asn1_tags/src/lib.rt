@@ -31,7 +31,7 @@
 //! - `Ord` of trees is `tree_cmp` of `specs/Order.antt`, a total order by smallest tag and then by
 //!   structure, which answers `Equal` for trees of one shape alone (the clauses `same` and `equal`).
 //! - A `Variants` is seen as the list of the leaves (`tags`) and a `table` or none. `with_table`
-//!   succeeds, memory aside, if and only if the table fits (`TableFits`), and else says where it fails
+//!   succeeds, unless memory runs out, if and only if the table fits (`TableFits`), and else says where it fails
 //!   first (`FailsFirstAt`, the clause `mismatch`). `position_of` and `find_counted` give the first
 //!   place of a tag. `find_counted` also counts its comparisons of tags: with a table at most as many
 //!   as the length of the list has binary digits (the clause `few`), at most one for each tag in any

@@ -60,16 +60,16 @@ impl Identifier {
     /// CHOICE.
     pub const CHOICE: Identifier = Identifier(Some("CHOICE"));
 
-    /// EXTERNAL, by the name of the SEQUENCE that stands for it.
+    /// EXTERNAL, by the name of the SEQUENCE that represents it.
     pub const EXTERNAL: Identifier = Identifier(Some("SEQUENCE"));
 
-    /// EMBEDDED PDV, by the name of the SEQUENCE that stands for it.
+    /// EMBEDDED PDV, by the name of the SEQUENCE that represents it.
     pub const EMBEDDED_PDV: Identifier = Identifier(Some("SEQUENCE"));
 
-    /// INSTANCE OF, by the name of the SEQUENCE that stands for it.
+    /// INSTANCE OF, by the name of the SEQUENCE that represents it.
     pub const INSTANCE_OF: Identifier = Identifier(Some("SEQUENCE"));
 
-    /// CHARACTER STRING, by the name of the SEQUENCE that stands for it.
+    /// CHARACTER STRING, by the name of the SEQUENCE that represents it.
     pub const UNRESTRICTED_CHARACTER_STRING: Identifier = Identifier(Some("SEQUENCE"));
 
     /// BMPString.

@@ -72,7 +72,7 @@ impl PartialOrd for TagTree<'_> {
     }
 }
 
-/// Trees go by their smallest tag, and where that is the same, by structure: a leaf stands before a
+/// Trees go by their smallest tag, and where that is the same, by structure: a leaf comes before a
 /// choice, leaves go by tag, and choices lexicographically by the structure of their trees.
 impl Ord for TagTree<'_> {
     ghost cmp = { on shape tree_cmp };

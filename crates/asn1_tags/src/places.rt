@@ -11,7 +11,8 @@ use crate::trees::TagTree;
 // The place of the first leaf of the tree that is the tag, or how many leaves there are.
 #[cycle(find)]
 fn first_in(tree: &TagTree<'_>, tag: &Tag) -> Result<usize, usize>
-    ensures { length (leaves (shape tree.now)) < 2 ^ 64 → IsFirstPlaceOf tag.now (leaves (shape tree.now)) result }
+    ensures { length (leaves (shape tree.now)) < 2 ^ 64 →
+        IsFirstPlaceOf tag.now (leaves (shape tree.now)) result }
 {
     match tree {
         TagTree::Leaf(leaf) => { if leaf.const_eq(tag) { Ok(0) } else { Err(1) } }
@@ -22,7 +23,8 @@ fn first_in(tree: &TagTree<'_>, tag: &Tag) -> Result<usize, usize>
 // The place of the first leaf of the trees that is the tag, or how many leaves there are.
 #[cycle(find)]
 pub(crate) fn first_place(nodes: &[TagTree<'_>], tag: &Tag) -> Result<usize, usize>
-    ensures { length (leaves_of (shapes nodes.now)) < 2 ^ 64 → IsFirstPlaceOf tag.now (leaves_of (shapes nodes.now)) result }
+    ensures { length (leaves_of (shapes nodes.now)) < 2 ^ 64 →
+        IsFirstPlaceOf tag.now (leaves_of (shapes nodes.now)) result }
 {
     let mut passed: usize = 0;
     for node in nodes {

@@ -78,14 +78,14 @@ impl Tag {
         self.class as u8 == other.class as u8 && self.value == other.value
     }
 
-    /// Whether this tag stands before the other in the canonical order.
+    /// Whether this tag comes before the other in the canonical order.
     pub fn const_less_than(&self, other: Self) -> bool
         ensures { IsTrue result ↔ (tag_cmp self.now other ≡ Less) }
     {
         self.const_cmp(&other).is_lt()
     }
 
-    /// Whether this is the tag that stands for an untagged CHOICE.
+    /// Whether this is the CHOICE marker tag.
     pub fn is_choice(&self) -> bool
         ensures same { IsTrue result ↔ (self.now ≡ Tag.CHOICE) }
         ensures parts { result ≡ tag_eq self.now Tag.CHOICE }

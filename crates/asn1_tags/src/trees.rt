@@ -36,7 +36,7 @@ impl TagTree<'_> {
         walks::smallest_leaf(self).unwrap_or(Tag::new(Class::Private, u32::MAX))
     }
 
-    /// Whether no tag stands at two leaves of the tree.
+    /// Whether no tag is at two leaves of the tree.
     #[tactic(auto, using(crate::proofs::Distinct::tag_tests))]
     pub fn is_unique(&self) -> bool
         ensures { IsTrue result ↔ AllPairs (λ s t. s ≢ t) (leaves (shape self.now)) }
@@ -44,7 +44,7 @@ impl TagTree<'_> {
         walks::has_distinct_leaves(self)
     }
 
-    /// Whether no tag stands at two leaves of the trees, taken together.
+    /// Whether no tag is at two leaves of the trees, taken together.
     #[tactic(auto, using(crate::proofs::Distinct::tag_tests))]
     pub fn is_unique_set(nodes: &[TagTree<'_>]) -> bool
         ensures { IsTrue result ↔ AllPairs (λ s t. s ≢ t) (leaves_of (shapes nodes.now)) }
@@ -60,7 +60,7 @@ impl TagTree<'_> {
         walks::have_leaf(nodes, tag)
     }
 
-    /// Whether a choice of nothing stands anywhere in the tree. A type of such a tree can begin with any tag.
+    /// Whether a choice of nothing is anywhere in the tree. A type of such a tree can begin with any tag.
     pub fn has_empty_choice(&self) -> bool
         ensures { result ≡ is_open (shape self.now) }
     {
@@ -70,14 +70,16 @@ impl TagTree<'_> {
     /// Whether some tag is a leaf of both trees.
     #[tactic(auto, using(crate::proofs::Distinct::common_tags, crate::proofs::Leaves::alone))]
     pub fn shares_leaf(&self, other: &TagTree<'_>) -> bool
-        ensures { IsTrue result ↔ HaveCommonTag (leaves (shape self.now)) (leaves (shape other.now)) }
+        ensures { IsTrue result ↔
+            HaveCommonTag (leaves (shape self.now)) (leaves (shape other.now)) }
     {
         walks::shares_leaf(self, slice::from_ref(other))
     }
 
     /// How many leaves the trees have together, and `None` where the number does not fit.
     pub fn leaf_count(nodes: &[TagTree<'_>]) -> Option<usize>
-        ensures { let count = length (leaves_of (shapes nodes.now)) in SomeIff result (count < 2 ^ 64) count }
+        ensures { let count = length (leaves_of (shapes nodes.now)) in
+            SomeIff result (count < 2 ^ 64) count }
     {
         walks::leaf_count(nodes)
     }
@@ -87,7 +89,8 @@ impl TagTree<'_> {
     pub fn leaf_position(tag: &Tag, nodes: &[TagTree<'_>]) -> Option<usize>
         requires { length (leaves_of (shapes nodes.now)) < 2 ^ 64 }
         ensures first { result ≡ position_of tag.now (leaves_of (shapes nodes.now)) }
-        ensures back { IfSome result (λ place. slice_get (leaves_of (shapes nodes.now)) place ≡ Some tag.now) }
+        ensures back { IfSome result (λ place. slice_get (leaves_of (shapes nodes.now)) place ≡
+            Some tag.now) }
     {
         places::first_place(nodes, tag).ok()
     }
@@ -98,8 +101,9 @@ impl TagTree<'_> {
         requires { length (leaves_of (shapes nodes.now)) < 2 ^ 64 }
         ensures leaf { result ≡ slice_get (leaves_of (shapes nodes.now)) place }
 
-        // Where each tag stands once, the place of the leaf is the place that was asked for.
-        ensures back { let tags = leaves_of (shapes nodes.now) in AllPairs (λ s t. s ≢ t) tags → IfSome result (λ tag. position_of tag tags ≡ Some place) }
+        // Where each tag occurs once, the place of the leaf is the place that was asked for.
+        ensures back { let tags = leaves_of (shapes nodes.now) in AllPairs (λ s t. s ≢ t) tags →
+            IfSome result (λ tag. position_of tag tags ≡ Some place) }
     {
         places::leaf_after(nodes, place).ok()
     }

@@ -37,7 +37,8 @@ pub(crate) fn have_leaf(nodes: &[TagTree<'_>], tag: &Tag) -> bool
 // How many leaves the tree has, if the number fits.
 #[cycle(count)]
 fn leaf_number(tree: &TagTree<'_>) -> Option<usize>
-    ensures { let number = length (leaves (shape tree.now)) in SomeIff result (number < 2 ^ 64) number }
+    ensures { let number = length (leaves (shape tree.now)) in
+        SomeIff result (number < 2 ^ 64) number }
 {
     match tree {
         TagTree::Leaf(_) => Some(1),
@@ -48,7 +49,8 @@ fn leaf_number(tree: &TagTree<'_>) -> Option<usize>
 // How many leaves the trees have together, if the number fits.
 #[cycle(count)]
 pub(crate) fn leaf_count(nodes: &[TagTree<'_>]) -> Option<usize>
-    ensures { let number = length (leaves_of (shapes nodes.now)) in SomeIff result (number < 2 ^ 64) number }
+    ensures { let number = length (leaves_of (shapes nodes.now)) in
+        SomeIff result (number < 2 ^ 64) number }
 {
     let mut count: usize = 0;
     for node in nodes {
@@ -91,7 +93,7 @@ fn lesser(first: Option<Tag>, second: Option<Tag>) -> Option<Tag>
     }
 }
 
-// Whether a choice of nothing stands anywhere in the tree.
+// Whether a choice of nothing is anywhere in the tree.
 #[cycle(open)]
 #[tactic(auto, using(crate::proofs::Leaves::openings))]
 pub(crate) fn has_empty_choice(tree: &TagTree<'_>) -> bool
@@ -103,7 +105,7 @@ pub(crate) fn has_empty_choice(tree: &TagTree<'_>) -> bool
     }
 }
 
-// Whether a choice of nothing stands anywhere in one of the trees.
+// Whether a choice of nothing is anywhere in one of the trees.
 #[cycle(open)]
 #[tactic(auto, using(crate::proofs::Leaves::openings))]
 fn have_empty_choice(nodes: &[TagTree<'_>]) -> bool
@@ -141,7 +143,7 @@ fn share_leaf(nodes: &[TagTree<'_>], others: &[TagTree<'_>]) -> bool
     false
 }
 
-// Whether no tag stands at two leaves of the tree.
+// Whether no tag is at two leaves of the tree.
 #[cycle(distinct)]
 #[tactic(auto, using(crate::proofs::Leaves::repeats))]
 pub(crate) fn has_distinct_leaves(tree: &TagTree<'_>) -> bool
@@ -153,7 +155,7 @@ pub(crate) fn has_distinct_leaves(tree: &TagTree<'_>) -> bool
     }
 }
 
-// Whether no tag stands at two leaves of the trees together.
+// Whether no tag is at two leaves of the trees together.
 #[cycle(distinct)]
 #[tactic(auto, using(crate::proofs::Leaves::repeats))]
 pub(crate) fn have_distinct_leaves(nodes: &[TagTree<'_>]) -> bool

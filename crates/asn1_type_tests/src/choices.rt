@@ -1,14 +1,15 @@
 //! What the definitions give for a few CHOICE types, written out by hand, and their tables.
 //!
 //! The clauses of the functions without a body are worked examples: the prover computes the definitions on them.
-ghost use Rattle.std.specs.Prelude.{◌≡◌, ℕ, Bool, List, pos, true, [], ◌∷◌, None, Some, codes};
+ghost use Rattle.std.specs.Prelude.{◌≡◌, ℕ, Bool, List, pos, true, false, [], ◌∷◌, Some, codes};
+ghost use Rattle.asn1_tags.specs.Trees.{leaf};
 ghost use Rattle.asn1_ranges.specs.declared.bounded.Bounded.TheVariants.{Range};
 ghost use Rattle.asn1_model.specs.ConstraintSets.{unconstrained, values_of};
 ghost use Rattle.asn1_model.specs.Meaning.{CanStandInside, own_records};
 ghost use Rattle.asn1_model.specs.Records.{scalar, holding, prefix, alternative as chosen, number, truth};
 ghost use Rattle.asn1_model.specs.TaggedTypes.{tagged, untagged};
 ghost use Rattle.asn1_model.specs.Tags.{universal, context, only, first_tags};
-ghost use Rattle.asn1_choices.specs.Alternatives.{alternative, closed, extensible, variance_of};
+ghost use Rattle.asn1_choices.specs.Alternatives.{alternative, closed, extensible, table_of, variance_of};
 ghost use Rattle.asn1_choices.specs.ChoiceTypes.{choice_of};
 ghost use Rattle.asn1_recursive.specs.declared.nested.Nested.TheVariants.{Flag, Inner};
 ghost use Rattle.asn1_type_tests.specs.declared.choices.reply.Reply.TheVariants as reply;
@@ -43,27 +44,37 @@ fn same_tag_twice()
 /// The records of a value of each.
 fn records()
     ensures corner { own_records ⟦<Corner as AsnType>⟧.meaning (corner.Left true) ≡
-        holding (chosen (universal 1) unconstrained (Some (codes "Corner"))) (
+        holding (chosen (universal 1) unconstrained (table_of ⟦<Corner as asn1_choices::Choice>⟧.alternatives) (Some (codes "Corner"))) (
         scalar (universal 1) unconstrained (Some (codes "BOOLEAN")) (truth true) ∷ []) ∷ [] }
     ensures ring { own_records ⟦<Shape as AsnType>⟧.meaning (shape.Ring 7) ≡
-        holding (chosen (context 0) unconstrained (Some (codes "Shape"))) (
+        holding (chosen (context 0) unconstrained (table_of ⟦<Shape as asn1_choices::Choice>⟧.alternatives) (Some (codes "Shape"))) (
         scalar (context 0) (values_of (Range (Some (pos 0)) (Some (pos 65535)))) (Some (codes "INTEGER")) (number (pos 7)) ∷ []) ∷ [] }
     ensures inner { own_records ⟦<Shape as AsnType>⟧.meaning (shape.Inner (corner.Left true)) ≡
-        holding (chosen (universal 1) unconstrained (Some (codes "Shape"))) (
-        holding (chosen (universal 1) unconstrained (Some (codes "Corner"))) (
+        holding (chosen (universal 1) unconstrained (table_of ⟦<Shape as asn1_choices::Choice>⟧.alternatives) (Some (codes "Shape"))) (
+        holding (chosen (universal 1) unconstrained (table_of ⟦<Corner as asn1_choices::Choice>⟧.alternatives) (Some (codes "Corner"))) (
         scalar (universal 1) unconstrained (Some (codes "BOOLEAN")) (truth true) ∷ []) ∷ []) ∷ [] }
     ensures later { own_records ⟦<Reply as AsnType>⟧.meaning (reply.Later 9) ≡
-        holding (chosen (context 0) unconstrained (Some (codes "Reply"))) (
+        holding (chosen (context 0) unconstrained (table_of ⟦<Reply as asn1_choices::Choice>⟧.alternatives) (Some (codes "Reply"))) (
         scalar (context 0) (values_of (Range (Some (pos 0)) (Some (pos 255)))) (Some (codes "INTEGER")) (number (pos 9)) ∷ []) ∷ [] }
 {}
 
 /// `inner : flag : TRUE`, whose inner value is under an explicit tag.
 fn nested(inner: Box<Nested>)
     ensures { inner.value ≡ Flag true → own_records ⟦<Nested as AsnType>⟧.meaning (Inner inner) ≡
-        holding (chosen (context 0) unconstrained (Some (codes "Nested"))) (
+        holding (chosen (context 0) unconstrained (table_of ⟦<Nested as asn1_choices::Choice>⟧.alternatives) (Some (codes "Nested"))) (
         holding (prefix (context 0) (Some (codes "Nested"))) (
-        holding (chosen (universal 1) unconstrained (Some (codes "Nested"))) (
+        holding (chosen (universal 1) unconstrained (table_of ⟦<Nested as asn1_choices::Choice>⟧.alternatives) (Some (codes "Nested"))) (
         scalar (universal 1) unconstrained (Some (codes "BOOLEAN")) (truth true) ∷ []) ∷ []) ∷ []) ∷ [] }
+{}
+
+/// The table beside a chosen alternative: the names and tags of those in the root, and of those after the extension marker.
+fn table_of_replies()
+    ensures { table_of ⟦<Reply as Choice>⟧.alternatives ≡ record {
+      root = record { name = codes "accepted"; tree = leaf (universal 1); may_be_absent = false } ∷
+          record { name = codes "refused"; tree = leaf (universal 5); may_be_absent = false } ∷ [];
+      additions = Some (
+          record { name = codes "later"; tree = leaf (context 0); may_be_absent = false } ∷ []);
+    } }
 {}
 
 /// The constraint of an alternative's place counts those of the root, and is extensible where there is a marker.

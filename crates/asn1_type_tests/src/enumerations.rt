@@ -1,7 +1,19 @@
 //! An ENUMERATED type with a value after the extension marker.
+ghost use Rattle.std.specs.Prelude.{◌≡◌, [], ◌∷◌, Some, pos, codes};
+ghost use Rattle.asn1_enumerations.specs.Labels.{labels_of};
+
 use asn1_enumerations::{Enumerated, EnumeratedTable, written_number};
 use asn1_samples::Color;
 use std::process::Abort;
+
+/// The labels beside a number: those of the root, and those after the extension marker.
+fn labels_of_colors()
+    ensures { labels_of ⟦<Color as Enumerated>⟧.enumeration ≡ record {
+      root = record { number = pos 0; name = codes "red" } ∷
+          record { number = pos 1; name = codes "green" } ∷ [];
+      additions = Some (record { number = pos 5; name = codes "blue" } ∷ []);
+    } }
+{}
 
 fn assert_color(rt: &impl Abort, color: Color, number: isize, name: &str) {
     assert!(rt; color.discriminant() == number && color.identifier() == name);

@@ -9,8 +9,10 @@ ghost use Rattle.asn1_model.specs.ConstraintSets.{characters_of, unconstrained, 
 ghost use Rattle.asn1_model.specs.Kinds.{enumerated_type, scalar_type, under_own_name};
 ghost use Rattle.asn1_model.specs.Meaning.{own_records};
 ghost use Rattle.asn1_model.specs.Orders.{Same};
-ghost use Rattle.asn1_model.specs.Records.{Record, scalar, raw, mark, holding, sequence, set as set_head, set_of, sequence_of, prefix, alternative, present, absent, group_start, group_absent, group_end, null, number, discriminant, units, utf8, visible, ia5, highest};
+ghost use Rattle.asn1_model.specs.Records.{Record, scalar, raw, mark, holding, sequence, set as set_head, set_of, sequence_of, prefix, alternative, in_root, present, absent, group_start, group_absent, group_end, null, number, discriminant, units, utf8, visible, ia5, highest};
+ghost use Rattle.asn1_model.specs.Tables.{no_table};
 ghost use Rattle.asn1_model.specs.Tags.{universal, context, CHOICE, every, among, only, first_tags};
+ghost use Rattle.asn1_model.specs.WellFormed.{AreWellFormed};
 
 use asn1_bounds::{Bounded, ConstraintTable, Constraints, Size};
 use asn1_model::{AsnType, TypeTable, tag};
@@ -24,10 +26,10 @@ use std::process::Abort;
 /// `Person { age: 30, name: "Ann" }`, a SEQUENCE of an INTEGER and a UTF8String.
 fn person(age: &Integer, name: &String)
     ensures { age.now ≡ pos 30 → string_bytes name.now ≡ codes "Ann" →
-        sequence_records (universal 16) (Some (codes "Person")) (
+        sequence_records (universal 16) no_table (Some (codes "Person")) (
         own_records ⟦<Integer as AsnType>⟧.meaning age.now ++
         own_records ⟦<String as AsnType>⟧.meaning name.now) ≡
-        holding (sequence (universal 16) (Some (codes "Person"))) (
+        holding (sequence (universal 16) no_table (Some (codes "Person"))) (
         scalar (universal 2) unconstrained (Some (codes "INTEGER")) (number (pos 30)) ∷
         scalar (universal 12) unconstrained (Some (codes "UTF8String")) (units utf8 (codes "Ann")) ∷ []) ∷ [] }
 {}
@@ -35,62 +37,62 @@ fn person(age: &Integer, name: &String)
 /// `Profile { nick: None, level: 7, color: Red, contact: None }`, a SEQUENCE of an optional UTF8String [0], an INTEGER [1]
 /// from 0 to 255, an ENUMERATED [2] that is its default, and a group.
 fn profile_without_options()
-    ensures { sequence_records (universal 16) (Some (codes "Profile")) (
+    ensures { sequence_records (universal 16) no_table (Some (codes "Profile")) (
         ⟦<Option<String> as AsnType>⟧.meaning.records None (context 0) unconstrained ⟦<String as AsnType>⟧.meaning.name ++
         ⟦<u8 as AsnType>⟧.meaning.records 7 (context 1) ⟦<u8 as AsnType>⟧.meaning.constraints ⟦<u8 as AsnType>⟧.meaning.name ++
-        default_records true (context 2) (scalar (context 2) unconstrained (Some (codes "Color")) (discriminant (pos 0)) ∷ []) ++
-        group_records None) ≡
-        holding (sequence (universal 16) (Some (codes "Profile"))) (
-        mark (absent (context 0)) ∷
+        default_records in_root true (context 2) (scalar (context 2) unconstrained (Some (codes "Color")) (discriminant no_table (pos 0)) ∷ []) ++
+        group_records no_table None) ≡
+        holding (sequence (universal 16) no_table (Some (codes "Profile"))) (
+        mark (absent in_root (context 0)) ∷
         scalar (context 1) (values_of (Range (Some (pos 0)) (Some (pos 255)))) (Some (codes "INTEGER")) (number (pos 7)) ∷
-        mark (absent (context 2)) ∷
+        mark (absent in_root (context 2)) ∷
         mark group_absent ∷ []) ∷ [] }
 {}
 
 /// `Profile { nick: Some("Al"), level: 255, color: Blue, contact: Some(Contact { phone: None, mail: Some("a@b") }) }`.
 fn profile_with_options(nick: &String, mail: &Ia5String)
     ensures { string_bytes nick.now ≡ codes "Al" → mail.now ≡ codes "a@b" →
-        sequence_records (universal 16) (Some (codes "Profile")) (
+        sequence_records (universal 16) no_table (Some (codes "Profile")) (
         ⟦<Option<String> as AsnType>⟧.meaning.records (Some nick.now) (context 0) unconstrained ⟦<String as AsnType>⟧.meaning.name ++
         ⟦<u8 as AsnType>⟧.meaning.records 255 (context 1) ⟦<u8 as AsnType>⟧.meaning.constraints ⟦<u8 as AsnType>⟧.meaning.name ++
-        default_records false (context 2) (scalar (context 2) unconstrained (Some (codes "Color")) (discriminant (pos 5)) ∷ []) ++
-        group_records (Some (
+        default_records in_root false (context 2) (scalar (context 2) unconstrained (Some (codes "Color")) (discriminant no_table (pos 5)) ∷ []) ++
+        group_records no_table (Some (
         ⟦<Option<NumericString> as AsnType>⟧.meaning.records None (context 3) unconstrained ⟦<NumericString as AsnType>⟧.meaning.name ++
         ⟦<Option<Ia5String> as AsnType>⟧.meaning.records (Some mail.now) (context 4) unconstrained ⟦<Ia5String as AsnType>⟧.meaning.name))) ≡
-        holding (sequence (universal 16) (Some (codes "Profile"))) (
-        mark (present (context 0)) ∷
+        holding (sequence (universal 16) no_table (Some (codes "Profile"))) (
+        mark (present in_root (context 0)) ∷
         scalar (context 0) unconstrained (Some (codes "UTF8String")) (units utf8 (codes "Al")) ∷
         scalar (context 1) (values_of (Range (Some (pos 0)) (Some (pos 255)))) (Some (codes "INTEGER")) (number (pos 255)) ∷
-        mark (present (context 2)) ∷
-        scalar (context 2) unconstrained (Some (codes "Color")) (discriminant (pos 5)) ∷
-        mark group_start ∷
-        mark (absent (context 3)) ∷
-        mark (present (context 4)) ∷
+        mark (present in_root (context 2)) ∷
+        scalar (context 2) unconstrained (Some (codes "Color")) (discriminant no_table (pos 5)) ∷
+        mark (group_start no_table) ∷
+        mark (absent in_root (context 3)) ∷
+        mark (present in_root (context 4)) ∷
         scalar (context 4) unconstrained (Some (codes "IA5String")) (units ia5 (codes "a@b")) ∷
         mark group_end ∷ []) ∷ [] }
 {}
 
 /// `Settings { entry }` where the entry equals its default, and where it is another: of the key 2 and the note 9.
 fn settings(key: u8, note: u8)
-    ensures by_default { sequence_records (universal 16) (Some (codes "Settings")) (
-        default_records true (context 0) (sequence_records (context 0) (Some (codes "Labelled")) (
+    ensures by_default { sequence_records (universal 16) no_table (Some (codes "Settings")) (
+        default_records in_root true (context 0) (sequence_records (context 0) no_table (Some (codes "Labelled")) (
         ⟦<u8 as AsnType>⟧.meaning.records key (context 0) unconstrained None ++
         ⟦<u8 as AsnType>⟧.meaning.records note (context 1) unconstrained None))) ≡
-        holding (sequence (universal 16) (Some (codes "Settings"))) (mark (absent (context 0)) ∷ []) ∷ [] }
-    ensures another { sequence_records (universal 16) (Some (codes "Settings")) (
-        default_records false (context 0) (sequence_records (context 0) (Some (codes "Labelled")) (
+        holding (sequence (universal 16) no_table (Some (codes "Settings"))) (mark (absent in_root (context 0)) ∷ []) ∷ [] }
+    ensures another { sequence_records (universal 16) no_table (Some (codes "Settings")) (
+        default_records in_root false (context 0) (sequence_records (context 0) no_table (Some (codes "Labelled")) (
         ⟦<u8 as AsnType>⟧.meaning.records 2 (context 0) ⟦<u8 as AsnType>⟧.meaning.constraints ⟦<u8 as AsnType>⟧.meaning.name ++
         ⟦<u8 as AsnType>⟧.meaning.records 9 (context 1) ⟦<u8 as AsnType>⟧.meaning.constraints ⟦<u8 as AsnType>⟧.meaning.name))) ≡
-        holding (sequence (universal 16) (Some (codes "Settings"))) (
-        mark (present (context 0)) ∷
-        holding (sequence (context 0) (Some (codes "Labelled"))) (
+        holding (sequence (universal 16) no_table (Some (codes "Settings"))) (
+        mark (present in_root (context 0)) ∷
+        holding (sequence (context 0) no_table (Some (codes "Labelled"))) (
         scalar (context 0) (values_of (Range (Some (pos 0)) (Some (pos 255)))) (Some (codes "INTEGER")) (number (pos 2)) ∷
         scalar (context 1) (values_of (Range (Some (pos 0)) (Some (pos 255)))) (Some (codes "INTEGER")) (number (pos 9)) ∷ []) ∷ []) ∷ [] }
 {}
 
 /// A group whose components are marks alone is absent.
 fn empty_group()
-    ensures { group_records (Some (option_records (context 3) None ++ option_records (context 4) None)) ≡
+    ensures { group_records no_table (Some (option_records in_root (context 3) None ++ option_records in_root (context 4) None)) ≡
         mark group_absent ∷ [] }
 {}
 
@@ -114,19 +116,19 @@ fn pair(octets: [u8; 2])
 /// A CHOICE of a NULL, untagged and under Context 1: untagged it has the constraints and the name that it is given, and
 /// under a tag its own within.
 fn choice()
-    ensures untagged { choice_records (universal 5) (scalar (universal 5) unconstrained None null ∷ []) (size_of 1) (Some (codes "C")) CHOICE (size_of 2) (Some (codes "n")) ≡
-        holding (alternative (universal 5) (size_of 2) (Some (codes "n"))) (scalar (universal 5) unconstrained None null ∷ []) ∷ [] }
-    ensures unnamed { choice_records (universal 5) [] (size_of 1) (Some (codes "C")) CHOICE (size_of 2) None ≡
-        holding (alternative (universal 5) (size_of 2) (Some (codes "C"))) [] ∷ [] }
-    ensures tagged { choice_records (universal 5) (scalar (universal 5) unconstrained None null ∷ []) (size_of 1) (Some (codes "C")) (context 1) (size_of 2) (Some (codes "n")) ≡
+    ensures untagged { choice_records (universal 5) no_table (scalar (universal 5) unconstrained None null ∷ []) (size_of 1) (Some (codes "C")) CHOICE (size_of 2) (Some (codes "n")) ≡
+        holding (alternative (universal 5) (size_of 2) no_table (Some (codes "n"))) (scalar (universal 5) unconstrained None null ∷ []) ∷ [] }
+    ensures unnamed { choice_records (universal 5) no_table [] (size_of 1) (Some (codes "C")) CHOICE (size_of 2) None ≡
+        holding (alternative (universal 5) (size_of 2) no_table (Some (codes "C"))) [] ∷ [] }
+    ensures tagged { choice_records (universal 5) no_table (scalar (universal 5) unconstrained None null ∷ []) (size_of 1) (Some (codes "C")) (context 1) (size_of 2) (Some (codes "n")) ≡
         holding (prefix (context 1) (Some (codes "n"))) (
-        holding (alternative (universal 5) (size_of 1) (Some (codes "C"))) (scalar (universal 5) unconstrained None null ∷ []) ∷ []) ∷ [] }
+        holding (alternative (universal 5) (size_of 1) no_table (Some (codes "C"))) (scalar (universal 5) unconstrained None null ∷ []) ∷ []) ∷ [] }
 {}
 
 /// The word for enumerations.
 fn enumerations()
-    ensures { own_records (enumerated_type (universal 10) (size_of 1) (Some (codes "E")) (λ number. number)) (pos 5) ≡
-        scalar (universal 10) unconstrained (Some (codes "E")) (discriminant (pos 5)) ∷ [] }
+    ensures { own_records (enumerated_type (universal 10) (size_of 1) (Some (codes "E")) no_table (λ number. number)) (pos 5) ≡
+        scalar (universal 10) unconstrained (Some (codes "E")) (discriminant no_table (pos 5)) ∷ [] }
 {}
 
 /// What values have by their types: numbers within the range of a built-in integer, elements as many as an array has, and
@@ -160,34 +162,50 @@ fn well_tagged_types()
 
 /// The order means nothing in a SET and in a SET OF, also within other records, and something in a SEQUENCE.
 fn sameness()
-    ensures set { (r s : Record) → Same (holding (set_head (universal 17) None) (r ∷ s ∷ [])) (holding (set_head (universal 17) None) (s ∷ r ∷ [])) }
+    ensures set { (r s : Record) → Same (holding (set_head (universal 17) no_table None) (r ∷ s ∷ [])) (holding (set_head (universal 17) no_table None) (s ∷ r ∷ [])) }
     ensures inside { (r s : Record) →
-        Same (holding (sequence (universal 16) None) (holding (set_of (universal 17) unconstrained None) (r ∷ s ∷ []) ∷ []))
-        (holding (sequence (universal 16) None) (holding (set_of (universal 17) unconstrained None) (s ∷ r ∷ []) ∷ [])) }
-    ensures sequence { ¬ Same (holding (sequence (universal 16) None) (raw None [] ∷ mark group_start ∷ []))
-        (holding (sequence (universal 16) None) (mark group_start ∷ raw None [] ∷ [])) }
+        Same (holding (sequence (universal 16) no_table None) (holding (set_of (universal 17) unconstrained None) (r ∷ s ∷ []) ∷ []))
+        (holding (sequence (universal 16) no_table None) (holding (set_of (universal 17) unconstrained None) (s ∷ r ∷ []) ∷ [])) }
+    ensures sequence { ¬ Same (holding (sequence (universal 16) no_table None) (raw None [] ∷ mark (group_start no_table) ∷ []))
+        (holding (sequence (universal 16) no_table None) (mark (group_start no_table) ∷ raw None [] ∷ [])) }
     ensures contents { ¬ Same (raw None []) (raw None (0 ∷ [])) }
 {}
 
 /// Heights: of contents and marks 0, of a scope one more than what stands in it, and 1 where nothing does.
 fn heights()
     ensures nothing { highest [] ≡ 0 }
-    ensures flat { highest (mark group_start ∷ raw None [] ∷ mark group_end ∷ []) ≡ 0 }
-    ensures empty { highest (sequence_records (universal 16) None []) ≡ 1 }
-    ensures inner { highest (mark (present (context 0)) ∷
-        prefix_records (context 0) None (sequence_records (universal 16) None (mark (absent (context 1)) ∷ []))) ≡ 2 }
+    ensures flat { highest (mark (group_start no_table) ∷ raw None [] ∷ mark group_end ∷ []) ≡ 0 }
+    ensures empty { highest (sequence_records (universal 16) no_table None []) ≡ 1 }
+    ensures inner { highest (mark (present in_root (context 0)) ∷
+        prefix_records (context 0) None (sequence_records (universal 16) no_table None (mark (absent in_root (context 1)) ∷ []))) ≡ 2 }
 {}
 
 /// First tags: marks are passed over, and a value that stands as its bytes may begin with every tag.
 fn firsts()
-    ensures nothing { first_tags (mark (absent (context 0)) ∷ mark group_absent ∷ []) ≡ among [] }
-    ensures one { first_tags (mark group_start ∷ mark (present (context 3)) ∷
+    ensures nothing { first_tags (mark (absent in_root (context 0)) ∷ mark group_absent ∷ []) ≡ among [] }
+    ensures one { first_tags (mark (group_start no_table) ∷ mark (present in_root (context 3)) ∷
         scalar (context 3) unconstrained None null ∷ raw None [] ∷ []) ≡ only (context 3) }
-    ensures any { first_tags (mark (present CHOICE) ∷ raw None [] ∷ []) ≡ every }
-    ensures scope { first_tags (mark (absent (context 0)) ∷ sequence_records (universal 16) None (mark group_absent ∷ [])) ≡ only (universal 16) }
-    ensures under_a_tag { first_tags (mark (present (context 0)) ∷
-        prefix_records (context 0) None (sequence_records (universal 16) None (mark group_absent ∷ []))) ≡ only (context 0) }
-    ensures chosen { first_tags (holding (alternative (context 2) unconstrained None) [] ∷ []) ≡ only (context 2) }
+    ensures any { first_tags (mark (present in_root CHOICE) ∷ raw None [] ∷ []) ≡ every }
+    ensures scope { first_tags (mark (absent in_root (context 0)) ∷ sequence_records (universal 16) no_table None (mark group_absent ∷ [])) ≡ only (universal 16) }
+    ensures under_a_tag { first_tags (mark (present in_root (context 0)) ∷
+        prefix_records (context 0) None (sequence_records (universal 16) no_table None (mark group_absent ∷ []))) ≡ only (context 0) }
+    ensures chosen { first_tags (holding (alternative (context 2) unconstrained no_table None) [] ∷ []) ≡ only (context 2) }
+{}
+
+/// Well-formed records: an open type holds bytes that the codec takes, and an alternative the first tag of what is inside, also
+/// within other records. Of contents and presence marks nothing is asked.
+fn well_formed_records()
+    ensures contents { (takes : List ℕ → Bool) →
+        AreWellFormed takes (scalar (context 0) unconstrained None null ∷ mark group_absent ∷ []) }
+    ensures taken { AreWellFormed (λ bytes. true) (raw None (0 ∷ []) ∷ []) }
+    ensures not_taken { ¬ AreWellFormed (λ bytes. false)
+        (prefix_records (context 0) None (raw None (0 ∷ []) ∷ [])) }
+    ensures chosen { (takes : List ℕ → Bool) →
+        AreWellFormed takes (holding (alternative (context 2) unconstrained no_table None)
+        (scalar (context 2) unconstrained None null ∷ []) ∷ []) }
+    ensures another { (takes : List ℕ → Bool) →
+        ¬ AreWellFormed takes (holding (alternative (context 1) unconstrained no_table None)
+        (scalar (context 2) unconstrained None null ∷ []) ∷ []) }
 {}
 
 /// Asserts what the tables of a type say: its tag, its name, and the text of its constraints.

@@ -8,6 +8,7 @@ ghost use Rattle.asn1_model.specs.ConstraintSets.{unconstrained};
 ghost use Rattle.asn1_model.specs.Meaning.{own_records, tags};
 ghost use Rattle.asn1_model.specs.Records.{scalar, raw, holding, sequence, sequence_of, set_of, prefix, truth as truth_of, arcs, units, utf8};
 ghost use Rattle.asn1_model.specs.Tags.{universal, context, CHOICE, every};
+ghost use Rattle.asn1_components.specs.Components.{lines};
 ghost use Rattle.asn1_types.specs.Multisets.{same_counts};
 
 mod arrays;
@@ -82,7 +83,7 @@ fn explicit_truth(truth: &Explicit<tag::SET, bool>)
 fn instance_of_truth(instance: &InstanceOf<bool>)
     ensures { instance.now.type_id ≡ 1 ∷ 2 ∷ [] → instance.now.value ≡ true →
         own_records ⟦<InstanceOf<bool> as AsnType>⟧.meaning instance.now ≡
-        holding (sequence (universal 8) (Some (codes "SEQUENCE"))) (
+        holding (sequence (universal 8) (lines ⟦<InstanceOf<bool> as asn1_components::FieldTable>⟧.components) (Some (codes "SEQUENCE"))) (
         scalar (universal 6) unconstrained (Some (codes "OBJECT_IDENTIFIER")) (arcs (1 ∷ 2 ∷ [])) ∷
         holding (prefix (context 0) (Some (codes "SEQUENCE"))) (
         scalar (universal 1) unconstrained (Some (codes "BOOLEAN")) (truth_of true) ∷ []) ∷ []) ∷ [] }

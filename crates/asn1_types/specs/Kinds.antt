@@ -33,9 +33,10 @@ any_type bytes = record {
   IsOfType = λ _. ⊤;
   IsValid = λ takes v. IsTrue (takes (bytes v));
   one_record = λ v t c n _ _. record { item = raw n (bytes v); alone = refl; no_mark = refl; within = tt };
+  well_formed = λ takes v t c n valid. (valid, tt);
 }
 
--- A type under another tag, which replaces its own (X.680, 31). The tag is not the one that stands for none, and a value
+-- A type under another tag, which replaces its own (X.680, 31). The tag is not the CHOICE marker tag, and a value
 -- of the content begins with it alone: so the content is no open type.
 abbrev pub implicit_type : {V W : Type 0} → Tag → (W → V) → Meaning V → Meaning W
 implicit_type tag content m = record {
@@ -50,6 +51,7 @@ implicit_type tag content m = record {
   IsWellTagged = λ t. IsATag t × m.IsWellTagged t × (tags m t ≡ only t);
   IsOfType = λ w. m.IsOfType (content w);
   IsValid = λ takes w. m.IsValid takes (content w);
+  well_formed = λ takes w. m.well_formed takes (content w);
   one_record = λ w t c n single well.
       let one = m.one_record (content w) t c n single well.1 in
       record {
@@ -60,7 +62,7 @@ implicit_type tag content m = record {
       };
 }
 
--- A type after another tag, which stands before its own (X.680, 31). The tag is not the one that stands for none.
+-- A type after another tag, which comes before its own (X.680, 31). The tag is not the CHOICE marker tag.
 abbrev pub explicit_type : {V W : Type 0} → Tag → (W → V) → Meaning V → Meaning W
 explicit_type tag content m =
     scope_type (λ t c n. prefix t n) (λ _ _ _. refl) tag unconstrained None (record {
@@ -68,6 +70,7 @@ explicit_type tag content m =
       CanStandInside = CanStandInside m;
       AreOfType = λ w. m.IsOfType (content w);
       AreValid = λ takes w. m.IsValid takes (content w);
+      well_formed = λ takes w. m.well_formed takes (content w) m.tag m.constraints m.name;
     })
 
 -- The components of an INSTANCE OF (X.681, annex C): the name of a type, and a value of the type after the explicit tag

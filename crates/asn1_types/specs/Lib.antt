@@ -1,3 +1,4 @@
+pub mod AnyStrings
 pub mod Multisets
 pub mod MultisetLaws
 pub mod Kinds
@@ -9,4 +10,5 @@ pub use Rattle.asn1_model.specs.ConstraintSets
 pub use Rattle.asn1_model.specs.Meaning
 pub use Rattle.asn1_model.specs.Orders
 pub use Rattle.asn1_model.specs.Records
+pub use Rattle.asn1_model.specs.Tables
 pub use Rattle.asn1_model.specs.Tags

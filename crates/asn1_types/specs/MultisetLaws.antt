@@ -192,7 +192,7 @@ module _ {T : Type 0} {eq : T → T → Bool} (laws : IsPartialEquivalence eq) w
       (both_true kept.0 (eq-eqb _ _ (one_less z x xs ys one (eqb-true (count_of eq z (x ∷ xs)) (count_of eq z ys) kept.1))))
       (all_one_less zs x xs ys one parts.1)
 
-  -- an element that stands in the second list as often as in the first, where it is the front, can be taken from it
+  -- an element that is in the second list as often as in the first, where it is the front, can be taken from it
   take_first : (x : T) (xs ys : List T) → (eq x x && (count_of eq x (x ∷ xs) == count_of eq x ys)) ≡ true → Taken x ys
   take_first x xs ys h =
       let kept = and_parts (eq x x) (count_of eq x (x ∷ xs) == count_of eq x ys) h in
@@ -214,7 +214,7 @@ module _ {T : Type 0} {eq : T → T → Bool} (laws : IsPartialEquivalence eq) w
         equal = both_true one.equal others.equal;
       }
 
-  -- where each element of the first list stands as often in the second, which is as long, they have the same elements
+  -- where each element of the first list is as often in the second, which is as long, they have the same elements
   same_where_kept : (xs ys : List T) → length xs ≡ length ys → all_kept xs xs ys ≡ true → SameElements eq xs ys
   same_where_kept [] [] l h = record { order = []; rearranged = IsPermutation-refl []; equal = refl }
   same_where_kept [] (y ∷ ys) l h = absurd (suc-ne-zero (length ys) (sym l))

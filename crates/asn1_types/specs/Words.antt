@@ -4,21 +4,22 @@
 pub use Rattle.asn1_model.specs.Tags.{universal, context}
 pub use Rattle.asn1_model.specs.TaggedTypes.{untagged, tagged, explicitly_tagged, explicitly_tagged_as}
 -- the components of a SEQUENCE or a SET (25 and 27)
-pub use Rattle.asn1_components.specs.ComponentTypes.{required, optional, with_default, addition}
-pub use Rattle.asn1_components.specs.Components.{group, sequence, extensible_sequence, set, extensible_set, constructed_type, constructed_type_under, constructed_agrees}
+pub use Rattle.asn1_components.specs.ComponentTypes.{required, optional, with_default, addition, addition_with_default}
+pub use Rattle.asn1_components.specs.Components.{lines, group, sequence, extensible_sequence, set, extensible_set, constructed_type, constructed_type_under, constructed_agrees}
 -- the alternatives of a CHOICE (29), and which of them a value is
 pub use Rattle.std.proofs.Common.{inl, inr}
-pub use Rattle.asn1_choices.specs.Alternatives.{alternative, closed as closed_choice, extensible as extensible_choice}
+pub use Rattle.asn1_choices.specs.Alternatives.{table_of, alternative, closed as closed_choice, extensible as extensible_choice}
 pub use Rattle.asn1_choices.specs.ChoiceTypes.{choice_of, choice_agrees}
 -- the items of an ENUMERATED type (20)
 pub use Rattle.asn1_enumerations.specs.EnumerationLaws.{by_test}
 pub use Rattle.asn1_enumerations.specs.Enumerations.{item, closed as closed_enumeration, extensible as extensible_enumeration}
+pub use Rattle.asn1_enumerations.specs.Labels.{labels_of}
 pub use Rattle.asn1_enumerations.specs.Meanings.{enumeration_type, enumeration_agrees}
 -- what a type means: that it can be inside others, and the records of a value
 pub use Rattle.asn1_model.specs.Meaning.{CanStandInside, CanStandInsideUnder, own_records}
 pub use Rattle.asn1_model.specs.Records.{holding, scalar, raw, mark, null, truth, number, discriminant, arcs, bits, units, octet, utf8, visible, general, graphic, ia5, printable, numeric, teletex, bmp}
 pub use Rattle.asn1_model.specs.Records.{sequence as sequence_head, set as set_head, sequence_of, set_of, prefix, alternative as alternative_head}
-pub use Rattle.asn1_model.specs.Records.{present, absent, group_start, group_absent, group_end}
+pub use Rattle.asn1_model.specs.Records.{in_root, in_additions, present, absent, group_start, group_absent, group_end}
 -- the constraints in records
 pub use Rattle.asn1_model.specs.ConstraintSets.{unconstrained, values_of, size_of, characters_of}
 pub use Rattle.asn1_ranges.specs.declared.bounded.Bounded.TheVariants.{Range}

@@ -31,7 +31,7 @@ impl Model for Any {
 }
 
 impl Any {
-    /// The value that stands as these bytes.
+    /// The value that these bytes are.
     pub fn new(contents: Vec<u8>) -> Self
         ensures { result ≡ contents.items }
     {

@@ -4,7 +4,7 @@ ghost use Rattle.asn1_model.specs.Kinds.{array_type, through};
 
 use asn1_model::{AsnType, TypeTable};
 
-/// A SEQUENCE OF so many elements (X.680, 26). It means what the array means.
+/// A SEQUENCE OF this many elements (X.680, 26). It means what the array means.
 ///
 /// An array can be written as it is; what is both written and read is this. Arrays are equal if their elements are, go
 /// lexicographically, and feed a hasher as slices do.

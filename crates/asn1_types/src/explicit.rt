@@ -1,4 +1,4 @@
-//! Types under another tag, which stands before their own (X.680, 31).
+//! Types under another tag, which comes before their own (X.680, 31).
 ghost use Rattle.std.specs.Prelude.{◌≡◌};
 ghost use Rattle.std.specs.Borrow.{Lends, sem};
 ghost use Rattle.asn1_types.specs.Kinds.{explicit_type};
@@ -7,7 +7,7 @@ use asn1_model::{AsnType, TypeTable};
 use asn1_tags::Identifier;
 use std::marker::PhantomData;
 
-/// A value of type `V` under the tag of `T`, which stands before the tag of `V`.
+/// A value of type `V` under the tag of `T`, which comes before the tag of `V`.
 #[derive(Drop)]
 #[derive_where(Clone, Copy, Debug, PartialEq, Eq, PartialOrd, Ord, Hash; V)]
 pub struct Explicit<T, V> {

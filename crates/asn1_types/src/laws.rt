@@ -17,6 +17,7 @@ ghost use Rattle.asn1_types.specs.declared.implicit.Implicit.{Implicit};
 ghost use Rattle.asn1_types.specs.declared.instance_of.InstanceOf.{InstanceOf};
 
 mod premises;
+mod strings;
 
 use crate::any::Any;
 use crate::array::Array;
@@ -29,21 +30,34 @@ use asn1_fields::FieldPresence;
 use asn1_model::AsnType;
 pub use premises::{types_are_tagged_as_their_contents, values_are_valid_as_their_contents};
 use std::hash::Hash;
+pub use strings::{
+    kinds_of_string_are_compared_as_they_are, kinds_of_string_say_what_their_types_say,
+};
 
 /// Laws of the derived traits. Values under another tag are compared, hashed and cloned as the values that they hold,
 /// values of open types are compared and hashed as their bytes, and those of an INSTANCE OF by the name of the type and then
 /// by the value.
 pub fn values_are_compared_by_what_they_hold<T, V: Ord + Hash + Clone>()
-    ensures implicit_equal { (v w : Implicit T V) → ⟦<Implicit<T, V> as PartialEq>⟧.eq v w ≡ V.eq v.value w.value }
-    ensures implicit_order { (v w : Implicit T V) → ⟦<Implicit<T, V> as Ord>⟧.cmp v w ≡ V.cmp v.value w.value }
-    ensures implicit_hash { (v : Implicit T V) → ⟦<Implicit<T, V> as Hash>⟧.hash_input v ≡ V.hash_input v.value }
-    ensures implicit_clone { (v w : Implicit T V) → ⟦<Implicit<T, V> as Clone>⟧.is_clone v w → V.is_clone v.value w.value }
-    ensures implicit_clone_succeeds { (v : Implicit T V) → V.is_infallible v.value → ⟦<Implicit<T, V> as Clone>⟧.is_infallible v }
-    ensures explicit_equal { (v w : Explicit T V) → ⟦<Explicit<T, V> as PartialEq>⟧.eq v w ≡ V.eq v.value w.value }
-    ensures explicit_order { (v w : Explicit T V) → ⟦<Explicit<T, V> as Ord>⟧.cmp v w ≡ V.cmp v.value w.value }
-    ensures explicit_hash { (v : Explicit T V) → ⟦<Explicit<T, V> as Hash>⟧.hash_input v ≡ V.hash_input v.value }
-    ensures explicit_clone { (v w : Explicit T V) → ⟦<Explicit<T, V> as Clone>⟧.is_clone v w → V.is_clone v.value w.value }
-    ensures explicit_clone_succeeds { (v : Explicit T V) → V.is_infallible v.value → ⟦<Explicit<T, V> as Clone>⟧.is_infallible v }
+    ensures implicit_equal { (v w : Implicit T V) → ⟦<Implicit<T, V> as PartialEq>⟧.eq v w ≡
+        V.eq v.value w.value }
+    ensures implicit_order { (v w : Implicit T V) → ⟦<Implicit<T, V> as Ord>⟧.cmp v w ≡
+        V.cmp v.value w.value }
+    ensures implicit_hash { (v : Implicit T V) → ⟦<Implicit<T, V> as Hash>⟧.hash_input v ≡
+        V.hash_input v.value }
+    ensures implicit_clone { (v w : Implicit T V) → ⟦<Implicit<T, V> as Clone>⟧.is_clone v w →
+        V.is_clone v.value w.value }
+    ensures implicit_clone_succeeds { (v : Implicit T V) → V.is_infallible v.value →
+        ⟦<Implicit<T, V> as Clone>⟧.is_infallible v }
+    ensures explicit_equal { (v w : Explicit T V) → ⟦<Explicit<T, V> as PartialEq>⟧.eq v w ≡
+        V.eq v.value w.value }
+    ensures explicit_order { (v w : Explicit T V) → ⟦<Explicit<T, V> as Ord>⟧.cmp v w ≡
+        V.cmp v.value w.value }
+    ensures explicit_hash { (v : Explicit T V) → ⟦<Explicit<T, V> as Hash>⟧.hash_input v ≡
+        V.hash_input v.value }
+    ensures explicit_clone { (v w : Explicit T V) → ⟦<Explicit<T, V> as Clone>⟧.is_clone v w →
+        V.is_clone v.value w.value }
+    ensures explicit_clone_succeeds { (v : Explicit T V) → V.is_infallible v.value →
+        ⟦<Explicit<T, V> as Clone>⟧.is_infallible v }
     ensures any_equal { (v w : List ℕ) → IsTrue (⟦<Any as PartialEq>⟧.eq v w) ↔ (v ≡ w) }
     ensures any_order { (v w : List ℕ) → ⟦<Any as Ord>⟧.cmp v w ≡ slice_cmp nat_cmp v w }
     ensures any_hash { (v : List ℕ) → ⟦<Any as Hash>⟧.hash_input v ≡ fed.slice fed.u8 v }
@@ -67,8 +81,10 @@ pub fn arrays_are_their_elements<T: AsnType + PartialEq + Clone, const N: usize>
         ⟦<Array<T, N> as AsnType>⟧.meaning.IsOfType array ↔ ⟦<[T; N] as AsnType>⟧.meaning.IsOfType array.elements }
     ensures valid { (takes : List ℕ → Bool) (array : Array T N) →
         ⟦<Array<T, N> as AsnType>⟧.meaning.IsValid takes array ↔ ⟦<[T; N] as AsnType>⟧.meaning.IsValid takes array.elements }
-    ensures made { (array : Array T N) → ⟦<Array<T, N> as From<[T; N]>>⟧.from_gives _elements array → array.elements ≡ _elements }
-    ensures equal { (a b : Array T N) → ⟦<Array<T, N> as PartialEq>⟧.eq a b ≡ pointwise T.eq a.elements b.elements }
+    ensures made { (array : Array T N) →
+        ⟦<Array<T, N> as From<[T; N]>>⟧.from_gives _elements array → array.elements ≡ _elements }
+    ensures equal { (a b : Array T N) → ⟦<Array<T, N> as PartialEq>⟧.eq a b ≡
+        pointwise T.eq a.elements b.elements }
     ensures clone { ((x y : T) → T.is_clone x y → y ≡ x) → (a b : Array T N) → length a.elements ≡ N → length b.elements ≡ N →
         ⟦<Array<T, N> as Clone>⟧.is_clone a b → b ≡ a }
 {}
@@ -77,8 +93,10 @@ pub fn arrays_are_their_elements<T: AsnType + PartialEq + Clone, const N: usize>
 pub fn arrays_are_ordered_as_slices<T: Ord + Hash, const N: usize>()
     ensures partial_order { (a b : Array T N) →
         ⟦<Array<T, N> as PartialOrd>⟧.partial_cmp a b ≡ slice_partial_cmp T.partial_cmp a.elements b.elements }
-    ensures order { (a b : Array T N) → ⟦<Array<T, N> as Ord>⟧.cmp a b ≡ slice_cmp T.cmp a.elements b.elements }
-    ensures hash { (array : Array T N) → ⟦<Array<T, N> as Hash>⟧.hash_input array ≡ fed.slice T.hash_input array.elements }
+    ensures order { (a b : Array T N) → ⟦<Array<T, N> as Ord>⟧.cmp a b ≡
+        slice_cmp T.cmp a.elements b.elements }
+    ensures hash { (array : Array T N) → ⟦<Array<T, N> as Hash>⟧.hash_input array ≡
+        fed.slice T.hash_input array.elements }
 {}
 
 /// A law of INSTANCE OF: its fields are the name of the type and then the value, at the places 0 and 1, and both are
@@ -97,9 +115,15 @@ pub fn conversions_keep_what_they_are_given<'a, T, V>(
     _elements: &Vec<V>,
     _set: &'a SetOf<V>,
 )
-    ensures any { (any : List ℕ) → ⟦<Any as From<Vec<u8>>>⟧.from_gives _bytes.now any → any ≡ _bytes.now.items }
-    ensures set { (set : List V) → ⟦<SetOf<V> as From<Vec<V>>>⟧.from_gives _elements.now set → set ≡ _elements.now.items }
-    ensures each { (elements : _) → ⟦<&'a SetOf<V> as IntoIterator>⟧.into_iter_gives _set.entry elements → iter_rest elements ≡ _set.entry.now }
-    ensures implicit { (value : V) (v : Implicit T V) → ⟦<Implicit<T, V> as From<V>>⟧.from_gives value v → v.value ≡ value }
-    ensures explicit { (value : V) (v : Explicit T V) → ⟦<Explicit<T, V> as From<V>>⟧.from_gives value v → v.value ≡ value }
+    ensures any { (any : List ℕ) → ⟦<Any as From<Vec<u8>>>⟧.from_gives _bytes.now any →
+        any ≡ _bytes.now.items }
+    ensures set { (set : List V) → ⟦<SetOf<V> as From<Vec<V>>>⟧.from_gives _elements.now set →
+        set ≡ _elements.now.items }
+    ensures each { (elements : _) →
+        ⟦<&'a SetOf<V> as IntoIterator>⟧.into_iter_gives _set.entry elements → iter_rest elements ≡
+        _set.entry.now }
+    ensures implicit { (value : V) (v : Implicit T V) →
+        ⟦<Implicit<T, V> as From<V>>⟧.from_gives value v → v.value ≡ value }
+    ensures explicit { (value : V) (v : Explicit T V) →
+        ⟦<Explicit<T, V> as From<V>>⟧.from_gives value v → v.value ≡ value }
 {}

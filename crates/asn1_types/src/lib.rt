@@ -1,17 +1,20 @@
-//! The types of ASN.1 that stand on others: sets of values, open types, tagged types and INSTANCE OF.
+//! The types of ASN.1 that are made of others: sets of values, open types, tagged types and INSTANCE OF.
 //!
-//! A type means the same here as in the crate `asn1_model`, whose names this one hands on: its tables say what a schema
+//! A type means the same here as in the crate `asn1_model`, whose names this one re-exports: its tables say what a schema
 //! knows of it, and its values are records, which every codec writes and reads.
 //!
 //! | Type | What it is | Contracts see |
 //! |---|---|---|
-//! | [`SetOf`] | a SET OF: elements, each as often as it stands there, in no order | the list of its elements |
+//! | [`SetOf`] | a SET OF: elements in no order, each as often as it occurs | the list of its elements |
 //! | [`SequenceOf`] | a SEQUENCE OF: a vector | the list of its elements |
-//! | [`Array`] | a SEQUENCE OF so many elements: an array, in a struct of its own | its field |
+//! | [`Array`] | a SEQUENCE OF this many elements: an array, in a struct of its own | its field |
 //! | [`Any`] | a value of an open type, as the bytes that a codec makes of it | the list of its bytes |
 //! | [`Implicit`] | a value under another tag, which replaces its own | its fields |
-//! | [`Explicit`] | a value under another tag, which stands before its own | its fields |
+//! | [`Explicit`] | a value under another tag, which comes before its own | its fields |
 //! | [`InstanceOf`] | the name of a type, and a value of that type | its fields |
+//! | [`CodecString`], [`Utf8`] | a kind of string, as a codec writes and reads it; the marker of UTF8String | |
+//! | [`AnyStr`], [`AnyString`] | a string of whatever kind, as a codec is given it, and as it has read it | its variants |
+//! | [`StringKind`], [`OctetKind`] | a kind of string, by which a codec tells it from others | its variants |
 //! | [`AsnType`], [`TypeTable`], [`TreeForm`], [`StringType`], [`tag`] | what a type means, and the law of types: of `asn1_model` | |
 //! | [`Tag`], [`Class`], [`TagTree`], [`Identifier`] | tags, trees of tags and names: of `asn1_tags` | |
 //! | [`Field`], [`Fields`] | field tables: of `asn1_fields` | |
@@ -38,6 +41,9 @@
 //!   (`laws::arrays_are_their_elements`, `laws::arrays_are_ordered_as_slices`).
 //! - The fields of an `InstanceOf` are the name of the type and then the value, and both are always there
 //!   (`laws::instance_of_has_two_fields`).
+//! - A kind of string says what its strings are to a codec (`CodecString`): `as_any` makes the string of given units, and
+//!   `from_any` makes one of these units again (`found`), and of no other string (`only`). `specs/AnyStrings.antt` has the
+//!   content of a string of whatever kind.
 //! - What each type means is a word of `specs/Kinds.antt`: `set_of_type`, `any_type`, `implicit_type`, `explicit_type`
 //!   and `instance_of_components`.
 //! - The words for a type of your own are in `specs/Words.antt`, from all crates below.
@@ -48,7 +54,9 @@
 #![tactic(auto, using(asn1_tags::proofs::Leaves::tree_shapes))]
 
 mod any;
+mod any_string;
 mod array;
+mod codec_string;
 mod explicit;
 mod implicit;
 mod instance_of;
@@ -57,11 +65,14 @@ mod sequence_of;
 mod set_of;
 
 pub use any::Any;
+pub use any_string::{AnyStr, AnyString, OctetKind, StringKind};
 pub use array::Array;
 pub use asn1_bounds::{
     Bounded, ConstraintTable, Constraints, Extensible, PermittedAlphabet, Size, Value,
 };
-pub use asn1_choices::{Choice, ChoiceType, the_chosen_tag_tells_the_alternative};
+pub use asn1_choices::{
+    Choice, ChoiceType, alternatives_are_as_in_records, the_chosen_tag_tells_the_alternative,
+};
 pub use asn1_components::{
     Constructed, ConstructedType, FieldTable, components_are_told_apart, field_in,
     tables_are_in_order,
@@ -75,9 +86,11 @@ pub use asn1_fields::{
     at_most_one_rearrangement_is_canonical, first_sequence_clash, first_set_clash, is_canonical,
 };
 pub use asn1_model::{
-    AsnType, StringType, TreeForm, TypeTable, order_inside_sets_is_not_seen, tag,
+    AsnType, StringType, TreeForm, TypeTable, order_inside_sets_is_not_seen,
+    records_of_a_valid_value_are_well_formed, tag,
 };
 pub use asn1_tags::{Class, Identifier, Tag, TagTree};
+pub use codec_string::{CodecString, Utf8};
 pub use explicit::Explicit;
 pub use implicit::Implicit;
 pub use instance_of::InstanceOf;

@@ -15,7 +15,7 @@ use std::alloc::{AllocError, Global};
 use std::marker::Model;
 use std::slice::Iter;
 
-/// Elements in no order, each as often as it stands there.
+/// Elements in no order, each as often as it occurs.
 ///
 /// Contracts see it as the list of its elements, in the order in which `from_vec` and `insert` put them. Two sets are
 /// equal if they have the same elements, each as often, in any order. To find that out each element is counted in both
@@ -54,7 +54,7 @@ impl<T> SetOf<T> {
         SetOf { elements }
     }
 
-    /// No elements, and room for so many, of which no contract speaks. Fails only where the allocator refuses the room.
+    /// No elements, and room for this many, of which no contract speaks. Fails only where the allocator refuses the room.
     pub fn with_capacity(alloc: Global, capacity: usize) -> Result<Self, AllocError>
         ensures empty { IfOk result (λ set. set ≡ []) }
         ensures no_room { capacity ≡ 0 → IsOk result }
@@ -131,7 +131,8 @@ impl<T: Clone> SetOf<T> {
     /// fails.
     pub fn from_slice(alloc: Global, elements: &[T]) -> Result<Self, AllocError>
         ensures clones { IfOk result (AllZip T.is_clone elements.now) }
-        ensures same { ((x y : T) → T.is_clone x y → y ≡ x) → IfOk result (λ set. set ≡ elements.now) }
+        ensures same { ((x y : T) → T.is_clone x y → y ≡ x) →
+            IfOk result (λ set. set ≡ elements.now) }
     {
         Ok(SetOf {
             elements: Vec::from_clones(alloc, elements)?,
@@ -141,7 +142,8 @@ impl<T: Clone> SetOf<T> {
     /// Clones of the elements of the array, in its order. Fails as `from_slice` does.
     pub fn from_array<const N: usize>(alloc: Global, elements: &[T; N]) -> Result<Self, AllocError>
         ensures clones { IfOk result (AllZip T.is_clone elements.now) }
-        ensures same { ((x y : T) → T.is_clone x y → y ≡ x) → IfOk result (λ set. set ≡ elements.now) }
+        ensures same { ((x y : T) → T.is_clone x y → y ≡ x) →
+            IfOk result (λ set. set ≡ elements.now) }
     {
         SetOf::from_slice(alloc, elements)
     }

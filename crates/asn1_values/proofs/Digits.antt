@@ -1,4 +1,4 @@
--- Facts on the numbers that bytes stand for.
+-- Facts on the numbers that bytes represent.
 use Rattle.std.proofs.Common.{◌≡◌, ◌≢◌, ℕ, zero, suc, ◌+◌, ◌*◌, ◌^◌, ◌<◌, ◌≤◌, ◌/◌, ◌%◌, List, [], ◌∷◌, length, get_or, take, drop, Some, Ordering, refl, sym, ap, subst, ◌∙◌, arith}
 use Rattle.std.specs.declared.cmp.Ordering.TheVariants.{Less, Equal, Greater}
 use Rattle.std.specs.Cmp.{nat_cmp_is, ranks}
@@ -13,7 +13,7 @@ use Rattle.std.proofs.Math.Arith.{mod-mul}
 use Rattle.std.proofs.Math.Nat.{mod-eq_of_lt, mul-le-mul_right, one-le-pow, pow-le-pow_right, pow-suc, pow-succ'}
 use Rattle.asn1_values.specs.Numbers.{magnitude, IsMagnitude, IsShortest}
 
--- a part from the front stands for no greater number
+-- a part from the front represents no greater number
 pub magnitude-take_le : (bytes : List ℕ) (i : ℕ) → magnitude (take i bytes) ≤ magnitude bytes
 magnitude-take_le bytes i =
     let split : magnitude bytes ≡ number_from_digits_after 256 (magnitude (take i bytes)) (drop i bytes) = ap magnitude (sym (take-append-drop i bytes)) ∙ number_after_append 256 0 (take i bytes) (drop i bytes) in
@@ -60,7 +60,7 @@ Ranks-slice_cmp n (x ∷ xs) (y ∷ ys) below_xs below_ys as_long =
     by Equal same rest tails = subst (λ w. Ranks (slice_cmp nat_cmp xs ys) n (x ∷ xs) n (w ∷ ys)) same (Ranks_behind (slice_cmp nat_cmp xs ys) n x xs ys rest)
     by Greater more rest tails = number_after_less (n * 256 + y) (n * 256 + x) ys xs below_ys.1 (sym tails) (omega arith)
 
--- a longer list without leading zeros stands for a greater number
+-- a longer list without leading zeros represents a greater number
 magnitude_longer : (xs ys : List ℕ) → AllBelowBase 256 xs → IsShortest ys → length xs < length ys → magnitude xs < magnitude ys
 magnitude_longer xs [] below shortest longer = absurd (omega arith)
 magnitude_longer xs (y ∷ ys) below shortest longer =
@@ -142,6 +142,6 @@ number_after-bytes_high_first m (suc k) n =
     let digits = mod-mul n {m = 256} {c = 256 ^ k} (omega arith) (one-le-pow k 256 (omega arith)) in
     number_after-bytes_high_first (m * 256 + byte_at k n) k n ∙ rw (byte_at_is, pow-succ', digits) (omega arith)
 
--- the lowest k bytes of a number below 256 ^ k stand for it
+-- the lowest k bytes of a number below 256 ^ k represent it
 pub magnitude-bytes_high_first : (k n : ℕ) → n < 256 ^ k → magnitude (bytes_high_first k n) ≡ n
 magnitude-bytes_high_first k n small = number_after-bytes_high_first 0 k n ∙ rw (mod-eq_of_lt small) (omega arith)

@@ -75,7 +75,8 @@ impl Integer {
     /// least, with no leading zero. Zero has no bytes.
     pub fn sign_magnitude(&self, alloc: Global) -> Result<(bool, Vec<u8>), AllocError>
         ensures sign { IfOk result (λ parts. IsTrue parts.0 ↔ (self.now <ℤ pos 0)) }
-        ensures number { IfOk result (λ parts. signed parts.0 (magnitude parts.1.items) ≡ self.now) }
+        ensures number { IfOk result (λ parts. signed parts.0 (magnitude parts.1.items) ≡
+            self.now) }
         ensures shortest { IfOk result (λ parts. IsShortest parts.1.items) }
     {
         Ok((self.is_negative(), self.magnitude_bytes(alloc)?))

@@ -24,9 +24,11 @@ use std::hash::Hash;
 pub fn integers_are_compared_by_number(a: &Integer, b: &Integer) -> bool
     ensures same { IsTrue result ↔ (a.now ≡ b.now) }
     ensures equality { (x y : ℤ) → ⟦<Integer as PartialEq>⟧.eq x y ≡ int_eq x y }
-    ensures partial_order { (x y : ℤ) → ⟦<Integer as PartialOrd>⟧.partial_cmp x y ≡ as_partial_cmp int_cmp x y }
+    ensures partial_order { (x y : ℤ) → ⟦<Integer as PartialOrd>⟧.partial_cmp x y ≡
+        as_partial_cmp int_cmp x y }
     ensures order { (x y : ℤ) → ⟦<Integer as Ord>⟧.cmp x y ≡ int_cmp x y }
-    ensures hash { (x : ℤ) → ⟦<Integer as Hash>⟧.hash_input x ≡ fed.bool (is_negative x) ++ fed.slice fed.u8 (digits_of 256 (unsigned_abs x)) }
+    ensures hash { (x : ℤ) → ⟦<Integer as Hash>⟧.hash_input x ≡ fed.bool (is_negative x) ++
+        fed.slice fed.u8 (digits_of 256 (unsigned_abs x)) }
 {
     a == b
 }
@@ -38,9 +40,11 @@ pub fn limited_integers_are_compared_by_number<L: Limits>(
 ) -> bool
     ensures same { IsTrue result ↔ (a.now ≡ b.now) }
     ensures equality { (x y : ℤ) → ⟦<LimitedInteger<L> as PartialEq>⟧.eq x y ≡ int_eq x y }
-    ensures partial_order { (x y : ℤ) → ⟦<LimitedInteger<L> as PartialOrd>⟧.partial_cmp x y ≡ as_partial_cmp int_cmp x y }
+    ensures partial_order { (x y : ℤ) → ⟦<LimitedInteger<L> as PartialOrd>⟧.partial_cmp x y ≡
+        as_partial_cmp int_cmp x y }
     ensures order { (x y : ℤ) → ⟦<LimitedInteger<L> as Ord>⟧.cmp x y ≡ int_cmp x y }
-    ensures hash { (x : ℤ) → ⟦<LimitedInteger<L> as Hash>⟧.hash_input x ≡ ⟦<Integer as Hash>⟧.hash_input x }
+    ensures hash { (x : ℤ) → ⟦<LimitedInteger<L> as Hash>⟧.hash_input x ≡
+        ⟦<Integer as Hash>⟧.hash_input x }
 {
     a == b
 }
@@ -88,24 +92,49 @@ pub fn integers_are_made_and_written_by_number()
     ensures of_i64 { (n z : ℤ) → ⟦<Integer as From<i64>>⟧.from_gives n z ↔ (z ≡ n) }
     ensures of_isize { (n z : ℤ) → ⟦<Integer as From<isize>>⟧.from_gives n z ↔ (z ≡ n) }
     ensures text { (z : ℤ) → ⟦<Integer as Display>⟧.output z ≡ Some (integer_text z) }
-    ensures styled { (z : ℤ) (options : _) → IsTrue (is_narrow z) → ⟦<Integer as Display>⟧.styled_output z options ≡ Some (styled_signed_decimal options z) }
+    ensures styled { (z : ℤ) (options : _) → IsTrue (is_narrow z) →
+        ⟦<Integer as Display>⟧.styled_output z options ≡ Some (styled_signed_decimal options z) }
 {}
 
 /// A built-in integer is made of an `Integer` if and only if the number is from its least to its greatest one, and then
 /// has that number.
 pub fn built_in_integers_are_made_of_numbers_that_fit()
-    ensures to_u8 { (z : ℤ) (made : Result ℕ OutOfRangeError) → ⟦<u8 as TryFrom<Integer>>⟧.try_from_gives z made ↔ OkIff made ((pos 0 ≤ℤ z) × (z ≤ℤ pos u8.MAX)) (unsigned_abs z) }
-    ensures to_u16 { (z : ℤ) (made : Result ℕ OutOfRangeError) → ⟦<u16 as TryFrom<Integer>>⟧.try_from_gives z made ↔ OkIff made ((pos 0 ≤ℤ z) × (z ≤ℤ pos u16.MAX)) (unsigned_abs z) }
-    ensures to_u32 { (z : ℤ) (made : Result ℕ OutOfRangeError) → ⟦<u32 as TryFrom<Integer>>⟧.try_from_gives z made ↔ OkIff made ((pos 0 ≤ℤ z) × (z ≤ℤ pos u32.MAX)) (unsigned_abs z) }
-    ensures to_u64 { (z : ℤ) (made : Result ℕ OutOfRangeError) → ⟦<u64 as TryFrom<Integer>>⟧.try_from_gives z made ↔ OkIff made ((pos 0 ≤ℤ z) × (z ≤ℤ pos u64.MAX)) (unsigned_abs z) }
-    ensures to_u128 { (z : ℤ) (made : Result ℕ OutOfRangeError) → ⟦<u128 as TryFrom<Integer>>⟧.try_from_gives z made ↔ OkIff made ((pos 0 ≤ℤ z) × (z ≤ℤ pos u128.MAX)) (unsigned_abs z) }
-    ensures to_usize { (z : ℤ) (made : Result ℕ OutOfRangeError) → ⟦<usize as TryFrom<Integer>>⟧.try_from_gives z made ↔ OkIff made ((pos 0 ≤ℤ z) × (z ≤ℤ pos usize.MAX)) (unsigned_abs z) }
-    ensures to_i8 { (z : ℤ) (made : Result ℤ OutOfRangeError) → ⟦<i8 as TryFrom<Integer>>⟧.try_from_gives z made ↔ OkIff made ((i8.MIN ≤ℤ z) × (z ≤ℤ i8.MAX)) z }
-    ensures to_i16 { (z : ℤ) (made : Result ℤ OutOfRangeError) → ⟦<i16 as TryFrom<Integer>>⟧.try_from_gives z made ↔ OkIff made ((i16.MIN ≤ℤ z) × (z ≤ℤ i16.MAX)) z }
-    ensures to_i32 { (z : ℤ) (made : Result ℤ OutOfRangeError) → ⟦<i32 as TryFrom<Integer>>⟧.try_from_gives z made ↔ OkIff made ((i32.MIN ≤ℤ z) × (z ≤ℤ i32.MAX)) z }
-    ensures to_i64 { (z : ℤ) (made : Result ℤ OutOfRangeError) → ⟦<i64 as TryFrom<Integer>>⟧.try_from_gives z made ↔ OkIff made ((i64.MIN ≤ℤ z) × (z ≤ℤ i64.MAX)) z }
-    ensures to_i128 { (z : ℤ) (made : Result ℤ OutOfRangeError) → ⟦<i128 as TryFrom<Integer>>⟧.try_from_gives z made ↔ OkIff made ((i128.MIN ≤ℤ z) × (z ≤ℤ i128.MAX)) z }
-    ensures to_isize { (z : ℤ) (made : Result ℤ OutOfRangeError) → ⟦<isize as TryFrom<Integer>>⟧.try_from_gives z made ↔ OkIff made ((isize.MIN ≤ℤ z) × (z ≤ℤ isize.MAX)) z }
+    ensures to_u8 { (z : ℤ) (made : Result ℕ OutOfRangeError) →
+        ⟦<u8 as TryFrom<Integer>>⟧.try_from_gives z made ↔
+        OkIff made ((pos 0 ≤ℤ z) × (z ≤ℤ pos u8.MAX)) (unsigned_abs z) }
+    ensures to_u16 { (z : ℤ) (made : Result ℕ OutOfRangeError) →
+        ⟦<u16 as TryFrom<Integer>>⟧.try_from_gives z made ↔
+        OkIff made ((pos 0 ≤ℤ z) × (z ≤ℤ pos u16.MAX)) (unsigned_abs z) }
+    ensures to_u32 { (z : ℤ) (made : Result ℕ OutOfRangeError) →
+        ⟦<u32 as TryFrom<Integer>>⟧.try_from_gives z made ↔
+        OkIff made ((pos 0 ≤ℤ z) × (z ≤ℤ pos u32.MAX)) (unsigned_abs z) }
+    ensures to_u64 { (z : ℤ) (made : Result ℕ OutOfRangeError) →
+        ⟦<u64 as TryFrom<Integer>>⟧.try_from_gives z made ↔
+        OkIff made ((pos 0 ≤ℤ z) × (z ≤ℤ pos u64.MAX)) (unsigned_abs z) }
+    ensures to_u128 { (z : ℤ) (made : Result ℕ OutOfRangeError) →
+        ⟦<u128 as TryFrom<Integer>>⟧.try_from_gives z made ↔
+        OkIff made ((pos 0 ≤ℤ z) × (z ≤ℤ pos u128.MAX)) (unsigned_abs z) }
+    ensures to_usize { (z : ℤ) (made : Result ℕ OutOfRangeError) →
+        ⟦<usize as TryFrom<Integer>>⟧.try_from_gives z made ↔
+        OkIff made ((pos 0 ≤ℤ z) × (z ≤ℤ pos usize.MAX)) (unsigned_abs z) }
+    ensures to_i8 { (z : ℤ) (made : Result ℤ OutOfRangeError) →
+        ⟦<i8 as TryFrom<Integer>>⟧.try_from_gives z made ↔
+        OkIff made ((i8.MIN ≤ℤ z) × (z ≤ℤ i8.MAX)) z }
+    ensures to_i16 { (z : ℤ) (made : Result ℤ OutOfRangeError) →
+        ⟦<i16 as TryFrom<Integer>>⟧.try_from_gives z made ↔
+        OkIff made ((i16.MIN ≤ℤ z) × (z ≤ℤ i16.MAX)) z }
+    ensures to_i32 { (z : ℤ) (made : Result ℤ OutOfRangeError) →
+        ⟦<i32 as TryFrom<Integer>>⟧.try_from_gives z made ↔
+        OkIff made ((i32.MIN ≤ℤ z) × (z ≤ℤ i32.MAX)) z }
+    ensures to_i64 { (z : ℤ) (made : Result ℤ OutOfRangeError) →
+        ⟦<i64 as TryFrom<Integer>>⟧.try_from_gives z made ↔
+        OkIff made ((i64.MIN ≤ℤ z) × (z ≤ℤ i64.MAX)) z }
+    ensures to_i128 { (z : ℤ) (made : Result ℤ OutOfRangeError) →
+        ⟦<i128 as TryFrom<Integer>>⟧.try_from_gives z made ↔
+        OkIff made ((i128.MIN ≤ℤ z) × (z ≤ℤ i128.MAX)) z }
+    ensures to_isize { (z : ℤ) (made : Result ℤ OutOfRangeError) →
+        ⟦<isize as TryFrom<Integer>>⟧.try_from_gives z made ↔
+        OkIff made ((isize.MIN ≤ℤ z) × (z ≤ℤ isize.MAX)) z }
 {}
 
 /// There is one such error. A clone of it never fails.

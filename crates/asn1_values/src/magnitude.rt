@@ -1,4 +1,4 @@
-//! Magnitudes: bytes, the most significant first, that stand for a number from 0 on.
+//! Magnitudes: bytes, the most significant first, that represent a number from 0 on.
 ghost use Rattle.std.specs.Prelude.{◌≡◌, ◌<◌, ◌^◌, FitsSigned};
 ghost use Rattle.std.specs.Int.{w128};
 ghost use Rattle.std.specs.Option.{SomeIff};
@@ -20,7 +20,8 @@ pub(crate) fn to_u128(bytes: &[u8]) -> Option<u128>
 
 /// The number of the sign and the bytes, if it fits.
 pub(crate) fn to_i128(negative: bool, bytes: &[u8]) -> Option<i128>
-    ensures { SomeIff result (FitsSigned w128 (signed negative (magnitude bytes.now))) (signed negative (magnitude bytes.now)) }
+    ensures { SomeIff result (FitsSigned w128 (signed negative (magnitude bytes.now)))
+        (signed negative (magnitude bytes.now)) }
 {
     let magnitude = to_u128(bytes)?;
     if negative {
@@ -51,7 +52,8 @@ pub(crate) fn without_leading_zeros(bytes: &[u8]) -> &[u8]
 
 /// The order of the numbers of two magnitudes without leading zeros.
 pub(crate) fn compare(bytes: &[u8], other: &[u8]) -> Ordering
-    ensures { IsMagnitude bytes.now → IsMagnitude other.now → result ≡ nat_cmp (magnitude bytes.now) (magnitude other.now) }
+    ensures { IsMagnitude bytes.now → IsMagnitude other.now →
+        result ≡ nat_cmp (magnitude bytes.now) (magnitude other.now) }
 {
     match bytes.len().cmp(&other.len()) {
         Ordering::Equal => bytes.cmp(other),

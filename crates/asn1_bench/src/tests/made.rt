@@ -4,6 +4,7 @@ use asn1_enc::Encode;
 use asn1_records::{Content, Head, Record};
 use asn1_schema::Rules;
 use asn1_tags::{Identifier, Tag};
+use asn1_types::{AnyString, OctetKind};
 use asn1_values::Integer;
 use std::alloc::Global;
 use std::process::Abort;
@@ -41,6 +42,19 @@ pub(super) fn alternative(rt: &impl Abort, alloc: Global, tag: Tag) -> Vec<Recor
     let null = Record::Scalar(tag, NAME, Content::Null);
     let head = Head::Alternative(tag, NAME);
     alone(rt, alloc, Record::Scope(head, alone(rt, alloc, null)))
+}
+
+/// A string of these octets, under the tag.
+pub(super) fn octets(
+    rt: &impl Abort,
+    alloc: Global,
+    tag: Tag,
+    kind: OctetKind,
+    units: &[u8],
+) -> Vec<Record> {
+    let units = Vec::from_slice(alloc, units).expect(rt, "memory");
+    let content = Content::String(AnyString::Octets(kind, units));
+    alone(rt, alloc, Record::Scalar(tag, NAME, content))
 }
 
 /// The numbers 11 and 7.

@@ -1,14 +1,17 @@
 //! What is not read, and what an error leaves.
 use crate::rules::BenchRules;
 use crate::tests::cases::passes;
-use crate::tests::made::{alternative, empty_scope, item, set_with_a_real, two_numbers, written};
+use crate::tests::made::{
+    alternative, empty_scope, item, octets, set_with_a_real, two_numbers, written,
+};
 use asn1_codec_tests::is_not_read;
 use asn1_dec::{Decode, DecodeError, Decoder, Needed};
 use asn1_record_decoder::RecordDecoder;
 use asn1_records::Record;
 use asn1_samples::{Badge, Color, Corner, Shape};
+use asn1_strings::{Ia5String, VisibleString};
 use asn1_tags::Tag;
-use asn1_types::{Explicit, tag};
+use asn1_types::{Explicit, OctetKind, tag};
 use asn1_values::ConstrainedInteger;
 use std::alloc::Global;
 use std::marker::PhantomData;
@@ -37,6 +40,24 @@ fn a_number_outside_its_type_is_refused(rt: HostRuntime) {
     let alloc = rt.alloc();
     let records = written(&rt, alloc, &256u16);
     refused::<u8>(&rt, alloc, "256 is no u8", records, BAD_ITEM);
+}
+
+#[test]
+fn an_error_of_an_element_is_that_of_the_list(rt: HostRuntime) {
+    let alloc = rt.alloc();
+    let list = written(&rt, alloc, &[7u8, 11u8]);
+    refused::<Vec<ConstrainedInteger<1, 10>>>(&rt, alloc, "11", list, DecodeError::OutOfRange);
+}
+
+#[test]
+fn a_string_that_is_none_of_its_kind_is_refused(rt: HostRuntime) {
+    let alloc = rt.alloc();
+    let line = octets(&rt, alloc, Tag::VISIBLE_STRING, OctetKind::Visible, b"\n");
+    refused::<VisibleString>(&rt, alloc, "a line feed", line, BAD_ITEM);
+    let bytes = octets(&rt, alloc, Tag::UTF8_STRING, OctetKind::Utf8, &[255]);
+    refused::<String>(&rt, alloc, "no text", bytes, BAD_ITEM);
+    let visible = octets(&rt, alloc, Tag::IA5_STRING, OctetKind::Visible, b"a");
+    refused::<Ia5String>(&rt, alloc, "another kind", visible, BAD_ITEM);
 }
 
 #[test]

@@ -3,7 +3,7 @@ use super::assert_report;
 use std::alloc::Global;
 use std::process::Abort;
 
-// The text, so many times.
+// The text, repeated.
 fn repeated(rt: &impl Abort, alloc: Global, text: &str, count: usize) -> String {
     let mut all = String::new(alloc);
     for _ in 0..count {
@@ -12,7 +12,7 @@ fn repeated(rt: &impl Abort, alloc: Global, text: &str, count: usize) -> String 
     all
 }
 
-// Checks a line that begins and ends so, with a text so many times between.
+// Checks a line that begins and ends so, with a text repeated between.
 fn assert_line(
     rt: &impl Abort,
     alloc: Global,
@@ -56,7 +56,7 @@ fn lines_of_4096_bytes(rt: HostRuntime) {
     );
 }
 
-// Checks a tree in so many brackets.
+// Checks a tree in this many brackets.
 fn assert_depth(
     rt: &impl Abort,
     alloc: Global,

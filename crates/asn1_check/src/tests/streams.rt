@@ -13,7 +13,7 @@ const REPORT: &[u8] = b"tree a: unique, smallest Universal 1, 1 leaves\nline 3: 
 // Of each line that a line feed ends and that has a text, where it ends in the input, and where its text ends in the report.
 const LINES: [(usize, usize); 5] = [(0, 0), (10, 47), (13, 70), (49, 121), (73, 148)];
 
-// A reader that gives a few bytes a call, is interrupted before each, and fails where so many bytes are left.
+// A reader that gives a few bytes a call, is interrupted before each, and fails where this many bytes are left.
 #[derive(Drop)]
 struct Trickle {
     rest: &'static [u8],
@@ -105,7 +105,7 @@ fn assert_written(rt: &impl Abort, page: &Page, length: usize) {
     assert!(rt; &page.bytes[..length] == &REPORT[..length]);
 }
 
-// How much of the report is for lines that end among so many bytes of the input.
+// How much of the report is for lines that end among this many bytes of the input.
 fn ended_by(given: usize) -> usize {
     let mut written = 0;
     for (line_end, text_end) in LINES {

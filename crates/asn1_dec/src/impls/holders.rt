@@ -1,5 +1,6 @@
 //! Reading of what holds a value and means the same, and of what has no content.
-ghost use Rattle.asn1_dec.specs.Reading.{LeavesDecoder, ReadsValue};
+ghost use Rattle.asn1_dec.specs.Reading.{LeavesDecoder, ReadsValue, Refuses};
+ghost use Rattle.asn1_dec.specs.Refusals.{no_refusals};
 ghost use Rattle.asn1_model.specs.ConstraintSets.{constraint_set};
 ghost use Rattle.asn1_model.specs.Kinds.{empty_type};
 ghost use Rattle.std.specs.Prelude.{◌≡◌, IsOk};
@@ -15,6 +16,9 @@ use std::borrow::Cow;
 use std::marker::PhantomData;
 
 impl<T: Decode> Decode for Box<T> {
+    // What its content refuses.
+    ghost refused = { T.refused };
+
     fn decode_with_tag_and_constraints<D: Decoder>(
         decoder: &mut D,
         tag: Tag,
@@ -27,6 +31,9 @@ impl<T: Decode> Decode for Box<T> {
 }
 
 impl<T: Decode> Decode for Cow<'_, T> {
+    // What its content refuses.
+    ghost refused = { T.refused };
+
     fn decode_with_tag_and_constraints<D: Decoder>(
         decoder: &mut D,
         tag: Tag,
@@ -46,6 +53,8 @@ impl<T: AsnType> Decode for PhantomData<T> {
     ) -> Result<PhantomData<T>, DecodeError>
         ensures read { ReadsValue D.reader empty_type ⟦<PhantomData<T> as PartialEq>⟧.eq tag (constraint_set constraints.now) decoder.old decoder.new result }
         ensures leaves { LeavesDecoder D.reader empty_type tag (constraint_set constraints.now) decoder.old decoder.new result }
+        ensures refuses { Refuses D.reader no_refusals tag (constraint_set constraints.now)
+            decoder.old decoder.new result }
         ensures nothing { IsOk result × (decoder.new ≡ decoder.old) }
     {
         Ok(PhantomData)

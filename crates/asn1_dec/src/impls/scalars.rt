@@ -1,12 +1,5 @@
 //! Reading of NULL, BOOLEAN and INTEGER (X.680, 18, 19 and 24).
-ghost use Rattle.asn1_dec.specs.Reading.{Ahead, LeavesDecoder, ReadsAndRefuses, ReadsValue};
-ghost use Rattle.asn1_dec.specs.declared.error.DecodeError.TheVariants.{OutOfRange};
-ghost use Rattle.asn1_model.specs.ConstraintSets.{constraint_set};
-ghost use Rattle.asn1_model.specs.Kinds.{limited_integer_type, under_own_name};
-ghost use Rattle.asn1_model.specs.Records.{Name, Record, number, scalar};
-ghost use Rattle.asn1_ranges.specs.declared.bounded.Bounded.TheVariants.{Range};
-ghost use Rattle.std.specs.Ordering.{int_eq};
-ghost use Rattle.std.specs.Prelude.{◌≡◌, ◌≤ℤ◌, [], ◌∷◌, List, Some, ℤ};
+ghost use Rattle.asn1_dec.specs.Refusals.{IsOutside};
 
 use crate::decode::Decode;
 use crate::decoder::Decoder;
@@ -156,17 +149,16 @@ impl Decode for Integer {
 }
 
 impl<L: Limits> Decode for LimitedInteger<L> {
+    // A number outside the limits.
+    ghost refused = { λ takes. IsOutside L.start L.end };
+
     /// Reads a value under a tag and constraints. A number that is outside the limits is read, and the error is
     /// [`DecodeError::OutOfRange`].
     fn decode_with_tag_and_constraints<D: Decoder>(
         decoder: &mut D,
         tag: Tag,
         constraints: &Constraints<'_>,
-    ) -> Result<LimitedInteger<L>, DecodeError>
-        ensures read { ReadsValue D.reader (under_own_name (limited_integer_type (Range (Some L.start) (Some L.end)))) int_eq tag (constraint_set constraints.now) decoder.old decoder.new result }
-        ensures leaves { LeavesDecoder D.reader (under_own_name (limited_integer_type (Range (Some L.start) (Some L.end)))) tag (constraint_set constraints.now) decoder.old decoder.new result }
-        ensures out_of_range { (z : ℤ) (n : Name) (rest : List Record) (outer : Ahead) → ¬ ((L.start ≤ℤ z) × (z ≤ℤ L.end)) → ReadsAndRefuses D.reader decoder.old decoder.new (scalar tag (constraint_set constraints.now) n (number z) ∷ []) rest outer OutOfRange result }
-    {
+    ) -> Result<LimitedInteger<L>, DecodeError> {
         let number = decoder.decode_integer::<Integer>(tag, constraints)?;
         LimitedInteger::new(number).ok_or(DecodeError::OutOfRange)
     }

@@ -8,6 +8,9 @@ use asn1_tags::Tag;
 use asn1_types::{Any, Explicit, Implicit};
 
 impl<T: AsnType, V: Decode> Decode for Implicit<T, V> {
+    // What its content refuses.
+    ghost refused = { V.refused };
+
     fn decode_with_tag_and_constraints<D: Decoder>(
         decoder: &mut D,
         tag: Tag,

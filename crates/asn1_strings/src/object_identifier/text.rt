@@ -95,7 +95,8 @@ impl fmt::Display for UnitString<u32, Arcs> {
 
 /// Writes a dot and a number for each arc.
 fn write_arcs<W: fmt::Write>(arcs: &[u32], f: &mut fmt::Formatter<W>) -> fmt::Result
-    ensures { WritesOnOk W.write_str_gives f.old result (flat_map (λ arc. 46 ∷ decimal arc) arcs.now) f.new }
+    ensures { WritesOnOk W.write_str_gives f.old result
+        (flat_map (λ arc. 46 ∷ decimal arc) arcs.now) f.new }
 {
     for arc in arcs {
         write!(f, ".{arc}")?;

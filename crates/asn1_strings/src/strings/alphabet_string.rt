@@ -49,7 +49,8 @@ impl<U, A: Alphabet<U>> AlphabetString<U, A> {
         U: Drop,
         ensures allowed { IsOk result ↔ AllPass A.allows units.items }
         ensures units { IfOk result (λ s. s ≡ units.items) }
-        ensures first { IfErr result (λ e. position (λ u. not (A.allows u)) units.items ≡ Some e.0) }
+        ensures first { IfErr result (λ e. position (λ u. not (A.allows u)) units.items ≡
+            Some e.0) }
     {
         match first_refused::<U, A>(&units) {
             Some(index) => Err(AlphabetError(index)),

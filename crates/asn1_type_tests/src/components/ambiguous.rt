@@ -3,7 +3,7 @@ ghost use Rattle.std.specs.Prelude.{[], ◌∷◌, Option, codes};
 ghost use Rattle.asn1_model.specs.Meaning.{CanStandInside};
 ghost use Rattle.asn1_model.specs.TaggedTypes.{tagged};
 ghost use Rattle.asn1_model.specs.Tags.{context};
-ghost use Rattle.asn1_components.specs.ComponentTypes.{required, optional, with_default};
+ghost use Rattle.asn1_components.specs.ComponentTypes.{required, optional, with_default, addition_with_default};
 ghost use Rattle.asn1_components.specs.Components.{constructed_type, extensible_sequence, extensible_set, group, sequence, set};
 ghost use Rattle.asn1_type_tests.specs.declared.components.ambiguous.Ambiguous.{Ambiguous};
 
@@ -40,6 +40,10 @@ fn ambiguous_cannot_stand_inside()
     ensures set_as_group { ¬ CanStandInside (constructed_type {V = Option Ambiguous} (codes "Ambiguous") (extensible_sequence [] (
         group (codes "g") (λ v. v) (set (
         required (codes "b") (λ v. v.b) (tagged (context 0) ⟦<bool as AsnType>⟧.meaning) ∷ [])) ∷ []))) }
-    ensures default { CanStandInside (constructed_type {V = Ambiguous} (codes "Ambiguous") (extensible_sequence [] (
+    ensures root_word_among_additions { ¬ CanStandInside (constructed_type {V = Ambiguous} (codes "Ambiguous") (extensible_sequence [] (
         with_default (codes "b") (λ v. v.b) (λ v. v.b) (tagged (context 1) ⟦<bool as AsnType>⟧.meaning) ∷ []))) }
+    ensures addition_in_the_root { ¬ CanStandInside (constructed_type {V = Ambiguous} (codes "Ambiguous") (sequence (
+        addition_with_default (codes "b") (λ v. v.b) (λ v. v.b) (tagged (context 1) ⟦<bool as AsnType>⟧.meaning) ∷ []))) }
+    ensures default { CanStandInside (constructed_type {V = Ambiguous} (codes "Ambiguous") (extensible_sequence [] (
+        addition_with_default (codes "b") (λ v. v.b) (λ v. v.b) (tagged (context 1) ⟦<bool as AsnType>⟧.meaning) ∷ []))) }
 {}

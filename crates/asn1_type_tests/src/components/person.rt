@@ -51,6 +51,10 @@ impl FieldTable for Person {
     fn field_at(place: usize) -> Option<Field<'static>> {
         field_in(ROOT, ADDED, place)
     }
+
+    fn marker_place() -> Option<usize> {
+        Some(1)
+    }
 }
 
 impl Constructed<1, 1> for Person {
@@ -62,10 +66,6 @@ impl Constructed<1, 1> for Person {
     #[tactic(auto, using(asn1_tags::proofs::Leaves::tree_shapes))]
     fn added_fields() -> &'static [Field<'static>] {
         ADDED
-    }
-
-    fn is_extensible() -> bool {
-        true
     }
 
     ghost root_length = { refl };

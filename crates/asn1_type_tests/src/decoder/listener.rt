@@ -8,12 +8,9 @@ use asn1_choices::Choice;
 use asn1_components::FieldTable;
 use asn1_dec::{DecodeError, Decoder};
 use asn1_enumerations::EnumeratedTable;
-use asn1_strings::{
-    BitString, BmpString, GeneralString, GraphicString, Ia5String, NumericString, ObjectIdentifier,
-    PrintableString, TeletexString, VisibleString,
-};
+use asn1_strings::ObjectIdentifier;
 use asn1_tags::{Tag, TagTree};
-use asn1_types::Any;
+use asn1_types::{Any, AnyString, CodecString, StringKind};
 use asn1_values::{Integer, IntegerType};
 use std::alloc::Global;
 
@@ -204,92 +201,12 @@ impl Decoder for Listener {
         }
     }
 
-    fn decode_bit_string(
+    fn decode_string<U, K: CodecString<U>>(
         &mut self,
         _tag: Tag,
         _constraints: &Constraints<'_>,
-    ) -> Result<BitString, DecodeError> {
-        self.content(Some(BitString::new(Vec::new(self.alloc))))
-    }
-
-    fn decode_octet_string(
-        &mut self,
-        _tag: Tag,
-        _constraints: &Constraints<'_>,
-    ) -> Result<Vec<u8>, DecodeError> {
-        self.content(Some(Vec::new(self.alloc)))
-    }
-
-    fn decode_utf8_string(
-        &mut self,
-        _tag: Tag,
-        _constraints: &Constraints<'_>,
-    ) -> Result<String, DecodeError> {
-        self.content(Some(String::new(self.alloc)))
-    }
-
-    fn decode_general_string(
-        &mut self,
-        _tag: Tag,
-        _constraints: &Constraints<'_>,
-    ) -> Result<GeneralString, DecodeError> {
-        self.content(Some(GeneralString::new(Vec::new(self.alloc))))
-    }
-
-    fn decode_graphic_string(
-        &mut self,
-        _tag: Tag,
-        _constraints: &Constraints<'_>,
-    ) -> Result<GraphicString, DecodeError> {
-        self.content(Some(GraphicString::new(Vec::new(self.alloc))))
-    }
-
-    fn decode_visible_string(
-        &mut self,
-        _tag: Tag,
-        _constraints: &Constraints<'_>,
-    ) -> Result<VisibleString, DecodeError> {
-        self.content(VisibleString::new(Vec::new(self.alloc)).ok())
-    }
-
-    fn decode_ia5_string(
-        &mut self,
-        _tag: Tag,
-        _constraints: &Constraints<'_>,
-    ) -> Result<Ia5String, DecodeError> {
-        self.content(Ia5String::new(Vec::new(self.alloc)).ok())
-    }
-
-    fn decode_printable_string(
-        &mut self,
-        _tag: Tag,
-        _constraints: &Constraints<'_>,
-    ) -> Result<PrintableString, DecodeError> {
-        self.content(PrintableString::new(Vec::new(self.alloc)).ok())
-    }
-
-    fn decode_numeric_string(
-        &mut self,
-        _tag: Tag,
-        _constraints: &Constraints<'_>,
-    ) -> Result<NumericString, DecodeError> {
-        self.content(NumericString::new(Vec::new(self.alloc)).ok())
-    }
-
-    fn decode_teletex_string(
-        &mut self,
-        _tag: Tag,
-        _constraints: &Constraints<'_>,
-    ) -> Result<TeletexString, DecodeError> {
-        self.content(Some(TeletexString::new(Vec::new(self.alloc))))
-    }
-
-    fn decode_bmp_string(
-        &mut self,
-        _tag: Tag,
-        _constraints: &Constraints<'_>,
-    ) -> Result<BmpString, DecodeError> {
-        self.content(Some(BmpString::new(Vec::new(self.alloc))))
+    ) -> Result<K::Owned, DecodeError> {
+        self.content(K::from_any(empty_string(self.alloc, K::kind())))
     }
 
     fn decode_any(&mut self, _tag: Tag) -> Result<Any, DecodeError> {
@@ -325,7 +242,7 @@ impl Decoder for Listener {
         Ok(C::field_count())
     }
 
-    fn next_component(&mut self) -> Result<Option<Tag>, DecodeError> {
+    fn next_component<C: FieldTable>(&mut self) -> Result<Option<Tag>, DecodeError> {
         self.may_read()?;
         Ok(self.next_tag())
     }
@@ -379,6 +296,16 @@ impl Decoder for Listener {
     }
 
     ghost lawful = { record { in_any_order = λ _ _ _ _ h. h } };
+}
+
+/// The string of this kind that has no units.
+fn empty_string(alloc: Global, kind: StringKind) -> AnyString {
+    match kind {
+        StringKind::Bits => AnyString::Bits(Vec::new(alloc)),
+        StringKind::Octets(kind) => AnyString::Octets(kind, Vec::new(alloc)),
+        StringKind::Bmp => AnyString::Bmp(Vec::new(alloc)),
+        StringKind::Teletex => AnyString::Teletex(Vec::new(alloc)),
+    }
 }
 
 /// The name in the first line of the table.

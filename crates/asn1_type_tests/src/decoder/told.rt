@@ -1,5 +1,5 @@
-//! What a codec is told beside the records, which no contract says: whose table, whose alternatives, and whether what may be
-//! absent is a component of the root or an addition.
+//! What a codec is told when it reads: whose table, whose alternatives, and whether what may be absent is a component of the
+//! root or an addition.
 use crate::decoder::listener::{Listener, Told};
 use asn1_bounds::Constraints;
 use asn1_dec::{Decode, DecodeError, Decoder};

@@ -40,6 +40,10 @@ impl<T: AsnType> FieldTable for InstanceOf<T> {
     fn field_at(place: usize) -> Option<Field<'static>> {
         FIELDS.get(place).copied()
     }
+
+    fn marker_place() -> Option<usize> {
+        None
+    }
 }
 
 impl<T: AsnType> Constructed<2, 0> for InstanceOf<T> {
@@ -49,10 +53,6 @@ impl<T: AsnType> Constructed<2, 0> for InstanceOf<T> {
 
     fn added_fields() -> &'static [Field<'static>] {
         &[]
-    }
-
-    fn is_extensible() -> bool {
-        false
     }
 
     ghost root_length = { refl };

@@ -23,7 +23,7 @@ fn count<T: PartialEq>(element: &T, others: &[T]) -> usize
     others.iter().filter(|other| *element == **other).count()
 }
 
-/// Whether the element stands in both, as often in the others as among the elements.
+/// Whether the element is in both, as often in the others as among the elements.
 fn stands_as_often<T: PartialEq>(element: &T, elements: &[T], others: &[T]) -> bool
     ensures { result ≡ stands_as_often T.eq elements.now others.now element.now }
 {
@@ -31,16 +31,17 @@ fn stands_as_often<T: PartialEq>(element: &T, elements: &[T], others: &[T]) -> b
     wanted > 0 && wanted == count(element, others)
 }
 
-/// Whether each of the elements stands as often among the others.
+/// Whether each of the elements is as often among the others.
 fn all_stand_as_often<T: PartialEq>(elements: &[T], others: &[T]) -> bool
-    ensures { result ≡ list_all (λ element. stands_as_often T.eq elements.now others.now element) elements.now }
+    ensures { result ≡
+        list_all (λ element. stands_as_often T.eq elements.now others.now element) elements.now }
 {
     elements
         .iter()
         .all(|element| stands_as_often(element, elements, others))
 }
 
-/// Whether both are as long, and each of the elements stands as often among the others.
+/// Whether both are as long, and each of the elements is as often among the others.
 fn have_same_counts<T: PartialEq>(elements: &[T], others: &[T]) -> bool
     ensures { result ≡ same_counts T.eq elements.now others.now }
 {
@@ -82,5 +83,6 @@ impl<T: Eq> Hash for SetOf<T> {
 
 /// A law of sets: two of them are equal exactly if they have the same elements, each as often, in any order.
 pub fn equal_sets_have_the_same_elements<T: PartialEq>(left: &SetOf<T>, right: &SetOf<T>)
-    ensures { IsTrue (⟦<SetOf<T> as PartialEq>⟧.eq left.now right.now) ↔ SameElements T.eq left.now right.now }
+    ensures { IsTrue (⟦<SetOf<T> as PartialEq>⟧.eq left.now right.now) ↔
+        SameElements T.eq left.now right.now }
 {}

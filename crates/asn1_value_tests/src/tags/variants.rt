@@ -136,6 +136,7 @@ fn a_list_without_a_table_is_searched_from_the_left(rt: HostRuntime) {
     let variants = Variants::new(alloc, C0_U3_U3).expect(&rt, "memory");
     assert_found(&rt, &variants, Tag::BIT_STRING, Some(1), 2);
     assert_found(&rt, &variants, Tag::NULL, None, 3);
+    assert_found(&rt, &Variants::empty(alloc), Tag::BIT_STRING, None, 0);
 }
 
 // Asserts that the list, where there is memory for it, has all three.

@@ -5,7 +5,7 @@ use Rattle.asn1_fields.proofs.SharedTags.{meet-is}
 use Rattle.asn1_fields.proofs.distinct_tags.share_tag.Goals as goal
 use Rattle.asn1_fields.proofs.distinct_tags.share_tag.Goals.{then-has_empty_choice, else-has_empty_choice}
 
--- no choice of nothing stands in either, so the leaves decide
+-- no choice of nothing is in either, so the leaves decide
 pub returns-else-has_empty_choice-2 : goal.returns-else-has_empty_choice-2
 returns-else-has_empty_choice-2 c =
     let ts = leaves (shape c.args.field.now.tag_tree) in

@@ -1,7 +1,7 @@
 use Rattle.std.proofs.Common.{◌≡◌, ap, ◌∙◌}
 use Rattle.asn1_model.specs.Records.{holding}
 use Rattle.asn1_model.specs.Tags.{head_tag}
-use Rattle.asn1_record_decoder.specs.Found.{HoldsRecords}
+use Rattle.asn1_record_decoder.specs.Found.{AreRecords}
 use Rattle.asn1_records.specs.Records.{head_of, record_of, records_of}
 use Rattle.asn1_records.proofs.Records.{scope_is as shape_of_scope}
 use Rattle.asn1_record_decoder.proofs.InRecords.{scope_is, head_tag-without}
@@ -15,7 +15,7 @@ returns-in-Scope-clause-tag c = λ h items meets is.
 pub returns-in-Scope-clause-records : goal.returns-in-Scope-clause-records
 returns-in-Scope-clause-records c = λ h items meets is.
     let s = scope_is c.args.item.now c.in-Scope.head c.in-Scope.records.items h items (ap record_of c.in-Scope.is ∙ shape_of_scope c.in-Scope.head c.in-Scope.records) is in
-    let P = λ (rs : _). HoldsRecords rs h items in
+    let P = λ (rs : _). AreRecords rs items in
     rw c.deref.ensures.value s.1
 
 pub returns-in-Scope-clause-only : goal.returns-in-Scope-clause-only

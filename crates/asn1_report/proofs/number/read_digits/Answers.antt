@@ -6,12 +6,12 @@ use Rattle.asn1_report.proofs.number.read_digits.Goals as goal
 pub returns-in_err-checked_mul : goal.returns-in_err-checked_mul
 returns-in_err-checked_mul c =
     let grown = le-next_digit c.loop-left.number c.loop-left.left.now (omega arith) (omega arith) (omega arith) in
-    grind (arith, common_steps)
+    record { digits = grind (arith, common_steps) }
 
 pub returns-in_err-number : goal.returns-in_err-number
 returns-in_err-number c =
     let grown = le-next_digit c.loop-left.number c.loop-left.left.now (omega arith) (omega arith) (omega arith) in
-    grind (arith, common_steps)
+    record { digits = grind (arith, common_steps) }
 
 pub loop-left-preserved : goal.loop-left-preserved
 loop-left-preserved c = record {

@@ -8,11 +8,11 @@ pub returns-in_err-read_magnitude-in-45 : goal.returns-in_err-read_magnitude-in-
 returns-in_err-read_magnitude-in-45 c =
     let text = c.args.text.now in
     let value = integer-minus text (length text - 1) (omega arith) (omega arith) (omega arith) in
-    c.from_residual.ensures ∙ sym (value ∙ none-too_large _ _ c.in_err-read_magnitude-in-45.ensures)
+    record { read = c.from_residual.ensures ∙ sym (value ∙ none-too_large _ _ c.in_err-read_magnitude-in-45.ensures.read) }
 
 pub returns-in_ok-read_magnitude-in-45 : goal.returns-in_ok-read_magnitude-in-45
 returns-in_ok-read_magnitude-in-45 c =
     let text = c.args.text.now in
     let value = integer-minus text (length text - 1) (omega arith) (omega arith) (omega arith) in
-    let read = c.in_ok-read_magnitude-in-45.ensures in
-    grind (arith, common_steps, nat_tests)
+    let magnitude = c.in_ok-read_magnitude-in-45.ensures.read in
+    record { read = grind (arith, common_steps, nat_tests) }

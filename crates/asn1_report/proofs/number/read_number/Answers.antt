@@ -9,15 +9,17 @@ use Rattle.asn1_report.proofs.Numbers.{number-value, number-bounds, number-lone_
 use Rattle.asn1_report.proofs.number.read_number.Goals as goal
 
 pub returns-in-48 : goal.returns-in-48
-returns-in-48 c number left begins =
-    let lone = number-lone_zero c.args.text.now (length c.args.text.now - 1) number left begins (omega arith) (omega arith) in
-    cc
+returns-in-48 c = record {
+  begins = λ number left begins.
+      let lone = number-lone_zero c.args.text.now (length c.args.text.now - 1) number left begins (omega arith) (omega arith) in
+      cc;
+}
 
 pub returns-in-48-2 : goal.returns-in-48-2
-returns-in-48-2 c = zero-begins c.args.text.now _ (omega arith) (omega arith) (omega arith) (sym c.if-begins_with_digit.ensures)
+returns-in-48-2 c = record { begins = zero-begins c.args.text.now _ (omega arith) (omega arith) (omega arith) (sym c.if-begins_with_digit.ensures.digit) }
 
 pub returns-in-49-to-57 : goal.returns-in-49-to-57
-returns-in-49-to-57 c = by_result c.read_digits.result c.read_digits.ensures
+returns-in-49-to-57 c = record { begins = by_result c.read_digits.result c.read_digits.ensures.digits }
   where
     by_result : (r : Option (ℕ × Bor (List ℕ))) →
         MatchOption r (2 ^ 32 ≤ digits_value 10 (take_while is_ascii_digit c.args.text.now))
@@ -28,6 +30,8 @@ returns-in-49-to-57 c = by_result c.read_digits.result c.read_digits.ensures
     by_result (Some (number, left)) read = digits-begin c.args.text.now number left.now (omega arith) (omega arith) (omega arith) read.0 read.1 read.2
 
 pub returns-in_default : goal.returns-in_default
-returns-in_default c number left begins =
-    let bounds = number-bounds c.args.text.now number left begins in
-    grind (arith, common_steps, nat_tests)
+returns-in_default c = record {
+  begins = λ number left begins.
+      let bounds = number-bounds c.args.text.now number left begins in
+      grind (arith, common_steps, nat_tests);
+}

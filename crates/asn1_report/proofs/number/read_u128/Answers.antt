@@ -10,8 +10,8 @@ returns-in_err-high c =
     let k = c.saturating_sub.result in
     let digits = digits-split text k in
     let value = digits_value-split text k c.saturating_sub.ensures in
-    let high = c.in_err-high.ensures in
-    grind (arith, common_steps, nat_tests)
+    let high = c.in_err-high.ensures.read in
+    record { read = grind (arith, common_steps, nat_tests) }
 
 pub returns-in_err-low : goal.returns-in_err-low
 returns-in_err-low c =
@@ -19,8 +19,8 @@ returns-in_err-low c =
     let k = c.saturating_sub.result in
     let digits = digits-split text k in
     let small = digits_value-last text k c.saturating_sub.ensures in
-    let low = c.in_err-low.ensures in
-    grind (arith, common_steps, nat_tests)
+    let low = c.in_err-low.ensures.read in
+    record { read = grind (arith, common_steps, nat_tests) }
 
 pub returns : goal.returns
 returns c =
@@ -28,6 +28,6 @@ returns c =
     let k = c.saturating_sub.result in
     let digits = digits-split text k in
     let value = digits_value-split text k c.saturating_sub.ensures in
-    let high = c.in_ok-high.ensures in
-    let low = c.in_ok-low.ensures in
-    (grind (arith, common_steps, nat_tests), grind (arith, common_steps, nat_tests))
+    let high = c.in_ok-high.ensures.read in
+    let low = c.in_ok-low.ensures.read in
+    record { read = (grind (arith, common_steps, nat_tests), grind (arith, common_steps, nat_tests)) }

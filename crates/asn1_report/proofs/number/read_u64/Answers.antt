@@ -15,7 +15,7 @@ returns-in_err-checked_mul c =
     let turn = at_drop_more (digits_value_after 10 l.number) ds i 0 c.loop-byte-test.true in
     let grown = le-digits_value_after 10 (l.number * 10 + digit_value (get_or ds i 0)) (drop (i + 1) ds) (omega arith) in
     let large : 2 ^ 64 ≤ digits_value 10 ds = grind (arith, common_steps) in
-    grind (arith, nat_tests, common_steps)
+    record { read = grind (arith, nat_tests, common_steps) }
 
 pub returns-in_err-number : goal.returns-in_err-number
 returns-in_err-number c =
@@ -25,4 +25,4 @@ returns-in_err-number c =
     let turn = at_drop_more (digits_value_after 10 l.number) ds i 0 c.loop-byte-test.true in
     let grown = le-digits_value_after 10 (l.number * 10 + digit_value (get_or ds i 0)) (drop (i + 1) ds) (omega arith) in
     let large : 2 ^ 64 ≤ digits_value 10 ds = grind (arith, common_steps, nat_tests) in
-    grind (arith, nat_tests, common_steps)
+    record { read = grind (arith, nat_tests, common_steps) }

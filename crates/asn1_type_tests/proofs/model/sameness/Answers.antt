@@ -5,6 +5,7 @@ use Rattle.std.proofs.lemmas.List.Sorted.{IsPermutation-middle}
 use Rattle.asn1_model.specs.ConstraintSets.{unconstrained}
 use Rattle.asn1_model.specs.Orders.{is_unordered, Same, SameAll, equal, in_place, in_any_order, at_end, next}
 use Rattle.asn1_model.specs.Records.{Record, Records, scalar, scope, raw, mark, none, more, is_mark, sequence, set, set_of}
+use Rattle.asn1_model.specs.Tables.{no_table}
 use Rattle.asn1_model.specs.Tags.{universal}
 use Rattle.asn1_model.proofs.SameRecords.{same-mark}
 use Rattle.asn1_type_tests.proofs.model.sameness.Goals as goal
@@ -14,13 +15,13 @@ turned x y = IsPermutation-middle (x ∷ []) y []
 
 -- src/model.rt
 pub returns-clause-set : goal.returns-clause-set
-returns-clause-set c = λ r s. in_any_order (set (universal 17) None) refl (next (equal r) (next (equal s) at_end)) (turned r s)
+returns-clause-set c = λ r s. in_any_order (set (universal 17) no_table None) refl (next (equal r) (next (equal s) at_end)) (turned r s)
 
 -- src/model.rt
 pub returns-clause-inside : goal.returns-clause-inside
 returns-clause-inside c = λ r s.
     in_place
-    (sequence (universal 16) None)
+    (sequence (universal 16) no_table None)
     (next (in_any_order (set_of (universal 17) unconstrained None) refl (next (equal r) (next (equal s) at_end)) (turned r s)) at_end)
 
 -- whether the first of the records is a mark

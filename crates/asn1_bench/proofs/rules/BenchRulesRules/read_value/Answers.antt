@@ -2,7 +2,7 @@ use Rattle.std.proofs.Common.{[], ◌∷◌, ◌++◌, inl, refl}
 use Rattle.std.proofs.lemmas.Result.{err_from_is_err_and}
 use Rattle.asn1_model.specs.Meaning.{own_records}
 use Rattle.asn1_records.specs.Carried.{Carries}
-use Rattle.asn1_bench.proofs.Whole.{alone, not_at_end}
+use Rattle.asn1_bench.proofs.Whole.{alone, not_at_end, own_or_failed}
 use Rattle.asn1_bench.proofs.rules.BenchRulesRules.read_value.Goals as goal
 
 pub returns-in_err-value-clause-read : goal.returns-in_err-value-clause-read
@@ -29,6 +29,23 @@ returns-clause-read g c = λ v can of_type valid carries.
     let at = alone c.new-decoder.result (own_records m v) (c.new-decoder.ensures.before (own_records m v) carried) in
     let read = c.in_ok-value.ensures.read v m.name [] [] can.1 of_type valid (inl can.0) at in
     (read.answer, rw (← c.new-decoder.ensures.allowance) read.within_allowance)
+
+pub returns-in_err-value-clause-refuses : goal.returns-in_err-value-clause-refuses
+returns-in_err-value-clause-refuses g c = λ rs error refused carries.
+    let carried : Carries c.as_slice.result.now rs = rw c.as_slice.ensures.value carries in
+    let at = alone c.new-decoder.result rs (c.new-decoder.ensures.before rs carried) in
+    let p = err_from_is_err_and c.from_residual.result c.from_residual.ensures.1 in
+    rw (p.1, p.2, ← c.new-decoder.ensures.allowance) (own_or_failed (c.in_err-value.ensures.refuses rs [] [] error refused at))
+
+pub returns-in_err-finish-clause-refuses : goal.returns-in_err-finish-clause-refuses
+returns-in_err-finish-clause-refuses g c = λ rs error refused carries.
+    let carried : Carries c.as_slice.result.now rs = rw c.as_slice.ensures.value carries in
+    absurd (c.in_ok-value.ensures.refuses rs [] [] error refused (alone c.new-decoder.result rs (c.new-decoder.ensures.before rs carried)))
+
+pub returns-clause-refuses : goal.returns-clause-refuses
+returns-clause-refuses g c = λ rs error refused carries.
+    let carried : Carries c.as_slice.result.now rs = rw c.as_slice.ensures.value carries in
+    absurd (c.in_ok-value.ensures.refuses rs [] [] error refused (alone c.new-decoder.result rs (c.new-decoder.ensures.before rs carried)))
 
 pub returns-clause-none_left : goal.returns-clause-none_left
 returns-clause-none_left g c = λ v r rest can of_type valid carries.

@@ -1,5 +1,5 @@
 use Rattle.std.proofs.Common.{sym, ◌∙◌}
-use Rattle.asn1_choices.specs.Alternatives.{all_of, chosen_meaning}
+use Rattle.asn1_choices.specs.Alternatives.{all_of, chosen_meaning, table_of}
 use Rattle.asn1_choices.specs.ChosenTags.{chosen_tag}
 use Rattle.asn1_model.specs.Composites.{alternative_records}
 use Rattle.asn1_model.specs.ConstraintSets.{constraint_set}
@@ -9,23 +9,23 @@ use Rattle.asn1_enc.proofs.Names.{named_or}
 use Rattle.asn1_enc.proofs.Steps.{exits, inside_fails, open_fails}
 use Rattle.asn1_enc.proofs.encoder.Encoder.encode_choice_with_tag.Goals as goal
 
-pub returns-in_err-open_explicit_prefix : goal.returns-in_err-open_explicit_prefix
-returns-in_err-open_explicit_prefix g c =
+pub returns-in_err-open_explicit_prefix-clause-writes : goal.returns-in_err-open_explicit_prefix-clause-writes
+returns-in_err-open_explicit_prefix-clause-writes g c =
     let W = g.Self.Encoder.writer in
     let m = g.T.AsnType.meaning in
     let means = chosen_meaning (all_of g.T.Choice.alternatives) (g.T.Choice.pick c.args.value.now) in
     as_tagged W m g.T.Choice.alternatives g.T.Choice.pick c.args.value.now c.args.tag (constraint_set c.args.constraints.now) (name_of c.args.name) (name_of c.or-name.result) _ _ _ g.met.T.ChoiceType.agrees
     (sym c.is_choice.ensures.parts ∙ c.if-is_choice.false)
-    (rw c.identifier.ensures at (named_or (name_of c.args.name) (name_of c.identifier.result) (name_of c.or-name.result) c.or-name.ensures.named c.or-name.ensures.empty))
+    (rw c.table-table.ensures.identifier at (named_or (name_of c.args.name) (name_of c.table-table.result.identifier) (name_of c.or-name.result) c.or-name.ensures.named c.or-name.ensures.empty))
     (exits W _ _ _ means.IsOfType _ c.from_residual.ensures.1
-    (open_fails W (alternative_records (chosen_tag (all_of g.T.Choice.alternatives) (g.T.Choice.pick c.args.value.now)) m.constraints m.name means.records) c.in_err-open_explicit_prefix.ensures))
+    (open_fails W (alternative_records (chosen_tag (all_of g.T.Choice.alternatives) (g.T.Choice.pick c.args.value.now)) m.constraints (table_of g.T.Choice.alternatives) m.name means.records) c.in_err-open_explicit_prefix.ensures))
 
-pub returns-in_err-encode_choice : goal.returns-in_err-encode_choice
-returns-in_err-encode_choice g c =
+pub returns-in_err-encode_choice-clause-writes : goal.returns-in_err-encode_choice-clause-writes
+returns-in_err-encode_choice-clause-writes g c =
     let W = g.Self.Encoder.writer in
     let m = g.T.AsnType.meaning in
     as_tagged W m g.T.Choice.alternatives g.T.Choice.pick c.args.value.now c.args.tag (constraint_set c.args.constraints.now) (name_of c.args.name) (name_of c.or-name.result) _ _ _ g.met.T.ChoiceType.agrees
     (sym c.is_choice.ensures.parts ∙ c.if-is_choice.false)
-    (rw c.identifier.ensures at (named_or (name_of c.args.name) (name_of c.identifier.result) (name_of c.or-name.result) c.or-name.ensures.named c.or-name.ensures.empty))
+    (rw c.table-table.ensures.identifier at (named_or (name_of c.args.name) (name_of c.table-table.result.identifier) (name_of c.or-name.result) c.or-name.ensures.named c.or-name.ensures.empty))
     (exits W _ _ _ _ _ c.from_residual-in_err-encode_choice.ensures.1
-    (inside_fails W g.met.Self.Encoder.lawful c.in_ok-open_explicit_prefix.ensures (rw (c.in-Ok.ensures.set, c.identifier-2.ensures) at c.in_err-encode_choice.ensures)))
+    (inside_fails W g.met.Self.Encoder.lawful c.in_ok-open_explicit_prefix.ensures (rw (c.in_ok-own_constraints.ensures.made, c.table-table.ensures.constraints, c.table-table.ensures.identifier, c.in_ok-own_constraints.ensures.same) at c.in_err-encode_choice.ensures.writes)))

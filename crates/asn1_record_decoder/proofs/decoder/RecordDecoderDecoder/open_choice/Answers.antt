@@ -1,16 +1,27 @@
-use Rattle.std.proofs.Common.{refl}
+use Rattle.std.proofs.Common.{refl, subst, sym, Ok, Err, ap, ◌∙◌}
 use Rattle.std.proofs.lemmas.Result.{err_from_is_err_and}
+use Rattle.asn1_choices.specs.Alternatives.{all_of, table_of}
+use Rattle.asn1_choices.specs.ChosenTags.{TellsAlternative, tells_itself}
+use Rattle.asn1_dec.proofs.UpToOrder.{answer_in_any_order, opens}
 use Rattle.asn1_model.specs.ConstraintSets.{constraint_set}
 use Rattle.asn1_model.specs.Records.{alternative}
-use Rattle.asn1_record_decoder.proofs.Standing.{in_order}
+use Rattle.asn1_record_decoder.specs.Reading.{in_one_order}
+use Rattle.asn1_record_decoder.specs.declared.wanted.Wanted.TheVariants.{Alternative}
+use Rattle.asn1_record_decoder.proofs.Standing.{not_opened, was_opened}
 use Rattle.asn1_record_decoder.proofs.decoder.RecordDecoderDecoder.open_choice.Goals as goal
 
 pub returns-in_err-opened-clause-read : goal.returns-in_err-opened-clause-read
-returns-in_err-opened-clause-read g c = λ chosen n items rest outer at.
+returns-in_err-opened-clause-read g c = λ chosen.
+    let alts = g.T.Choice.alternatives in
+    let head = alternative chosen (constraint_set c.args._constraints.now) (table_of alts) in
     let p = err_from_is_err_and c.from_residual.result c.from_residual.ensures.1 in
-    rw (p.1, p.2) (c.in_err-opened.ensures.read (alternative chosen (constraint_set c.args._constraints.now) n) items rest outer tt at)
+    opens in_one_order c.args.self.now c.open.new.self head (λ _ tag. TellsAlternative chosen tag (all_of alts)) c.from_residual.result (λ n. refl) (answer_in_any_order (λ tag. TellsAlternative chosen tag (all_of alts)))
+    (not_opened c.args.self.now c.open.new.self Alternative head (λ _ tag. TellsAlternative chosen tag (all_of alts)) _ c.from_residual.result (p.1 ∙ ap Err p.2) (λ n. tt) c.in_err-opened.ensures.read)
 
 pub returns-clause-read : goal.returns-clause-read
-returns-clause-read g c = λ chosen n items rest outer at.
-    let o = c.in_ok-opened.ensures.read (alternative chosen (constraint_set c.args._constraints.now) n) items rest outer tt at in
-    in_order (alternative chosen (constraint_set c.args._constraints.now) n) items rest outer _ _ c.args.self.now c.open.new.self _ refl o o.has_tag
+returns-clause-read g c = λ chosen.
+    let alts = g.T.Choice.alternatives in
+    let head = alternative chosen (constraint_set c.args._constraints.now) (table_of alts) in
+    opens in_one_order c.args.self.now c.open.new.self head (λ _ tag. TellsAlternative chosen tag (all_of alts)) (Ok c.in_ok-opened.opened.tag) (λ n. refl) (answer_in_any_order (λ tag. TellsAlternative chosen tag (all_of alts)))
+    (was_opened c.args.self.now c.open.new.self Alternative head (λ _ tag. TellsAlternative chosen tag (all_of alts)) c.in_ok-opened.opened c.in_ok-opened.opened.tag
+    (λ n items o. subst (λ tag. TellsAlternative chosen tag (all_of alts)) (sym o.has_tag) (tells_itself (all_of alts) chosen)) (λ n. tt) c.in_ok-opened.ensures.read)

@@ -1,15 +1,6 @@
 use Rattle.std.proofs.Common.{refl}
-use Rattle.std.proofs.lemmas.Result.{err_from_is_err_and}
 use Rattle.asn1_model.specs.Records.{prefix}
-use Rattle.asn1_record_decoder.proofs.Standing.{in_order}
 use Rattle.asn1_record_decoder.proofs.decoder.RecordDecoderDecoder.open_explicit_prefix.Goals as goal
 
-pub returns-in_err-open-clause-read : goal.returns-in_err-open-clause-read
-returns-in_err-open-clause-read c = λ n items rest outer at.
-    let p = err_from_is_err_and c.from_residual.result c.from_residual.ensures.1 in
-    rw (p.1, p.2) (c.in_err-open.ensures.read (prefix c.args.tag n) items rest outer refl at)
-
 pub returns-clause-read : goal.returns-clause-read
-returns-clause-read c = λ n items rest outer at.
-    let o = c.in_ok-open.ensures.read (prefix c.args.tag n) items rest outer refl at in
-    in_order (prefix c.args.tag n) items rest outer _ _ c.args.self.now c.open.new.self _ refl o tt
+returns-clause-read c = c.open_in_order.ensures.read (prefix c.args.tag) (λ n. refl) (λ n. refl)

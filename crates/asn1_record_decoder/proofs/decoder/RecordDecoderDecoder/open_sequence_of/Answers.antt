@@ -1,16 +1,7 @@
 use Rattle.std.proofs.Common.{refl}
-use Rattle.std.proofs.lemmas.Result.{err_from_is_err_and}
 use Rattle.asn1_model.specs.ConstraintSets.{constraint_set}
 use Rattle.asn1_model.specs.Records.{sequence_of}
-use Rattle.asn1_record_decoder.proofs.Standing.{in_order}
 use Rattle.asn1_record_decoder.proofs.decoder.RecordDecoderDecoder.open_sequence_of.Goals as goal
 
-pub returns-in_err-opened-clause-read : goal.returns-in_err-opened-clause-read
-returns-in_err-opened-clause-read c = λ n items rest outer at.
-    let p = err_from_is_err_and c.from_residual.result c.from_residual.ensures.1 in
-    rw (p.1, p.2) (c.in_err-opened.ensures.read (sequence_of c.args.tag (constraint_set c.args._constraints.now) n) items rest outer refl at)
-
 pub returns-clause-read : goal.returns-clause-read
-returns-clause-read c = λ n items rest outer at.
-    let o = c.in_ok-opened.ensures.read (sequence_of c.args.tag (constraint_set c.args._constraints.now) n) items rest outer refl at in
-    in_order (sequence_of c.args.tag (constraint_set c.args._constraints.now) n) items rest outer _ _ c.args.self.now c.open.new.self _ refl o o.is_bound
+returns-clause-read c = c.open_list.ensures.read (sequence_of c.args.tag (constraint_set c.args._constraints.now)) (λ n. refl) (λ n. refl)

@@ -1,6 +1,7 @@
 use Rattle.std.proofs.Common.{refl, ◌∙◌, ap, arith, ◌≡◌, length, ◌++◌, Some}
 use Rattle.asn1_enc.proofs.UpToOrder.{group_is_closed, group_is_not_closed}
 use Rattle.asn1_model.specs.Composites.{group_records}
+use Rattle.asn1_model.specs.Tables.{no_table}
 use Rattle.asn1_records.specs.Records.{records_of}
 use Rattle.asn1_records.specs.Encoder.{in_one_order}
 use Rattle.asn1_records.proofs.Writing.{group_closed, no_group, scope_inside, room_without}
@@ -27,4 +28,4 @@ pub returns : goal.returns
 returns c =
     group_is_closed in_one_order
     (group_closed _ _ c.in-Some.field-0 c.in-Group.is c.in-Some.ensures.items
-    (c.in_default-append_group.ensures ∙ ap (λ v. records_of v.items ++ group_records (Some (records_of c.replace-components.result.items))) c.replace-components.ensures.after ∙ ap (λ v. records_of c.in-Some.field-0.records.items ++ group_records (Some (records_of v.items))) c.replace-components.ensures.value) refl c.if-self.false c.if-self.false)
+    (c.in_default-append_group.ensures ∙ ap (λ v. records_of v.items ++ group_records no_table (Some (records_of c.replace-components.result.items))) c.replace-components.ensures.after ∙ ap (λ v. records_of c.in-Some.field-0.records.items ++ group_records no_table (Some (records_of v.items))) c.replace-components.ensures.value) refl c.if-self.false c.if-self.false)

@@ -1,19 +1,43 @@
-use Rattle.std.specs.Prelude.{option_map}
-use Rattle.asn1_report.specs.Seen.{table_seen}
-use Rattle.asn1_report.proofs.Answering.{answered, refused}
+use Rattle.std.proofs.Common.{None, Some, option_map}
+use Rattle.std.proofs.lemmas.Result.{on_ok_weaker}
+use Rattle.asn1_report.specs.Seen.{statement_seen, table_seen}
+use Rattle.asn1_report.proofs.Answering.{answered}
 use Rattle.asn1_report.proofs.reporter.Reporter.answer.Goals as goal
 
-pub returns-then-branch : goal.returns-then-branch
-returns-then-branch c =
-    let given = rw c.if-branch.true at c.in_ok-answer_if_understood.ensures in
-    let said = answered c.args.number (option_map table_seen c.args.self.now.table) (option_map table_seen c.answer_if_understood.new.self.table)
-    (option_map (λ bytes. bytes.now) c.args.line) c.clear.new.self.items c.answer_if_understood.new.self.text.items c.clear.ensures.items given in
-    record { text = said.text_is; table = said.table_is; understood = said.understood_is }
+pub returns-in-Some : goal.returns-in-Some
+returns-in-Some c = record {
+  answered = λ s stands.
+      on_ok_weaker c.answer_statement.result
+      (answered s (option_map (λ bytes. bytes.now) c.args.line) c.args.self.now
+      (record {
+        alloc = c.args.self.now.alloc;
+        reader = c.read.new.self;
+        number = c.saturating_add-self.result;
+        table = c.args.self.now.table;
+        all_understood = c.args.self.now.all_understood;
+        text = c.clear.new.self;
+      })
+      c.answer_statement.new.self c.is_some-in_table.result (Some (statement_seen c.in-Some.statement)) stands c.is_some-in_table.ensures
+      (rw c.in-Some.is at c.in_ok-statement.ensures.said) c.clear.ensures.items
+      (λ i. record { number = c.saturating_add-self.ensures i; table = option_map table_seen c.args.self.now.table; understood = c.args.self.now.all_understood }))
+      c.answer_statement.ensures.given;
+}
 
-pub returns : goal.returns
-returns c =
-    let given = rw c.if-branch.false at c.in_ok-answer_if_understood.ensures in
-    let said = refused c.args.number c.args.self.now.table (option_map table_seen c.answer_if_understood.new.self.table) (option_map table_seen c.refuse_line.new.table)
-    (option_map (λ bytes. bytes.now) c.args.line) c.clear.new.self.items c.answer_if_understood.new.self.text.items c.write_refusal.new.text.items
-    c.clear.ensures.items given c.refuse_line.ensures c.in_ok-write_refusal.ensures in
-    record { text = said.text_is; table = said.table_is; understood = said.understood_is }
+pub returns-in-None : goal.returns-in-None
+returns-in-None c = record {
+  answered = λ s stands.
+      on_ok_weaker c.refuse_line.result
+      (answered s (option_map (λ bytes. bytes.now) c.args.line) c.args.self.now
+      (record {
+        alloc = c.args.self.now.alloc;
+        reader = c.read.new.self;
+        number = c.saturating_add-self.result;
+        table = c.args.self.now.table;
+        all_understood = c.args.self.now.all_understood;
+        text = c.clear.new.self;
+      })
+      c.refuse_line.new.self c.is_some-in_table.result None stands c.is_some-in_table.ensures
+      (rw c.in-None.is at c.in_ok-statement.ensures.said) c.clear.ensures.items
+      (λ i. record { number = c.saturating_add-self.ensures i; table = option_map table_seen c.args.self.now.table; understood = c.args.self.now.all_understood }))
+      c.refuse_line.ensures.given;
+}

@@ -7,12 +7,13 @@ use Rattle.asn1_samples.specs.contracts.badge.BadgeFieldTable.TheImpl.{ghosts as
 use Rattle.asn1_samples.specs.contracts.shape.ShapeAsnType.TheImpl.{ghosts as shape}
 use Rattle.asn1_samples.specs.contracts.shape.ShapePartialEq.TheImpl.{ghosts as shapes}
 use Rattle.asn1_samples.specs.declared.badge.BadgePart.TheVariants.{Label, Figure}
+use Rattle.asn1_model.specs.Records.{in_root}
 use Rattle.asn1_dec.proofs.ReadParts.{optional_part, required_part}
 use Rattle.asn1_samples.proofs.badge.BadgeDecodeSet.decode_field.Goals as goal
 
 pub returns-in-1-clause-read : goal.returns-in-1-clause-read
 returns-in-1-clause-read g c =
-    optional_part g.D.Decoder.reader _ _ Label (all_components badge.components) badge_index IsBadgePart label_type (pointwise eqb) 1 c.args.index c.decode-in-1.result c.map-in-1.result
+    optional_part g.D.Decoder.reader _ _ Label (all_components badge.components) badge_index IsBadgePart label_type (pointwise eqb) 1 c.args.index c.decode-in-1.result c.map-in-1.result in_root
     c.in-1.is (λ b. b.label) (λ b. refl) (λ h. h.1.0) (λ b h. h.1.0) (λ b h. h.1.0)
     (λ can w rest outer of_type valid. c.decode-in-1.ensures.read w (Some (codes "VisibleString")) rest outer can.1 of_type valid (inl can.0)) c.map-in-1.ensures.cases (λ b w same. (refl, same))
 

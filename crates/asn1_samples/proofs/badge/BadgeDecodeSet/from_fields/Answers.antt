@@ -5,6 +5,7 @@ use Rattle.std.specs.Prelude.{◌==◌}
 use Rattle.std.specs.Vec.Iter.{into_iter_items}
 use Rattle.asn1_samples.specs.BadgeParts.{badge_index, label_type}
 use Rattle.asn1_samples.specs.declared.badge.BadgePart.TheVariants.{Id, Label, Figure}
+use Rattle.asn1_model.specs.Records.{in_root}
 use Rattle.asn1_dec.proofs.SlotLaws.{none_yet, one_on, kept, passed, not_again, once, at_most_once, at_end, is_absent, is_component, optional_slot}
 use Rattle.asn1_samples.proofs.badge.BadgeDecodeSet.from_fields.Goals as goal
 
@@ -72,7 +73,7 @@ returns-clause-made c = λ v are.
     let label = at_end badge_index 1 Label c.args.parts.items (into_iter_items c.loop-part.part-iterator) c.loop-part.invariant.label c.loop-part.invariant.all none in
     let shape = at_end badge_index 2 Figure c.args.parts.items (into_iter_items c.loop-part.part-iterator) c.loop-part.invariant.shape c.loop-part.invariant.all none in
     and_from _ _ (eq-eqb c.in-Some-id.id v.id (is_component badge_index 0 Id _ v _ _ are c.in-Some-id.id (rw c.in-Some-id.is at id)))
-    (and_from _ _ (optional_slot badge_index 1 Label _ v _ _ are c.loop-part.label v.label label_type (pointwise eqb) label refl (λ x. refl) (λ x is. is))
+    (and_from _ _ (optional_slot badge_index 1 Label _ v _ _ are in_root c.loop-part.label v.label label_type (pointwise eqb) label refl (λ x. refl) (λ x is. is))
     (is_component badge_index 2 Figure _ v _ _ are c.in-Some-shape.shape (rw c.in-Some-shape.is at shape)))
 
 pub returns-clause-fitting : goal.returns-clause-fitting

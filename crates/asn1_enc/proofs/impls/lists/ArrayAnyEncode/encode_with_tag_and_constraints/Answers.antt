@@ -7,4 +7,4 @@ use Rattle.asn1_enc.proofs.impls.lists.ArrayAnyEncode.encode_with_tag_and_constr
 pub returns : goal.returns
 returns g c =
     rw (← named_or (name_of c.args.name) (Some (codes "SEQUENCE_OF")) (name_of c.or.result) c.or.ensures.named c.or.ensures.empty)
-    (in_other_words g.E.Encoder.writer _ _ _ _ (λ all. (c.type_inv.self, all)) c.encode_sequence_of.ensures)
+    (in_other_words g.E.Encoder.writer _ _ _ _ (λ all. (c.type_inv.self, all)) c.encode_sequence_of.ensures.writes)

@@ -1,0 +1,103 @@
+//! A component that may be absent, on either side of an extension marker.
+ghost use Rattle.asn1_dec.specs.Reading.{Ahead, Keeps, ReadsBack, ReadsOption, Stays, TellsPresence};
+ghost use Rattle.asn1_dec.specs.Sides.{side_of};
+ghost use Rattle.asn1_model.specs.ConstraintSets.{constraint_set};
+ghost use Rattle.asn1_model.specs.Meaning.{CanStandInsideUnder};
+ghost use Rattle.asn1_model.specs.Records.{Name, Record, absent, present};
+ghost use Rattle.asn1_model.specs.Tags.{tree_tags};
+ghost use Rattle.asn1_tags.specs.Trees.{shape};
+ghost use Rattle.std.specs.Option.{option_eq};
+ghost use Rattle.std.specs.Prelude.{◌≡◌, List, OnErr, OnOk, Some, true, unwrap_or};
+
+use crate::decode::Decode;
+use crate::decoder::Decoder;
+use crate::error::DecodeError;
+use asn1_bounds::Constraints;
+use asn1_tags::{Tag, TagTree};
+
+/// Where a component is: in the root, or among the additions after the extension marker (X.680, 25.1).
+#[derive(Clone, Copy)]
+pub(crate) enum Side {
+    Root,
+    Additions,
+}
+
+/// Whether the component is there that is written under this tag, and begins with a tag of the tree.
+fn is_there<D: Decoder>(
+    decoder: &mut D,
+    side: Side,
+    tag: Tag,
+    tree: TagTree<'static>,
+) -> Result<bool, DecodeError>
+    ensures read { TellsPresence D.reader decoder.old decoder.new (present (side_of side) tag)
+        (absent (side_of side) tag) (tree_tags (shape tree.entry)) result }
+    ensures stays { Stays D.reader decoder.old decoder.new result }
+{
+    match side {
+        Side::Root => decoder.presence(tag, tree),
+        Side::Additions => decoder.addition_presence(tag, tree),
+    }
+}
+
+/// A value that is there. Where it is not read the decoder has failed.
+fn read_present<T: Decode, D: Decoder>(
+    decoder: &mut D,
+    tag: Tag,
+    constraints: &Constraints<'_>,
+) -> Result<Option<T>, DecodeError>
+    ensures read { (v : T) (n : Name) (rest : List Record) (outer : Ahead) →
+        CanStandInsideUnder T.meaning tag → T.meaning.IsOfType v → T.meaning.IsValid D.reader.takes v →
+        ReadsBack D.reader decoder.old decoder.new
+        (T.meaning.records v tag (constraint_set constraints.now) n) rest outer
+        (λ w. option_eq T.eq w (Some v) ≡ true) result }
+    ensures same_allowance { OnOk result
+        (D.reader.allowance decoder.new ≡ D.reader.allowance decoder.old) }
+    ensures no_failure { OnOk result (D.reader.failed decoder.new ≡ D.reader.failed decoder.old) }
+    ensures failing { OnErr result (D.reader.failed decoder.new ≡ true) }
+{
+    match T::decode_with_tag_and_constraints(decoder, tag, constraints) {
+        Ok(value) => Ok(Some(value)),
+        Err(error) => Err(decoder.refuse(error)),
+    }
+}
+
+/// A component that may be absent, under a tag, or the type's own where none is given, and the type's own constraints.
+pub(crate) fn read_optional<T: Decode, D: Decoder>(
+    decoder: &mut D,
+    side: Side,
+    tag: Option<Tag>,
+) -> Result<Option<T>, DecodeError>
+    ensures read { ReadsOption D.reader (side_of side) T.meaning T.eq
+        (unwrap_or tag T.meaning.tag) T.meaning.constraints decoder.old decoder.new result }
+    ensures keeps { Keeps D.reader decoder.old decoder.new result }
+{
+    let table = T::table();
+    let tag = tag.unwrap_or(table.tag);
+    if !is_there(decoder, side, tag, table.tree.under(tag))? {
+        return Ok(None);
+    }
+    let Ok(constraints) = table.constraints.to_constraints(decoder.global()) else {
+        return Err(decoder.refuse(DecodeError::Memory));
+    };
+    read_present(decoder, tag, &constraints)
+}
+
+/// The same under given constraints.
+pub(crate) fn read_optional_with_constraints<T: Decode, D: Decoder>(
+    decoder: &mut D,
+    side: Side,
+    tag: Option<Tag>,
+    constraints: &Constraints<'_>,
+) -> Result<Option<T>, DecodeError>
+    ensures read { ReadsOption D.reader (side_of side) T.meaning T.eq
+        (unwrap_or tag T.meaning.tag) (constraint_set constraints.now) decoder.old decoder.new
+        result }
+    ensures keeps { Keeps D.reader decoder.old decoder.new result }
+{
+    let table = T::table();
+    let tag = tag.unwrap_or(table.tag);
+    if !is_there(decoder, side, tag, table.tree.under(tag))? {
+        return Ok(None);
+    }
+    read_present(decoder, tag, constraints)
+}

@@ -1,0 +1,25 @@
+//! The constraints of a type, by its table.
+ghost use Rattle.asn1_enc.specs.Writing.{Refuses};
+ghost use Rattle.asn1_model.specs.ConstraintSets.{constraint_set, table_constraints};
+ghost use Rattle.std.specs.Prelude.{◌≡◌, IfErr, IfOk, OnOk};
+
+use crate::encoder::Encoder;
+use crate::error::EncodeError;
+use asn1_bounds::Constraints;
+use asn1_model::TypeTable;
+
+/// Makes the constraints of a table. Where there is no memory for them, the encoder has failed.
+pub(crate) fn make_constraints<E: Encoder>(
+    encoder: &mut E,
+    table: &TypeTable,
+) -> Result<Constraints<'static>, EncodeError>
+    ensures made { IfOk result
+        (λ set. constraint_set set ≡ table_constraints table.now.constraints) }
+    ensures same { OnOk result (encoder.new ≡ encoder.old) }
+    ensures refused { IfErr result (Refuses E.writer encoder.old encoder.new) }
+{
+    match table.constraints.to_constraints(encoder.global()) {
+        Ok(constraints) => Ok(constraints),
+        Err(_) => Err(encoder.refuse_memory()),
+    }
+}

@@ -1,5 +1,0 @@
-use Rattle.asn1_model.specs.ConstraintSets.{constraint_set}
-use Rattle.asn1_record_decoder.proofs.decoder.RecordDecoderDecoder.decode_bmp_string.Goals as goal
-
-pub returns-clause-read : goal.returns-clause-read
-returns-clause-read c = c.scalar.ensures.read (constraint_set c.args._constraints.now)

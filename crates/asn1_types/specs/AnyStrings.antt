@@ -1,0 +1,44 @@
+-- What a string of whatever kind is in a record.
+use Rattle.std.specs.Prelude.{◌≡◌, ⊤}
+use Rattle.asn1_model.specs.Records as model
+use Rattle.asn1_types.specs.declared.any_string.OctetKind.{OctetKind}
+use Rattle.asn1_types.specs.declared.any_string.OctetKind.TheVariants as octets
+use Rattle.asn1_types.specs.declared.any_string.StringKind.{StringKind}
+use Rattle.asn1_types.specs.declared.any_string.StringKind.TheVariants as kind
+use Rattle.asn1_types.specs.declared.any_string.AnyStr.{AnyStr}
+use Rattle.asn1_types.specs.declared.any_string.AnyStr.TheVariants as borrowed
+use Rattle.asn1_types.specs.declared.any_string.AnyString.{AnyString}
+use Rattle.asn1_types.specs.declared.any_string.AnyString.TheVariants as owned
+
+-- a kind of string whose units are octets, as records name it
+abbrev pub octet_kind : OctetKind → model.StringKind
+octet_kind octets.OctetString = model.octet
+octet_kind octets.Utf8 = model.utf8
+octet_kind octets.Visible = model.visible
+octet_kind octets.General = model.general
+octet_kind octets.Graphic = model.graphic
+octet_kind octets.Ia5 = model.ia5
+octet_kind octets.Printable = model.printable
+octet_kind octets.Numeric = model.numeric
+
+-- the content of a string, apart from where it lies in memory
+abbrev pub content_of_str : AnyStr → model.Content
+content_of_str (borrowed.Bits list) = model.bits list.now
+content_of_str (borrowed.Octets k list) = model.units (octet_kind k) list.now
+content_of_str (borrowed.Bmp list) = model.units model.bmp list.now
+content_of_str (borrowed.Teletex list) = model.units model.teletex list.now
+
+-- the same of a string that has its own memory
+abbrev pub content_of_string : AnyString → model.Content
+content_of_string (owned.Bits list) = model.bits list.items
+content_of_string (owned.Octets k list) = model.units (octet_kind k) list.items
+content_of_string (owned.Bmp list) = model.units model.bmp list.items
+content_of_string (owned.Teletex list) = model.units model.teletex list.items
+
+-- The content is a string of this kind.
+abbrev pub IsStringOf : StringKind → model.Content → Type 0
+IsStringOf kind.Bits (model.bits list) = ⊤
+IsStringOf (kind.Octets k) (model.units own list) = own ≡ octet_kind k
+IsStringOf kind.Bmp (model.units own list) = own ≡ model.bmp
+IsStringOf kind.Teletex (model.units own list) = own ≡ model.teletex
+IsStringOf _ _ = ⊥

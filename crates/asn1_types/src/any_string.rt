@@ -1,0 +1,111 @@
+//! Strings of whatever kind. A codec writes and reads the strings of all kinds by one call, and tells the kinds apart by
+//! these types.
+ghost use Rattle.asn1_types.specs.AnyStrings.{content_of_str, content_of_string, octet_kind};
+ghost use Rattle.asn1_model.specs.Records.{units};
+ghost use Rattle.std.specs.Prelude.{◌≡◌, IfOk, IfSome, IsSomeAnd, List, ℕ};
+
+use std::alloc::{AllocError, Global};
+
+/// A kind of string whose units are octets (X.680, 23 and 41).
+#[derive(Clone, Copy, Debug, PartialEq, Eq)]
+pub enum OctetKind {
+    /// OCTET STRING.
+    OctetString,
+    /// UTF8String, whose octets are those of a text.
+    Utf8,
+    /// VisibleString.
+    Visible,
+    /// GeneralString.
+    General,
+    /// GraphicString.
+    Graphic,
+    /// IA5String.
+    Ia5,
+    /// PrintableString.
+    Printable,
+    /// NumericString.
+    Numeric,
+}
+
+/// A kind of string (X.680, 22, 23 and 41), by what its units are.
+#[derive(Clone, Copy, Debug, PartialEq, Eq)]
+pub enum StringKind {
+    /// BIT STRING, of bits.
+    Bits,
+    /// A kind whose units are octets.
+    Octets(OctetKind),
+    /// BMPString, of numbers of 16 bits.
+    Bmp,
+    /// TeletexString, of numbers of 32 bits.
+    Teletex,
+}
+
+/// A string of whatever kind, borrowed, as a codec is given it.
+#[derive(Clone, Copy)]
+pub enum AnyStr<'a> {
+    /// A BIT STRING.
+    Bits(&'a [bool]),
+    /// A string of a kind whose units are octets.
+    Octets(OctetKind, &'a [u8]),
+    /// A BMPString.
+    Bmp(&'a [u16]),
+    /// A TeletexString.
+    Teletex(&'a [u32]),
+}
+
+/// A string of whatever kind, as a codec has read it. Its units need not be those that strings of the kind can have.
+#[derive(Drop)]
+pub enum AnyString {
+    /// A BIT STRING.
+    Bits(Vec<bool>),
+    /// A string of a kind whose units are octets.
+    Octets(OctetKind, Vec<u8>),
+    /// A BMPString.
+    Bmp(Vec<u16>),
+    /// A TeletexString.
+    Teletex(Vec<u32>),
+}
+
+impl AnyStr<'_> {
+    /// The same string, in memory of its own.
+    pub fn to_any_string(self, alloc: Global) -> Result<AnyString, AllocError>
+        ensures same { IfOk result (λ string.
+            content_of_string string ≡ content_of_str self.entry) }
+    {
+        match self {
+            AnyStr::Bits(bits) => Ok(AnyString::Bits(Vec::from_slice(alloc, bits)?)),
+            AnyStr::Octets(kind, octets) => {
+                Ok(AnyString::Octets(kind, Vec::from_slice(alloc, octets)?))
+            }
+            AnyStr::Bmp(units) => Ok(AnyString::Bmp(Vec::from_slice(alloc, units)?)),
+            AnyStr::Teletex(units) => Ok(AnyString::Teletex(Vec::from_slice(alloc, units)?)),
+        }
+    }
+}
+
+impl AnyString {
+    /// The same string, borrowed.
+    pub fn as_any_str(&self) -> AnyStr<'_>
+        ensures same { content_of_str result ≡ content_of_string self.now }
+    {
+        match self {
+            AnyString::Bits(bits) => AnyStr::Bits(bits.as_slice()),
+            AnyString::Octets(kind, octets) => AnyStr::Octets(*kind, octets.as_slice()),
+            AnyString::Bmp(units) => AnyStr::Bmp(units.as_slice()),
+            AnyString::Teletex(units) => AnyStr::Teletex(units.as_slice()),
+        }
+    }
+
+    /// The octets of a string of this kind.
+    pub(crate) fn into_octets(self, kind: OctetKind) -> Option<Vec<u8>>
+        ensures found { (list : List ℕ) → content_of_string self ≡ units (octet_kind kind) list →
+            IsSomeAnd result (λ found. found.items ≡ list) }
+        ensures only { IfSome result (λ found.
+            content_of_string self ≡ units (octet_kind kind) found.items) }
+    {
+        match self {
+            AnyString::Octets(own, octets) => { if own == kind { Some(octets) } else { None } }
+            _ => None,
+        }
+    }
+}

@@ -1,0 +1,345 @@
+//! The kinds of string (X.680, 22, 23 and 41), as a codec writes and reads them.
+ghost use Rattle.std.specs.Prelude.{◌≡◌, ◌<◌, ◌^◌, ⊤, All, IfSome, IsSomeAnd, IsTrue, List, codes, refl};
+ghost use Rattle.std.specs.Str.{IsUtf8};
+ghost use Rattle.std.specs.String.{string_bytes};
+ghost use Rattle.asn1_strings.specs.Alphabets.{is_ia5, is_numeric, is_printable, is_visible};
+ghost use Rattle.asn1_model.specs.Records.{units, utf8};
+ghost use Rattle.asn1_model.specs.Tags.{universal};
+ghost use Rattle.asn1_types.specs.AnyStrings.{IsStringOf, content_of_str, content_of_string};
+ghost use Rattle.asn1_types.specs.declared.any_string.OctetKind.TheVariants as octets;
+ghost use Rattle.asn1_types.specs.declared.any_string.StringKind.TheVariants as kinds;
+ghost use Rattle.asn1_types.specs.declared.any_string.StringKind.{StringKind};
+
+use crate::any_string::{AnyStr, AnyString, OctetKind, StringKind};
+use asn1_model::{StringType, TypeTable};
+use asn1_strings::kind::{
+    Bits, Bmp, General, Graphic, Ia5, Numeric, Octets, Printable, Teletex, Visible,
+};
+use asn1_strings::{
+    BitString, BmpString, GeneralString, GraphicString, Ia5String, NumericString, PrintableString,
+    TeletexString, VisibleString,
+};
+use asn1_tags::{Identifier, Tag};
+
+/// A kind of string, by the kind's marker, as a codec writes and reads it: one call of a codec serves all kinds.
+pub trait CodecString<U>: StringType<U> {
+    /// A string of the kind that has its own memory.
+    type Owned: Drop;
+
+    // The kind, by which a codec tells it from others.
+    ghost own_kind: { StringKind };
+
+    // The units are those that a string of the kind can have.
+    ghost AreOfKind: { List U → Type 0 };
+
+    // The units of a string.
+    ghost units_in: { Self.Owned → List U };
+
+    /// The kind, by which a codec tells it from others.
+    fn kind() -> StringKind
+        ensures { result ≡ own_kind };
+
+    /// The string of these units, as a codec writes it.
+    fn as_any(units: &[U]) -> AnyStr<'_>
+        ensures { content_of_str result ≡ Self.content units.now };
+
+    /// The string that a codec has read, if it is of this kind, and its units are those that a string of the kind can have.
+    fn from_any(string: AnyString) -> Option<Self::Owned>
+        ensures found { (list : List U) → AreOfKind list →
+            content_of_string string ≡ Self.content list →
+            IsSomeAnd result (λ s. units_in s ≡ list) }
+        ensures only { IfSome result (λ s.
+            content_of_string string ≡ Self.content (units_in s)) };
+
+    // The law of a kind: what its units are to a codec is a string of the kind.
+    ghost is_string: { (list : List U) → IsStringOf own_kind (Self.content list) };
+}
+
+/// The kind of UTF8String, whose strings are of the language's own type.
+#[derive(Drop)]
+pub enum Utf8 {}
+
+impl StringType<u8> for Utf8 {
+    ghost own_tag = { universal 12 };
+
+    ghost own_name = { codes "UTF8String" };
+
+    ghost content = { units utf8 };
+
+    fn table() -> TypeTable {
+        TypeTable::new(Tag::UTF8_STRING, Identifier::UTF8_STRING)
+    }
+}
+
+impl CodecString<bool> for Bits {
+    type Owned = BitString;
+
+    ghost own_kind = { kinds.Bits };
+
+    ghost AreOfKind = { λ _. ⊤ };
+
+    ghost units_in = { λ string. string };
+
+    fn kind() -> StringKind {
+        StringKind::Bits
+    }
+
+    fn as_any(units: &[bool]) -> AnyStr<'_> {
+        AnyStr::Bits(units)
+    }
+
+    fn from_any(string: AnyString) -> Option<BitString> {
+        match string {
+            AnyString::Bits(bits) => Some(BitString::new(bits)),
+            _ => None,
+        }
+    }
+
+    ghost is_string = { λ _. tt };
+}
+
+impl CodecString<u8> for Octets {
+    type Owned = Vec<u8>;
+
+    ghost own_kind = { kinds.Octets octets.OctetString };
+
+    ghost AreOfKind = { All (λ unit. unit < 2 ^ 8) };
+
+    ghost units_in = { λ string. string.items };
+
+    fn kind() -> StringKind {
+        StringKind::Octets(OctetKind::OctetString)
+    }
+
+    fn as_any(units: &[u8]) -> AnyStr<'_> {
+        AnyStr::Octets(OctetKind::OctetString, units)
+    }
+
+    fn from_any(string: AnyString) -> Option<Vec<u8>> {
+        string.into_octets(OctetKind::OctetString)
+    }
+
+    ghost is_string = { λ _. refl };
+}
+
+impl CodecString<u8> for Utf8 {
+    type Owned = String;
+
+    ghost own_kind = { kinds.Octets octets.Utf8 };
+
+    ghost AreOfKind = { IsUtf8 };
+
+    ghost units_in = { string_bytes };
+
+    fn kind() -> StringKind {
+        StringKind::Octets(OctetKind::Utf8)
+    }
+
+    fn as_any(units: &[u8]) -> AnyStr<'_> {
+        AnyStr::Octets(OctetKind::Utf8, units)
+    }
+
+    fn from_any(string: AnyString) -> Option<String> {
+        String::from_utf8(string.into_octets(OctetKind::Utf8)?).ok()
+    }
+
+    ghost is_string = { λ _. refl };
+}
+
+impl CodecString<u8> for General {
+    type Owned = GeneralString;
+
+    ghost own_kind = { kinds.Octets octets.General };
+
+    ghost AreOfKind = { All (λ unit. unit < 2 ^ 8) };
+
+    ghost units_in = { λ string. string };
+
+    fn kind() -> StringKind {
+        StringKind::Octets(OctetKind::General)
+    }
+
+    fn as_any(units: &[u8]) -> AnyStr<'_> {
+        AnyStr::Octets(OctetKind::General, units)
+    }
+
+    fn from_any(string: AnyString) -> Option<GeneralString> {
+        Some(GeneralString::new(string.into_octets(OctetKind::General)?))
+    }
+
+    ghost is_string = { λ _. refl };
+}
+
+impl CodecString<u8> for Graphic {
+    type Owned = GraphicString;
+
+    ghost own_kind = { kinds.Octets octets.Graphic };
+
+    ghost AreOfKind = { All (λ unit. unit < 2 ^ 8) };
+
+    ghost units_in = { λ string. string };
+
+    fn kind() -> StringKind {
+        StringKind::Octets(OctetKind::Graphic)
+    }
+
+    fn as_any(units: &[u8]) -> AnyStr<'_> {
+        AnyStr::Octets(OctetKind::Graphic, units)
+    }
+
+    fn from_any(string: AnyString) -> Option<GraphicString> {
+        Some(GraphicString::new(string.into_octets(OctetKind::Graphic)?))
+    }
+
+    ghost is_string = { λ _. refl };
+}
+
+impl CodecString<u32> for Teletex {
+    type Owned = TeletexString;
+
+    ghost own_kind = { kinds.Teletex };
+
+    ghost AreOfKind = { All (λ unit. unit < 2 ^ 32) };
+
+    ghost units_in = { λ string. string };
+
+    fn kind() -> StringKind {
+        StringKind::Teletex
+    }
+
+    fn as_any(units: &[u32]) -> AnyStr<'_> {
+        AnyStr::Teletex(units)
+    }
+
+    fn from_any(string: AnyString) -> Option<TeletexString> {
+        match string {
+            AnyString::Teletex(units) => Some(TeletexString::new(units)),
+            _ => None,
+        }
+    }
+
+    ghost is_string = { λ _. refl };
+}
+
+impl CodecString<u16> for Bmp {
+    type Owned = BmpString;
+
+    ghost own_kind = { kinds.Bmp };
+
+    ghost AreOfKind = { All (λ unit. unit < 2 ^ 16) };
+
+    ghost units_in = { λ string. string };
+
+    fn kind() -> StringKind {
+        StringKind::Bmp
+    }
+
+    fn as_any(units: &[u16]) -> AnyStr<'_> {
+        AnyStr::Bmp(units)
+    }
+
+    fn from_any(string: AnyString) -> Option<BmpString> {
+        match string {
+            AnyString::Bmp(units) => Some(BmpString::new(units)),
+            _ => None,
+        }
+    }
+
+    ghost is_string = { λ _. refl };
+}
+
+impl CodecString<u8> for Visible {
+    type Owned = VisibleString;
+
+    ghost own_kind = { kinds.Octets octets.Visible };
+
+    ghost AreOfKind = { All (λ unit. IsTrue (is_visible unit)) };
+
+    ghost units_in = { λ string. string };
+
+    fn kind() -> StringKind {
+        StringKind::Octets(OctetKind::Visible)
+    }
+
+    fn as_any(units: &[u8]) -> AnyStr<'_> {
+        AnyStr::Octets(OctetKind::Visible, units)
+    }
+
+    fn from_any(string: AnyString) -> Option<VisibleString> {
+        VisibleString::new(string.into_octets(OctetKind::Visible)?).ok()
+    }
+
+    ghost is_string = { λ _. refl };
+}
+
+impl CodecString<u8> for Ia5 {
+    type Owned = Ia5String;
+
+    ghost own_kind = { kinds.Octets octets.Ia5 };
+
+    ghost AreOfKind = { All (λ unit. IsTrue (is_ia5 unit)) };
+
+    ghost units_in = { λ string. string };
+
+    fn kind() -> StringKind {
+        StringKind::Octets(OctetKind::Ia5)
+    }
+
+    fn as_any(units: &[u8]) -> AnyStr<'_> {
+        AnyStr::Octets(OctetKind::Ia5, units)
+    }
+
+    fn from_any(string: AnyString) -> Option<Ia5String> {
+        Ia5String::new(string.into_octets(OctetKind::Ia5)?).ok()
+    }
+
+    ghost is_string = { λ _. refl };
+}
+
+impl CodecString<u8> for Numeric {
+    type Owned = NumericString;
+
+    ghost own_kind = { kinds.Octets octets.Numeric };
+
+    ghost AreOfKind = { All (λ unit. IsTrue (is_numeric unit)) };
+
+    ghost units_in = { λ string. string };
+
+    fn kind() -> StringKind {
+        StringKind::Octets(OctetKind::Numeric)
+    }
+
+    fn as_any(units: &[u8]) -> AnyStr<'_> {
+        AnyStr::Octets(OctetKind::Numeric, units)
+    }
+
+    fn from_any(string: AnyString) -> Option<NumericString> {
+        NumericString::new(string.into_octets(OctetKind::Numeric)?).ok()
+    }
+
+    ghost is_string = { λ _. refl };
+}
+
+impl CodecString<u8> for Printable {
+    type Owned = PrintableString;
+
+    ghost own_kind = { kinds.Octets octets.Printable };
+
+    ghost AreOfKind = { All (λ unit. IsTrue (is_printable unit)) };
+
+    ghost units_in = { λ string. string };
+
+    fn kind() -> StringKind {
+        StringKind::Octets(OctetKind::Printable)
+    }
+
+    fn as_any(units: &[u8]) -> AnyStr<'_> {
+        AnyStr::Octets(OctetKind::Printable, units)
+    }
+
+    fn from_any(string: AnyString) -> Option<PrintableString> {
+        PrintableString::new(string.into_octets(OctetKind::Printable)?).ok()
+    }
+
+    ghost is_string = { λ _. refl };
+}
