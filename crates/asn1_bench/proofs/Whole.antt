@@ -2,7 +2,7 @@
 use Rattle.std.proofs.Common.{◌≡◌, ◌⊎◌, ℕ, true, false, List, [], ◌∷◌, ◌++◌, ap, inl, inr, sym, subst, ◌∙◌, append-nil}
 use Rattle.asn1_dec.proofs.Ahead.{same_as_record}
 use Rattle.asn1_dec.proofs.UpToOrder.{at_the_end}
-use Rattle.asn1_dec.specs.Reading.{Ahead, IsOwnError, MayFail}
+use Rattle.asn1_dec.specs.Reading.{IsOwnError, MayFail, Outside}
 use Rattle.asn1_dec.specs.declared.error.DecodeError.{DecodeError}
 use Rattle.asn1_enc.specs.declared.error.EncodeError.{EncodeError}
 use Rattle.asn1_enc.specs.Writing.{Fails, outermost}
@@ -27,18 +27,18 @@ not_written old new rs depth e began allowed was fails = record {
 }
 
 -- nothing follows a value
-pub alone : (d : RecordDecoder) (rs : List Record) → StandsBefore d (rs ∷ []) → StandsBefore d ((rs ++ []) ∷ [])
-alone d rs at = subst (λ l. StandsBefore d (l ∷ [])) (sym (append-nil rs)) at
+pub alone : (d : RecordDecoder) (rs : List Record) → StandsBefore d (rs, []) → StandsBefore d (rs ++ [], [])
+alone d rs at = subst (λ l. StandsBefore d (l, [])) (sym (append-nil rs)) at
 
 -- a record that is left is not the end
-pub not_at_end : (d : RecordDecoder) (r : Record) (rest : List Record) → StandsBefore d ((r ∷ rest) ∷ []) → StandsBefore d ([] ∷ []) → ⊥
+pub not_at_end : (d : RecordDecoder) (r : Record) (rest : List Record) → StandsBefore d (r ∷ rest, []) → StandsBefore d ([], []) → ⊥
 not_at_end d r rest at end =
     let a = same_as_record at.same in
     let wrong = sym (at.stands.sees_them ∙ ap ahead_without a.is) ∙ (at_the_end in_one_order d end).sees_them in
     cc
 
 -- why records are not read that the type refuses
-pub own_or_failed : {old new : RecordDecoder} {rest : List Record} {outer : Ahead} {allowance height : ℕ} {own e : DecodeError} →
+pub own_or_failed : {old new : RecordDecoder} {rest : List Record} {outer : Outside} {allowance height : ℕ} {own e : DecodeError} →
     MayFail allowance height e ⊎ IsOwnError record_reader old new rest outer own e → MayFail allowance height e ⊎ (e ≡ own)
 own_or_failed (inl fails) = inl fails
 own_or_failed (inr error) = inr error.error

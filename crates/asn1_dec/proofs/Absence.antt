@@ -15,7 +15,7 @@ use Rattle.asn1_model.proofs.TagSets.{only_has}
 use Rattle.asn1_model.proofs.FirstTags.{begins_before, one_begins}
 use Rattle.asn1_dec.specs.declared.error.DecodeError.{DecodeError}
 use Rattle.asn1_dec.specs.declared.error.DecodeError.TheVariants.{Memory}
-use Rattle.asn1_dec.specs.Reading.{Ahead, Reader, MayFollow, ReadsBack, ReadsDefault, ReadsOption, ReadsOptional, TellsPresence}
+use Rattle.asn1_dec.specs.Reading.{Reader, MayFollow, ReadsBack, ReadsDefault, ReadsOption, ReadsOptional, TellsPresence, Outside}
 use Rattle.asn1_dec.proofs.Steps.{fails_below, flat_failure}
 
 pub after_option : {V : Type 0} (m : Meaning V) (t : Tag) (c : ConstraintSet) (n : Name) (v : Option V) (rest : List Record) →
@@ -40,7 +40,7 @@ module _ {D V : Type 0} (R : Reader D) (side : Side) (t : Tag) (own : Tags) (rec
   -- what reads it where it is there
   abbrev Component : D → D → Result V DecodeError → Type 0
   Component old new result =
-      (x : V) (n : Name) (rest : List Record) (outer : Ahead) → Can → IsOfType x → IsValid x → ReadsBack R old new (records n x) rest outer (λ w. eq w x ≡ true) result
+      (x : V) (n : Name) (rest : List Record) (outer : Outside) → Can → IsOfType x → IsValid x → ReadsBack R old new (records n x) rest outer (λ w. eq w x ≡ true) result
 
   module _ (old mid : D) (asked : Tags) (is : asked ≡ own) where
     apart_from : (rest : List Record) → ShareNone own (first_tags rest) → ShareNone asked (first_tags rest)
@@ -83,7 +83,7 @@ module _ {D V : Type 0} (R : Reader D) (side : Side) (t : Tag) (own : Tags) (rec
 
       -- it is there, and what follows reads it
       pub is_read : (new : D) (result : Result (Option V) DecodeError) →
-          ((x : V) (n : Name) (rest : List Record) (outer : Ahead) → Can → IsOfType x → IsValid x → ReadsBack R mid new (records n x) rest outer (λ w. option_eq eq w (Some x) ≡ true) result) → Optional old new result
+          ((x : V) (n : Name) (rest : List Record) (outer : Outside) → Can → IsOfType x → IsValid x → ReadsBack R mid new (records n x) rest outer (λ w. option_eq eq w (Some x) ≡ true) result) → Optional old new result
       is_read new result reads None n rest outer can of_type valid apart at =
           let wrong = (tells.away rest outer (apart_from rest (apart refl)) at).answer in cc
       is_read new (Ok w) reads (Some x) n rest outer can of_type valid apart at =
@@ -106,7 +106,7 @@ module _ {D V : Type 0} (R : Reader D) (side : Side) (m : Meaning V) (eq : V →
 
     -- it is there, and what follows reads it
     pub option_is_read : {b : Bool} → TellsPresence R old mid (present side t) (absent side t) asked (Ok b) → b ≡ true → R.allowance mid ≡ R.allowance old → (new : D) (result : Result (Option V) DecodeError) →
-        ((x : V) (n : Name) (rest : List Record) (outer : Ahead) → CanStandInsideUnder m t → m.IsOfType x → m.IsValid R.takes x → ReadsBack R mid new (m.records x t c n) rest outer (λ w. option_eq eq w (Some x) ≡ true) result) →
+        ((x : V) (n : Name) (rest : List Record) (outer : Outside) → CanStandInsideUnder m t → m.IsOfType x → m.IsValid R.takes x → ReadsBack R mid new (m.records x t c n) rest outer (λ w. option_eq eq w (Some x) ≡ true) result) →
         ReadsOption R side m eq t c old new result
     option_is_read tells hit same new result reads = is_read R side t (tags m t) (λ n v. m.records v t c n) (CanStandInsideUnder m t) m.IsOfType (m.IsValid R.takes) eq (under_tag m t c) old mid asked is tells hit same new result reads
 
@@ -123,10 +123,10 @@ module _ {D V : Type 0} (R : Reader D) (side : Side) (m : Meaning V) (eq : V →
       let wrong = (reads None n rest outer can tt tt (λ _. apart refl) at).answer in cc
   default_reads law IsUsual old mid new (Some w) result reads there away v false n rest outer is can of_type valid apart at =
       let r = reads (Some v) n rest outer can (of_type refl) (valid refl) (λ none. cc) at in
-      rw there.0 (record { answer = r.answer; at = subst (λ d. R.stands d (rest ∷ outer)) (sym there.1) r.at; within_allowance = r.within_allowance })
+      rw there.0 (record { answer = r.answer; at = subst (λ d. R.stands d (rest, outer)) (sym there.1) r.at; within_allowance = r.within_allowance })
   default_reads law IsUsual old mid new None (Ok usual) reads there away v true n rest outer is can of_type valid apart at =
       let r = reads None n rest outer can tt tt (λ _. apart refl) at in
-      record { answer = law.symm usual v ∙ is usual away.0; at = subst (λ d. R.stands d (rest ∷ outer)) (sym away.1) r.at; within_allowance = r.within_allowance }
+      record { answer = law.symm usual v ∙ is usual away.0; at = subst (λ d. R.stands d (rest, outer)) (sym away.1) r.at; within_allowance = r.within_allowance }
   default_reads law IsUsual old mid new None (Err e) reads there away v true n rest outer is can of_type valid apart at = inl away.0
   default_reads law IsUsual old mid new None result reads there away v false n rest outer is can of_type valid apart at =
       let wrong = (reads (Some v) n rest outer can (of_type refl) (valid refl) (λ none. cc) at).answer in cc

@@ -3,7 +3,7 @@ use Rattle.std.proofs.Common.{◌≡◌, Bool, true, false, if◌then◌else◌,
 use Rattle.asn1_choices.specs.Alternatives.{Alternatives, OneOf, CanBeChosen, Each, HaveDistinctTags, all_of, chosen_meaning, table_of}
 use Rattle.asn1_choices.specs.ChoiceTypes.{AgreesWithChoice}
 use Rattle.asn1_choices.specs.ChosenTags.{chosen_tag}
-use Rattle.asn1_dec.specs.Reading.{Ahead, Reader, ReadsBack, ReadsValue}
+use Rattle.asn1_dec.specs.Reading.{Reader, ReadsBack, ReadsValue, Outside}
 use Rattle.asn1_dec.specs.declared.error.DecodeError.{DecodeError}
 use Rattle.asn1_model.specs.Composites.{alternative_records, prefix_records}
 use Rattle.asn1_model.specs.ConstraintSets.{ConstraintSet}
@@ -21,7 +21,7 @@ module _ {D V : Type 0} (R : Reader D) (m : Meaning V) (alts : Alternatives) (pi
   -- a call that reads these records of each value of a CHOICE, by what its alternatives say
   abbrev pub ReadsAlternative : (V → List Record) → D → D → Result V DecodeError → Type 0
   ReadsAlternative records old new result =
-      (v : V) (rest : List Record) (outer : Ahead) → HaveDistinctTags (all_of alts) → Each CanBeChosen (all_of alts) →
+      (v : V) (rest : List Record) (outer : Outside) → HaveDistinctTags (all_of alts) → Each CanBeChosen (all_of alts) →
       (chosen_meaning (all_of alts) (pick v)).IsOfType → (chosen_meaning (all_of alts) (pick v)).IsValid R.takes →
       ReadsBack R old new (records v) rest outer (λ w. eq w v ≡ true) result
 

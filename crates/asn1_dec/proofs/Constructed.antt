@@ -7,12 +7,12 @@ use Rattle.asn1_model.specs.ConstraintSets.{ConstraintSet}
 use Rattle.asn1_model.specs.Meaning.{Meaning}
 use Rattle.asn1_model.specs.Records.{Name, Record, holding}
 use Rattle.asn1_dec.specs.declared.error.DecodeError.{DecodeError}
-use Rattle.asn1_dec.specs.Reading.{Ahead, Reader, ReadsBack, ReadsValue}
+use Rattle.asn1_dec.specs.Reading.{Reader, ReadsBack, ReadsValue, Outside}
 
 -- what reads the components reads a value of the type
 pub as_constructed : {D V : Type 0} (k : Kind) (R : Reader D) (m : Meaning V) (components : Components V) (eq : V → V → Bool) (t : Tag) (c : ConstraintSet) (old new : D) (result : Result V DecodeError) →
     AgreesWithComponents components m → components.kind ≡ k →
-    ((v : V) (n : Name) (rest : List Record) (outer : Ahead) → (EachCanStandInside (all_components components) × AreDistinctIn k (all_components components)) → EachIsOfType (all_components components) v →
+    ((v : V) (n : Name) (rest : List Record) (outer : Outside) → (EachCanStandInside (all_components components) × AreDistinctIn k (all_components components)) → EachIsOfType (all_components components) v →
     EachIsValid (all_components components) R.takes v → ReadsBack R old new (holding (head_in k t (lines components) n) (component_records components v) ∷ []) rest outer (λ w. eq w v ≡ true) result) →
     ReadsValue R m eq t c old new result
 as_constructed k R m components eq t c old new result agrees kind reads v n rest outer tagged of_type valid follow =

@@ -11,7 +11,7 @@ use Rattle.asn1_model.specs.Tags.{Tags, BeginsWithin, LiesIn, ShareNone, tree_ta
 use Rattle.asn1_model.specs.Tables.{Line, Table}
 use Rattle.asn1_model.proofs.FirstTags.{alone_append, begins_before, first_stays}
 use Rattle.asn1_dec.specs.declared.error.DecodeError.{DecodeError}
-use Rattle.asn1_dec.specs.Reading.{Ahead, Reader, MayFail, TellsPresence}
+use Rattle.asn1_dec.specs.Reading.{Reader, MayFail, TellsPresence, Outside}
 use Rattle.asn1_dec.proofs.Steps.{highest-append, flat_failure}
 
 abbrev around : Table Line → List Record → Bool → List Record
@@ -43,35 +43,35 @@ module _ {V : Type 0} (cs : List (ComponentType V)) where
       })
 
   -- The group is there, and the decoder stands after its start.
-  pub record Entered {D : Type 0} (table : Table Line) (R : Reader D) (e : D) (v : Option V) (rest : List Record) (outer : Ahead) : Type 0 where
+  pub record Entered {D : Type 0} (table : Table Line) (R : Reader D) (e : D) (v : Option V) (rest : List Record) (outer : Outside) : Type 0 where
     pub held : V
     pub is : v ≡ Some held
     pub of_type : EachIsOfType cs held
     pub valid : EachIsValid cs R.takes held
     pub high : highest (group_records table (option_map (all_records cs) v)) ≡ highest (all_records cs held)
-    pub at : R.stands e ((all_records cs held ++ (mark group_end ∷ rest)) ∷ outer)
+    pub at : R.stands e (all_records cs held ++ (mark group_end ∷ rest), outer)
 
-  module _ {D : Type 0} (table : Table Line) (R : Reader D) (d e : D) (rest : List Record) (outer : Ahead) (can : EachCanStandInside cs) (apart : ShareNone own_tags (first_tags rest)) where
-    after_start : (x : V) → marks_alone (all_records cs x) ≡ false → R.stands d ((group_records table (Some (all_records cs x)) ++ rest) ∷ outer) →
-        R.stands d ((mark (group_start table) ∷ (all_records cs x ++ (mark group_end ∷ rest))) ∷ outer)
-    after_start x some at = subst (λ l. R.stands d (l ∷ outer)) (around_is table (all_records cs x) rest some) at
+  module _ {D : Type 0} (table : Table Line) (R : Reader D) (d e : D) (rest : List Record) (outer : Outside) (can : EachCanStandInside cs) (apart : ShareNone own_tags (first_tags rest)) where
+    after_start : (x : V) → marks_alone (all_records cs x) ≡ false → R.stands d (group_records table (Some (all_records cs x)) ++ rest, outer) →
+        R.stands d (mark (group_start table) ∷ (all_records cs x ++ (mark group_end ∷ rest)), outer)
+    after_start x some at = subst (λ l. R.stands d (l, outer)) (around_is table (all_records cs x) rest some) at
 
     pub not_told : {error : DecodeError} (b h : ℕ) → TellsPresence R d e (group_start table) group_absent own_tags (Err error) → (v : Option V) →
         IfSome v (λ w. EachIsValid cs R.takes w × (marks_alone (all_records cs w) ≡ false)) →
-        R.stands d ((group_records table (option_map (all_records cs) v) ++ rest) ∷ outer) → MayFail b h error
+        R.stands d (group_records table (option_map (all_records cs) v) ++ rest, outer) → MayFail b h error
     not_told {error} b h tells None valid at = flat_failure b h error (tells.away rest outer apart at)
     not_told {error} b h tells (Some x) valid at = flat_failure b h error (tells.there (all_records cs x ++ (mark group_end ∷ rest)) outer (begins table can x rest valid.1) (after_start x valid.1 at))
 
     pub not_there : {b : Bool} → TellsPresence R d e (group_start table) group_absent own_tags (Ok b) → b ≡ false → (v : Option V) →
         IfSome v (λ w. EachIsValid cs R.takes w × (marks_alone (all_records cs w) ≡ false)) →
-        R.stands d ((group_records table (option_map (all_records cs) v) ++ rest) ∷ outer) → (v ≡ None) × R.stands e (rest ∷ outer)
+        R.stands d (group_records table (option_map (all_records cs) v) ++ rest, outer) → (v ≡ None) × R.stands e (rest, outer)
     not_there tells miss None valid at = (refl, (tells.away rest outer apart at).at)
     not_there tells miss (Some x) valid at =
         let wrong = (tells.there (all_records cs x ++ (mark group_end ∷ rest)) outer (begins table can x rest valid.1) (after_start x valid.1 at)).answer in cc
 
     pub is_there : {b : Bool} → TellsPresence R d e (group_start table) group_absent own_tags (Ok b) → b ≡ true → (v : Option V) → IfSome v (EachIsOfType cs) →
         IfSome v (λ w. EachIsValid cs R.takes w × (marks_alone (all_records cs w) ≡ false)) →
-        R.stands d ((group_records table (option_map (all_records cs) v) ++ rest) ∷ outer) → Entered table R e v rest outer
+        R.stands d (group_records table (option_map (all_records cs) v) ++ rest, outer) → Entered table R e v rest outer
     is_there tells hit None of_type valid at = let wrong = (tells.away rest outer apart at).answer in cc
     is_there tells hit (Some x) of_type valid at = record {
       held = x;

@@ -6,10 +6,10 @@ use Rattle.std.proofs.lemmas.Bool.{and_parts, and_from}
 use Rattle.std.proofs.lemmas.Grind.{flat_map-append}
 use Rattle.std.proofs.lemmas.List.Elements.{All-head, All-tail}
 use Rattle.asn1_model.specs.Meaning.{Meaning, CanStandInside, own_records, tags}
-use Rattle.asn1_model.specs.Records.{Record, highest, is_mark}
+use Rattle.asn1_model.specs.Records.{Head, Record, highest, is_mark}
 use Rattle.asn1_model.specs.Tags.{IsOneRecord}
 use Rattle.asn1_dec.specs.declared.error.DecodeError.{DecodeError}
-use Rattle.asn1_dec.specs.Reading.{Ahead, Reader, MayFail, TellsMore, records_in}
+use Rattle.asn1_dec.specs.Reading.{Reader, MayFail, TellsMore, records_in, Outside}
 use Rattle.asn1_dec.proofs.Steps.{highest-append, flat_failure}
 
 pub pointwise-append : {V : Type 0} (eq : V → V → Bool) (xs ys : List V) (x y : V) → pointwise eq xs ys ≡ true → eq x y ≡ true → pointwise eq (xs ++ x ∷ []) (ys ++ y ∷ []) ≡ true
@@ -52,7 +52,7 @@ module _ {V : Type 0} (m : Meaning V) (can : CanStandInside m) where
 
 module _ {D V : Type 0} (R : Reader D) (m : Meaning V) (eq : V → V → Bool) where
   -- These elements were read, and others are left.
-  pub record Midway (d : D) (read vs : List V) (outer : Ahead) : Type 0 where
+  pub record Midway (d : D) (read vs : List V) (outer : Outside) : Type 0 where
     pub done : List V
     pub todo : List V
     pub split : vs ≡ done ++ todo
@@ -60,10 +60,10 @@ module _ {D V : Type 0} (R : Reader D) (m : Meaning V) (eq : V → V → Bool) w
     pub low : highest (flat_map (own_records m) done) ≤ R.allowance d
     pub of_type : All m.IsOfType todo
     pub valid : All (m.IsValid R.takes) todo
-    pub at : R.stands d (flat_map (own_records m) todo ∷ outer)
+    pub at : R.stands d (flat_map (own_records m) todo, outer)
 
   -- The same, where another element comes.
-  pub record AnotherComes (d : D) (read vs : List V) (outer : Ahead) : Type 0 where
+  pub record AnotherComes (d : D) (read vs : List V) (outer : Outside) : Type 0 where
     pub done : List V
     pub next : V
     pub todo : List V
@@ -74,39 +74,39 @@ module _ {D V : Type 0} (R : Reader D) (m : Meaning V) (eq : V → V → Bool) w
     pub next_valid : m.IsValid R.takes next
     pub of_type : All m.IsOfType todo
     pub valid : All (m.IsValid R.takes) todo
-    pub at : R.stands d ((own_records m next ++ flat_map (own_records m) todo) ∷ outer)
+    pub at : R.stands d (own_records m next ++ flat_map (own_records m) todo, outer)
 
   -- The same, where none is left.
-  pub record Through (d : D) (read vs : List V) (outer : Ahead) : Type 0 where
+  pub record Through (d : D) (read vs : List V) (outer : Outside) : Type 0 where
     pub same : pointwise eq read vs ≡ true
     pub low : highest (flat_map (own_records m) vs) ≤ R.allowance d
-    pub at : R.stands d ([] ∷ outer)
+    pub at : R.stands d ([], outer)
 
-  pub start : (d : D) (vs : List V) (outer : Ahead) → All m.IsOfType vs → All (m.IsValid R.takes) vs →
-      R.stands d (flat_map (own_records m) vs ∷ outer) → Midway d [] vs outer
+  pub start : (d : D) (vs : List V) (outer : Outside) → All m.IsOfType vs → All (m.IsValid R.takes) vs →
+      R.stands d (flat_map (own_records m) vs, outer) → Midway d [] vs outer
   start d vs outer of_type valid at =
       record { done = []; todo = vs; split = refl; same = refl; low = omega arith; of_type = of_type; valid = valid; at = at }
 
   -- the record of the next element
-  comes : (can : CanStandInside m) (d : D) (x : V) (xs : List V) (outer : Ahead) → R.stands d ((own_records m x ++ flat_map (own_records m) xs) ∷ outer) →
-      R.stands d (((one m can x).item ∷ flat_map (own_records m) xs) ∷ outer)
-  comes can d x xs outer at = subst (λ l. R.stands d ((l ++ flat_map (own_records m) xs) ∷ outer)) (one m can x).alone at
+  comes : (can : CanStandInside m) (d : D) (x : V) (xs : List V) (outer : Outside) → R.stands d (own_records m x ++ flat_map (own_records m) xs, outer) →
+      R.stands d ((one m can x).item ∷ flat_map (own_records m) xs, outer)
+  comes can d x xs outer at = subst (λ l. R.stands d (l ++ flat_map (own_records m) xs, outer)) (one m can x).alone at
 
   -- where whether an element comes could not be told
-  pub not_told : (can : CanStandInside m) {d e : D} {read vs : List V} {rest : List Record} {outer : Ahead} {error : DecodeError} (b h : ℕ) → Midway d read vs (rest ∷ outer) →
+  pub not_told : (can : CanStandInside m) {d e : D} {read vs : List V} {scope : Head × List Record} {outer : Outside} {error : DecodeError} (b h : ℕ) → Midway d read vs (scope ∷ outer) →
       TellsMore R d e (Err error) → MayFail b h error
-  not_told can {d} {e} {read} {vs} {rest} {outer} {error} b h mid tells =
-      elim mid.todo as (λ todo. R.stands d (flat_map (own_records m) todo ∷ rest ∷ outer) → MayFail b h error) [
-        | [] ↦ λ at. flat_failure b h error (tells.none rest outer at)
-        | x ∷ xs ↦ λ at. flat_failure b h error (tells.some (one m can x).item (flat_map (own_records m) xs) rest outer (one m can x).no_mark (comes can d x xs (rest ∷ outer) at))
+  not_told can {d} {e} {read} {vs} {scope} {outer} {error} b h mid tells =
+      elim mid.todo as (λ todo. R.stands d (flat_map (own_records m) todo, scope ∷ outer) → MayFail b h error) [
+        | [] ↦ λ at. flat_failure b h error (tells.none scope outer at)
+        | x ∷ xs ↦ λ at. flat_failure b h error (tells.some (one m can x).item (flat_map (own_records m) xs) scope outer (one m can x).no_mark (comes can d x xs (scope ∷ outer) at))
       ]
       mid.at
 
-  pub another : (can : CanStandInside m) {d e : D} {read vs : List V} {rest : List Record} {outer : Ahead} (b : Bool) → Midway d read vs (rest ∷ outer) → TellsMore R d e (Ok b) → b ≡ true →
-      R.allowance e ≡ R.allowance d → AnotherComes e read vs (rest ∷ outer)
-  another can {d} {e} {read} {vs} {rest} {outer} b mid tells hit kept =
-      elim mid.todo as (λ todo. vs ≡ mid.done ++ todo → All m.IsOfType todo → All (m.IsValid R.takes) todo → R.stands d (flat_map (own_records m) todo ∷ rest ∷ outer) → AnotherComes e read vs (rest ∷ outer)) [
-        | [] ↦ λ _ _ _ at. let wrong = (tells.none rest outer at).answer in cc
+  pub another : (can : CanStandInside m) {d e : D} {read vs : List V} {scope : Head × List Record} {outer : Outside} (b : Bool) → Midway d read vs (scope ∷ outer) → TellsMore R d e (Ok b) → b ≡ true →
+      R.allowance e ≡ R.allowance d → AnotherComes e read vs (scope ∷ outer)
+  another can {d} {e} {read} {vs} {scope} {outer} b mid tells hit kept =
+      elim mid.todo as (λ todo. vs ≡ mid.done ++ todo → All m.IsOfType todo → All (m.IsValid R.takes) todo → R.stands d (flat_map (own_records m) todo, scope ∷ outer) → AnotherComes e read vs (scope ∷ outer)) [
+        | [] ↦ λ _ _ _ at. let wrong = (tells.none scope outer at).answer in cc
         | x ∷ xs ↦ λ split of_type valid at. record {
           done = mid.done;
           next = x;
@@ -118,28 +118,28 @@ module _ {D V : Type 0} (R : Reader D) (m : Meaning V) (eq : V → V → Bool) w
           next_valid = All-head (m.IsValid R.takes) x xs valid;
           of_type = All-tail m.IsOfType x xs of_type;
           valid = All-tail (m.IsValid R.takes) x xs valid;
-          at = subst (λ l. R.stands e ((l ++ flat_map (own_records m) xs) ∷ rest ∷ outer)) (sym (one m can x).alone)
-              (tells.some (one m can x).item (flat_map (own_records m) xs) rest outer (one m can x).no_mark (comes can d x xs (rest ∷ outer) at)).at;
+          at = subst (λ l. R.stands e (l ++ flat_map (own_records m) xs, scope ∷ outer)) (sym (one m can x).alone)
+              (tells.some (one m can x).item (flat_map (own_records m) xs) scope outer (one m can x).no_mark (comes can d x xs (scope ∷ outer) at)).at;
         }
       ]
       mid.split mid.of_type mid.valid mid.at
 
-  pub through : (can : CanStandInside m) {d e : D} {read vs : List V} {rest : List Record} {outer : Ahead} (b : Bool) → Midway d read vs (rest ∷ outer) → TellsMore R d e (Ok b) → b ≡ false →
-      R.allowance e ≡ R.allowance d → Through e read vs (rest ∷ outer)
-  through can {d} {e} {read} {vs} {rest} {outer} b mid tells miss kept =
-      elim mid.todo as (λ todo. vs ≡ mid.done ++ todo → R.stands d (flat_map (own_records m) todo ∷ rest ∷ outer) → Through e read vs (rest ∷ outer)) [
+  pub through : (can : CanStandInside m) {d e : D} {read vs : List V} {scope : Head × List Record} {outer : Outside} (b : Bool) → Midway d read vs (scope ∷ outer) → TellsMore R d e (Ok b) → b ≡ false →
+      R.allowance e ≡ R.allowance d → Through e read vs (scope ∷ outer)
+  through can {d} {e} {read} {vs} {scope} {outer} b mid tells miss kept =
+      elim mid.todo as (λ todo. vs ≡ mid.done ++ todo → R.stands d (flat_map (own_records m) todo, scope ∷ outer) → Through e read vs (scope ∷ outer)) [
         | [] ↦ λ split at. let all : vs ≡ mid.done = split ∙ append-nil mid.done in record {
           same = subst (λ l. pointwise eq read l ≡ true) (sym all) mid.same;
           low = omega (arith, mid.low, kept, ap (λ l. highest (flat_map (own_records m) l)) all);
-          at = (tells.none rest outer at).at;
+          at = (tells.none scope outer at).at;
         }
-        | x ∷ xs ↦ λ split at. let wrong = (tells.some (one m can x).item (flat_map (own_records m) xs) rest outer (one m can x).no_mark (comes can d x xs (rest ∷ outer) at)).answer in cc
+        | x ∷ xs ↦ λ split at. let wrong = (tells.some (one m can x).item (flat_map (own_records m) xs) scope outer (one m can x).no_mark (comes can d x xs (scope ∷ outer) at)).answer in cc
       ]
       mid.split mid.at
 
   -- after an element was read
-  pub further : {d : D} {read vs : List V} {outer : Ahead} (e : D) (w : V) (a : AnotherComes d read vs outer) →
-      highest (own_records m a.next) ≤ R.allowance d → eq w a.next ≡ true → R.stands e (flat_map (own_records m) a.todo ∷ outer) → R.allowance e ≡ R.allowance d →
+  pub further : {d : D} {read vs : List V} {outer : Outside} (e : D) (w : V) (a : AnotherComes d read vs outer) →
+      highest (own_records m a.next) ≤ R.allowance d → eq w a.next ≡ true → R.stands e (flat_map (own_records m) a.todo, outer) → R.allowance e ≡ R.allowance d →
       Midway e (read ++ w ∷ []) vs outer
   further {read = read} e w a low same at kept = record {
     done = a.done ++ a.next ∷ [];
@@ -153,9 +153,9 @@ module _ {D V : Type 0} (R : Reader D) (m : Meaning V) (eq : V → V → Bool) w
   }
 
   -- where as many elements were read as there can be
-  pub filled : {d : D} {read vs : List V} {outer : Ahead} → Midway d read vs outer → length vs ≤ length read → Through d read vs outer
+  pub filled : {d : D} {read vs : List V} {outer : Outside} → Midway d read vs outer → length vs ≤ length read → Through d read vs outer
   filled {d = d} {read = read} {vs = vs} {outer = outer} mid long =
-      elim mid.todo as (λ todo. vs ≡ mid.done ++ todo → R.stands d (flat_map (own_records m) todo ∷ outer) → Through d read vs outer) [
+      elim mid.todo as (λ todo. vs ≡ mid.done ++ todo → R.stands d (flat_map (own_records m) todo, outer) → Through d read vs outer) [
         | [] ↦ λ split at. let all : vs ≡ mid.done = split ∙ append-nil mid.done in record {
           same = subst (λ l. pointwise eq read l ≡ true) (sym all) mid.same;
           low = omega (arith, mid.low, ap (λ l. highest (flat_map (own_records m) l)) all);

@@ -8,12 +8,12 @@ use Rattle.asn1_components.specs.Following.{BeginsApart, EachApart, EndsApart, W
 use Rattle.asn1_fields.specs.Entries.{may_be_absent}
 use Rattle.asn1_model.specs.Records.{Record, highest}
 use Rattle.asn1_dec.specs.declared.error.DecodeError.{DecodeError}
-use Rattle.asn1_dec.specs.Reading.{Ahead, MayFail, Moved, Reader}
+use Rattle.asn1_dec.specs.Reading.{MayFail, Moved, Reader, Outside}
 use Rattle.asn1_dec.proofs.Steps.{fails_below, highest-append}
 
 module _ {D V : Type 0} (R : Reader D) where
   -- Some components of a value were read, and these are left. The height is that of all.
-  pub record PartWay (began now : D) (left : List (ComponentType V)) (v : V) (height : ℕ) (rest : List Record) (outer : Ahead) : Type 0 where
+  pub record PartWay (began now : D) (left : List (ComponentType V)) (v : V) (height : ℕ) (rest : List Record) (outer : Outside) : Type 0 where
     pub can : EachCanStandInside left
     pub of_type : EachIsOfType left v
     pub valid : EachIsValid left R.takes v
@@ -24,11 +24,11 @@ module _ {D V : Type 0} (R : Reader D) where
     pub no_higher : highest (all_records left v) ≤ height
     pub highest_of_both : height ≤ max read (highest (all_records left v))
     pub same_allowance : R.allowance now ≡ R.allowance began
-    pub at : R.stands now (records_then left v rest ∷ outer)
+    pub at : R.stands now (records_then left v rest, outer)
 
   -- before the first
-  pub begin : (d : D) (cs : List (ComponentType V)) (v : V) (rest : List Record) (outer : Ahead) →
-      CanBeInSequence cs → EachIsOfType cs v → EachIsValid cs R.takes v → EndsApart cs rest → R.stands d ((all_records cs v ++ rest) ∷ outer) →
+  pub begin : (d : D) (cs : List (ComponentType V)) (v : V) (rest : List Record) (outer : Outside) →
+      CanBeInSequence cs → EachIsOfType cs v → EachIsValid cs R.takes v → EndsApart cs rest → R.stands d (all_records cs v ++ rest, outer) →
       PartWay d d cs v (highest (all_records cs v)) rest outer
   begin d cs v rest outer can of_type valid ends at = record {
     can = can.0;
@@ -40,19 +40,19 @@ module _ {D V : Type 0} (R : Reader D) where
     no_higher = omega arith;
     highest_of_both = omega arith;
     same_allowance = refl;
-    at = subst (λ l. R.stands d (l ∷ outer)) (all_then cs v rest) at;
+    at = subst (λ l. R.stands d (l, outer)) (all_then cs v rest) at;
   }
 
   -- One more was read, with this answer.
-  pub record Stepped (began now : D) (left : List (ComponentType V)) (v : V) (height : ℕ) (rest : List Record) (outer : Ahead) (Answer : Type 0) : Type 0 where
+  pub record Stepped (began now : D) (left : List (ComponentType V)) (v : V) (height : ℕ) (rest : List Record) (outer : Outside) (Answer : Type 0) : Type 0 where
     pub answer : Answer
     pub next : PartWay began now left v height rest outer
 
-module _ {D V : Type 0} {R : Reader D} {began now : D} {c : ComponentType V} {cs : List (ComponentType V)} {v : V} {height : ℕ} {rest : List Record} {outer : Ahead} where
+module _ {D V : Type 0} {R : Reader D} {began now : D} {c : ComponentType V} {cs : List (ComponentType V)} {v : V} {height : ℕ} {rest : List Record} {outer : Outside} where
   -- where the call that reads it succeeded
   pub step : {then : D} {Answer : Type 0} → PartWay R began now (c ∷ cs) v height rest outer → R.allowance then ≡ R.allowance now →
       (c.CanStandInside → c.IsOfType v → c.IsValid R.takes v → Where (may_be_absent c.presence) (BeginsApart c.tree (records_then cs v rest)) →
-      R.stands now ((c.records v ++ records_then cs v rest) ∷ outer) → Moved R now then (highest (c.records v)) (records_then cs v rest ∷ outer) Answer) →
+      R.stands now (c.records v ++ records_then cs v rest, outer) → Moved R now then (highest (c.records v)) (records_then cs v rest, outer) Answer) →
       Stepped R began then cs v height rest outer Answer
   step part same reads =
       let moved = reads part.can.0 part.of_type.0 part.valid.0 part.apart.0 part.at in record {
@@ -74,15 +74,15 @@ module _ {D V : Type 0} {R : Reader D} {began now : D} {c : ComponentType V} {cs
   -- where it failed
   pub stops : {e : DecodeError} → PartWay R began now (c ∷ cs) v height rest outer →
       (c.CanStandInside → c.IsOfType v → c.IsValid R.takes v → Where (may_be_absent c.presence) (BeginsApart c.tree (records_then cs v rest)) →
-      R.stands now ((c.records v ++ records_then cs v rest) ∷ outer) → MayFail (R.allowance now) (highest (c.records v)) e) →
+      R.stands now (c.records v ++ records_then cs v rest, outer) → MayFail (R.allowance now) (highest (c.records v)) e) →
       MayFail (R.allowance began) height e
   stops part reads =
       fails_below _ _ _ (omega (arith, part.same_allowance)) (omega (arith, part.no_higher, highest-append (c.records v) (all_records cs v)))
       (reads part.can.0 part.of_type.0 part.valid.0 part.apart.0 part.at)
 
 -- after the last
-pub through : {D V : Type 0} {R : Reader D} {began now : D} {v : V} {height : ℕ} {rest : List Record} {outer : Ahead} {Answer : Type 0} →
-    PartWay R began now [] v height rest outer → Answer → Moved R began now height (rest ∷ outer) Answer
+pub through : {D V : Type 0} {R : Reader D} {began now : D} {v : V} {height : ℕ} {rest : List Record} {outer : Outside} {Answer : Type 0} →
+    PartWay R began now [] v height rest outer → Answer → Moved R began now height (rest, outer) Answer
 through part answer = record {
   answer = answer;
   at = part.at;

@@ -4,7 +4,7 @@ use Rattle.std.specs.Option.{IfSome, option_eq, option_map}
 use Rattle.std.specs.Result.{IsOkAnd, MatchResult}
 use Rattle.asn1_components.specs.ComponentLists.{EachCanStandInside, EachIsOfType, EachIsValid}
 use Rattle.asn1_components.specs.ComponentTypes.{ComponentType}
-use Rattle.asn1_dec.specs.Reading.{Ahead, MayFail, Moved, Moves, Reader, ReadsBack}
+use Rattle.asn1_dec.specs.Reading.{Ahead, MayFail, Moved, Moves, Reader, ReadsBack, Outside}
 use Rattle.asn1_dec.specs.declared.error.DecodeError.{DecodeError}
 use Rattle.asn1_model.specs.Composites.{option_records}
 use Rattle.asn1_model.specs.Records.{Record, Side}
@@ -27,9 +27,9 @@ module _ {D P W : Type 0} (R : Reader D) (old new : D) (make : W → P) where
 
   module _ {V : Type 0} (cs : List (ComponentType V)) (index_of : P → ℕ) (IsPartOf : V → P → Type 0) (type : TaggedType W) (eq : W → W → Bool) (k index : ℕ) (result : Result W DecodeError) (made : Result P DecodeError) where
     abbrev ReadsOne : Type 0
-    ReadsOne = type.CanStandInside → (w : W) (rest : List Record) (outer : Ahead) → type.IsOfType w → type.IsValid R.takes w → ReadsBack R old new (type.records w) rest outer (λ x. eq x w ≡ true) result
+    ReadsOne = type.CanStandInside → (w : W) (rest : List Record) (outer : Outside) → type.IsOfType w → type.IsValid R.takes w → ReadsBack R old new (type.records w) rest outer (λ x. eq x w ≡ true) result
 
-    one_part : (v : V) (w : W) (rest : List Record) (outer : Ahead) → ReadsOne → MatchResult result (λ x. IsOkAnd made (λ p. p ≡ make x)) (λ e. made ≡ Err e) →
+    one_part : (v : V) (w : W) (rest : List Record) (outer : Outside) → ReadsOne → MatchResult result (λ x. IsOkAnd made (λ p. p ≡ make x)) (λ e. made ≡ Err e) →
         ((x : W) → eq x w ≡ true → (index_of (make x) ≡ k) × IsPartOf v (make x)) → type.CanStandInside → type.IsOfType w → type.IsValid R.takes w → (rs : List Record) → rs ≡ unmarked (type.records w) →
         ReadsBack R old new rs rest outer (λ p. (index_of p ≡ k) × IsPartOf v p) made
     one_part v w rest outer reads cases is can of_type valid rs same =
@@ -56,7 +56,7 @@ module _ {D P W : Type 0} (R : Reader D) (old new : D) (make : W → P) where
         subst (λ j. ReadsPart cs index_of IsPartOf R j old new made) (sym own) (λ v rest outer can_all of_types valids there.
         where_there v rest outer can_all there (get v) (of_type v of_types) (valid v valids) (written v) (is v))
       where
-        where_there : (v : V) (rest : List Record) (outer : Ahead) → EachCanStandInside cs → written_of cs v k ≢ [] → (o : Option W) → IfSome o type.IsOfType → IfSome o (type.IsValid R.takes) →
+        where_there : (v : V) (rest : List Record) (outer : Outside) → EachCanStandInside cs → written_of cs v k ≢ [] → (o : Option W) → IfSome o type.IsOfType → IfSome o (type.IsValid R.takes) →
             written_of cs v k ≡ unmarked (option_records side type.tag (option_map type.records o)) → ((x : W) → option_eq eq (Some x) o ≡ true → (index_of (make x) ≡ k) × IsPartOf v (make x)) →
             ReadsBack R old new (written_of cs v k) rest outer (λ p. (index_of p ≡ k) × IsPartOf v p) made
         where_there v rest outer can_all there None of_type valid same is = absurd (there same)

@@ -8,7 +8,7 @@ use Rattle.std.proofs.lemmas.List.Sums.{sum_by-append, sum_by-cons}
 use Rattle.asn1_components.specs.ComponentLists.{EachCanStandInside, all_records}
 use Rattle.asn1_components.specs.ComponentTypes.{ComponentType, Fits}
 use Rattle.asn1_components.specs.Following.{AllApart, ApartFromEach}
-use Rattle.asn1_dec.specs.Reading.{Ahead, IsNextTag, MayFail, Moves, Reader, TellsComponent, marks_passed, records_in}
+use Rattle.asn1_dec.specs.Reading.{IsNextTag, MayFail, Moves, Reader, TellsComponent, marks_passed, records_in, Outside}
 use Rattle.asn1_dec.specs.declared.error.DecodeError.{DecodeError}
 use Rattle.asn1_dec.proofs.Steps.{flat_failure}
 use Rattle.asn1_model.specs.Records.{Record, scalar, scope, raw, mark, highest, is_mark, marks_alone}
@@ -73,7 +73,7 @@ parts_at-push index_of k parts p =
 
 module _ {D V P : Type 0} (R : Reader D) (cs : List (ComponentType V)) (v : V) (index_of : P → ℕ) (IsPart : P → Type 0) where
   -- These parts were read, and others are left. The records of all are so high.
-  pub record Midway (d : D) (parts : List P) (height : ℕ) (next : List Record) (outer : Ahead) (place bound : ℕ) : Type 0 where
+  pub record Midway (d : D) (parts : List P) (height : ℕ) (outer : Outside) (place bound : ℕ) : Type 0 where
     pub todo : List Item
     pub one_each : EachIsOneRecord cs v
     pub are : All (IsAll cs v) todo
@@ -82,10 +82,10 @@ module _ {D V P : Type 0} (R : Reader D) (cs : List (ComponentType V)) (v : V) (
     pub few : records_in (records todo) + place ≤ bound
     pub low : height ≤ max (R.allowance d) (highest (records todo))
     pub no_higher : highest (records todo) ≤ height
-    pub at : R.stands d (records todo ∷ next ∷ outer)
+    pub at : R.stands d (records todo, outer)
 
   -- The same, where the component of this index comes.
-  pub record ComponentComes (d : D) (parts : List P) (height : ℕ) (next : List Record) (outer : Ahead) (place bound index : ℕ) : Type 0 where
+  pub record ComponentComes (d : D) (parts : List P) (height : ℕ) (outer : Outside) (place bound index : ℕ) : Type 0 where
     pub todo : List Item
     pub one_each : EachIsOneRecord cs v
     pub is_there : written_of cs v index ≢ []
@@ -95,23 +95,23 @@ module _ {D V P : Type 0} (R : Reader D) (cs : List (ComponentType V)) (v : V) (
     pub few : suc (records_in (records todo)) + place ≤ bound
     pub low : height ≤ max (R.allowance d) (max (highest (written_of cs v index)) (highest (records todo)))
     pub no_higher : max (highest (written_of cs v index)) (highest (records todo)) ≤ height
-    pub at : R.stands d ((written_of cs v index ++ records todo) ∷ next ∷ outer)
+    pub at : R.stands d (written_of cs v index ++ records todo, outer)
 
   -- The same, where the component comes that can begin with the tag.
-  pub record AnotherComes (d : D) (parts : List P) (height : ℕ) (next : List Record) (outer : Ahead) (place bound : ℕ) (t : Tag) : Type 0 where
+  pub record AnotherComes (d : D) (parts : List P) (height : ℕ) (outer : Outside) (place bound : ℕ) (t : Tag) : Type 0 where
     pub index : ℕ
     pub begins : CanBeginWith cs index t
-    pub comes : ComponentComes d parts height next outer place bound index
+    pub comes : ComponentComes d parts height outer place bound index
 
   -- The same, where none is left.
-  pub record Through (d : D) (parts : List P) (height : ℕ) (next : List Record) (outer : Ahead) : Type 0 where
+  pub record Through (d : D) (parts : List P) (height : ℕ) (outer : Outside) : Type 0 where
     pub parts_are : ArePartsOf cs v index_of IsPart parts
     pub low : height ≤ R.allowance d
-    pub at : R.stands d ([] ∷ next ∷ outer)
+    pub at : R.stands d ([], outer)
 
-  pub start : (d : D) (items next : List Record) (outer : Ahead) (bound : ℕ) → EachIsOneRecord cs v → IsPermutation items (all_records cs v) → records_in items ≤ bound → R.stands d (items ∷ next ∷ outer) →
-      Midway d [] (highest items) next outer 0 bound
-  start d items next outer bound one moved few at =
+  pub start : (d : D) (items : List Record) (outer : Outside) (bound : ℕ) → EachIsOneRecord cs v → IsPermutation items (all_records cs v) → records_in items ≤ bound → R.stands d (items, outer) →
+      Midway d [] (highest items) outer 0 bound
+  start d items outer bound one moved few at =
       let made = made_of (λ (i : Item). i.1) items (items_from 0 cs v) (subst (IsPermutation items) (sym (their_records 0 cs v)) moved) in
       let high : highest items ≡ highest (records made.order) = ap highest made.is in
       record {
@@ -123,18 +123,18 @@ module _ {D V P : Type 0} (R : Reader D) (cs : List (ComponentType V)) (v : V) (
         few = omega (arith, few, ap records_in made.is);
         low = omega (arith, high);
         no_higher = omega (arith, high);
-        at = subst (λ l. R.stands d (l ∷ next ∷ outer)) made.is at;
+        at = subst (λ l. R.stands d (l, outer)) made.is at;
       }
 
   -- where the next tag could not be told
-  pub not_told : (e : D) {d : D} {parts : List P} {height : ℕ} {next : List Record} {outer : Ahead} {place bound : ℕ} {error : DecodeError} (b h : ℕ) (m : Midway d parts height next outer place bound) →
-      Moves R d e 0 (records m.todo ∷ next ∷ outer) (marks_passed (records m.todo) ∷ next ∷ outer) (IsNextTag cs (records m.todo)) (Err error) → MayFail b h error
+  pub not_told : (e : D) {d : D} {parts : List P} {height : ℕ} {outer : Outside} {place bound : ℕ} {error : DecodeError} (b h : ℕ) (m : Midway d parts height outer place bound) →
+      Moves R d e 0 (records m.todo, outer) (marks_passed (records m.todo), outer) (IsNextTag cs (records m.todo)) (Err error) → MayFail b h error
   not_told e {error = error} b h m moves = flat_failure b h error (moves m.at)
 
   -- past the marks in front
-  ahead : {d : D} {parts : List P} {height : ℕ} {next : List Record} {outer : Ahead} {place bound : ℕ} (e : D) (m : Midway d parts height next outer place bound) →
-      R.stands e (marks_passed (records m.todo) ∷ next ∷ outer) → R.allowance e ≡ R.allowance d → Midway e parts height next outer place bound
-  ahead {next = next} {outer = outer} e m at kept =
+  ahead : {d : D} {parts : List P} {height : ℕ} {outer : Outside} {place bound : ℕ} (e : D) (m : Midway d parts height outer place bound) →
+      R.stands e (marks_passed (records m.todo), outer) → R.allowance e ≡ R.allowance d → Midway e parts height outer place bound
+  ahead {outer = outer} e m at kept =
       let f = is_front m.todo in
       record {
         todo = front m.todo;
@@ -145,7 +145,7 @@ module _ {D V P : Type 0} (R : Reader D) (cs : List (ComponentType V)) (v : V) (
         few = omega (arith, m.few, f.as_many);
         low = omega (arith, m.low, f.as_high, kept);
         no_higher = omega (arith, m.no_higher, f.as_high);
-        at = subst (λ l. R.stands e (l ∷ next ∷ outer)) f.passed at;
+        at = subst (λ l. R.stands e (l, outer)) f.passed at;
       }
 
   -- the next record, after the marks
@@ -156,11 +156,11 @@ module _ {D V P : Type 0} (R : Reader D) (cs : List (ComponentType V)) (v : V) (
   none_has t (k, below, same) = omega (arith, below)
 
   -- where a component comes
-  comes_first : {d : D} {parts : List P} {height : ℕ} {next : List Record} {outer : Ahead} {place bound : ℕ} (t : Tag) → EachCanStandInside cs → (m : Midway d parts height next outer place bound) →
-      BeginsWithRecord m.todo → (u : Tag) → Has (first_tags (records m.todo)) u → TellsComponent cs (first_tags (records m.todo)) t → AnotherComes d parts height next outer place bound t
-  comes_first {d} {parts} {height} {next} {outer} {place} {bound} t can m begins u has tells =
+  comes_first : {d : D} {parts : List P} {height : ℕ} {outer : Outside} {place bound : ℕ} (t : Tag) → EachCanStandInside cs → (m : Midway d parts height outer place bound) →
+      BeginsWithRecord m.todo → (u : Tag) → Has (first_tags (records m.todo)) u → TellsComponent cs (first_tags (records m.todo)) t → AnotherComes d parts height outer place bound t
+  comes_first {d} {parts} {height} {outer} {place} {bound} t can m begins u has tells =
       elim m.todo as (λ todo. BeginsWithRecord todo → Has (first_tags (records todo)) u → TellsComponent cs (first_tags (records todo)) t → All (IsAll cs v) todo → ((k : ℕ) → parts_at index_of k parts + items_at k todo ≡ length (written_of cs v k)) →
-      records_in (records todo) + place ≤ bound → height ≤ max (R.allowance d) (highest (records todo)) → highest (records todo) ≤ height → R.stands d (records todo ∷ next ∷ outer) → AnotherComes d parts height next outer place bound t) [
+      records_in (records todo) + place ≤ bound → height ≤ max (R.allowance d) (highest (records todo)) → highest (records todo) ≤ height → R.stands d (records todo, outer) → AnotherComes d parts height outer place bound t) [
         | [] ↦ λ begins has tells are counted few low no_higher at. absurd (none_has u has)
         | j ∷ js ↦ λ no_mark has tells are counted few low no_higher at.
             let is : written_of cs v j.0 ≡ j.1 ∷ [] = All-head (IsAll cs v) j js are no_mark in
@@ -177,14 +177,14 @@ module _ {D V P : Type 0} (R : Reader D) (cs : List (ComponentType V)) (v : V) (
                 few = let one : records_in (records (j ∷ js)) ≡ suc (records_in (records js)) = ap (λ b. if b then records_in (records js) else suc (records_in (records js))) no_mark in omega (arith, few, one);
                 low = omega (arith, low, ap highest is);
                 no_higher = omega (arith, no_higher, ap highest is);
-                at = subst (λ l. R.stands d ((l ++ records js) ∷ next ∷ outer)) (sym is) at;
+                at = subst (λ l. R.stands d (l ++ records js, outer)) (sym is) at;
               };
             }
       ]
       begins has tells m.are m.counted m.few m.low m.no_higher m.at
 
-  pub comes : {d : D} {parts : List P} {height : ℕ} {next : List Record} {outer : Ahead} {place bound : ℕ} (e : D) (t : Tag) → EachCanStandInside cs → (m : Midway d parts height next outer place bound) →
-      Moves R d e 0 (records m.todo ∷ next ∷ outer) (marks_passed (records m.todo) ∷ next ∷ outer) (IsNextTag cs (records m.todo)) (Ok (Some t)) → R.allowance e ≡ R.allowance d → AnotherComes e parts height next outer place bound t
+  pub comes : {d : D} {parts : List P} {height : ℕ} {outer : Outside} {place bound : ℕ} (e : D) (t : Tag) → EachCanStandInside cs → (m : Midway d parts height outer place bound) →
+      Moves R d e 0 (records m.todo, outer) (marks_passed (records m.todo), outer) (IsNextTag cs (records m.todo)) (Ok (Some t)) → R.allowance e ≡ R.allowance d → AnotherComes e parts height outer place bound t
   unfolding ahead
   comes e t can m moves kept =
       let moved = moves m.at in
@@ -193,21 +193,21 @@ module _ {D V P : Type 0} (R : Reader D) (cs : List (ComponentType V)) (v : V) (
       comes_first t can (ahead e m moved.at kept) f.begins told.0 (subst (λ a. Has a told.0) f.tags told.1.0) (subst (λ a. TellsComponent cs a t) f.tags told.1.1)
 
   -- which no other can
-  pub comes_at : {d : D} {parts : List P} {height : ℕ} {next : List Record} {outer : Ahead} {place bound : ℕ} {t : Tag} (index : ℕ) → AllApart cs → CanBeginWith cs index t →
-      AnotherComes d parts height next outer place bound t → ComponentComes d parts height next outer place bound index
-  comes_at {d} {parts} {height} {next} {outer} {place} {bound} {t} index apart begins a =
-      subst (λ k. ComponentComes d parts height next outer place bound k) (same_component cs a.index index t apart a.begins begins) a.comes
+  pub comes_at : {d : D} {parts : List P} {height : ℕ} {outer : Outside} {place bound : ℕ} {t : Tag} (index : ℕ) → AllApart cs → CanBeginWith cs index t →
+      AnotherComes d parts height outer place bound t → ComponentComes d parts height outer place bound index
+  comes_at {d} {parts} {height} {outer} {place} {bound} {t} index apart begins a =
+      subst (λ k. ComponentComes d parts height outer place bound k) (same_component cs a.index index t apart a.begins begins) a.comes
 
   -- where none is left
-  none_left : {d : D} {parts : List P} {height : ℕ} {next : List Record} {outer : Ahead} {place bound : ℕ} (m : Midway d parts height next outer place bound) → m.todo ≡ [] → Through d parts height next outer
-  none_left {d = d} {next = next} {outer = outer} m none = record {
+  none_left : {d : D} {parts : List P} {height : ℕ} {outer : Outside} {place bound : ℕ} (m : Midway d parts height outer place bound) → m.todo ≡ [] → Through d parts height outer
+  none_left {d = d} {outer = outer} m none = record {
     parts_are = record {
       each = m.each;
       none_twice = λ k. omega (arith, m.counted k, at_most_one cs v k m.one_each);
       complete = λ k there away. there (nothing (written_of cs v k) (omega (arith, m.counted k, ap (items_at k) none, away)));
     };
     low = omega (arith, m.low, ap (λ l. highest (records l)) none);
-    at = subst (λ l. R.stands d (records l ∷ next ∷ outer)) none m.at;
+    at = subst (λ l. R.stands d (records l, outer)) none m.at;
   }
 
   few_none : (items : List Item) → BeginsWithRecord items → records_in (records items) ≡ 0 → items ≡ []
@@ -216,8 +216,8 @@ module _ {D V P : Type 0} (R : Reader D) (cs : List (ComponentType V)) (v : V) (
       let one : records_in (records (i ∷ items)) ≡ suc (records_in (records items)) = ap (λ b. if b then records_in (records items) else suc (records_in (records items))) no_mark in
       absurd (omega (arith, few, one))
 
-  pub through : {d : D} {parts : List P} {height : ℕ} {next : List Record} {outer : Ahead} {place bound : ℕ} (e : D) → (m : Midway d parts height next outer place bound) →
-      Moves R d e 0 (records m.todo ∷ next ∷ outer) (marks_passed (records m.todo) ∷ next ∷ outer) (IsNextTag cs (records m.todo)) (Ok None) → R.allowance e ≡ R.allowance d → Through e parts height next outer
+  pub through : {d : D} {parts : List P} {height : ℕ} {outer : Outside} {place bound : ℕ} (e : D) → (m : Midway d parts height outer place bound) →
+      Moves R d e 0 (records m.todo, outer) (marks_passed (records m.todo), outer) (IsNextTag cs (records m.todo)) (Ok None) → R.allowance e ≡ R.allowance d → Through e parts height outer
   unfolding ahead
   through e m moves kept =
       let moved = moves m.at in
@@ -225,8 +225,8 @@ module _ {D V P : Type 0} (R : Reader D) (cs : List (ComponentType V)) (v : V) (
       none_left (ahead e m moved.at kept) (few_none (front m.todo) f.begins (sym f.as_many ∙ no_records (records m.todo) (moved.answer.none refl)))
 
   -- where as many were read as there can be
-  pub filled : {d : D} {parts : List P} {height : ℕ} {next : List Record} {outer : Ahead} {place bound : ℕ} (e : D) (answer : Option Tag) → (m : Midway d parts height next outer place bound) → bound ≤ place →
-      Moves R d e 0 (records m.todo ∷ next ∷ outer) (marks_passed (records m.todo) ∷ next ∷ outer) (IsNextTag cs (records m.todo)) (Ok answer) → R.allowance e ≡ R.allowance d → Through e parts height next outer
+  pub filled : {d : D} {parts : List P} {height : ℕ} {outer : Outside} {place bound : ℕ} (e : D) (answer : Option Tag) → (m : Midway d parts height outer place bound) → bound ≤ place →
+      Moves R d e 0 (records m.todo, outer) (marks_passed (records m.todo), outer) (IsNextTag cs (records m.todo)) (Ok answer) → R.allowance e ≡ R.allowance d → Through e parts height outer
   unfolding ahead
   filled e answer m full moves kept =
       let moved = moves m.at in
@@ -234,9 +234,9 @@ module _ {D V P : Type 0} (R : Reader D) (cs : List (ComponentType V)) (v : V) (
       none_left (ahead e m moved.at kept) (few_none (front m.todo) f.begins (omega (arith, m.few, full, f.as_many)))
 
   -- after a component was read
-  pub further : {d : D} {parts : List P} {height : ℕ} {next : List Record} {outer : Ahead} {place bound index : ℕ} (e : D) (p : P) (a : ComponentComes d parts height next outer place bound index) →
-      index_of p ≡ index → IsPart p → highest (written_of cs v index) ≤ R.allowance d → R.stands e (records a.todo ∷ next ∷ outer) → R.allowance e ≡ R.allowance d →
-      Midway e (parts ++ p ∷ []) height next outer (place + 1) bound
+  pub further : {d : D} {parts : List P} {height : ℕ} {outer : Outside} {place bound index : ℕ} (e : D) (p : P) (a : ComponentComes d parts height outer place bound index) →
+      index_of p ≡ index → IsPart p → highest (written_of cs v index) ≤ R.allowance d → R.stands e (records a.todo, outer) → R.allowance e ≡ R.allowance d →
+      Midway e (parts ++ p ∷ []) height outer (place + 1) bound
   further {parts = parts} e p a own is_part low at kept = record {
     todo = a.todo;
     one_each = a.one_each;

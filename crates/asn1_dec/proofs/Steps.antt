@@ -5,7 +5,7 @@ use Rattle.asn1_model.specs.Records.{Record, Head, height, highest, holding}
 use Rattle.asn1_model.proofs.Lists.{inner_height-held}
 use Rattle.asn1_dec.specs.declared.error.DecodeError.{DecodeError}
 use Rattle.asn1_dec.specs.declared.error.DecodeError.TheVariants.{Memory}
-use Rattle.asn1_dec.specs.Reading.{Ahead, Reader, MayFail, Moved, Moves}
+use Rattle.asn1_dec.specs.Reading.{Ahead, Reader, MayFail, Moved, Moves, Outside}
 use Rattle.std.specs.Prelude.{MatchResult, OnOk}
 
 pub highest-append : (rs ss : List Record) → highest (rs ++ ss) ≡ max (highest rs) (highest ss)
@@ -48,8 +48,8 @@ fails_below b g h same low (inr deep) = inr (deep.0, omega (arith, deep.1, same,
 
 module _ {D : Type 0} (R : Reader D) where
   -- what is left in a scope, with nothing after it
-  pub to_end : (d : D) (rs : List Record) (outer : Ahead) → R.stands d (rs ∷ outer) → R.stands d ((rs ++ []) ∷ outer)
-  to_end d rs outer at = subst (λ l. R.stands d (l ∷ outer)) (sym (append-nil rs)) at
+  pub to_end : (d : D) (rs : List Record) (outer : Outside) → R.stands d (rs, outer) → R.stands d (rs ++ [], outer)
+  to_end d rs outer at = subst (λ l. R.stands d (l, outer)) (sym (append-nil rs)) at
 
   -- what is said of the answer may be said in other words
   pub in_other_words : {V : Type 0} (old new : D) (height : ℕ) (before after : Ahead) {Is As : V → Type 0} (result : Result V DecodeError) →

@@ -4,7 +4,7 @@ use Rattle.std.proofs.Common.{ap, subst, sym, ◌∙◌, refl, arith}
 use Rattle.std.proofs.lemmas.List.Sorted.{IsPermutation-refl}
 use Rattle.asn1_components.specs.ComponentTypes.{ComponentType}
 use Rattle.asn1_dec.specs.Orders.{StandsUpToOrder, up_to_order}
-use Rattle.asn1_dec.specs.Reading.{Ahead, Reader, SameAhead, at_end, next, records_in, IsLawful, Moved, Moves, MayFail, ReadsContent, ReadsOpenType, ReadsMark, ReadsEnd, TellsPresence, TellsMore, TellsNextTag, IsNextTag, Opens, OpensSet, SetIsOpen, marks_passed}
+use Rattle.asn1_dec.specs.Reading.{Ahead, Outside, Reader, SameAhead, SameOutside, nothing, scope_and, records_in, IsLawful, Moved, Moves, MayFail, ReadsContent, ReadsOpenType, ReadsMark, ReadsEnd, TellsPresence, TellsMore, TellsNextTag, IsNextTag, Opens, OpensSet, SetIsOpen, marks_passed}
 use Rattle.asn1_dec.specs.declared.error.DecodeError.{DecodeError}
 use Rattle.asn1_dec.proofs.Ahead.{SameAhead-refl, SameAhead-trans, same_as_record, same_as_scope, same_as_end}
 use Rattle.asn1_dec.proofs.MarksPassed.{same-marks_passed, same-next_tag}
@@ -38,22 +38,23 @@ begins_the_same own rs ss same begins = record {
 }
 
 -- nothing is outside where nothing is
-none_outside : {outer : Ahead} → SameAhead outer [] → outer ≡ []
-none_outside at_end = refl
+none_outside : {outer : Outside} → SameOutside outer [] → outer ≡ []
+none_outside nothing = refl
 
 -- What is next where a record that holds others is next up to order.
-record HoldingIsNext (a : Ahead) (h : Head) (items rest : List Record) (outer : Ahead) : Type 0 where
+record HoldingIsNext (a : Ahead) (h : Head) (items rest : List Record) (outer : Outside) : Type 0 where
   pub inner : List Record
   pub order : List Record
   pub others : List Record
-  pub outside : Ahead
-  pub is : a ≡ (holding h inner ∷ others) ∷ outside
+  pub outside : Outside
+  pub is : a ≡ (holding h inner ∷ others, outside)
   pub same : SameRecords inner order
   pub rearranged : IsPermutation order items
   pub in_place : is_unordered h ≡ false → order ≡ items
-  pub same_outer : SameAhead (others ∷ outside) (rest ∷ outer)
+  pub same_rest : SameRecords others rest
+  pub same_outer : SameOutside outside outer
 
-same_as_opened : (a : Ahead) (h : Head) (items rest : List Record) (outer : Ahead) → SameAhead a ((holding h items ∷ rest) ∷ outer) → HoldingIsNext a h items rest outer
+same_as_opened : (a : Ahead) (h : Head) (items rest : List Record) (outer : Outside) → SameAhead a (holding h items ∷ rest, outer) → HoldingIsNext a h items rest outer
 same_as_opened a h items rest outer same =
     let b = same_as_record same in
     let s = same_as_holding b.first h items b.same in
@@ -62,11 +63,12 @@ same_as_opened a h items rest outer same =
       order = s.order;
       others = b.rest;
       outside = b.others;
-      is = b.is ∙ ap (λ q. (q ∷ b.rest) ∷ b.others) s.is;
+      is = b.is ∙ ap (λ q. (q ∷ b.rest, b.others)) s.is;
       same = s.same;
       rearranged = s.moved;
       in_place = s.unmoved;
-      same_outer = next b.same_rest b.same_outer;
+      same_rest = b.same_rest;
+      same_outer = b.same_outer;
     }
 
 module _ {D : Type 0} (R : Reader D) where
@@ -75,10 +77,10 @@ module _ {D : Type 0} (R : Reader D) where
   stands_exactly d ahead at = record { exactly = ahead; stands = at; same = SameAhead-refl ahead }
 
   -- the decoder is exactly at the end of all where it is so up to order
-  pub at_the_end : (d : D) → StandsUpToOrder R d ([] ∷ []) → R.stands d ([] ∷ [])
+  pub at_the_end : (d : D) → StandsUpToOrder R d ([], []) → R.stands d ([], [])
   at_the_end d at =
       let a = same_as_end at.same in
-      subst (λ l. R.stands d l) (a.is ∙ ap (λ o. [] ∷ o) (none_outside a.same)) at.stands
+      subst (λ l. R.stands d l) (a.is ∙ ap (λ o. ([], o)) (none_outside a.same)) at.stands
 
   -- the law
   pub lawful : IsLawful (up_to_order R)
@@ -98,14 +100,14 @@ module _ {D : Type 0} (R : Reader D) where
   carried_over old new height exactly after Is As (Err e) same holds m = m
 
   -- A call that goes past a record which is the same as no other: one that holds no others.
-  past_record : {V : Type 0} (old new : D) (r : Record) (rest : List Record) (outer : Ahead) (height : ℕ) (Is : V → Type 0) (result : Result V DecodeError) →
+  past_record : {V : Type 0} (old new : D) (r : Record) (rest : List Record) (outer : Outside) (height : ℕ) (Is : V → Type 0) (result : Result V DecodeError) →
       ((q : Record) → Same q r → q ≡ r) →
-      ((others : List Record) (outside : Ahead) → SameRecords others rest → Moves R old new height ((r ∷ others) ∷ outside) (others ∷ outside) Is result) →
-      Moves (up_to_order R) old new height ((r ∷ rest) ∷ outer) (rest ∷ outer) Is result
+      ((others : List Record) (outside : Outside) → SameRecords others rest → Moves R old new height (r ∷ others, outside) (others, outside) Is result) →
+      Moves (up_to_order R) old new height (r ∷ rest, outer) (rest, outer) Is result
   past_record old new r rest outer height Is result alone exact at =
       let a = same_as_record at.same in
-      let is : at.exactly ≡ (r ∷ a.rest) ∷ a.others = a.is ∙ ap (λ q. (q ∷ a.rest) ∷ a.others) (alone a.first a.same) in
-      carried_over old new height (a.rest ∷ a.others) (rest ∷ outer) Is Is result (next a.same_rest a.same_outer) (λ w h. h)
+      let is : at.exactly ≡ (r ∷ a.rest, a.others) = a.is ∙ ap (λ q. (q ∷ a.rest, a.others)) (alone a.first a.same) in
+      carried_over old new height (a.rest, a.others) (rest, outer) Is Is result (record { here = a.same_rest; outside = a.same_outer }) (λ w h. h)
       (exact a.rest a.others a.same_rest (subst (λ l. R.stands old l) is at.stands))
 
   -- each word of a decoder's own calls
@@ -138,55 +140,55 @@ module _ {D : Type 0} (R : Reader D) where
 
   pub tells_more : (old new : D) (result : Result Bool DecodeError) → TellsMore R old new result → TellsMore (up_to_order R) old new result
   tells_more old new result tells = record {
-    some = λ r items rest outer no_mark at.
+    some = λ r items (h, rest) outer no_mark at.
         let a = same_as_scope at.same in
         let b = same_as_cons a.inner r items a.same in
-        let is : at.exactly ≡ (b.first ∷ b.others) ∷ a.around ∷ a.others = a.is ∙ ap (λ l. l ∷ a.around ∷ a.others) b.is in
-        carried_over old new 0 ((b.first ∷ b.others) ∷ a.around ∷ a.others) ((r ∷ items) ∷ rest ∷ outer) (λ b. b ≡ true) (λ b. b ≡ true) result
-        (subst (λ l. SameAhead l ((r ∷ items) ∷ rest ∷ outer)) is at.same) (λ w h. h)
-        (tells.some b.first b.others a.around a.others (same-mark b.same_first ∙ no_mark) (subst (λ l. R.stands old l) is at.stands));
-    none = λ rest outer at.
+        let is : at.exactly ≡ (b.first ∷ b.others, (h, a.around) ∷ a.others) = a.is ∙ ap (λ l. (l, (h, a.around) ∷ a.others)) b.is in
+        carried_over old new 0 (b.first ∷ b.others, (h, a.around) ∷ a.others) (r ∷ items, (h, rest) ∷ outer) (λ b. b ≡ true) (λ b. b ≡ true) result
+        (subst (λ l. SameAhead l (r ∷ items, (h, rest) ∷ outer)) is at.same) (λ w h. h)
+        (tells.some b.first b.others (h, a.around) a.others (same-mark b.same_first ∙ no_mark) (subst (λ l. R.stands old l) is at.stands));
+    none = λ (h, rest) outer at.
         let a = same_as_scope at.same in
-        let is : at.exactly ≡ [] ∷ a.around ∷ a.others = a.is ∙ ap (λ l. l ∷ a.around ∷ a.others) (same_as_none a.inner a.same) in
-        carried_over old new 0 ([] ∷ a.around ∷ a.others) ([] ∷ rest ∷ outer) (λ b. b ≡ false) (λ b. b ≡ false) result
-        (subst (λ l. SameAhead l ([] ∷ rest ∷ outer)) is at.same) (λ w h. h)
-        (tells.none a.around a.others (subst (λ l. R.stands old l) is at.stands));
+        let is : at.exactly ≡ ([], (h, a.around) ∷ a.others) = a.is ∙ ap (λ l. (l, (h, a.around) ∷ a.others)) (same_as_none a.inner a.same) in
+        carried_over old new 0 ([], (h, a.around) ∷ a.others) ([], (h, rest) ∷ outer) (λ b. b ≡ false) (λ b. b ≡ false) result
+        (subst (λ l. SameAhead l ([], (h, rest) ∷ outer)) is at.same) (λ w h. h)
+        (tells.none (h, a.around) a.others (subst (λ l. R.stands old l) is at.stands));
   }
 
-  pub tells_next_tag : {V : Type 0} (old new : D) (cs : List (ComponentType V)) (result : Result (Option Tag) DecodeError) →
-      TellsNextTag R old new cs result → TellsNextTag (up_to_order R) old new cs result
-  tells_next_tag old new cs result tells items rest outer at =
+  pub tells_next_tag : {V : Type 0} (old new : D) (h : Head) (cs : List (ComponentType V)) (result : Result (Option Tag) DecodeError) →
+      TellsNextTag R old new h cs result → TellsNextTag (up_to_order R) old new h cs result
+  tells_next_tag old new h cs result tells items rest outer at =
       let a = same_as_scope at.same in
-      carried_over old new 0 (marks_passed a.inner ∷ a.around ∷ a.others) (marks_passed items ∷ rest ∷ outer) (IsNextTag cs a.inner) (IsNextTag cs items) result
-      (next (same-marks_passed a.inner items a.same) (next a.same_around a.same_outer)) (λ w. same-next_tag cs a.inner items w a.same)
+      carried_over old new 0 (marks_passed a.inner, (h, a.around) ∷ a.others) (marks_passed items, (h, rest) ∷ outer) (IsNextTag cs a.inner) (IsNextTag cs items) result
+      (record { here = same-marks_passed a.inner items a.same; outside = scope_and h a.same_around a.same_outer }) (λ w. same-next_tag cs a.inner items w a.same)
       (tells a.inner a.around a.others (subst (λ l. R.stands old l) a.is at.stands))
 
   pub reads_end : {V : Type 0} (old new : D) (result : Result V DecodeError) → ReadsEnd R old new result → ReadsEnd (up_to_order R) old new result
-  reads_end old new result reads rest outer at =
+  reads_end old new result reads h rest outer at =
       let a = same_as_scope at.same in
-      let is : at.exactly ≡ [] ∷ a.around ∷ a.others = a.is ∙ ap (λ l. l ∷ a.around ∷ a.others) (same_as_none a.inner a.same) in
-      carried_over old new 0 (a.around ∷ a.others) (rest ∷ outer) (λ _. ⊤) (λ _. ⊤) result (next a.same_around a.same_outer) (λ w h. h)
-      (reads a.around a.others (subst (λ l. R.stands old l) is at.stands))
+      let is : at.exactly ≡ ([], (h, a.around) ∷ a.others) = a.is ∙ ap (λ l. (l, (h, a.around) ∷ a.others)) (same_as_none a.inner a.same) in
+      carried_over old new 0 (a.around, a.others) (rest, outer) (λ _. ⊤) (λ _. ⊤) result (record { here = a.same_around; outside = a.same_outer }) (λ w holds. holds)
+      (reads h a.around a.others (subst (λ l. R.stands old l) is at.stands))
 
   pub opens : {V : Type 0} (old new : D) (head : Name → Head) (Is : List Record → V → Type 0) (result : Result V DecodeError) →
       ((n : Name) → is_unordered (head n) ≡ false) → HoldsInAnyOrder Is → Opens R old new head Is result → Opens (up_to_order R) old new head Is result
   opens old new head Is result ordered holds exact n items rest outer at =
       let a = same_as_opened at.exactly (head n) items rest outer at.same in
       let same : SameRecords a.inner items = subst (λ l. SameRecords a.inner l) (a.in_place (ordered n)) a.same in
-      carried_over old new 1 (a.inner ∷ a.others ∷ a.outside) (items ∷ rest ∷ outer) (Is a.inner) (Is items) result (next same a.same_outer) (λ w. holds a.inner items items w same (IsPermutation-refl items))
+      carried_over old new 1 (a.inner, (head n, a.others) ∷ a.outside) (items, (head n, rest) ∷ outer) (Is a.inner) (Is items) result (record { here = same; outside = scope_and (head n) a.same_rest a.same_outer }) (λ w. holds a.inner items items w same (IsPermutation-refl items))
       (exact n a.inner a.others a.outside (subst (λ l. R.stands old l) a.is at.stands))
 
-  in_some_order : {V : Type 0} (old new : D) (order items rest : List Record) (outer : Ahead) (Is : V → Type 0) (result : Result V DecodeError) → IsPermutation order items →
-      MatchResult result (λ w. Moved (up_to_order R) old new 1 (order ∷ rest ∷ outer) (Is w)) (MayFail (R.allowance old) 1) →
-      MatchResult result (λ w. SetIsOpen (up_to_order R) old new items rest outer (Is w)) (MayFail (R.allowance old) 1)
-  in_some_order old new order items rest outer Is (Ok w) rearranged m = record { order = order; rearranged = rearranged; moved = m }
-  in_some_order old new order items rest outer Is (Err e) rearranged m = m
+  in_some_order : {V : Type 0} (old new : D) (order items : List Record) (outer : Outside) (Is : V → Type 0) (result : Result V DecodeError) → IsPermutation order items →
+      MatchResult result (λ w. Moved (up_to_order R) old new 1 (order, outer) (Is w)) (MayFail (R.allowance old) 1) →
+      MatchResult result (λ w. SetIsOpen (up_to_order R) old new items outer (Is w)) (MayFail (R.allowance old) 1)
+  in_some_order old new order items outer Is (Ok w) rearranged m = record { order = order; rearranged = rearranged; moved = m }
+  in_some_order old new order items outer Is (Err e) rearranged m = m
 
   -- what is opened exactly before its records as they come is opened, as a set, before them in some order
   pub opens_set : {V : Type 0} (old new : D) (head : Name → Head) (Is : List Record → V → Type 0) (result : Result V DecodeError) →
       HoldsInAnyOrder Is → Opens R old new head Is result → OpensSet (up_to_order R) old new head Is result
   opens_set old new head Is result holds exact n items rest outer at =
       let a = same_as_opened at.exactly (head n) items rest outer at.same in
-      in_some_order old new a.order items rest outer (Is items) result a.rearranged
-      (carried_over old new 1 (a.inner ∷ a.others ∷ a.outside) (a.order ∷ rest ∷ outer) (Is a.inner) (Is items) result (next a.same a.same_outer) (λ w. holds a.inner a.order items w a.same a.rearranged)
+      in_some_order old new a.order items ((head n, rest) ∷ outer) (Is items) result a.rearranged
+      (carried_over old new 1 (a.inner, (head n, a.others) ∷ a.outside) (a.order, (head n, rest) ∷ outer) (Is a.inner) (Is items) result (record { here = a.same; outside = scope_and (head n) a.same_rest a.same_outer }) (λ w. holds a.inner a.order items w a.same a.rearranged)
       (exact n a.inner a.others a.outside (subst (λ l. R.stands old l) a.is at.stands)))

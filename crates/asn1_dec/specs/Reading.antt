@@ -13,14 +13,24 @@ use Rattle.asn1_dec.specs.Refusals.{Refusals}
 use Rattle.asn1_dec.specs.declared.error.DecodeError.{DecodeError}
 use Rattle.asn1_dec.specs.declared.error.DecodeError.TheVariants.{Memory, Depth, Failed}
 
--- What is left to be read of each list that is open: of the innermost scope, and so on to the outermost list.
+-- Each scope that is open, innermost first: its head, and what is left to be read after it in the list that it is in.
+abbrev pub Outside : Type 0
+Outside = List (Head × List Record)
+
+-- What is left to be read: of the innermost list, and outside it.
 abbrev pub Ahead : Type 0
-Ahead = List (List Record)
+Ahead = List Record × Outside
+
+-- The same scopes are open, and what is left after each is the same up to the order inside sets.
+pub data SameOutside : Outside → Outside → Type 0 where
+  nothing : SameOutside [] []
+  scope_and : (h : Head) {rs ss : List Record} {outer others : Outside} → SameRecords rs ss →
+      SameOutside outer others → SameOutside ((h, rs) ∷ outer) ((h, ss) ∷ others)
 
 -- What is left is the same, list by list, up to the order inside sets.
-pub data SameAhead : Ahead → Ahead → Type 0 where
-  at_end : SameAhead [] []
-  next : {rs ss : List Record} {outer others : Ahead} → SameRecords rs ss → SameAhead outer others → SameAhead (rs ∷ outer) (ss ∷ others)
+pub record SameAhead (one other : Ahead) : Type 0 where
+  pub here : SameRecords one.0 other.0
+  pub outside : SameOutside one.1 other.1
 
 -- how many records there are, presence marks apart
 abbrev pub records_in : List Record → ℕ
@@ -80,33 +90,33 @@ module _ {D : Type 0} (R : Reader D) where
       R.stands old before → MatchResult result (λ w. Moved old new height after (Is w)) (MayFail (R.allowance old) height)
 
   -- a call that reads these records, before those
-  abbrev pub ReadsBack : {V : Type 0} → D → D → List Record → List Record → Ahead → (V → Type 0) → Result V DecodeError → Type 0
-  ReadsBack old new rs rest outer Is result = Moves old new (highest rs) ((rs ++ rest) ∷ outer) (rest ∷ outer) Is result
+  abbrev pub ReadsBack : {V : Type 0} → D → D → List Record → List Record → Outside → (V → Type 0) → Result V DecodeError → Type 0
+  ReadsBack old new rs rest outer Is result = Moves old new (highest rs) (rs ++ rest, outer) (rest, outer) Is result
 
   -- A call that reads a content, under this tag, these constraints and any name: of each that is of the type, it answers
   -- what `Is` holds of.
   abbrev pub ReadsContent : {X V : Type 0} → D → D → Tag → ConstraintSet → (X → Content) → (X → Type 0) → (V → X → Type 0) → Result V DecodeError → Type 0
   ReadsContent {X = X} old new t c content IsOfType Is result =
-      (x : X) (n : Name) (rest : List Record) (outer : Ahead) → IsOfType x →
+      (x : X) (n : Name) (rest : List Record) (outer : Outside) → IsOfType x →
       ReadsBack old new (scalar t c n (content x) ∷ []) rest outer (λ w. Is w x) result
 
   -- A call that reads the bytes of an open type, of any name: of those that the codec takes as one value, it answers what `Is`
   -- holds of.
   abbrev pub ReadsOpenType : {V : Type 0} → D → D → (V → List ℕ → Type 0) → Result V DecodeError → Type 0
   ReadsOpenType old new Is result =
-      (bytes : List ℕ) (n : Name) (rest : List Record) (outer : Ahead) → IsTrue (R.takes bytes) →
+      (bytes : List ℕ) (n : Name) (rest : List Record) (outer : Outside) → IsTrue (R.takes bytes) →
       ReadsBack old new (raw n bytes ∷ []) rest outer (λ w. Is w bytes) result
 
   -- a call that goes past this presence mark
   abbrev pub ReadsMark : {V : Type 0} → D → D → Mark → Result V DecodeError → Type 0
   ReadsMark old new m result =
-      (rest : List Record) (outer : Ahead) → Moves old new 0 ((mark m ∷ rest) ∷ outer) (rest ∷ outer) (λ _. ⊤) result
+      (rest : List Record) (outer : Outside) → Moves old new 0 (mark m ∷ rest, outer) (rest, outer) (λ _. ⊤) result
 
   -- A call that reads a value of a well-tagged type, under this tag, these constraints and any name: of each that is of the
   -- type and valid, it answers one that is equal.
   abbrev pub ReadsValue : {V : Type 0} → Meaning V → (V → V → Bool) → Tag → ConstraintSet → D → D → Result V DecodeError → Type 0
   ReadsValue {V = V} m eq t c old new result =
-      (v : V) (n : Name) (rest : List Record) (outer : Ahead) →
+      (v : V) (n : Name) (rest : List Record) (outer : Outside) →
       m.IsWellTagged t → m.IsOfType v → m.IsValid R.takes v → MayFollow m t (m.records v t c n) rest →
       ReadsBack old new (m.records v t c n) rest outer (λ w. eq w v ≡ true) result
 
@@ -114,9 +124,9 @@ module _ {D : Type 0} (R : Reader D) where
   -- past the records of a value: where it was before those of a valid one, it is after them.
   pub record HasReadPast {V : Type 0} (m : Meaning V) (t : Tag) (c : ConstraintSet) (old new : D) (result : Result V DecodeError) : Type 0 where
     pub same_allowance : R.allowance new ≡ R.allowance old
-    pub at : (v : V) (n : Name) (rest : List Record) (outer : Ahead) →
+    pub at : (v : V) (n : Name) (rest : List Record) (outer : Outside) →
         m.IsWellTagged t → m.IsOfType v → m.IsValid R.takes v → MayFollow m t (m.records v t c n) rest →
-        R.stands old ((m.records v t c n ++ rest) ∷ outer) → R.stands new (rest ∷ outer)
+        R.stands old (m.records v t c n ++ rest, outer) → R.stands new (rest, outer)
     pub not_too_deep : IfErr result (λ e. e ≢ Depth)
     pub not_failed : IfErr result (λ e. e ≢ Failed)
     pub no_failure : R.failed new ≡ false
@@ -149,7 +159,7 @@ module _ {D : Type 0} (R : Reader D) where
       (CanStandInside : Type 0) → (V → Type 0) → (V → Type 0) → (V → V → Bool) → D → D →
       Result (Option V) DecodeError → Type 0
   ReadsOptional {V = V} side t own records CanStandInside IsOfType IsValid eq old new result =
-      (v : Option V) (n : Name) (rest : List Record) (outer : Ahead) →
+      (v : Option V) (n : Name) (rest : List Record) (outer : Outside) →
       CanStandInside → IfSome v IsOfType → IfSome v IsValid → (v ≡ None → ShareNone own (first_tags rest)) →
       ReadsBack old new (option_records side t (option_map (records n) v)) rest outer (λ w. option_eq eq w v ≡ true) result
 
@@ -170,7 +180,7 @@ module _ {D : Type 0} (R : Reader D) where
   abbrev pub ReadsDefault : {V : Type 0} → Side → (V → Type 0) → Meaning V → (V → V → Bool) → Tag →
       ConstraintSet → D → D → Result V DecodeError → Type 0
   ReadsDefault {V = V} side IsUsual m eq t c old new result =
-      (v : V) (equal : Bool) (n : Name) (rest : List Record) (outer : Ahead) →
+      (v : V) (equal : Bool) (n : Name) (rest : List Record) (outer : Outside) →
       ((usual : V) → IsUsual usual → eq v usual ≡ equal) →
       CanStandInsideUnder m t → (equal ≡ false → m.IsOfType v) → (equal ≡ false → m.IsValid R.takes v) →
       (equal ≡ true → ShareNone (tags m t) (first_tags rest)) →
@@ -178,68 +188,76 @@ module _ {D : Type 0} (R : Reader D) where
 
   -- A type's own error: the decoder stands before what follows the records, the allowance is as it was, and the decoder has
   -- not failed.
-  pub record IsOwnError (old new : D) (rest : List Record) (outer : Ahead) (own e : DecodeError) : Type 0 where
+  pub record IsOwnError (old new : D) (rest : List Record) (outer : Outside) (own e : DecodeError) : Type 0 where
     pub error : e ≡ own
-    pub at : R.stands new (rest ∷ outer)
+    pub at : R.stands new (rest, outer)
     pub same_allowance : R.allowance new ≡ R.allowance old
     pub no_failure : R.failed new ≡ false
 
   -- a call that reads these records, before those, and refuses what they say by an error of its type's own
-  abbrev pub ReadsAndRefuses : {V : Type 0} → D → D → List Record → List Record → Ahead → DecodeError → Result V DecodeError → Type 0
+  abbrev pub ReadsAndRefuses : {V : Type 0} → D → D → List Record → List Record → Outside → DecodeError → Result V DecodeError → Type 0
   ReadsAndRefuses old new rs rest outer own result =
-      R.stands old ((rs ++ rest) ∷ outer) →
+      R.stands old (rs ++ rest, outer) →
       MatchResult result (λ _. ⊥) (λ e. MayFail (R.allowance old) (highest rs) e ⊎ IsOwnError old new rest outer own e)
 
   -- A call that reads the records that a type refuses, under this tag and these constraints, and refuses them by the error of
   -- the type.
   abbrev pub Refuses : {V : Type 0} → Refusals → Tag → ConstraintSet → D → D → Result V DecodeError → Type 0
   Refuses refused t c old new result =
-      (rs rest : List Record) (outer : Ahead) (e : DecodeError) → refused R.takes t c rs e →
+      (rs rest : List Record) (outer : Outside) (e : DecodeError) → refused R.takes t c rs e →
       ReadsAndRefuses old new rs rest outer e result
 
   -- A call that tells whether a component is there, which has these tags, and goes past the presence mark that says so. A
   -- component that is there begins with one of its tags; what follows one that is absent begins with none.
   pub record TellsPresence (old new : D) (present absent : Mark) (own : Tags) (result : Result Bool DecodeError) : Type 0 where
-    pub there : (rest : List Record) (outer : Ahead) → BeginsWithin own rest →
-        Moves old new 0 ((mark present ∷ rest) ∷ outer) (rest ∷ outer) (λ b. b ≡ true) result
-    pub away : (rest : List Record) (outer : Ahead) → ShareNone own (first_tags rest) →
-        Moves old new 0 ((mark absent ∷ rest) ∷ outer) (rest ∷ outer) (λ b. b ≡ false) result
+    pub there : (rest : List Record) (outer : Outside) → BeginsWithin own rest →
+        Moves old new 0 (mark present ∷ rest, outer) (rest, outer) (λ b. b ≡ true) result
+    pub away : (rest : List Record) (outer : Outside) → ShareNone own (first_tags rest) →
+        Moves old new 0 (mark absent ∷ rest, outer) (rest, outer) (λ b. b ≡ false) result
 
   -- A call that tells whether a record is left in the innermost scope, and stays before it. Inside no scope it tells nothing.
   pub record TellsMore (old new : D) (result : Result Bool DecodeError) : Type 0 where
-    pub some : (r : Record) (items rest : List Record) (outer : Ahead) → is_mark r ≡ false →
-        Moves old new 0 ((r ∷ items) ∷ rest ∷ outer) ((r ∷ items) ∷ rest ∷ outer) (λ b. b ≡ true) result
-    pub none : (rest : List Record) (outer : Ahead) → Moves old new 0 ([] ∷ rest ∷ outer) ([] ∷ rest ∷ outer) (λ b. b ≡ false) result
+    pub some : (r : Record) (items : List Record) (scope : Head × List Record) (outer : Outside) →
+        is_mark r ≡ false →
+        Moves old new 0 (r ∷ items, scope ∷ outer) (r ∷ items, scope ∷ outer) (λ b. b ≡ true) result
+    pub none : (scope : Head × List Record) (outer : Outside) →
+        Moves old new 0 ([], scope ∷ outer) ([], scope ∷ outer) (λ b. b ≡ false) result
 
-  -- A call that tells a tag of the component whose record is next in the innermost scope, and goes past the presence marks
-  -- before it. Inside no scope it tells nothing.
-  abbrev pub TellsNextTag : {V : Type 0} → D → D → List (ComponentType V) → Result (Option Tag) DecodeError → Type 0
-  TellsNextTag old new cs result =
-      (items rest : List Record) (outer : Ahead) →
-      Moves old new 0 (items ∷ rest ∷ outer) (marks_passed items ∷ rest ∷ outer) (IsNextTag cs items) result
+  -- A call that tells a tag of the component whose record is next in a scope of this head, and goes past the presence marks
+  -- before it.
+  abbrev pub TellsNextTag : {V : Type 0} → D → D → Head → List (ComponentType V) →
+      Result (Option Tag) DecodeError → Type 0
+  TellsNextTag old new h cs result =
+      (items rest : List Record) (outer : Outside) →
+      Moves old new 0 (items, (h, rest) ∷ outer) (marks_passed items, (h, rest) ∷ outer)
+      (IsNextTag cs items) result
 
   -- a call that opens a record of this head and any name; this holds of its answer and what is inside
   abbrev pub Opens : {V : Type 0} → D → D → (Name → Head) → (List Record → V → Type 0) → Result V DecodeError → Type 0
   Opens old new head Is result =
-      (n : Name) (items rest : List Record) (outer : Ahead) →
-      Moves old new 1 ((holding (head n) items ∷ rest) ∷ outer) (items ∷ rest ∷ outer) (Is items) result
+      (n : Name) (items rest : List Record) (outer : Outside) →
+      Moves old new 1 (holding (head n) items ∷ rest, outer) (items, (head n, rest) ∷ outer)
+      (Is items) result
 
   -- A set has been opened: the decoder stands before what is inside, in some order.
-  pub record SetIsOpen (old new : D) (items rest : List Record) (outer : Ahead) (Answer : Type 0) : Type 0 where
+  pub record SetIsOpen (old new : D) (items : List Record) (outer : Outside) (Answer : Type 0) : Type 0 where
     pub order : List Record
     pub rearranged : IsPermutation order items
-    pub moved : Moved old new 1 (order ∷ rest ∷ outer) Answer
+    pub moved : Moved old new 1 (order, outer) Answer
 
   -- the same of a call that opens a set
   abbrev pub OpensSet : {V : Type 0} → D → D → (Name → Head) → (List Record → V → Type 0) → Result V DecodeError → Type 0
   OpensSet old new head Is result =
-      (n : Name) (items rest : List Record) (outer : Ahead) → R.stands old ((holding (head n) items ∷ rest) ∷ outer) →
-      MatchResult result (λ w. SetIsOpen old new items rest outer (Is items w)) (MayFail (R.allowance old) 1)
+      (n : Name) (items rest : List Record) (outer : Outside) →
+      R.stands old (holding (head n) items ∷ rest, outer) →
+      MatchResult result (λ w. SetIsOpen old new items ((head n, rest) ∷ outer) (Is items w))
+      (MayFail (R.allowance old) 1)
 
   -- a call that closes the innermost scope, of which all was read
   abbrev pub ReadsEnd : {V : Type 0} → D → D → Result V DecodeError → Type 0
   ReadsEnd old new result =
-      (rest : List Record) (outer : Ahead) → Moves old new 0 ([] ∷ rest ∷ outer) (rest ∷ outer) (λ _. ⊤) result
+      (h : Head) (rest : List Record) (outer : Outside) →
+      Moves old new 0 ([], (h, rest) ∷ outer) (rest, outer) (λ _. ⊤) result
 
   -- What a call does to the decoder that leaves as many scopes open as there were: after a success it has not failed, an error
   -- makes it failed, and one that has failed answers so.

@@ -5,7 +5,7 @@ use Rattle.asn1_components.specs.ComponentLists.{AreDistinctInSet, EachCanStandI
 use Rattle.asn1_components.specs.ComponentTypes.{ComponentType}
 use Rattle.asn1_fields.specs.declared.presence.FieldPresence.{FieldPresence}
 use Rattle.asn1_fields.specs.declared.presence.FieldPresence.TheVariants.{Required, Optional, Default}
-use Rattle.asn1_dec.specs.Reading.{Ahead, Reader, ReadsBack, records_in}
+use Rattle.asn1_dec.specs.Reading.{Outside, Reader, ReadsBack, records_in}
 use Rattle.asn1_dec.specs.declared.error.DecodeError.{DecodeError}
 use Rattle.asn1_dec.specs.declared.error.DecodeError.TheVariants.{Memory}
 use Rattle.asn1_model.specs.Records.{Record, is_mark}
@@ -66,7 +66,7 @@ module _ {V P : Type 0} (cs : List (ComponentType V)) (index_of : P → ℕ) (Is
   -- that component.
   abbrev pub ReadsPart : {D : Type 0} → Reader D → ℕ → D → D → Result P DecodeError → Type 0
   ReadsPart R index old new result =
-      (v : V) (rest : List Record) (outer : Ahead) → EachCanStandInside cs → EachIsOfType cs v → EachIsValid cs R.takes v → written_of cs v index ≢ [] →
+      (v : V) (rest : List Record) (outer : Outside) → EachCanStandInside cs → EachIsOfType cs v → EachIsValid cs R.takes v → written_of cs v index ≢ [] →
       ReadsBack R old new (written_of cs v index) rest outer (λ part. (index_of part ≡ index) × IsPartOf v part) result
 
   -- A call that makes a value of parts: of those of a value it makes one that is equal, and fails only for want of memory.

@@ -5,7 +5,7 @@ ghost use Rattle.asn1_components.specs.ComponentLists.{CanBeInSequence, EachIsOf
 ghost use Rattle.asn1_components.specs.Components.{all_components, component_records};
 ghost use Rattle.asn1_components.specs.Following.{EndsApart};
 ghost use Rattle.asn1_dec.specs.Errors.{no_valid_choice, reason};
-ghost use Rattle.asn1_dec.specs.Reading.{Ahead, LeavesDecoder, LeavesDecoderWithOwnConstraints, ReadsBack, ReadsValue, Refuses};
+ghost use Rattle.asn1_dec.specs.Reading.{LeavesDecoder, LeavesDecoderWithOwnConstraints, ReadsBack, ReadsValue, Refuses, Outside};
 ghost use Rattle.asn1_dec.specs.Refusals.{Refusals, no_refusals};
 ghost use Rattle.asn1_model.specs.ConstraintSets.{constraint_set};
 ghost use Rattle.asn1_model.specs.Records.{Record};
@@ -98,7 +98,7 @@ pub trait DecodeFields: FieldTable + Eq + Sized + Drop {
     /// Reads all components. What follows them begins with no tag of those after the last that is always there. After an error
     /// nothing is known of the decoder, until the caller makes it failed ([`Decoder::refuse`]).
     fn decode_fields<D: Decoder>(decoder: &mut D) -> Result<Self, DecodeError>
-        ensures read { (v : Self) (rest : List Record) (outer : Ahead) → CanBeInSequence (all_components Self.components) → EachIsOfType (all_components Self.components) v → EachIsValid (all_components Self.components) D.reader.takes v → EndsApart (all_components Self.components) rest → ReadsBack D.reader decoder.old decoder.new (component_records Self.components v) rest outer (λ w. Self.eq w v ≡ true) result }
+        ensures read { (v : Self) (rest : List Record) (outer : Outside) → CanBeInSequence (all_components Self.components) → EachIsOfType (all_components Self.components) v → EachIsValid (all_components Self.components) D.reader.takes v → EndsApart (all_components Self.components) rest → ReadsBack D.reader decoder.old decoder.new (component_records Self.components v) rest outer (λ w. Self.eq w v ≡ true) result }
         ensures same_allowance { OnOk result (D.reader.allowance decoder.new ≡ D.reader.allowance decoder.old) };
 }
 
@@ -108,7 +108,7 @@ pub trait DecodeChoice: AsnType + Choice + Eq + Sized + Drop {
     /// the name of the type. After an error nothing is known of the decoder, until the caller makes it failed
     /// ([`Decoder::refuse`]).
     fn from_tag<D: Decoder>(decoder: &mut D, tag: Tag) -> Result<Self, DecodeError>
-        ensures read { (v : Self) (rest : List Record) (outer : Ahead) →
+        ensures read { (v : Self) (rest : List Record) (outer : Outside) →
             HaveDistinctTags (all_of Self.alternatives) →
             Each CanBeChosen (all_of Self.alternatives) →
             (chosen_meaning (all_of Self.alternatives) (Self.pick v)).IsOfType →

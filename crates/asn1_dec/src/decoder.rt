@@ -3,7 +3,7 @@ ghost use Rattle.asn1_choices.specs.Alternatives.{CanBeChosen, Each, HaveDistinc
 ghost use Rattle.asn1_choices.specs.ChosenTags.{TellsAlternative, chosen_tag};
 ghost use Rattle.asn1_components.specs.ComponentLists.{CanBeInSequence, EachIsOfType, EachIsValid, trees_of};
 ghost use Rattle.asn1_components.specs.Components.{all_components, component_records, is_sequence, is_set, lines};
-ghost use Rattle.asn1_dec.specs.Reading.{Ahead, Enters, IsLawful, Keeps, Leaves, NeedsAllowance, Opens, OpensSet, Reader, ReadsBack, ReadsContent, ReadsDefault, ReadsEnd, ReadsMark, ReadsOpenType, ReadsOption, ReadsOptionAfterTag, ReadsValue, Stays, TellsMore, TellsNextTag, TellsPresence, records_in};
+ghost use Rattle.asn1_dec.specs.Reading.{Enters, IsLawful, Keeps, Leaves, NeedsAllowance, Opens, OpensSet, Outside, Reader, ReadsBack, ReadsContent, ReadsDefault, ReadsEnd, ReadsMark, ReadsOpenType, ReadsOption, ReadsOptionAfterTag, ReadsValue, Stays, TellsMore, TellsNextTag, TellsPresence, records_in};
 ghost use Rattle.asn1_dec.specs.SetParts.{CanBeInSet};
 ghost use Rattle.asn1_enumerations.specs.Enumerations.{number_of};
 ghost use Rattle.asn1_enumerations.specs.Labels.{HasNumber, labels_of};
@@ -170,10 +170,12 @@ pub trait Decoder {
             (λ items bound. records_in items ≤ bound) result }
         ensures enters { Enters reader self.old self.new result };
 
-    /// A tag of the component of the next record of a SET, if one is left, by the table of `C`. Presence marks before it are
-    /// passed over. It is asked inside a scope: at the outermost list a codec need not know whether all was read.
+    /// A tag of the component of the next record of a SET, if one is left. Presence marks before it are passed over. It is asked
+    /// inside a SET that was opened by the table of `C`, whose components can be told apart.
     fn next_component<C: FieldTable>(&mut self) -> Result<Option<Tag>, DecodeError>
-        ensures read { TellsNextTag reader self.old self.new (all_components C.components) result }
+        ensures read { (tag : Tag) (n : Name) → CanBeInSet (all_components C.components) →
+            TellsNextTag reader self.old self.new (set tag (lines C.components) n)
+            (all_components C.components) result }
         ensures stays { Stays reader self.old self.new result };
 
     /// Opens a SEQUENCE OF, and answers a bound on the number of its elements.
@@ -195,9 +197,10 @@ pub trait Decoder {
         ensures read { Opens reader self.old self.new (prefix tag) (λ _ _. ⊤) result }
         ensures enters { Enters reader self.old self.new result };
 
-    /// Opens a CHOICE, whose alternatives are those of `T`, and answers a tag of the chosen one.
+    /// Opens a CHOICE, whose alternatives are those of `T`, which can be told apart, and answers a tag of the chosen one.
     fn open_choice<T: Choice>(&mut self, constraints: &Constraints<'_>) -> Result<Tag, DecodeError>
         ensures read { (chosen : Tag) →
+            HaveDistinctTags (all_of T.alternatives) → Each CanBeChosen (all_of T.alternatives) →
             Opens reader self.old self.new
             (alternative chosen (constraint_set constraints.now) (table_of T.alternatives))
             (λ _ tag. TellsAlternative chosen tag (all_of T.alternatives)) result }
@@ -404,7 +407,7 @@ pub trait Decoder {
     final fn decode_explicit_prefix<T: Decode>(&mut self, tag: Tag) -> Result<T, DecodeError>
     where
         Self: Sized,
-        ensures read { (v : T) (n : Name) (rest : List Record) (outer : Ahead) → CanStandInside T.meaning → T.meaning.IsOfType v → T.meaning.IsValid reader.takes v → ReadsBack reader self.old self.new (prefix_records tag n (own_records T.meaning v)) rest outer (λ w. T.eq w v ≡ true) result }
+        ensures read { (v : T) (n : Name) (rest : List Record) (outer : Outside) → CanStandInside T.meaning → T.meaning.IsOfType v → T.meaning.IsValid reader.takes v → ReadsBack reader self.old self.new (prefix_records tag n (own_records T.meaning v)) rest outer (λ w. T.eq w v ≡ true) result }
         ensures keeps { Keeps reader self.old self.new result }
         ensures depth_first { NeedsAllowance reader self.old result }
     {
@@ -425,7 +428,7 @@ pub trait Decoder {
     ) -> Result<T, DecodeError>
     where
         Self: Sized,
-        ensures read { (v : T) (n : Name) (rest : List Record) (outer : Ahead) → CanStandInside T.meaning → T.meaning.IsOfType v → T.meaning.IsValid reader.takes v → ReadsBack reader self.old self.new (prefix_records tag n (T.meaning.records v T.meaning.tag (constraint_set constraints.now) T.meaning.name)) rest outer (λ w. T.eq w v ≡ true) result }
+        ensures read { (v : T) (n : Name) (rest : List Record) (outer : Outside) → CanStandInside T.meaning → T.meaning.IsOfType v → T.meaning.IsValid reader.takes v → ReadsBack reader self.old self.new (prefix_records tag n (T.meaning.records v T.meaning.tag (constraint_set constraints.now) T.meaning.name)) rest outer (λ w. T.eq w v ≡ true) result }
         ensures keeps { Keeps reader self.old self.new result }
         ensures depth_first { NeedsAllowance reader self.old result }
     {
@@ -446,7 +449,7 @@ pub trait Decoder {
     ) -> Result<Vec<T>, DecodeError>
     where
         Self: Sized,
-        ensures read { (vs : List T) (n : Name) (rest : List Record) (outer : Ahead) → CanStandInside T.meaning → All T.meaning.IsOfType vs → All (T.meaning.IsValid reader.takes) vs → ReadsBack reader self.old self.new (list_records tag (constraint_set constraints.now) n (flat_map (own_records T.meaning) vs)) rest outer (λ w. pointwise T.eq w.items vs ≡ true) result }
+        ensures read { (vs : List T) (n : Name) (rest : List Record) (outer : Outside) → CanStandInside T.meaning → All T.meaning.IsOfType vs → All (T.meaning.IsValid reader.takes) vs → ReadsBack reader self.old self.new (list_records tag (constraint_set constraints.now) n (flat_map (own_records T.meaning) vs)) rest outer (λ w. pointwise T.eq w.items vs ≡ true) result }
         ensures keeps { Keeps reader self.old self.new result }
         ensures depth_first { NeedsAllowance reader self.old result }
     {
@@ -734,7 +737,7 @@ pub trait Decoder {
     ) -> Result<Option<C>, DecodeError>
     where
         Self: Sized,
-        ensures read { (v : Option C) (rest : List Record) (outer : Ahead) →
+        ensures read { (v : Option C) (rest : List Record) (outer : Outside) →
             CanBeInSequence (all_components C.components) →
             IfSome v (EachIsOfType (all_components C.components)) →
             IfSome v
@@ -765,7 +768,7 @@ pub trait Decoder {
     ) -> Result<C, DecodeError>
     where
         Self: Sized,
-        ensures components { (v : C) (n : Name) (rest : List Record) (outer : Ahead) →
+        ensures components { (v : C) (n : Name) (rest : List Record) (outer : Outside) →
             CanBeInSequence (all_components C.components) →
             EachIsOfType (all_components C.components) v →
             EachIsValid (all_components C.components) reader.takes v →
@@ -786,7 +789,7 @@ pub trait Decoder {
     ) -> Result<T, DecodeError>
     where
         Self: Sized,
-        ensures read { (v : T) (n : Name) (rest : List Record) (outer : Ahead) →
+        ensures read { (v : T) (n : Name) (rest : List Record) (outer : Outside) →
             HaveDistinctTags (all_of T.alternatives) → Each CanBeChosen (all_of T.alternatives) →
             (chosen_meaning (all_of T.alternatives) (T.pick v)).IsOfType →
             (chosen_meaning (all_of T.alternatives) (T.pick v)).IsValid reader.takes →
@@ -832,7 +835,7 @@ pub trait Decoder {
     ) -> Result<SetOf<T>, DecodeError>
     where
         Self: Sized,
-        ensures read { (vs : List T) (n : Name) (rest : List Record) (outer : Ahead) → CanStandInside T.meaning → All T.meaning.IsOfType vs → All (T.meaning.IsValid reader.takes) vs → ReadsBack reader self.old self.new (set_of_records tag (constraint_set constraints.now) n (flat_map (own_records T.meaning) vs)) rest outer (λ w. ⟦<SetOf<T> as PartialEq>⟧.eq w vs ≡ true) result }
+        ensures read { (vs : List T) (n : Name) (rest : List Record) (outer : Outside) → CanStandInside T.meaning → All T.meaning.IsOfType vs → All (T.meaning.IsValid reader.takes) vs → ReadsBack reader self.old self.new (set_of_records tag (constraint_set constraints.now) n (flat_map (own_records T.meaning) vs)) rest outer (λ w. ⟦<SetOf<T> as PartialEq>⟧.eq w vs ≡ true) result }
         ensures depth_first { NeedsAllowance reader self.old result }
         ensures keeps { Keeps reader self.old self.new result }
     {
@@ -847,7 +850,7 @@ pub trait Decoder {
     ) -> Result<S, DecodeError>
     where
         Self: Sized,
-        ensures components { (v : S) (n : Name) (rest : List Record) (outer : Ahead) →
+        ensures components { (v : S) (n : Name) (rest : List Record) (outer : Outside) →
             CanBeInSet (all_components S.components) →
             EachIsOfType (all_components S.components) v →
             EachIsValid (all_components S.components) reader.takes v →

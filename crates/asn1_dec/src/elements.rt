@@ -1,7 +1,7 @@
 //! The elements of a list.
-ghost use Rattle.asn1_dec.specs.Reading.{Ahead, Moves};
+ghost use Rattle.asn1_dec.specs.Reading.{Moves, Outside};
 ghost use Rattle.asn1_model.specs.Meaning.{CanStandInside, own_records};
-ghost use Rattle.asn1_model.specs.Records.{Record, highest};
+ghost use Rattle.asn1_model.specs.Records.{Head, Record, highest};
 ghost use Rattle.std.specs.Cmp.Lexicographic.{pointwise};
 ghost use Rattle.std.specs.List.{flat_map};
 ghost use Rattle.std.specs.Prelude.{◌≡◌, ◌≤◌, [], ◌∷◌, All, List, OnErr, OnOk, length, true};
@@ -15,7 +15,12 @@ pub(crate) fn read_elements<T: Decode, D: Decoder>(
     decoder: &mut D,
     bound: usize,
 ) -> Result<Vec<T>, DecodeError>
-    ensures read { (vs : List T) (rest : List Record) (outer : Ahead) → CanStandInside T.meaning → All T.meaning.IsOfType vs → All (T.meaning.IsValid D.reader.takes) vs → length vs ≤ bound → Moves D.reader decoder.old decoder.new (highest (flat_map (own_records T.meaning) vs)) (flat_map (own_records T.meaning) vs ∷ rest ∷ outer) ([] ∷ rest ∷ outer) (λ w. pointwise T.eq w.items vs ≡ true) result }
+    ensures read { (vs : List T) (scope : Head × List Record) (outer : Outside) →
+        CanStandInside T.meaning → All T.meaning.IsOfType vs →
+        All (T.meaning.IsValid D.reader.takes) vs → length vs ≤ bound →
+        Moves D.reader decoder.old decoder.new (highest (flat_map (own_records T.meaning) vs))
+        (flat_map (own_records T.meaning) vs, scope ∷ outer) ([], scope ∷ outer)
+        (λ w. pointwise T.eq w.items vs ≡ true) result }
     ensures same_allowance { OnOk result (D.reader.allowance decoder.new ≡ D.reader.allowance decoder.old) }
     ensures failing { OnErr result (D.reader.failed decoder.new ≡ true) }
 {

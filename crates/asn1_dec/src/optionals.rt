@@ -1,5 +1,5 @@
 //! A component that may be absent, on either side of an extension marker.
-ghost use Rattle.asn1_dec.specs.Reading.{Ahead, Keeps, ReadsBack, ReadsOption, Stays, TellsPresence};
+ghost use Rattle.asn1_dec.specs.Reading.{Keeps, ReadsBack, ReadsOption, Stays, TellsPresence, Outside};
 ghost use Rattle.asn1_dec.specs.Sides.{side_of};
 ghost use Rattle.asn1_model.specs.ConstraintSets.{constraint_set};
 ghost use Rattle.asn1_model.specs.Meaning.{CanStandInsideUnder};
@@ -45,7 +45,7 @@ fn read_present<T: Decode, D: Decoder>(
     tag: Tag,
     constraints: &Constraints<'_>,
 ) -> Result<Option<T>, DecodeError>
-    ensures read { (v : T) (n : Name) (rest : List Record) (outer : Ahead) →
+    ensures read { (v : T) (n : Name) (rest : List Record) (outer : Outside) →
         CanStandInsideUnder T.meaning tag → T.meaning.IsOfType v → T.meaning.IsValid D.reader.takes v →
         ReadsBack D.reader decoder.old decoder.new
         (T.meaning.records v tag (constraint_set constraints.now) n) rest outer

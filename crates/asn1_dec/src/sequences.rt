@@ -1,7 +1,7 @@
 //! A SEQUENCE, by its components.
 ghost use Rattle.asn1_components.specs.ComponentLists.{CanBeInSequence, EachIsOfType, EachIsValid};
 ghost use Rattle.asn1_components.specs.Components.{all_components, component_records, lines};
-ghost use Rattle.asn1_dec.specs.Reading.{Ahead, Keeps, NeedsAllowance, ReadsBack};
+ghost use Rattle.asn1_dec.specs.Reading.{Keeps, NeedsAllowance, Outside, ReadsBack};
 ghost use Rattle.asn1_model.specs.Composites.{sequence_records};
 ghost use Rattle.asn1_model.specs.Records.{Name, Record};
 ghost use Rattle.std.specs.Prelude.{◌≡◌, List, true};
@@ -16,7 +16,7 @@ pub(crate) fn read_sequence<C: DecodeFields, D: Decoder>(
     decoder: &mut D,
     tag: Tag,
 ) -> Result<C, DecodeError>
-    ensures read { (v : C) (n : Name) (rest : List Record) (outer : Ahead) →
+    ensures read { (v : C) (n : Name) (rest : List Record) (outer : Outside) →
         CanBeInSequence (all_components C.components) →
         EachIsOfType (all_components C.components) v →
         EachIsValid (all_components C.components) D.reader.takes v →

@@ -1,10 +1,10 @@
 //! A SET, by its components.
 ghost use Rattle.asn1_components.specs.ComponentLists.{EachIsOfType, EachIsValid};
 ghost use Rattle.asn1_components.specs.Components.{all_components, component_records, is_set, lines};
-ghost use Rattle.asn1_dec.specs.Reading.{Ahead, Keeps, Moves, NeedsAllowance, ReadsBack, ReadsValue, records_in};
+ghost use Rattle.asn1_dec.specs.Reading.{Keeps, Moves, NeedsAllowance, Outside, ReadsBack, ReadsValue, records_in};
 ghost use Rattle.asn1_model.specs.Composites.{set_records};
 ghost use Rattle.asn1_model.specs.ConstraintSets.{ConstraintSet};
-ghost use Rattle.asn1_model.specs.Records.{Name, Record, highest};
+ghost use Rattle.asn1_model.specs.Records.{Name, Record, highest, set};
 ghost use Rattle.asn1_dec.specs.SetParts.{ArePartsOf, CanBeInSet};
 ghost use Rattle.std.specs.Prelude.{◌≡◌, ◌≤◌, IsPermutation, List, OnErr, OnOk, [], ◌∷◌, true};
 
@@ -15,12 +15,20 @@ use crate::fields::component_with_tag;
 use asn1_components::ConstructedType;
 use asn1_tags::Tag;
 
-/// The components that are left in the innermost scope, of which there are at most so many records.
+/// The components that are left in a SET, of which there are at most so many records.
 fn read_parts<S: DecodeSet, D: Decoder>(
     decoder: &mut D,
     bound: usize,
 ) -> Result<Vec<S::Part>, DecodeError>
-    ensures read { (v : S) (items : List Record) (next : List Record) (outer : Ahead) → CanBeInSet (all_components S.components) → EachIsOfType (all_components S.components) v → EachIsValid (all_components S.components) D.reader.takes v → IsPermutation items (component_records S.components v) → records_in items ≤ bound → Moves D.reader decoder.old decoder.new (highest items) (items ∷ next ∷ outer) ([] ∷ next ∷ outer) (λ parts. ArePartsOf (all_components S.components) v S.index_of (S.is_part_of v) parts.items) result }
+    ensures read { (v : S) (tag : Tag) (n : Name) (items rest : List Record) (outer : Outside) →
+        CanBeInSet (all_components S.components) → EachIsOfType (all_components S.components) v →
+        EachIsValid (all_components S.components) D.reader.takes v →
+        IsPermutation items (component_records S.components v) → records_in items ≤ bound →
+        Moves D.reader decoder.old decoder.new (highest items)
+        (items, (set tag (lines S.components) n, rest) ∷ outer)
+        ([], (set tag (lines S.components) n, rest) ∷ outer)
+        (λ parts. ArePartsOf (all_components S.components) v S.index_of (S.is_part_of v) parts.items)
+        result }
     ensures same_allowance { OnOk result (D.reader.allowance decoder.new ≡ D.reader.allowance decoder.old) }
     ensures failing { OnErr result (D.reader.failed decoder.new ≡ true) }
 {
@@ -49,7 +57,7 @@ fn read_parts<S: DecodeSet, D: Decoder>(
 
 /// A SET under a tag.
 fn read_components<S: DecodeSet, D: Decoder>(decoder: &mut D, tag: Tag) -> Result<S, DecodeError>
-    ensures read { (v : S) (n : Name) (rest : List Record) (outer : Ahead) →
+    ensures read { (v : S) (n : Name) (rest : List Record) (outer : Outside) →
         CanBeInSet (all_components S.components) → EachIsOfType (all_components S.components) v →
         EachIsValid (all_components S.components) D.reader.takes v →
         ReadsBack D.reader decoder.old decoder.new
@@ -74,7 +82,7 @@ pub(crate) fn read_set<S: DecodeSet + ConstructedType, D: Decoder>(
     decoder: &mut D,
     tag: Tag,
 ) -> Result<S, DecodeError>
-    ensures components { (v : S) (n : Name) (rest : List Record) (outer : Ahead) →
+    ensures components { (v : S) (n : Name) (rest : List Record) (outer : Outside) →
         CanBeInSet (all_components S.components) → EachIsOfType (all_components S.components) v →
         EachIsValid (all_components S.components) D.reader.takes v →
         ReadsBack D.reader decoder.old decoder.new

@@ -1,5 +1,5 @@
 //! A SET OF.
-ghost use Rattle.asn1_dec.specs.Reading.{Ahead, Keeps, NeedsAllowance, ReadsBack};
+ghost use Rattle.asn1_dec.specs.Reading.{Keeps, NeedsAllowance, Outside, ReadsBack};
 ghost use Rattle.asn1_model.specs.Composites.{set_of_records};
 ghost use Rattle.asn1_model.specs.ConstraintSets.{constraint_set};
 ghost use Rattle.asn1_model.specs.Meaning.{CanStandInside, own_records};
@@ -21,7 +21,7 @@ pub(crate) fn read_set_of<T: Decode, D: Decoder>(
     tag: Tag,
     constraints: &Constraints<'_>,
 ) -> Result<SetOf<T>, DecodeError>
-    ensures read { (vs : List T) (n : Name) (rest : List Record) (outer : Ahead) → CanStandInside T.meaning → All T.meaning.IsOfType vs → All (T.meaning.IsValid D.reader.takes) vs → ReadsBack D.reader decoder.old decoder.new (set_of_records tag (constraint_set constraints.now) n (flat_map (own_records T.meaning) vs)) rest outer (λ w. ⟦<SetOf<T> as PartialEq>⟧.eq w vs ≡ true) result }
+    ensures read { (vs : List T) (n : Name) (rest : List Record) (outer : Outside) → CanStandInside T.meaning → All T.meaning.IsOfType vs → All (T.meaning.IsValid D.reader.takes) vs → ReadsBack D.reader decoder.old decoder.new (set_of_records tag (constraint_set constraints.now) n (flat_map (own_records T.meaning) vs)) rest outer (λ w. ⟦<SetOf<T> as PartialEq>⟧.eq w vs ≡ true) result }
     ensures depth_first { NeedsAllowance D.reader decoder.old result }
     ensures keeps { Keeps D.reader decoder.old decoder.new result }
 {

@@ -105,7 +105,8 @@ pub trait Encoder {
         ensures { Writes writer self.old (scalar tag (constraint_set constraints.now) (name_of name) (number (T.number value.now)) ∷ []) (T.fits (T.number value.now)) self.new result };
 
     /// A string of the kind `K`, by its units. The kind makes of them the string of whatever kind that a codec looks at
-    /// ([`CodecString::as_any`]).
+    /// ([`CodecString::as_any`]). The calls with a name for each kind give it units that a string of the kind can have; others a
+    /// codec may reject.
     fn encode_string<U, K: CodecString<U>>(
         &mut self,
         tag: Tag,
@@ -113,7 +114,6 @@ pub trait Encoder {
         value: &[U],
         name: Identifier,
     ) -> Result<(), EncodeError>
-        requires { K.AreOfKind value.now }
         ensures { Writes writer self.old
             (scalar tag (constraint_set constraints.now) (name_of name) (K.content value.now) ∷ [])
             ⊤ self.new result };

@@ -4,7 +4,7 @@ use Rattle.asn1_tags.specs.declared.tags.Tag.{Tag}
 use Rattle.asn1_model.specs.Records as model
 use Rattle.asn1_model.specs.Records.{scalar, scope, raw, mark, holding, sequence, set, sequence_of, set_of, prefix, alternative}
 use Rattle.asn1_model.specs.Tags.{head_tag}
-use Rattle.asn1_dec.specs.Reading.{Ahead, Moves, records_in}
+use Rattle.asn1_dec.specs.Reading.{Moves, records_in, Outside}
 use Rattle.asn1_dec.specs.declared.error.DecodeError.{DecodeError}
 use Rattle.asn1_dec.specs.declared.error.DecodeError.TheVariants.{Memory}
 use Rattle.asn1_record_decoder.specs.Reading.{StandsExactly, in_one_order}
@@ -43,9 +43,9 @@ abbrev pub FoundIn : {V : Type 0} → Record → model.Record → (V → Type 0)
 FoundIn x r Is result = IsRecord x r → MatchResult result Is (λ e. e ≡ Memory)
 
 -- The next record was taken: it is this one, and the decoder is exactly before what follows.
-pub record Took (x : Record) (new : RecordDecoder) (r : model.Record) (rest : List model.Record) (outer : Ahead) : Type 0 where
+pub record Took (x : Record) (new : RecordDecoder) (r : model.Record) (rest : List model.Record) (outer : Outside) : Type 0 where
   pub is : IsRecord x r
-  pub at : StandsExactly new (rest ∷ outer)
+  pub at : StandsExactly new (rest, outer)
 
 -- the head is what is wanted
 abbrev pub Meets : Wanted → model.Head → Type 0
@@ -65,5 +65,5 @@ pub record IsOpened (h : model.Head) (items : List model.Record) (opened : Opene
 -- A call that opens a record whose head is what is wanted, exactly before what is in it, in the order in which it comes.
 abbrev pub OpensWanted : Wanted → RecordDecoder → RecordDecoder → Result Opened DecodeError → Type 0
 OpensWanted wanted old new result =
-    (h : model.Head) (items rest : List model.Record) (outer : Ahead) → Meets wanted h →
-    Moves in_one_order old new 1 ((holding h items ∷ rest) ∷ outer) (items ∷ rest ∷ outer) (IsOpened h items) result
+    (h : model.Head) (items rest : List model.Record) (outer : Outside) → Meets wanted h →
+    Moves in_one_order old new 1 (holding h items ∷ rest, outer) (items, (h, rest) ∷ outer) (IsOpened h items) result

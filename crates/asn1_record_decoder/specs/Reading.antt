@@ -1,24 +1,29 @@
 -- Before what a record decoder stands.
 use Rattle.std.specs.Prelude.{◌≡◌, true, false, List, [], ◌∷◌, map}
 use Rattle.asn1_dec.specs.Orders.{up_to_order}
-use Rattle.asn1_dec.specs.Reading.{Ahead, Reader}
+use Rattle.asn1_dec.specs.Reading.{Ahead, Outside, Reader}
+use Rattle.asn1_model.specs.Records.{Record}
 use Rattle.asn1_records.specs.Records.{records_of}
 use Rattle.asn1_records.specs.WithoutConstraints.{without_constraints}
 use Rattle.asn1_record_decoder.specs.declared.decoder.Rest.{Rest}
 use Rattle.asn1_record_decoder.specs.declared.decoder.RecordDecoder.{RecordDecoder}
 
 -- what is left of the lists that are outside, which come outermost first, inside those that are given
-abbrev pub left_of : Ahead → List Rest → Ahead
+abbrev pub left_of : List (List Record) → List Rest → List (List Record)
 left_of outer [] = outer
 left_of outer (r ∷ rs) = left_of (records_of r.records.now ∷ outer) rs
 
 -- what is left of each list
-abbrev pub sees : RecordDecoder → Ahead
+abbrev pub sees : RecordDecoder → List (List Record)
 sees d = records_of d.left.now ∷ left_of [] d.outer.items
 
--- the lists, without constraints
-abbrev pub ahead_without : Ahead → Ahead
-ahead_without = map without_constraints
+-- the lists outside, without constraints and without the heads of their scopes
+abbrev pub outside_without : Outside → List (List Record)
+outside_without = map (λ scope. without_constraints scope.1)
+
+-- all lists
+abbrev pub ahead_without : Ahead → List (List Record)
+ahead_without ahead = without_constraints ahead.0 ∷ outside_without ahead.1
 
 -- The decoder is before exactly these lists: apart from constraints, they are what is left.
 pub record StandsExactly (d : RecordDecoder) (ahead : Ahead) : Type 0 where

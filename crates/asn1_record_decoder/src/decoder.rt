@@ -47,7 +47,7 @@ struct Opened {
 impl<'a> RecordDecoder<'a> {
     ghost use Rattle.asn1_dec.specs.declared.error.DecodeError.TheVariants.{Failed, Memory};
     ghost use Rattle.asn1_dec.specs.Errors.{custom, reason};
-    ghost use Rattle.asn1_dec.specs.Reading.{Ahead, Enters, Opens, OpensSet, ReadsContent, Stays, TellsPresence, records_in};
+    ghost use Rattle.asn1_dec.specs.Reading.{Enters, Opens, OpensSet, Outside, ReadsContent, Stays, TellsPresence, records_in};
     ghost use Rattle.asn1_model.specs.ConstraintSets.{ConstraintSet};
     ghost use Rattle.asn1_model.specs.Orders.{is_unordered};
     ghost use Rattle.asn1_model.specs.Records as model;
@@ -62,7 +62,7 @@ impl<'a> RecordDecoder<'a> {
 
     /// A decoder that is before these records, and may open so many scopes in one another.
     pub fn new(alloc: Global, records: &'a [Record], depth: usize) -> RecordDecoder<'a>
-        ensures before { (rs : List model.Record) → Carries records.now rs → StandsBefore result (rs ∷ []) }
+        ensures before { (rs : List model.Record) → Carries records.now rs → StandsBefore result (rs, []) }
         ensures allowance { record_reader.allowance result ≡ depth }
         ensures no_failure { record_reader.failed result ≡ false }
     {
@@ -81,7 +81,7 @@ impl<'a> RecordDecoder<'a> {
     /// # Errors
     /// [`DecodeError::Failed`] where a call has failed before, and else [`DecodeError::Custom`], with the text `bad item`.
     pub fn finish(self) -> Result<(), DecodeError>
-        ensures all_read { IsOk result ↔ StandsBefore self.entry ([] ∷ []) }
+        ensures all_read { IsOk result ↔ StandsBefore self.entry ([], []) }
         ensures failed { result ≡ Err Failed ↔ (record_reader.failed self.entry ≡ true) }
         ensures bad_item { IfErr result (λ e. e ≢ Failed → reason e ≡ custom (codes "bad item")) }
     {
@@ -120,8 +120,8 @@ impl<'a> RecordDecoder<'a> {
 
     /// The next record.
     fn next(&mut self) -> Result<&'a Record, DecodeError>
-        ensures took { (r : model.Record) (rest : List model.Record) (outer : Ahead) →
-            StandsExactly self.old ((r ∷ rest) ∷ outer) →
+        ensures took { (r : model.Record) (rest : List model.Record) (outer : Outside) →
+            StandsExactly self.old (r ∷ rest, outer) →
             MatchResult result (λ x. Took x.now self.new r rest outer) (λ _. ⊥) }
         ensures stays { Stays record_reader self.old self.new result }
     {

@@ -9,7 +9,7 @@ use Rattle.std.proofs.lemmas.Bool.{and_from}
 use Rattle.asn1_components.proofs.Apart.{nothing_follows, sequence_apart}
 use Rattle.asn1_components.specs.Components.{all_components}
 use Rattle.asn1_dec.specs.declared.error.DecodeError.{DecodeError}
-use Rattle.asn1_dec.specs.Reading.{Ahead, MayFail, Reader}
+use Rattle.asn1_dec.specs.Reading.{MayFail, Reader, Outside}
 use Rattle.asn1_model.specs.ConstraintSets.{ConstraintSet, unconstrained}
 use Rattle.asn1_model.specs.Meaning.{CanStandInside, own_records, tags}
 use Rattle.asn1_model.specs.Records.{Name, Record, highest, holding, sequence, sequence_of}
@@ -35,9 +35,9 @@ pub node_can : CanStandInside node_meaning
 node_can = search rules
 
 -- so that the decoder stands before its label, once the record is open
-pub one_level : {D : Type 0} (R : Reader D) (d : D) (v : Node) (t : Tag) (c : ConstraintSet) (n : Name) (rest : List Record) (outer : Ahead) →
-    R.stands d ((node_meaning.records v t c n ++ rest) ∷ outer) → R.stands d ((holding (sequence t node_table n) (inside_node v) ∷ rest) ∷ outer)
-one_level R d v t c n rest outer at = subst (λ l. R.stands d ((l ++ rest) ∷ outer)) (node_agrees.records v t c n) at
+pub one_level : {D : Type 0} (R : Reader D) (d : D) (v : Node) (t : Tag) (c : ConstraintSet) (n : Name) (rest : List Record) (outer : Outside) →
+    R.stands d (node_meaning.records v t c n ++ rest, outer) → R.stands d (holding (sequence t node_table n) (inside_node v) ∷ rest, outer)
+one_level R d v t c n rest outer at = subst (λ l. R.stands d (l ++ rest, outer)) (node_agrees.records v t c n) at
 
 -- no label begins as the children do
 pub label_apart : (v : Node) → ShareNone (tags text (universal 12)) (first_tags (children_record v ∷ []))

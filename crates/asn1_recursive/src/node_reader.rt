@@ -1,8 +1,8 @@
 //! How a node is read: by two functions that call each other.
-ghost use Rattle.asn1_dec.specs.Reading.{Ahead, Keeps, Moves, ReadsBack};
+ghost use Rattle.asn1_dec.specs.Reading.{Keeps, Moves, Outside, ReadsBack};
 ghost use Rattle.asn1_model.specs.ConstraintSets.{unconstrained};
 ghost use Rattle.asn1_model.specs.Meaning.{own_records};
-ghost use Rattle.asn1_model.specs.Records.{Name, Record, highest};
+ghost use Rattle.asn1_model.specs.Records.{Head, Name, Record, highest};
 ghost use Rattle.asn1_recursive.specs.NodeComponents.{node_is_of_type, node_is_valid, node_meaning};
 ghost use Rattle.asn1_recursive.specs.declared.node.Node.{Node};
 ghost use Rattle.std.specs.Cmp.Lexicographic.{pointwise};
@@ -16,7 +16,10 @@ use asn1_types::{Constraints, Tag};
 /// A node under a tag. It opens two scopes before its children are read, so the allowance ends the recursion.
 #[cycle(nodes)]
 pub(crate) fn read_node<D: Decoder>(decoder: &mut D, tag: Tag) -> Result<Node, DecodeError>
-    ensures read { (v : Node) (n : Name) (rest : List Record) (outer : Ahead) → node_is_of_type v → node_is_valid D.reader.takes v → ReadsBack D.reader decoder.old decoder.new (node_meaning.records v tag unconstrained n) rest outer (λ w. ⟦<Node as PartialEq>⟧.eq w v ≡ true) result }
+    ensures read { (v : Node) (n : Name) (rest : List Record) (outer : Outside) →
+        node_is_of_type v → node_is_valid D.reader.takes v →
+        ReadsBack D.reader decoder.old decoder.new (node_meaning.records v tag unconstrained n) rest
+        outer (λ w. ⟦<Node as PartialEq>⟧.eq w v ≡ true) result }
     ensures keeps { Keeps D.reader decoder.old decoder.new result }
 {
     decoder.open_sequence::<Node>(tag)?;
@@ -31,7 +34,11 @@ pub(crate) fn read_node<D: Decoder>(decoder: &mut D, tag: Tag) -> Result<Node, D
 /// The nodes that are left in the innermost scope, of which there are at most so many.
 #[cycle(nodes)]
 fn read_children<D: Decoder>(decoder: &mut D, bound: usize) -> Result<Vec<Node>, DecodeError>
-    ensures read { (vs : List Node) (rest : List Record) (outer : Ahead) → All node_is_of_type vs → All (node_is_valid D.reader.takes) vs → length vs ≤ bound → Moves D.reader decoder.old decoder.new (highest (flat_map (own_records node_meaning) vs)) (flat_map (own_records node_meaning) vs ∷ rest ∷ outer) ([] ∷ rest ∷ outer) (λ w. pointwise ⟦<Node as PartialEq>⟧.eq w.items vs ≡ true) result }
+    ensures read { (vs : List Node) (scope : Head × List Record) (outer : Outside) →
+        All node_is_of_type vs → All (node_is_valid D.reader.takes) vs → length vs ≤ bound →
+        Moves D.reader decoder.old decoder.new (highest (flat_map (own_records node_meaning) vs))
+        (flat_map (own_records node_meaning) vs, scope ∷ outer) ([], scope ∷ outer)
+        (λ w. pointwise ⟦<Node as PartialEq>⟧.eq w.items vs ≡ true) result }
     ensures same_allowance { OnOk result (D.reader.allowance decoder.new ≡ D.reader.allowance decoder.old) }
     ensures failing { OnErr result (D.reader.failed decoder.new ≡ true) }
 {

@@ -26,7 +26,7 @@ returns-in_err-value-clause-read g c =
     (sym c.is_choice.ensures.parts ∙ c.if-is_choice.false) (λ n v rest outer distinct can of_type valid at.
     let rs = alternative_records (chosen_tag (all_of g.T.Choice.alternatives) (g.T.Choice.pick v)) m.constraints (table_of g.T.Choice.alternatives) m.name (chosen_meaning (all_of g.T.Choice.alternatives) (g.T.Choice.pick v)).records in
     let s = c.in_ok-open_explicit_prefix.ensures.read n rs rest outer at in
-    let r = (rw c.in-Ok.ensures.set at c.in_err-value.ensures.read) v m.name [] (rest ∷ outer) distinct can of_type valid (to_end g.D.Decoder.reader _ rs (rest ∷ outer) s.at) in
+    let r = (rw c.in-Ok.ensures.set at c.in_err-value.ensures.read) v m.name [] ((_, rest) ∷ outer) distinct can of_type valid (to_end g.D.Decoder.reader _ rs ((_, rest) ∷ outer) s.at) in
     rw (p.1, p.2) (fails_inside (prefix c.args.tag n) rs _ _ c.in_ok-open_explicit_prefix.ensures.enters.one_less r))
 
 pub returns-in_err-close-clause-read : goal.returns-in_err-close-clause-read
@@ -37,8 +37,8 @@ returns-in_err-close-clause-read g c =
     (sym c.is_choice.ensures.parts ∙ c.if-is_choice.false) (λ n v rest outer distinct can of_type valid at.
     let rs = alternative_records (chosen_tag (all_of g.T.Choice.alternatives) (g.T.Choice.pick v)) m.constraints (table_of g.T.Choice.alternatives) m.name (chosen_meaning (all_of g.T.Choice.alternatives) (g.T.Choice.pick v)).records in
     let s = c.in_ok-open_explicit_prefix.ensures.read n rs rest outer at in
-    let r = (rw c.in-Ok.ensures.set at c.in_ok-value.ensures.read) v m.name [] (rest ∷ outer) distinct can of_type valid (to_end g.D.Decoder.reader _ rs (rest ∷ outer) s.at) in
-    rw (p.1, p.2) (flat_failure _ _ _ (c.in_err-close.ensures.read rest outer r.at)))
+    let r = (rw c.in-Ok.ensures.set at c.in_ok-value.ensures.read) v m.name [] ((_, rest) ∷ outer) distinct can of_type valid (to_end g.D.Decoder.reader _ rs ((_, rest) ∷ outer) s.at) in
+    rw (p.1, p.2) (flat_failure _ _ _ (c.in_err-close.ensures.read _ rest outer r.at)))
 
 pub returns-clause-read : goal.returns-clause-read
 returns-clause-read g c =
@@ -47,6 +47,6 @@ returns-clause-read g c =
     (sym c.is_choice.ensures.parts ∙ c.if-is_choice.false) (λ n v rest outer distinct can of_type valid at.
     let rs = alternative_records (chosen_tag (all_of g.T.Choice.alternatives) (g.T.Choice.pick v)) m.constraints (table_of g.T.Choice.alternatives) m.name (chosen_meaning (all_of g.T.Choice.alternatives) (g.T.Choice.pick v)).records in
     let s = c.in_ok-open_explicit_prefix.ensures.read n rs rest outer at in
-    let r = (rw c.in-Ok.ensures.set at c.in_ok-value.ensures.read) v m.name [] (rest ∷ outer) distinct can of_type valid (to_end g.D.Decoder.reader _ rs (rest ∷ outer) s.at) in
-    let k = c.in_ok-close.ensures.read rest outer r.at in
+    let r = (rw c.in-Ok.ensures.set at c.in_ok-value.ensures.read) v m.name [] ((_, rest) ∷ outer) distinct can of_type valid (to_end g.D.Decoder.reader _ rs ((_, rest) ∷ outer) s.at) in
+    let k = c.in_ok-close.ensures.read _ rest outer r.at in
     record { answer = r.answer; at = k.at; within_allowance = within_scope (prefix c.args.tag n) rs _ _ c.in_ok-open_explicit_prefix.ensures.enters.one_less r.within_allowance })

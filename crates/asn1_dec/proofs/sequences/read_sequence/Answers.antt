@@ -10,7 +10,7 @@ pub returns-in-Err-clause-read : goal.returns-in-Err-clause-read
 returns-in-Err-clause-read g c = λ v n rest outer can of_type valid at.
     let rs = component_records g.C.FieldTable.components v in
     let s = c.in_ok-open_sequence.ensures.read n rs rest outer at in
-    let r = c.in-Err.ensures.read v [] (rest ∷ outer) can of_type valid (nothing_follows (all_components g.C.FieldTable.components)) (to_end g.D.Decoder.reader _ rs (rest ∷ outer) s.at) in
+    let r = c.in-Err.ensures.read v [] ((_, rest) ∷ outer) can of_type valid (nothing_follows (all_components g.C.FieldTable.components)) (to_end g.D.Decoder.reader _ rs ((_, rest) ∷ outer) s.at) in
     rw c.refuse.ensures.same (fails_inside (sequence c.args.tag (lines g.C.FieldTable.components) n) rs _ _ c.in_ok-open_sequence.ensures.enters.one_less r)
 
 pub returns-in_err-close-clause-read : goal.returns-in_err-close-clause-read
@@ -18,13 +18,13 @@ returns-in_err-close-clause-read g c = λ v n rest outer can of_type valid at.
     let p = err_from_is_err_and c.from_residual-in_err-close.result c.from_residual-in_err-close.ensures.1 in
     let rs = component_records g.C.FieldTable.components v in
     let s = c.in_ok-open_sequence.ensures.read n rs rest outer at in
-    let r = c.in-Ok.ensures.read v [] (rest ∷ outer) can of_type valid (nothing_follows (all_components g.C.FieldTable.components)) (to_end g.D.Decoder.reader _ rs (rest ∷ outer) s.at) in
-    rw (p.1, p.2) (flat_failure _ _ _ (c.in_err-close.ensures.read rest outer r.at))
+    let r = c.in-Ok.ensures.read v [] ((_, rest) ∷ outer) can of_type valid (nothing_follows (all_components g.C.FieldTable.components)) (to_end g.D.Decoder.reader _ rs ((_, rest) ∷ outer) s.at) in
+    rw (p.1, p.2) (flat_failure _ _ _ (c.in_err-close.ensures.read _ rest outer r.at))
 
 pub returns-clause-read : goal.returns-clause-read
 returns-clause-read g c = λ v n rest outer can of_type valid at.
     let rs = component_records g.C.FieldTable.components v in
     let s = c.in_ok-open_sequence.ensures.read n rs rest outer at in
-    let r = c.in-Ok.ensures.read v [] (rest ∷ outer) can of_type valid (nothing_follows (all_components g.C.FieldTable.components)) (to_end g.D.Decoder.reader _ rs (rest ∷ outer) s.at) in
-    let k = c.in_ok-close.ensures.read rest outer r.at in
+    let r = c.in-Ok.ensures.read v [] ((_, rest) ∷ outer) can of_type valid (nothing_follows (all_components g.C.FieldTable.components)) (to_end g.D.Decoder.reader _ rs ((_, rest) ∷ outer) s.at) in
+    let k = c.in_ok-close.ensures.read _ rest outer r.at in
     record { answer = r.answer; at = k.at; within_allowance = within_scope (sequence c.args.tag (lines g.C.FieldTable.components) n) rs _ _ c.in_ok-open_sequence.ensures.enters.one_less r.within_allowance }

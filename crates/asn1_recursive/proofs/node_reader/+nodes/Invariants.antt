@@ -1,9 +1,9 @@
 use Rattle.std.proofs.Common.{◌≡◌, ◌+◌, ◌*◌, List, ◌∷◌, length}
 use Rattle.std.specs.List.{flat_map, All}
 use Rattle.asn1_dec.proofs.Midway.{Midway}
-use Rattle.asn1_dec.specs.Reading.{Ahead}
+use Rattle.asn1_dec.specs.Reading.{Outside}
 use Rattle.asn1_model.specs.Meaning.{own_records}
-use Rattle.asn1_model.specs.Records.{Record}
+use Rattle.asn1_model.specs.Records.{Head, Record}
 use Rattle.asn1_recursive.specs.NodeComponents.{node_is_of_type, node_is_valid, node_meaning}
 use Rattle.asn1_recursive.specs.contracts.node.NodePartialEq.TheImpl.{ghosts}
 use Rattle.asn1_recursive.specs.declared.node.Node.{Node}
@@ -19,7 +19,7 @@ abbrev pub invariant-read_children-loop-index : goal.invariant-read_children-loo
 invariant-read_children-loop-index g l = record {
   kept : g.D.Decoder.reader.allowance l.decoder ≡ g.D.Decoder.reader.allowance l.fn.decoder;
   count : length l.children.items ≡ l._index;
-  midway : (vs : List Node) (rest : List Record) (outer : Ahead) → All node_is_of_type vs → All (node_is_valid g.D.Decoder.reader.takes) vs →
-      g.D.Decoder.reader.stands l.fn.decoder (flat_map (own_records node_meaning) vs ∷ rest ∷ outer) →
-      Midway g.D.Decoder.reader node_meaning ghosts.eq l.decoder l.children.items vs (rest ∷ outer);
+  midway : (vs : List Node) (scope : Head × List Record) (outer : Outside) → All node_is_of_type vs → All (node_is_valid g.D.Decoder.reader.takes) vs →
+      g.D.Decoder.reader.stands l.fn.decoder (flat_map (own_records node_meaning) vs, scope ∷ outer) →
+      Midway g.D.Decoder.reader node_meaning ghosts.eq l.decoder l.children.items vs (scope ∷ outer);
 }

@@ -9,7 +9,7 @@ pub returns-in-Err-clause-read : goal.returns-in-Err-clause-read
 returns-in-Err-clause-read g c = λ v n rest outer can of_type valid at.
     let rs = own_records g.T.AsnType.meaning v in
     let s = c.in_ok-open_explicit_prefix.ensures.read n rs rest outer at in
-    let r = c.in-Err.ensures.read v g.T.AsnType.meaning.name [] (rest ∷ outer) can.1 of_type valid (inl can.0) (to_end g.Self.Decoder.reader _ rs (rest ∷ outer) s.at) in
+    let r = c.in-Err.ensures.read v g.T.AsnType.meaning.name [] ((_, rest) ∷ outer) can.1 of_type valid (inl can.0) (to_end g.Self.Decoder.reader _ rs ((_, rest) ∷ outer) s.at) in
     rw c.refuse.ensures.same (fails_inside (prefix c.args.tag n) rs _ _ c.in_ok-open_explicit_prefix.ensures.enters.one_less r)
 
 pub returns-in_err-close-clause-read : goal.returns-in_err-close-clause-read
@@ -17,13 +17,13 @@ returns-in_err-close-clause-read g c = λ v n rest outer can of_type valid at.
     let p = err_from_is_err_and c.from_residual-in_err-close.result c.from_residual-in_err-close.ensures.1 in
     let rs = own_records g.T.AsnType.meaning v in
     let s = c.in_ok-open_explicit_prefix.ensures.read n rs rest outer at in
-    let r = c.in-Ok.ensures.read v g.T.AsnType.meaning.name [] (rest ∷ outer) can.1 of_type valid (inl can.0) (to_end g.Self.Decoder.reader _ rs (rest ∷ outer) s.at) in
-    rw (p.1, p.2) (flat_failure _ _ _ (c.in_err-close.ensures.read rest outer r.at))
+    let r = c.in-Ok.ensures.read v g.T.AsnType.meaning.name [] ((_, rest) ∷ outer) can.1 of_type valid (inl can.0) (to_end g.Self.Decoder.reader _ rs ((_, rest) ∷ outer) s.at) in
+    rw (p.1, p.2) (flat_failure _ _ _ (c.in_err-close.ensures.read _ rest outer r.at))
 
 pub returns-clause-read : goal.returns-clause-read
 returns-clause-read g c = λ v n rest outer can of_type valid at.
     let rs = own_records g.T.AsnType.meaning v in
     let s = c.in_ok-open_explicit_prefix.ensures.read n rs rest outer at in
-    let r = c.in-Ok.ensures.read v g.T.AsnType.meaning.name [] (rest ∷ outer) can.1 of_type valid (inl can.0) (to_end g.Self.Decoder.reader _ rs (rest ∷ outer) s.at) in
-    let k = c.in_ok-close.ensures.read rest outer r.at in
+    let r = c.in-Ok.ensures.read v g.T.AsnType.meaning.name [] ((_, rest) ∷ outer) can.1 of_type valid (inl can.0) (to_end g.Self.Decoder.reader _ rs ((_, rest) ∷ outer) s.at) in
+    let k = c.in_ok-close.ensures.read _ rest outer r.at in
     record { answer = r.answer; at = k.at; within_allowance = within_scope (prefix c.args.tag n) rs _ _ c.in_ok-open_explicit_prefix.ensures.enters.one_less r.within_allowance }

@@ -13,7 +13,7 @@ returns-in_err-elements-clause-read g c = λ vs n rest outer can of_type valid a
     let p = err_from_is_err_and c.from_residual-in_err-elements.result c.from_residual-in_err-elements.ensures.1 in
     let rs = flat_map (own_records g.T.AsnType.meaning) vs in
     let s = c.in_ok-bound.ensures.read n rs rest outer at in
-    let r = c.in_err-elements.ensures.read vs rest outer can of_type valid (omega (arith, s.answer, as_many g.T.AsnType.meaning can vs)) s.at in
+    let r = c.in_err-elements.ensures.read vs _ outer can of_type valid (omega (arith, s.answer, as_many g.T.AsnType.meaning can vs)) s.at in
     rw (p.1, p.2) (fails_inside (sequence_of c.args.tag (constraint_set c.args.constraints.now) n) rs _ _ c.in_ok-bound.ensures.enters.one_less r)
 
 pub returns-in_err-close-clause-read : goal.returns-in_err-close-clause-read
@@ -21,13 +21,13 @@ returns-in_err-close-clause-read g c = λ vs n rest outer can of_type valid at.
     let p = err_from_is_err_and c.from_residual-in_err-close.result c.from_residual-in_err-close.ensures.1 in
     let rs = flat_map (own_records g.T.AsnType.meaning) vs in
     let s = c.in_ok-bound.ensures.read n rs rest outer at in
-    let r = c.in_ok-elements.ensures.read vs rest outer can of_type valid (omega (arith, s.answer, as_many g.T.AsnType.meaning can vs)) s.at in
-    rw (p.1, p.2) (flat_failure _ _ _ (c.in_err-close.ensures.read rest outer r.at))
+    let r = c.in_ok-elements.ensures.read vs _ outer can of_type valid (omega (arith, s.answer, as_many g.T.AsnType.meaning can vs)) s.at in
+    rw (p.1, p.2) (flat_failure _ _ _ (c.in_err-close.ensures.read _ rest outer r.at))
 
 pub returns-clause-read : goal.returns-clause-read
 returns-clause-read g c = λ vs n rest outer can of_type valid at.
     let rs = flat_map (own_records g.T.AsnType.meaning) vs in
     let s = c.in_ok-bound.ensures.read n rs rest outer at in
-    let r = c.in_ok-elements.ensures.read vs rest outer can of_type valid (omega (arith, s.answer, as_many g.T.AsnType.meaning can vs)) s.at in
-    let k = c.in_ok-close.ensures.read rest outer r.at in
+    let r = c.in_ok-elements.ensures.read vs _ outer can of_type valid (omega (arith, s.answer, as_many g.T.AsnType.meaning can vs)) s.at in
+    let k = c.in_ok-close.ensures.read _ rest outer r.at in
     record { answer = r.answer; at = k.at; within_allowance = within_scope (sequence_of c.args.tag (constraint_set c.args.constraints.now) n) rs _ _ c.in_ok-bound.ensures.enters.one_less r.within_allowance }

@@ -23,4 +23,4 @@ returns-in-Some-clause-read g c = λ content same_as k.
     (λ x n rest outer of_type at.
     let t = c.in_ok-record.ensures.took (scalar c.args.tag k n (content x)) rest outer at in
     let found = c.from_content-found.ensures.read x of_type (c.in-Some.ensures.found k n (content x) t.is ∙ same_as x) in
-    answered in_one_order c.args.self.now c.next.new.self c.answer.new.self (rest ∷ outer) (λ w. g.V.FromContent.Is w x) c.answer.result (rw c.answer.ensures.same found) c.answer.ensures.kept t.at)
+    answered in_one_order c.args.self.now c.next.new.self c.answer.new.self (rest, outer) (λ w. g.V.FromContent.Is w x) c.answer.result (rw c.answer.ensures.same found) c.answer.ensures.kept t.at)

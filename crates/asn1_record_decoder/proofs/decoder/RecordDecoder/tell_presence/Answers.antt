@@ -21,9 +21,9 @@ returns-clause-read c = λ own.
       there = λ rest outer begins at.
           let t = c.in_ok-record.ensures.took (mark (present (side_of c.args.side) c.args.tag)) rest outer at in
           let found = c.presence-found.ensures.there t.is in
-          answered in_one_order c.args.self.now c.next.new.self c.answer.new.self (rest ∷ outer) (λ b. b ≡ true) c.answer.result (rw c.answer.ensures.same found) c.answer.ensures.kept t.at;
+          answered in_one_order c.args.self.now c.next.new.self c.answer.new.self (rest, outer) (λ b. b ≡ true) c.answer.result (rw c.answer.ensures.same found) c.answer.ensures.kept t.at;
       away = λ rest outer apart at.
           let t = c.in_ok-record.ensures.took (mark (absent (side_of c.args.side) c.args.tag)) rest outer at in
           let found = c.presence-found.ensures.away t.is in
-          answered in_one_order c.args.self.now c.next.new.self c.answer.new.self (rest ∷ outer) (λ b. b ≡ false) c.answer.result (rw c.answer.ensures.same found) c.answer.ensures.kept t.at;
+          answered in_one_order c.args.self.now c.next.new.self c.answer.new.self (rest, outer) (λ b. b ≡ false) c.answer.result (rw c.answer.ensures.same found) c.answer.ensures.kept t.at;
     })

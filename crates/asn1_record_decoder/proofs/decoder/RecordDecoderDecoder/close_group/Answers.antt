@@ -16,4 +16,4 @@ returns-clause-read c =
     (λ rest outer at.
     let t = c.in_ok-record.ensures.took (mark group_end) rest outer at in
     let found = c.end_of_group-found.ensures.found t.is in
-    answered in_one_order c.args.self.now c.next.new.self c.answer.new.self (rest ∷ outer) (λ _. ⊤) c.answer.result (rw c.answer.ensures.same found) c.answer.ensures.kept t.at)
+    answered in_one_order c.args.self.now c.next.new.self c.answer.new.self (rest, outer) (λ _. ⊤) c.answer.result (rw c.answer.ensures.same found) c.answer.ensures.kept t.at)

@@ -16,4 +16,4 @@ returns-clause-read c =
     (λ bytes n rest outer takes at.
     let t = c.in_ok-record.ensures.took (raw n bytes) rest outer at in
     let found = c.bytes-found.ensures.found n bytes t.is in
-    answered in_one_order c.args.self.now c.next.new.self c.answer.new.self (rest ∷ outer) (λ w. w ≡ bytes) c.answer.result (rw c.answer.ensures.same found) c.answer.ensures.kept t.at)
+    answered in_one_order c.args.self.now c.next.new.self c.answer.new.self (rest, outer) (λ w. w ≡ bytes) c.answer.result (rw c.answer.ensures.same found) c.answer.ensures.kept t.at)

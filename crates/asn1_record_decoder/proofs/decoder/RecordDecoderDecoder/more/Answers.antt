@@ -9,14 +9,14 @@ pub returns-in-len1-up-clause-read : goal.returns-in-len1-up-clause-read
 returns-in-len1-up-clause-read c =
     tells_more in_one_order c.args.self.now c.args.self.now (Ok true)
     (record {
-      some = λ r items rest outer no_mark at. record { answer = refl; at = at; within_allowance = omega arith };
-      none = λ rest outer at. absurd (omega (arith, c.in-len1-up.len_at_least, nothing_left c.args.self.now (rest ∷ outer) at));
+      some = λ r items scope outer no_mark at. record { answer = refl; at = at; within_allowance = omega arith };
+      none = λ scope outer at. absurd (omega (arith, c.in-len1-up.len_at_least, nothing_left c.args.self.now (scope ∷ outer) at));
     })
 
 pub returns-in-empty-clause-read : goal.returns-in-empty-clause-read
 returns-in-empty-clause-read c =
     tells_more in_one_order c.args.self.now c.args.self.now (Ok false)
     (record {
-      some = λ r items rest outer no_mark at. absurd (not_empty c.args.self.now r items (rest ∷ outer) at (nil_from_length c.args.self.now.left.now (omega (arith, c.in-empty.len_below))));
-      none = λ rest outer at. record { answer = refl; at = at; within_allowance = omega arith };
+      some = λ r items scope outer no_mark at. absurd (not_empty c.args.self.now r items (scope ∷ outer) at (nil_from_length c.args.self.now.left.now (omega (arith, c.in-empty.len_below))));
+      none = λ scope outer at. record { answer = refl; at = at; within_allowance = omega arith };
     })

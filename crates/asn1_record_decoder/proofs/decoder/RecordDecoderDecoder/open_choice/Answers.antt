@@ -11,7 +11,7 @@ use Rattle.asn1_record_decoder.proofs.Standing.{not_opened, was_opened}
 use Rattle.asn1_record_decoder.proofs.decoder.RecordDecoderDecoder.open_choice.Goals as goal
 
 pub returns-in_err-opened-clause-read : goal.returns-in_err-opened-clause-read
-returns-in_err-opened-clause-read g c = λ chosen.
+returns-in_err-opened-clause-read g c = λ chosen distinct can.
     let alts = g.T.Choice.alternatives in
     let head = alternative chosen (constraint_set c.args._constraints.now) (table_of alts) in
     let p = err_from_is_err_and c.from_residual.result c.from_residual.ensures.1 in
@@ -19,7 +19,7 @@ returns-in_err-opened-clause-read g c = λ chosen.
     (not_opened c.args.self.now c.open.new.self Alternative head (λ _ tag. TellsAlternative chosen tag (all_of alts)) _ c.from_residual.result (p.1 ∙ ap Err p.2) (λ n. tt) c.in_err-opened.ensures.read)
 
 pub returns-clause-read : goal.returns-clause-read
-returns-clause-read g c = λ chosen.
+returns-clause-read g c = λ chosen distinct can.
     let alts = g.T.Choice.alternatives in
     let head = alternative chosen (constraint_set c.args._constraints.now) (table_of alts) in
     opens in_one_order c.args.self.now c.open.new.self head (λ _ tag. TellsAlternative chosen tag (all_of alts)) (Ok c.in_ok-opened.opened.tag) (λ n. refl) (answer_in_any_order (λ tag. TellsAlternative chosen tag (all_of alts)))

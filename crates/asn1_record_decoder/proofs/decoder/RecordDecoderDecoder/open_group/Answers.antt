@@ -24,9 +24,9 @@ returns-clause-read g c =
       there = λ rest outer begins at.
           let t = c.in_ok-record.ensures.took (mark (group_start (lines g.C.FieldTable.components))) rest outer at in
           let found = c.group-found.ensures.there (lines g.C.FieldTable.components) t.is in
-          answered in_one_order c.args.self.now c.next.new.self c.answer.new.self (rest ∷ outer) (λ b. b ≡ true) c.answer.result (rw c.answer.ensures.same found) c.answer.ensures.kept t.at;
+          answered in_one_order c.args.self.now c.next.new.self c.answer.new.self (rest, outer) (λ b. b ≡ true) c.answer.result (rw c.answer.ensures.same found) c.answer.ensures.kept t.at;
       away = λ rest outer apart at.
           let t = c.in_ok-record.ensures.took (mark group_absent) rest outer at in
           let found = c.group-found.ensures.away t.is in
-          answered in_one_order c.args.self.now c.next.new.self c.answer.new.self (rest ∷ outer) (λ b. b ≡ false) c.answer.result (rw c.answer.ensures.same found) c.answer.ensures.kept t.at;
+          answered in_one_order c.args.self.now c.next.new.self c.answer.new.self (rest, outer) (λ b. b ≡ false) c.answer.result (rw c.answer.ensures.same found) c.answer.ensures.kept t.at;
     })

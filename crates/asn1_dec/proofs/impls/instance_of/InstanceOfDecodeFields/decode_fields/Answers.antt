@@ -15,7 +15,7 @@ returns-in_err-type_id-clause-read g c = λ v rest outer can of_type valid ends 
     let p = err_from_is_err_and c.from_residual.result c.from_residual.ensures.1 in
     let rs = own_records object_identifier v.type_id in
     let ss = prefix_records (context 0) (Some (codes "SEQUENCE")) (own_records g.T.AsnType.meaning v.value) in
-    let before = subst (λ l. g.D.Decoder.reader.stands c.args.decoder.now (l ∷ outer)) (one_then_other rs ss rest) at in
+    let before = subst (λ l. g.D.Decoder.reader.stands c.args.decoder.now (l, outer)) (one_then_other rs ss rest) at in
     let r = c.in_err-type_id.ensures.read v.type_id (Some (codes "OBJECT_IDENTIFIER")) (ss ++ rest) outer can.0.0.1 of_type.0 valid.0 (inl can.0.0.0) before in
     rw (p.1, p.2) (fails_below _ _ _ refl (omega (arith, highest_of_two rs ss)) r)
 
@@ -24,7 +24,7 @@ returns-in_err-value-clause-read g c = λ v rest outer can of_type valid ends at
     let p = err_from_is_err_and c.from_residual-in_err-value.result c.from_residual-in_err-value.ensures.1 in
     let rs = own_records object_identifier v.type_id in
     let ss = prefix_records (context 0) (Some (codes "SEQUENCE")) (own_records g.T.AsnType.meaning v.value) in
-    let before = subst (λ l. g.D.Decoder.reader.stands c.args.decoder.now (l ∷ outer)) (one_then_other rs ss rest) at in
+    let before = subst (λ l. g.D.Decoder.reader.stands c.args.decoder.now (l, outer)) (one_then_other rs ss rest) at in
     let r = c.in_ok-type_id.ensures.read v.type_id (Some (codes "OBJECT_IDENTIFIER")) (ss ++ rest) outer can.0.0.1 of_type.0 valid.0 (inl can.0.0.0) before in
     let s = c.in_err-value.ensures.read v.value (Some (codes "SEQUENCE")) rest outer can.0.1.0.1 of_type.1.0 valid.1.0 r.at in
     rw (p.1, p.2) (fails_below _ _ _ (sym c.in_ok-type_id.ensures.leaves.same_allowance) (omega (arith, highest_of_two rs ss)) s)
@@ -33,7 +33,7 @@ pub returns-clause-read : goal.returns-clause-read
 returns-clause-read g c = λ v rest outer can of_type valid ends at.
     let rs = own_records object_identifier v.type_id in
     let ss = prefix_records (context 0) (Some (codes "SEQUENCE")) (own_records g.T.AsnType.meaning v.value) in
-    let before = subst (λ l. g.D.Decoder.reader.stands c.args.decoder.now (l ∷ outer)) (one_then_other rs ss rest) at in
+    let before = subst (λ l. g.D.Decoder.reader.stands c.args.decoder.now (l, outer)) (one_then_other rs ss rest) at in
     let r = c.in_ok-type_id.ensures.read v.type_id (Some (codes "OBJECT_IDENTIFIER")) (ss ++ rest) outer can.0.0.1 of_type.0 valid.0 (inl can.0.0.0) before in
     let s = c.in_ok-value.ensures.read v.value (Some (codes "SEQUENCE")) rest outer can.0.1.0.1 of_type.1.0 valid.1.0 r.at in
     record {
