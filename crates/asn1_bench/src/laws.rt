@@ -14,9 +14,11 @@ use asn1_schema::Rules;
 /// A law of the codec: an output carries records as `asn1_records` says, any bytes are one value of an open type, and the errors
 /// of writing are `Memory` and `Depth`.
 pub fn the_codec_rejects_nothing(output: &Vec<Record>)
-    ensures carries { (rs : List Written) → ⟦<BenchRules as Rules>⟧.format.carries output.now rs ↔ Carries output.now.items rs }
+    ensures carries { (rs : List Written) →
+        ⟦<BenchRules as Rules>⟧.format.carries output.now rs ↔ Carries output.now.items rs }
     ensures takes { (bytes : List ℕ) → ⟦<BenchRules as Rules>⟧.format.takes bytes ≡ true }
-    ensures errors { (rs : List Written) (depth : ℕ) (e : EncodeError) → IsNotWritten ⟦<BenchRules as Rules>⟧.format rs depth e → (e ≡ Memory) ⊎ (e ≡ Depth) }
+    ensures errors { (rs : List Written) (depth : ℕ) (e : EncodeError) →
+        IsNotWritten ⟦<BenchRules as Rules>⟧.format rs depth e → (e ≡ Memory) ⊎ (e ≡ Depth) }
 {}
 
 /// A law of the derive: clones of the rules are their sources.

@@ -50,13 +50,16 @@ impl Rules for BenchRules {
     }
 
     fn read_value<T: Decode>(&self, output: &Vec<Record>, depth: usize) -> Result<T, DecodeError>
-        ensures read { (v : T) → CanStandInside T.meaning → T.meaning.IsOfType v → T.meaning.IsValid record_format.takes v →
+        ensures read { (v : T) → CanStandInside T.meaning → T.meaning.IsOfType v →
+            T.meaning.IsValid record_format.takes v →
             record_format.carries output.now (own_records T.meaning v) →
             ReadsWhole (highest (own_records T.meaning v)) depth (λ w. T.eq w v ≡ true) result }
         ensures refuses { (rs : List model.Record) (error : _) →
             T.refused record_format.takes T.meaning.tag T.meaning.constraints rs error →
             record_format.carries output.now rs → RefusesWhole (highest rs) depth error result }
-        ensures none_left { (v : T) (r : model.Record) (rest : List model.Record) → CanStandInside T.meaning → T.meaning.IsOfType v → T.meaning.IsValid record_format.takes v →
+        ensures none_left { (v : T) (r : model.Record) (rest : List model.Record) →
+            CanStandInside T.meaning → T.meaning.IsOfType v →
+            T.meaning.IsValid record_format.takes v →
             record_format.carries output.now (own_records T.meaning v ++ r ∷ rest) → IsErr result }
     {
         let mut decoder = RecordDecoder::new(self.alloc, output.as_slice(), depth);

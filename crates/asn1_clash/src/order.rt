@@ -13,8 +13,8 @@ pub fn is_canonical(components: &[FlatComponent]) -> bool
     ensures report { result ≡ canonical (components_seen components.now) }
 
     // The same of each table of which these are the flat components.
-    ensures report_of_table { (table : List Component) → components_seen components.now ≡ map flat_component table →
-        result ≡ canonical table }
+    ensures report_of_table { (table : List Component) →
+        components_seen components.now ≡ map flat_component table → result ≡ canonical table }
 {
     components.is_sorted_by(FlatComponent::is_in_order)
 }

@@ -25,9 +25,11 @@ pub fn find_set_clash(
     ensures least { IfOk result (IsLeast (IsSetClash (components_seen components.now))) }
 
     // The same of each table of which these are the flat components.
-    ensures report_of_table { (table : List Component) → components_seen components.now ≡ map flat_component table →
+    ensures report_of_table { (table : List Component) →
+        components_seen components.now ≡ map flat_component table →
         IfOk result (λ clash. clash ≡ set_clash table) }
-    ensures least_of_table { (table : List Component) → components_seen components.now ≡ map flat_component table →
+    ensures least_of_table { (table : List Component) →
+        components_seen components.now ≡ map flat_component table →
         IfOk result (IsLeast (IsSetClash table)) }
 {
     let mut occurrences = occurrences_in(alloc, components)?;
@@ -51,9 +53,11 @@ pub fn find_sequence_clash(
     ensures least { IfOk result (IsLeast (IsSequenceClash (components_seen components.now))) }
 
     // The same of each table of which these are the flat components.
-    ensures report_of_table { (table : List Component) → components_seen components.now ≡ map flat_component table →
+    ensures report_of_table { (table : List Component) →
+        components_seen components.now ≡ map flat_component table →
         IfOk result (λ clash. clash ≡ sequence_clash table) }
-    ensures least_of_table { (table : List Component) → components_seen components.now ≡ map flat_component table →
+    ensures least_of_table { (table : List Component) →
+        components_seen components.now ≡ map flat_component table →
         IfOk result (IsLeast (IsSequenceClash table)) }
 {
     let mut start = 0;

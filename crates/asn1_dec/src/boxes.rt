@@ -17,7 +17,9 @@ pub(crate) fn read_boxed<
     F: FnOnce(&mut D) -> Result<T, E>,
 >(decoder: &mut D, read: F) -> Result<Box<T>, E>
     requires { F.IsAlwaysCallable read }
-    ensures { (answer : Result T E) × FnOnceReturnsAtMut F.FnOnce read decoder.old answer decoder.new × MatchResult answer (λ value. MatchResult result (λ boxed. boxed.value ≡ value) (λ e. E.from_gives alloc_error e)) (λ e. result ≡ Err e) }
+    ensures { (answer : Result T E) × FnOnceReturnsAtMut F.FnOnce read decoder.old answer
+        decoder.new × MatchResult answer (λ value. MatchResult result (λ boxed. boxed.value ≡ value)
+        (λ e. E.from_gives alloc_error e)) (λ e. result ≡ Err e) }
 {
     let value = match read(decoder) {
         Ok(value) => value,

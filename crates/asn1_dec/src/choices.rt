@@ -16,7 +16,8 @@ pub(crate) fn read_choice<T: DecodeChoice + ChoiceType, D: Decoder>(
     tag: Tag,
     constraints: &Constraints<'_>,
 ) -> Result<T, DecodeError>
-    ensures read { ReadsValue D.reader T.meaning T.eq tag (constraint_set constraints.now) decoder.old decoder.new result }
+    ensures read { ReadsValue D.reader T.meaning T.eq tag (constraint_set constraints.now)
+        decoder.old decoder.new result }
     ensures depth_first { NeedsAllowance D.reader decoder.old result }
     ensures keeps { Keeps D.reader decoder.old decoder.new result }
 {

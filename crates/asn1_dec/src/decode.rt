@@ -50,16 +50,20 @@ pub trait Decode: AsnType + Eq + Sized + Drop {
         tag: Tag,
         constraints: &Constraints<'_>,
     ) -> Result<Self, DecodeError>
-        ensures read { ReadsValue D.reader Self.meaning Self.eq tag (constraint_set constraints.now) decoder.old decoder.new result }
-        ensures leaves { LeavesDecoder D.reader Self.meaning tag (constraint_set constraints.now) decoder.old decoder.new result }
+        ensures read { ReadsValue D.reader Self.meaning Self.eq tag (constraint_set constraints.now)
+            decoder.old decoder.new result }
+        ensures leaves { LeavesDecoder D.reader Self.meaning tag (constraint_set constraints.now)
+            decoder.old decoder.new result }
         ensures refuses { Refuses D.reader refused tag (constraint_set constraints.now) decoder.old
             decoder.new result };
 
     /// Reads a value under the type's own tag and constraints. Where there is no memory for these, the error is
     /// [`DecodeError::Memory`].
     final fn decode<D: Decoder>(decoder: &mut D) -> Result<Self, DecodeError>
-        ensures read { ReadsValue D.reader Self.meaning Self.eq Self.meaning.tag Self.meaning.constraints decoder.old decoder.new result }
-        ensures leaves { LeavesDecoderWithOwnConstraints D.reader Self.meaning Self.meaning.tag decoder.old decoder.new result }
+        ensures read { ReadsValue D.reader Self.meaning Self.eq Self.meaning.tag
+            Self.meaning.constraints decoder.old decoder.new result }
+        ensures leaves { LeavesDecoderWithOwnConstraints D.reader Self.meaning Self.meaning.tag
+            decoder.old decoder.new result }
         ensures refuses { Refuses D.reader refused Self.meaning.tag Self.meaning.constraints
             decoder.old decoder.new result }
     {
@@ -70,8 +74,10 @@ pub trait Decode: AsnType + Eq + Sized + Drop {
 
     /// Reads a value under a tag.
     final fn decode_with_tag<D: Decoder>(decoder: &mut D, tag: Tag) -> Result<Self, DecodeError>
-        ensures read { ReadsValue D.reader Self.meaning Self.eq tag Self.meaning.constraints decoder.old decoder.new result }
-        ensures leaves { LeavesDecoderWithOwnConstraints D.reader Self.meaning tag decoder.old decoder.new result }
+        ensures read { ReadsValue D.reader Self.meaning Self.eq tag Self.meaning.constraints
+            decoder.old decoder.new result }
+        ensures leaves { LeavesDecoderWithOwnConstraints D.reader Self.meaning tag decoder.old
+            decoder.new result }
         ensures refuses { Refuses D.reader refused tag Self.meaning.constraints decoder.old
             decoder.new result }
     {
@@ -84,8 +90,10 @@ pub trait Decode: AsnType + Eq + Sized + Drop {
         decoder: &mut D,
         constraints: &Constraints<'_>,
     ) -> Result<Self, DecodeError>
-        ensures read { ReadsValue D.reader Self.meaning Self.eq Self.meaning.tag (constraint_set constraints.now) decoder.old decoder.new result }
-        ensures leaves { LeavesDecoder D.reader Self.meaning Self.meaning.tag (constraint_set constraints.now) decoder.old decoder.new result }
+        ensures read { ReadsValue D.reader Self.meaning Self.eq Self.meaning.tag
+            (constraint_set constraints.now) decoder.old decoder.new result }
+        ensures leaves { LeavesDecoder D.reader Self.meaning Self.meaning.tag
+            (constraint_set constraints.now) decoder.old decoder.new result }
         ensures refuses { Refuses D.reader refused Self.meaning.tag (constraint_set constraints.now)
             decoder.old decoder.new result }
     {
@@ -98,8 +106,15 @@ pub trait DecodeFields: FieldTable + Eq + Sized + Drop {
     /// Reads all components. What follows them begins with no tag of those after the last that is always there. After an error
     /// nothing is known of the decoder, until the caller makes it failed ([`Decoder::refuse`]).
     fn decode_fields<D: Decoder>(decoder: &mut D) -> Result<Self, DecodeError>
-        ensures read { (v : Self) (rest : List Record) (outer : Outside) → CanBeInSequence (all_components Self.components) → EachIsOfType (all_components Self.components) v → EachIsValid (all_components Self.components) D.reader.takes v → EndsApart (all_components Self.components) rest → ReadsBack D.reader decoder.old decoder.new (component_records Self.components v) rest outer (λ w. Self.eq w v ≡ true) result }
-        ensures same_allowance { OnOk result (D.reader.allowance decoder.new ≡ D.reader.allowance decoder.old) };
+        ensures read { (v : Self) (rest : List Record) (outer : Outside) →
+            CanBeInSequence (all_components Self.components) →
+            EachIsOfType (all_components Self.components) v →
+            EachIsValid (all_components Self.components) D.reader.takes v →
+            EndsApart (all_components Self.components) rest →
+            ReadsBack D.reader decoder.old decoder.new (component_records Self.components v) rest
+            outer (λ w. Self.eq w v ≡ true) result }
+        ensures same_allowance { OnOk result (D.reader.allowance decoder.new ≡
+            D.reader.allowance decoder.old) };
 }
 
 /// A CHOICE whose alternatives are read.
@@ -119,5 +134,6 @@ pub trait DecodeChoice: AsnType + Choice + Eq + Sized + Drop {
             (λ w. Self.eq w v ≡ true) result }
         ensures unknown { Each (LacksTag tag) (all_of Self.alternatives) →
             IsErrAnd result (λ e. reason e ≡ no_valid_choice (unwrap_or Self.meaning.name [])) }
-        ensures same_allowance { OnOk result (D.reader.allowance decoder.new ≡ D.reader.allowance decoder.old) };
+        ensures same_allowance { OnOk result (D.reader.allowance decoder.new ≡
+            D.reader.allowance decoder.old) };
 }

@@ -33,17 +33,22 @@ pub trait DecodeSet: FieldTable + Eq + Sized + Drop {
         index: usize,
         tag: Tag,
     ) -> Result<Self::Part, DecodeError>
-        ensures read { ReadsPart (all_components Self.components) index_of is_part_of D.reader index decoder.old decoder.new result }
-        ensures unknown { length (all_components Self.components) ≤ index → result ≡ Err (UnknownField index tag) }
-        ensures same_allowance { OnOk result (D.reader.allowance decoder.new ≡ D.reader.allowance decoder.old) };
+        ensures read { ReadsPart (all_components Self.components) index_of is_part_of D.reader index
+            decoder.old decoder.new result }
+        ensures unknown { length (all_components Self.components) ≤ index →
+            result ≡ Err (UnknownField index tag) }
+        ensures same_allowance { OnOk result (D.reader.allowance decoder.new ≡
+            D.reader.allowance decoder.old) };
 
     /// The value of these parts, in whatever order they are. Of all parts of a value it makes an equal one, and fails only for want
     /// of memory. It makes one only where no component is among the parts twice, and each that is always there is among them.
     /// Where that is not so, types answer [`DecodeError::DuplicateField`] for the first part whose component came before, or else
     /// [`DecodeError::MissingField`] for the first component that is missing.
     fn from_fields(alloc: Global, parts: Vec<Self::Part>) -> Result<Self, DecodeError>
-        ensures made { MakesValue (all_components Self.components) index_of is_part_of Self.eq parts.items result }
-        ensures fitting { OnOk result (EachFits (all_components Self.components) index_of 0 parts.items) };
+        ensures made { MakesValue (all_components Self.components) index_of is_part_of Self.eq
+            parts.items result }
+        ensures fitting { OnOk result (EachFits (all_components Self.components) index_of 0
+            parts.items) };
 
     // The law: no component is a group.
     ghost one_record_each: { (v : Self) → EachCanStandInside (all_components Self.components) → EachIsOneRecord (all_components Self.components) v };

@@ -78,12 +78,14 @@ pub trait Decoder {
 
     /// A BOOLEAN.
     fn decode_bool(&mut self, tag: Tag) -> Result<bool, DecodeError>
-        ensures read { ReadsContent reader self.old self.new tag unconstrained truth (λ _. ⊤) (λ w v. w ≡ v) result }
+        ensures read { ReadsContent reader self.old self.new tag unconstrained truth (λ _. ⊤)
+            (λ w v. w ≡ v) result }
         ensures stays { Stays reader self.old self.new result };
 
     /// A NULL.
     fn decode_null(&mut self, tag: Tag) -> Result<(), DecodeError>
-        ensures read { ReadsContent reader self.old self.new tag unconstrained (λ _. null) (λ _. ⊤) (λ w v. w ≡ v) result }
+        ensures read { ReadsContent reader self.old self.new tag unconstrained (λ _. null) (λ _. ⊤)
+            (λ w v. w ≡ v) result }
         ensures stays { Stays reader self.old self.new result };
 
     /// The number of a value of an ENUMERATED type, which is its content. The table of `E` tells the codec which numbers there
@@ -100,7 +102,8 @@ pub trait Decoder {
 
     /// An OBJECT IDENTIFIER.
     fn decode_object_identifier(&mut self, tag: Tag) -> Result<ObjectIdentifier, DecodeError>
-        ensures read { ReadsContent reader self.old self.new tag unconstrained arcs (All (λ arc. arc < 2 ^ 32)) (λ w v. w ≡ v) result }
+        ensures read { ReadsContent reader self.old self.new tag unconstrained arcs
+            (All (λ arc. arc < 2 ^ 32)) (λ w v. w ≡ v) result }
         ensures stays { Stays reader self.old self.new result };
 
     /// An INTEGER, as a value of any type of whole numbers that has it.
@@ -109,7 +112,8 @@ pub trait Decoder {
         tag: Tag,
         constraints: &Constraints<'_>,
     ) -> Result<I, DecodeError>
-        ensures read { ReadsContent reader self.old self.new tag (constraint_set constraints.now) number I.fits (λ w z. I.number w ≡ z) result }
+        ensures read { ReadsContent reader self.old self.new tag (constraint_set constraints.now)
+            number I.fits (λ w z. I.number w ≡ z) result }
         ensures stays { Stays reader self.old self.new result };
 
     /// A string of the kind `K`. The kind says what its units are ([`CodecString::kind`]), and makes the answer of the string that
@@ -184,12 +188,15 @@ pub trait Decoder {
         tag: Tag,
         constraints: &Constraints<'_>,
     ) -> Result<usize, DecodeError>
-        ensures read { Opens reader self.old self.new (sequence_of tag (constraint_set constraints.now)) (λ items bound. records_in items ≤ bound) result }
+        ensures read { Opens reader self.old self.new (sequence_of tag
+            (constraint_set constraints.now)) (λ items bound. records_in items ≤ bound) result }
         ensures enters { Enters reader self.old self.new result };
 
     /// Opens a SET OF, whose elements stand in any order, and answers a bound on their number.
     fn open_set_of(&mut self, tag: Tag, constraints: &Constraints<'_>) -> Result<usize, DecodeError>
-        ensures read { OpensSet reader self.old self.new (set_of tag (constraint_set constraints.now)) (λ items bound. records_in items ≤ bound) result }
+        ensures read { OpensSet reader self.old self.new
+            (set_of tag (constraint_set constraints.now)) (λ items bound. records_in items ≤ bound)
+            result }
         ensures enters { Enters reader self.old self.new result };
 
     /// Opens what follows an explicit tag.
@@ -407,7 +414,10 @@ pub trait Decoder {
     final fn decode_explicit_prefix<T: Decode>(&mut self, tag: Tag) -> Result<T, DecodeError>
     where
         Self: Sized,
-        ensures read { (v : T) (n : Name) (rest : List Record) (outer : Outside) → CanStandInside T.meaning → T.meaning.IsOfType v → T.meaning.IsValid reader.takes v → ReadsBack reader self.old self.new (prefix_records tag n (own_records T.meaning v)) rest outer (λ w. T.eq w v ≡ true) result }
+        ensures read { (v : T) (n : Name) (rest : List Record) (outer : Outside) →
+            CanStandInside T.meaning → T.meaning.IsOfType v → T.meaning.IsValid reader.takes v →
+            ReadsBack reader self.old self.new (prefix_records tag n (own_records T.meaning v)) rest
+            outer (λ w. T.eq w v ≡ true) result }
         ensures keeps { Keeps reader self.old self.new result }
         ensures depth_first { NeedsAllowance reader self.old result }
     {
@@ -428,7 +438,11 @@ pub trait Decoder {
     ) -> Result<T, DecodeError>
     where
         Self: Sized,
-        ensures read { (v : T) (n : Name) (rest : List Record) (outer : Outside) → CanStandInside T.meaning → T.meaning.IsOfType v → T.meaning.IsValid reader.takes v → ReadsBack reader self.old self.new (prefix_records tag n (T.meaning.records v T.meaning.tag (constraint_set constraints.now) T.meaning.name)) rest outer (λ w. T.eq w v ≡ true) result }
+        ensures read { (v : T) (n : Name) (rest : List Record) (outer : Outside) →
+            CanStandInside T.meaning → T.meaning.IsOfType v → T.meaning.IsValid reader.takes v →
+            ReadsBack reader self.old self.new (prefix_records tag n
+            (T.meaning.records v T.meaning.tag (constraint_set constraints.now)
+            T.meaning.name)) rest outer (λ w. T.eq w v ≡ true) result }
         ensures keeps { Keeps reader self.old self.new result }
         ensures depth_first { NeedsAllowance reader self.old result }
     {
@@ -449,7 +463,12 @@ pub trait Decoder {
     ) -> Result<Vec<T>, DecodeError>
     where
         Self: Sized,
-        ensures read { (vs : List T) (n : Name) (rest : List Record) (outer : Outside) → CanStandInside T.meaning → All T.meaning.IsOfType vs → All (T.meaning.IsValid reader.takes) vs → ReadsBack reader self.old self.new (list_records tag (constraint_set constraints.now) n (flat_map (own_records T.meaning) vs)) rest outer (λ w. pointwise T.eq w.items vs ≡ true) result }
+        ensures read { (vs : List T) (n : Name) (rest : List Record) (outer : Outside) →
+            CanStandInside T.meaning → All T.meaning.IsOfType vs →
+            All (T.meaning.IsValid reader.takes) vs →
+            ReadsBack reader self.old self.new (list_records tag (constraint_set constraints.now) n
+            (flat_map (own_records T.meaning) vs)) rest outer (λ w. pointwise T.eq w.items vs ≡
+            true) result }
         ensures keeps { Keeps reader self.old self.new result }
         ensures depth_first { NeedsAllowance reader self.old result }
     {
@@ -775,7 +794,8 @@ pub trait Decoder {
             ReadsBack reader self.old self.new
             (sequence_records tag (lines C.components) n (component_records C.components v))
             rest outer (λ w. C.eq w v ≡ true) result }
-        ensures as_meant { C.components.kind ≡ is_sequence → (c : ConstraintSet) → ReadsValue reader C.meaning C.eq tag c self.old self.new result }
+        ensures as_meant { C.components.kind ≡ is_sequence → (c : ConstraintSet) →
+            ReadsValue reader C.meaning C.eq tag c self.old self.new result }
         ensures keeps { Keeps reader self.old self.new result }
         ensures depth_first { NeedsAllowance reader self.old result }
     {
@@ -820,7 +840,8 @@ pub trait Decoder {
     ) -> Result<T, DecodeError>
     where
         Self: Sized,
-        ensures read { ReadsValue reader T.meaning T.eq tag (constraint_set constraints.now) self.old self.new result }
+        ensures read { ReadsValue reader T.meaning T.eq tag (constraint_set constraints.now)
+            self.old self.new result }
         ensures depth_first { NeedsAllowance reader self.old result }
         ensures keeps { Keeps reader self.old self.new result }
     {
@@ -835,7 +856,12 @@ pub trait Decoder {
     ) -> Result<SetOf<T>, DecodeError>
     where
         Self: Sized,
-        ensures read { (vs : List T) (n : Name) (rest : List Record) (outer : Outside) → CanStandInside T.meaning → All T.meaning.IsOfType vs → All (T.meaning.IsValid reader.takes) vs → ReadsBack reader self.old self.new (set_of_records tag (constraint_set constraints.now) n (flat_map (own_records T.meaning) vs)) rest outer (λ w. ⟦<SetOf<T> as PartialEq>⟧.eq w vs ≡ true) result }
+        ensures read { (vs : List T) (n : Name) (rest : List Record) (outer : Outside) →
+            CanStandInside T.meaning → All T.meaning.IsOfType vs →
+            All (T.meaning.IsValid reader.takes) vs →
+            ReadsBack reader self.old self.new (set_of_records tag (constraint_set constraints.now)
+            n (flat_map (own_records T.meaning) vs)) rest outer (λ w. ⟦<SetOf<T> as PartialEq>⟧.eq w
+            vs ≡ true) result }
         ensures depth_first { NeedsAllowance reader self.old result }
         ensures keeps { Keeps reader self.old self.new result }
     {
@@ -857,7 +883,8 @@ pub trait Decoder {
             ReadsBack reader self.old self.new
             (set_records tag (lines S.components) n (component_records S.components v)) rest
             outer (λ w. S.eq w v ≡ true) result }
-        ensures as_meant { S.components.kind ≡ is_set → (c : ConstraintSet) → ReadsValue reader S.meaning S.eq tag c self.old self.new result }
+        ensures as_meant { S.components.kind ≡ is_set → (c : ConstraintSet) →
+            ReadsValue reader S.meaning S.eq tag c self.old self.new result }
         ensures depth_first { NeedsAllowance reader self.old result }
         ensures keeps { Keeps reader self.old self.new result }
     {

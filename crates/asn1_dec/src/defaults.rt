@@ -22,7 +22,9 @@ fn or_default<T: Drop, D: Decoder, F: FnOnce(Global) -> Result<T, AllocError>>(
 ) -> Result<T, DecodeError>
     requires { F.IsAlwaysCallable default }
     ensures there { IfSome value (λ v. (result ≡ Ok v) × (decoder.new ≡ decoder.old)) }
-    ensures absent { IfNone value (MatchResult result (λ usual. ((a : _) × F.post default a (Ok usual)) × (decoder.new ≡ decoder.old)) (λ e. (e ≡ Memory) × (D.reader.failed decoder.new ≡ true))) }
+    ensures absent { IfNone value (MatchResult result
+        (λ usual. ((a : _) × F.post default a (Ok usual)) × (decoder.new ≡ decoder.old))
+        (λ e. (e ≡ Memory) × (D.reader.failed decoder.new ≡ true))) }
 {
     match value {
         Some(value) => Ok(value),

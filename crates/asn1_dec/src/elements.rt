@@ -21,7 +21,8 @@ pub(crate) fn read_elements<T: Decode, D: Decoder>(
         Moves D.reader decoder.old decoder.new (highest (flat_map (own_records T.meaning) vs))
         (flat_map (own_records T.meaning) vs, scope ∷ outer) ([], scope ∷ outer)
         (λ w. pointwise T.eq w.items vs ≡ true) result }
-    ensures same_allowance { OnOk result (D.reader.allowance decoder.new ≡ D.reader.allowance decoder.old) }
+    ensures same_allowance { OnOk result (D.reader.allowance decoder.new ≡
+        D.reader.allowance decoder.old) }
     ensures failing { OnErr result (D.reader.failed decoder.new ≡ true) }
 {
     let mut elements = Vec::new(decoder.global());

@@ -17,7 +17,8 @@ use std::borrow::Cow;
 /// Whether two errors say the same: they are of one case, and have the same texts, numbers and tag. A clone is its source.
 pub fn errors_are_compared_by_what_they_say(a: &DecodeError, b: &DecodeError) -> bool
     ensures same { IsTrue result ↔ (reason a.now ≡ reason b.now) }
-    ensures clones { ClonesAll ⟦<DecodeError as Clone>⟧.is_clone ⟦<DecodeError as Clone>⟧.is_infallible }
+    ensures clones { ClonesAll ⟦<DecodeError as Clone>⟧.is_clone
+        ⟦<DecodeError as Clone>⟧.is_infallible }
 {
     a == b
 }

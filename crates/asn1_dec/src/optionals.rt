@@ -46,10 +46,11 @@ fn read_present<T: Decode, D: Decoder>(
     constraints: &Constraints<'_>,
 ) -> Result<Option<T>, DecodeError>
     ensures read { (v : T) (n : Name) (rest : List Record) (outer : Outside) →
-        CanStandInsideUnder T.meaning tag → T.meaning.IsOfType v → T.meaning.IsValid D.reader.takes v →
-        ReadsBack D.reader decoder.old decoder.new
-        (T.meaning.records v tag (constraint_set constraints.now) n) rest outer
-        (λ w. option_eq T.eq w (Some v) ≡ true) result }
+        CanStandInsideUnder T.meaning tag → T.meaning.IsOfType v →
+        T.meaning.IsValid D.reader.takes v →
+        ReadsBack D.reader decoder.old decoder.new (T.meaning.records v tag
+        (constraint_set constraints.now) n) rest outer (λ w. option_eq T.eq w (Some v) ≡
+        true) result }
     ensures same_allowance { OnOk result
         (D.reader.allowance decoder.new ≡ D.reader.allowance decoder.old) }
     ensures no_failure { OnOk result (D.reader.failed decoder.new ≡ D.reader.failed decoder.old) }

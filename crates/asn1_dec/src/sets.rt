@@ -27,9 +27,10 @@ fn read_parts<S: DecodeSet, D: Decoder>(
         Moves D.reader decoder.old decoder.new (highest items)
         (items, (set tag (lines S.components) n, rest) ∷ outer)
         ([], (set tag (lines S.components) n, rest) ∷ outer)
-        (λ parts. ArePartsOf (all_components S.components) v S.index_of (S.is_part_of v) parts.items)
-        result }
-    ensures same_allowance { OnOk result (D.reader.allowance decoder.new ≡ D.reader.allowance decoder.old) }
+        (λ parts. ArePartsOf (all_components S.components) v S.index_of (S.is_part_of v)
+        parts.items) result }
+    ensures same_allowance { OnOk result (D.reader.allowance decoder.new ≡
+        D.reader.allowance decoder.old) }
     ensures failing { OnErr result (D.reader.failed decoder.new ≡ true) }
 {
     let mut parts = Vec::new(decoder.global());
@@ -88,7 +89,8 @@ pub(crate) fn read_set<S: DecodeSet + ConstructedType, D: Decoder>(
         ReadsBack D.reader decoder.old decoder.new
         (set_records tag (lines S.components) n (component_records S.components v)) rest outer
         (λ w. S.eq w v ≡ true) result }
-    ensures as_meant { S.components.kind ≡ is_set → (c : ConstraintSet) → ReadsValue D.reader S.meaning S.eq tag c decoder.old decoder.new result }
+    ensures as_meant { S.components.kind ≡ is_set → (c : ConstraintSet) →
+        ReadsValue D.reader S.meaning S.eq tag c decoder.old decoder.new result }
     ensures depth_first { NeedsAllowance D.reader decoder.old result }
     ensures keeps { Keeps D.reader decoder.old decoder.new result }
 {

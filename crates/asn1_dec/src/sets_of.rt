@@ -21,7 +21,12 @@ pub(crate) fn read_set_of<T: Decode, D: Decoder>(
     tag: Tag,
     constraints: &Constraints<'_>,
 ) -> Result<SetOf<T>, DecodeError>
-    ensures read { (vs : List T) (n : Name) (rest : List Record) (outer : Outside) → CanStandInside T.meaning → All T.meaning.IsOfType vs → All (T.meaning.IsValid D.reader.takes) vs → ReadsBack D.reader decoder.old decoder.new (set_of_records tag (constraint_set constraints.now) n (flat_map (own_records T.meaning) vs)) rest outer (λ w. ⟦<SetOf<T> as PartialEq>⟧.eq w vs ≡ true) result }
+    ensures read { (vs : List T) (n : Name) (rest : List Record) (outer : Outside) →
+        CanStandInside T.meaning → All T.meaning.IsOfType vs →
+        All (T.meaning.IsValid D.reader.takes) vs →
+        ReadsBack D.reader decoder.old decoder.new (set_of_records tag
+        (constraint_set constraints.now) n (flat_map (own_records T.meaning) vs)) rest outer (λ w.
+        ⟦<SetOf<T> as PartialEq>⟧.eq w vs ≡ true) result }
     ensures depth_first { NeedsAllowance D.reader decoder.old result }
     ensures keeps { Keeps D.reader decoder.old decoder.new result }
 {

@@ -12,7 +12,8 @@ pub fn keep_once<T: Drop>(
     name: &'static str,
 ) -> Result<(), DecodeError>
     ensures kept { OnOk result ((slot.old ≡ None) × (slot.new ≡ Some value)) }
-    ensures twice { IfErr result (λ error. IsSome slot.old × (reason error ≡ duplicate_field name.now)) }
+    ensures twice { IfErr result (λ error. IsSome slot.old ×
+        (reason error ≡ duplicate_field name.now)) }
     ensures unchanged { OnErr result (slot.new ≡ slot.old) }
 {
     if slot.is_some() {

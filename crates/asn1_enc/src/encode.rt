@@ -33,11 +33,14 @@ pub trait Encode: AsnType {
         constraints: &Constraints<'_>,
         name: Identifier,
     ) -> Result<(), EncodeError>
-        ensures { Writes E.writer encoder.old (Self.meaning.records self.now tag (constraint_set constraints.now) (name_of name)) (Self.meaning.IsOfType self.now) encoder.new result };
+        ensures { Writes E.writer encoder.old (Self.meaning.records self.now tag
+            (constraint_set constraints.now) (name_of name)) (Self.meaning.IsOfType
+            self.now) encoder.new result };
 
     /// Writes the value under the type's own tag, constraints and name.
     final fn encode<E: Encoder>(&self, encoder: &mut E) -> Result<(), EncodeError>
-        ensures { Writes E.writer encoder.old (own_records Self.meaning self.now) (Self.meaning.IsOfType self.now) encoder.new result }
+        ensures { Writes E.writer encoder.old (own_records Self.meaning self.now)
+            (Self.meaning.IsOfType self.now) encoder.new result }
     {
         let table = Self::table();
         let constraints = make_constraints(encoder, &table)?;
@@ -50,7 +53,9 @@ pub trait Encode: AsnType {
         encoder: &mut E,
         tag: Tag,
     ) -> Result<(), EncodeError>
-        ensures { Writes E.writer encoder.old (Self.meaning.records self.now tag Self.meaning.constraints Self.meaning.name) (Self.meaning.IsOfType self.now) encoder.new result }
+        ensures { Writes E.writer encoder.old (Self.meaning.records self.now tag
+            Self.meaning.constraints Self.meaning.name) (Self.meaning.IsOfType
+            self.now) encoder.new result }
     {
         let table = Self::table();
         let constraints = make_constraints(encoder, &table)?;
@@ -63,7 +68,9 @@ pub trait Encode: AsnType {
         encoder: &mut E,
         name: Identifier,
     ) -> Result<(), EncodeError>
-        ensures { Writes E.writer encoder.old (Self.meaning.records self.now Self.meaning.tag Self.meaning.constraints (name_of name)) (Self.meaning.IsOfType self.now) encoder.new result }
+        ensures { Writes E.writer encoder.old (Self.meaning.records self.now Self.meaning.tag
+            Self.meaning.constraints (name_of name)) (Self.meaning.IsOfType
+            self.now) encoder.new result }
     {
         let table = Self::table();
         let constraints = make_constraints(encoder, &table)?;
@@ -77,7 +84,9 @@ pub trait Encode: AsnType {
         tag: Tag,
         name: Identifier,
     ) -> Result<(), EncodeError>
-        ensures { Writes E.writer encoder.old (Self.meaning.records self.now tag Self.meaning.constraints (name_of name)) (Self.meaning.IsOfType self.now) encoder.new result }
+        ensures { Writes E.writer encoder.old (Self.meaning.records self.now tag
+            Self.meaning.constraints (name_of name)) (Self.meaning.IsOfType
+            self.now) encoder.new result }
     {
         let constraints = make_constraints(encoder, &Self::table())?;
         self.encode_with_tag_and_constraints(encoder, tag, &constraints, name)
@@ -89,7 +98,9 @@ pub trait Encode: AsnType {
         encoder: &mut E,
         constraints: &Constraints<'_>,
     ) -> Result<(), EncodeError>
-        ensures { Writes E.writer encoder.old (Self.meaning.records self.now Self.meaning.tag (constraint_set constraints.now) Self.meaning.name) (Self.meaning.IsOfType self.now) encoder.new result }
+        ensures { Writes E.writer encoder.old (Self.meaning.records self.now Self.meaning.tag
+            (constraint_set constraints.now) Self.meaning.name) (Self.meaning.IsOfType
+            self.now) encoder.new result }
     {
         let table = Self::table();
         self.encode_with_tag_and_constraints(encoder, table.tag, constraints, table.identifier)
@@ -102,7 +113,9 @@ pub trait Encode: AsnType {
         constraints: &Constraints<'_>,
         name: Identifier,
     ) -> Result<(), EncodeError>
-        ensures { Writes E.writer encoder.old (Self.meaning.records self.now Self.meaning.tag (constraint_set constraints.now) (name_of name)) (Self.meaning.IsOfType self.now) encoder.new result }
+        ensures { Writes E.writer encoder.old (Self.meaning.records self.now Self.meaning.tag
+            (constraint_set constraints.now) (name_of name)) (Self.meaning.IsOfType
+            self.now) encoder.new result }
     {
         self.encode_with_tag_and_constraints(encoder, Self::tag(), constraints, name)
     }
@@ -112,11 +125,14 @@ pub trait Encode: AsnType {
 pub trait EncodeFields: FieldTable {
     /// Writes the component at a place of the definition, and nothing at a place after the last.
     fn encode_field<E: Encoder>(&self, place: usize, encoder: &mut E) -> Result<(), EncodeError>
-        ensures { Writes E.writer encoder.old (records_at (all_components Self.components) place self.now) (IsOfTypeAt (all_components Self.components) place self.now) encoder.new result };
+        ensures { Writes E.writer encoder.old (records_at (all_components Self.components) place
+            self.now) (IsOfTypeAt (all_components Self.components) place
+            self.now) encoder.new result };
 
     /// Writes all components, in the order of their definition.
     final fn encode_fields<E: Encoder>(&self, encoder: &mut E) -> Result<(), EncodeError>
-        ensures { Writes E.writer encoder.old (component_records Self.components self.now) (EachIsOfType (all_components Self.components) self.now) encoder.new result }
+        ensures { Writes E.writer encoder.old (component_records Self.components self.now)
+            (EachIsOfType (all_components Self.components) self.now) encoder.new result }
     {
         for place in 0..Self::field_count() {
             self.encode_field(place, encoder)?;
@@ -133,5 +149,7 @@ pub trait EncodeChoice: AsnType + Choice {
 
     /// Writes the chosen alternative.
     fn encode_alternative<E: Encoder>(&self, encoder: &mut E) -> Result<(), EncodeError>
-        ensures { Writes E.writer encoder.old (chosen_meaning (all_of Self.alternatives) (Self.pick self.now)).records (chosen_meaning (all_of Self.alternatives) (Self.pick self.now)).IsOfType encoder.new result };
+        ensures { Writes E.writer encoder.old (chosen_meaning (all_of Self.alternatives)
+            (Self.pick self.now)).records (chosen_meaning (all_of Self.alternatives)
+            (Self.pick self.now)).IsOfType encoder.new result };
 }

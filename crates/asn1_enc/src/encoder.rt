@@ -67,11 +67,13 @@ pub trait Encoder {
 
     /// A BOOLEAN.
     fn encode_bool(&mut self, tag: Tag, value: bool, name: Identifier) -> Result<(), EncodeError>
-        ensures { Writes writer self.old (scalar tag unconstrained (name_of name) (truth value) ∷ []) ⊤ self.new result };
+        ensures { Writes writer self.old (scalar tag unconstrained (name_of name) (truth value) ∷
+            []) ⊤ self.new result };
 
     /// A NULL.
     fn encode_null(&mut self, tag: Tag, name: Identifier) -> Result<(), EncodeError>
-        ensures { Writes writer self.old (scalar tag unconstrained (name_of name) null ∷ []) ⊤ self.new result };
+        ensures { Writes writer self.old (scalar tag unconstrained (name_of name) null ∷ []) ⊤
+            self.new result };
 
     /// The number of a value of an ENUMERATED type, whose items are those of the table of `E`: some codecs write the number,
     /// some the item's name, and some its place.
@@ -92,7 +94,8 @@ pub trait Encoder {
         value: &[u32],
         name: Identifier,
     ) -> Result<(), EncodeError>
-        ensures { Writes writer self.old (scalar tag unconstrained (name_of name) (arcs value.now) ∷ []) (All (λ arc. arc < 2 ^ 32) value.now) self.new result };
+        ensures { Writes writer self.old (scalar tag unconstrained (name_of name) (arcs value.now) ∷
+            []) (All (λ arc. arc < 2 ^ 32) value.now) self.new result };
 
     /// An INTEGER, of any type of whole numbers.
     fn encode_integer<T: IntegerType>(
@@ -102,7 +105,8 @@ pub trait Encoder {
         value: &T,
         name: Identifier,
     ) -> Result<(), EncodeError>
-        ensures { Writes writer self.old (scalar tag (constraint_set constraints.now) (name_of name) (number (T.number value.now)) ∷ []) (T.fits (T.number value.now)) self.new result };
+        ensures { Writes writer self.old (scalar tag (constraint_set constraints.now) (name_of name)
+            (number (T.number value.now)) ∷ []) (T.fits (T.number value.now)) self.new result };
 
     /// A string of the kind `K`, by its units. The kind makes of them the string of whatever kind that a codec looks at
     /// ([`CodecString::as_any`]). The calls with a name for each kind give it units that a string of the kind can have; others a
@@ -164,7 +168,8 @@ pub trait Encoder {
         name: Identifier,
         count: usize,
     ) -> Result<(), EncodeError>
-        ensures { Opens writer self.old (sequence_of tag (constraint_set constraints.now) (name_of name)) self.new result };
+        ensures { Opens writer self.old (sequence_of tag (constraint_set constraints.now)
+            (name_of name)) self.new result };
 
     /// Opens a SET OF so many elements.
     fn open_set_of(
@@ -174,7 +179,8 @@ pub trait Encoder {
         name: Identifier,
         count: usize,
     ) -> Result<(), EncodeError>
-        ensures { Opens writer self.old (set_of tag (constraint_set constraints.now) (name_of name)) self.new result };
+        ensures { Opens writer self.old (set_of tag (constraint_set constraints.now) (name_of name))
+            self.new result };
 
     /// Opens what follows an explicit tag.
     fn open_explicit_prefix(&mut self, tag: Tag, name: Identifier) -> Result<(), EncodeError>
@@ -427,7 +433,8 @@ pub trait Encoder {
     ) -> Result<(), EncodeError>
     where
         Self: Sized,
-        ensures writes { Writes writer self.old (prefix_records tag (name_of name) (own_records T.meaning value.now)) (T.meaning.IsOfType value.now) self.new result }
+        ensures writes { Writes writer self.old (prefix_records tag (name_of name)
+            (own_records T.meaning value.now)) (T.meaning.IsOfType value.now) self.new result }
         ensures depth_first { NeedsAllowance writer self.old result }
     {
         self.open_explicit_prefix(tag, name)?;
@@ -449,7 +456,9 @@ pub trait Encoder {
             (sequence_records tag (lines C.components) (name_of name)
             (component_records C.components value.now))
             (EachIsOfType (all_components C.components) value.now) self.new result }
-        ensures as_meant { C.components.kind ≡ is_sequence → Writes writer self.old (C.meaning.records value.now tag unconstrained (name_of name)) (C.meaning.IsOfType value.now) self.new result }
+        ensures as_meant { C.components.kind ≡ is_sequence →
+            Writes writer self.old (C.meaning.records value.now tag unconstrained (name_of name))
+            (C.meaning.IsOfType value.now) self.new result }
         ensures depth_first { NeedsAllowance writer self.old result }
     {
         self.open_sequence::<C>(tag, name)?;
@@ -467,7 +476,9 @@ pub trait Encoder {
     ) -> Result<(), EncodeError>
     where
         Self: Sized,
-        ensures writes { Writes writer self.old (list_records tag (constraint_set constraints.now) (name_of name) (flat_map (own_records T.meaning) elements.now)) (All T.meaning.IsOfType elements.now) self.new result }
+        ensures writes { Writes writer self.old (list_records tag (constraint_set constraints.now)
+            (name_of name) (flat_map (own_records T.meaning) elements.now)) (All T.meaning.IsOfType
+            elements.now) self.new result }
         ensures depth_first { NeedsAllowance writer self.old result }
     {
         self.open_sequence_of(tag, constraints, name, elements.len())?;
@@ -512,7 +523,9 @@ pub trait Encoder {
             (set_records tag (lines C.components) (name_of name)
             (component_records C.components value.now))
             (EachIsOfType (all_components C.components) value.now) self.new result }
-        ensures as_meant { C.components.kind ≡ is_set → Writes writer self.old (C.meaning.records value.now tag unconstrained (name_of name)) (C.meaning.IsOfType value.now) self.new result }
+        ensures as_meant { C.components.kind ≡ is_set →
+            Writes writer self.old (C.meaning.records value.now tag unconstrained (name_of name))
+            (C.meaning.IsOfType value.now) self.new result }
         ensures depth_first { NeedsAllowance writer self.old result }
     {
         self.open_set::<C>(tag, name)?;
@@ -530,7 +543,9 @@ pub trait Encoder {
     ) -> Result<(), EncodeError>
     where
         Self: Sized,
-        ensures writes { Writes writer self.old (set_of_records tag (constraint_set constraints.now) (name_of name) (flat_map (own_records T.meaning) elements.now)) (All T.meaning.IsOfType elements.now) self.new result }
+        ensures writes { Writes writer self.old (set_of_records tag (constraint_set constraints.now)
+            (name_of name) (flat_map (own_records T.meaning) elements.now)) (All T.meaning.IsOfType
+            elements.now) self.new result }
         ensures depth_first { NeedsAllowance writer self.old result }
     {
         self.open_set_of(tag, constraints, name, elements.len())?;
@@ -574,7 +589,9 @@ pub trait Encoder {
     ) -> Result<(), EncodeError>
     where
         Self: Sized,
-        ensures writes { Writes writer self.old (T.meaning.records value.now tag (constraint_set constraints.now) (name_of name)) (T.meaning.IsOfType value.now) self.new result }
+        ensures writes { Writes writer self.old (T.meaning.records value.now tag
+            (constraint_set constraints.now) (name_of name)) (T.meaning.IsOfType
+            value.now) self.new result }
         ensures depth_first { NeedsAllowance writer self.old result }
     {
         let table = T::table();

@@ -14,7 +14,8 @@ use std::alloc::AllocError;
 /// Whether two errors say the same: they are of one case, and have the same message. A clone is its source.
 pub fn errors_are_compared_by_what_they_say(a: &EncodeError, b: &EncodeError) -> bool
     ensures same { IsTrue result ↔ (reason a.now ≡ reason b.now) }
-    ensures clones { ClonesAll ⟦<EncodeError as Clone>⟧.is_clone ⟦<EncodeError as Clone>⟧.is_infallible }
+    ensures clones { ClonesAll ⟦<EncodeError as Clone>⟧.is_clone
+        ⟦<EncodeError as Clone>⟧.is_infallible }
 {
     a == b
 }
@@ -33,5 +34,6 @@ pub fn sameness_of_what_is_written_is_an_equivalence()
     ensures reflexive { (w : Written) → SameWritten w w }
     ensures symmetric { (w x : Written) → SameWritten w x → SameWritten x w }
     ensures transitive { (w x y : Written) → SameWritten w x → SameWritten x y → SameWritten w y }
-    ensures followed { (w x : Written) (rs ss : List Record) → SameWritten w x → SameRecords rs ss → SameWritten (followed_by w rs) (followed_by x ss) }
+    ensures followed { (w x : Written) (rs ss : List Record) → SameWritten w x → SameRecords rs ss →
+        SameWritten (followed_by w rs) (followed_by x ss) }
 {}

@@ -62,7 +62,8 @@ impl<'a> RecordDecoder<'a> {
 
     /// A decoder that is before these records, and may open so many scopes in one another.
     pub fn new(alloc: Global, records: &'a [Record], depth: usize) -> RecordDecoder<'a>
-        ensures before { (rs : List model.Record) → Carries records.now rs → StandsBefore result (rs, []) }
+        ensures before { (rs : List model.Record) → Carries records.now rs →
+            StandsBefore result (rs, []) }
         ensures allowance { record_reader.allowance result ≡ depth }
         ensures no_failure { record_reader.failed result ≡ false }
     {
@@ -105,7 +106,8 @@ impl<'a> RecordDecoder<'a> {
 
     /// Takes the next record, if one is left.
     fn advance(&mut self) -> Option<&'a Record>
-        ensures taken { IfSome result (λ x. records_of self.old.left.now ≡ record_of x.now ∷ records_of self.new.left.now) }
+        ensures taken { IfSome result (λ x. records_of self.old.left.now ≡ record_of x.now ∷
+            records_of self.new.left.now) }
         ensures none { result ≡ None → records_of self.old.left.now ≡ [] }
         ensures allowance { self.new.allowance ≡ self.old.allowance }
         ensures failed { self.new.failed ≡ self.old.failed }
@@ -181,7 +183,8 @@ impl<'a> RecordDecoder<'a> {
     fn enter(&mut self, tag: Tag, inner: &'a [Record]) -> Result<Opened, DecodeError>
         requires room { 0 < self.now.allowance }
         ensures inside { OnOk result (sees self.new ≡ records_of inner.now ∷ sees self.old) }
-        ensures opened { IfOk result (λ opened. (opened.tag ≡ tag) × (opened.bound ≡ length inner.now)) }
+        ensures opened { IfOk result (λ opened. (opened.tag ≡ tag) ×
+            (opened.bound ≡ length inner.now)) }
         ensures one_less { OnOk result (self.old.allowance ≡ suc self.new.allowance) }
         ensures failed { OnOk result (self.new.failed ≡ self.old.failed) }
         ensures memory { IfErr result (λ e. e ≡ Memory) }
@@ -232,9 +235,11 @@ impl<'a> RecordDecoder<'a> {
     fn open_list(&mut self, wanted: Wanted) -> Result<usize, DecodeError>
         ensures read { (head : Name → model.Head) → ((n : Name) → Meets wanted (head n)) →
             ((n : Name) → is_unordered (head n) ≡ false) →
-            Opens record_reader self.old self.new head (λ items bound. records_in items ≤ bound) result }
+            Opens record_reader self.old self.new head (λ items bound. records_in items ≤ bound)
+            result }
         ensures read_set { (head : Name → model.Head) → ((n : Name) → Meets wanted (head n)) →
-            OpensSet record_reader self.old self.new head (λ items bound. records_in items ≤ bound) result }
+            OpensSet record_reader self.old self.new head (λ items bound. records_in items ≤ bound)
+            result }
         ensures enters { Enters record_reader self.old self.new result }
     {
         let opened = self.open(wanted)?;

@@ -64,7 +64,8 @@ pub(crate) fn content(item: &Record, tag: Tag) -> Option<&Content>
     ensures found { (c : ConstraintSet) (n : Name) (x : model.Content) →
         IsRecord item.now (scalar tag c n x) →
         IsSomeAnd result (λ content. content_of content.now ≡ content_without x) }
-    ensures only { IfSome result (λ content. IsContentUnder tag (content_of content.now) (record_of item.now)) }
+    ensures only { IfSome result (λ content. IsContentUnder tag (content_of content.now)
+        (record_of item.now)) }
 {
     match item {
         Record::Scalar(own, _, content) if *own == tag => Some(content),
@@ -74,7 +75,8 @@ pub(crate) fn content(item: &Record, tag: Tag) -> Option<&Content>
 
 /// The bytes of an open type.
 pub(crate) fn bytes(item: &Record, alloc: Global) -> Result<Any, DecodeError>
-    ensures found { (n : Name) (bytes : List ℕ) → FoundIn item.now (raw n bytes) (λ w. w ≡ bytes) result }
+    ensures found { (n : Name) (bytes : List ℕ) →
+        FoundIn item.now (raw n bytes) (λ w. w ≡ bytes) result }
     ensures only { IfOk result (λ w. IsBytes w (record_of item.now)) }
     ensures not_too_deep { result ≢ Err Depth }
 {
@@ -88,8 +90,8 @@ pub(crate) fn bytes(item: &Record, alloc: Global) -> Result<Any, DecodeError>
 pub(crate) fn presence(item: &Record, side: Side, tag: Tag) -> Result<bool, DecodeError>
     ensures there { FoundIn item.now (mark (present (side_of side) tag)) (λ b. b ≡ true) result }
     ensures away { FoundIn item.now (mark (absent (side_of side) tag)) (λ b. b ≡ false) result }
-    ensures only { IfOk result (λ b.
-        record_of item.now ≡ mark (if b then present (side_of side) tag else absent (side_of side) tag)) }
+    ensures only { IfOk result (λ b. record_of item.now ≡
+        mark (if b then present (side_of side) tag else absent (side_of side) tag)) }
     ensures not_too_deep { result ≢ Err Depth }
 {
     match item {
@@ -129,9 +131,13 @@ pub(crate) fn end_of_group(item: &Record) -> Result<(), DecodeError>
 
 /// What is in a scope that is as it is wanted.
 pub(crate) fn inner_scope(item: &Record, wanted: Wanted) -> Option<Scope<'_>>
-    ensures tag { (h : model.Head) (items : List model.Record) → Meets wanted h → IsRecord item.now (holding h items) → IsSomeAnd result (λ scope. scope.tag ≡ head_tag h) }
-    ensures records { (h : model.Head) (items : List model.Record) → Meets wanted h → IsRecord item.now (holding h items) → IsSomeAnd result (λ scope. AreRecords scope.records.now items) }
-    ensures only { IfSome result (λ scope. (h : model.Head) × Meets wanted h × (record_of item.now ≡ holding h (records_of scope.records.now))) }
+    ensures tag { (h : model.Head) (items : List model.Record) → Meets wanted h →
+        IsRecord item.now (holding h items) → IsSomeAnd result (λ scope. scope.tag ≡ head_tag h) }
+    ensures records { (h : model.Head) (items : List model.Record) → Meets wanted h →
+        IsRecord item.now (holding h items) →
+        IsSomeAnd result (λ scope. AreRecords scope.records.now items) }
+    ensures only { IfSome result (λ scope. (h : model.Head) × Meets wanted h ×
+        (record_of item.now ≡ holding h (records_of scope.records.now))) }
 {
     match item {
         Record::Scope(head, records) if wanted.is_met_by(head) => Some(Scope {

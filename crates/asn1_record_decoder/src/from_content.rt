@@ -28,7 +28,8 @@ pub(crate) trait FromContent: Sized {
 
     /// What is read from this content, if it is of the kind.
     fn from_content(alloc: Global, kept: &Content) -> Result<Self, DecodeError>
-        ensures read { (x : Value) → IsOfType x → content_of kept.now ≡ content x → MatchResult result (λ w. Is w x) (λ e. e ≡ Memory) }
+        ensures read { (x : Value) → IsOfType x → content_of kept.now ≡ content x →
+            MatchResult result (λ w. Is w x) (λ e. e ≡ Memory) }
         ensures only { (x : Value) → IfOk result (λ w. Is w x → content_of kept.now ≡ content x) }
         ensures not_too_deep { result ≢ Err Depth };
 }

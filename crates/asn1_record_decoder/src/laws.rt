@@ -8,6 +8,9 @@ use asn1_dec::Decoder;
 
 /// A law of the decoder: types see it before what it stands before, and it takes any bytes as one value of an open type.
 pub fn the_decoder_takes_any_bytes(decoder: &RecordDecoder<'_>)
-    ensures stands { (ahead : Ahead) → ⟦<RecordDecoder<'static> as Decoder>⟧.reader.stands decoder.now ahead ↔ StandsBefore decoder.now ahead }
-    ensures takes { (bytes : List ℕ) → ⟦<RecordDecoder<'static> as Decoder>⟧.reader.takes bytes ≡ true }
+    ensures stands { (ahead : Ahead) →
+        ⟦<RecordDecoder<'static> as Decoder>⟧.reader.stands decoder.now ahead ↔
+        StandsBefore decoder.now ahead }
+    ensures takes { (bytes : List ℕ) →
+        ⟦<RecordDecoder<'static> as Decoder>⟧.reader.takes bytes ≡ true }
 {}

@@ -23,7 +23,8 @@ pub(crate) enum Wanted {
 impl Wanted {
     /// Whether the head is what is wanted.
     pub(crate) fn is_met_by(self, head: &Head) -> bool
-        ensures met { (h : model.Head) → head_of head.now ≡ head_without h → Meets self h → result ≡ true }
+        ensures met { (h : model.Head) → head_of head.now ≡ head_without h → Meets self h →
+            result ≡ true }
         ensures only { IsTrue result → Meets self (head_of head.now) }
     {
         match (self, head) {

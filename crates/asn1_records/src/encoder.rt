@@ -60,7 +60,8 @@ impl RecordEncoder {
 
     /// The records that have been written, where no scope and no group is open and no call has failed.
     pub fn finish(self) -> Vec<Record>
-        ensures { (rs : List model.Record) → record_writer.wrote self (outermost rs) → Carries result.items rs }
+        ensures { (rs : List model.Record) → record_writer.wrote self (outermost rs) →
+            Carries result.items rs }
     {
         self.records
     }
@@ -78,7 +79,8 @@ impl RecordEncoder {
 
     /// Appends a record that holds no others to the innermost list.
     fn append(&mut self, added: Record) -> Result<(), EncodeError>
-        ensures { (r : model.Record) → record_of added ≡ record_without r → height r ≡ 0 → Writes record_writer self.old (r ∷ []) ⊤ self.new result }
+        ensures { (r : model.Record) → record_of added ≡ record_without r → height r ≡ 0 →
+            Writes record_writer self.old (r ∷ []) ⊤ self.new result }
     {
         if self.failed {
             return Err(EncodeError::Failed);
@@ -117,7 +119,8 @@ impl RecordEncoder {
 
     /// Opens a scope.
     fn open_scope(&mut self, head: Head) -> Result<(), EncodeError>
-        ensures { (h : model.Head) → head_of head ≡ head_without h → Opens record_writer self.old h self.new result }
+        ensures { (h : model.Head) → head_of head ≡ head_without h →
+            Opens record_writer self.old h self.new result }
     {
         if self.failed {
             return Err(EncodeError::Failed);

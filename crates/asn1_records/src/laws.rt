@@ -15,14 +15,16 @@ use asn1_enc::Encoder;
 
 /// A law of the encoder: types see it as having written what `record_writer` says, and it rejects nothing.
 pub fn the_encoder_rejects_nothing(encoder: &RecordEncoder)
-    ensures written { (w : Written) → ⟦<RecordEncoder as Encoder>⟧.writer.wrote encoder.now w ↔ record_writer.wrote encoder.now w }
+    ensures written { (w : Written) → ⟦<RecordEncoder as Encoder>⟧.writer.wrote encoder.now w ↔
+        record_writer.wrote encoder.now w }
     ensures rejects { (rs : List model.Record) → ¬ ⟦<RecordEncoder as Encoder>⟧.writer.rejects rs }
 {}
 
 /// Records that carry others carry them with what a SET or a SET OF holds in any order.
 #[tactic(auto, using(crate::proofs::Carrying::carries_in_any_order))]
 pub fn outputs_carry_records_in_any_order(output: &[Record])
-    ensures { (rs ss : List model.Record) → SameRecords rs ss → Carries output.now rs → Carries output.now ss }
+    ensures { (rs ss : List model.Record) → SameRecords rs ss → Carries output.now rs →
+        Carries output.now ss }
 {}
 
 /// Whether two heads are the same: of one kind, with one tag and one name.

@@ -14,7 +14,8 @@ use asn1_types::{Choice, FieldTable};
 
 /// A law of the table: the names of the components.
 pub fn components_have_their_names()
-    ensures { map (λ entry. entry.name) (table ⟦<Node as FieldTable>⟧.components) ≡ codes "label" ∷ codes "children" ∷ [] }
+    ensures { map (λ entry. entry.name) (table ⟦<Node as FieldTable>⟧.components) ≡ codes "label" ∷
+        codes "children" ∷ [] }
 {}
 
 /// A law of the tables: the names of the alternatives of a CHOICE.
@@ -27,7 +28,9 @@ pub fn alternatives_have_their_names()
 
 /// Whether two nodes have the same label, and equal children in the same order.
 pub fn nodes_are_compared_by_label_and_children(a: &Node, b: &Node) -> bool
-    ensures { result ≡ (option_eq string_eq (out-Node a.now).label (out-Node b.now).label && pointwise ⟦<Node as PartialEq>⟧.eq (out-Node a.now).children.items (out-Node b.now).children.items) }
+    ensures { result ≡ (option_eq string_eq (out-Node a.now).label (out-Node b.now).label &&
+        pointwise ⟦<Node as PartialEq>⟧.eq (out-Node a.now).children.items
+        (out-Node b.now).children.items) }
 {
     a == b
 }

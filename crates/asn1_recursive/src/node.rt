@@ -107,16 +107,19 @@ impl Decode for Node {
 
 /// What `Node { label: None, children: [Node { label: Some(label), children: [] }] }` is to every codec.
 pub fn node_records(parent: &Node, child: &Node, label: &Utf8String)
-    ensures { (out-Node parent.now).label ≡ None → (out-Node parent.now).children.items ≡ child.now ∷ [] →
+    ensures { (out-Node parent.now).label ≡ None →
+        (out-Node parent.now).children.items ≡ child.now ∷ [] →
         (out-Node child.now).label ≡ Some label.now → (out-Node child.now).children.items ≡ [] →
         own_records ⟦<Node as AsnType>⟧.meaning parent.now ≡
-        holding (sequence_head (universal 16) (lines ⟦<Node as FieldTable>⟧.components) (Some (codes "Node"))) (
-        mark (absent in_root (universal 12)) ∷
-        holding (sequence_of (universal 16) unconstrained (Some (codes "SEQUENCE_OF"))) (
-        holding (sequence_head (universal 16) (lines ⟦<Node as FieldTable>⟧.components) (Some (codes "Node"))) (
-        mark (present in_root (universal 12)) ∷
-        scalar (universal 12) unconstrained (Some (codes "UTF8String")) (units utf8 (string_bytes label.now)) ∷
-        holding (sequence_of (universal 16) unconstrained (Some (codes "SEQUENCE_OF"))) [] ∷ []) ∷ []) ∷ []) ∷ [] }
+        holding (sequence_head (universal 16) (lines ⟦<Node as FieldTable>⟧.components)
+        (Some (codes "Node"))) (mark (absent in_root (universal 12)) ∷
+        holding (sequence_of (universal 16) unconstrained (Some (codes "SEQUENCE_OF")))
+        (holding (sequence_head (universal 16) (lines ⟦<Node as FieldTable>⟧.components)
+        (Some (codes "Node"))) (mark (present in_root (universal 12)) ∷
+        scalar (universal 12) unconstrained (Some (codes "UTF8String"))
+        (units utf8 (string_bytes label.now)) ∷ holding
+        (sequence_of (universal 16) unconstrained (Some (codes "SEQUENCE_OF"))) [] ∷
+        []) ∷ []) ∷ []) ∷ [] }
 {}
 
 /// How many records are in one another in a node: two more than in its children, which are in a SEQUENCE and in a SEQUENCE OF.
@@ -124,7 +127,8 @@ pub fn node_records(parent: &Node, child: &Node, label: &Utf8String)
 #[tactic(auto, using(crate::proofs::NodeHeights::node_height))]
 pub fn node_is_two_higher_than_its_children(node: &Node)
     ensures height { highest (own_records ⟦<Node as AsnType>⟧.meaning node.now) ≡
-        highest (flat_map (own_records ⟦<Node as AsnType>⟧.meaning) (out-Node node.now).children.items) + 2 }
+        highest (flat_map (own_records ⟦<Node as AsnType>⟧.meaning)
+        (out-Node node.now).children.items) + 2 }
     ensures without_children { (out-Node node.now).children.items ≡ [] →
         highest (own_records ⟦<Node as AsnType>⟧.meaning node.now) ≡ 2 }
 {}

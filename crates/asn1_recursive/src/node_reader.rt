@@ -39,7 +39,8 @@ fn read_children<D: Decoder>(decoder: &mut D, bound: usize) -> Result<Vec<Node>,
         Moves D.reader decoder.old decoder.new (highest (flat_map (own_records node_meaning) vs))
         (flat_map (own_records node_meaning) vs, scope ∷ outer) ([], scope ∷ outer)
         (λ w. pointwise ⟦<Node as PartialEq>⟧.eq w.items vs ≡ true) result }
-    ensures same_allowance { OnOk result (D.reader.allowance decoder.new ≡ D.reader.allowance decoder.old) }
+    ensures same_allowance { OnOk result (D.reader.allowance decoder.new ≡
+        D.reader.allowance decoder.old) }
     ensures failing { OnErr result (D.reader.failed decoder.new ≡ true) }
 {
     let mut children = Vec::new(decoder.global());

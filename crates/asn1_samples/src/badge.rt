@@ -85,8 +85,10 @@ pub fn badge_can_stand_inside()
 
 /// The table is in canonical order, by the smallest tag of each component: BOOLEAN of the shape, INTEGER, VisibleString.
 pub fn badge_table_is_canonical()
-    ensures indices { map (λ entry. entry.index) (table ⟦<Badge as FieldTable>⟧.components) ≡ 2 ∷ 0 ∷ 1 ∷ [] }
-    ensures canonical { IsCanonical (map component_of (root_entries ⟦<Badge as FieldTable>⟧.components)) }
+    ensures indices { map (λ entry. entry.index) (table ⟦<Badge as FieldTable>⟧.components) ≡ 2 ∷
+        0 ∷ 1 ∷ [] }
+    ensures canonical { IsCanonical (map component_of
+        (root_entries ⟦<Badge as FieldTable>⟧.components)) }
 {}
 
 impl Encode for Badge {
@@ -139,8 +141,10 @@ impl DecodeSet for Badge {
     }
 
     fn from_fields(_alloc: Global, parts: Vec<BadgePart>) -> Result<Badge, DecodeError>
-        ensures made { MakesValue (all_components ⟦<Badge as FieldTable>⟧.components) badge_index IsBadgePart ⟦<Badge as PartialEq>⟧.eq parts.items result }
-        ensures fitting { OnOk result (EachFits (all_components ⟦<Badge as FieldTable>⟧.components) badge_index 0 parts.items) }
+        ensures made { MakesValue (all_components ⟦<Badge as FieldTable>⟧.components) badge_index
+            IsBadgePart ⟦<Badge as PartialEq>⟧.eq parts.items result }
+        ensures fitting { OnOk result (EachFits (all_components ⟦<Badge as FieldTable>⟧.components)
+            badge_index 0 parts.items) }
     {
         let mut id = None;
         let mut label = None;
@@ -175,19 +179,25 @@ impl Decode for Badge {
 /// What a badge is to every codec, its components in the order of the definition: `Badge { id: 7, label: Some("x"), shape:
 /// Ring(300) }` (`ring`), and `Badge { id: 7, label: None, shape: Dot }` (`dot`).
 pub fn badge_records(badge: &Badge, label: &VisibleString)
-    ensures ring { label.now ≡ codes "x" → badge.now ≡ record { id = 7; label = Some label.now; shape = Ring 300 } →
+    ensures ring { label.now ≡ codes "x" →
+        badge.now ≡ record { id = 7; label = Some label.now; shape = Ring 300 } →
         own_records ⟦<Badge as AsnType>⟧.meaning badge.now ≡
-        holding (set_head (universal 17) (lines ⟦<Badge as FieldTable>⟧.components) (Some (codes "Badge"))) (
-        scalar (universal 2) (values_of (Range (Some (pos 0)) (Some (pos 4294967295)))) (Some (codes "INTEGER")) (number (pos 7)) ∷
-        mark (present in_root (universal 26)) ∷
-        scalar (universal 26) unconstrained (Some (codes "VisibleString")) (units visible (codes "x")) ∷
-        holding (alternative_head (context 0) unconstrained (table_of ⟦<Shape as Choice>⟧.alternatives) (Some (codes "Shape"))) (
-        scalar (context 0) (values_of (Range (Some (pos 0)) (Some (pos 65535)))) (Some (codes "INTEGER")) (number (pos 300)) ∷ []) ∷ []) ∷ [] }
+        holding (set_head (universal 17) (lines ⟦<Badge as FieldTable>⟧.components)
+        (Some (codes "Badge"))) (scalar (universal 2)
+        (values_of (Range (Some (pos 0)) (Some (pos 4294967295)))) (Some (codes "INTEGER"))
+        (number (pos 7)) ∷ mark (present in_root (universal 26)) ∷
+        scalar (universal 26) unconstrained (Some (codes "VisibleString"))
+        (units visible (codes "x")) ∷ holding (alternative_head (context 0) unconstrained
+        (table_of ⟦<Shape as Choice>⟧.alternatives) (Some (codes "Shape"))) (scalar (context 0)
+        (values_of (Range (Some (pos 0)) (Some (pos 65535)))) (Some (codes "INTEGER"))
+        (number (pos 300)) ∷ []) ∷ []) ∷ [] }
     ensures dot { badge.now ≡ record { id = 7; label = None; shape = Dot tt } →
         own_records ⟦<Badge as AsnType>⟧.meaning badge.now ≡
-        holding (set_head (universal 17) (lines ⟦<Badge as FieldTable>⟧.components) (Some (codes "Badge"))) (
-        scalar (universal 2) (values_of (Range (Some (pos 0)) (Some (pos 4294967295)))) (Some (codes "INTEGER")) (number (pos 7)) ∷
-        mark (absent in_root (universal 26)) ∷
-        holding (alternative_head (universal 5) unconstrained (table_of ⟦<Shape as Choice>⟧.alternatives) (Some (codes "Shape"))) (
-        scalar (universal 5) unconstrained (Some (codes "NULL")) null ∷ []) ∷ []) ∷ [] }
+        holding (set_head (universal 17) (lines ⟦<Badge as FieldTable>⟧.components)
+        (Some (codes "Badge"))) (scalar (universal 2)
+        (values_of (Range (Some (pos 0)) (Some (pos 4294967295)))) (Some (codes "INTEGER"))
+        (number (pos 7)) ∷ mark (absent in_root (universal 26)) ∷
+        holding (alternative_head (universal 5) unconstrained
+        (table_of ⟦<Shape as Choice>⟧.alternatives) (Some (codes "Shape"))) (scalar (universal 5)
+        unconstrained (Some (codes "NULL")) null ∷ []) ∷ []) ∷ [] }
 {}

@@ -91,13 +91,13 @@ impl Decode for Color {
 
 /// What each color is to every codec.
 pub fn color_records(color: Color)
-    ensures red { color ≡ Red →
-        own_records ⟦<Color as AsnType>⟧.meaning color ≡
-        scalar (universal 10) unconstrained (Some (codes "Color")) (discriminant (labels_of ⟦<Color as Enumerated>⟧.enumeration) (pos 0)) ∷ [] }
-    ensures green { color ≡ Green →
-        own_records ⟦<Color as AsnType>⟧.meaning color ≡
-        scalar (universal 10) unconstrained (Some (codes "Color")) (discriminant (labels_of ⟦<Color as Enumerated>⟧.enumeration) (pos 1)) ∷ [] }
-    ensures blue { color ≡ Blue →
-        own_records ⟦<Color as AsnType>⟧.meaning color ≡
-        scalar (universal 10) unconstrained (Some (codes "Color")) (discriminant (labels_of ⟦<Color as Enumerated>⟧.enumeration) (pos 5)) ∷ [] }
+    ensures red { color ≡ Red → own_records ⟦<Color as AsnType>⟧.meaning color ≡
+        scalar (universal 10) unconstrained (Some (codes "Color"))
+        (discriminant (labels_of ⟦<Color as Enumerated>⟧.enumeration) (pos 0)) ∷ [] }
+    ensures green { color ≡ Green → own_records ⟦<Color as AsnType>⟧.meaning color ≡
+        scalar (universal 10) unconstrained (Some (codes "Color"))
+        (discriminant (labels_of ⟦<Color as Enumerated>⟧.enumeration) (pos 1)) ∷ [] }
+    ensures blue { color ≡ Blue → own_records ⟦<Color as AsnType>⟧.meaning color ≡
+        scalar (universal 10) unconstrained (Some (codes "Color"))
+        (discriminant (labels_of ⟦<Color as Enumerated>⟧.enumeration) (pos 5)) ∷ [] }
 {}

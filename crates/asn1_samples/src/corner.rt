@@ -122,6 +122,7 @@ impl DecodeChoice for Corner {
 pub fn corner_records(corner: &Corner)
     ensures { corner.now ≡ Left true →
         own_records ⟦<Corner as AsnType>⟧.meaning corner.now ≡
-        holding (alternative_head (universal 1) unconstrained (table_of ⟦<Corner as Choice>⟧.alternatives) (Some (codes "Corner"))) (
-        scalar (universal 1) unconstrained (Some (codes "BOOLEAN")) (truth true) ∷ []) ∷ [] }
+        holding (alternative_head (universal 1) unconstrained
+        (table_of ⟦<Corner as Choice>⟧.alternatives) (Some (codes "Corner"))) (scalar (universal 1)
+        unconstrained (Some (codes "BOOLEAN")) (truth true) ∷ []) ∷ [] }
 {}

@@ -102,15 +102,16 @@ impl DecodeFields for Envelope {
 
 /// What `Envelope { kind: 1, body }` is to every codec.
 pub fn envelope_records(envelope: &Envelope)
-    ensures { envelope.now.kind ≡ 1 →
-        own_records ⟦<Envelope as AsnType>⟧.meaning envelope.now ≡
-        holding (sequence_head (universal 16) (lines ⟦<Envelope as FieldTable>⟧.components) (Some (codes "Envelope"))) (
-        scalar (universal 2) (values_of (Range (Some (pos 0)) (Some (pos 255)))) (Some (codes "INTEGER")) (number (pos 1)) ∷
-        raw None envelope.now.body ∷ []) ∷ [] }
+    ensures { envelope.now.kind ≡ 1 → own_records ⟦<Envelope as AsnType>⟧.meaning envelope.now ≡
+        holding (sequence_head (universal 16) (lines ⟦<Envelope as FieldTable>⟧.components)
+        (Some (codes "Envelope"))) (scalar (universal 2)
+        (values_of (Range (Some (pos 0)) (Some (pos 255)))) (Some (codes "INTEGER"))
+        (number (pos 1)) ∷ raw None envelope.now.body ∷ []) ∷ [] }
 {}
 
 /// An envelope is valid if and only if the codec takes the bytes of its body as one value.
 pub fn envelope_is_valid(envelope: &Envelope)
     ensures { (takes : List ℕ → Bool) →
-        ⟦<Envelope as AsnType>⟧.meaning.IsValid takes envelope.now ↔ IsTrue (takes envelope.now.body) }
+        ⟦<Envelope as AsnType>⟧.meaning.IsValid takes envelope.now ↔
+        IsTrue (takes envelope.now.body) }
 {}

@@ -143,7 +143,9 @@ impl DecodeFields for Labelled {
 pub fn labelled_records(labelled: Labelled)
     ensures { labelled ≡ record { key = 1; note = 9 } →
         own_records ⟦<Labelled as AsnType>⟧.meaning labelled ≡
-        holding (sequence_head (universal 16) (lines ⟦<Labelled as FieldTable>⟧.components) (Some (codes "Labelled"))) (
-        scalar (context 0) (values_of (Range (Some (pos 0)) (Some (pos 255)))) (Some (codes "INTEGER")) (number (pos 1)) ∷
-        scalar (context 1) (values_of (Range (Some (pos 0)) (Some (pos 255)))) (Some (codes "INTEGER")) (number (pos 9)) ∷ []) ∷ [] }
+        holding (sequence_head (universal 16) (lines ⟦<Labelled as FieldTable>⟧.components)
+        (Some (codes "Labelled"))) (scalar (context 0)
+        (values_of (Range (Some (pos 0)) (Some (pos 255)))) (Some (codes "INTEGER"))
+        (number (pos 1)) ∷ scalar (context 1) (values_of (Range (Some (pos 0)) (Some (pos 255))))
+        (Some (codes "INTEGER")) (number (pos 9)) ∷ []) ∷ [] }
 {}

@@ -35,15 +35,22 @@ pub use validity::{
 
 /// A law of the tables: the names of the components, in the order of the table.
 pub fn components_have_their_names()
-    ensures person { component_names ⟦<Person as FieldTable>⟧.components ≡ codes "age" ∷ codes "name" ∷ [] }
+    ensures person { component_names ⟦<Person as FieldTable>⟧.components ≡ codes "age" ∷
+        codes "name" ∷ [] }
     ensures notice { component_names ⟦<Notice as FieldTable>⟧.components ≡
         codes "id" ∷ codes "urgent" ∷ codes "text" ∷ [] }
-    ensures profile { component_names ⟦<Profile as FieldTable>⟧.components ≡ codes "nick" ∷ codes "level" ∷ codes "color" ∷ codes "contact" ∷ [] }
-    ensures contact { component_names ⟦<Contact as FieldTable>⟧.components ≡ codes "phone" ∷ codes "mail" ∷ [] }
-    ensures visit { component_names ⟦<Visit as FieldTable>⟧.components ≡ codes "day" ∷ codes "contact" ∷ codes "note" ∷ [] }
-    ensures badge { component_names ⟦<Badge as FieldTable>⟧.components ≡ codes "shape" ∷ codes "id" ∷ codes "label" ∷ [] }
-    ensures envelope { component_names ⟦<Envelope as FieldTable>⟧.components ≡ codes "kind" ∷ codes "body" ∷ [] }
-    ensures labelled { component_names ⟦<Labelled as FieldTable>⟧.components ≡ codes "key" ∷ codes "note" ∷ [] }
+    ensures profile { component_names ⟦<Profile as FieldTable>⟧.components ≡ codes "nick" ∷
+        codes "level" ∷ codes "color" ∷ codes "contact" ∷ [] }
+    ensures contact { component_names ⟦<Contact as FieldTable>⟧.components ≡ codes "phone" ∷
+        codes "mail" ∷ [] }
+    ensures visit { component_names ⟦<Visit as FieldTable>⟧.components ≡ codes "day" ∷
+        codes "contact" ∷ codes "note" ∷ [] }
+    ensures badge { component_names ⟦<Badge as FieldTable>⟧.components ≡ codes "shape" ∷
+        codes "id" ∷ codes "label" ∷ [] }
+    ensures envelope { component_names ⟦<Envelope as FieldTable>⟧.components ≡ codes "kind" ∷
+        codes "body" ∷ [] }
+    ensures labelled { component_names ⟦<Labelled as FieldTable>⟧.components ≡ codes "key" ∷
+        codes "note" ∷ [] }
     ensures settings { component_names ⟦<Settings as FieldTable>⟧.components ≡ codes "entry" ∷ [] }
 {}
 
@@ -56,9 +63,12 @@ pub fn pairs_have_a_first_and_a_second<T: AsnType, U: AsnType>()
 
 /// A law of the tables: the names of the alternatives of a CHOICE, and those of the items of an ENUMERATED type.
 pub fn alternatives_and_items_have_their_names()
-    ensures shape { names_of (all_of ⟦<Shape as Choice>⟧.alternatives) ≡ codes "dot" ∷ codes "ring" ∷ codes "inner" ∷ [] }
-    ensures corner { names_of (all_of ⟦<Corner as Choice>⟧.alternatives) ≡ codes "left" ∷ codes "right" ∷ [] }
-    ensures color { names (items ⟦<Color as Enumerated>⟧.enumeration) ≡ codes "red" ∷ codes "green" ∷ codes "blue" ∷ [] }
+    ensures shape { names_of (all_of ⟦<Shape as Choice>⟧.alternatives) ≡ codes "dot" ∷
+        codes "ring" ∷ codes "inner" ∷ [] }
+    ensures corner { names_of (all_of ⟦<Corner as Choice>⟧.alternatives) ≡ codes "left" ∷
+        codes "right" ∷ [] }
+    ensures color { names (items ⟦<Color as Enumerated>⟧.enumeration) ≡ codes "red" ∷
+        codes "green" ∷ codes "blue" ∷ [] }
 {}
 
 /// A law of the extension markers: of the SEQUENCE and SET types a `Profile` and a `Visit` have one, and no other.
@@ -87,7 +97,8 @@ pub fn values_are_compared_by_all_that_they_are()
 
 /// Whether two persons have the same age and the same name.
 pub fn persons_are_compared_by_age_and_name(a: &Person, b: &Person) -> bool
-    ensures { IsTrue result ↔ ((a.now.age ≡ b.now.age) × (string_bytes a.now.name ≡ string_bytes b.now.name)) }
+    ensures { IsTrue result ↔ ((a.now.age ≡ b.now.age) ×
+        (string_bytes a.now.name ≡ string_bytes b.now.name)) }
 {
     a == b
 }
@@ -113,14 +124,18 @@ pub fn pairs_are_compared_by_their_components<T: PartialEq, U: PartialEq>(
 
 /// Whether two profiles have the same nick, level, color and contact.
 pub fn profiles_are_compared_by_their_components(a: &Profile, b: &Profile) -> bool
-    ensures { result ≡ (option_eq string_eq a.now.nick b.now.nick && (nat_eq a.now.level b.now.level && (⟦<Color as PartialEq>⟧.eq a.now.color b.now.color && option_eq ⟦<Contact as PartialEq>⟧.eq a.now.contact b.now.contact))) }
+    ensures { result ≡ (option_eq string_eq a.now.nick b.now.nick &&
+        (nat_eq a.now.level b.now.level && (⟦<Color as PartialEq>⟧.eq a.now.color b.now.color &&
+        option_eq ⟦<Contact as PartialEq>⟧.eq a.now.contact b.now.contact))) }
 {
     a == b
 }
 
 /// Whether two visits have the same day, contact and note.
 pub fn visits_are_compared_by_their_components(a: &Visit, b: &Visit) -> bool
-    ensures { result ≡ (nat_eq a.now.day b.now.day && (option_eq ⟦<Contact as PartialEq>⟧.eq a.now.contact b.now.contact && option_eq string_eq a.now.note b.now.note)) }
+    ensures { result ≡ (nat_eq a.now.day b.now.day &&
+        (option_eq ⟦<Contact as PartialEq>⟧.eq a.now.contact b.now.contact && option_eq string_eq
+        a.now.note b.now.note)) }
 {
     a == b
 }

@@ -68,7 +68,8 @@ pub fn pair_can_stand_inside<T: AsnType, U: AsnType>()
 
 /// A `Pair` is valid if and only if its first is, and its second where there is one.
 pub fn pair_is_valid<T: AsnType, U: AsnType>(pair: &Pair<T, U>)
-    ensures { (takes : List ℕ → Bool) → ⟦<Pair<T, U> as AsnType>⟧.meaning.IsValid takes pair.now ↔
+    ensures { (takes : List ℕ → Bool) →
+        ⟦<Pair<T, U> as AsnType>⟧.meaning.IsValid takes pair.now ↔
         (T.meaning.IsValid takes pair.now.first × IfSome pair.now.second (U.meaning.IsValid takes)) }
 {}
 

@@ -107,7 +107,8 @@ impl DecodeFields for Person {
 pub fn person_records(person: &Person)
     ensures { person.now.age ≡ pos 30 → string_bytes person.now.name ≡ codes "Ann" →
         own_records ⟦<Person as AsnType>⟧.meaning person.now ≡
-        holding (sequence_head (universal 16) (lines ⟦<Person as FieldTable>⟧.components) (Some (codes "Person"))) (
-        scalar (universal 2) unconstrained (Some (codes "INTEGER")) (number (pos 30)) ∷
-        scalar (universal 12) unconstrained (Some (codes "UTF8String")) (units utf8 (codes "Ann")) ∷ []) ∷ [] }
+        holding (sequence_head (universal 16) (lines ⟦<Person as FieldTable>⟧.components)
+        (Some (codes "Person"))) (scalar (universal 2) unconstrained (Some (codes "INTEGER"))
+        (number (pos 30)) ∷ scalar (universal 12) unconstrained (Some (codes "UTF8String"))
+        (units utf8 (codes "Ann")) ∷ []) ∷ [] }
 {}

@@ -60,5 +60,6 @@ impl Decode for Plate {
 pub fn plate_records(plate: &Plate)
     ensures { plate.now.0 ≡ codes "AB" →
         own_records ⟦<Plate as AsnType>⟧.meaning plate.now ≡
-        scalar (universal 26) (characters_of (codes "ABC")) (Some (codes "Plate")) (units visible (codes "AB")) ∷ [] }
+        scalar (universal 26) (characters_of (codes "ABC")) (Some (codes "Plate"))
+        (units visible (codes "AB")) ∷ [] }
 {}

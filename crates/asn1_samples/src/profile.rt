@@ -158,30 +158,39 @@ impl DecodeFields for Profile {
 pub fn profile_records(profile: &Profile, nick: &Utf8String, mail: &Ia5String)
     ensures empty { profile.now ≡ record { nick = None; level = 7; color = Red; contact = None } →
         own_records ⟦<Profile as AsnType>⟧.meaning profile.now ≡
-        holding (sequence_head (universal 16) (lines ⟦<Profile as FieldTable>⟧.components) (Some (codes "Profile"))) (
-        mark (absent in_root (context 0)) ∷
-        scalar (context 1) (values_of (Range (Some (pos 0)) (Some (pos 255)))) (Some (codes "INTEGER")) (number (pos 7)) ∷
-        mark (absent in_root (context 2)) ∷
+        holding (sequence_head (universal 16) (lines ⟦<Profile as FieldTable>⟧.components)
+        (Some (codes "Profile"))) (mark (absent in_root (context 0)) ∷
+        scalar (context 1) (values_of (Range (Some (pos 0)) (Some (pos 255))))
+        (Some (codes "INTEGER")) (number (pos 7)) ∷ mark (absent in_root (context 2)) ∷
         mark group_absent ∷ []) ∷ [] }
-    ensures empty_contact { profile.now ≡ record { nick = None; level = 7; color = Red; contact = Some (record { phone = None; mail = None }) } →
-        own_records ⟦<Profile as AsnType>⟧.meaning profile.now ≡
-        holding (sequence_head (universal 16) (lines ⟦<Profile as FieldTable>⟧.components) (Some (codes "Profile"))) (
-        mark (absent in_root (context 0)) ∷
-        scalar (context 1) (values_of (Range (Some (pos 0)) (Some (pos 255)))) (Some (codes "INTEGER")) (number (pos 7)) ∷
-        mark (absent in_root (context 2)) ∷
-        mark group_absent ∷ []) ∷ [] }
+    ensures empty_contact { profile.now ≡ record {
+      nick = None;
+      level = 7;
+      color = Red;
+      contact =
+          Some (record { phone = None; mail = None });
+    } → own_records ⟦<Profile as AsnType>⟧.meaning profile.now ≡ holding (sequence_head (universal 16)
+        (lines ⟦<Profile as FieldTable>⟧.components) (Some (codes "Profile"))) (mark
+        (absent in_root (context 0)) ∷ scalar (context 1)
+        (values_of (Range (Some (pos 0)) (Some (pos 255)))) (Some (codes "INTEGER"))
+        (number (pos 7)) ∷ mark (absent in_root (context 2)) ∷ mark group_absent ∷ []) ∷ [] }
     ensures full { string_bytes nick.now ≡ codes "Al" → mail.now ≡ codes "a@b" →
-        profile.now ≡ record { nick = Some nick.now; level = 255; color = Blue; contact = Some (record { phone = None; mail = Some mail.now }) } →
-        own_records ⟦<Profile as AsnType>⟧.meaning profile.now ≡
-        holding (sequence_head (universal 16) (lines ⟦<Profile as FieldTable>⟧.components) (Some (codes "Profile"))) (
-        mark (present in_root (context 0)) ∷
-        scalar (context 0) unconstrained (Some (codes "UTF8String")) (units utf8 (codes "Al")) ∷
-        scalar (context 1) (values_of (Range (Some (pos 0)) (Some (pos 255)))) (Some (codes "INTEGER")) (number (pos 255)) ∷
-        mark (present in_root (context 2)) ∷
-        scalar (context 2) unconstrained (Some (codes "Color")) (discriminant (labels_of ⟦<Color as asn1_types::Enumerated>⟧.enumeration) (pos 5)) ∷
+        profile.now ≡ record {
+          nick = Some nick.now;
+          level = 255;
+          color = Blue;
+          contact = Some
+              (record { phone = None; mail = Some mail.now });
+        } → own_records ⟦<Profile as AsnType>⟧.meaning profile.now ≡ holding (sequence_head (universal 16)
+        (lines ⟦<Profile as FieldTable>⟧.components) (Some (codes "Profile"))) (mark
+        (present in_root (context 0)) ∷ scalar (context 0) unconstrained (Some (codes "UTF8String"))
+        (units utf8 (codes "Al")) ∷ scalar (context 1)
+        (values_of (Range (Some (pos 0)) (Some (pos 255)))) (Some (codes "INTEGER"))
+        (number (pos 255)) ∷ mark (present in_root (context 2)) ∷
+        scalar (context 2) unconstrained (Some (codes "Color"))
+        (discriminant (labels_of ⟦<Color as asn1_types::Enumerated>⟧.enumeration) (pos 5)) ∷
         mark (group_start (lines ⟦<Contact as FieldTable>⟧.components)) ∷
-        mark (absent in_root (context 3)) ∷
-        mark (present in_root (context 4)) ∷
+        mark (absent in_root (context 3)) ∷ mark (present in_root (context 4)) ∷
         scalar (context 4) unconstrained (Some (codes "IA5String")) (units ia5 (codes "a@b")) ∷
         mark group_end ∷ []) ∷ [] }
 {}

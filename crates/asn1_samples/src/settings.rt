@@ -110,13 +110,15 @@ impl DecodeFields for Settings {
 pub fn settings_records(settings: &Settings)
     ensures default { settings.now.entry ≡ record { key = 1; note = 9 } →
         own_records ⟦<Settings as AsnType>⟧.meaning settings.now ≡
-        holding (sequence_head (universal 16) (lines ⟦<Settings as FieldTable>⟧.components) (Some (codes "Settings"))) (
-        mark (absent in_root (context 0)) ∷ []) ∷ [] }
+        holding (sequence_head (universal 16) (lines ⟦<Settings as FieldTable>⟧.components)
+        (Some (codes "Settings"))) (mark (absent in_root (context 0)) ∷ []) ∷ [] }
     ensures another { settings.now.entry ≡ record { key = 2; note = 9 } →
         own_records ⟦<Settings as AsnType>⟧.meaning settings.now ≡
-        holding (sequence_head (universal 16) (lines ⟦<Settings as FieldTable>⟧.components) (Some (codes "Settings"))) (
-        mark (present in_root (context 0)) ∷
-        holding (sequence_head (context 0) (lines ⟦<Labelled as FieldTable>⟧.components) (Some (codes "Labelled"))) (
-        scalar (context 0) (values_of (Range (Some (pos 0)) (Some (pos 255)))) (Some (codes "INTEGER")) (number (pos 2)) ∷
-        scalar (context 1) (values_of (Range (Some (pos 0)) (Some (pos 255)))) (Some (codes "INTEGER")) (number (pos 9)) ∷ []) ∷ []) ∷ [] }
+        holding (sequence_head (universal 16) (lines ⟦<Settings as FieldTable>⟧.components)
+        (Some (codes "Settings"))) (mark (present in_root (context 0)) ∷
+        holding (sequence_head (context 0) (lines ⟦<Labelled as FieldTable>⟧.components)
+        (Some (codes "Labelled"))) (scalar (context 0)
+        (values_of (Range (Some (pos 0)) (Some (pos 255)))) (Some (codes "INTEGER"))
+        (number (pos 2)) ∷ scalar (context 1) (values_of (Range (Some (pos 0)) (Some (pos 255))))
+        (Some (codes "INTEGER")) (number (pos 9)) ∷ []) ∷ []) ∷ [] }
 {}

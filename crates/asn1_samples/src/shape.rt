@@ -140,11 +140,15 @@ impl DecodeChoice for Shape {
 pub fn shape_records(shape: &Shape)
     ensures ring { shape.now ≡ Ring 300 →
         own_records ⟦<Shape as AsnType>⟧.meaning shape.now ≡
-        holding (alternative_head (context 0) unconstrained (table_of ⟦<Shape as Choice>⟧.alternatives) (Some (codes "Shape"))) (
-        scalar (context 0) (values_of (Range (Some (pos 0)) (Some (pos 65535)))) (Some (codes "INTEGER")) (number (pos 300)) ∷ []) ∷ [] }
+        holding (alternative_head (context 0) unconstrained
+        (table_of ⟦<Shape as Choice>⟧.alternatives) (Some (codes "Shape"))) (scalar (context 0)
+        (values_of (Range (Some (pos 0)) (Some (pos 65535)))) (Some (codes "INTEGER"))
+        (number (pos 300)) ∷ []) ∷ [] }
     ensures inner { shape.now ≡ Inner (corner.Left true) →
         own_records ⟦<Shape as AsnType>⟧.meaning shape.now ≡
-        holding (alternative_head (universal 1) unconstrained (table_of ⟦<Shape as Choice>⟧.alternatives) (Some (codes "Shape"))) (
-        holding (alternative_head (universal 1) unconstrained (table_of ⟦<Corner as Choice>⟧.alternatives) (Some (codes "Corner"))) (
-        scalar (universal 1) unconstrained (Some (codes "BOOLEAN")) (truth true) ∷ []) ∷ []) ∷ [] }
+        holding (alternative_head (universal 1) unconstrained
+        (table_of ⟦<Shape as Choice>⟧.alternatives) (Some (codes "Shape"))) (holding
+        (alternative_head (universal 1) unconstrained (table_of ⟦<Corner as Choice>⟧.alternatives)
+        (Some (codes "Corner"))) (scalar (universal 1) unconstrained (Some (codes "BOOLEAN"))
+        (truth true) ∷ []) ∷ []) ∷ [] }
 {}

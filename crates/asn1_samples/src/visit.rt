@@ -136,26 +136,32 @@ impl DecodeFields for Visit {
 /// group's last component is absent, where the note is there (`noted`), and where it is absent too (`bare`).
 pub fn visit_records(visit: &Visit, phone: &NumericString, note: &Utf8String)
     ensures noted { phone.now ≡ codes "12" → string_bytes note.now ≡ codes "ok" →
-        visit.now ≡ record { day = 7; contact = Some (record { phone = Some phone.now; mail = None }); note = Some note.now } →
-        own_records ⟦<Visit as AsnType>⟧.meaning visit.now ≡
-        holding (sequence_head (universal 16) (lines ⟦<Visit as FieldTable>⟧.components) (Some (codes "Visit"))) (
-        scalar (context 0) (values_of (Range (Some (pos 0)) (Some (pos 65535)))) (Some (codes "INTEGER")) (number (pos 7)) ∷
-        mark (group_start (lines ⟦<Contact as FieldTable>⟧.components)) ∷
-        mark (present in_root (context 3)) ∷
-        scalar (context 3) unconstrained (Some (codes "NumericString")) (units numeric (codes "12")) ∷
-        mark (absent in_root (context 4)) ∷
-        mark group_end ∷
-        mark (present in_additions (context 5)) ∷
-        scalar (context 5) unconstrained (Some (codes "UTF8String")) (units utf8 (codes "ok")) ∷ []) ∷ [] }
+        visit.now ≡ record {
+          day = 7;
+          contact = Some (record
+              { phone = Some phone.now; mail = None });
+          note = Some note.now;
+        } → own_records ⟦<Visit as AsnType>⟧.meaning visit.now ≡ holding (sequence_head (universal 16)
+        (lines ⟦<Visit as FieldTable>⟧.components) (Some (codes "Visit"))) (scalar (context 0)
+        (values_of (Range (Some (pos 0)) (Some (pos 65535)))) (Some (codes "INTEGER"))
+        (number (pos 7)) ∷ mark (group_start (lines ⟦<Contact as FieldTable>⟧.components)) ∷
+        mark (present in_root (context 3)) ∷ scalar (context 3) unconstrained
+        (Some (codes "NumericString")) (units numeric (codes "12")) ∷
+        mark (absent in_root (context 4)) ∷ mark group_end ∷
+        mark (present in_additions (context 5)) ∷ scalar (context 5) unconstrained
+        (Some (codes "UTF8String")) (units utf8 (codes "ok")) ∷ []) ∷ [] }
     ensures bare { phone.now ≡ codes "12" →
-        visit.now ≡ record { day = 7; contact = Some (record { phone = Some phone.now; mail = None }); note = None } →
-        own_records ⟦<Visit as AsnType>⟧.meaning visit.now ≡
-        holding (sequence_head (universal 16) (lines ⟦<Visit as FieldTable>⟧.components) (Some (codes "Visit"))) (
-        scalar (context 0) (values_of (Range (Some (pos 0)) (Some (pos 65535)))) (Some (codes "INTEGER")) (number (pos 7)) ∷
-        mark (group_start (lines ⟦<Contact as FieldTable>⟧.components)) ∷
-        mark (present in_root (context 3)) ∷
-        scalar (context 3) unconstrained (Some (codes "NumericString")) (units numeric (codes "12")) ∷
-        mark (absent in_root (context 4)) ∷
-        mark group_end ∷
+        visit.now ≡ record {
+          day = 7;
+          contact = Some (record
+              { phone = Some phone.now; mail = None });
+          note = None;
+        } → own_records ⟦<Visit as AsnType>⟧.meaning visit.now ≡ holding (sequence_head (universal 16)
+        (lines ⟦<Visit as FieldTable>⟧.components) (Some (codes "Visit"))) (scalar (context 0)
+        (values_of (Range (Some (pos 0)) (Some (pos 65535)))) (Some (codes "INTEGER"))
+        (number (pos 7)) ∷ mark (group_start (lines ⟦<Contact as FieldTable>⟧.components)) ∷
+        mark (present in_root (context 3)) ∷ scalar (context 3) unconstrained
+        (Some (codes "NumericString")) (units numeric (codes "12")) ∷
+        mark (absent in_root (context 4)) ∷ mark group_end ∷
         mark (absent in_additions (context 5)) ∷ []) ∷ [] }
 {}

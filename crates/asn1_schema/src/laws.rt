@@ -17,10 +17,14 @@ use asn1_types::AsnType;
 /// A law of the derived equality and clone: two errors are equal where the same of the two calls failed, with equal errors, and
 /// a clone is the same.
 pub fn errors_are_compared_by_the_error_inside()
-    ensures writing { (e f : _) → ⟦<RoundTripError as PartialEq>⟧.eq (Writing e) (Writing f) ≡ ⟦<EncodeError as PartialEq>⟧.eq e f }
-    ensures reading { (e f : _) → ⟦<RoundTripError as PartialEq>⟧.eq (Reading e) (Reading f) ≡ ⟦<DecodeError as PartialEq>⟧.eq e f }
-    ensures apart { (e : _) (f : _) → (⟦<RoundTripError as PartialEq>⟧.eq (Writing e) (Reading f) ≡ false) × (⟦<RoundTripError as PartialEq>⟧.eq (Reading f) (Writing e) ≡ false) }
-    ensures clones { ClonesAll ⟦<RoundTripError as Clone>⟧.is_clone ⟦<RoundTripError as Clone>⟧.is_infallible }
+    ensures writing { (e f : _) → ⟦<RoundTripError as PartialEq>⟧.eq (Writing e) (Writing f) ≡
+        ⟦<EncodeError as PartialEq>⟧.eq e f }
+    ensures reading { (e f : _) → ⟦<RoundTripError as PartialEq>⟧.eq (Reading e) (Reading f) ≡
+        ⟦<DecodeError as PartialEq>⟧.eq e f }
+    ensures apart { (e : _) (f : _) → (⟦<RoundTripError as PartialEq>⟧.eq (Writing e) (Reading f) ≡
+        false) × (⟦<RoundTripError as PartialEq>⟧.eq (Reading f) (Writing e) ≡ false) }
+    ensures clones { ClonesAll ⟦<RoundTripError as Clone>⟧.is_clone
+        ⟦<RoundTripError as Clone>⟧.is_infallible }
 {}
 
 /// A law of the names that are handed on: each kind of string has its tag (X.680, 8.4, table 1).

@@ -25,7 +25,8 @@ pub trait Rules {
     /// [`EncodeError::Depth`] only where the value's records are higher than the depth, [`EncodeError::Custom`] only where the
     /// codec rejects them, and else [`EncodeError::Memory`].
     fn write_value<T: Encode>(&self, value: &T, depth: usize) -> Result<Self::Output, EncodeError>
-        ensures { WritesWhole format (own_records T.meaning value.now) (T.meaning.IsOfType value.now) depth result };
+        ensures { WritesWhole format (own_records T.meaning value.now)
+            (T.meaning.IsOfType value.now) depth result };
 
     /// Reads a value, with at most so many scopes in one another.
     ///
@@ -34,8 +35,8 @@ pub trait Rules {
     /// are higher than the depth, and else [`DecodeError::Memory`]. Where it carries records that the type refuses, the error of
     /// the type, or one of these two in the same way. Of other outputs nothing is said.
     fn read_value<T: Decode>(&self, output: &Self::Output, depth: usize) -> Result<T, DecodeError>
-        ensures read { (v : T) → CanStandInside T.meaning → T.meaning.IsOfType v → T.meaning.IsValid format.takes v →
-            format.carries output.now (own_records T.meaning v) →
+        ensures read { (v : T) → CanStandInside T.meaning → T.meaning.IsOfType v →
+            T.meaning.IsValid format.takes v → format.carries output.now (own_records T.meaning v) →
             ReadsWhole (highest (own_records T.meaning v)) depth (λ w. T.eq w v ≡ true) result }
         ensures refuses { (rs : List Record) (error : _) →
             T.refused format.takes T.meaning.tag T.meaning.constraints rs error →

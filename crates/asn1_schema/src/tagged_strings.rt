@@ -25,39 +25,43 @@ pub type ObjectDescriptor = Implicit<tag::OBJECT_DESCRIPTOR, GraphicString>;
 /// under whatever tag, constraints and name it is written (`under`).
 pub fn universal_string_is_a_tagged_text(text: &UniversalString)
     ensures can_stand_inside { CanStandInside ⟦<UniversalString as AsnType>⟧.meaning }
-    ensures valid { (takes : List ℕ → Bool) → ⟦<UniversalString as AsnType>⟧.meaning.IsValid takes text.now }
-    ensures own { IsOwnContent ⟦<UniversalString as AsnType>⟧.meaning text.now 28 (codes "UTF8String")
-        (units utf8 (string_bytes text.now.value)) }
-    ensures under { IsContentUnderEachTag ⟦<UniversalString as AsnType>⟧.meaning text.now (codes "UTF8String")
-        (units utf8 (string_bytes text.now.value)) }
+    ensures valid { (takes : List ℕ → Bool) →
+        ⟦<UniversalString as AsnType>⟧.meaning.IsValid takes text.now }
+    ensures own { IsOwnContent ⟦<UniversalString as AsnType>⟧.meaning text.now 28
+        (codes "UTF8String") (units utf8 (string_bytes text.now.value)) }
+    ensures under { IsContentUnderEachTag ⟦<UniversalString as AsnType>⟧.meaning text.now
+        (codes "UTF8String") (units utf8 (string_bytes text.now.value)) }
 {}
 
 /// A law: the same of a UTCTime, whose tag is Universal 23, and whose text is a VisibleString.
 pub fn utc_time_is_a_tagged_text(time: &UtcTime)
     ensures can_stand_inside { CanStandInside ⟦<UtcTime as AsnType>⟧.meaning }
-    ensures valid { (takes : List ℕ → Bool) → ⟦<UtcTime as AsnType>⟧.meaning.IsValid takes time.now }
+    ensures valid { (takes : List ℕ → Bool) →
+        ⟦<UtcTime as AsnType>⟧.meaning.IsValid takes time.now }
     ensures own { IsOwnContent ⟦<UtcTime as AsnType>⟧.meaning time.now 23 (codes "VisibleString")
         (units visible time.now.value) }
-    ensures under { IsContentUnderEachTag ⟦<UtcTime as AsnType>⟧.meaning time.now (codes "VisibleString")
-        (units visible time.now.value) }
+    ensures under { IsContentUnderEachTag ⟦<UtcTime as AsnType>⟧.meaning time.now
+        (codes "VisibleString") (units visible time.now.value) }
 {}
 
 /// A law: the same of a GeneralizedTime, whose tag is Universal 24.
 pub fn generalized_time_is_a_tagged_text(time: &GeneralizedTime)
     ensures can_stand_inside { CanStandInside ⟦<GeneralizedTime as AsnType>⟧.meaning }
-    ensures valid { (takes : List ℕ → Bool) → ⟦<GeneralizedTime as AsnType>⟧.meaning.IsValid takes time.now }
-    ensures own { IsOwnContent ⟦<GeneralizedTime as AsnType>⟧.meaning time.now 24 (codes "VisibleString")
-        (units visible time.now.value) }
-    ensures under { IsContentUnderEachTag ⟦<GeneralizedTime as AsnType>⟧.meaning time.now (codes "VisibleString")
-        (units visible time.now.value) }
+    ensures valid { (takes : List ℕ → Bool) →
+        ⟦<GeneralizedTime as AsnType>⟧.meaning.IsValid takes time.now }
+    ensures own { IsOwnContent ⟦<GeneralizedTime as AsnType>⟧.meaning time.now 24
+        (codes "VisibleString") (units visible time.now.value) }
+    ensures under { IsContentUnderEachTag ⟦<GeneralizedTime as AsnType>⟧.meaning time.now
+        (codes "VisibleString") (units visible time.now.value) }
 {}
 
 /// A law: the same of an ObjectDescriptor, whose tag is Universal 7, and whose text is a GraphicString.
 pub fn object_descriptor_is_a_tagged_text(text: &ObjectDescriptor)
     ensures can_stand_inside { CanStandInside ⟦<ObjectDescriptor as AsnType>⟧.meaning }
-    ensures valid { (takes : List ℕ → Bool) → ⟦<ObjectDescriptor as AsnType>⟧.meaning.IsValid takes text.now }
-    ensures own { IsOwnContent ⟦<ObjectDescriptor as AsnType>⟧.meaning text.now 7 (codes "GraphicString")
-        (units graphic text.now.value) }
-    ensures under { IsContentUnderEachTag ⟦<ObjectDescriptor as AsnType>⟧.meaning text.now (codes "GraphicString")
-        (units graphic text.now.value) }
+    ensures valid { (takes : List ℕ → Bool) →
+        ⟦<ObjectDescriptor as AsnType>⟧.meaning.IsValid takes text.now }
+    ensures own { IsOwnContent ⟦<ObjectDescriptor as AsnType>⟧.meaning text.now 7
+        (codes "GraphicString") (units graphic text.now.value) }
+    ensures under { IsContentUnderEachTag ⟦<ObjectDescriptor as AsnType>⟧.meaning text.now
+        (codes "GraphicString") (units graphic text.now.value) }
 {}

@@ -44,27 +44,38 @@ fn same_tag_twice()
 /// The records of a value of each.
 fn records()
     ensures corner { own_records ⟦<Corner as AsnType>⟧.meaning (corner.Left true) ≡
-        holding (chosen (universal 1) unconstrained (table_of ⟦<Corner as asn1_choices::Choice>⟧.alternatives) (Some (codes "Corner"))) (
-        scalar (universal 1) unconstrained (Some (codes "BOOLEAN")) (truth true) ∷ []) ∷ [] }
+        holding (chosen (universal 1) unconstrained (table_of
+        ⟦<Corner as asn1_choices::Choice>⟧.alternatives) (Some
+        (codes "Corner"))) (scalar (universal 1) unconstrained (Some (codes "BOOLEAN")) (truth
+        true) ∷ []) ∷ [] }
     ensures ring { own_records ⟦<Shape as AsnType>⟧.meaning (shape.Ring 7) ≡
-        holding (chosen (context 0) unconstrained (table_of ⟦<Shape as asn1_choices::Choice>⟧.alternatives) (Some (codes "Shape"))) (
-        scalar (context 0) (values_of (Range (Some (pos 0)) (Some (pos 65535)))) (Some (codes "INTEGER")) (number (pos 7)) ∷ []) ∷ [] }
+        holding (chosen (context 0) unconstrained (table_of
+        ⟦<Shape as asn1_choices::Choice>⟧.alternatives) (Some (codes "Shape"))) (scalar (context
+        0) (values_of (Range (Some (pos 0)) (Some (pos 65535)))) (Some (codes "INTEGER")) (number
+        (pos 7)) ∷ []) ∷ [] }
     ensures inner { own_records ⟦<Shape as AsnType>⟧.meaning (shape.Inner (corner.Left true)) ≡
-        holding (chosen (universal 1) unconstrained (table_of ⟦<Shape as asn1_choices::Choice>⟧.alternatives) (Some (codes "Shape"))) (
-        holding (chosen (universal 1) unconstrained (table_of ⟦<Corner as asn1_choices::Choice>⟧.alternatives) (Some (codes "Corner"))) (
-        scalar (universal 1) unconstrained (Some (codes "BOOLEAN")) (truth true) ∷ []) ∷ []) ∷ [] }
+        holding (chosen (universal 1) unconstrained (table_of
+        ⟦<Shape as asn1_choices::Choice>⟧.alternatives) (Some (codes "Shape"))) (holding (chosen
+        (universal 1) unconstrained (table_of ⟦<Corner as asn1_choices::Choice>⟧.alternatives)
+        (Some (codes "Corner"))) (scalar (universal 1) unconstrained (Some (codes "BOOLEAN"))
+        (truth true) ∷ []) ∷ []) ∷ [] }
     ensures later { own_records ⟦<Reply as AsnType>⟧.meaning (reply.Later 9) ≡
-        holding (chosen (context 0) unconstrained (table_of ⟦<Reply as asn1_choices::Choice>⟧.alternatives) (Some (codes "Reply"))) (
-        scalar (context 0) (values_of (Range (Some (pos 0)) (Some (pos 255)))) (Some (codes "INTEGER")) (number (pos 9)) ∷ []) ∷ [] }
+        holding (chosen (context 0) unconstrained (table_of
+        ⟦<Reply as asn1_choices::Choice>⟧.alternatives) (Some (codes "Reply"))) (scalar (context
+        0) (values_of (Range (Some (pos 0)) (Some (pos 255)))) (Some (codes "INTEGER")) (number
+        (pos 9)) ∷ []) ∷ [] }
 {}
 
 /// `inner : flag : TRUE`, whose inner value is under an explicit tag.
 fn nested(inner: Box<Nested>)
-    ensures { inner.value ≡ Flag true → own_records ⟦<Nested as AsnType>⟧.meaning (Inner inner) ≡
-        holding (chosen (context 0) unconstrained (table_of ⟦<Nested as asn1_choices::Choice>⟧.alternatives) (Some (codes "Nested"))) (
-        holding (prefix (context 0) (Some (codes "Nested"))) (
-        holding (chosen (universal 1) unconstrained (table_of ⟦<Nested as asn1_choices::Choice>⟧.alternatives) (Some (codes "Nested"))) (
-        scalar (universal 1) unconstrained (Some (codes "BOOLEAN")) (truth true) ∷ []) ∷ []) ∷ []) ∷ [] }
+    ensures { inner.value ≡ Flag true →
+        own_records ⟦<Nested as AsnType>⟧.meaning (Inner inner) ≡
+        holding (chosen (context 0) unconstrained (table_of
+        ⟦<Nested as asn1_choices::Choice>⟧.alternatives) (Some (codes "Nested"))) (holding (prefix
+        (context 0) (Some (codes "Nested"))) (holding
+        (chosen (universal 1) unconstrained (table_of ⟦<Nested as asn1_choices::Choice>⟧.alternatives) (Some (codes
+        "Nested"))) (scalar (universal 1) unconstrained (Some (codes
+        "BOOLEAN")) (truth true) ∷ []) ∷ []) ∷ []) ∷ [] }
 {}
 
 /// The table beside a chosen alternative: the names and tags of those in the root, and of those after the extension marker.
@@ -79,9 +90,14 @@ fn table_of_replies()
 
 /// The constraint of an alternative's place counts those of the root, and is extensible where there is a marker.
 fn places()
-    ensures closed { variance_of ⟦<Corner as Choice>⟧.alternatives ≡ values_of (Range (Some (pos 0)) (Some (pos 1))) }
+    ensures closed { variance_of ⟦<Corner as Choice>⟧.alternatives ≡
+        values_of (Range (Some (pos 0)) (Some (pos 1))) }
     ensures extensible { (variance_of ⟦<Reply as Choice>⟧.alternatives).value ≡
-        Some (record { root = record { bound = Range (Some (pos 0)) (Some (pos 1)) }; additions = Some [] }) }
+        Some (record {
+          root = record { bound = Range (Some (pos 0)) (Some (pos 1)) };
+          additions =
+              Some [];
+        }) }
 {}
 
 /// A reply can be inside other types, and each is valid, also one after the extension marker.
@@ -89,7 +105,8 @@ fn replies()
     ensures can_stand_inside { CanStandInside ⟦<Reply as AsnType>⟧.meaning }
     ensures accepted { (takes : List ℕ → Bool) (b : Bool) →
         ⟦<Reply as AsnType>⟧.meaning.IsValid takes (reply.Accepted b) }
-    ensures refused { (takes : List ℕ → Bool) → ⟦<Reply as AsnType>⟧.meaning.IsValid takes reply.Refused }
+    ensures refused { (takes : List ℕ → Bool) →
+        ⟦<Reply as AsnType>⟧.meaning.IsValid takes reply.Refused }
     ensures later { (takes : List ℕ → Bool) (n : ℕ) →
         ⟦<Reply as AsnType>⟧.meaning.IsValid takes (reply.Later n) }
 {}

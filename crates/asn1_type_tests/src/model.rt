@@ -26,81 +26,86 @@ use std::process::Abort;
 /// `Person { age: 30, name: "Ann" }`, a SEQUENCE of an INTEGER and a UTF8String.
 fn person(age: &Integer, name: &String)
     ensures { age.now ≡ pos 30 → string_bytes name.now ≡ codes "Ann" →
-        sequence_records (universal 16) no_table (Some (codes "Person")) (
-        own_records ⟦<Integer as AsnType>⟧.meaning age.now ++
-        own_records ⟦<String as AsnType>⟧.meaning name.now) ≡
-        holding (sequence (universal 16) no_table (Some (codes "Person"))) (
-        scalar (universal 2) unconstrained (Some (codes "INTEGER")) (number (pos 30)) ∷
-        scalar (universal 12) unconstrained (Some (codes "UTF8String")) (units utf8 (codes "Ann")) ∷ []) ∷ [] }
+        sequence_records (universal 16) no_table (Some (codes "Person"))
+        (own_records ⟦<Integer as AsnType>⟧.meaning age.now ++
+        own_records ⟦<String as AsnType>⟧.meaning name.now) ≡ holding (sequence (universal 16)
+        no_table (Some (codes "Person"))) (scalar (universal 2) unconstrained
+        (Some (codes "INTEGER")) (number (pos 30)) ∷
+        scalar (universal 12) unconstrained (Some (codes "UTF8String")) (units utf8 (codes "Ann")) ∷
+        []) ∷ [] }
 {}
 
 /// `Profile { nick: None, level: 7, color: Red, contact: None }`, a SEQUENCE of an optional UTF8String [0], an INTEGER [1]
 /// from 0 to 255, an ENUMERATED [2] that is its default, and a group.
 fn profile_without_options()
-    ensures { sequence_records (universal 16) no_table (Some (codes "Profile")) (
-        ⟦<Option<String> as AsnType>⟧.meaning.records None (context 0) unconstrained ⟦<String as AsnType>⟧.meaning.name ++
-        ⟦<u8 as AsnType>⟧.meaning.records 7 (context 1) ⟦<u8 as AsnType>⟧.meaning.constraints ⟦<u8 as AsnType>⟧.meaning.name ++
-        default_records in_root true (context 2) (scalar (context 2) unconstrained (Some (codes "Color")) (discriminant no_table (pos 0)) ∷ []) ++
-        group_records no_table None) ≡
-        holding (sequence (universal 16) no_table (Some (codes "Profile"))) (
-        mark (absent in_root (context 0)) ∷
-        scalar (context 1) (values_of (Range (Some (pos 0)) (Some (pos 255)))) (Some (codes "INTEGER")) (number (pos 7)) ∷
-        mark (absent in_root (context 2)) ∷
-        mark group_absent ∷ []) ∷ [] }
+    ensures { sequence_records (universal 16) no_table (Some (codes "Profile"))
+        (⟦<Option<String> as AsnType>⟧.meaning.records None (context 0) unconstrained
+        ⟦<String as AsnType>⟧.meaning.name ++ ⟦<u8 as AsnType>⟧.meaning.records 7 (context 1)
+        ⟦<u8 as AsnType>⟧.meaning.constraints ⟦<u8 as AsnType>⟧.meaning.name ++
+        default_records in_root true (context 2) (scalar (context 2) unconstrained
+        (Some (codes "Color")) (discriminant no_table (pos 0)) ∷
+        []) ++ group_records no_table None) ≡ holding (sequence (universal 16) no_table (Some
+        (codes "Profile"))) (mark (absent in_root (context 0)) ∷ scalar (context 1) (values_of
+        (Range (Some (pos 0)) (Some (pos 255)))) (Some (codes "INTEGER")) (number
+        (pos 7)) ∷ mark (absent in_root (context 2)) ∷ mark group_absent ∷ []) ∷ [] }
 {}
 
 /// `Profile { nick: Some("Al"), level: 255, color: Blue, contact: Some(Contact { phone: None, mail: Some("a@b") }) }`.
 fn profile_with_options(nick: &String, mail: &Ia5String)
     ensures { string_bytes nick.now ≡ codes "Al" → mail.now ≡ codes "a@b" →
-        sequence_records (universal 16) no_table (Some (codes "Profile")) (
-        ⟦<Option<String> as AsnType>⟧.meaning.records (Some nick.now) (context 0) unconstrained ⟦<String as AsnType>⟧.meaning.name ++
-        ⟦<u8 as AsnType>⟧.meaning.records 255 (context 1) ⟦<u8 as AsnType>⟧.meaning.constraints ⟦<u8 as AsnType>⟧.meaning.name ++
-        default_records in_root false (context 2) (scalar (context 2) unconstrained (Some (codes "Color")) (discriminant no_table (pos 5)) ∷ []) ++
-        group_records no_table (Some (
-        ⟦<Option<NumericString> as AsnType>⟧.meaning.records None (context 3) unconstrained ⟦<NumericString as AsnType>⟧.meaning.name ++
-        ⟦<Option<Ia5String> as AsnType>⟧.meaning.records (Some mail.now) (context 4) unconstrained ⟦<Ia5String as AsnType>⟧.meaning.name))) ≡
-        holding (sequence (universal 16) no_table (Some (codes "Profile"))) (
-        mark (present in_root (context 0)) ∷
-        scalar (context 0) unconstrained (Some (codes "UTF8String")) (units utf8 (codes "Al")) ∷
-        scalar (context 1) (values_of (Range (Some (pos 0)) (Some (pos 255)))) (Some (codes "INTEGER")) (number (pos 255)) ∷
-        mark (present in_root (context 2)) ∷
-        scalar (context 2) unconstrained (Some (codes "Color")) (discriminant no_table (pos 5)) ∷
-        mark (group_start no_table) ∷
-        mark (absent in_root (context 3)) ∷
-        mark (present in_root (context 4)) ∷
-        scalar (context 4) unconstrained (Some (codes "IA5String")) (units ia5 (codes "a@b")) ∷
-        mark group_end ∷ []) ∷ [] }
+        sequence_records (universal 16) no_table (Some (codes "Profile"))
+        (⟦<Option<String> as AsnType>⟧.meaning.records (Some nick.now) (context 0) unconstrained
+        ⟦<String as AsnType>⟧.meaning.name ++ ⟦<u8 as AsnType>⟧.meaning.records 255 (context 1)
+        ⟦<u8 as AsnType>⟧.meaning.constraints ⟦<u8 as AsnType>⟧.meaning.name ++
+        default_records in_root false (context 2) (scalar (context 2) unconstrained
+        (Some (codes "Color")) (discriminant no_table (pos 5)) ∷
+        []) ++ group_records no_table (Some (⟦<Option<NumericString> as AsnType>⟧.meaning.records
+        None (context 3) unconstrained ⟦<NumericString as AsnType>⟧.meaning.name ++
+        ⟦<Option<Ia5String> as AsnType>⟧.meaning.records (Some mail.now) (context 4) unconstrained
+        ⟦<Ia5String as AsnType>⟧.meaning.name))) ≡ holding (sequence (universal 16) no_table (Some
+        (codes "Profile"))) (mark (present in_root (context 0)) ∷ scalar (context
+        0) unconstrained (Some (codes "UTF8String")) (units utf8 (codes "Al")) ∷ scalar (context
+        1) (values_of (Range (Some (pos 0)) (Some (pos 255)))) (Some (codes "INTEGER")) (number
+        (pos 255)) ∷ mark (present in_root (context 2)) ∷ scalar (context 2) unconstrained (Some
+        (codes "Color")) (discriminant no_table (pos 5)) ∷ mark (group_start
+        no_table) ∷ mark (absent in_root (context 3)) ∷ mark (present in_root
+        (context 4)) ∷ scalar (context 4) unconstrained (Some (codes "IA5String")) (units ia5
+        (codes "a@b")) ∷ mark group_end ∷ []) ∷ [] }
 {}
 
 /// `Settings { entry }` where the entry equals its default, and where it is another: of the key 2 and the note 9.
 fn settings(key: u8, note: u8)
-    ensures by_default { sequence_records (universal 16) no_table (Some (codes "Settings")) (
-        default_records in_root true (context 0) (sequence_records (context 0) no_table (Some (codes "Labelled")) (
-        ⟦<u8 as AsnType>⟧.meaning.records key (context 0) unconstrained None ++
-        ⟦<u8 as AsnType>⟧.meaning.records note (context 1) unconstrained None))) ≡
-        holding (sequence (universal 16) no_table (Some (codes "Settings"))) (mark (absent in_root (context 0)) ∷ []) ∷ [] }
-    ensures another { sequence_records (universal 16) no_table (Some (codes "Settings")) (
-        default_records in_root false (context 0) (sequence_records (context 0) no_table (Some (codes "Labelled")) (
-        ⟦<u8 as AsnType>⟧.meaning.records 2 (context 0) ⟦<u8 as AsnType>⟧.meaning.constraints ⟦<u8 as AsnType>⟧.meaning.name ++
-        ⟦<u8 as AsnType>⟧.meaning.records 9 (context 1) ⟦<u8 as AsnType>⟧.meaning.constraints ⟦<u8 as AsnType>⟧.meaning.name))) ≡
-        holding (sequence (universal 16) no_table (Some (codes "Settings"))) (
-        mark (present in_root (context 0)) ∷
-        holding (sequence (context 0) no_table (Some (codes "Labelled"))) (
-        scalar (context 0) (values_of (Range (Some (pos 0)) (Some (pos 255)))) (Some (codes "INTEGER")) (number (pos 2)) ∷
-        scalar (context 1) (values_of (Range (Some (pos 0)) (Some (pos 255)))) (Some (codes "INTEGER")) (number (pos 9)) ∷ []) ∷ []) ∷ [] }
+    ensures by_default { sequence_records (universal 16) no_table (Some (codes "Settings"))
+        (default_records in_root true (context 0) (sequence_records (context 0) no_table
+        (Some (codes "Labelled")) (⟦<u8 as AsnType>⟧.meaning.records key (context 0) unconstrained
+        None ++ ⟦<u8 as AsnType>⟧.meaning.records note (context 1) unconstrained
+        None))) ≡ holding (sequence (universal 16) no_table (Some (codes
+        "Settings"))) (mark (absent in_root (context 0)) ∷ []) ∷ [] }
+    ensures another { sequence_records (universal 16) no_table (Some (codes "Settings"))
+        (default_records in_root false (context 0) (sequence_records (context 0) no_table
+        (Some (codes "Labelled")) (⟦<u8 as AsnType>⟧.meaning.records 2 (context 0)
+        ⟦<u8 as AsnType>⟧.meaning.constraints ⟦<u8 as AsnType>⟧.meaning.name ++
+        ⟦<u8 as AsnType>⟧.meaning.records 9 (context 1) ⟦<u8 as AsnType>⟧.meaning.constraints
+        ⟦<u8 as AsnType>⟧.meaning.name))) ≡ holding (sequence (universal 16) no_table (Some (codes
+        "Settings"))) (mark (present in_root (context 0)) ∷ holding (sequence (context
+        0) no_table (Some (codes "Labelled"))) (scalar (context 0) (values_of
+        (Range (Some (pos 0)) (Some (pos 255)))) (Some (codes "INTEGER")) (number
+        (pos 2)) ∷ scalar (context 1) (values_of (Range (Some (pos 0)) (Some (pos 255)))) (Some
+        (codes "INTEGER")) (number (pos 9)) ∷ []) ∷ []) ∷ [] }
 {}
 
 /// A group whose components are marks alone is absent.
 fn empty_group()
-    ensures { group_records no_table (Some (option_records in_root (context 3) None ++ option_records in_root (context 4) None)) ≡
-        mark group_absent ∷ [] }
+    ensures { group_records no_table (Some (option_records in_root (context 3) None ++
+        option_records in_root (context 4) None)) ≡ mark group_absent ∷ [] }
 {}
 
 /// A `Box<u8>` of 9 under Context 3 and the name `n`, and under no name.
 fn boxed(nine: Box<u8>)
-    ensures named { nine.value ≡ 9 →
-        ⟦<Box<u8> as AsnType>⟧.meaning.records nine (context 3) ⟦<u8 as AsnType>⟧.meaning.constraints (Some (codes "n")) ≡
-        scalar (context 3) (values_of (Range (Some (pos 0)) (Some (pos 255)))) (Some (codes "n")) (number (pos 9)) ∷ [] }
+    ensures named { nine.value ≡ 9 → ⟦<Box<u8> as AsnType>⟧.meaning.records nine (context 3)
+        ⟦<u8 as AsnType>⟧.meaning.constraints (Some (codes "n")) ≡
+        scalar (context 3) (values_of (Range (Some (pos 0)) (Some (pos 255)))) (Some (codes "n"))
+        (number (pos 9)) ∷ [] }
     ensures unnamed { nine.value ≡ 9 →
         ⟦<Box<u8> as AsnType>⟧.meaning.records nine (context 3) unconstrained None ≡
         scalar (context 3) unconstrained (Some (codes "INTEGER")) (number (pos 9)) ∷ [] }
@@ -116,19 +121,26 @@ fn pair(octets: [u8; 2])
 /// A CHOICE of a NULL, untagged and under Context 1: untagged it has the constraints and the name that it is given, and
 /// under a tag its own within.
 fn choice()
-    ensures untagged { choice_records (universal 5) no_table (scalar (universal 5) unconstrained None null ∷ []) (size_of 1) (Some (codes "C")) CHOICE (size_of 2) (Some (codes "n")) ≡
-        holding (alternative (universal 5) (size_of 2) no_table (Some (codes "n"))) (scalar (universal 5) unconstrained None null ∷ []) ∷ [] }
-    ensures unnamed { choice_records (universal 5) no_table [] (size_of 1) (Some (codes "C")) CHOICE (size_of 2) None ≡
-        holding (alternative (universal 5) (size_of 2) no_table (Some (codes "C"))) [] ∷ [] }
-    ensures tagged { choice_records (universal 5) no_table (scalar (universal 5) unconstrained None null ∷ []) (size_of 1) (Some (codes "C")) (context 1) (size_of 2) (Some (codes "n")) ≡
-        holding (prefix (context 1) (Some (codes "n"))) (
-        holding (alternative (universal 5) (size_of 1) no_table (Some (codes "C"))) (scalar (universal 5) unconstrained None null ∷ []) ∷ []) ∷ [] }
+    ensures untagged { choice_records (universal 5) no_table
+        (scalar (universal 5) unconstrained None null ∷ []) (size_of 1) (Some (codes "C")) CHOICE
+        (size_of 2) (Some (codes "n")) ≡ holding (alternative (universal 5) (size_of 2) no_table
+        (Some (codes "n"))) (scalar (universal 5) unconstrained None null ∷ []) ∷ [] }
+    ensures unnamed { choice_records (universal 5) no_table [] (size_of 1) (Some (codes "C")) CHOICE
+        (size_of 2) None ≡ holding (alternative (universal 5) (size_of 2) no_table
+        (Some (codes "C"))) [] ∷ [] }
+    ensures tagged { choice_records (universal 5) no_table
+        (scalar (universal 5) unconstrained None null ∷ []) (size_of 1) (Some (codes "C"))
+        (context 1) (size_of 2) (Some (codes "n")) ≡
+        holding (prefix (context 1) (Some (codes "n")))
+        (holding (alternative (universal 5) (size_of 1) no_table (Some (codes "C")))
+        (scalar (universal 5) unconstrained None null ∷ []) ∷ []) ∷ [] }
 {}
 
 /// The word for enumerations.
 fn enumerations()
-    ensures { own_records (enumerated_type (universal 10) (size_of 1) (Some (codes "E")) no_table (λ number. number)) (pos 5) ≡
-        scalar (universal 10) unconstrained (Some (codes "E")) (discriminant no_table (pos 5)) ∷ [] }
+    ensures { own_records (enumerated_type (universal 10) (size_of 1) (Some (codes "E")) no_table
+        (λ number. number)) (pos 5) ≡ scalar (universal 10) unconstrained (Some
+        (codes "E")) (discriminant no_table (pos 5)) ∷ [] }
 {}
 
 /// What values have by their types: numbers within the range of a built-in integer, elements as many as an array has, and
@@ -146,9 +158,12 @@ fn values_of_types()
 
 /// What is asked of a value: an INTEGER with limits is within them, and of a type of other values nothing.
 fn valid_values()
-    ensures within { (takes : List ℕ → Bool) → ⟦<ConstrainedInteger<1, 10> as AsnType>⟧.meaning.IsValid takes (pos 10) }
-    ensures above { (takes : List ℕ → Bool) → ¬ ⟦<Option<ConstrainedInteger<1, 10>> as AsnType>⟧.meaning.IsValid takes (Some (pos 11)) }
-    ensures octets { (takes : List ℕ → Bool) (octets : List ℕ) → ⟦<OctetString as AsnType>⟧.meaning.IsValid takes octets }
+    ensures within { (takes : List ℕ → Bool) →
+        ⟦<ConstrainedInteger<1, 10> as AsnType>⟧.meaning.IsValid takes (pos 10) }
+    ensures above { (takes : List ℕ → Bool) →
+        ¬ ⟦<Option<ConstrainedInteger<1, 10>> as AsnType>⟧.meaning.IsValid takes (Some (pos 11)) }
+    ensures octets { (takes : List ℕ → Bool) (octets : List ℕ) →
+        ⟦<OctetString as AsnType>⟧.meaning.IsValid takes octets }
 {}
 
 /// A type that is no CHOICE has a tag, and an option stands in no list and in no option.
@@ -156,18 +171,22 @@ fn well_tagged_types()
     ensures under_a_tag { ⟦<Option<bool> as AsnType>⟧.meaning.IsWellTagged (context 0) }
     ensures under_none { ¬ ⟦<bool as AsnType>⟧.meaning.IsWellTagged CHOICE }
     ensures list_of_options { ¬ ⟦<Vec<Option<u8>> as AsnType>⟧.meaning.IsWellTagged (universal 16) }
-    ensures option_of_an_option { ¬ ⟦<Option<Option<u8>> as AsnType>⟧.meaning.IsWellTagged (context 0) }
+    ensures option_of_an_option { ¬ ⟦<Option<Option<u8>> as AsnType>⟧.meaning.IsWellTagged
+        (context 0) }
     ensures without_content { ¬ ⟦<PhantomData<u8> as AsnType>⟧.meaning.IsWellTagged (universal 5) }
 {}
 
 /// The order means nothing in a SET and in a SET OF, also within other records, and something in a SEQUENCE.
 fn sameness()
-    ensures set { (r s : Record) → Same (holding (set_head (universal 17) no_table None) (r ∷ s ∷ [])) (holding (set_head (universal 17) no_table None) (s ∷ r ∷ [])) }
-    ensures inside { (r s : Record) →
-        Same (holding (sequence (universal 16) no_table None) (holding (set_of (universal 17) unconstrained None) (r ∷ s ∷ []) ∷ []))
-        (holding (sequence (universal 16) no_table None) (holding (set_of (universal 17) unconstrained None) (s ∷ r ∷ []) ∷ [])) }
-    ensures sequence { ¬ Same (holding (sequence (universal 16) no_table None) (raw None [] ∷ mark (group_start no_table) ∷ []))
-        (holding (sequence (universal 16) no_table None) (mark (group_start no_table) ∷ raw None [] ∷ [])) }
+    ensures set { (r s : Record) → Same (holding (set_head (universal 17) no_table None)
+        (r ∷ s ∷ [])) (holding (set_head (universal 17) no_table None) (s ∷ r ∷ [])) }
+    ensures inside { (r s : Record) → Same (holding (sequence (universal 16) no_table None)
+        (holding (set_of (universal 17) unconstrained None) (r ∷ s ∷ []) ∷ [])) (holding
+        (sequence (universal 16) no_table None) (holding (set_of (universal 17) unconstrained None)
+        (s ∷ r ∷ []) ∷ [])) }
+    ensures sequence { ¬ Same (holding (sequence (universal 16) no_table None)
+        (raw None [] ∷ mark (group_start no_table) ∷ [])) (holding
+        (sequence (universal 16) no_table None) (mark (group_start no_table) ∷ raw None [] ∷ [])) }
     ensures contents { ¬ Same (raw None []) (raw None (0 ∷ [])) }
 {}
 
@@ -177,19 +196,25 @@ fn heights()
     ensures flat { highest (mark (group_start no_table) ∷ raw None [] ∷ mark group_end ∷ []) ≡ 0 }
     ensures empty { highest (sequence_records (universal 16) no_table None []) ≡ 1 }
     ensures inner { highest (mark (present in_root (context 0)) ∷
-        prefix_records (context 0) None (sequence_records (universal 16) no_table None (mark (absent in_root (context 1)) ∷ []))) ≡ 2 }
+        prefix_records (context 0) None (sequence_records (universal 16) no_table None
+        (mark (absent in_root (context 1)) ∷ []))) ≡ 2 }
 {}
 
 /// First tags: marks are passed over, and a value that stands as its bytes may begin with every tag.
 fn firsts()
-    ensures nothing { first_tags (mark (absent in_root (context 0)) ∷ mark group_absent ∷ []) ≡ among [] }
+    ensures nothing { first_tags (mark (absent in_root (context 0)) ∷ mark group_absent ∷ []) ≡
+        among [] }
     ensures one { first_tags (mark (group_start no_table) ∷ mark (present in_root (context 3)) ∷
         scalar (context 3) unconstrained None null ∷ raw None [] ∷ []) ≡ only (context 3) }
     ensures any { first_tags (mark (present in_root CHOICE) ∷ raw None [] ∷ []) ≡ every }
-    ensures scope { first_tags (mark (absent in_root (context 0)) ∷ sequence_records (universal 16) no_table None (mark group_absent ∷ [])) ≡ only (universal 16) }
+    ensures scope { first_tags (mark (absent in_root (context 0)) ∷
+        sequence_records (universal 16) no_table None (mark group_absent ∷ [])) ≡ only (universal
+        16) }
     ensures under_a_tag { first_tags (mark (present in_root (context 0)) ∷
-        prefix_records (context 0) None (sequence_records (universal 16) no_table None (mark group_absent ∷ []))) ≡ only (context 0) }
-    ensures chosen { first_tags (holding (alternative (context 2) unconstrained no_table None) [] ∷ []) ≡ only (context 2) }
+        prefix_records (context 0) None (sequence_records (universal 16) no_table None
+        (mark group_absent ∷ []))) ≡ only (context 0) }
+    ensures chosen { first_tags (holding (alternative (context 2) unconstrained no_table None) [] ∷
+        []) ≡ only (context 2) }
 {}
 
 /// Well-formed records: an open type holds bytes that the codec takes, and an alternative the first tag of what is inside, also

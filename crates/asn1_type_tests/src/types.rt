@@ -36,12 +36,14 @@ fn sets_by_definition()
 
 /// The set of `true` and `false`, and of nothing under another tag and name.
 fn set_of_booleans(set: &SetOf<bool>)
-    ensures own { set.now ≡ true ∷ false ∷ [] → own_records ⟦<SetOf<bool> as AsnType>⟧.meaning set.now ≡
-        holding (set_of (universal 17) unconstrained (Some (codes "SET_OF"))) (
-        scalar (universal 1) unconstrained (Some (codes "BOOLEAN")) (truth_of true) ∷
+    ensures own { set.now ≡ true ∷ false ∷ [] →
+        own_records ⟦<SetOf<bool> as AsnType>⟧.meaning set.now ≡
+        holding (set_of (universal 17) unconstrained (Some (codes "SET_OF")))
+        (scalar (universal 1) unconstrained (Some (codes "BOOLEAN")) (truth_of true) ∷
         scalar (universal 1) unconstrained (Some (codes "BOOLEAN")) (truth_of false) ∷ []) ∷ [] }
-    ensures named { set.now ≡ [] → ⟦<SetOf<bool> as AsnType>⟧.meaning.records set.now (context 3) unconstrained (Some (codes "s")) ≡
-        holding (set_of (context 3) unconstrained (Some (codes "s"))) [] ∷ [] }
+    ensures named { set.now ≡ [] → ⟦<SetOf<bool> as AsnType>⟧.meaning.records set.now (context 3)
+        unconstrained (Some (codes "s")) ≡ holding (set_of (context 3) unconstrained
+        (Some (codes "s"))) [] ∷ [] }
 {}
 
 /// A SEQUENCE OF is what a vector is.
@@ -54,9 +56,11 @@ fn sequence_of_truths(list: &SequenceOf<bool>, vector: &Vec<bool>)
 
 /// An open type is its bytes under whatever tag, and can begin with every tag.
 fn open_type(null: &Any)
-    ensures own { null.now ≡ 5 ∷ 0 ∷ [] → own_records ⟦<Any as AsnType>⟧.meaning null.now ≡ raw None (5 ∷ 0 ∷ []) ∷ [] }
+    ensures own { null.now ≡ 5 ∷ 0 ∷ [] →
+        own_records ⟦<Any as AsnType>⟧.meaning null.now ≡ raw None (5 ∷ 0 ∷ []) ∷ [] }
     ensures named { null.now ≡ 5 ∷ 0 ∷ [] →
-        ⟦<Any as AsnType>⟧.meaning.records null.now (context 3) unconstrained (Some (codes "n")) ≡ raw (Some (codes "n")) (5 ∷ 0 ∷ []) ∷ [] }
+        ⟦<Any as AsnType>⟧.meaning.records null.now (context 3) unconstrained (Some (codes "n")) ≡
+        raw (Some (codes "n")) (5 ∷ 0 ∷ []) ∷ [] }
     ensures begins { (t : Tag) → tags ⟦<Any as AsnType>⟧.meaning t ≡ every }
 {}
 
@@ -64,29 +68,35 @@ fn open_type(null: &Any)
 fn implicit_text(text: &Implicit<tag::UNIVERSAL_STRING, String>)
     ensures own { string_bytes text.now.value ≡ codes "Ann" →
         own_records ⟦<Implicit<tag::UNIVERSAL_STRING, String> as AsnType>⟧.meaning text.now ≡
-        scalar (universal 28) unconstrained (Some (codes "UTF8String")) (units utf8 (codes "Ann")) ∷ [] }
+        scalar (universal 28) unconstrained (Some (codes "UTF8String")) (units utf8 (codes "Ann")) ∷
+        [] }
     ensures named { string_bytes text.now.value ≡ codes "Ann" →
-        ⟦<Implicit<tag::UNIVERSAL_STRING, String> as AsnType>⟧.meaning.records text.now (context 3) unconstrained (Some (codes "n")) ≡
-        scalar (context 3) unconstrained (Some (codes "n")) (units utf8 (codes "Ann")) ∷ [] }
+        ⟦<Implicit<tag::UNIVERSAL_STRING, String> as AsnType>⟧.meaning.records text.now (context 3)
+        unconstrained (Some (codes "n")) ≡ scalar (context 3) unconstrained (Some (codes "n"))
+        (units utf8 (codes "Ann")) ∷ [] }
 {}
 
 /// `true` under an explicit tag, and under another in its place.
 fn explicit_truth(truth: &Explicit<tag::SET, bool>)
-    ensures own { truth.now.value ≡ true → own_records ⟦<Explicit<tag::SET, bool> as AsnType>⟧.meaning truth.now ≡
-        holding (prefix (universal 17) None) (scalar (universal 1) unconstrained (Some (codes "BOOLEAN")) (truth_of true) ∷ []) ∷ [] }
+    ensures own { truth.now.value ≡ true →
+        own_records ⟦<Explicit<tag::SET, bool> as AsnType>⟧.meaning truth.now ≡
+        holding (prefix (universal 17) None) (scalar (universal 1) unconstrained
+        (Some (codes "BOOLEAN")) (truth_of true) ∷ []) ∷ [] }
     ensures named { truth.now.value ≡ true →
-        ⟦<Explicit<tag::SET, bool> as AsnType>⟧.meaning.records truth.now (context 3) unconstrained (Some (codes "n")) ≡
-        holding (prefix (context 3) (Some (codes "n"))) (scalar (universal 1) unconstrained (Some (codes "BOOLEAN")) (truth_of true) ∷ []) ∷ [] }
+        ⟦<Explicit<tag::SET, bool> as AsnType>⟧.meaning.records truth.now (context 3) unconstrained
+        (Some (codes "n")) ≡ holding (prefix (context 3) (Some (codes "n")))
+        (scalar (universal 1) unconstrained (Some (codes "BOOLEAN")) (truth_of true) ∷ []) ∷ [] }
 {}
 
 /// `true` beside the name 1.2 of its type.
 fn instance_of_truth(instance: &InstanceOf<bool>)
     ensures { instance.now.type_id ≡ 1 ∷ 2 ∷ [] → instance.now.value ≡ true →
         own_records ⟦<InstanceOf<bool> as AsnType>⟧.meaning instance.now ≡
-        holding (sequence (universal 8) (lines ⟦<InstanceOf<bool> as asn1_components::FieldTable>⟧.components) (Some (codes "SEQUENCE"))) (
-        scalar (universal 6) unconstrained (Some (codes "OBJECT_IDENTIFIER")) (arcs (1 ∷ 2 ∷ [])) ∷
-        holding (prefix (context 0) (Some (codes "SEQUENCE"))) (
-        scalar (universal 1) unconstrained (Some (codes "BOOLEAN")) (truth_of true) ∷ []) ∷ []) ∷ [] }
+        holding (sequence (universal 8) (lines ⟦<InstanceOf<bool> as asn1_components::FieldTable>⟧.components) (Some (codes
+        "SEQUENCE"))) (scalar (universal 6) unconstrained (Some (codes
+        "OBJECT_IDENTIFIER")) (arcs (1 ∷ 2 ∷ [])) ∷ holding (prefix (context 0) (Some
+        (codes "SEQUENCE"))) (scalar (universal 1) unconstrained (Some (codes "BOOLEAN")) (truth_of
+        true) ∷ []) ∷ []) ∷ [] }
 {}
 
 /// Which tags a wrapper may have: none that stands for no tag, and an implicit one no open type.
@@ -95,7 +105,8 @@ fn wrappers_under_tags()
     ensures untagged { ⟦<Implicit<tag::SET, bool> as AsnType>⟧.meaning.IsWellTagged CHOICE → ⊥ }
     ensures open { (t : Tag) → ⟦<Implicit<tag::SET, Any> as AsnType>⟧.meaning.IsWellTagged t → ⊥ }
     ensures explicit_open { ⟦<Explicit<tag::SET, Any> as AsnType>⟧.meaning.IsWellTagged (context 1) }
-    ensures explicit_untagged { ⟦<Explicit<tag::SET, bool> as AsnType>⟧.meaning.IsWellTagged CHOICE → ⊥ }
+    ensures explicit_untagged { ⟦<Explicit<tag::SET, bool> as AsnType>⟧.meaning.IsWellTagged CHOICE
+        → ⊥ }
 {}
 
 /// A key with a note that equality ignores.

@@ -51,8 +51,10 @@ impl<T: AsnType> Decode for PhantomData<T> {
         tag: Tag,
         constraints: &Constraints<'_>,
     ) -> Result<PhantomData<T>, DecodeError>
-        ensures read { ReadsValue D.reader empty_type ⟦<PhantomData<T> as PartialEq>⟧.eq tag (constraint_set constraints.now) decoder.old decoder.new result }
-        ensures leaves { LeavesDecoder D.reader empty_type tag (constraint_set constraints.now) decoder.old decoder.new result }
+        ensures read { ReadsValue D.reader empty_type ⟦<PhantomData<T> as PartialEq>⟧.eq tag
+            (constraint_set constraints.now) decoder.old decoder.new result }
+        ensures leaves { LeavesDecoder D.reader empty_type tag (constraint_set constraints.now)
+            decoder.old decoder.new result }
         ensures refuses { Refuses D.reader no_refusals tag (constraint_set constraints.now)
             decoder.old decoder.new result }
         ensures nothing { IsOk result × (decoder.new ≡ decoder.old) }

@@ -26,20 +26,28 @@ pub fn each_value_is_valid(
     settings: &Settings,
     plate: &Plate,
 )
-    ensures person { (takes : List ℕ → Bool) → ⟦<Person as AsnType>⟧.meaning.IsValid takes person.now }
-    ensures notice { (takes : List ℕ → Bool) → ⟦<Notice as AsnType>⟧.meaning.IsValid takes notice.now }
-    ensures labelled { (takes : List ℕ → Bool) → ⟦<Labelled as AsnType>⟧.meaning.IsValid takes labelled.now }
-    ensures settings { (takes : List ℕ → Bool) → ⟦<Settings as AsnType>⟧.meaning.IsValid takes settings.now }
+    ensures person { (takes : List ℕ → Bool) →
+        ⟦<Person as AsnType>⟧.meaning.IsValid takes person.now }
+    ensures notice { (takes : List ℕ → Bool) →
+        ⟦<Notice as AsnType>⟧.meaning.IsValid takes notice.now }
+    ensures labelled { (takes : List ℕ → Bool) →
+        ⟦<Labelled as AsnType>⟧.meaning.IsValid takes labelled.now }
+    ensures settings { (takes : List ℕ → Bool) →
+        ⟦<Settings as AsnType>⟧.meaning.IsValid takes settings.now }
     ensures plate { (takes : List ℕ → Bool) → ⟦<Plate as AsnType>⟧.meaning.IsValid takes plate.now }
-    ensures color { (takes : List ℕ → Bool) (color : Color) → ⟦<Color as AsnType>⟧.meaning.IsValid takes color }
+    ensures color { (takes : List ℕ → Bool) (color : Color) →
+        ⟦<Color as AsnType>⟧.meaning.IsValid takes color }
 {}
 
 /// A law of validity: each alternative of a corner, and of a shape, is valid, and a badge with each of these shapes.
 pub fn each_alternative_is_valid(badge: &Badge)
-    ensures left { (takes : List ℕ → Bool) (b : Bool) → ⟦<Corner as AsnType>⟧.meaning.IsValid takes (Left b) }
-    ensures right { (takes : List ℕ → Bool) (s : List ℕ) → ⟦<Corner as AsnType>⟧.meaning.IsValid takes (Right s) }
+    ensures left { (takes : List ℕ → Bool) (b : Bool) →
+        ⟦<Corner as AsnType>⟧.meaning.IsValid takes (Left b) }
+    ensures right { (takes : List ℕ → Bool) (s : List ℕ) →
+        ⟦<Corner as AsnType>⟧.meaning.IsValid takes (Right s) }
     ensures dot { (takes : List ℕ → Bool) → ⟦<Shape as AsnType>⟧.meaning.IsValid takes (Dot tt) }
-    ensures ring { (takes : List ℕ → Bool) (width : ℕ) → ⟦<Shape as AsnType>⟧.meaning.IsValid takes (Ring width) }
+    ensures ring { (takes : List ℕ → Bool) (width : ℕ) →
+        ⟦<Shape as AsnType>⟧.meaning.IsValid takes (Ring width) }
     ensures inner_left { (takes : List ℕ → Bool) (b : Bool) →
         ⟦<Shape as AsnType>⟧.meaning.IsValid takes (Inner (Left b)) }
     ensures inner_right { (takes : List ℕ → Bool) (s : List ℕ) →
@@ -59,18 +67,24 @@ pub fn each_alternative_is_valid(badge: &Badge)
 pub fn groups_that_write_a_component_are_valid(profile: &Profile, visit: &Visit)
     ensures profile { (takes : List ℕ → Bool) → profile.now.contact ≡ None →
         ⟦<Profile as AsnType>⟧.meaning.IsValid takes profile.now }
-    ensures profile_with_phone { (takes : List ℕ → Bool) (phone : List ℕ) (contact : Contact) → contact.phone ≡ Some phone →
-        profile.now.contact ≡ Some contact → ⟦<Profile as AsnType>⟧.meaning.IsValid takes profile.now }
-    ensures profile_with_mail { (takes : List ℕ → Bool) (mail : List ℕ) (contact : Contact) → contact.mail ≡ Some mail →
-        profile.now.contact ≡ Some contact → ⟦<Profile as AsnType>⟧.meaning.IsValid takes profile.now }
-    ensures profile_with_nothing { (takes : List ℕ → Bool) → profile.now.contact ≡ Some (record { phone = None; mail = None }) →
+    ensures profile_with_phone { (takes : List ℕ → Bool) (phone : List ℕ) (contact : Contact) →
+        contact.phone ≡ Some phone → profile.now.contact ≡ Some contact →
+        ⟦<Profile as AsnType>⟧.meaning.IsValid takes profile.now }
+    ensures profile_with_mail { (takes : List ℕ → Bool) (mail : List ℕ) (contact : Contact) →
+        contact.mail ≡ Some mail → profile.now.contact ≡ Some contact →
+        ⟦<Profile as AsnType>⟧.meaning.IsValid takes profile.now }
+    ensures profile_with_nothing { (takes : List ℕ → Bool) →
+        profile.now.contact ≡ Some (record { phone = None; mail = None }) →
         ¬ ⟦<Profile as AsnType>⟧.meaning.IsValid takes profile.now }
     ensures visit { (takes : List ℕ → Bool) → visit.now.contact ≡ None →
         ⟦<Visit as AsnType>⟧.meaning.IsValid takes visit.now }
-    ensures visit_with_phone { (takes : List ℕ → Bool) (phone : List ℕ) (contact : Contact) → contact.phone ≡ Some phone →
-        visit.now.contact ≡ Some contact → ⟦<Visit as AsnType>⟧.meaning.IsValid takes visit.now }
-    ensures visit_with_mail { (takes : List ℕ → Bool) (mail : List ℕ) (contact : Contact) → contact.mail ≡ Some mail →
-        visit.now.contact ≡ Some contact → ⟦<Visit as AsnType>⟧.meaning.IsValid takes visit.now }
-    ensures visit_with_nothing { (takes : List ℕ → Bool) → visit.now.contact ≡ Some (record { phone = None; mail = None }) →
+    ensures visit_with_phone { (takes : List ℕ → Bool) (phone : List ℕ) (contact : Contact) →
+        contact.phone ≡ Some phone → visit.now.contact ≡ Some contact →
+        ⟦<Visit as AsnType>⟧.meaning.IsValid takes visit.now }
+    ensures visit_with_mail { (takes : List ℕ → Bool) (mail : List ℕ) (contact : Contact) →
+        contact.mail ≡ Some mail → visit.now.contact ≡ Some contact →
+        ⟦<Visit as AsnType>⟧.meaning.IsValid takes visit.now }
+    ensures visit_with_nothing { (takes : List ℕ → Bool) →
+        visit.now.contact ≡ Some (record { phone = None; mail = None }) →
         ¬ ⟦<Visit as AsnType>⟧.meaning.IsValid takes visit.now }
 {}

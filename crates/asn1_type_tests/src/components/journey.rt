@@ -34,35 +34,47 @@ struct Journey {
 /// The tags of both groups are distinct. The records are those of a journey whose inner group is absent, beside the tables of
 /// the journey and of its outer group.
 fn journeys(journey: &Journey)
-    ensures distinct { CanStandInside (constructed_type {V = Journey} (codes "Journey") (extensible_sequence
-        (required (codes "id") (λ j. j.id) (untagged ⟦<u8 as AsnType>⟧.meaning) ∷ [])
-        (group (codes "route") (λ j. j.route) (sequence (
-        optional (codes "from") (λ r. r.from) (tagged (context 0) ⟦<bool as AsnType>⟧.meaning) ∷
-        group (codes "stop") (λ r. r.stop) (sequence (
-        optional (codes "over") (λ s. s.over) (tagged (context 1) ⟦<bool as AsnType>⟧.meaning) ∷ [])) ∷ [])) ∷ []))) }
-    ensures outer { journey.now.id ≡ 7 → journey.now.route ≡ Some (record { from = Some true; stop = None }) →
-        own_records (constructed_type {V = Journey} (codes "Journey") (extensible_sequence
-        (required (codes "id") (λ j. j.id) (untagged ⟦<u8 as AsnType>⟧.meaning) ∷ [])
-        (group (codes "route") (λ j. j.route) (sequence (
-        optional (codes "from") (λ r. r.from) (tagged (context 0) ⟦<bool as AsnType>⟧.meaning) ∷
-        group (codes "stop") (λ r. r.stop) (sequence (
-        optional (codes "over") (λ s. s.over) (tagged (context 1) ⟦<bool as AsnType>⟧.meaning) ∷ [])) ∷ [])) ∷ []))) journey.now ≡
-        holding (sequence_head (universal 16) (record {
-          root = record { name = codes "id"; tree = leaf (universal 2); may_be_absent = false } ∷ [];
+    ensures distinct { CanStandInside (constructed_type {V = Journey} (codes "Journey")
+        (extensible_sequence (required (codes "id") (λ j. j.id)
+        (untagged ⟦<u8 as AsnType>⟧.meaning) ∷ []) (group (codes "route") (λ j. j.route)
+        (sequence (optional (codes "from") (λ r. r.from)
+        (tagged (context 0) ⟦<bool as AsnType>⟧.meaning) ∷
+        group (codes "stop") (λ r. r.stop) (sequence (optional (codes "over") (λ s. s.over)
+        (tagged (context 1) ⟦<bool as AsnType>⟧.meaning) ∷ [])) ∷ [])) ∷ []))) }
+    ensures outer { journey.now.id ≡ 7 →
+        journey.now.route ≡ Some (record { from = Some true; stop = None }) →
+        own_records (constructed_type {V = Journey} (codes "Journey")
+        (extensible_sequence (required (codes "id") (λ j. j.id)
+        (untagged ⟦<u8 as AsnType>⟧.meaning) ∷ []) (group (codes "route") (λ j. j.route)
+        (sequence (optional (codes "from") (λ r. r.from)
+        (tagged (context 0) ⟦<bool as AsnType>⟧.meaning) ∷
+        group (codes "stop") (λ r. r.stop) (sequence (optional (codes "over") (λ s. s.over)
+        (tagged (context 1) ⟦<bool as AsnType>⟧.meaning) ∷
+        [])) ∷ [])) ∷ []))) journey.now ≡ holding (sequence_head (universal 16) (record {
+          root =
+              record { name = codes "id"; tree = leaf (universal 2); may_be_absent = false } ∷
+              [];
           additions = Some (record {
             name = codes "route";
-            tree = choice (more (leaf (context 0)) (more (choice (more (leaf (context 1)) none)) none));
-            may_be_absent = true;
+            tree = choice
+                (more (leaf (context 0)) (more (choice (more (leaf (context 1)) none)) none));
+            may_be_absent
+                = true;
           } ∷ []);
-        }) (Some (codes "Journey"))) (
-        scalar (universal 2) (values_of (Range (Some (pos 0)) (Some (pos 255)))) (Some (codes "INTEGER")) (number (pos 7)) ∷
-        mark (group_start (record {
-          root = record { name = codes "from"; tree = leaf (context 0); may_be_absent = true } ∷
-              record { name = codes "stop"; tree = choice (more (leaf (context 1)) none); may_be_absent = true } ∷ [];
+        }) (Some (codes "Journey"))) (scalar (universal 2) (values_of (Range (Some
+        (pos 0)) (Some (pos 255)))) (Some (codes "INTEGER")) (number (pos 7)) ∷ mark (group_start
+        (record {
+          root = record {
+            name = codes "from";
+            tree = leaf (context 0);
+            may_be_absent = true;
+          } ∷ record {
+            name = codes "stop";
+            tree = choice (more (leaf (context 1)) none);
+            may_be_absent = true;
+          } ∷ [];
           additions = None;
-        })) ∷
-        mark (present in_root (context 0)) ∷
-        scalar (context 0) unconstrained (Some (codes "BOOLEAN")) (truth true) ∷
-        mark group_absent ∷
+        })) ∷ mark (present in_root (context 0)) ∷
+        scalar (context 0) unconstrained (Some (codes "BOOLEAN")) (truth true) ∷ mark group_absent ∷
         mark group_end ∷ []) ∷ [] }
 {}

@@ -72,7 +72,8 @@ impl Listener {
 impl Listener {
     /// Whether the decoder has not failed.
     fn may_read(&self) -> Result<(), DecodeError>
-        ensures { MatchResult result (λ _. self.now.has_failed ≡ false) (λ e. (e ≡ Failed) × (self.now.has_failed ≡ true)) }
+        ensures { MatchResult result (λ _. self.now.has_failed ≡ false)
+            (λ e. (e ≡ Failed) × (self.now.has_failed ≡ true)) }
     {
         if self.has_failed {
             Err(DecodeError::Failed)

@@ -36,7 +36,8 @@ impl Listener {
 
     /// Whether the encoder has not failed.
     fn may_write(&self) -> Result<(), EncodeError>
-        ensures { MatchResult result (λ _. self.now.has_failed ≡ false) (λ e. (e ≡ Failed) × (self.now.has_failed ≡ true)) }
+        ensures { MatchResult result (λ _. self.now.has_failed ≡ false)
+            (λ e. (e ≡ Failed) × (self.now.has_failed ≡ true)) }
     {
         if self.has_failed {
             Err(EncodeError::Failed)
@@ -49,7 +50,12 @@ impl Listener {
 impl Listener {
     /// Opens a scope of any kind.
     fn open_scope(&mut self, count: Option<usize>) -> Result<(), EncodeError>
-        ensures { (h : Head) → Opens (record { wrote = λ _ _. ⊤; failed = λ c. c.has_failed; allowance = λ c. c.depth; rejects = λ _. ⊥ }) self.old h self.new result }
+        ensures { (h : Head) → Opens (record {
+          wrote = λ _ _. ⊤;
+          failed = λ c. c.has_failed;
+          allowance = λ c. c.depth;
+          rejects = λ _. ⊥;
+        }) self.old h self.new result }
     {
         self.may_write()?;
         match self.depth.checked_sub(1) {
