@@ -28,9 +28,9 @@ use asn1_tags::Tag;
 /// or where the records are higher than the allowance. What an entry point is not given is the type's own. Where a value may be
 /// absent, as an `Option`, what follows it begins with none of the type's tags.
 ///
-/// A success leaves the allowance as it was, and no decoder failed. An error either makes the decoder failed, or is the type's
-/// own, which is neither [`DecodeError::Depth`] nor [`DecodeError::Failed`]: then the decoder has not failed, the allowance is
-/// as it was, and the decoder, if it was before the records of a valid value, is after them, as where a box had no memory.
+/// A success leaves the allowance as it was, and does not make the decoder failed. An error either does, or is the type's own,
+/// which is neither [`DecodeError::Depth`] nor [`DecodeError::Failed`]: then the decoder has not failed, the allowance is as it
+/// was, and the decoder, if it was before the records of a valid value, is after them, as where a box had no memory.
 /// Where there was no memory for the type's own constraints, which only a permitted alphabet among them wants, the decoder is
 /// as it was.
 ///
