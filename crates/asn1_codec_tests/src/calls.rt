@@ -5,6 +5,7 @@ mod entry_points;
 mod explicit_tags;
 mod kinds;
 mod options;
+mod own_errors;
 mod sets_of;
 mod tagged;
 
@@ -16,5 +17,6 @@ pub use kinds::{
     scalars_come_back_under_a_tag, scopes_come_back_under_a_tag, strings_come_back_under_a_tag,
 };
 pub use options::options_come_back;
+pub use own_errors::own_errors_are_answered_as_they_are;
 pub use sets_of::sets_of_come_back_in_any_order;
 pub use tagged::{comes_back_under, comes_back_under_a_tag};

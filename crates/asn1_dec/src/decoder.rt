@@ -392,8 +392,7 @@ pub trait Decoder {
         self.decode_string::<u16, Bmp>(tag, constraints)
     }
 
-    /// A value of an ENUMERATED type, by its number. Where no item of the type has the number, the error is
-    /// [`DecodeError::Custom`].
+    /// A value of an ENUMERATED type, by its number.
     final fn decode_enumerated<E: Enumerated>(&mut self, tag: Tag) -> Result<E, DecodeError>
     where
         Self: Sized,

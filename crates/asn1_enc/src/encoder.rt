@@ -697,9 +697,14 @@ pub trait Encoder {
             (name_of name)))
             (equal ≡ false → T.meaning.IsOfType value.now) self.new result }
     {
-        let table = T::table();
-        let constraints = make_constraints(self, &table)?;
-        self.encode_default_with_tag_and_constraints(table.tag, &constraints, value, default, name)
+        let Ok(usual) = default(self.global()) else {
+            return Err(self.refuse_memory());
+        };
+        if *value == usual {
+            self.encode_none::<T>(name)
+        } else {
+            self.encode_some(value, name)
+        }
     }
 
     /// The same as `encode_default`, under a tag.
@@ -717,8 +722,14 @@ pub trait Encoder {
             (T.meaning.records value.now tag T.meaning.constraints (name_of name)))
             (equal ≡ false → T.meaning.IsOfType value.now) self.new result }
     {
-        let constraints = make_constraints(self, &T::table())?;
-        self.encode_default_with_tag_and_constraints(tag, &constraints, value, default, name)
+        let Ok(usual) = default(self.global()) else {
+            return Err(self.refuse_memory());
+        };
+        if *value == usual {
+            self.encode_none_with_tag(tag, name)
+        } else {
+            self.encode_some_with_tag(tag, value, name)
+        }
     }
 
     /// The same as `encode_default`, under constraints.
@@ -820,12 +831,10 @@ pub trait Encoder {
             (name_of name)))
             (equal ≡ false → T.meaning.IsOfType value.now) self.new result }
     {
-        let table = T::table();
         if *value == T::default() {
-            self.encode_none_with_tag(table.tag, name)
+            self.encode_none::<T>(name)
         } else {
-            let constraints = make_constraints(self, &table)?;
-            self.encode_some_with_tag_and_constraints(table.tag, &constraints, value, name)
+            self.encode_some(value, name)
         }
     }
 
@@ -893,8 +902,11 @@ pub trait Encoder {
             (option_copied value.entry)))
             (IfSome (option_copied value.entry) T.meaning.IsOfType) self.new result }
     {
+        let Some(value) = value else {
+            return self.mark_addition_absent(tag);
+        };
         let constraints = make_constraints(self, &T::table())?;
-        self.encode_extension_addition(tag, &constraints, value, name)
+        self.encode_extension_addition(tag, &constraints, Some(value), name)
     }
 
     /// An addition, which may be absent, after an explicit tag.

@@ -87,6 +87,16 @@ fn each_call_reads_what_was_written(rt: HostRuntime) {
 }
 
 #[test]
+fn an_error_of_a_type_is_answered_as_it_is(rt: HostRuntime) {
+    let rules = BenchCalls { alloc: rt.alloc() };
+    passes(
+        &rt,
+        "eleven",
+        calls::own_errors_are_answered_as_they_are(&rules),
+    );
+}
+
+#[test]
 fn additions_and_groups_come_back(rt: HostRuntime) {
     let alloc = rt.alloc();
     let rules = BenchCalls { alloc };

@@ -19,6 +19,11 @@ fn samples_come_back(rt: HostRuntime) {
     passes(&rt, "plates", samples::plates_come_back(&rules, alloc));
     passes(&rt, "notices", samples::notices_come_back(&rules, alloc));
     passes(&rt, "pairs", samples::pairs_come_back(&rules));
+    passes(
+        &rt,
+        "elevens",
+        samples::pairs_outside_limits_are_refused(&rules),
+    );
 }
 
 #[test]

@@ -1,10 +1,14 @@
 //! The other SEQUENCEs, and `Plate`.
 use asn1_codec_tests::made::letters;
-use asn1_codec_tests::{Failure, comes_back};
+use asn1_codec_tests::{Failure, comes_back, is_refused};
+use asn1_dec::DecodeError;
 use asn1_samples::{Envelope, Labelled, Notice, Pair, Plate, Settings};
 use asn1_schema::Rules;
 use asn1_types::Any;
+use asn1_values::ConstrainedInteger;
 use std::alloc::Global;
+
+type OneToTen = ConstrainedInteger<1, 10>;
 
 /// Whether settings come back whose entry is the default, by the label that is compared, and those of another.
 ///
@@ -75,4 +79,22 @@ pub fn pairs_come_back<R: Rules>(rules: &R) -> Result<(), Failure> {
         second: None::<bool>,
     };
     comes_back(rules, &numbers).and(comes_back(rules, &truths))
+}
+
+/// Whether a pair is refused by the error of the number in it that is outside its limits, by a codec that writes an INTEGER the
+/// same under all limits.
+///
+/// # Errors
+/// How else it ended.
+pub fn pairs_outside_limits_are_refused<R: Rules>(rules: &R) -> Result<(), Failure> {
+    let elevens = Pair {
+        first: 11u8,
+        second: Some(11u8),
+    };
+    let error = DecodeError::OutOfRange;
+    is_refused::<Pair<OneToTen, u8>, R, Pair<u8, u8>>(rules, &elevens, error).and(is_refused::<
+        Pair<u8, OneToTen>,
+        R,
+        Pair<u8, u8>,
+    >(rules, &elevens, error))
 }
