@@ -5,6 +5,6 @@ use Rattle.asn1_schema.specs.Rules.{Format}
 use Rattle.asn1_records.specs.Carried.{Carries}
 use Rattle.asn1_records.specs.declared.record.Record.{Record}
 
--- An output carries the records that it is without constraints. Nothing is rejected, and any bytes are one value of an open type.
+-- An output carries the records that it is without constraints and tables. Nothing is rejected, and any bytes are one value of an open type.
 abbrev pub record_format : Format (Vec Record Global)
 record_format = record { carries = λ output rs. Carries output.items rs; rejects = λ rs. ⊥; takes = λ bytes. true }

@@ -1,4 +1,5 @@
-//! A codec for tests and examples: what it makes of a value are the records of the value themselves, without their constraints.
+//! A codec for tests and examples: what it makes of a value are the records of the value themselves, without their
+//! constraints and tables.
 //!
 //! | Item | What it is |
 //! |---|---|

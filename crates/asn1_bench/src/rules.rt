@@ -6,7 +6,7 @@ use asn1_records::{Record, RecordEncoder};
 use asn1_schema::Rules;
 use std::alloc::Global;
 
-/// The rules of the record codec: a value becomes its records, without constraints.
+/// The rules of the record codec: a value becomes its records, without constraints and tables.
 ///
 /// They reject nothing, and take any bytes as one value of an open type. So `write_value` fails for want of memory, or where the
 /// value's records are higher than the depth, and for no other reason.

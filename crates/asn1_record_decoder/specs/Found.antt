@@ -16,7 +16,7 @@ use Rattle.asn1_records.specs.declared.record.Record.{Record}
 use Rattle.asn1_record_decoder.specs.declared.wanted.Wanted.{Wanted}
 use Rattle.asn1_record_decoder.specs.declared.wanted.Wanted.TheVariants.{Sequence, Set, SequenceOf, SetOf, Prefix, Alternative}
 
--- the record of the program is this one, apart from constraints
+-- the record of the program is this one, apart from constraints and tables
 abbrev pub IsRecord : Record → model.Record → Type 0
 IsRecord x r = record_of x ≡ record_without r
 

@@ -17,7 +17,7 @@ left_of outer (r ∷ rs) = left_of (records_of r.records.now ∷ outer) rs
 abbrev pub sees : RecordDecoder → List (List Record)
 sees d = records_of d.left.now ∷ left_of [] d.outer.items
 
--- the lists outside, without constraints and without the heads of their scopes
+-- the lists outside, without constraints and tables, and without the heads of their scopes
 abbrev pub outside_without : Outside → List (List Record)
 outside_without = map (λ scope. without_constraints scope.1)
 
@@ -25,7 +25,7 @@ outside_without = map (λ scope. without_constraints scope.1)
 abbrev pub ahead_without : Ahead → List (List Record)
 ahead_without ahead = without_constraints ahead.0 ∷ outside_without ahead.1
 
--- The decoder is before exactly these lists: apart from constraints, they are what is left.
+-- The decoder is before exactly these lists: apart from constraints and tables, they are what is left.
 pub record StandsExactly (d : RecordDecoder) (ahead : Ahead) : Type 0 where
   pub no_failure : d.failed ≡ false
   pub sees_them : sees d ≡ ahead_without ahead
@@ -43,6 +43,6 @@ in_one_order = record {
 abbrev pub record_reader : Reader RecordDecoder
 record_reader = up_to_order in_one_order
 
--- the decoder is before these lists: up to the order inside sets, and apart from constraints, they are what is left
+-- the decoder is before these lists: up to the order inside sets, and apart from constraints and tables, they are what is left
 abbrev pub StandsBefore : RecordDecoder → Ahead → Type 0
 StandsBefore d ahead = record_reader.stands d ahead

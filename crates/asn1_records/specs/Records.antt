@@ -26,7 +26,7 @@ content_of (Discriminant n) = model.discriminant no_table n
 content_of (Arcs arcs) = model.arcs arcs.items
 content_of (String string) = content_of_string string
 
--- the head, of no constraints
+-- the head, of no constraints and no table
 abbrev pub head_of : Head → model.Head
 head_of (Sequence t n) = model.sequence t no_table (name_of n)
 head_of (Set t n) = model.set t no_table (name_of n)

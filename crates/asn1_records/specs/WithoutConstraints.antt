@@ -5,7 +5,7 @@ use Rattle.asn1_model.specs.ConstraintSets.{unconstrained}
 use Rattle.asn1_model.specs.Records.{Record, Records, none, more, scalar, scope, raw, mark, Content, null, truth, number, discriminant, arcs, bits, units, Head, sequence, set, sequence_of, set_of, prefix, alternative, Mark, present, absent, group_start, group_absent, group_end}
 use Rattle.asn1_model.specs.Tables.{no_table}
 
--- the head without constraints
+-- the head without constraints and tables
 abbrev pub head_without : Head → Head
 head_without (sequence t table n) = sequence t no_table n
 head_without (set t table n) = set t no_table n
@@ -32,7 +32,7 @@ mark_without (group_start table) = group_start no_table
 mark_without group_absent = group_absent
 mark_without group_end = group_end
 
--- the record without constraints, and without those of what it holds
+-- the record without constraints and tables, and without those of what it holds
 abbrev mutual
   pub record_without : Record → Record
   record_without (scalar t c n x) = scalar t unconstrained n (content_without x)
@@ -44,11 +44,11 @@ abbrev mutual
   inner_without none = none
   inner_without (more r rs) = more (record_without r) (inner_without rs)
 
--- the records without constraints
+-- the records without constraints and tables
 abbrev pub without_constraints : List Record → List Record
 without_constraints = map record_without
 
--- what has been written, without constraints
+-- what has been written, without constraints and tables
 abbrev pub written_without : Written → Written
 written_without (outermost rs) = outermost (without_constraints rs)
 written_without (in_scope h rs w) = in_scope (head_without h) (without_constraints rs) (written_without w)

@@ -49,8 +49,8 @@
 //! - The words for a type of your own are in `specs/Words.antt`, from all crates below.
 //!
 //! `SetOf::with_capacity`, `insert`, `to_vec`, `from_slice`, `from_array` and `try_clone`, and `Any::try_clone` may want
-//! memory, and fail only where there is none; so may `AsnType::constraints`, of a type with a permitted alphabet. No other call
-//! takes any.
+//! memory, and fail only where there is none; so may `AnyStr::to_any_string`, and `AsnType::constraints` of a type with a
+//! permitted alphabet. No other call takes any.
 #![tactic(auto, using(asn1_tags::proofs::Leaves::tree_shapes))]
 
 mod any;
