@@ -13,10 +13,13 @@
 //! | `ranges` | bounds of whole numbers |
 //! | `bounds` | the kinds of constraint, constraint sets and their tables, constraints of components |
 //!
-//! A test is a list of calls of helpers; a helper makes one value, asserts, and drops it, which is the form that takes least
-//! to prove.
+//! A test is a list of calls of helpers, or one call for each row of a table. A helper makes one value and asserts by
+//! `assert_that` of `assertions`, or answers a `bool`, and drops the value. This is the form that takes least to prove: each
+//! `assert!` of a helper's own costs more than the rest of the helper.
 #![tactic(auto)]
 
+#[cfg(test)]
+mod assertions;
 #[cfg(test)]
 mod bounds;
 #[cfg(test)]

@@ -1,4 +1,5 @@
 //! Classes, tags, trees of tags and names of types.
+use crate::assertions::{assert_that, assert_written};
 use asn1_tags::{Class, Identifier, Tag, TagTree};
 use std::alloc::Global;
 use std::cmp::Ordering;
@@ -53,9 +54,11 @@ fn universal_tags_have_their_numbers(rt: HostRuntime) {
 
 // A class has that number and text.
 fn assert_class(rt: &impl Abort, alloc: Global, class: Class, number: u8, text: &str) {
-    assert!(rt; class as u8 == number && class.is_universal() == (number == 0));
-    assert!(rt; Class::from_u8(number) == Some(class));
-    assert!(rt; class.to_string(alloc).expect(rt, "memory").as_str() == text);
+    assert_that(rt, class as u8 == number, "the number");
+    assert_that(rt, Class::from_u8(number) == Some(class), "the class");
+    let is_universal = class.is_universal();
+    assert_that(rt, is_universal == (number == 0), "is_universal");
+    assert_written(rt, alloc, &class, text);
 }
 
 #[test]
@@ -65,32 +68,27 @@ fn classes_have_their_numbers_and_texts(rt: HostRuntime) {
     assert_class(&rt, alloc, Class::Application, 1, "application");
     assert_class(&rt, alloc, Class::Context, 2, "context");
     assert_class(&rt, alloc, Class::Private, 3, "private");
-    assert!(rt; Class::from_u8(4).is_none() && Class::from_u8(255).is_none());
-}
-
-fn assert_tag_text(rt: &impl Abort, alloc: Global, tag: Tag, text: &str) {
-    assert!(rt; tag.to_string(alloc).expect(rt, "memory").as_str() == text);
+    assert_that(&rt, Class::from_u8(4).is_none(), "no class 4");
+    assert_that(&rt, Class::from_u8(255).is_none(), "no class 255");
 }
 
 #[test]
 fn tags_have_their_texts(rt: HostRuntime) {
     let alloc = rt.alloc();
-    assert_tag_text(&rt, alloc, Tag::EOC, "Universal 0");
-    assert_tag_text(&rt, alloc, Tag::new_application(30), "Application 30");
-    assert_tag_text(&rt, alloc, Tag::new_context(0), "Context 0");
-    assert_tag_text(
-        &rt,
-        alloc,
-        Tag::new_private(4294967295),
-        "Private 4294967295",
-    );
+    assert_written(&rt, alloc, &Tag::EOC, "Universal 0");
+    assert_written(&rt, alloc, &Tag::new_application(30), "Application 30");
+    assert_written(&rt, alloc, &Tag::new_context(0), "Context 0");
+    let greatest = Tag::new_private(4294967295);
+    assert_written(&rt, alloc, &greatest, "Private 4294967295");
 }
 
 fn assert_tag_order(rt: &impl Abort, left: &Tag, right: &Tag, order: Ordering) {
-    assert!(rt; left.cmp(right) == order, "{left} and {right}");
-    assert!(rt; left.const_cmp(right) == order);
-    assert!(rt; left.const_less_than(*right) == (order == Ordering::Less));
-    assert!(rt; left.const_eq(right) == (order == Ordering::Equal));
+    assert_that(rt, left.cmp(right) == order, "cmp");
+    assert_that(rt, left.const_cmp(right) == order, "const_cmp");
+    let is_less = left.const_less_than(*right);
+    assert_that(rt, is_less == (order == Ordering::Less), "const_less_than");
+    let is_equal = left.const_eq(right);
+    assert_that(rt, is_equal == (order == Ordering::Equal), "const_eq");
 }
 
 #[test]
@@ -109,18 +107,28 @@ fn tags_go_by_class_then_number(rt: HostRuntime) {
             assert_tag_order(&rt, left, right, i.cmp(&j));
         }
     }
-    assert!(rt; Tag::CHOICE.is_choice());
-    assert!(rt; Tag::EOC.is_choice());
-    assert!(rt; !Tag::new_context(0).is_choice());
+}
+
+#[test]
+fn the_choice_marker_tag_is_universal_zero(rt: HostRuntime) {
+    assert_that(&rt, Tag::CHOICE.is_choice(), "CHOICE");
+    assert_that(&rt, Tag::EOC.is_choice(), "EOC");
+    assert_that(&rt, !Tag::new_context(0).is_choice(), "context 0");
+}
+
+macro_rules! tag {
+    ($class:ident $value:literal) => {
+        Tag {
+            class: Class::$class,
+            value: $value,
+        }
+    };
 }
 
 // The tree of a type with that tag.
 macro_rules! leaf {
     ($class:ident $value:literal) => {
-        TagTree::Leaf(Tag {
-            class: Class::$class,
-            value: $value,
-        })
+        TagTree::Leaf(tag!($class $value))
     };
 }
 
@@ -151,9 +159,12 @@ fn assert_leaves(
     count: usize,
 ) {
     let tree = TagTree::Choice(nodes);
-    assert!(rt; tree.smallest_tag() == smallest);
-    assert!(rt; tree.is_unique() == is_unique && TagTree::is_unique_set(nodes) == is_unique);
-    assert!(rt; TagTree::leaf_count(nodes) == Some(count));
+    assert_that(rt, tree.smallest_tag() == smallest, "the smallest tag");
+    assert_that(rt, tree.is_unique() == is_unique, "is_unique");
+    let is_unique_set = TagTree::is_unique_set(nodes);
+    assert_that(rt, is_unique_set == is_unique, "is_unique_set");
+    let found = TagTree::leaf_count(nodes);
+    assert_that(rt, found == Some(count), "the number of leaves");
 }
 
 const DISTINCT: &[TagTree<'static>] = &[
@@ -168,8 +179,10 @@ const DISTINCT: &[TagTree<'static>] = &[
 #[test]
 fn a_tree_with_each_tag_once_is_unique(rt: HostRuntime) {
     assert_leaves(&rt, DISTINCT, Tag::EOC, true, 8);
-    assert!(rt; TagTree::tag_contains(&Tag::new_context(2), DISTINCT));
-    assert!(rt; !TagTree::tag_contains(&Tag::new_context(1), DISTINCT));
+    let has_two = TagTree::tag_contains(&Tag::new_context(2), DISTINCT);
+    assert_that(&rt, has_two, "context 2");
+    let has_one = TagTree::tag_contains(&Tag::new_context(1), DISTINCT);
+    assert_that(&rt, !has_one, "no context 1");
 }
 
 const REPEATED: &[TagTree<'static>] = &[
@@ -200,41 +213,36 @@ const SEVEN: &[TagTree<'static>] = &[
     leaf!(Private 1),
 ];
 
-// What the seven leaves of the trees have at the place.
-fn assert_leaf(rt: &impl Abort, nodes: &[TagTree<'_>], place: usize, tag: Option<Tag>) {
-    assert!(rt; TagTree::leaf_count(nodes) == Some(7));
-    assert!(rt; TagTree::leaf_at(nodes, place) == tag);
+// Whether the seven leaves of the trees have the tag, or no leaf, at the place.
+fn is_leaf(nodes: &[TagTree<'_>], place: usize, tag: Option<Tag>) -> bool {
+    TagTree::leaf_count(nodes) == Some(7) && TagTree::leaf_at(nodes, place) == tag
 }
 
-// Where the seven leaves of the trees have the tag first.
-fn assert_place(rt: &impl Abort, nodes: &[TagTree<'_>], tag: &Tag, first: Option<usize>) {
-    assert!(rt; TagTree::leaf_count(nodes) == Some(7));
-    assert!(rt; TagTree::leaf_position(tag, nodes) == first);
+// Whether the seven leaves of the trees have the tag first there, or nowhere.
+fn is_first(nodes: &[TagTree<'_>], tag: &Tag, place: Option<usize>) -> bool {
+    TagTree::leaf_count(nodes) == Some(7) && TagTree::leaf_position(tag, nodes) == place
 }
 
-fn assert_leaf_and_place(
-    rt: &impl Abort,
-    nodes: &[TagTree<'_>],
-    place: usize,
-    tag: Tag,
-    first: usize,
-) {
-    assert_leaf(rt, nodes, place, Some(tag));
-    assert_place(rt, nodes, &tag, Some(first));
-}
+// The tag of each leaf, and where that tag is first.
+const LEAVES: &[(Tag, usize)] = &[
+    (tag!(Universal 0), 0),
+    (tag!(Application 0), 1),
+    (tag!(Application 1), 2),
+    (tag!(Application 0), 1),
+    (tag!(Application 0), 1),
+    (tag!(Context 2), 5),
+    (tag!(Private 1), 6),
+];
 
 #[test]
 fn leaves_are_numbered_from_the_left(rt: HostRuntime) {
-    assert_leaf_and_place(&rt, SEVEN, 0, Tag::EOC, 0);
-    assert_leaf_and_place(&rt, SEVEN, 1, Tag::new_application(0), 1);
-    assert_leaf_and_place(&rt, SEVEN, 2, Tag::new_application(1), 2);
-    assert_leaf_and_place(&rt, SEVEN, 3, Tag::new_application(0), 1);
-    assert_leaf_and_place(&rt, SEVEN, 4, Tag::new_application(0), 1);
-    assert_leaf_and_place(&rt, SEVEN, 5, Tag::new_context(2), 5);
-    assert_leaf_and_place(&rt, SEVEN, 6, Tag::new_private(1), 6);
-    assert_leaf(&rt, SEVEN, 7, None);
-    assert_leaf(&rt, SEVEN, usize::MAX, None);
-    assert_place(&rt, SEVEN, &Tag::BOOL, None);
+    for (place, (tag, first)) in LEAVES.iter().enumerate() {
+        assert_that(&rt, is_leaf(SEVEN, place, Some(*tag)), "the leaf");
+        assert_that(&rt, is_first(SEVEN, tag, Some(*first)), "its place");
+    }
+    assert_that(&rt, is_leaf(SEVEN, 7, None), "no leaf 7");
+    assert_that(&rt, is_leaf(SEVEN, usize::MAX, None), "no last leaf");
+    assert_that(&rt, is_first(SEVEN, &Tag::BOOL, None), "no BOOLEAN");
 }
 
 const C0_OR_U3: &[TagTree<'static>] = &[leaf!(Context 0), leaf!(Universal 3)];
@@ -249,28 +257,44 @@ fn the_smallest_tag_is_of_the_lowest_class(rt: HostRuntime) {
 
 const NOTHING_BELOW: &[TagTree<'static>] = &[leaf!(Universal 3), TagTree::Choice(C1_AND_NOTHING)];
 
+const EMPTY_CHOICES: &[(TagTree<'static>, bool)] = &[
+    (TagTree::Choice(NOTHING_BELOW), true),
+    (TagTree::Choice(A0_TWICE), false),
+    (leaf!(Universal 3), false),
+];
+
 #[test]
 fn a_choice_of_nothing_is_found_at_any_depth(rt: HostRuntime) {
-    assert!(rt; TagTree::empty().has_empty_choice());
-    assert!(rt; TagTree::Choice(NOTHING_BELOW).has_empty_choice());
-    assert!(rt; !TagTree::Choice(A0_TWICE).has_empty_choice());
-    assert!(rt; !leaf!(Universal 3).has_empty_choice());
+    for (tree, has_one) in EMPTY_CHOICES {
+        assert_that(&rt, tree.has_empty_choice() == *has_one, "the tree");
+    }
+    assert_that(&rt, TagTree::empty().has_empty_choice(), "no tree");
 }
+
+const SHARED: &[(TagTree<'static>, TagTree<'static>, bool)] = &[
+    (
+        TagTree::Choice(A0_TWICE),
+        TagTree::Choice(APPLICATIONS),
+        true,
+    ),
+    (TagTree::Choice(A0_TWICE), TagTree::Choice(CONTEXTS), true),
+    (leaf!(Context 2), TagTree::Choice(A0_TWICE), true),
+    (TagTree::Choice(A0_TWICE), TagTree::Choice(JUST_A1), false),
+    (TagTree::Choice(&[]), TagTree::Choice(&[]), false),
+];
 
 #[test]
 fn trees_share_a_leaf_at_any_depth(rt: HostRuntime) {
-    let nested = TagTree::Choice(A0_TWICE);
-    assert!(rt; nested.shares_leaf(&TagTree::Choice(APPLICATIONS)));
-    assert!(rt; nested.shares_leaf(&TagTree::Choice(CONTEXTS)));
-    assert!(rt; leaf!(Context 2).shares_leaf(&nested));
-    assert!(rt; !nested.shares_leaf(&TagTree::Choice(JUST_A1)));
-    assert!(rt; !TagTree::empty().shares_leaf(&TagTree::empty()));
+    for (left, right, is_shared) in SHARED {
+        let shares = left.shares_leaf(right);
+        assert_that(&rt, shares == *is_shared, "whether they share a leaf");
+    }
 }
 
 fn assert_tree_order(rt: &impl Abort, left: &TagTree<'_>, right: &TagTree<'_>, order: Ordering) {
-    assert!(rt; left.cmp(right) == order, "{left:?} and {right:?}");
-    assert!(rt; left.partial_cmp(right) == Some(order));
-    assert!(rt; (left == right) == (order == Ordering::Equal));
+    assert_that(rt, left.cmp(right) == order, "cmp");
+    assert_that(rt, left.partial_cmp(right) == Some(order), "partial_cmp");
+    assert_that(rt, (left == right) == (order == Ordering::Equal), "eq");
 }
 
 const ASCENDING_TREES: &[TagTree<'static>] = &[
@@ -299,7 +323,8 @@ fn trees_go_by_smallest_tag_then_structure(rt: HostRuntime) {
 fn a_tree_prints_as_its_tags(rt: HostRuntime) {
     let tree = TagTree::Choice(NOTHING_BELOW);
     let shown = format!(in rt.alloc(); "{tree:?}").expect(&rt, "memory");
-    assert!(rt; shown.as_str() == "(Universal 3, (Context 1, ()))");
+    let text = "(Universal 3, (Context 1, ()))";
+    assert_that(&rt, shown.as_str() == text, text);
 }
 
 const NAMES: &[(Identifier, &str)] = &[
@@ -341,18 +366,19 @@ const NAMES: &[(Identifier, &str)] = &[
     (Identifier::UTC_TIME, "UTCTime"),
 ];
 
-fn assert_name(rt: &impl Abort, name: Identifier, text: &str) {
-    assert!(rt; name.0 == Some(text));
-    assert!(rt; name.or(Identifier::EMPTY) == name && Identifier::EMPTY.or(name) == name);
+fn is_name(name: Identifier, text: &str) -> bool {
+    name.0 == Some(text) && name.or(Identifier::EMPTY) == name && Identifier::EMPTY.or(name) == name
 }
 
 #[test]
 fn names_of_types_have_their_texts(rt: HostRuntime) {
     for (name, text) in NAMES {
-        assert_name(&rt, *name, text);
+        assert_that(&rt, is_name(*name, text), text);
     }
-    assert!(rt; Identifier::EMPTY.0.is_none());
-    assert!(rt; Identifier::INTEGER.or(Identifier::BOOL).unwrap() == "INTEGER");
-    assert!(rt; Identifier::EMPTY < Identifier::BIT_STRING);
-    assert!(rt; Identifier::BIT_STRING < Identifier::BOOL);
+    assert_that(&rt, Identifier::EMPTY.0.is_none(), "EMPTY");
+    let integer = Identifier::INTEGER.or(Identifier::BOOL).unwrap();
+    assert_that(&rt, integer == "INTEGER", "INTEGER");
+    let bits = Identifier::BIT_STRING;
+    assert_that(&rt, Identifier::EMPTY < bits, "EMPTY is the first");
+    assert_that(&rt, bits < Identifier::BOOL, "BIT_STRING before BOOLEAN");
 }

@@ -1,5 +1,6 @@
 //! Permitted alphabets.
 use super::{LETTERS, permitted};
+use crate::assertions::assert_that;
 use asn1_bounds::PermittedAlphabet;
 use std::alloc::Global;
 use std::process::Abort;
@@ -15,7 +16,7 @@ fn assert_common(rt: &impl Abort, alloc: Global, left: &[u32], right: &[u32], co
     let left = permitted(rt, alloc, left);
     let right = permitted(rt, alloc, right);
     let both = left.intersect(alloc, &right).expect(rt, "memory");
-    assert!(rt; both.as_inner() == common);
+    assert_that(rt, both.as_inner() == common, "what both permit");
 }
 
 #[test]
@@ -28,8 +29,10 @@ fn leaves_common_characters(rt: HostRuntime) {
 
 /// Asserts that the letters a, b and c are in the alphabet, and d is not.
 fn assert_letters(rt: &impl Abort, letters: &PermittedAlphabet) {
-    assert!(rt; letters.as_inner() == LETTERS);
-    assert!(rt; letters.contains(97) && letters.contains(99) && !letters.contains(100));
+    assert_that(rt, letters.as_inner() == LETTERS, "the letters");
+    assert_that(rt, letters.contains(97), "a");
+    assert_that(rt, letters.contains(99), "c");
+    assert_that(rt, !letters.contains(100), "no d");
 }
 
 /// Asserts that a copy, where there is memory for it, has the letters.

@@ -1,37 +1,29 @@
 //! The texts of errors.
+use crate::assertions::assert_written;
 use asn1_bounds::{InnerSubtypeConstraintError, TooWide};
-use std::alloc::Global;
-use std::process::Abort;
 
-fn assert_text(rt: &impl Abort, alloc: Global, error: InnerSubtypeConstraintError, text: &str) {
-    let printed = error.to_string(alloc).expect(rt, "memory");
-    assert!(rt; printed.as_str() == text);
-}
+const ERRORS: &[(InnerSubtypeConstraintError, &str)] = &[
+    (InnerSubtypeConstraintError::Missing("a"), "missing a"),
+    (InnerSubtypeConstraintError::Unexpected("b"), "unexpected b"),
+    (
+        InnerSubtypeConstraintError::Value("version"),
+        "wrong value of version",
+    ),
+    (
+        InnerSubtypeConstraintError::Contained("content"),
+        "wrong content of content",
+    ),
+    (InnerSubtypeConstraintError::Memory, "no memory"),
+];
 
 #[test]
 fn says_what_is_wrong(rt: HostRuntime) {
-    let alloc = rt.alloc();
-    let value = InnerSubtypeConstraintError::Value("version");
-    let content = InnerSubtypeConstraintError::Contained("content");
-    assert_text(
-        &rt,
-        alloc,
-        InnerSubtypeConstraintError::Missing("a"),
-        "missing a",
-    );
-    assert_text(
-        &rt,
-        alloc,
-        InnerSubtypeConstraintError::Unexpected("b"),
-        "unexpected b",
-    );
-    assert_text(&rt, alloc, value, "wrong value of version");
-    assert_text(&rt, alloc, content, "wrong content of content");
-    assert_text(&rt, alloc, InnerSubtypeConstraintError::Memory, "no memory");
+    for (error, text) in ERRORS {
+        assert_written(&rt, rt.alloc(), error, text);
+    }
 }
 
 #[test]
 fn says_that_a_bound_does_not_fit(rt: HostRuntime) {
-    let text = TooWide.to_string(rt.alloc()).expect(&rt, "memory");
-    assert!(rt; text.as_str() == "bound does not fit");
+    assert_written(&rt, rt.alloc(), &TooWide, "bound does not fit");
 }

@@ -1,12 +1,13 @@
 //! Constraints with an extension marker.
 use super::{LETTERS, permitted};
+use crate::assertions::assert_that;
 use asn1_bounds::{Bounded, Extensible, PermittedAlphabet, Value};
 use std::alloc::Global;
 use std::process::Abort;
 
 /// Asserts that both parts are the same.
 fn assert_same(rt: &impl Abort, part: Extensible<Value>, other: Extensible<Value>) {
-    assert!(rt; part == other);
+    assert_that(rt, part == other, "the same part");
 }
 
 #[test]
@@ -37,13 +38,18 @@ fn assert_common(
     characters: &[u32],
 ) {
     let both = left.intersect(alloc, right).expect(rt, "memory");
-    assert!(rt; both.constraint.as_inner() == characters && both.extensible.is_none());
+    assert_that(
+        rt,
+        both.constraint.as_inner() == characters,
+        "the characters",
+    );
+    assert_that(rt, both.extensible.is_none(), "no marker");
 }
 
 /// Asserts that the copy of the part has a marker.
 fn assert_copy(rt: &impl Abort, alloc: Global, part: &Extensible<PermittedAlphabet>) {
     let copy = part.try_clone(alloc).expect(rt, "memory");
-    assert!(rt; copy.extensible.is_some());
+    assert_that(rt, copy.extensible.is_some(), "the marker");
 }
 
 #[test]

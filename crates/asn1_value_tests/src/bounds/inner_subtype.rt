@@ -2,6 +2,7 @@
 ghost use Rattle.std.specs.Prelude.{◌≡◌, ◌==◌, Ok, Err, IfOk, IsNone, is_none, is_some, codes, if◌then◌else◌};
 ghost use Rattle.asn1_bounds.specs.InnerSubtype.{outcome, missing, unexpected, wrong_value};
 
+use crate::assertions::assert_that;
 use asn1_bounds::{Codec, InnerSubtypeConstraint, InnerSubtypeConstraintError};
 use std::alloc::{AllocError, Global};
 use std::process::Abort;
@@ -83,7 +84,7 @@ fn assert_answer(
     answer: Result<Pair, InnerSubtypeConstraintError>,
     wanted: Result<Pair, InnerSubtypeConstraintError>,
 ) {
-    assert!(rt; answer == wanted);
+    assert_that(rt, answer == wanted, "the answer");
 }
 
 fn validated(
@@ -126,11 +127,7 @@ fn assert_refused(
     let content = truth_in(alloc, Codec::Der).expect(rt, "memory");
     let letter = Letter { version, content };
     let found = letter.validate_and_decode_containing(alloc, codec).err();
-    let memory = Some(InnerSubtypeConstraintError::Memory);
-    if found == memory && error != memory {
-        panic!(rt; "memory");
-    }
-    assert!(rt; found == error);
+    assert_that(rt, found == error, "the error");
 }
 
 #[test]

@@ -1,7 +1,7 @@
 //! What bounds have in common, their members, and how they print.
+use crate::assertions::{assert_that, assert_written};
 use asn1_ranges::{Bounded, WholeNumber};
-use either::{Left, Right};
-use std::alloc::Global;
+use either::{Either, Left, Right};
 use std::process::Abort;
 
 const OPEN: Bounded<i128> = Bounded::Range {
@@ -20,7 +20,8 @@ fn assert_common(
     right: Bounded<i128>,
     both: Option<Bounded<i128>>,
 ) {
-    assert!(rt; left.intersect(right) == both && right.intersect(left) == both);
+    assert_that(rt, left.intersect(right) == both, "from the left");
+    assert_that(rt, right.intersect(left) == both, "from the right");
 }
 
 #[test]
@@ -65,47 +66,60 @@ const UP_TO: Bounded<i128> = Bounded::Range {
     end: Some(10),
 };
 
-const KINDS: &[Bounded<i128>] = &[Bounded::None, SINGLE, CLOSED, FROM, UP_TO, OPEN];
-
-// What each of these has in common with those of `KINDS`, in their order.
-const COMMON: &[(Bounded<i128>, &[Bounded<i128>])] = &[
-    (Bounded::None, KINDS),
-    (SINGLE, &[SINGLE, SINGLE, SINGLE, SINGLE, SINGLE, SINGLE]),
-    (CLOSED, &[CLOSED, SINGLE, CLOSED, CLOSED, CLOSED, CLOSED]),
-    (FROM, &[FROM, SINGLE, CLOSED, FROM, CLOSED, FROM]),
-    (UP_TO, &[UP_TO, SINGLE, CLOSED, CLOSED, UP_TO, UP_TO]),
-    (OPEN, &[OPEN, SINGLE, CLOSED, FROM, UP_TO, OPEN]),
+// Two bounds of each pair of kinds, and what they have in common.
+const COMMON: &[(Bounded<i128>, Bounded<i128>, Bounded<i128>)] = &[
+    (Bounded::None, Bounded::None, Bounded::None),
+    (Bounded::None, SINGLE, SINGLE),
+    (Bounded::None, CLOSED, CLOSED),
+    (Bounded::None, FROM, FROM),
+    (Bounded::None, UP_TO, UP_TO),
+    (Bounded::None, OPEN, OPEN),
+    (SINGLE, SINGLE, SINGLE),
+    (SINGLE, CLOSED, SINGLE),
+    (SINGLE, FROM, SINGLE),
+    (SINGLE, UP_TO, SINGLE),
+    (SINGLE, OPEN, SINGLE),
+    (CLOSED, CLOSED, CLOSED),
+    (CLOSED, FROM, CLOSED),
+    (CLOSED, UP_TO, CLOSED),
+    (CLOSED, OPEN, CLOSED),
+    (FROM, FROM, FROM),
+    (FROM, UP_TO, CLOSED),
+    (FROM, OPEN, FROM),
+    (UP_TO, UP_TO, UP_TO),
+    (UP_TO, OPEN, UP_TO),
+    (OPEN, OPEN, OPEN),
 ];
 
 #[test]
 fn intersects_each_pair(rt: HostRuntime) {
-    for (bound, answers) in COMMON {
-        for (other, both) in KINDS.iter().zip(answers.iter()) {
-            assert_common(&rt, *bound, *other, Some(*both));
-        }
+    for (left, right, both) in COMMON {
+        assert_common(&rt, *left, *right, Some(*both));
     }
 }
 
-fn assert_text(rt: &impl Abort, alloc: Global, bound: Bounded<i128>, text: &str) {
-    let printed = format!(in alloc; "{bound}").expect(rt, "memory");
-    assert!(rt; printed.as_str() == text);
-}
+const PRINTED: &[(Bounded<i128>, &str)] = &[
+    (CLOSED, "1..10"),
+    (UP_TO, "..10"),
+    (OPEN, ".."),
+    (SINGLE, "5"),
+    (Bounded::None, ".."),
+];
 
 #[test]
 fn prints_bounds(rt: HostRuntime) {
-    let alloc = rt.alloc();
-    assert_text(&rt, alloc, range(1, 10), "1..10");
-    assert_text(&rt, alloc, Bounded::start_from(-1), "-1..");
-    assert_text(&rt, alloc, Bounded::up_to(10), "..10");
-    assert_text(&rt, alloc, OPEN, "..");
-    assert_text(&rt, alloc, Bounded::Single(5), "5");
-    assert_text(&rt, alloc, Bounded::None, "..");
+    for (bound, text) in PRINTED {
+        assert_written(&rt, rt.alloc(), bound, text);
+    }
+    assert_written(&rt, rt.alloc(), &Bounded::start_from(-1), "-1..");
 }
 
 fn assert_ends(rt: &impl Abort, bound: Bounded<i128>, start: Option<i128>, end: Option<i128>) {
     let (from, to) = bound.start_and_end();
-    assert!(rt; from.copied() == start && to.copied() == end);
-    assert!(rt; bound.as_start().copied() == start && bound.as_end().copied() == end);
+    assert_that(rt, from.copied() == start, "the start");
+    assert_that(rt, to.copied() == end, "the end");
+    assert_that(rt, bound.as_start().copied() == start, "the start alone");
+    assert_that(rt, bound.as_end().copied() == end, "the end alone");
 }
 
 #[test]
@@ -124,11 +138,11 @@ fn seven() -> u8 {
 /// Asserts by each call whether the bound has the member.
 fn assert_member(rt: &impl Abort, bound: Bounded<i128>, element: i128, is_member: bool) {
     let answer = if is_member { Ok(()) } else { Err(7) };
-    assert!(rt; bound.contains(&element) == is_member);
-    assert!(rt;
-        bound.contains_or(&element, 7u8) == answer
-            && bound.contains_or_else(&element, seven) == answer
-    );
+    assert_that(rt, bound.contains(&element) == is_member, "contains");
+    let or = bound.contains_or(&element, 7u8);
+    assert_that(rt, or == answer, "contains_or");
+    let or_else = bound.contains_or_else(&element, seven);
+    assert_that(rt, or_else == answer, "contains_or_else");
 }
 
 #[test]
@@ -146,9 +160,12 @@ fn tells_members(rt: HostRuntime) {
 fn counts<T: WholeNumber>(rt: &impl Abort, least: T, greatest: T) {
     let all = Bounded::const_new(least, greatest);
     let single = Bounded::Single(least);
-    assert!(rt; all.range() == Some(greatest) && Bounded::start_from(least).range() == None);
-    assert!(rt; all.contains(&least) && all.contains(&greatest));
-    assert!(rt; all.intersect(single) == Some(single));
+    assert_that(rt, all.range() == Some(greatest), "the count");
+    let open = Bounded::start_from(least);
+    assert_that(rt, open.range().is_none(), "no count");
+    assert_that(rt, all.contains(&least), "the least");
+    assert_that(rt, all.contains(&greatest), "the greatest");
+    assert_that(rt, all.intersect(single) == Some(single), "one number");
 }
 
 #[test]
@@ -168,7 +185,7 @@ fn counts_every_kind_of_integer(rt: HostRuntime) {
 }
 
 fn assert_count<T: WholeNumber>(rt: &impl Abort, bound: Bounded<T>, count: Option<T>) {
-    assert!(rt; bound.range() == count);
+    assert_that(rt, bound.range() == count, "the count");
 }
 
 #[test]
@@ -184,19 +201,28 @@ fn counts_members(rt: HostRuntime) {
     assert_count(&rt, Bounded::<i128>::None, None);
 }
 
+fn assert_value(rt: &impl Abort, found: Either<i128, i128>, wanted: Either<i128, i128>) {
+    assert_that(rt, found == wanted, "the effective value");
+}
+
 #[test]
 fn gives_effective_values(rt: HostRuntime) {
-    assert!(rt; Bounded::new(5i128, 10).effective_value(7) == Left(2));
-    assert!(rt; Bounded::up_to(10i128).effective_value(7) == Right(7));
-    assert!(rt; Bounded::Single(5i128).effective_value(5) == Right(5));
-    assert!(rt; Bounded::None.effective_value(i128::MIN) == Right(i128::MIN));
-    assert!(rt; Bounded::start_from(i128::MIN).effective_value(-1) == Left(i128::MAX));
-    assert!(rt; Bounded::start_from(-1i128).effective_value(i128::MAX - 1) == Left(i128::MAX));
-    assert!(rt; Bounded::start_from(1usize).effective_value(usize::MAX) == Left(usize::MAX - 1));
+    assert_value(&rt, Bounded::new(5, 10).effective_value(7), Left(2));
+    assert_value(&rt, Bounded::up_to(10).effective_value(7), Right(7));
+    assert_value(&rt, Bounded::Single(5).effective_value(5), Right(5));
+    let any = Bounded::None.effective_value(i128::MIN);
+    assert_value(&rt, any, Right(i128::MIN));
+    let from_least = Bounded::start_from(i128::MIN).effective_value(-1);
+    assert_value(&rt, from_least, Left(i128::MAX));
+    let from_below_0 = Bounded::start_from(-1).effective_value(i128::MAX - 1);
+    assert_value(&rt, from_below_0, Left(i128::MAX));
+    let length = Bounded::start_from(1usize).effective_value(usize::MAX);
+    assert_that(&rt, length == Left(usize::MAX - 1), "a length");
 }
 
 fn assert_octets(rt: &impl Abort, bound: Bounded<i128>, is_signed: bool, octets: Option<u8>) {
-    assert!(rt; bound.range_in_bytes() == (is_signed, octets));
+    let found = bound.range_in_bytes();
+    assert_that(rt, found == (is_signed, octets), "the octets");
 }
 
 #[test]
@@ -218,42 +244,57 @@ fn gives_octets(rt: HostRuntime) {
     assert_octets(&rt, Bounded::None, true, None);
 }
 
-/// Asserts in how many octets the numbers of a signed type go, and in how many with one number more at either end.
-fn assert_signed(rt: &impl Abort, least: i64, greatest: i64, octets: Option<u8>, more: Option<u8>) {
-    let (least, greatest) = (i128::from(least), i128::from(greatest));
-    assert_octets(rt, range(least, greatest), true, octets);
-    assert_octets(rt, range(least - 1, greatest), true, more);
-    assert_octets(rt, range(least, greatest + 1), true, more);
-}
-
-/// The same of an unsigned type, whose numbers begin at 0.
-fn assert_unsigned(rt: &impl Abort, greatest: u64, octets: Option<u8>, more: Option<u8>) {
-    let greatest = i128::from(greatest);
-    assert_octets(rt, range(0, greatest), false, octets);
-    assert_octets(rt, range(-1, greatest), true, more);
-    assert_octets(rt, range(0, greatest + 1), false, more);
-}
-
-#[test]
-fn gives_octets_of_the_integer_types(rt: HostRuntime) {
-    assert_signed(&rt, -128, 127, Some(1), Some(2));
-    assert_signed(&rt, -32_768, 32_767, Some(2), Some(4));
-    assert_signed(&rt, -2_147_483_648, 2_147_483_647, Some(4), Some(8));
-    assert_signed(
-        &rt,
+// The least and the greatest number of each signed type, and in how many octets they go; then with one number more at either
+// end.
+const SIGNED: &[(i128, i128, Option<u8>)] = &[
+    (-128, 127, Some(1)),
+    (-129, 127, Some(2)),
+    (-128, 128, Some(2)),
+    (-32_768, 32_767, Some(2)),
+    (-32_769, 32_767, Some(4)),
+    (-32_768, 32_768, Some(4)),
+    (-2_147_483_648, 2_147_483_647, Some(4)),
+    (-2_147_483_649, 2_147_483_647, Some(8)),
+    (-2_147_483_648, 2_147_483_648, Some(8)),
+    (
         -9_223_372_036_854_775_808,
         9_223_372_036_854_775_807,
         Some(8),
-        None,
-    );
-    assert_unsigned(&rt, 255, Some(1), Some(2));
-    assert_unsigned(&rt, 65_535, Some(2), Some(4));
-    assert_unsigned(&rt, 4_294_967_295, Some(4), Some(8));
-    assert_unsigned(&rt, 18_446_744_073_709_551_615, Some(8), None);
+    ),
+    (-9_223_372_036_854_775_809, 9_223_372_036_854_775_807, None),
+    (-9_223_372_036_854_775_808, 9_223_372_036_854_775_808, None),
+];
+
+// The same of each unsigned type, whose numbers begin at 0. With a number below 0 they are signed.
+const UNSIGNED: &[(i128, i128, Option<u8>)] = &[
+    (0, 255, Some(1)),
+    (-1, 255, Some(2)),
+    (0, 256, Some(2)),
+    (0, 65_535, Some(2)),
+    (-1, 65_535, Some(4)),
+    (0, 65_536, Some(4)),
+    (0, 4_294_967_295, Some(4)),
+    (-1, 4_294_967_295, Some(8)),
+    (0, 4_294_967_296, Some(8)),
+    (0, 18_446_744_073_709_551_615, Some(8)),
+    (-1, 18_446_744_073_709_551_615, None),
+    (0, 18_446_744_073_709_551_616, None),
+];
+
+#[test]
+fn gives_octets_of_the_integer_types(rt: HostRuntime) {
+    for (least, greatest, octets) in SIGNED {
+        assert_octets(&rt, range(*least, *greatest), true, *octets);
+    }
+    for (least, greatest, octets) in UNSIGNED {
+        assert_octets(&rt, range(*least, *greatest), *least < 0, *octets);
+    }
 }
 
 #[test]
 fn orders_bounds(rt: HostRuntime) {
-    assert!(rt; Bounded::None < Bounded::Single(0) && Bounded::Single(0) < range(0, 0));
-    assert!(rt; Bounded::up_to(9) < range(0, 0));
+    let zero = Bounded::Single(0);
+    assert_that(&rt, Bounded::None < zero, "none before one");
+    assert_that(&rt, zero < range(0, 0), "one before a range");
+    assert_that(&rt, Bounded::up_to(9) < range(0, 0), "no start first");
 }

@@ -1,22 +1,14 @@
 //! Lists of tags, with a table or none.
 use super::A0_TWICE;
+use crate::assertions::{assert_that, assert_written};
 use asn1_tags::{Class, Tag, TagTree, Variants, VariantsError};
 use std::alloc::{AllocError, Global};
 use std::process::Abort;
 
-fn assert_tags(rt: &impl Abort, variants: Variants, tags: &[Tag]) {
-    assert!(rt; variants.as_slice() == tags);
-}
-
-fn assert_variants(rt: &impl Abort, alloc: Global, nodes: &[TagTree<'_>], tags: &[Tag]) {
-    assert_tags(
-        rt,
-        Variants::from_slice(alloc, nodes).expect(rt, "memory"),
-        tags,
-    );
-    let variants = Variants::new(alloc, nodes).expect(rt, "memory");
-    assert_tags(rt, variants.try_clone(alloc).expect(rt, "memory"), tags);
-    assert_tags(rt, variants, tags);
+/// Asserts that the list was made, and has these tags.
+fn assert_tags(rt: &impl Abort, made: Result<Variants, AllocError>, tags: &[Tag]) {
+    let variants = made.expect(rt, "memory");
+    assert_that(rt, variants.as_slice() == tags, "the tags");
 }
 
 #[test]
@@ -29,13 +21,12 @@ fn variants_are_the_leaves_from_the_left(rt: HostRuntime) {
         Tag::new_application(0),
         Tag::new_context(2),
     ];
-    assert_variants(&rt, alloc, &nodes, &tags);
-    assert_tags(
-        &rt,
-        Variants::from_static(alloc, A0_TWICE).expect(&rt, "memory"),
-        &tags[1..],
-    );
-    assert_tags(&rt, Variants::empty(alloc), &[]);
+    let variants = Variants::new(alloc, &nodes).expect(&rt, "memory");
+    assert_tags(&rt, variants.try_clone(alloc), &tags);
+    assert_tags(&rt, Ok(variants), &tags);
+    assert_tags(&rt, Variants::from_slice(alloc, &nodes), &tags);
+    assert_tags(&rt, Variants::from_static(alloc, A0_TWICE), &tags[1..]);
+    assert_tags(&rt, Ok(Variants::empty(alloc)), &[]);
 }
 
 const C0: Tag = Tag {
@@ -77,31 +68,37 @@ fn assert_found(
     place: Option<usize>,
     count: usize,
 ) {
-    assert!(rt; variants.find_counted(&tag) == (place, count));
-    assert!(rt; variants.position_of(&tag) == place);
+    let found = variants.find_counted(&tag);
+    assert_that(rt, found == (place, count), "find_counted");
+    assert_that(rt, variants.position_of(&tag) == place, "position_of");
 }
 
 // The table fails first at the index.
 fn assert_mismatch(rt: &impl Abort, alloc: Global, entries: &[(Tag, usize)], index: usize) {
     let table = copied(rt, alloc, entries);
-    match Variants::with_table(alloc, C0_U3_U3, table) {
-        Ok(_) => assert!(rt; false),
-        Err(VariantsError::Memory) => panic!(rt; "memory"),
-        Err(error) => assert!(rt; error == VariantsError::TableMismatch(index)),
-    }
+    let made = Variants::with_table(alloc, C0_U3_U3, table);
+    let error = Some(VariantsError::TableMismatch(index));
+    assert_that(rt, made.err() == error, "the mismatch");
 }
+
+const U3: Tag = Tag::BIT_STRING;
+
+// Tables that do not fit the three tags, and where each of them first fails.
+const MISMATCHES: &[(&[(Tag, usize)], usize)] = &[
+    (&[(U3, 1), (U3, 2)], 2),
+    (&[(U3, 1), (U3, 2), (C0, 0), (C0, 0)], 3),
+    (&[(U3, 1), (U3, 1), (C0, 0)], 1),
+    (&[(U3, 1), (U3, 3), (C0, 0)], 1),
+    (&[(U3, 2), (U3, 1), (C0, 0)], 1),
+    (&[(U3, 0), (U3, 1), (C0, 2)], 0),
+    (&[], 0),
+];
 
 #[test]
 fn a_table_that_does_not_fit_is_refused(rt: HostRuntime) {
-    let alloc = rt.alloc();
-    let u3 = Tag::BIT_STRING;
-    assert_mismatch(&rt, alloc, &[(u3, 1), (u3, 2)], 2);
-    assert_mismatch(&rt, alloc, &[(u3, 1), (u3, 2), (C0, 0), (C0, 0)], 3);
-    assert_mismatch(&rt, alloc, &[(u3, 1), (u3, 1), (C0, 0)], 1);
-    assert_mismatch(&rt, alloc, &[(u3, 1), (u3, 3), (C0, 0)], 1);
-    assert_mismatch(&rt, alloc, &[(u3, 2), (u3, 1), (C0, 0)], 1);
-    assert_mismatch(&rt, alloc, &[(u3, 0), (u3, 1), (C0, 2)], 0);
-    assert_mismatch(&rt, alloc, &[], 0);
+    for (entries, index) in MISMATCHES {
+        assert_mismatch(&rt, rt.alloc(), entries, *index);
+    }
 }
 
 fn assert_found_in_three(rt: &impl Abort, variants: &Variants) {
@@ -139,10 +136,11 @@ fn a_list_without_a_table_is_searched_from_the_left(rt: HostRuntime) {
     assert_found(&rt, &Variants::empty(alloc), Tag::BIT_STRING, None, 0);
 }
 
-// Asserts that the list, where there is memory for it, has all three.
-fn assert_whole(rt: &impl Abort, made: Result<Variants, AllocError>) {
-    if let Ok(variants) = made {
-        assert!(rt; variants.as_slice().len() == 3);
+// Whether the list, where there is memory for it, has all three.
+fn is_whole(made: Result<Variants, AllocError>) -> bool {
+    match made {
+        Ok(variants) => variants.as_slice().len() == 3,
+        Err(_) => true,
     }
 }
 
@@ -151,9 +149,9 @@ fn assert_table(rt: &impl Abort, alloc: Global, made: Result<Variants, VariantsE
     match made {
         Ok(variants) => {
             assert_found_in_three(rt, &variants);
-            assert_whole(rt, variants.try_clone(alloc));
+            assert_that(rt, is_whole(variants.try_clone(alloc)), "the copy");
         }
-        Err(error) => assert!(rt; error == VariantsError::Memory),
+        Err(error) => assert_that(rt, error == VariantsError::Memory, "memory"),
     }
 }
 
@@ -161,21 +159,16 @@ fn assert_table(rt: &impl Abort, alloc: Global, made: Result<Variants, VariantsE
 #[test]
 fn a_refused_growth_gives_no_variants(rt: HostRuntime) {
     let alloc = rt.alloc();
-    assert_whole(&rt, Variants::new(alloc, C0_U3_U3));
+    assert_that(&rt, is_whole(Variants::new(alloc, C0_U3_U3)), "the list");
     if let Ok(table) = Vec::from_slice(alloc, FITTING) {
         assert_table(&rt, alloc, Variants::with_table(alloc, C0_U3_U3, table));
     }
 }
 
-// What the error prints.
-fn assert_error_text(rt: &impl Abort, alloc: Global, error: VariantsError, text: &str) {
-    assert!(rt; error.to_string(alloc).expect(rt, "memory").as_str() == text);
-}
-
 #[test]
 fn errors_say_what_is_wrong(rt: HostRuntime) {
     let alloc = rt.alloc();
-    assert_error_text(&rt, alloc, VariantsError::Memory, "no memory");
+    assert_written(&rt, alloc, &VariantsError::Memory, "no memory");
     let mismatch = VariantsError::TableMismatch(7);
-    assert_error_text(&rt, alloc, mismatch, "table entry 7 does not fit");
+    assert_written(&rt, alloc, &mismatch, "table entry 7 does not fit");
 }

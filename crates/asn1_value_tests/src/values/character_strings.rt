@@ -1,4 +1,5 @@
 //! Character strings and their alphabets.
+use crate::assertions::{assert_that, assert_written};
 use asn1_strings::kind::{Numeric, Printable, Visible};
 use asn1_strings::{
     Alphabet, AlphabetError, AlphabetString, AsciiAlphabet, BmpString, GeneralString,
@@ -38,7 +39,7 @@ fn assert_refused<A: Alphabet<u8> + Drop>(
     made: Result<AlphabetString<u8, A>, AlphabetError>,
     index: usize,
 ) {
-    assert!(rt; made.err() == Some(AlphabetError(index)));
+    assert_that(rt, made.err() == Some(AlphabetError(index)), "refused");
 }
 
 #[test]
@@ -57,8 +58,8 @@ fn assert_allowed<A: Alphabet<u8> + Drop>(
     units: &[u8],
 ) {
     let text = made.expect(rt, "an allowed text");
-    assert!(rt; text.as_slice() == units);
-    assert!(rt; text.into_vec().as_slice() == units);
+    assert_that(rt, text.as_slice() == units, "the units");
+    assert_that(rt, text.into_vec().as_slice() == units, "the list");
 }
 
 /// Asserts that the string gives these units back.
@@ -67,8 +68,8 @@ fn assert_units<U: StringUnit + Copy + PartialEq, K: Drop>(
     text: UnitString<U, K>,
     units: &[U],
 ) {
-    assert!(rt; text.as_slice() == units);
-    assert!(rt; text.into_vec().as_slice() == units);
+    assert_that(rt, text.as_slice() == units, "the units");
+    assert_that(rt, text.into_vec().as_slice() == units, "the list");
 }
 
 #[test]
@@ -102,17 +103,22 @@ fn strings_give_their_units_back(rt: HostRuntime) {
     );
 }
 
+fn visible(rt: &impl Abort, alloc: Global, text: &[u8]) -> VisibleString {
+    VisibleString::new(own(rt, alloc, text)).expect(rt, "an allowed text")
+}
+
 /// Asserts that the text is less than the other, which it does not equal.
-fn assert_less(rt: &impl Abort, alloc: Global, text: &[u8], other: &[u8]) {
-    let text = VisibleString::new(own(rt, alloc, text)).expect(rt, "an allowed text");
-    let other = VisibleString::new(own(rt, alloc, other)).expect(rt, "an allowed text");
-    assert!(rt; text < other && text != other);
+fn assert_less(rt: &impl Abort, text: &VisibleString, other: &VisibleString) {
+    assert_that(rt, text < other, "the order");
+    assert_that(rt, text != other, "inequality");
 }
 
 #[test]
 fn strings_go_lexicographically(rt: HostRuntime) {
-    assert_less(&rt, rt.alloc(), b"Ann", b"Anna");
-    assert_less(&rt, rt.alloc(), b"Anna", b"Bob");
+    let alloc = rt.alloc();
+    let anna = visible(&rt, alloc, b"Anna");
+    assert_less(&rt, &visible(&rt, alloc, b"Ann"), &anna);
+    assert_less(&rt, &anna, &visible(&rt, alloc, b"Bob"));
 }
 
 /// Asserts that the string was made of the text, gives it back and is written as it.
@@ -123,9 +129,10 @@ fn assert_text<A: AsciiAlphabet + Drop>(
     text: &str,
 ) {
     let made = made.expect(rt, "an allowed text");
-    assert!(rt; made.as_str() == text && made.len() == text.len());
-    let written = made.to_string(alloc).expect(rt, "memory");
-    assert!(rt; written.as_str() == text);
+    assert_that(rt, made.as_str() == text, text);
+    assert_that(rt, made.len() == text.len(), "the number of units");
+    assert_that(rt, made.is_empty() == text.is_empty(), "no units");
+    assert_written(rt, alloc, &made, text);
 }
 
 /// Asserts that no string was made of the text, for the character with this index.
@@ -134,7 +141,8 @@ fn assert_text_refused<A: AsciiAlphabet + Drop>(
     made: Result<AlphabetString<u8, A>, StringError>,
     index: usize,
 ) {
-    assert!(rt; made.err() == Some(StringError::NotAllowed(AlphabetError(index))));
+    let error = Some(StringError::NotAllowed(AlphabetError(index)));
+    assert_that(rt, made.err() == error, "refused");
 }
 
 #[test]
@@ -165,6 +173,6 @@ fn strings_are_made_of_texts(rt: HostRuntime) {
 
 #[test]
 fn an_empty_string_has_no_units(rt: HostRuntime) {
-    let text = PrintableString::try_from_str(rt.alloc(), "").expect(&rt, "an allowed text");
-    assert!(rt; text.is_empty() && text.len() == 0);
+    let alloc = rt.alloc();
+    assert_text(&rt, alloc, PrintableString::try_from_str(alloc, ""), "");
 }

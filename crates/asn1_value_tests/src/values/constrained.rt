@@ -1,6 +1,6 @@
 //! Whole numbers with limits.
+use crate::assertions::assert_that;
 use asn1_values::{ConstrainedInteger, Integer, LimitedInteger, Limits};
-use std::process::Abort;
 
 /// The numbers of a `u64`.
 #[derive(Drop)]
@@ -22,35 +22,36 @@ impl Limits for OfU64 {
     }
 }
 
-fn assert_is_from_one_to_ten(rt: &impl Abort, number: i128) {
-    let limited = ConstrainedInteger::<1, 10>::new(Integer::from_i128(number));
-    let limited = limited.expect(rt, "a number within the limits");
-    assert!(rt; limited.get().to_i128() == Some(number));
+/// Whether the number is one from 1 to 10, which is then given back.
+fn is_from_one_to_ten(number: i128) -> bool {
+    match ConstrainedInteger::<1, 10>::new(Integer::from_i128(number)) {
+        Some(limited) => limited.get().to_i128() == Some(number),
+        None => false,
+    }
 }
 
-fn assert_is_not_from_one_to_ten(rt: &impl Abort, number: i128) {
-    let limited = ConstrainedInteger::<1, 10>::new(Integer::from_i128(number));
-    assert!(rt; limited.is_none());
+/// Whether the number is refused as one from 1 to 10.
+fn is_not_from_one_to_ten(number: i128) -> bool {
+    ConstrainedInteger::<1, 10>::new(Integer::from_i128(number)).is_none()
 }
 
 #[test]
 fn numbers_are_within_the_limits(rt: HostRuntime) {
-    assert_is_not_from_one_to_ten(&rt, 0);
-    assert_is_from_one_to_ten(&rt, 1);
-    assert_is_from_one_to_ten(&rt, 7);
-    assert_is_from_one_to_ten(&rt, 10);
-    assert_is_not_from_one_to_ten(&rt, 11);
+    assert_that(&rt, is_not_from_one_to_ten(0), "0");
+    assert_that(&rt, is_from_one_to_ten(1), "1");
+    assert_that(&rt, is_from_one_to_ten(7), "7");
+    assert_that(&rt, is_from_one_to_ten(10), "10");
+    assert_that(&rt, is_not_from_one_to_ten(11), "11");
 }
 
-/// Asserts whether the number is one of a `u64`.
-fn assert_is_u64(rt: &impl Abort, number: i128, is_within: bool) {
-    let limited = LimitedInteger::<OfU64>::new(Integer::from_i128(number));
-    assert!(rt; limited.is_some() == is_within);
+/// Whether the number is one of a `u64`.
+fn is_u64(number: i128) -> bool {
+    LimitedInteger::<OfU64>::new(Integer::from_i128(number)).is_some()
 }
 
 #[test]
 fn limits_may_need_more_than_64_bits(rt: HostRuntime) {
-    assert_is_u64(&rt, -1, false);
-    assert_is_u64(&rt, 18446744073709551615, true);
-    assert_is_u64(&rt, 18446744073709551616, false);
+    assert_that(&rt, !is_u64(-1), "-1");
+    assert_that(&rt, is_u64(18446744073709551615), "the greatest");
+    assert_that(&rt, !is_u64(18446744073709551616), "above the greatest");
 }

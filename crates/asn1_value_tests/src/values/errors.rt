@@ -1,15 +1,7 @@
 //! The texts of errors.
+use crate::assertions::assert_written;
 use asn1_strings::{AlphabetError, ArcError, ObjectIdentifierError, StringError};
 use asn1_values::OutOfRangeError;
-use std::alloc::Global;
-use std::fmt::Display;
-use std::process::Abort;
-
-/// Asserts that the error is written as this text.
-fn assert_written<E: Display>(rt: &impl Abort, alloc: Global, error: &E, text: &str) {
-    let written = error.to_string(alloc).expect(rt, "memory");
-    assert!(rt; written.as_str() == text);
-}
 
 #[test]
 fn says_which_unit(rt: HostRuntime) {
@@ -28,31 +20,29 @@ fn says_why_a_text_is_no_string(rt: HostRuntime) {
     assert_written(&rt, rt.alloc(), &StringError::Memory, "no memory");
 }
 
-/// Asserts that the arc's error is written as this text, after the index of the arc.
-fn assert_arc(rt: &impl Abort, alloc: Global, why: ArcError, text: &str) {
-    assert_written(rt, alloc, &ObjectIdentifierError::Arc(2, why), text);
-}
+const OF_ARCS: &[(ObjectIdentifierError, &str)] = &[
+    (
+        ObjectIdentifierError::Arc(2, ArcError::Empty),
+        "arc 2: no digits",
+    ),
+    (
+        ObjectIdentifierError::Arc(2, ArcError::NotADigit),
+        "arc 2: a character that is no digit",
+    ),
+    (
+        ObjectIdentifierError::Arc(2, ArcError::LeadingZero),
+        "arc 2: a leading zero",
+    ),
+    (
+        ObjectIdentifierError::Arc(2, ArcError::TooGreat),
+        "arc 2: above 4294967295",
+    ),
+    (ObjectIdentifierError::Memory, "no memory"),
+];
 
 #[test]
 fn says_which_arc_is_none(rt: HostRuntime) {
-    assert_arc(&rt, rt.alloc(), ArcError::Empty, "arc 2: no digits");
-    assert_arc(
-        &rt,
-        rt.alloc(),
-        ArcError::NotADigit,
-        "arc 2: a character that is no digit",
-    );
-    assert_arc(
-        &rt,
-        rt.alloc(),
-        ArcError::LeadingZero,
-        "arc 2: a leading zero",
-    );
-    assert_arc(
-        &rt,
-        rt.alloc(),
-        ArcError::TooGreat,
-        "arc 2: above 4294967295",
-    );
-    assert_written(&rt, rt.alloc(), &ObjectIdentifierError::Memory, "no memory");
+    for (error, text) in OF_ARCS {
+        assert_written(&rt, rt.alloc(), error, text);
+    }
 }

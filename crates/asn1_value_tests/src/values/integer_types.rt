@@ -1,32 +1,25 @@
 //! The built-in integers as types of whole numbers.
+use crate::assertions::{assert_that, number};
 use asn1_values::{Integer, IntegerType, OutOfRangeError};
 use std::alloc::Global;
 use std::process::Abort;
 
-fn number(rt: &impl Abort, alloc: Global, is_negative: bool, magnitude: &[u8]) -> Integer {
-    Integer::from_sign_magnitude(alloc, is_negative, magnitude).expect(rt, "memory")
-}
-
-/// Asserts that the type gives the value of a number back.
-fn assert_gives_back<T: IntegerType + TryFrom<Integer, Error = OutOfRangeError> + Copy + PartialEq>(
-    rt: &impl Abort,
+/// Whether the type gives the value of a number back.
+fn gives_back<T: IntegerType + TryFrom<Integer, Error = OutOfRangeError> + Copy + PartialEq>(
     alloc: Global,
     value: T,
-) {
-    let number = value.to_integer(alloc).expect(rt, "memory");
-    assert!(rt; T::try_from(number) == Ok(value));
+) -> bool {
+    match value.to_integer(alloc) {
+        Ok(number) => T::try_from(number) == Ok(value),
+        Err(_) => false,
+    }
 }
 
-/// Asserts that the type lacks the number.
-fn assert_lacks<T: IntegerType + TryFrom<Integer, Error = OutOfRangeError> + Copy>(
-    rt: &impl Abort,
+/// Whether the type lacks the number.
+fn lacks<T: IntegerType + TryFrom<Integer, Error = OutOfRangeError> + Copy>(
     number: Integer,
-    case: &str,
-) {
-    assert!(rt;
-        T::try_from(number).err() == Some(OutOfRangeError),
-        "{case}"
-    );
+) -> bool {
+    T::try_from(number).err() == Some(OutOfRangeError)
 }
 
 /// Asserts that the type has these two numbers and gives them back, and that it lacks the other two.
@@ -38,11 +31,12 @@ fn assert_ends<T: IntegerType + TryFrom<Integer, Error = OutOfRangeError> + Copy
     below: Integer,
     above: Integer,
 ) {
-    assert_lacks::<T>(rt, below, "below the least");
-    assert_lacks::<T>(rt, above, "above the greatest");
-    assert_gives_back(rt, alloc, least);
-    assert_gives_back(rt, alloc, greatest);
-    assert!(rt; T::zero().to_i128() == Some(0) && !T::zero().is_negative());
+    assert_that(rt, lacks::<T>(below), "below the least");
+    assert_that(rt, lacks::<T>(above), "above the greatest");
+    assert_that(rt, gives_back(alloc, least), "the least");
+    assert_that(rt, gives_back(alloc, greatest), "the greatest");
+    assert_that(rt, T::zero().to_i128() == Some(0), "zero");
+    assert_that(rt, !T::zero().is_negative(), "zero is not negative");
 }
 
 /// The same where the neighbours are `i128`s.
@@ -94,18 +88,23 @@ fn the_widest_unsigned_type_has_its_numbers(rt: HostRuntime) {
         Integer::from_i128(-1),
         number(&rt, alloc, false, &two_to_128),
     );
-    assert_lacks::<u128>(&rt, number(&rt, alloc, true, &[0xff; 16]), "far below");
-    assert!(rt; u128::MAX.to_i128().is_none());
+    let far_below = number(&rt, alloc, true, &[0xff; 16]);
+    assert_that(&rt, lacks::<u128>(far_below), "far below");
+    assert_that(&rt, u128::MAX.to_i128().is_none(), "more than an i128");
 }
 
 /// Also where an allocation fails.
 #[test]
 fn a_refused_growth_leaves_the_value(rt: HostRuntime) {
     let alloc = rt.alloc();
-    let narrow = 7u8.to_integer(alloc);
-    assert!(rt; narrow == Ok(Integer::from_i128(7)));
+    assert_that(
+        &rt,
+        7u8.to_integer(alloc) == Ok(Integer::from_i128(7)),
+        "a narrow number",
+    );
     if let Ok(wide) = u128::MAX.to_integer(alloc) {
-        assert!(rt; u128::try_from_integer(wide) == Some(u128::MAX));
+        let back = u128::try_from_integer(wide);
+        assert_that(&rt, back == Some(u128::MAX), "a wide number");
     }
 }
 
@@ -138,7 +137,7 @@ fn signed_types_have_their_numbers(rt: HostRuntime) {
         -9_223_372_036_854_775_809,
         9_223_372_036_854_775_808,
     );
-    assert!(rt; i8::MIN.is_negative());
+    assert_that(&rt, i8::MIN.is_negative(), "a negative number");
 }
 
 #[test]
@@ -158,11 +157,21 @@ fn the_widest_signed_type_has_its_numbers(rt: HostRuntime) {
     );
 }
 
+/// Whether the number is the same after both conversions.
+fn is_converted(alloc: Global, number: &Integer) -> bool {
+    match number.to_integer(alloc) {
+        Ok(copy) => match Integer::try_from_integer(copy) {
+            Some(same) => same == *number,
+            None => false,
+        },
+        Err(_) => false,
+    }
+}
+
 #[test]
 fn integers_have_all_numbers(rt: HostRuntime) {
     let alloc = rt.alloc();
     let wide = number(&rt, alloc, true, &[7; 20]);
-    let copy = wide.to_integer(alloc).expect(&rt, "memory");
-    assert!(rt; Integer::try_from_integer(copy) == Some(wide));
-    assert!(rt; Integer::zero() == Integer::from_i128(0));
+    assert_that(&rt, is_converted(alloc, &wide), "a wide number");
+    assert_that(&rt, Integer::zero() == Integer::from_i128(0), "zero");
 }
