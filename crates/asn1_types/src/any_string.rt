@@ -41,7 +41,7 @@ pub enum StringKind {
 }
 
 /// A string of whatever kind, borrowed, as a codec is given it.
-#[derive(Clone, Copy)]
+#[derive(Clone, Copy, Debug)]
 pub enum AnyStr<'a> {
     /// A BIT STRING.
     Bits(&'a [bool]),
@@ -54,7 +54,7 @@ pub enum AnyStr<'a> {
 }
 
 /// A string of whatever kind, as a codec has read it. Its units need not be those that strings of the kind can have.
-#[derive(Drop)]
+#[derive(Debug, Drop)]
 pub enum AnyString {
     /// A BIT STRING.
     Bits(Vec<bool>),
