@@ -1,5 +1,5 @@
 -- What a record decoder is exactly before, from call to call.
-use Rattle.std.proofs.Common.{◌≡◌, ℕ, suc, ◌+◌, ◌≤◌, true, false, List, [], ◌∷◌, ◌++◌, refl, sym, ap, subst, ◌∙◌, arith, length, inl, get_or, Some, None}
+use Rattle.std.proofs.Common.{◌≡◌, ◌+◌, ◌≤◌, false, List, [], ◌∷◌, ◌++◌, refl, sym, ap, subst, ◌∙◌, arith, length, inl, get_or, Some, None}
 use Rattle.std.specs.Prelude.{Result, Ok, Err, MatchResult, OnOk, IfOk, IfErr}
 use Rattle.std.proofs.lemmas.List.{length-map, nil_from_length}
 use Rattle.asn1_components.specs.ComponentTypes.{ComponentType}

@@ -1,6 +1,5 @@
 //! What a scope has to be that is opened.
 ghost use Rattle.asn1_model.specs.Records as model;
-ghost use Rattle.asn1_model.specs.Tags.{head_tag};
 ghost use Rattle.asn1_record_decoder.specs.Found.{Meets};
 ghost use Rattle.asn1_records.specs.Records.{head_of};
 ghost use Rattle.asn1_records.specs.WithoutConstraints.{head_without};

@@ -1,4 +1,4 @@
-use Rattle.std.proofs.Common.{◌∷◌, ◌∙◌, Err}
+use Rattle.std.proofs.Common.{◌∙◌, Err}
 use Rattle.asn1_dec.proofs.Steps.{answered}
 use Rattle.asn1_dec.proofs.UpToOrder.{reads_content}
 use Rattle.asn1_model.specs.Records.{scalar}

@@ -1,4 +1,4 @@
-use Rattle.std.proofs.Common.{◌≡◌, ◌∷◌, true, false}
+use Rattle.std.proofs.Common.{◌≡◌, true, false}
 use Rattle.asn1_dec.proofs.Steps.{answered}
 use Rattle.asn1_dec.proofs.UpToOrder.{tells_presence}
 use Rattle.asn1_model.specs.Records.{mark, present, absent}

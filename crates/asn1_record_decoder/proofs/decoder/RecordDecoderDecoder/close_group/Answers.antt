@@ -1,4 +1,3 @@
-use Rattle.std.proofs.Common.{◌∷◌}
 use Rattle.std.specs.Prelude.{⊤}
 use Rattle.asn1_dec.proofs.Steps.{answered}
 use Rattle.asn1_dec.proofs.UpToOrder.{reads_mark}

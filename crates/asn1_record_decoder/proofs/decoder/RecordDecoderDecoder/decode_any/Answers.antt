@@ -1,4 +1,4 @@
-use Rattle.std.proofs.Common.{◌≡◌, ◌∷◌}
+use Rattle.std.proofs.Common.{◌≡◌}
 use Rattle.asn1_dec.proofs.Steps.{answered}
 use Rattle.asn1_dec.proofs.UpToOrder.{reads_open_type}
 use Rattle.asn1_model.specs.Records.{raw}

@@ -1,4 +1,4 @@
-use Rattle.std.proofs.Common.{◌≡◌, ◌∷◌, true, false}
+use Rattle.std.proofs.Common.{◌≡◌, true, false}
 use Rattle.asn1_components.specs.Components.{all_components, lines}
 use Rattle.asn1_components.specs.ComponentLists.{trees_of}
 use Rattle.asn1_dec.proofs.Steps.{answered}
