@@ -12,6 +12,7 @@
 //! | [`Failure`] | why a case failed |
 //! | [`comes_back`], [`needs_depth`], [`is_refused`] | what is tried of a value of any type |
 //! | [`CallRules`], [`Calls`], [`calls_come_back`] | what is tried of calls |
+//! | [`NumberedCalls`], [`numbered_calls_come_back`] | what is tried of several calls in a row |
 //! | [`made`] | values that cases make |
 //!
 //! What the contracts promise: over a codec that keeps the laws, a valid value never comes back as another one
@@ -30,7 +31,8 @@ mod round_trips;
 pub mod types;
 
 pub use call_rules::{
-    CallRules, Calls, FIRST, NAME, answers, answers_none, answers_some, calls_come_back, done,
+    CallRules, Calls, FIRST, NAME, NumberedCalls, answers, answers_none, answers_some,
+    calls_come_back, done, numbered_calls_come_back,
 };
 pub use depth::{needs_depth, nested_lists_need_their_depth};
 pub use failure::Failure;
