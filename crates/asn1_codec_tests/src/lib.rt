@@ -10,7 +10,7 @@
 //! | [`refusals`] | what types themselves refuse |
 //! | [`nested_lists_need_their_depth`] | how deep scopes are nested |
 //! | [`Failure`] | why a case failed |
-//! | [`comes_back`], [`needs_depth`], [`is_refused`] | what is tried of a value of any type |
+//! | [`comes_back`], [`made_comes_back`], [`needs_depth`], [`is_refused`] | what is tried of a value of any type |
 //! | [`CallRules`], [`Calls`], [`calls_come_back`] | what is tried of calls |
 //! | [`NumberedCalls`], [`numbered_calls_come_back`] | what is tried of several calls in a row |
 //! | [`made`] | values that cases make |
@@ -36,4 +36,6 @@ pub use call_rules::{
 };
 pub use depth::{needs_depth, nested_lists_need_their_depth};
 pub use failure::Failure;
-pub use round_trips::{comes_back, comes_back_as, is_not_read, is_refused, is_same, is_this};
+pub use round_trips::{
+    comes_back, comes_back_as, is_not_read, is_refused, is_same, is_this, made_comes_back,
+};

@@ -10,6 +10,21 @@ use asn1_enc::{EncodeError, Encoder};
 use asn1_tags::Tag;
 use std::alloc::{AllocError, Global};
 
+/// Writes an addition, by a call of its own: the second and the last are absent.
+fn write_addition<E: Encoder>(encoder: &mut E, number: usize) -> Result<(), EncodeError> {
+    let constraints = &Constraints::NONE;
+    let value = match number {
+        1 | 5 => None,
+        _ => Some(&9u8),
+    };
+    match number {
+        0 | 1 => encoder.encode_extension_addition(Tag::INTEGER, constraints, value, NAME),
+        2 => encoder.encode_extension_addition(FIRST, constraints, value, NAME),
+        4 => encoder.encode_extension_addition_with_explicit_prefix(FIRST, value, NAME),
+        _ => encoder.encode_extension_addition_with_tag(FIRST, value, NAME),
+    }
+}
+
 /// Additions without a default.
 #[derive(Drop)]
 struct AdditionCalls;
@@ -20,17 +35,7 @@ impl NumberedCalls for AdditionCalls {
     }
 
     fn write_call<E: Encoder>(&self, encoder: &mut E, number: usize) -> Result<(), EncodeError> {
-        let constraints = &Constraints::NONE;
-        let nine = Some(&9u8);
-        let none = None::<&u8>;
-        match number {
-            0 => encoder.encode_extension_addition(Tag::INTEGER, constraints, nine, NAME),
-            1 => encoder.encode_extension_addition(Tag::INTEGER, constraints, none, NAME),
-            2 => encoder.encode_extension_addition(FIRST, constraints, nine, NAME),
-            3 => encoder.encode_extension_addition_with_tag(FIRST, nine, NAME),
-            4 => encoder.encode_extension_addition_with_explicit_prefix(FIRST, nine, NAME),
-            _ => encoder.encode_extension_addition_with_tag(FIRST, none, NAME),
-        }
+        write_addition(encoder, number)
     }
 
     fn read_call<D: Decoder>(&self, decoder: &mut D, number: usize) -> Result<(), Failure> {
@@ -69,7 +74,7 @@ fn eight(_alloc: Global) -> Result<u8, AllocError> {
     Ok(8)
 }
 
-/// Additions with a default: of four the second has it.
+/// The first four additions, with a default, which the second has.
 #[derive(Drop)]
 struct AdditionsWithDefaults;
 
@@ -79,13 +84,7 @@ impl NumberedCalls for AdditionsWithDefaults {
     }
 
     fn write_call<E: Encoder>(&self, encoder: &mut E, number: usize) -> Result<(), EncodeError> {
-        let constraints = &Constraints::NONE;
-        let nine = Some(&9u8);
-        match number {
-            0 => encoder.encode_extension_addition(Tag::INTEGER, constraints, nine, NAME),
-            1 => { encoder.encode_extension_addition(Tag::INTEGER, constraints, None::<&u8>, NAME) }
-            _ => encoder.encode_extension_addition_with_tag(FIRST, nine, NAME),
-        }
+        write_addition(encoder, number)
     }
 
     fn read_call<D: Decoder>(&self, decoder: &mut D, number: usize) -> Result<(), Failure> {
