@@ -1,6 +1,6 @@
 //! The other SEQUENCEs, and `Plate`.
-use asn1_codec_tests::made::letters;
-use asn1_codec_tests::{Failure, comes_back};
+use asn1_codec_tests::made::{letters, list, text};
+use asn1_codec_tests::{Failure, comes_back, made_comes_back};
 use asn1_samples::{Envelope, Labelled, Notice, Pair, Plate, Settings};
 use asn1_schema::Rules;
 use asn1_types::Any;
@@ -28,8 +28,12 @@ pub fn envelopes_come_back<R: Rules>(
     alloc: Global,
     value: &[u8],
 ) -> Result<(), Failure> {
-    let body = Any::new(Vec::from_slice(alloc, value)?);
-    comes_back(rules, &Envelope { kind: 1, body })
+    made_comes_back(rules, envelope(alloc, value))
+}
+
+fn envelope(alloc: Global, value: &[u8]) -> Result<Envelope, Failure> {
+    let body = Any::new(list(alloc, value)?);
+    Ok(Envelope { kind: 1, body })
 }
 
 /// Whether a plate comes back.
@@ -37,8 +41,7 @@ pub fn envelopes_come_back<R: Rules>(
 /// # Errors
 /// Why it did not.
 pub fn plates_come_back<R: Rules>(rules: &R, alloc: Global) -> Result<(), Failure> {
-    let letters = letters(alloc, b"AB")?;
-    comes_back(rules, &Plate(letters))
+    made_comes_back(rules, letters(alloc, b"AB").map(Plate))
 }
 
 /// Whether notices come back, with the component after an explicit tag and without.
@@ -46,19 +49,19 @@ pub fn plates_come_back<R: Rules>(rules: &R, alloc: Global) -> Result<(), Failur
 /// # Errors
 /// Why one did not.
 pub fn notices_come_back<R: Rules>(rules: &R, alloc: Global) -> Result<(), Failure> {
-    notice(rules, alloc, None).and(notice(rules, alloc, Some(true)))
+    made_comes_back(rules, notice(alloc, None)).and(made_comes_back(
+        rules,
+        notice(alloc, Some(true)),
+    ))
 }
 
-fn notice<R: Rules>(rules: &R, alloc: Global, urgent: Option<bool>) -> Result<(), Failure> {
-    let text = String::from_str(alloc, "Fire")?;
-    comes_back(
-        rules,
-        &Notice {
-            id: 7,
-            urgent,
-            text,
-        },
-    )
+fn notice(alloc: Global, urgent: Option<bool>) -> Result<Notice, Failure> {
+    let text = text(alloc, "Fire")?;
+    Ok(Notice {
+        id: 7,
+        urgent,
+        text,
+    })
 }
 
 /// Whether pairs come back, of two types and of two others.
