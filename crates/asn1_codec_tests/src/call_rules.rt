@@ -72,6 +72,58 @@ pub fn calls_come_back<R: CallRules, C: Calls>(rules: &R, calls: C) -> Result<()
     }
 }
 
+/// Several calls in a row, each by its number.
+///
+/// An implementation is a `match` on the number. It costs much less to prove than the same calls in one body, where each call is
+/// proved beside all that the calls before it have promised.
+pub trait NumberedCalls: Drop {
+    /// How many writing calls there are, and as many reading calls. They are numbered from 0.
+    fn count(&self) -> usize;
+
+    /// Makes the writing call of this number.
+    ///
+    /// # Errors
+    /// The error of the call.
+    fn write_call<E: Encoder>(&self, encoder: &mut E, number: usize) -> Result<(), EncodeError>;
+
+    /// Makes the reading call of this number, and looks at what it answers.
+    ///
+    /// # Errors
+    /// [`Failure::Another`] where the call answers something else than was written, and else the error of the call.
+    fn read_call<D: Decoder>(&self, decoder: &mut D, number: usize) -> Result<(), Failure>;
+}
+
+/// Whether what the writing calls write, in the order of their numbers, is read by the reading calls, in a scope of its own.
+///
+/// # Errors
+/// As `calls_come_back`.
+pub fn numbered_calls_come_back<R: CallRules, C: NumberedCalls>(
+    rules: &R,
+    calls: C,
+) -> Result<(), Failure> {
+    calls_come_back(rules, InOrder(calls))
+}
+
+/// Numbered calls, in the order of their numbers.
+#[derive(Drop)]
+struct InOrder<C>(C);
+
+impl<C: NumberedCalls> Calls for InOrder<C> {
+    fn write<E: Encoder>(&self, encoder: &mut E) -> Result<(), EncodeError> {
+        for number in 0..self.0.count() {
+            self.0.write_call(encoder, number)?;
+        }
+        Ok(())
+    }
+
+    fn read<D: Decoder>(&self, decoder: &mut D) -> Result<(), Failure> {
+        for number in 0..self.0.count() {
+            self.0.read_call(decoder, number)?;
+        }
+        Ok(())
+    }
+}
+
 /// Calls after an explicit tag: a codec without presence marks knows there where the last component ends.
 #[derive(Drop)]
 struct Inside<C>(C);

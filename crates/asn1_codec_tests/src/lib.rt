@@ -10,8 +10,9 @@
 //! | [`refusals`] | what types themselves refuse |
 //! | [`nested_lists_need_their_depth`] | how deep scopes are nested |
 //! | [`Failure`] | why a case failed |
-//! | [`comes_back`], [`needs_depth`], [`is_refused`] | what is tried of a value of any type |
+//! | [`comes_back`], [`made_comes_back`], [`needs_depth`], [`is_refused`] | what is tried of a value of any type |
 //! | [`CallRules`], [`Calls`], [`calls_come_back`] | what is tried of calls |
+//! | [`NumberedCalls`], [`numbered_calls_come_back`] | what is tried of several calls in a row |
 //! | [`made`] | values that cases make |
 //!
 //! What the contracts promise: over a codec that keeps the laws, a valid value never comes back as another one
@@ -30,8 +31,11 @@ mod round_trips;
 pub mod types;
 
 pub use call_rules::{
-    CallRules, Calls, FIRST, NAME, answers, answers_none, answers_some, calls_come_back, done,
+    CallRules, Calls, FIRST, NAME, NumberedCalls, answers, answers_none, answers_some,
+    calls_come_back, done, numbered_calls_come_back,
 };
 pub use depth::{needs_depth, nested_lists_need_their_depth};
 pub use failure::Failure;
-pub use round_trips::{comes_back, comes_back_as, is_not_read, is_refused, is_same, is_this};
+pub use round_trips::{
+    comes_back, comes_back_as, is_not_read, is_refused, is_same, is_this, made_comes_back,
+};

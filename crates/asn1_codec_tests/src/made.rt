@@ -1,9 +1,9 @@
 //! Values that cases make.
-ghost use Rattle.std.specs.Prelude.{◌≡◌, IfOk};
+ghost use Rattle.std.specs.Prelude.{◌≡◌, IfOk, string_bytes};
 
 use crate::failure::Failure;
-use asn1_strings::{Alphabet, AlphabetString, ObjectIdentifier};
-use std::alloc::{AllocError, Global};
+use asn1_strings::{Alphabet, AlphabetString, UnitString};
+use std::alloc::Global;
 
 /// A string of a kind that has an alphabet.
 ///
@@ -22,13 +22,33 @@ pub fn letters<A: Alphabet<u8>>(
     }
 }
 
-/// An object identifier of these arcs.
+/// A string of a kind that has no alphabet, or an object identifier of these arcs.
 ///
 /// # Errors
-/// There was no memory.
-pub fn arcs(alloc: Global, arcs: &[u32]) -> Result<ObjectIdentifier, AllocError>
-    ensures arcs { IfOk result (λ identifier. identifier ≡ arcs.now) }
+/// [`Failure::Memory`].
+pub fn units<U: Copy, K>(alloc: Global, units: &[U]) -> Result<UnitString<U, K>, Failure>
+    ensures units { IfOk result (λ string. string ≡ units.now) }
 {
-    let arcs = Vec::from_slice(alloc, arcs)?;
-    Ok(ObjectIdentifier::new(arcs))
+    let units = Vec::from_slice(alloc, units)?;
+    Ok(UnitString::new(units))
+}
+
+/// A text.
+///
+/// # Errors
+/// [`Failure::Memory`].
+pub fn text(alloc: Global, text: &str) -> Result<String, Failure>
+    ensures text { IfOk result (λ string. string_bytes string ≡ text.now) }
+{
+    Ok(String::from_str(alloc, text)?)
+}
+
+/// A list.
+///
+/// # Errors
+/// [`Failure::Memory`].
+pub fn list<T: Copy>(alloc: Global, elements: &[T]) -> Result<Vec<T>, Failure>
+    ensures elements { IfOk result (λ list. list.items ≡ elements.now) }
+{
+    Ok(Vec::from_slice(alloc, elements)?)
 }

@@ -46,6 +46,20 @@ pub fn comes_back_as<R: Rules, T: Encode + Decode>(
     }
 }
 
+/// Whether a value comes back that has been made for it.
+///
+/// # Errors
+/// Why it was not made, or why it did not come back.
+pub fn made_comes_back<R: Rules, T: Encode + Decode>(
+    rules: &R,
+    made: Result<T, Failure>,
+) -> Result<(), Failure> {
+    match made {
+        Ok(value) => comes_back(rules, &value),
+        Err(failure) => Err(failure),
+    }
+}
+
 /// Whether two values are equal.
 ///
 /// # Errors

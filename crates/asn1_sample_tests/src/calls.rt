@@ -1,6 +1,6 @@
 //! Calls for groups of additions, items of an ENUMERATED, and a CHOICE under a tag.
+use crate::samples::contact;
 use asn1_codec_tests::calls::comes_back_under;
-use asn1_codec_tests::made::letters;
 use asn1_codec_tests::{CallRules, Calls, FIRST, Failure, NAME, answers, calls_come_back};
 use asn1_dec::Decoder;
 use asn1_enc::{EncodeError, Encoder};
@@ -43,19 +43,15 @@ pub fn groups_come_back<R: CallRules>(rules: &R, alloc: Global) -> Result<(), Fa
     };
     calls_come_back(rules, none)
         .and(calls_come_back(rules, nothing))
-        .and(contact(rules, alloc))
+        .and(group_with_mail(rules, alloc))
 }
 
 /// A contact with an address of two letters.
 fn mail(alloc: Global) -> Result<Option<Contact>, Failure> {
-    let mail = letters(alloc, b"a@")?;
-    Ok(Some(Contact {
-        phone: None,
-        mail: Some(mail),
-    }))
+    contact(alloc, None, Some(b"a@")).map(Some)
 }
 
-fn contact<R: CallRules>(rules: &R, alloc: Global) -> Result<(), Failure> {
+fn group_with_mail<R: CallRules>(rules: &R, alloc: Global) -> Result<(), Failure> {
     let given = mail(alloc)?;
     let back = mail(alloc)?;
     calls_come_back(rules, GroupCalls { given, back })

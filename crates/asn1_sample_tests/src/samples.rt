@@ -7,6 +7,7 @@ mod visits;
 
 pub use choices::{alternatives_come_back, badges_come_back};
 pub use nodes::{node_chain, nodes_come_back};
+pub(crate) use people::contact;
 pub use people::{person, persons_come_back, profiles_come_back};
 pub use records::{
     envelopes_come_back, notices_come_back, pairs_come_back, pairs_outside_limits_are_refused,

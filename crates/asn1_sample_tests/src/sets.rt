@@ -99,15 +99,28 @@ fn is_no_badge<R: CallRules>(
 /// # Errors
 /// How else it ended.
 pub fn what_is_no_badge_is_refused<R: CallRules>(rules: &R, alloc: Global) -> Result<(), Failure> {
-    is_no_badge(
-        rules,
-        alloc,
-        &[0, 1, 1, 2],
-        DecodeError::DuplicateField("label"),
-    )
-    .and(is_no_badge(rules, alloc, &[0, 0, 2], DecodeError::DuplicateField("id")))
-    .and(is_no_badge(rules, alloc, &[2, 2], DecodeError::DuplicateField("shape")))
-    .and(is_no_badge(rules, alloc, &[], DecodeError::MissingField("id")))
-    .and(is_no_badge(rules, alloc, &[1], DecodeError::MissingField("id")))
-    .and(is_no_badge(rules, alloc, &[0], DecodeError::MissingField("shape")))
+    is_there_twice(rules, alloc, &[0, 1, 1, 2], "label")
+        .and(is_there_twice(rules, alloc, &[0, 0, 2], "id"))
+        .and(is_there_twice(rules, alloc, &[2, 2], "shape"))
+        .and(is_missing(rules, alloc, &[], "id"))
+        .and(is_missing(rules, alloc, &[1], "id"))
+        .and(is_missing(rules, alloc, &[0], "shape"))
+}
+
+fn is_there_twice<R: CallRules>(
+    rules: &R,
+    alloc: Global,
+    places: &[usize],
+    name: &'static str,
+) -> Result<(), Failure> {
+    is_no_badge(rules, alloc, places, DecodeError::DuplicateField(name))
+}
+
+fn is_missing<R: CallRules>(
+    rules: &R,
+    alloc: Global,
+    places: &[usize],
+    name: &'static str,
+) -> Result<(), Failure> {
+    is_no_badge(rules, alloc, places, DecodeError::MissingField(name))
 }

@@ -1,6 +1,7 @@
 //! Additions after an extension marker, which may be absent.
 use crate::call_rules::{
-    CallRules, Calls, FIRST, NAME, answers, answers_none, answers_some, calls_come_back,
+    CallRules, FIRST, NAME, NumberedCalls, answers, answers_none, answers_some,
+    numbered_calls_come_back,
 };
 use crate::failure::Failure;
 use asn1_bounds::Constraints;
@@ -9,36 +10,55 @@ use asn1_enc::{EncodeError, Encoder};
 use asn1_tags::Tag;
 use std::alloc::{AllocError, Global};
 
+/// Writes an addition, by a call of its own: the second and the last are absent.
+fn write_addition<E: Encoder>(encoder: &mut E, number: usize) -> Result<(), EncodeError> {
+    let constraints = &Constraints::NONE;
+    let value = match number {
+        1 | 5 => None,
+        _ => Some(&9u8),
+    };
+    match number {
+        0 | 1 => encoder.encode_extension_addition(Tag::INTEGER, constraints, value, NAME),
+        2 => encoder.encode_extension_addition(FIRST, constraints, value, NAME),
+        4 => encoder.encode_extension_addition_with_explicit_prefix(FIRST, value, NAME),
+        _ => encoder.encode_extension_addition_with_tag(FIRST, value, NAME),
+    }
+}
+
+/// Additions without a default.
 #[derive(Drop)]
 struct AdditionCalls;
 
-impl Calls for AdditionCalls {
-    fn write<E: Encoder>(&self, encoder: &mut E) -> Result<(), EncodeError> {
-        let constraints = &Constraints::NONE;
-        let nine = Some(&9u8);
-        let none = None::<&u8>;
-        encoder.encode_extension_addition(Tag::INTEGER, constraints, nine, NAME)?;
-        encoder.encode_extension_addition(Tag::INTEGER, constraints, none, NAME)?;
-        encoder.encode_extension_addition(FIRST, constraints, nine, NAME)?;
-        encoder.encode_extension_addition_with_tag(FIRST, nine, NAME)?;
-        encoder.encode_extension_addition_with_explicit_prefix(FIRST, nine, NAME)?;
-        encoder.encode_extension_addition_with_tag(FIRST, none, NAME)
+impl NumberedCalls for AdditionCalls {
+    fn count(&self) -> usize {
+        6
     }
 
-    fn read<D: Decoder>(&self, decoder: &mut D) -> Result<(), Failure> {
+    fn write_call<E: Encoder>(&self, encoder: &mut E, number: usize) -> Result<(), EncodeError> {
+        write_addition(encoder, number)
+    }
+
+    fn read_call<D: Decoder>(&self, decoder: &mut D, number: usize) -> Result<(), Failure> {
         let constraints = &Constraints::NONE;
-        answers_some(decoder.decode_extension_addition(), &9u8)?;
-        answers_none(decoder.decode_extension_addition_with_constraints::<u8>(constraints))?;
-        answers_some(decoder.decode_extension_addition_with_tag(FIRST), &9u8)?;
-        answers_some(
-            decoder.decode_extension_addition_with_tag_and_constraints(FIRST, constraints),
-            &9u8,
-        )?;
-        answers_some(
-            decoder.decode_extension_addition_with_explicit_tag_and_constraints(FIRST, constraints),
-            &9u8,
-        )?;
-        answers_none(decoder.decode_extension_addition_with_tag::<u8>(FIRST))
+        match number {
+            0 => answers_some(decoder.decode_extension_addition(), &9u8),
+            1 => answers_none(decoder.decode_extension_addition_with_constraints::<u8>(
+                constraints,
+            )),
+            2 => answers_some(decoder.decode_extension_addition_with_tag(FIRST), &9u8),
+            3 => answers_some(
+                decoder.decode_extension_addition_with_tag_and_constraints(FIRST, constraints),
+                &9u8,
+            ),
+            4 => answers_some(
+                decoder.decode_extension_addition_with_explicit_tag_and_constraints(
+                    FIRST,
+                    constraints,
+                ),
+                &9u8,
+            ),
+            _ => answers_none(decoder.decode_extension_addition_with_tag::<u8>(FIRST)),
+        }
     }
 }
 
@@ -47,46 +67,47 @@ impl Calls for AdditionCalls {
 /// # Errors
 /// Why it was not.
 pub fn additions_come_back<R: CallRules>(rules: &R) -> Result<(), Failure> {
-    calls_come_back(rules, AdditionCalls)
+    numbered_calls_come_back(rules, AdditionCalls)
 }
 
 fn eight(_alloc: Global) -> Result<u8, AllocError> {
     Ok(8)
 }
 
-/// Additions with a default: of four the second has it.
+/// The first four additions, with a default, which the second has.
 #[derive(Drop)]
 struct AdditionsWithDefaults;
 
-impl Calls for AdditionsWithDefaults {
-    fn write<E: Encoder>(&self, encoder: &mut E) -> Result<(), EncodeError> {
-        let constraints = &Constraints::NONE;
-        let nine = Some(&9u8);
-        encoder.encode_extension_addition(Tag::INTEGER, constraints, nine, NAME)?;
-        encoder.encode_extension_addition(Tag::INTEGER, constraints, None::<&u8>, NAME)?;
-        encoder.encode_extension_addition_with_tag(FIRST, nine, NAME)?;
-        encoder.encode_extension_addition_with_tag(FIRST, nine, NAME)
+impl NumberedCalls for AdditionsWithDefaults {
+    fn count(&self) -> usize {
+        4
     }
 
-    fn read<D: Decoder>(&self, decoder: &mut D) -> Result<(), Failure> {
+    fn write_call<E: Encoder>(&self, encoder: &mut E, number: usize) -> Result<(), EncodeError> {
+        write_addition(encoder, number)
+    }
+
+    fn read_call<D: Decoder>(&self, decoder: &mut D, number: usize) -> Result<(), Failure> {
         let constraints = &Constraints::NONE;
-        answers(decoder.decode_extension_addition_with_default(eight), &9u8)?;
-        answers(
-            decoder.decode_extension_addition_with_default_and_constraints(eight, constraints),
-            &8u8,
-        )?;
-        answers(
-            decoder.decode_extension_addition_with_default_and_tag(FIRST, eight),
-            &9u8,
-        )?;
-        answers(
-            decoder.decode_extension_addition_with_default_and_tag_and_constraints(
-                FIRST,
-                eight,
-                constraints,
+        match number {
+            0 => answers(decoder.decode_extension_addition_with_default(eight), &9u8),
+            1 => answers(
+                decoder.decode_extension_addition_with_default_and_constraints(eight, constraints),
+                &8u8,
             ),
-            &9u8,
-        )
+            2 => answers(
+                decoder.decode_extension_addition_with_default_and_tag(FIRST, eight),
+                &9u8,
+            ),
+            _ => answers(
+                decoder.decode_extension_addition_with_default_and_tag_and_constraints(
+                    FIRST,
+                    eight,
+                    constraints,
+                ),
+                &9u8,
+            ),
+        }
     }
 }
 
@@ -95,5 +116,5 @@ impl Calls for AdditionsWithDefaults {
 /// # Errors
 /// Why it was not.
 pub fn additions_with_defaults_come_back<R: CallRules>(rules: &R) -> Result<(), Failure> {
-    calls_come_back(rules, AdditionsWithDefaults)
+    numbered_calls_come_back(rules, AdditionsWithDefaults)
 }

@@ -1,6 +1,7 @@
 //! Components with a default.
 use crate::call_rules::{
-    CallRules, Calls, FIRST, NAME, answers, answers_none, answers_some, calls_come_back, done,
+    CallRules, Calls, FIRST, NAME, NumberedCalls, answers, answers_none, answers_some,
+    calls_come_back, done, numbered_calls_come_back,
 };
 use crate::failure::Failure;
 use crate::round_trips::is_this;
@@ -15,17 +16,10 @@ fn eight(alloc: Global) -> Result<String, AllocError> {
     String::from_str(alloc, "8")
 }
 
-/// A NULL, by which a codec without presence marks sees that the component before it is absent.
-fn separate<E: Encoder>(encoder: &mut E) -> Result<(), EncodeError> {
-    encoder.encode_null(Tag::NULL, NAME)
-}
-
-/// The same when it is read.
-fn separated<D: Decoder>(decoder: &mut D) -> Result<(), Failure> {
-    done(decoder.decode_null(Tag::NULL))
-}
-
 /// A text and a number that are the default of their component, or are not.
+///
+/// The calls with an even number are those of a component. Those between write and read a NULL, by which a codec without
+/// presence marks sees that the component before it is absent.
 #[derive(Drop)]
 struct DefaultCalls {
     text: String,
@@ -33,57 +27,61 @@ struct DefaultCalls {
     is_default: bool,
 }
 
-impl Calls for DefaultCalls {
-    fn write<E: Encoder>(&self, encoder: &mut E) -> Result<(), EncodeError> {
-        let constraints = &Constraints::NONE;
-        let text = &self.text;
-        encoder.encode_default(text, eight, NAME)?;
-        separate(encoder)?;
-        encoder.encode_default_with_constraints(constraints, text, eight, NAME)?;
-        separate(encoder)?;
-        encoder.encode_default_with_tag(FIRST, text, eight, NAME)?;
-        separate(encoder)?;
-        encoder.encode_default_with_tag_and_constraints(FIRST, constraints, text, eight, NAME)?;
-        separate(encoder)?;
-        encoder.encode_default_with_explicit_prefix(FIRST, text, eight, NAME)?;
-        separate(encoder)?;
-        encoder.encode_or_default(&self.number, NAME)?;
-        separate(encoder)?;
-        encoder.encode_with_tag_or_default(FIRST, &self.number, NAME)
+impl NumberedCalls for DefaultCalls {
+    fn count(&self) -> usize {
+        13
     }
 
-    fn read<D: Decoder>(&self, decoder: &mut D) -> Result<(), Failure> {
+    fn write_call<E: Encoder>(&self, encoder: &mut E, number: usize) -> Result<(), EncodeError> {
         let constraints = &Constraints::NONE;
         let text = &self.text;
-        answers(decoder.decode_default(eight), text)?;
-        separated(decoder)?;
-        answers(
-            decoder.decode_default_with_constraints(eight, constraints),
-            text,
-        )?;
-        separated(decoder)?;
-        answers(decoder.decode_default_with_tag(FIRST, eight), text)?;
-        separated(decoder)?;
-        answers(
-            decoder.decode_default_with_tag_and_constraints(FIRST, eight, constraints),
-            text,
-        )?;
-        separated(decoder)?;
-        self.read_as_options(decoder)
+        match number {
+            0 => encoder.encode_default(text, eight, NAME),
+            2 => encoder.encode_default_with_constraints(constraints, text, eight, NAME),
+            4 => encoder.encode_default_with_tag(FIRST, text, eight, NAME),
+            6 => encoder.encode_default_with_tag_and_constraints(
+                FIRST,
+                constraints,
+                text,
+                eight,
+                NAME,
+            ),
+            8 => encoder.encode_default_with_explicit_prefix(FIRST, text, eight, NAME),
+            10 => encoder.encode_or_default(&self.number, NAME),
+            12 => encoder.encode_with_tag_or_default(FIRST, &self.number, NAME),
+            _ => encoder.encode_null(Tag::NULL, NAME),
+        }
+    }
+
+    /// What has no call of a decoder for its default is read as a component that may be absent.
+    fn read_call<D: Decoder>(&self, decoder: &mut D, number: usize) -> Result<(), Failure> {
+        let constraints = &Constraints::NONE;
+        let text = &self.text;
+        match number {
+            0 => answers(decoder.decode_default(eight), text),
+            2 => answers(
+                decoder.decode_default_with_constraints(eight, constraints),
+                text,
+            ),
+            4 => answers(decoder.decode_default_with_tag(FIRST, eight), text),
+            6 => answers(
+                decoder.decode_default_with_tag_and_constraints(FIRST, eight, constraints),
+                text,
+            ),
+            8 => self.answers_unless_default(
+                decoder.decode_optional_with_explicit_prefix(FIRST),
+                text,
+            ),
+            10 => self.answers_unless_default(decoder.decode_optional(), &self.number),
+            12 => {
+                self.answers_unless_default(decoder.decode_optional_with_tag(FIRST), &self.number)
+            }
+            _ => done(decoder.decode_null(Tag::NULL)),
+        }
     }
 }
 
 impl DefaultCalls {
-    /// Reads what has no call of a decoder for its default.
-    fn read_as_options<D: Decoder>(&self, decoder: &mut D) -> Result<(), Failure> {
-        let text = decoder.decode_optional_with_explicit_prefix(FIRST);
-        self.answers_unless_default(text, &self.text)?;
-        separated(decoder)?;
-        self.answers_unless_default(decoder.decode_optional(), &self.number)?;
-        separated(decoder)?;
-        self.answers_unless_default(decoder.decode_optional_with_tag(FIRST), &self.number)
-    }
-
     /// Whether a call answers this value, or none where it is the default.
     fn answers_unless_default<T: PartialEq + Drop>(
         &self,
@@ -108,7 +106,7 @@ pub fn defaults_come_back<R: CallRules>(rules: &R, alloc: Global) -> Result<(), 
 
 fn default_comes_back<R: CallRules>(rules: &R, alloc: Global) -> Result<(), Failure> {
     let text = eight(alloc)?;
-    calls_come_back(
+    numbered_calls_come_back(
         rules,
         DefaultCalls {
             text,
@@ -120,7 +118,7 @@ fn default_comes_back<R: CallRules>(rules: &R, alloc: Global) -> Result<(), Fail
 
 fn no_default_comes_back<R: CallRules>(rules: &R, alloc: Global) -> Result<(), Failure> {
     let text = String::from_str(alloc, "9")?;
-    calls_come_back(
+    numbered_calls_come_back(
         rules,
         DefaultCalls {
             text,

@@ -1,38 +1,45 @@
 //! The same value by each entry point of its type.
-use crate::call_rules::{CallRules, Calls, FIRST, NAME, answers, calls_come_back};
+use crate::call_rules::{CallRules, FIRST, NAME, NumberedCalls, answers, numbered_calls_come_back};
 use crate::failure::Failure;
 use asn1_bounds::Constraints;
 use asn1_dec::{Decode, Decoder};
 use asn1_enc::{Encode, EncodeError, Encoder};
 use std::alloc::Global;
 
+/// A value, by six entry points.
 #[derive(Drop)]
 struct EntryPoints<T>(T);
 
-impl<T: Encode + Decode> Calls for EntryPoints<T> {
-    fn write<E: Encoder>(&self, encoder: &mut E) -> Result<(), EncodeError> {
-        let constraints = &Constraints::NONE;
-        let value = &self.0;
-        value.encode_with_tag(encoder, FIRST)?;
-        value.encode_with_identifier(encoder, NAME)?;
-        value.encode_with_tag_and_identifier(encoder, FIRST, NAME)?;
-        value.encode_with_constraints(encoder, constraints)?;
-        value.encode_with_constraints_and_identifier(encoder, constraints, NAME)?;
-        value.encode_with_tag_and_constraints(encoder, FIRST, constraints, NAME)
+impl<T: Encode + Decode> NumberedCalls for EntryPoints<T> {
+    fn count(&self) -> usize {
+        6
     }
 
-    fn read<D: Decoder>(&self, decoder: &mut D) -> Result<(), Failure> {
+    fn write_call<E: Encoder>(&self, encoder: &mut E, number: usize) -> Result<(), EncodeError> {
         let constraints = &Constraints::NONE;
         let value = &self.0;
-        answers(T::decode_with_tag(decoder, FIRST), value)?;
-        answers(T::decode(decoder), value)?;
-        answers(T::decode_with_tag(decoder, FIRST), value)?;
-        answers(T::decode_with_constraints(decoder, constraints), value)?;
-        answers(T::decode_with_constraints(decoder, constraints), value)?;
-        answers(
-            T::decode_with_tag_and_constraints(decoder, FIRST, constraints),
-            value,
-        )
+        match number {
+            0 => value.encode_with_tag(encoder, FIRST),
+            1 => value.encode_with_identifier(encoder, NAME),
+            2 => value.encode_with_tag_and_identifier(encoder, FIRST, NAME),
+            3 => value.encode_with_constraints(encoder, constraints),
+            4 => value.encode_with_constraints_and_identifier(encoder, constraints, NAME),
+            _ => value.encode_with_tag_and_constraints(encoder, FIRST, constraints, NAME),
+        }
+    }
+
+    fn read_call<D: Decoder>(&self, decoder: &mut D, number: usize) -> Result<(), Failure> {
+        let constraints = &Constraints::NONE;
+        let value = &self.0;
+        match number {
+            0 | 2 => answers(T::decode_with_tag(decoder, FIRST), value),
+            1 => answers(T::decode(decoder), value),
+            3 | 4 => answers(T::decode_with_constraints(decoder, constraints), value),
+            _ => answers(
+                T::decode_with_tag_and_constraints(decoder, FIRST, constraints),
+                value,
+            ),
+        }
     }
 }
 
@@ -41,5 +48,5 @@ impl<T: Encode + Decode> Calls for EntryPoints<T> {
 /// # Errors
 /// Why it was not.
 pub fn entry_points_come_back<R: CallRules>(rules: &R, alloc: Global) -> Result<(), Failure> {
-    calls_come_back(rules, EntryPoints(String::from_str(alloc, "7")?))
+    numbered_calls_come_back(rules, EntryPoints(String::from_str(alloc, "7")?))
 }

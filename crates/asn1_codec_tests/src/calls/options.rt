@@ -1,6 +1,6 @@
 //! Components of the root that may be absent.
 use crate::call_rules::{
-    CallRules, Calls, FIRST, NAME, answers_none, answers_some, calls_come_back,
+    CallRules, FIRST, NAME, NumberedCalls, answers_none, answers_some, numbered_calls_come_back,
 };
 use crate::failure::Failure;
 use asn1_bounds::Constraints;
@@ -12,30 +12,38 @@ use std::alloc::Global;
 #[derive(Drop)]
 struct OptionCalls<T>(T);
 
-impl<T: Encode + Decode> Calls for OptionCalls<T> {
-    fn write<E: Encoder>(&self, encoder: &mut E) -> Result<(), EncodeError> {
-        let constraints = &Constraints::NONE;
-        let value = &self.0;
-        encoder.encode_some(value, NAME)?;
-        encoder.encode_none::<T>(NAME)?;
-        encoder.encode_some_with_tag(FIRST, value, NAME)?;
-        encoder.encode_some_with_tag_and_constraints(FIRST, constraints, value, NAME)?;
-        encoder.encode_some_with_explicit_prefix(FIRST, value, NAME)?;
-        encoder.encode_none_with_tag(FIRST, NAME)
+impl<T: Encode + Decode> NumberedCalls for OptionCalls<T> {
+    fn count(&self) -> usize {
+        6
     }
 
-    fn read<D: Decoder>(&self, decoder: &mut D) -> Result<(), Failure> {
+    fn write_call<E: Encoder>(&self, encoder: &mut E, number: usize) -> Result<(), EncodeError> {
         let constraints = &Constraints::NONE;
         let value = &self.0;
-        answers_some(decoder.decode_optional(), value)?;
-        answers_none(decoder.decode_optional_with_constraints::<T>(constraints))?;
-        answers_some(decoder.decode_optional_with_tag(FIRST), value)?;
-        answers_some(
-            decoder.decode_optional_with_tag_and_constraints(FIRST, constraints),
-            value,
-        )?;
-        answers_some(decoder.decode_optional_with_explicit_prefix(FIRST), value)?;
-        answers_none(decoder.decode_optional_with_tag::<T>(FIRST))
+        match number {
+            0 => encoder.encode_some(value, NAME),
+            1 => encoder.encode_none::<T>(NAME),
+            2 => encoder.encode_some_with_tag(FIRST, value, NAME),
+            3 => encoder.encode_some_with_tag_and_constraints(FIRST, constraints, value, NAME),
+            4 => encoder.encode_some_with_explicit_prefix(FIRST, value, NAME),
+            _ => encoder.encode_none_with_tag(FIRST, NAME),
+        }
+    }
+
+    fn read_call<D: Decoder>(&self, decoder: &mut D, number: usize) -> Result<(), Failure> {
+        let constraints = &Constraints::NONE;
+        let value = &self.0;
+        match number {
+            0 => answers_some(decoder.decode_optional(), value),
+            1 => answers_none(decoder.decode_optional_with_constraints::<T>(constraints)),
+            2 => answers_some(decoder.decode_optional_with_tag(FIRST), value),
+            3 => answers_some(
+                decoder.decode_optional_with_tag_and_constraints(FIRST, constraints),
+                value,
+            ),
+            4 => answers_some(decoder.decode_optional_with_explicit_prefix(FIRST), value),
+            _ => answers_none(decoder.decode_optional_with_tag::<T>(FIRST)),
+        }
     }
 }
 
@@ -44,5 +52,5 @@ impl<T: Encode + Decode> Calls for OptionCalls<T> {
 /// # Errors
 /// Why it was not.
 pub fn options_come_back<R: CallRules>(rules: &R, alloc: Global) -> Result<(), Failure> {
-    calls_come_back(rules, OptionCalls(String::from_str(alloc, "9")?))
+    numbered_calls_come_back(rules, OptionCalls(String::from_str(alloc, "9")?))
 }

@@ -8,21 +8,19 @@ use asn1_tags::Tag;
 use asn1_types::SetOf;
 use std::alloc::Global;
 
-/// A set of three numbers, and the order in which they are written.
+/// A set of numbers, and the order in which they are written.
 #[derive(Drop)]
-struct Elements {
+struct Elements<'a> {
     set: SetOf<u8>,
-    first: u8,
-    second: u8,
-    third: u8,
+    order: &'a [u8],
 }
 
-impl Calls for Elements {
+impl Calls for Elements<'_> {
     fn write<E: Encoder>(&self, encoder: &mut E) -> Result<(), EncodeError> {
-        encoder.open_set_of(Tag::SET, &Constraints::NONE, NAME, 3)?;
-        self.first.encode(encoder)?;
-        self.second.encode(encoder)?;
-        self.third.encode(encoder)?;
+        encoder.open_set_of(Tag::SET, &Constraints::NONE, NAME, self.order.len())?;
+        for element in self.order {
+            element.encode(encoder)?;
+        }
         encoder.close()
     }
 
@@ -31,20 +29,9 @@ impl Calls for Elements {
     }
 }
 
-fn in_this_order<R: CallRules>(
-    rules: &R,
-    alloc: Global,
-    first: u8,
-    second: u8,
-    third: u8,
-) -> Result<(), Failure> {
-    let elements = Elements {
-        set: SetOf::from_vec(Vec::from_slice(alloc, &[3u8, 1, 3])?),
-        first,
-        second,
-        third,
-    };
-    calls_come_back(rules, elements)
+fn in_this_order<R: CallRules>(rules: &R, alloc: Global, order: &[u8]) -> Result<(), Failure> {
+    let set = SetOf::from_vec(Vec::from_slice(alloc, &[3u8, 1, 3])?);
+    calls_come_back(rules, Elements { set, order })
 }
 
 /// Whether a SET OF is read in whatever order its elements are written.
@@ -55,7 +42,7 @@ pub fn sets_of_come_back_in_any_order<R: CallRules>(
     rules: &R,
     alloc: Global,
 ) -> Result<(), Failure> {
-    in_this_order(rules, alloc, 3, 1, 3)
-        .and(in_this_order(rules, alloc, 1, 3, 3))
-        .and(in_this_order(rules, alloc, 3, 3, 1))
+    in_this_order(rules, alloc, &[3, 1, 3])
+        .and(in_this_order(rules, alloc, &[1, 3, 3]))
+        .and(in_this_order(rules, alloc, &[3, 3, 1]))
 }

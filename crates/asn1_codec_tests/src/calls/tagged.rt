@@ -34,6 +34,20 @@ pub fn comes_back_under_a_tag<R: CallRules, T: Encode + Decode>(
     comes_back_under(rules, FIRST, value)
 }
 
+/// The same of a value that has been made for it.
+///
+/// # Errors
+/// Why it was not made, or why it did not come back.
+pub(super) fn made_comes_back_under_a_tag<R: CallRules, T: Encode + Decode>(
+    rules: &R,
+    made: Result<T, Failure>,
+) -> Result<(), Failure> {
+    match made {
+        Ok(value) => comes_back_under_a_tag(rules, value),
+        Err(failure) => Err(failure),
+    }
+}
+
 /// Whether a value is written under this tag, and read under it.
 ///
 /// # Errors

@@ -1,6 +1,7 @@
 //! Lists, sets and arrays.
 use crate::failure::Failure;
-use crate::round_trips::comes_back;
+use crate::made::list;
+use crate::round_trips::{comes_back, made_comes_back};
 use asn1_schema::{Array, Rules};
 use asn1_types::SetOf;
 use std::alloc::Global;
@@ -10,20 +11,18 @@ use std::alloc::Global;
 /// # Errors
 /// Why it did not.
 pub fn lists_come_back<R: Rules>(rules: &R, alloc: Global) -> Result<(), Failure> {
-    list(rules, alloc, &[7, 8])
-        .and(list(rules, alloc, &[]))
-        .and(set(rules, alloc, &[7, 9, 7]))
-        .and(set(rules, alloc, &[]))
+    list_comes_back(rules, alloc, &[7, 8])
+        .and(list_comes_back(rules, alloc, &[]))
+        .and(set_comes_back(rules, alloc, &[7, 9, 7]))
+        .and(set_comes_back(rules, alloc, &[]))
 }
 
-fn list<R: Rules>(rules: &R, alloc: Global, elements: &[u8]) -> Result<(), Failure> {
-    let list = Vec::from_slice(alloc, elements)?;
-    comes_back(rules, &list)
+fn list_comes_back<R: Rules>(rules: &R, alloc: Global, elements: &[u8]) -> Result<(), Failure> {
+    made_comes_back(rules, list(alloc, elements))
 }
 
-fn set<R: Rules>(rules: &R, alloc: Global, elements: &[u8]) -> Result<(), Failure> {
-    let set = SetOf::from_vec(Vec::from_slice(alloc, elements)?);
-    comes_back(rules, &set)
+fn set_comes_back<R: Rules>(rules: &R, alloc: Global, elements: &[u8]) -> Result<(), Failure> {
+    made_comes_back(rules, list(alloc, elements).map(SetOf::from_vec))
 }
 
 /// Whether arrays come back.

@@ -29,21 +29,29 @@ fn constrained<R: Rules>(rules: &R) -> Result<(), Failure> {
 /// # Errors
 /// Why it did not.
 pub fn integers_come_back<R: Rules>(rules: &R) -> Result<(), Failure> {
+    unsigned(rules)
+        .and(signed(rules))
+        .and(small(rules, 0))
+        .and(small(rules, -1))
+        .and(small(rules, 127))
+        .and(small(rules, 128))
+}
+
+fn unsigned<R: Rules>(rules: &R) -> Result<(), Failure> {
     comes_back(rules, &u8::MAX)
         .and(comes_back(rules, &u16::MAX))
         .and(comes_back(rules, &u32::MAX))
         .and(comes_back(rules, &u64::MAX))
         .and(comes_back(rules, &usize::MAX))
-        .and(comes_back(rules, &i8::MIN))
+}
+
+fn signed<R: Rules>(rules: &R) -> Result<(), Failure> {
+    comes_back(rules, &i8::MIN)
         .and(comes_back(rules, &i16::MIN))
         .and(comes_back(rules, &i32::MIN))
         .and(comes_back(rules, &i64::MIN))
         .and(comes_back(rules, &isize::MIN))
         .and(comes_back(rules, &i128::MIN))
-        .and(small(rules, 0))
-        .and(small(rules, -1))
-        .and(small(rules, 127))
-        .and(small(rules, 128))
 }
 
 /// A number at an end of what one octet holds, with a sign and without.

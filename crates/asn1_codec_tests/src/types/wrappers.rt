@@ -1,7 +1,7 @@
 //! Types that are another one, or hold one.
 use crate::failure::Failure;
-use crate::made::arcs;
-use crate::round_trips::comes_back;
+use crate::made::{text, units};
+use crate::round_trips::{comes_back, made_comes_back};
 use asn1_schema::{Rules, UniversalString};
 use asn1_types::{Explicit, Implicit, InstanceOf, tag};
 use std::alloc::Global;
@@ -41,12 +41,7 @@ pub fn options_come_back_by_themselves<R: Rules>(rules: &R) -> Result<(), Failur
 pub fn tagged_values_come_back<R: Rules>(rules: &R, alloc: Global) -> Result<(), Failure> {
     comes_back(rules, &Implicit::<tag::BOOL, u8>::new(7))
         .and(comes_back(rules, &Explicit::<tag::BOOL, u8>::new(7)))
-        .and(universal(rules, alloc))
-}
-
-fn universal<R: Rules>(rules: &R, alloc: Global) -> Result<(), Failure> {
-    let string = UniversalString::new(String::from_str(alloc, "Ann")?);
-    comes_back(rules, &string)
+        .and(made_comes_back(rules, text(alloc, "Ann").map(UniversalString::new)))
 }
 
 /// Whether an INSTANCE OF comes back.
@@ -55,7 +50,7 @@ fn universal<R: Rules>(rules: &R, alloc: Global) -> Result<(), Failure> {
 /// Why it did not.
 pub fn an_instance_comes_back<R: Rules>(rules: &R, alloc: Global) -> Result<(), Failure> {
     let instance = InstanceOf {
-        type_id: arcs(alloc, &[1, 3])?,
+        type_id: units(alloc, &[1, 3])?,
         value: 9u8,
     };
     comes_back(rules, &instance)

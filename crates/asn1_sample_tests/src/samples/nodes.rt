@@ -1,5 +1,5 @@
 //! `Node`.
-use asn1_codec_tests::{Failure, comes_back};
+use asn1_codec_tests::{Failure, made_comes_back};
 use asn1_recursive::Node;
 use asn1_schema::Rules;
 use std::alloc::{AllocError, Global};
@@ -41,6 +41,5 @@ pub fn nodes_come_back<R: Rules>(rules: &R, alloc: Global) -> Result<(), Failure
 }
 
 fn chain<R: Rules>(rules: &R, alloc: Global, around: usize) -> Result<(), Failure> {
-    let node = node_chain(alloc, around)?;
-    comes_back(rules, &node)
+    made_comes_back(rules, node_chain(alloc, around).map_err(Failure::from))
 }

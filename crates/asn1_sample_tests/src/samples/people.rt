@@ -1,8 +1,9 @@
 //! `Person` and `Profile`.
-use asn1_codec_tests::made::letters;
-use asn1_codec_tests::{Failure, comes_back, comes_back_as};
+use asn1_codec_tests::made::{letters, text};
+use asn1_codec_tests::{Failure, comes_back_as, made_comes_back};
 use asn1_samples::{Color, Contact, Person, Profile};
 use asn1_schema::Rules;
+use asn1_strings::{Alphabet, AlphabetString};
 use asn1_values::Integer;
 use std::alloc::{AllocError, Global};
 
@@ -23,8 +24,29 @@ pub fn person(alloc: Global) -> Result<Person, AllocError> {
 /// # Errors
 /// Why it did not.
 pub fn persons_come_back<R: Rules>(rules: &R, alloc: Global) -> Result<(), Failure> {
-    let person = person(alloc)?;
-    comes_back(rules, &person)
+    made_comes_back(rules, person(alloc).map_err(Failure::from))
+}
+
+/// Letters that may be absent.
+fn optional_letters<A: Alphabet<u8>>(
+    alloc: Global,
+    units: Option<&[u8]>,
+) -> Result<Option<AlphabetString<u8, A>>, Failure> {
+    match units {
+        Some(units) => letters(alloc, units).map(Some),
+        None => Ok(None),
+    }
+}
+
+/// A contact with this phone and this address, each of which may be absent.
+pub(crate) fn contact(
+    alloc: Global,
+    phone: Option<&[u8]>,
+    mail: Option<&[u8]>,
+) -> Result<Contact, Failure> {
+    let phone = optional_letters(alloc, phone)?;
+    let mail = optional_letters(alloc, mail)?;
+    Ok(Contact { phone, mail })
 }
 
 /// A profile of which all but the level and the contact is absent.
@@ -37,17 +59,37 @@ fn bare(contact: Option<Contact>) -> Profile {
     }
 }
 
+fn with_contact(
+    alloc: Global,
+    phone: Option<&[u8]>,
+    mail: Option<&[u8]>,
+) -> Result<Profile, Failure> {
+    let contact = contact(alloc, phone, mail)?;
+    Ok(bare(Some(contact)))
+}
+
+fn full(alloc: Global) -> Result<Profile, Failure> {
+    let contact = contact(alloc, Some(b"12"), Some(b"a@b"))?;
+    let nick = text(alloc, "Al")?;
+    Ok(Profile {
+        nick: Some(nick),
+        level: 255,
+        color: Color::Blue,
+        contact: Some(contact),
+    })
+}
+
 /// Whether profiles come back: bare, with one component of the group, with the other, and full. One whose group writes nothing
 /// comes back without it.
 ///
 /// # Errors
 /// Why one did not.
 pub fn profiles_come_back<R: Rules>(rules: &R, alloc: Global) -> Result<(), Failure> {
-    comes_back(rules, &bare(None))
+    made_comes_back(rules, Ok(bare(None)))
         .and(without_contact(rules))
-        .and(with_phone(rules, alloc))
-        .and(with_mail(rules, alloc))
-        .and(full(rules, alloc))
+        .and(made_comes_back(rules, with_contact(alloc, Some(b"12"), None)))
+        .and(made_comes_back(rules, with_contact(alloc, None, Some(b"a@b"))))
+        .and(made_comes_back(rules, full(alloc)))
 }
 
 fn without_contact<R: Rules>(rules: &R) -> Result<(), Failure> {
@@ -56,38 +98,4 @@ fn without_contact<R: Rules>(rules: &R) -> Result<(), Failure> {
         mail: None,
     };
     comes_back_as(rules, &bare(Some(nothing)), &bare(None))
-}
-
-fn with_phone<R: Rules>(rules: &R, alloc: Global) -> Result<(), Failure> {
-    let phone = letters(alloc, b"12")?;
-    let contact = Contact {
-        phone: Some(phone),
-        mail: None,
-    };
-    comes_back(rules, &bare(Some(contact)))
-}
-
-fn with_mail<R: Rules>(rules: &R, alloc: Global) -> Result<(), Failure> {
-    let mail = letters(alloc, b"a@b")?;
-    let contact = Contact {
-        phone: None,
-        mail: Some(mail),
-    };
-    comes_back(rules, &bare(Some(contact)))
-}
-
-fn full<R: Rules>(rules: &R, alloc: Global) -> Result<(), Failure> {
-    let nick = String::from_str(alloc, "Al")?;
-    let phone = letters(alloc, b"12")?;
-    let mail = letters(alloc, b"a@b")?;
-    let profile = Profile {
-        nick: Some(nick),
-        level: 255,
-        color: Color::Blue,
-        contact: Some(Contact {
-            phone: Some(phone),
-            mail: Some(mail),
-        }),
-    };
-    comes_back(rules, &profile)
 }

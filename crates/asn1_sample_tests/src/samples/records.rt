@@ -1,7 +1,7 @@
 //! The other SEQUENCEs, and `Plate`.
-use asn1_codec_tests::made::letters;
-use asn1_codec_tests::{Failure, comes_back, is_refused};
-use asn1_dec::DecodeError;
+use asn1_codec_tests::made::{letters, list, text};
+use asn1_codec_tests::{Failure, comes_back, is_refused, made_comes_back};
+use asn1_dec::{Decode, DecodeError};
 use asn1_samples::{Envelope, Labelled, Notice, Pair, Plate, Settings};
 use asn1_schema::Rules;
 use asn1_types::Any;
@@ -32,8 +32,12 @@ pub fn envelopes_come_back<R: Rules>(
     alloc: Global,
     value: &[u8],
 ) -> Result<(), Failure> {
-    let body = Any::new(Vec::from_slice(alloc, value)?);
-    comes_back(rules, &Envelope { kind: 1, body })
+    made_comes_back(rules, envelope(alloc, value))
+}
+
+fn envelope(alloc: Global, value: &[u8]) -> Result<Envelope, Failure> {
+    let body = Any::new(list(alloc, value)?);
+    Ok(Envelope { kind: 1, body })
 }
 
 /// Whether a plate comes back.
@@ -41,8 +45,7 @@ pub fn envelopes_come_back<R: Rules>(
 /// # Errors
 /// Why it did not.
 pub fn plates_come_back<R: Rules>(rules: &R, alloc: Global) -> Result<(), Failure> {
-    let letters = letters(alloc, b"AB")?;
-    comes_back(rules, &Plate(letters))
+    made_comes_back(rules, letters(alloc, b"AB").map(Plate))
 }
 
 /// Whether notices come back, with the component after an explicit tag and without.
@@ -50,19 +53,19 @@ pub fn plates_come_back<R: Rules>(rules: &R, alloc: Global) -> Result<(), Failur
 /// # Errors
 /// Why one did not.
 pub fn notices_come_back<R: Rules>(rules: &R, alloc: Global) -> Result<(), Failure> {
-    notice(rules, alloc, None).and(notice(rules, alloc, Some(true)))
+    made_comes_back(rules, notice(alloc, None)).and(made_comes_back(
+        rules,
+        notice(alloc, Some(true)),
+    ))
 }
 
-fn notice<R: Rules>(rules: &R, alloc: Global, urgent: Option<bool>) -> Result<(), Failure> {
-    let text = String::from_str(alloc, "Fire")?;
-    comes_back(
-        rules,
-        &Notice {
-            id: 7,
-            urgent,
-            text,
-        },
-    )
+fn notice(alloc: Global, urgent: Option<bool>) -> Result<Notice, Failure> {
+    let text = text(alloc, "Fire")?;
+    Ok(Notice {
+        id: 7,
+        urgent,
+        text,
+    })
 }
 
 /// Whether pairs come back, of two types and of two others.
@@ -87,14 +90,16 @@ pub fn pairs_come_back<R: Rules>(rules: &R) -> Result<(), Failure> {
 /// # Errors
 /// How else it ended.
 pub fn pairs_outside_limits_are_refused<R: Rules>(rules: &R) -> Result<(), Failure> {
+    elevens_are_refused::<Pair<OneToTen, u8>, R>(rules).and(elevens_are_refused::<
+        Pair<u8, OneToTen>,
+        R,
+    >(rules))
+}
+
+fn elevens_are_refused<P: Decode, R: Rules>(rules: &R) -> Result<(), Failure> {
     let elevens = Pair {
         first: 11u8,
         second: Some(11u8),
     };
-    let error = DecodeError::OutOfRange;
-    is_refused::<Pair<OneToTen, u8>, R, Pair<u8, u8>>(rules, &elevens, error).and(is_refused::<
-        Pair<u8, OneToTen>,
-        R,
-        Pair<u8, u8>,
-    >(rules, &elevens, error))
+    is_refused::<P, R, Pair<u8, u8>>(rules, &elevens, DecodeError::OutOfRange)
 }

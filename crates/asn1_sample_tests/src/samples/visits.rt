@@ -1,6 +1,7 @@
 //! `Visit`.
-use asn1_codec_tests::made::letters;
-use asn1_codec_tests::{Failure, comes_back};
+use crate::samples::contact;
+use asn1_codec_tests::made::text;
+use asn1_codec_tests::{Failure, made_comes_back};
 use asn1_samples::{Contact, Visit};
 use asn1_schema::Rules;
 use std::alloc::Global;
@@ -11,10 +12,10 @@ use std::alloc::Global;
 /// # Errors
 /// Why one did not.
 pub fn visits_come_back<R: Rules>(rules: &R, alloc: Global) -> Result<(), Failure> {
-    comes_back(rules, &visit(None, None))
-        .and(with_phone(rules, alloc))
-        .and(with_note(rules, alloc))
-        .and(with_both(rules, alloc))
+    made_comes_back(rules, Ok(visit(None, None)))
+        .and(made_comes_back(rules, with_phone(alloc)))
+        .and(made_comes_back(rules, with_note(alloc)))
+        .and(made_comes_back(rules, with_both(alloc)))
 }
 
 fn visit(contact: Option<Contact>, note: Option<String>) -> Visit {
@@ -25,26 +26,18 @@ fn visit(contact: Option<Contact>, note: Option<String>) -> Visit {
     }
 }
 
-fn with_phone<R: Rules>(rules: &R, alloc: Global) -> Result<(), Failure> {
-    let phone = letters(alloc, b"12")?;
-    let contact = Contact {
-        phone: Some(phone),
-        mail: None,
-    };
-    comes_back(rules, &visit(Some(contact), None))
+fn with_phone(alloc: Global) -> Result<Visit, Failure> {
+    let contact = contact(alloc, Some(b"12"), None)?;
+    Ok(visit(Some(contact), None))
 }
 
-fn with_note<R: Rules>(rules: &R, alloc: Global) -> Result<(), Failure> {
-    let note = String::from_str(alloc, "ok")?;
-    comes_back(rules, &visit(None, Some(note)))
+fn with_note(alloc: Global) -> Result<Visit, Failure> {
+    let note = text(alloc, "ok")?;
+    Ok(visit(None, Some(note)))
 }
 
-fn with_both<R: Rules>(rules: &R, alloc: Global) -> Result<(), Failure> {
-    let phone = letters(alloc, b"12")?;
-    let note = String::from_str(alloc, "ok")?;
-    let contact = Contact {
-        phone: Some(phone),
-        mail: None,
-    };
-    comes_back(rules, &visit(Some(contact), Some(note)))
+fn with_both(alloc: Global) -> Result<Visit, Failure> {
+    let contact = contact(alloc, Some(b"12"), None)?;
+    let note = text(alloc, "ok")?;
+    Ok(visit(Some(contact), Some(note)))
 }
