@@ -25,6 +25,13 @@ pub(super) fn alone(rt: &impl Abort, alloc: Global, record: Record) -> Vec<Recor
     records
 }
 
+/// A list of two records.
+fn pair(rt: &impl Abort, alloc: Global, first: Record, second: Record) -> Vec<Record> {
+    let mut records = alone(rt, alloc, first);
+    records.push(second).expect(rt, "memory");
+    records
+}
+
 /// An explicit tag with nothing after it.
 pub(super) fn empty_scope(rt: &impl Abort, alloc: Global) -> Vec<Record> {
     let head = Head::Prefix(Tag::BOOL, NAME);
@@ -59,9 +66,7 @@ pub(super) fn octets(
 
 /// The numbers 11 and 7.
 pub(super) fn two_numbers(rt: &impl Abort, alloc: Global) -> Vec<Record> {
-    let mut records = written(rt, alloc, &11u8);
-    records.push(number(7)).expect(rt, "memory");
-    records
+    pair(rt, alloc, number(11), number(7))
 }
 
 /// A number.
@@ -71,12 +76,8 @@ fn number(value: u8) -> Record {
 
 /// A SET of a number and a REAL.
 pub(super) fn set_with_a_real(rt: &impl Abort, alloc: Global) -> Vec<Record> {
-    let mut components = alone(rt, alloc, number(7));
     let real = Record::Scalar(Tag::REAL, NAME, Content::Null);
-    components.push(real).expect(rt, "memory");
-    alone(
-        rt,
-        alloc,
-        Record::Scope(Head::Set(Tag::SET, NAME), components),
-    )
+    let components = pair(rt, alloc, number(7), real);
+    let head = Head::Set(Tag::SET, NAME);
+    alone(rt, alloc, Record::Scope(head, components))
 }

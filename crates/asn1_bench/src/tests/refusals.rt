@@ -9,7 +9,7 @@ use asn1_dec::{Decode, DecodeError, Decoder, Needed};
 use asn1_record_decoder::RecordDecoder;
 use asn1_records::Record;
 use asn1_samples::{Badge, Color, Corner, Shape};
-use asn1_strings::{Ia5String, VisibleString};
+use asn1_strings::{BmpString, Ia5String, VisibleString};
 use asn1_tags::Tag;
 use asn1_types::{Explicit, OctetKind, tag};
 use asn1_values::ConstrainedInteger;
@@ -56,8 +56,16 @@ fn a_string_that_is_none_of_its_kind_is_refused(rt: HostRuntime) {
     refused::<VisibleString>(&rt, alloc, "a line feed", line, BAD_ITEM);
     let bytes = octets(&rt, alloc, Tag::UTF8_STRING, OctetKind::Utf8, &[255]);
     refused::<String>(&rt, alloc, "no text", bytes, BAD_ITEM);
+}
+
+/// The tags are those of what is read, so that nothing but the kind tells the strings apart.
+#[test]
+fn a_string_of_another_kind_is_refused(rt: HostRuntime) {
+    let alloc = rt.alloc();
     let visible = octets(&rt, alloc, Tag::IA5_STRING, OctetKind::Visible, b"a");
-    refused::<Ia5String>(&rt, alloc, "another kind", visible, BAD_ITEM);
+    refused::<Ia5String>(&rt, alloc, "other octets", visible, BAD_ITEM);
+    let visible = octets(&rt, alloc, Tag::BMP_STRING, OctetKind::Visible, b"a");
+    refused::<BmpString>(&rt, alloc, "octets for wider units", visible, BAD_ITEM);
 }
 
 #[test]
