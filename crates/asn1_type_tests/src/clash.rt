@@ -35,6 +35,18 @@ fn optional(value: u32) -> Field<'static> {
     field(FieldPresence::Optional, leaf!(value))
 }
 
+// The clashes that are found in these components.
+fn assert_found(
+    rt: &impl Abort,
+    alloc: Global,
+    components: &[FlatComponent],
+    sequence: Option<(usize, usize)>,
+    set: Option<(usize, usize)>,
+) {
+    assert!(rt; find_sequence_clash(alloc, components).expect(rt, "memory") == sequence);
+    assert!(rt; find_set_clash(alloc, components).expect(rt, "memory") == set);
+}
+
 // The clashes of a table, which those that take no memory find too.
 fn assert_clashes(
     rt: &impl Abort,
@@ -43,10 +55,9 @@ fn assert_clashes(
     sequence: Option<(usize, usize)>,
     set: Option<(usize, usize)>,
 ) {
-    let components = FlatComponent::of_fields(alloc, fields).expect(rt, "memory");
-    assert!(rt; find_sequence_clash(alloc, &components).expect(rt, "memory") == sequence);
-    assert!(rt; find_set_clash(alloc, &components).expect(rt, "memory") == set);
     assert!(rt; first_sequence_clash(fields) == sequence && first_set_clash(fields) == set);
+    let components = FlatComponent::of_fields(alloc, fields).expect(rt, "memory");
+    assert_found(rt, alloc, &components, sequence, set);
 }
 
 #[test]
@@ -70,33 +81,46 @@ fn clashes_are_the_least(rt: HostRuntime) {
     assert_clashes(&rt, alloc, &before_open, None, Some((0, 2)));
 }
 
+fn assert_summary_of(rt: &impl Abort, tags: &mut [Tag], is_unique: bool) {
+    let summary = TreeSummary::of(tags);
+    assert!(rt;
+        summary.is_unique == is_unique
+            && summary.leaf_count == 3
+            && summary.smallest_tag == Tag::new_context(3)
+    );
+}
+
+fn flat_tree(rt: &impl Abort, alloc: Global, nodes: &'static [TagTree<'static>]) -> FlatTree {
+    FlatTree::of(alloc, &TagTree::Choice(nodes)).expect(rt, "memory")
+}
+
 fn assert_summary(
     rt: &impl Abort,
     alloc: Global,
     nodes: &'static [TagTree<'static>],
     is_unique: bool,
 ) {
-    let mut tree = FlatTree::of(alloc, &TagTree::Choice(nodes)).expect(rt, "memory");
+    let mut tree = flat_tree(rt, alloc, nodes);
     tree.push(Tag::new_context(9)).expect(rt, "memory");
-    let summary = TreeSummary::of(&mut tree.tags);
-    assert!(rt; summary.is_unique == is_unique && summary.leaf_count == 3);
-    assert!(rt; summary.smallest_tag == Tag::new_context(3));
+    assert_summary_of(rt, &mut tree.tags, is_unique);
 }
-
-#[test]
-fn summaries(rt: HostRuntime) {
-    let alloc = rt.alloc();
-    assert_summary(&rt, alloc, C3_OR_C4, true);
-    assert_summary(&rt, alloc, TWICE, false);
-}
-
-const TWICE: &[TagTree<'static>] = &[TagTree::Choice(C3_OR_NOTHING), leaf!(3)];
 
 const C3_OR_NOTHING: &[TagTree<'static>] = &[leaf!(3), TagTree::Choice(&[])];
 
+const TWICE: &[TagTree<'static>] = &[TagTree::Choice(C3_OR_NOTHING), leaf!(3)];
+
+#[test]
+fn summaries(rt: HostRuntime) {
+    assert_summary(&rt, rt.alloc(), C3_OR_C4, true);
+    assert_summary(&rt, rt.alloc(), TWICE, false);
+}
+
+fn assert_open(rt: &impl Abort, tree: &FlatTree, smallest: Tag) {
+    assert!(rt; tree.is_open() && tree.smallest_tag() == smallest);
+}
+
 #[test]
 fn an_empty_choice_makes_a_tree_open(rt: HostRuntime) {
-    let alloc = rt.alloc();
-    let open = FlatTree::of(alloc, &TagTree::Choice(C3_OR_NOTHING)).expect(&rt, "memory");
-    assert!(rt; open.is_open() && open.smallest_tag() == Tag::new_context(3));
+    let open = flat_tree(&rt, rt.alloc(), C3_OR_NOTHING);
+    assert_open(&rt, &open, Tag::new_context(3));
 }
