@@ -1,4 +1,4 @@
-//! A value of each kind under a tag of its place, by the call of its kind.
+//! A value of each kind under a tag of its place, by the call of its kind; of strings one of each type of unit.
 use crate::call_rules::CallRules;
 use crate::calls::tagged::{comes_back_under_a_tag, made_comes_back_under_a_tag};
 use crate::failure::Failure;

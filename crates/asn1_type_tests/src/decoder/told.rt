@@ -6,8 +6,18 @@ use asn1_dec::{Decode, DecodeError, Decoder};
 use asn1_recursive::Node;
 use asn1_samples::{Badge, Color, Profile, Settings, Shape, Visit};
 use asn1_tags::Tag;
-use std::alloc::Global;
+use std::alloc::{AllocError, Global};
 use std::process::Abort;
+
+/// Asserts that the call has read a value.
+fn assert_read<V: Drop>(rt: &impl Abort, answer: Result<V, DecodeError>) {
+    assert!(rt; answer.is_ok());
+}
+
+/// Asserts that the codec has been told all that its script says.
+fn assert_heard_all(rt: &impl Abort, listener: &Listener) {
+    assert!(rt; listener.has_heard_all());
+}
 
 /// Asserts what a codec is told in which these components are there, or none is, when a value of the type is read.
 fn assert_told<T: Decode>(
@@ -18,8 +28,8 @@ fn assert_told<T: Decode>(
     script: &'static [Told],
 ) {
     let mut listener = Listener::new(alloc, are_there, tags, script);
-    let value = T::decode(&mut listener);
-    assert!(rt; value.is_ok() && listener.has_heard_all());
+    assert_read(rt, T::decode(&mut listener));
+    assert_heard_all(rt, &listener);
 }
 
 /// What is told of a profile: its options, its default, and its group.
@@ -97,66 +107,6 @@ fn a_color_is_told_with_its_items(rt: HostRuntime) {
     assert_told::<Color>(&rt, rt.alloc(), false, &[], &[Told::Items(2, Some(1))]);
 }
 
-/// Each call for an option of the root, under BOOLEAN's tag, or after that of NULL.
-fn read_options(listener: &mut Listener) -> Result<(), DecodeError> {
-    let _: Option<bool> = listener.decode_optional()?;
-    let _: Option<bool> = listener.decode_optional_with_tag(Tag::BOOL)?;
-    let _: Option<bool> = listener.decode_optional_with_constraints(&Constraints::NONE)?;
-    let _: Option<bool> = listener.decode_optional_with_tag_and_constraints(
-        Tag::BOOL,
-        &Constraints::NONE,
-    )?;
-    let _: Option<bool> = listener.decode_optional_with_explicit_prefix(Tag::NULL)?;
-    Ok(())
-}
-
-/// Each call for a component with a default.
-fn read_defaults(listener: &mut Listener) -> Result<(), DecodeError> {
-    let none = &Constraints::NONE;
-    let _: bool = listener.decode_default(|_| Ok(false))?;
-    let _: bool = listener.decode_default_with_tag(Tag::BOOL, |_| Ok(false))?;
-    let _: bool = listener.decode_default_with_constraints(|_| Ok(false), none)?;
-    let _: bool = listener.decode_default_with_tag_and_constraints(Tag::BOOL, |_| Ok(false), none)?;
-    Ok(())
-}
-
-/// Each call for an addition.
-fn read_additions(listener: &mut Listener) -> Result<(), DecodeError> {
-    let none = &Constraints::NONE;
-    let _: Option<bool> = listener.decode_extension_addition()?;
-    let _: Option<bool> = listener.decode_extension_addition_with_tag(Tag::BOOL)?;
-    let _: Option<bool> = listener.decode_extension_addition_with_constraints(none)?;
-    let _: Option<bool> = listener.decode_extension_addition_with_tag_and_constraints(
-        Tag::BOOL,
-        none,
-    )?;
-    let _: Option<bool> = listener.decode_extension_addition_with_explicit_tag_and_constraints(
-        Tag::NULL,
-        none,
-    )?;
-    Ok(())
-}
-
-/// Each call for an addition with a default.
-fn read_additions_with_defaults(listener: &mut Listener) -> Result<(), DecodeError> {
-    let none = &Constraints::NONE;
-    let _: bool = listener.decode_extension_addition_with_default(|_| Ok(false))?;
-    let _: bool = listener.decode_extension_addition_with_default_and_tag(
-        Tag::BOOL,
-        |_| Ok(false),
-    )?;
-    let _: bool = listener.decode_extension_addition_with_default_and_constraints(
-        |_| Ok(false),
-        none,
-    )?;
-    let _: bool = listener.decode_extension_addition_with_default_and_tag_and_constraints(
-        Tag::BOOL,
-        |_| Ok(false),
-        none,
-    )?;
-    Ok(())
-}
-
 const OPTIONS: &[Told] = &[
     Told::Component(1),
     Told::Component(1),
@@ -187,22 +137,103 @@ const ADDITIONS_WITH_DEFAULTS: &[Told] = &[
     Told::Addition(1),
 ];
 
+/// Each call for an option of the root, under BOOLEAN's tag, or after that of NULL.
+fn read_options(rt: &impl Abort, from: &mut Listener) {
+    let none = &Constraints::NONE;
+    assert_read(rt, from.decode_optional::<bool>());
+    assert_read(rt, from.decode_optional_with_tag::<bool>(Tag::BOOL));
+    assert_read(rt, from.decode_optional_with_constraints::<bool>(none));
+    assert_read(
+        rt,
+        from.decode_optional_with_tag_and_constraints::<bool>(Tag::BOOL, none),
+    );
+    assert_read(
+        rt,
+        from.decode_optional_with_explicit_prefix::<bool>(Tag::NULL),
+    );
+}
+
+/// The default of each component that has one.
+fn no(_alloc: Global) -> Result<bool, AllocError> {
+    Ok(false)
+}
+
+/// Each call for a component with a default.
+fn read_defaults(rt: &impl Abort, from: &mut Listener) {
+    let none = &Constraints::NONE;
+    assert_read(rt, from.decode_default(no));
+    assert_read(rt, from.decode_default_with_tag(Tag::BOOL, no));
+    assert_read(rt, from.decode_default_with_constraints(no, none));
+    assert_read(
+        rt,
+        from.decode_default_with_tag_and_constraints(Tag::BOOL, no, none),
+    );
+}
+
+/// Each call for an addition.
+fn read_additions(rt: &impl Abort, from: &mut Listener) {
+    let none = &Constraints::NONE;
+    assert_read(rt, from.decode_extension_addition::<bool>());
+    assert_read(
+        rt,
+        from.decode_extension_addition_with_tag::<bool>(Tag::BOOL),
+    );
+    assert_read(
+        rt,
+        from.decode_extension_addition_with_constraints::<bool>(none),
+    );
+    assert_read(
+        rt,
+        from.decode_extension_addition_with_tag_and_constraints::<bool>(Tag::BOOL, none),
+    );
+    assert_read(
+        rt,
+        from.decode_extension_addition_with_explicit_tag_and_constraints::<bool>(Tag::NULL, none),
+    );
+}
+
+/// Each call for an addition with a default.
+fn read_additions_with_defaults(rt: &impl Abort, from: &mut Listener) {
+    let none = &Constraints::NONE;
+    assert_read(rt, from.decode_extension_addition_with_default(no));
+    assert_read(
+        rt,
+        from.decode_extension_addition_with_default_and_tag(Tag::BOOL, no),
+    );
+    assert_read(
+        rt,
+        from.decode_extension_addition_with_default_and_constraints(no, none),
+    );
+    assert_read(
+        rt,
+        from.decode_extension_addition_with_default_and_tag_and_constraints(Tag::BOOL, no, none),
+    );
+}
+
 #[test]
 fn components_of_the_root_are_asked_for_as_such(rt: HostRuntime) {
     let mut listener = Listener::new(rt.alloc(), true, &[], OPTIONS);
-    let answer = read_options(&mut listener);
-    assert!(rt; answer.is_ok() && listener.has_heard_all());
+    read_options(&rt, &mut listener);
+    assert_heard_all(&rt, &listener);
+}
+
+#[test]
+fn components_with_defaults_are_asked_for_as_such(rt: HostRuntime) {
     let mut listener = Listener::new(rt.alloc(), false, &[], DEFAULTS);
-    let answer = read_defaults(&mut listener);
-    assert!(rt; answer.is_ok() && listener.has_heard_all());
+    read_defaults(&rt, &mut listener);
+    assert_heard_all(&rt, &listener);
 }
 
 #[test]
 fn additions_are_asked_for_as_such(rt: HostRuntime) {
     let mut listener = Listener::new(rt.alloc(), true, &[], ADDITIONS);
-    let answer = read_additions(&mut listener);
-    assert!(rt; answer.is_ok() && listener.has_heard_all());
+    read_additions(&rt, &mut listener);
+    assert_heard_all(&rt, &listener);
+}
+
+#[test]
+fn additions_with_defaults_are_asked_for_as_such(rt: HostRuntime) {
     let mut listener = Listener::new(rt.alloc(), false, &[], ADDITIONS_WITH_DEFAULTS);
-    let answer = read_additions_with_defaults(&mut listener);
-    assert!(rt; answer.is_ok() && listener.has_heard_all());
+    read_additions_with_defaults(&rt, &mut listener);
+    assert_heard_all(&rt, &listener);
 }

@@ -43,44 +43,64 @@ fn not(rt: &impl Abort, alloc: Global, inner: Filter) -> Filter {
     Filter::Not(Box::new(alloc, inner).expect(rt, "memory"))
 }
 
-fn pair(rt: &impl Abort, alloc: Global, first: Filter, second: Filter) -> SetOf<Filter> {
-    let mut filters = SetOf::new(alloc);
-    if filters.insert(first).is_err() || filters.insert(second).is_err() {
+/// Puts the filter into the set.
+fn put(rt: &impl Abort, filters: &mut SetOf<Filter>, filter: Filter) {
+    if filters.insert(filter).is_err() {
         panic!(rt; "memory");
     }
+}
+
+fn pair(rt: &impl Abort, alloc: Global, first: Filter, second: Filter) -> SetOf<Filter> {
+    let mut filters = SetOf::new(alloc);
+    put(rt, &mut filters, first);
+    put(rt, &mut filters, second);
     filters
+}
+
+/// Both attributes.
+fn both(rt: &impl Abort, alloc: Global, first: &[u8], second: &[u8]) -> Filter {
+    let one = present(rt, alloc, first);
+    let other = present(rt, alloc, second);
+    Filter::And(pair(rt, alloc, one, other))
+}
+
+/// Not this attribute.
+fn without(rt: &impl Abort, alloc: Global, name: &[u8]) -> Filter {
+    not(rt, alloc, present(rt, alloc, name))
 }
 
 /// Both attributes, or not the first.
 fn nested(rt: &impl Abort, alloc: Global, first: &[u8], second: &[u8]) -> Filter {
-    let both = pair(
-        rt,
-        alloc,
-        present(rt, alloc, first),
-        present(rt, alloc, second),
-    );
-    let without = not(rt, alloc, present(rt, alloc, first));
-    Filter::Or(pair(rt, alloc, Filter::And(both), without))
+    let both = both(rt, alloc, first, second);
+    let without = without(rt, alloc, first);
+    Filter::Or(pair(rt, alloc, both, without))
 }
 
 /// The same conditions in another order.
 fn turned(rt: &impl Abort, alloc: Global, first: &[u8], second: &[u8]) -> Filter {
-    let both = pair(
-        rt,
-        alloc,
-        present(rt, alloc, second),
-        present(rt, alloc, first),
-    );
-    let without = not(rt, alloc, present(rt, alloc, first));
-    Filter::Or(pair(rt, alloc, without, Filter::And(both)))
+    let both = both(rt, alloc, second, first);
+    let without = without(rt, alloc, first);
+    Filter::Or(pair(rt, alloc, without, both))
+}
+
+/// Asserts that the filter, which has three levels, is equal or not to the one of these attributes in another order.
+fn assert_turned(
+    rt: &impl Abort,
+    alloc: Global,
+    filter: &Filter,
+    first: &[u8],
+    second: &[u8],
+    are_equal: bool,
+) {
+    let other = turned(rt, alloc, first, second);
+    assert!(rt; (*filter == other) == are_equal && depth(filter) == 3);
 }
 
 #[test]
 fn filters_are_equal_in_any_order(rt: HostRuntime) {
     let alloc = rt.alloc();
     let filter = nested(&rt, alloc, &[1], &[2]);
-    assert_eq!(rt; filter, turned(&rt, alloc, &[1], &[2]));
-    assert!(rt; filter != turned(&rt, alloc, &[2], &[1]));
-    assert!(rt; filter != turned(&rt, alloc, &[1], &[1]));
-    assert!(rt; depth(&filter) == 3);
+    assert_turned(&rt, alloc, &filter, &[1], &[2], true);
+    assert_turned(&rt, alloc, &filter, &[2], &[1], false);
+    assert_turned(&rt, alloc, &filter, &[1], &[1], false);
 }
