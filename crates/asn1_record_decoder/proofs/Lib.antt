@@ -1,3 +1,4 @@
 mod InRecords
+mod Names
 mod Numbers
 mod Standing

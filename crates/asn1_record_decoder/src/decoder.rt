@@ -2,7 +2,7 @@
 ghost use Rattle.std.specs.Prelude.{◌+◌, ◌<◌, ◌^◌, vec_len};
 
 use crate::found::{self, BAD_ITEM};
-use crate::from_content::{FromContent, StringOf};
+use crate::from_content::{FromContent, NumberOf, StringOf};
 use crate::marks::skip_marks;
 use crate::wanted::Wanted;
 use asn1_bounds::{Codec, Constraints};
@@ -284,7 +284,7 @@ impl<'a> Decoder for RecordDecoder<'a> {
         &mut self,
         tag: Tag,
     ) -> Result<isize, DecodeError> {
-        let number = self.scalar(tag)?;
+        let NumberOf { number, .. } = self.scalar::<NumberOf<E>>(tag)?;
         match E::name_of_number(number) {
             Some(_) => Ok(number),
             None => Err(self.fail(BAD_ITEM)),

@@ -1,18 +1,23 @@
 //! What is read from a content.
 ghost use Rattle.asn1_model.specs.Records as model;
 ghost use Rattle.asn1_model.specs.Records.{arcs, discriminant, null, number, truth};
-ghost use Rattle.asn1_model.specs.Tables.{no_table};
+ghost use Rattle.asn1_records.specs.WithoutConstraints.{item_name, label_of_number};
 ghost use Rattle.asn1_dec.specs.declared.error.DecodeError.TheVariants.{Depth, Memory};
 ghost use Rattle.asn1_records.specs.Records.{content_of};
+ghost use Rattle.asn1_tags.specs.Names.{name_of};
+ghost use Rattle.std.specs.Bool.{Decides};
 ghost use Rattle.std.specs.Prelude.{◌≡◌, ◌≢◌, ◌<◌, ◌^◌, ⊤, All, Bool, Err, IfOk, List, MatchResult, ℕ, ℤ};
 
 use crate::found::BAD_ITEM;
 use asn1_dec::DecodeError;
+use asn1_enumerations::EnumeratedTable;
 use asn1_records::Content;
 use asn1_strings::ObjectIdentifier;
+use asn1_tags::Identifier;
 use asn1_types::CodecString;
 use asn1_values::{Integer, IntegerType};
 use std::alloc::Global;
+use std::marker::PhantomData;
 
 /// A type that is read from a content.
 pub(crate) trait FromContent: Sized {
@@ -68,21 +73,38 @@ impl FromContent for () {
     }
 }
 
-impl FromContent for isize {
+/// The number of an item of the ENUMERATED type whose items are those of the table of `E`.
+#[derive(Drop)]
+pub(crate) struct NumberOf<E: EnumeratedTable> {
+    pub(crate) number: isize,
+    of: PhantomData<E>,
+}
+
+impl<E: EnumeratedTable> FromContent for NumberOf<E> {
     ghost Value = { ℤ };
 
-    ghost content = { discriminant no_table };
+    ghost content = { λ z. discriminant (label_of_number E.labels z) z };
 
     ghost IsOfType = { λ _. ⊤ };
 
-    ghost Is = { λ w z. w ≡ z };
+    ghost Is = { λ w z. w.number ≡ z };
 
     fn from_content(_alloc: Global, kept: &Content) -> Result<Self, DecodeError> {
         match kept {
-            Content::Discriminant(number) => Ok(*number),
+            Content::Discriminant(number, item) if is_item::<E>(*number, *item) => Ok(NumberOf {
+                number: *number,
+                of: PhantomData,
+            }),
             _ => Err(BAD_ITEM),
         }
     }
+}
+
+// Whether this is the name of the item that has the number.
+fn is_item<E: EnumeratedTable>(number: isize, name: Identifier) -> bool
+    ensures { Decides result (name_of name ≡ item_name E.labels number) }
+{
+    name == Identifier(E::name_of_number(number))
 }
 
 impl FromContent for ObjectIdentifier {

@@ -1,10 +1,12 @@
--- What the records of a program are in the model. They have no constraints and no tables.
+-- What the records of a program are in the model. They have no constraints and no tables, but for
+-- the label of a number.
 use Rattle.std.specs.Prelude.{List, map}
 use Rattle.asn1_tags.specs.Names.{name_of}
 use Rattle.asn1_types.specs.AnyStrings.{content_of_string}
 use Rattle.asn1_model.specs.ConstraintSets.{unconstrained}
 use Rattle.asn1_model.specs.Records as model
 use Rattle.asn1_model.specs.Tables.{no_table}
+use Rattle.asn1_records.specs.WithoutConstraints.{label_alone}
 use Rattle.asn1_records.specs.declared.content.Content.{Content}
 use Rattle.asn1_records.specs.declared.content.Content.TheVariants.{Null, Truth, Number, Discriminant, Arcs, String}
 use Rattle.asn1_records.specs.declared.record.Head.{Head}
@@ -22,7 +24,7 @@ abbrev pub content_of : Content → model.Content
 content_of Null = model.null
 content_of (Truth b) = model.truth b
 content_of (Number n) = model.number n
-content_of (Discriminant n) = model.discriminant no_table n
+content_of (Discriminant n name) = model.discriminant (label_alone n (name_of name)) n
 content_of (Arcs arcs) = model.arcs arcs.items
 content_of (String string) = content_of_string string
 

@@ -1,5 +1,10 @@
 -- What the record codec keeps of records: all but their constraints and the tables of their types.
-use Rattle.std.specs.Prelude.{List, map}
+-- Of the labels of an ENUMERATED it keeps that of the number.
+use Rattle.std.specs.Prelude.{ℕ, ℤ, List, [], ◌∷◌, None, Option, Some, map}
+use Rattle.std.specs.List.{find}
+use Rattle.std.specs.Option.{option_map}
+use Rattle.std.specs.Ordering.{int_eq}
+use Rattle.asn1_enumerations.specs.Labels.{Labels, all_labels}
 use Rattle.asn1_enc.specs.Writing.{Written, outermost, in_scope, in_group}
 use Rattle.asn1_model.specs.ConstraintSets.{unconstrained}
 use Rattle.asn1_model.specs.Records.{Record, Records, none, more, scalar, scope, raw, mark, Content, null, truth, number, discriminant, arcs, bits, units, Head, sequence, set, sequence_of, set_of, prefix, alternative, Mark, present, absent, group_start, group_absent, group_end}
@@ -14,12 +19,25 @@ head_without (set_of t c n) = set_of t unconstrained n
 head_without (prefix t n) = prefix t n
 head_without (alternative t c table n) = alternative t unconstrained no_table n
 
--- the content without the labels of its type
+-- the labels with this number, of which there is one, or none where no item has it
+abbrev pub label_alone : ℤ → Option (List ℕ) → Labels
+label_alone z None = no_table
+label_alone z (Some name) = record { root = record { number = z; name = name } ∷ []; additions = None }
+
+-- the name of the item with this number, where there is one
+abbrev pub item_name : Labels → ℤ → Option (List ℕ)
+item_name labels z = option_map (λ l. l.name) (find (λ l. int_eq l.number z) (all_labels labels))
+
+-- those of the labels of a type
+abbrev pub label_of_number : Labels → ℤ → Labels
+label_of_number labels z = label_alone z (item_name labels z)
+
+-- the content without the labels of its type, but for that of its number
 abbrev pub content_without : Content → Content
 content_without null = null
 content_without (truth b) = truth b
 content_without (number z) = number z
-content_without (discriminant labels z) = discriminant no_table z
+content_without (discriminant labels z) = discriminant (label_of_number labels z) z
 content_without (arcs list) = arcs list
 content_without (bits list) = bits list
 content_without (units kind list) = units kind list

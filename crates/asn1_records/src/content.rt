@@ -4,6 +4,7 @@ ghost use Rattle.asn1_types.specs.AnyStrings.{content_of_str};
 ghost use Rattle.asn1_model.specs.Records.{arcs as arcs_content, number};
 ghost use Rattle.std.specs.Prelude.{◌≡◌, IfOk};
 
+use asn1_tags::Identifier;
 use asn1_types::{AnyStr, AnyString};
 use asn1_values::{Integer, IntegerType};
 use std::alloc::{AllocError, Global};
@@ -17,8 +18,8 @@ pub enum Content {
     Truth(bool),
     /// An INTEGER.
     Number(Integer),
-    /// A value of an ENUMERATED type, by its number.
-    Discriminant(isize),
+    /// A value of an ENUMERATED type, by its number, and the name of the item that has the number.
+    Discriminant(isize, Identifier),
     /// An OBJECT IDENTIFIER.
     Arcs(Vec<u32>),
     /// A string of whatever kind.

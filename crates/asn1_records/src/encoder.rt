@@ -247,7 +247,8 @@ impl Encoder for RecordEncoder {
         number: isize,
         name: Identifier,
     ) -> Result<(), EncodeError> {
-        self.append_scalar(tag, name, Ok(Content::Discriminant(number)))
+        let item = Identifier(E::name_of_number(number));
+        self.append_scalar(tag, name, Ok(Content::Discriminant(number, item)))
     }
 
     fn encode_object_identifier(

@@ -38,9 +38,14 @@ pub(super) fn empty_scope(rt: &impl Abort, alloc: Global) -> Vec<Record> {
     alone(rt, alloc, Record::Scope(head, Vec::new(alloc)))
 }
 
-/// A value of an ENUMERATED type by this number.
-pub(super) fn item(rt: &impl Abort, alloc: Global, number: isize) -> Vec<Record> {
-    let content = Content::Discriminant(number);
+/// A value of an ENUMERATED type by this number, whose item has this name.
+pub(super) fn item(
+    rt: &impl Abort,
+    alloc: Global,
+    number: isize,
+    name: Option<&'static str>,
+) -> Vec<Record> {
+    let content = Content::Discriminant(number, Identifier(name));
     alone(rt, alloc, Record::Scalar(Tag::ENUMERATED, NAME, content))
 }
 

@@ -80,7 +80,10 @@ fn too_few_records_are_refused(rt: HostRuntime) {
 #[test]
 fn what_is_no_item_and_no_alternative_is_refused(rt: HostRuntime) {
     let alloc = rt.alloc();
-    refused::<Color>(&rt, alloc, "no item", item(&rt, alloc, 2), BAD_ITEM);
+    let nameless = item(&rt, alloc, 2, None);
+    refused::<Color>(&rt, alloc, "no item", nameless, BAD_ITEM);
+    let other = item(&rt, alloc, 0, Some("yellow"));
+    refused::<Color>(&rt, alloc, "an item of another type", other, BAD_ITEM);
     refused::<Corner>(
         &rt,
         alloc,
