@@ -1,6 +1,6 @@
 //! Laws of what no other contract names: what is written by these rules, and what derives give.
-ghost use Rattle.asn1_enc.specs.declared.error.EncodeError.{EncodeError};
-ghost use Rattle.asn1_enc.specs.declared.error.EncodeError.TheVariants.{Depth, Memory};
+ghost use Rattle.asn1_codec.specs.declared.encode_error.EncodeError.{EncodeError};
+ghost use Rattle.asn1_codec.specs.declared.encode_error.EncodeError.TheVariants.{Depth, Memory};
 ghost use Rattle.asn1_model.specs.Records.{Record as Written};
 ghost use Rattle.asn1_records.specs.Carried.{Carries};
 ghost use Rattle.asn1_schema.specs.Rules.{IsNotWritten};

@@ -8,7 +8,7 @@ use std::alloc::Global;
 
 /// The rules of the record codec: a value becomes its records, without constraints and tables.
 ///
-/// They reject nothing, and take any bytes as one value of an open type. So `write_value` fails for want of memory, or where the
+/// They reject nothing, and take any bytes as one value of an open type. So `write_value` fails if memory runs out, or where the
 /// value's records are higher than the depth, and for no other reason.
 ///
 /// Of records that are not those of the type, `read_value` answers an error or a value. [`DecodeError::Incomplete`] comes where
@@ -55,7 +55,7 @@ impl Rules for BenchRules {
             record_format.carries output.now (own_records T.meaning v) →
             ReadsWhole (highest (own_records T.meaning v)) depth (λ w. T.eq w v ≡ true) result }
         ensures refuses { (rs : List model.Record) (error : _) →
-            T.refused record_format.takes T.meaning.tag T.meaning.constraints rs error →
+            T.refusals record_format.takes T.meaning.tag T.meaning.constraints rs error →
             record_format.carries output.now rs → RefusesWhole (highest rs) depth error result }
         ensures none_left { (v : T) (r : model.Record) (rest : List model.Record) →
             CanStandInside T.meaning → T.meaning.IsOfType v →

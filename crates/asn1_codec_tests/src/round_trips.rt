@@ -27,7 +27,7 @@ pub fn comes_back<R: Rules, T: Encode + Decode>(rules: &R, value: &T) -> Result<
     comes_back_as(rules, value, value)
 }
 
-/// Whether a value comes back as another, which stands for it: a component that is written as absent is read as such.
+/// Whether a value comes back as another, which means the same: a component that is written as absent is read as such.
 ///
 /// # Errors
 /// [`Failure::Another`] where it comes back as a third; else why it was not written or not read.

@@ -6,7 +6,7 @@ use crate::decoder::Decoder;
 use std::alloc::AllocError;
 
 /// Reads a value by the closure, and moves it into a box. The decoder is as the closure left it, also where there was no memory for
-/// the box: it stands after the value, and has not failed.
+/// the box: it has read past the value, and has not failed.
 ///
 /// It takes a closure so that its contract can name what the reading left. By the contract of a type, an error of its own reading
 /// may be one of memory too, so the contract of a box's reading cannot tell the two apart.

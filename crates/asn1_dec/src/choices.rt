@@ -1,15 +1,15 @@
 //! A CHOICE under whatever tag.
-ghost use Rattle.asn1_dec.specs.Reading.{Keeps, NeedsAllowance, ReadsValue};
+ghost use Rattle.asn1_codec.specs.Reading.{KeepsDepth, NeedsDepth, ReadsValue};
 ghost use Rattle.asn1_model.specs.ConstraintSets.{constraint_set};
 
 use crate::decode::DecodeChoice;
 use crate::decoder::Decoder;
-use crate::error::DecodeError;
 use asn1_bounds::Constraints;
 use asn1_choices::ChoiceType;
+use asn1_codec::DecodeError;
 use asn1_tags::Tag;
 
-/// A CHOICE under a tag: untagged under the tag that stands for none, and else after the tag, with its own constraints inside
+/// A CHOICE under a tag: untagged under the CHOICE marker tag, and else after the tag, with its own constraints inside
 /// (X.680, 31.2.7).
 pub(crate) fn read_choice<T: DecodeChoice + ChoiceType, D: Decoder>(
     decoder: &mut D,
@@ -18,8 +18,8 @@ pub(crate) fn read_choice<T: DecodeChoice + ChoiceType, D: Decoder>(
 ) -> Result<T, DecodeError>
     ensures read { ReadsValue D.reader T.meaning T.eq tag (constraint_set constraints.now)
         decoder.old decoder.new result }
-    ensures depth_first { NeedsAllowance D.reader decoder.old result }
-    ensures keeps { Keeps D.reader decoder.old decoder.new result }
+    ensures depth_first { NeedsDepth D.reader decoder.old result }
+    ensures keeps_depth { KeepsDepth D.reader decoder.old decoder.new result }
 {
     if tag.is_choice() {
         return decoder.decode_choice(constraints);

@@ -4,9 +4,9 @@ ghost use Rattle.asn1_choices.specs.ChosenTags.{LacksTag};
 ghost use Rattle.asn1_components.specs.ComponentLists.{CanBeInSequence, EachIsOfType, EachIsValid};
 ghost use Rattle.asn1_components.specs.Components.{all_components, component_records};
 ghost use Rattle.asn1_components.specs.Following.{EndsApart};
-ghost use Rattle.asn1_dec.specs.Errors.{no_valid_choice, reason};
-ghost use Rattle.asn1_dec.specs.Reading.{LeavesDecoder, LeavesDecoderWithOwnConstraints, ReadsBack, ReadsValue, Refuses, Outside};
-ghost use Rattle.asn1_dec.specs.Refusals.{Refusals, no_refusals};
+ghost use Rattle.asn1_codec.specs.DecodeErrors.{no_valid_choice, reason};
+ghost use Rattle.asn1_codec.specs.Reading.{AfterReading, AfterReadingWithOwnConstraints, ReadsBack, ReadsValue, Refuses, Outside};
+ghost use Rattle.asn1_codec.specs.Refusals.{Refusals, no_refusals};
 ghost use Rattle.asn1_model.specs.ConstraintSets.{constraint_set};
 ghost use Rattle.asn1_model.specs.Records.{Record};
 ghost use Rattle.asn1_model.specs.Tags.{Has, tree_tags};
@@ -14,9 +14,9 @@ ghost use Rattle.std.specs.Prelude.{◌≡◌, List, OnOk, [], true, unwrap_or};
 ghost use Rattle.std.specs.Result.{IsErrAnd};
 
 use crate::decoder::Decoder;
-use crate::error::DecodeError;
 use asn1_bounds::Constraints;
 use asn1_choices::Choice;
+use asn1_codec::DecodeError;
 use asn1_components::FieldTable;
 use asn1_model::AsnType;
 use asn1_tags::Tag;
@@ -24,17 +24,17 @@ use asn1_tags::Tag;
 /// A type whose values are read.
 ///
 /// Before the records of a valid value of a well-tagged type, under what the entry point is given, a tag and constraints, and
-/// any name, the answer is an equal value, and the decoder stands before what follows. It fails there only for want of memory,
-/// or where the records are higher than the allowance. What an entry point is not given is the type's own. Where a value may be
+/// any name, the answer is an equal value, and what follows remains to be read. It fails there only if memory runs out,
+/// or where the records are nested deeper than the depth left. What an entry point is not given is the type's own. Where a value may be
 /// absent, as an `Option`, what follows it begins with none of the type's tags.
 ///
-/// A success leaves the allowance as it was, and does not make the decoder failed. An error either does, or is the type's own,
-/// which is neither [`DecodeError::Depth`] nor [`DecodeError::Failed`]: then the decoder has not failed, the allowance is as it
+/// A success keeps the depth left, and does not make the decoder failed. An error either does, or is the type's own,
+/// which is neither [`DecodeError::Depth`] nor [`DecodeError::Failed`]: then the decoder has not failed, the depth left is as it
 /// was, and the decoder, if it was before the records of a valid value, is after them, as where a box had no memory.
 /// Where there was no memory for the type's own constraints, which only a permitted alphabet among them wants, the decoder is
 /// as it was.
 ///
-/// A type may refuse records that it has read, by an error of its own (`refused`): `LimitedInteger` a number outside its limits,
+/// A type may refuse records that it has read, by an error of its own (`refusals`): `LimitedInteger` a number outside its limits,
 /// `Array` a list of another length. Before such records an entry point answers that error, and the decoder, which has not
 /// failed, is after them; or it fails as it may before the records of a value. Most types refuse nothing.
 ///
@@ -42,7 +42,7 @@ use asn1_tags::Tag;
 pub trait Decode: AsnType + Eq + Sized + Drop {
     // Which records the type refuses, under a tag and constraints, and by which error. The codec's test tells the byte strings
     // that it takes as one value of an open type.
-    ghost refused: { Refusals } = { no_refusals };
+    ghost refusals: { Refusals } = { no_refusals };
 
     /// Reads a value under a tag and constraints.
     fn decode_with_tag_and_constraints<D: Decoder>(
@@ -52,9 +52,9 @@ pub trait Decode: AsnType + Eq + Sized + Drop {
     ) -> Result<Self, DecodeError>
         ensures read { ReadsValue D.reader Self.meaning Self.eq tag (constraint_set constraints.now)
             decoder.old decoder.new result }
-        ensures leaves { LeavesDecoder D.reader Self.meaning tag (constraint_set constraints.now)
-            decoder.old decoder.new result }
-        ensures refuses { Refuses D.reader refused tag (constraint_set constraints.now) decoder.old
+        ensures after_reading { AfterReading D.reader Self.meaning tag
+            (constraint_set constraints.now) decoder.old decoder.new result }
+        ensures refuses { Refuses D.reader refusals tag (constraint_set constraints.now) decoder.old
             decoder.new result };
 
     /// Reads a value under the type's own tag and constraints. Where there is no memory for these, the error is
@@ -62,9 +62,9 @@ pub trait Decode: AsnType + Eq + Sized + Drop {
     final fn decode<D: Decoder>(decoder: &mut D) -> Result<Self, DecodeError>
         ensures read { ReadsValue D.reader Self.meaning Self.eq Self.meaning.tag
             Self.meaning.constraints decoder.old decoder.new result }
-        ensures leaves { LeavesDecoderWithOwnConstraints D.reader Self.meaning Self.meaning.tag
-            decoder.old decoder.new result }
-        ensures refuses { Refuses D.reader refused Self.meaning.tag Self.meaning.constraints
+        ensures after_reading { AfterReadingWithOwnConstraints D.reader Self.meaning
+            Self.meaning.tag decoder.old decoder.new result }
+        ensures refuses { Refuses D.reader refusals Self.meaning.tag Self.meaning.constraints
             decoder.old decoder.new result }
     {
         let table = Self::table();
@@ -76,9 +76,9 @@ pub trait Decode: AsnType + Eq + Sized + Drop {
     final fn decode_with_tag<D: Decoder>(decoder: &mut D, tag: Tag) -> Result<Self, DecodeError>
         ensures read { ReadsValue D.reader Self.meaning Self.eq tag Self.meaning.constraints
             decoder.old decoder.new result }
-        ensures leaves { LeavesDecoderWithOwnConstraints D.reader Self.meaning tag decoder.old
+        ensures after_reading { AfterReadingWithOwnConstraints D.reader Self.meaning tag decoder.old
             decoder.new result }
-        ensures refuses { Refuses D.reader refused tag Self.meaning.constraints decoder.old
+        ensures refuses { Refuses D.reader refusals tag Self.meaning.constraints decoder.old
             decoder.new result }
     {
         let constraints = Self::constraints(decoder.global())?;
@@ -92,10 +92,10 @@ pub trait Decode: AsnType + Eq + Sized + Drop {
     ) -> Result<Self, DecodeError>
         ensures read { ReadsValue D.reader Self.meaning Self.eq Self.meaning.tag
             (constraint_set constraints.now) decoder.old decoder.new result }
-        ensures leaves { LeavesDecoder D.reader Self.meaning Self.meaning.tag
+        ensures after_reading { AfterReading D.reader Self.meaning Self.meaning.tag
             (constraint_set constraints.now) decoder.old decoder.new result }
-        ensures refuses { Refuses D.reader refused Self.meaning.tag (constraint_set constraints.now)
-            decoder.old decoder.new result }
+        ensures refuses { Refuses D.reader refusals Self.meaning.tag
+            (constraint_set constraints.now) decoder.old decoder.new result }
     {
         Self::decode_with_tag_and_constraints(decoder, Self::tag(), constraints)
     }
@@ -113,8 +113,8 @@ pub trait DecodeFields: FieldTable + Eq + Sized + Drop {
             EndsApart (all_components Self.components) rest →
             ReadsBack D.reader decoder.old decoder.new (component_records Self.components v) rest
             outer (λ w. Self.eq w v ≡ true) result }
-        ensures same_allowance { OnOk result (D.reader.allowance decoder.new ≡
-            D.reader.allowance decoder.old) };
+        ensures same_depth { OnOk result (D.reader.depth_left decoder.new ≡
+            D.reader.depth_left decoder.old) };
 }
 
 /// A CHOICE whose alternatives are read.
@@ -134,6 +134,6 @@ pub trait DecodeChoice: AsnType + Choice + Eq + Sized + Drop {
             (λ w. Self.eq w v ≡ true) result }
         ensures unknown { Each (LacksTag tag) (all_of Self.alternatives) →
             IsErrAnd result (λ e. reason e ≡ no_valid_choice (unwrap_or Self.meaning.name [])) }
-        ensures same_allowance { OnOk result (D.reader.allowance decoder.new ≡
-            D.reader.allowance decoder.old) };
+        ensures same_depth { OnOk result (D.reader.depth_left decoder.new ≡
+            D.reader.depth_left decoder.old) };
 }

@@ -1,12 +1,12 @@
 //! SET types that are read.
 ghost use Rattle.asn1_components.specs.ComponentLists.{EachCanStandInside};
 ghost use Rattle.asn1_components.specs.Components.{all_components};
-ghost use Rattle.asn1_dec.specs.declared.error.DecodeError.TheVariants.{UnknownField};
-ghost use Rattle.asn1_dec.specs.SetParts.{EachFits, EachIsOneRecord, MakesValue, ReadsPart};
+ghost use Rattle.asn1_codec.specs.declared.decode_error.DecodeError.TheVariants.{UnknownField};
+ghost use Rattle.asn1_codec.specs.SetParts.{EachFits, EachIsOneRecord, MakesValue, ReadsPart};
 ghost use Rattle.std.specs.Prelude.{◌≡◌, ◌≤◌, Err, OnOk, length, ℕ};
 
 use crate::decoder::Decoder;
-use crate::error::DecodeError;
+use asn1_codec::DecodeError;
 use asn1_components::FieldTable;
 use asn1_tags::Tag;
 use std::alloc::Global;
@@ -15,7 +15,7 @@ use std::alloc::Global;
 ///
 /// A part is a component that was read. The type says which component it is, by its index in the definition, and when it is
 /// that of a value. A component that is absent has no part. None of the components is a group: a group is as many records as its
-/// components, which may stand anywhere among the others.
+/// components, which may be anywhere among the others.
 pub trait DecodeSet: FieldTable + Eq + Sized + Drop {
     /// A component that was read.
     type Part: Drop;
@@ -37,8 +37,8 @@ pub trait DecodeSet: FieldTable + Eq + Sized + Drop {
             decoder.old decoder.new result }
         ensures unknown { length (all_components Self.components) ≤ index →
             result ≡ Err (UnknownField index tag) }
-        ensures same_allowance { OnOk result (D.reader.allowance decoder.new ≡
-            D.reader.allowance decoder.old) };
+        ensures same_depth { OnOk result (D.reader.depth_left decoder.new ≡
+            D.reader.depth_left decoder.old) };
 
     /// The value of these parts, in whatever order they are. Of all parts of a value it makes an equal one, and fails only for want
     /// of memory. It makes one only where no component is among the parts twice, and each that is always there is among them.

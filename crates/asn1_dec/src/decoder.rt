@@ -3,8 +3,8 @@ ghost use Rattle.asn1_choices.specs.Alternatives.{CanBeChosen, Each, HaveDistinc
 ghost use Rattle.asn1_choices.specs.ChosenTags.{TellsAlternative, chosen_tag};
 ghost use Rattle.asn1_components.specs.ComponentLists.{CanBeInSequence, EachIsOfType, EachIsValid, trees_of};
 ghost use Rattle.asn1_components.specs.Components.{all_components, component_records, is_sequence, is_set, lines};
-ghost use Rattle.asn1_dec.specs.Reading.{Enters, IsLawful, Keeps, Leaves, NeedsAllowance, Opens, OpensSet, Outside, Reader, ReadsBack, ReadsContent, ReadsDefault, ReadsEnd, ReadsMark, ReadsOpenType, ReadsOption, ReadsOptionAfterTag, ReadsValue, Stays, TellsMore, TellsNextTag, TellsPresence, records_in};
-ghost use Rattle.asn1_dec.specs.SetParts.{CanBeInSet};
+ghost use Rattle.asn1_codec.specs.Reading.{OpensScope, IsLawful, KeepsDepth, ClosesScope, NeedsDepth, ReadsHead, ReadsHeadOfSet, Outside, Reader, ReadsBack, ReadsContent, ReadsDefault, ReadsEnd, ReadsMark, ReadsOpenType, ReadsOption, ReadsOptionAfterTag, ReadsValue, OpensNothing, TellsMore, TellsNextTag, TellsPresence, records_in};
+ghost use Rattle.asn1_codec.specs.SetParts.{CanBeInSet};
 ghost use Rattle.asn1_enumerations.specs.Enumerations.{number_of};
 ghost use Rattle.asn1_enumerations.specs.Labels.{HasNumber, labels_of};
 ghost use Rattle.asn1_model.specs.Composites.{alternative_records, group_records, list_records, prefix_records, sequence_records, set_of_records, set_records};
@@ -27,13 +27,13 @@ use crate::decode::{Decode, DecodeChoice, DecodeFields};
 use crate::decode_set::DecodeSet;
 use crate::defaults::{read_default, read_default_with_constraints};
 use crate::elements::read_elements;
-use crate::error::DecodeError;
-use crate::optionals::{Side, read_optional, read_optional_with_constraints};
+use crate::optionals::{read_optional, read_optional_with_constraints};
 use crate::sequences::read_sequence;
 use crate::sets::read_set;
 use crate::sets_of::read_set_of;
 use asn1_bounds::{Codec, Constraints};
 use asn1_choices::{Choice, ChoiceType};
+use asn1_codec::{DecodeError, Side};
 use asn1_components::{ConstructedType, FieldTable};
 use asn1_enumerations::{Enumerated, EnumeratedTable};
 use asn1_strings::kind::{
@@ -50,23 +50,23 @@ use std::alloc::{AllocError, Global};
 
 /// A codec that reads records: by calls of its own, on which those for whole types rest.
 ///
-/// The calls before the law are a codec's own. What a decoder stands before is what is left of each list that is open. Before
-/// the records that a call is for, it answers what was written, and stands before what follows; or it fails for want of memory,
-/// or, where it opens a scope, since there is no allowance. Before others it may answer what it likes. A call that fails makes
+/// The calls before the law are a codec's own. What remains to be read is what is left of each list that is open. Before
+/// the records that a call is for, it answers what was written, and what follows remains to be read; or it fails because memory ran out,
+/// or, where it opens a scope, since no depth is left. Before others it may answer what it likes. A call that fails makes
 /// the decoder failed, and a decoder that has failed answers [`DecodeError::Failed`]. [`DecodeError::Depth`] comes only from
-/// opening a scope where there is no allowance, and is answered there before anything else but `Failed`.
+/// opening a scope where no depth is left, and is answered there before anything else but `Failed`.
 ///
 /// The calls after the law are the same for every codec.
 pub trait Decoder {
-    // Before what the decoder stands, and what it may open.
+    // What remains to be read, and what the decoder may open.
     ghost reader: { Reader Self };
 
     /// The codec's name.
     fn codec(&self) -> Codec;
 
-    /// How many scopes may still be opened in one another.
+    /// How many nested scopes may still be opened.
     fn depth(&self) -> usize
-        ensures { result ≡ reader.allowance self.now };
+        ensures { result ≡ reader.depth_left self.now };
 
     /// The allocator, with which a type makes its constraints and its values.
     fn global(&self) -> Global;
@@ -74,19 +74,19 @@ pub trait Decoder {
     /// Makes the decoder failed, and answers the error. For an error of a type inside what is read.
     fn refuse(&mut self, error: DecodeError) -> DecodeError
         ensures same { result ≡ error }
-        ensures failing { reader.failed self.new ≡ true };
+        ensures has_failed { reader.failed self.new ≡ true };
 
     /// A BOOLEAN.
     fn decode_bool(&mut self, tag: Tag) -> Result<bool, DecodeError>
         ensures read { ReadsContent reader self.old self.new tag unconstrained truth (λ _. ⊤)
             (λ w v. w ≡ v) result }
-        ensures stays { Stays reader self.old self.new result };
+        ensures opens_nothing { OpensNothing reader self.old self.new result };
 
     /// A NULL.
     fn decode_null(&mut self, tag: Tag) -> Result<(), DecodeError>
         ensures read { ReadsContent reader self.old self.new tag unconstrained (λ _. null) (λ _. ⊤)
             (λ w v. w ≡ v) result }
-        ensures stays { Stays reader self.old self.new result };
+        ensures opens_nothing { OpensNothing reader self.old self.new result };
 
     /// The number of a value of an ENUMERATED type, which is its content. The table of `E` tells the codec which numbers there
     /// are, so that it can refuse others.
@@ -98,13 +98,13 @@ pub trait Decoder {
             (discriminant E.labels)
             (HasNumber E.labels)
             (λ w z. w ≡ z) result }
-        ensures stays { Stays reader self.old self.new result };
+        ensures opens_nothing { OpensNothing reader self.old self.new result };
 
     /// An OBJECT IDENTIFIER.
     fn decode_object_identifier(&mut self, tag: Tag) -> Result<ObjectIdentifier, DecodeError>
         ensures read { ReadsContent reader self.old self.new tag unconstrained arcs
             (All (λ arc. arc < 2 ^ 32)) (λ w v. w ≡ v) result }
-        ensures stays { Stays reader self.old self.new result };
+        ensures opens_nothing { OpensNothing reader self.old self.new result };
 
     /// An INTEGER, as a value of any type of whole numbers that has it.
     fn decode_integer<I: IntegerType>(
@@ -114,7 +114,7 @@ pub trait Decoder {
     ) -> Result<I, DecodeError>
         ensures read { ReadsContent reader self.old self.new tag (constraint_set constraints.now)
             number I.fits (λ w z. I.number w ≡ z) result }
-        ensures stays { Stays reader self.old self.new result };
+        ensures opens_nothing { OpensNothing reader self.old self.new result };
 
     /// A string of the kind `K`. The kind says what its units are ([`CodecString::kind`]), and makes the answer of the string that
     /// was read ([`CodecString::from_any`]).
@@ -125,12 +125,12 @@ pub trait Decoder {
     ) -> Result<K::Owned, DecodeError>
         ensures read { ReadsContent reader self.old self.new tag (constraint_set constraints.now)
             K.content K.AreOfKind (λ w v. K.units_in w ≡ v) result }
-        ensures stays { Stays reader self.old self.new result };
+        ensures opens_nothing { OpensNothing reader self.old self.new result };
 
     /// A value of an open type, by its bytes, under whatever tag.
     fn decode_any(&mut self, tag: Tag) -> Result<Any, DecodeError>
         ensures read { ReadsOpenType reader self.old self.new (λ w bytes. w ≡ bytes) result }
-        ensures stays { Stays reader self.old self.new result };
+        ensures opens_nothing { OpensNothing reader self.old self.new result };
 
     /// Whether the component of the root is there that is written under this tag, and begins with a tag of the tree. A codec
     /// without presence marks looks at the next tag; where it does not know the end of the outermost list, it is before no
@@ -139,40 +139,40 @@ pub trait Decoder {
         ensures read { TellsPresence reader self.old self.new (present in_root tag)
             (absent in_root tag)
             (tree_tags (shape tree.entry)) result }
-        ensures stays { Stays reader self.old self.new result };
+        ensures opens_nothing { OpensNothing reader self.old self.new result };
 
     /// The same of an addition, which some codecs write in another way. What `presence` says of the outermost list holds here too.
     fn addition_presence(&mut self, tag: Tag, tree: TagTree<'static>) -> Result<bool, DecodeError>
         ensures read { TellsPresence reader self.old self.new (present in_additions tag)
             (absent in_additions tag)
             (tree_tags (shape tree.entry)) result }
-        ensures stays { Stays reader self.old self.new result };
+        ensures opens_nothing { OpensNothing reader self.old self.new result };
 
-    /// Whether the group of additions is there whose components are those of the table of `C`. If it is, the decoder then stands
-    /// before its components. A group is no scope, and takes nothing from the allowance. What `presence` says of the outermost
+    /// Whether the group of additions is there whose components are those of the table of `C`. If it is, its components then
+    /// remain to be read. A group is no scope, and takes nothing from the depth left. What `presence` says of the outermost
     /// list holds here too.
     fn open_group<C: FieldTable>(&mut self) -> Result<bool, DecodeError>
         ensures read { TellsPresence reader self.old self.new (group_start (lines C.components))
             group_absent (tree_tags (choice (trees_of (all_components C.components)))) result }
-        ensures stays { Stays reader self.old self.new result };
+        ensures opens_nothing { OpensNothing reader self.old self.new result };
 
     /// Closes a group of which all components were read.
     fn close_group(&mut self) -> Result<(), DecodeError>
         ensures read { ReadsMark reader self.old self.new group_end result }
-        ensures stays { Stays reader self.old self.new result };
+        ensures opens_nothing { OpensNothing reader self.old self.new result };
 
     /// Opens a SEQUENCE, whose components are those of the table of `C`.
     fn open_sequence<C: FieldTable>(&mut self, tag: Tag) -> Result<(), DecodeError>
-        ensures read { Opens reader self.old self.new (sequence tag (lines C.components)) (λ _ _. ⊤)
-            result }
-        ensures enters { Enters reader self.old self.new result };
+        ensures read { ReadsHead reader self.old self.new (sequence tag (lines C.components))
+            (λ _ _. ⊤) result }
+        ensures opens_scope { OpensScope reader self.old self.new result };
 
-    /// Opens a SET, whose components are those of the table of `C`, and stand in any order. Answers a bound on the number of its
+    /// Opens a SET, whose components are those of the table of `C`, and come in any order. Answers a bound on the number of its
     /// records.
     fn open_set<C: FieldTable>(&mut self, tag: Tag) -> Result<usize, DecodeError>
-        ensures read { OpensSet reader self.old self.new (set tag (lines C.components))
+        ensures read { ReadsHeadOfSet reader self.old self.new (set tag (lines C.components))
             (λ items bound. records_in items ≤ bound) result }
-        ensures enters { Enters reader self.old self.new result };
+        ensures opens_scope { OpensScope reader self.old self.new result };
 
     /// A tag of the component of the next record of a SET, if one is left. Presence marks before it are passed over. It is asked
     /// inside a SET that was opened by the table of `C`, whose components can be told apart.
@@ -180,7 +180,7 @@ pub trait Decoder {
         ensures read { (tag : Tag) (n : Name) → CanBeInSet (all_components C.components) →
             TellsNextTag reader self.old self.new (set tag (lines C.components) n)
             (all_components C.components) result }
-        ensures stays { Stays reader self.old self.new result };
+        ensures opens_nothing { OpensNothing reader self.old self.new result };
 
     /// Opens a SEQUENCE OF, and answers a bound on the number of its elements.
     fn open_sequence_of(
@@ -188,41 +188,41 @@ pub trait Decoder {
         tag: Tag,
         constraints: &Constraints<'_>,
     ) -> Result<usize, DecodeError>
-        ensures read { Opens reader self.old self.new (sequence_of tag
+        ensures read { ReadsHead reader self.old self.new (sequence_of tag
             (constraint_set constraints.now)) (λ items bound. records_in items ≤ bound) result }
-        ensures enters { Enters reader self.old self.new result };
+        ensures opens_scope { OpensScope reader self.old self.new result };
 
-    /// Opens a SET OF, whose elements stand in any order, and answers a bound on their number.
+    /// Opens a SET OF, whose elements come in any order, and answers a bound on their number.
     fn open_set_of(&mut self, tag: Tag, constraints: &Constraints<'_>) -> Result<usize, DecodeError>
-        ensures read { OpensSet reader self.old self.new
+        ensures read { ReadsHeadOfSet reader self.old self.new
             (set_of tag (constraint_set constraints.now)) (λ items bound. records_in items ≤ bound)
             result }
-        ensures enters { Enters reader self.old self.new result };
+        ensures opens_scope { OpensScope reader self.old self.new result };
 
     /// Opens what follows an explicit tag.
     fn open_explicit_prefix(&mut self, tag: Tag) -> Result<(), DecodeError>
-        ensures read { Opens reader self.old self.new (prefix tag) (λ _ _. ⊤) result }
-        ensures enters { Enters reader self.old self.new result };
+        ensures read { ReadsHead reader self.old self.new (prefix tag) (λ _ _. ⊤) result }
+        ensures opens_scope { OpensScope reader self.old self.new result };
 
     /// Opens a CHOICE, whose alternatives are those of `T`, which can be told apart, and answers a tag of the chosen one.
     fn open_choice<T: Choice>(&mut self, constraints: &Constraints<'_>) -> Result<Tag, DecodeError>
         ensures read { (chosen : Tag) →
             HaveDistinctTags (all_of T.alternatives) → Each CanBeChosen (all_of T.alternatives) →
-            Opens reader self.old self.new
+            ReadsHead reader self.old self.new
             (alternative chosen (constraint_set constraints.now) (table_of T.alternatives))
             (λ _ tag. TellsAlternative chosen tag (all_of T.alternatives)) result }
-        ensures enters { Enters reader self.old self.new result };
+        ensures opens_scope { OpensScope reader self.old self.new result };
 
     /// Whether a record is left in the innermost scope. Reads nothing. It is asked inside a scope: at the outermost list a codec
     /// need not know whether all was read.
     fn more(&mut self) -> Result<bool, DecodeError>
         ensures read { TellsMore reader self.old self.new result }
-        ensures stays { Stays reader self.old self.new result };
+        ensures opens_nothing { OpensNothing reader self.old self.new result };
 
     /// Closes the innermost scope, of which all was read.
     fn close(&mut self) -> Result<(), DecodeError>
         ensures read { ReadsEnd reader self.old self.new result }
-        ensures leaves { Leaves reader self.old self.new result };
+        ensures closes_scope { ClosesScope reader self.old self.new result };
 
     // The law of a codec.
     ghost lawful: { IsLawful reader };
@@ -237,7 +237,7 @@ pub trait Decoder {
         Self: Sized,
         ensures read { ReadsContent reader self.old self.new tag (constraint_set constraints.now)
             bits (λ _. ⊤) (λ w v. w ≡ v) result }
-        ensures stays { Stays reader self.old self.new result }
+        ensures opens_nothing { OpensNothing reader self.old self.new result }
     {
         self.decode_string::<bool, Bits>(tag, constraints)
     }
@@ -252,7 +252,7 @@ pub trait Decoder {
         Self: Sized,
         ensures read { ReadsContent reader self.old self.new tag (constraint_set constraints.now)
             (units octet) (All (λ unit. unit < 2 ^ 8)) (λ w v. w.items ≡ v) result }
-        ensures stays { Stays reader self.old self.new result }
+        ensures opens_nothing { OpensNothing reader self.old self.new result }
     {
         self.decode_string::<u8, Octets>(tag, constraints)
     }
@@ -267,7 +267,7 @@ pub trait Decoder {
         Self: Sized,
         ensures read { ReadsContent reader self.old self.new tag (constraint_set constraints.now)
             (units utf8) IsUtf8 (λ w v. string_bytes w ≡ v) result }
-        ensures stays { Stays reader self.old self.new result }
+        ensures opens_nothing { OpensNothing reader self.old self.new result }
     {
         self.decode_string::<u8, Utf8>(tag, constraints)
     }
@@ -282,7 +282,7 @@ pub trait Decoder {
         Self: Sized,
         ensures read { ReadsContent reader self.old self.new tag (constraint_set constraints.now)
             (units general) (All (λ unit. unit < 2 ^ 8)) (λ w v. w ≡ v) result }
-        ensures stays { Stays reader self.old self.new result }
+        ensures opens_nothing { OpensNothing reader self.old self.new result }
     {
         self.decode_string::<u8, General>(tag, constraints)
     }
@@ -297,7 +297,7 @@ pub trait Decoder {
         Self: Sized,
         ensures read { ReadsContent reader self.old self.new tag (constraint_set constraints.now)
             (units graphic) (All (λ unit. unit < 2 ^ 8)) (λ w v. w ≡ v) result }
-        ensures stays { Stays reader self.old self.new result }
+        ensures opens_nothing { OpensNothing reader self.old self.new result }
     {
         self.decode_string::<u8, Graphic>(tag, constraints)
     }
@@ -312,7 +312,7 @@ pub trait Decoder {
         Self: Sized,
         ensures read { ReadsContent reader self.old self.new tag (constraint_set constraints.now)
             (units visible) (All (λ unit. IsTrue (is_visible unit))) (λ w v. w ≡ v) result }
-        ensures stays { Stays reader self.old self.new result }
+        ensures opens_nothing { OpensNothing reader self.old self.new result }
     {
         self.decode_string::<u8, Visible>(tag, constraints)
     }
@@ -327,7 +327,7 @@ pub trait Decoder {
         Self: Sized,
         ensures read { ReadsContent reader self.old self.new tag (constraint_set constraints.now)
             (units ia5) (All (λ unit. IsTrue (is_ia5 unit))) (λ w v. w ≡ v) result }
-        ensures stays { Stays reader self.old self.new result }
+        ensures opens_nothing { OpensNothing reader self.old self.new result }
     {
         self.decode_string::<u8, Ia5>(tag, constraints)
     }
@@ -342,7 +342,7 @@ pub trait Decoder {
         Self: Sized,
         ensures read { ReadsContent reader self.old self.new tag (constraint_set constraints.now)
             (units printable) (All (λ unit. IsTrue (is_printable unit))) (λ w v. w ≡ v) result }
-        ensures stays { Stays reader self.old self.new result }
+        ensures opens_nothing { OpensNothing reader self.old self.new result }
     {
         self.decode_string::<u8, Printable>(tag, constraints)
     }
@@ -357,7 +357,7 @@ pub trait Decoder {
         Self: Sized,
         ensures read { ReadsContent reader self.old self.new tag (constraint_set constraints.now)
             (units numeric) (All (λ unit. IsTrue (is_numeric unit))) (λ w v. w ≡ v) result }
-        ensures stays { Stays reader self.old self.new result }
+        ensures opens_nothing { OpensNothing reader self.old self.new result }
     {
         self.decode_string::<u8, Numeric>(tag, constraints)
     }
@@ -372,7 +372,7 @@ pub trait Decoder {
         Self: Sized,
         ensures read { ReadsContent reader self.old self.new tag (constraint_set constraints.now)
             (units teletex) (All (λ unit. unit < 2 ^ 32)) (λ w v. w ≡ v) result }
-        ensures stays { Stays reader self.old self.new result }
+        ensures opens_nothing { OpensNothing reader self.old self.new result }
     {
         self.decode_string::<u32, Teletex>(tag, constraints)
     }
@@ -387,7 +387,7 @@ pub trait Decoder {
         Self: Sized,
         ensures read { ReadsContent reader self.old self.new tag (constraint_set constraints.now)
             (units bmp) (All (λ unit. unit < 2 ^ 16)) (λ w v. w ≡ v) result }
-        ensures stays { Stays reader self.old self.new result }
+        ensures opens_nothing { OpensNothing reader self.old self.new result }
     {
         self.decode_string::<u16, Bmp>(tag, constraints)
     }
@@ -400,7 +400,7 @@ pub trait Decoder {
             (λ v. discriminant (labels_of E.enumeration) (number_of E.eq E.enumeration v))
             (λ _. ⊤)
             (λ w v. w ≡ v) result }
-        ensures stays { Stays reader self.old self.new result }
+        ensures opens_nothing { OpensNothing reader self.old self.new result }
     {
         let number = self.decode_enumerated_number::<E>(tag)?;
         match E::from_discriminant(number) {
@@ -417,8 +417,8 @@ pub trait Decoder {
             CanStandInside T.meaning → T.meaning.IsOfType v → T.meaning.IsValid reader.takes v →
             ReadsBack reader self.old self.new (prefix_records tag n (own_records T.meaning v)) rest
             outer (λ w. T.eq w v ≡ true) result }
-        ensures keeps { Keeps reader self.old self.new result }
-        ensures depth_first { NeedsAllowance reader self.old result }
+        ensures keeps_depth { KeepsDepth reader self.old self.new result }
+        ensures depth_first { NeedsDepth reader self.old result }
     {
         self.open_explicit_prefix(tag)?;
         let value = match T::decode(self) {
@@ -442,8 +442,8 @@ pub trait Decoder {
             ReadsBack reader self.old self.new (prefix_records tag n
             (T.meaning.records v T.meaning.tag (constraint_set constraints.now)
             T.meaning.name)) rest outer (λ w. T.eq w v ≡ true) result }
-        ensures keeps { Keeps reader self.old self.new result }
-        ensures depth_first { NeedsAllowance reader self.old result }
+        ensures keeps_depth { KeepsDepth reader self.old self.new result }
+        ensures depth_first { NeedsDepth reader self.old result }
     {
         self.open_explicit_prefix(tag)?;
         let value = match T::decode_with_constraints(self, constraints) {
@@ -468,8 +468,8 @@ pub trait Decoder {
             ReadsBack reader self.old self.new (list_records tag (constraint_set constraints.now) n
             (flat_map (own_records T.meaning) vs)) rest outer (λ w. pointwise T.eq w.items vs ≡
             true) result }
-        ensures keeps { Keeps reader self.old self.new result }
-        ensures depth_first { NeedsAllowance reader self.old result }
+        ensures keeps_depth { KeepsDepth reader self.old self.new result }
+        ensures depth_first { NeedsDepth reader self.old result }
     {
         let bound = self.open_sequence_of(tag, constraints)?;
         let elements = read_elements(self, bound)?;
@@ -483,7 +483,7 @@ pub trait Decoder {
         Self: Sized,
         ensures read { ReadsOption reader in_root T.meaning T.eq T.meaning.tag T.meaning.constraints
             self.old self.new result }
-        ensures keeps { Keeps reader self.old self.new result }
+        ensures keeps_depth { KeepsDepth reader self.old self.new result }
     {
         read_optional(self, Side::Root, None)
     }
@@ -497,7 +497,7 @@ pub trait Decoder {
         Self: Sized,
         ensures read { ReadsOption reader in_root T.meaning T.eq tag T.meaning.constraints self.old
             self.new result }
-        ensures keeps { Keeps reader self.old self.new result }
+        ensures keeps_depth { KeepsDepth reader self.old self.new result }
     {
         read_optional(self, Side::Root, Some(tag))
     }
@@ -511,7 +511,7 @@ pub trait Decoder {
         Self: Sized,
         ensures read { ReadsOption reader in_root T.meaning T.eq T.meaning.tag
             (constraint_set constraints.now) self.old self.new result }
-        ensures keeps { Keeps reader self.old self.new result }
+        ensures keeps_depth { KeepsDepth reader self.old self.new result }
     {
         read_optional_with_constraints(self, Side::Root, None, constraints)
     }
@@ -526,7 +526,7 @@ pub trait Decoder {
         Self: Sized,
         ensures read { ReadsOption reader in_root T.meaning T.eq tag
             (constraint_set constraints.now) self.old self.new result }
-        ensures keeps { Keeps reader self.old self.new result }
+        ensures keeps_depth { KeepsDepth reader self.old self.new result }
     {
         read_optional_with_constraints(self, Side::Root, Some(tag), constraints)
     }
@@ -540,7 +540,7 @@ pub trait Decoder {
         Self: Sized,
         ensures read { ReadsOptionAfterTag reader in_root T.meaning T.eq tag T.meaning.constraints
             self.old self.new result }
-        ensures keeps { Keeps reader self.old self.new result }
+        ensures keeps_depth { KeepsDepth reader self.old self.new result }
     {
         if !self.presence(tag, TagTree::Leaf(tag))? {
             return Ok(None);
@@ -555,7 +555,7 @@ pub trait Decoder {
         Self: Sized,
         ensures read { ReadsOption reader in_additions T.meaning T.eq T.meaning.tag
             T.meaning.constraints self.old self.new result }
-        ensures keeps { Keeps reader self.old self.new result }
+        ensures keeps_depth { KeepsDepth reader self.old self.new result }
     {
         read_optional(self, Side::Additions, None)
     }
@@ -569,7 +569,7 @@ pub trait Decoder {
         Self: Sized,
         ensures read { ReadsOption reader in_additions T.meaning T.eq tag T.meaning.constraints
             self.old self.new result }
-        ensures keeps { Keeps reader self.old self.new result }
+        ensures keeps_depth { KeepsDepth reader self.old self.new result }
     {
         read_optional(self, Side::Additions, Some(tag))
     }
@@ -583,7 +583,7 @@ pub trait Decoder {
         Self: Sized,
         ensures read { ReadsOption reader in_additions T.meaning T.eq T.meaning.tag
             (constraint_set constraints.now) self.old self.new result }
-        ensures keeps { Keeps reader self.old self.new result }
+        ensures keeps_depth { KeepsDepth reader self.old self.new result }
     {
         read_optional_with_constraints(self, Side::Additions, None, constraints)
     }
@@ -598,7 +598,7 @@ pub trait Decoder {
         Self: Sized,
         ensures read { ReadsOption reader in_additions T.meaning T.eq tag
             (constraint_set constraints.now) self.old self.new result }
-        ensures keeps { Keeps reader self.old self.new result }
+        ensures keeps_depth { KeepsDepth reader self.old self.new result }
     {
         read_optional_with_constraints(self, Side::Additions, Some(tag), constraints)
     }
@@ -613,7 +613,7 @@ pub trait Decoder {
         Self: Sized,
         ensures read { ReadsOptionAfterTag reader in_additions T.meaning T.eq tag
             (constraint_set constraints.now) self.old self.new result }
-        ensures keeps { Keeps reader self.old self.new result }
+        ensures keeps_depth { KeepsDepth reader self.old self.new result }
     {
         if !self.addition_presence(tag, TagTree::Leaf(tag))? {
             return Ok(None);
@@ -632,7 +632,7 @@ pub trait Decoder {
         requires { F.IsAlwaysCallable default }
         ensures read { ReadsDefault reader in_root (λ usual. (a : _) × F.post default a (Ok usual))
             T.meaning T.eq T.meaning.tag T.meaning.constraints self.old self.new result }
-        ensures keeps { Keeps reader self.old self.new result }
+        ensures keeps_depth { KeepsDepth reader self.old self.new result }
     {
         read_default(self, Side::Root, None, default)
     }
@@ -648,7 +648,7 @@ pub trait Decoder {
         requires { F.IsAlwaysCallable default }
         ensures read { ReadsDefault reader in_root (λ usual. (a : _) × F.post default a (Ok usual))
             T.meaning T.eq tag T.meaning.constraints self.old self.new result }
-        ensures keeps { Keeps reader self.old self.new result }
+        ensures keeps_depth { KeepsDepth reader self.old self.new result }
     {
         read_default(self, Side::Root, Some(tag), default)
     }
@@ -664,7 +664,7 @@ pub trait Decoder {
         requires { F.IsAlwaysCallable default }
         ensures read { ReadsDefault reader in_root (λ usual. (a : _) × F.post default a (Ok usual))
             T.meaning T.eq T.meaning.tag (constraint_set constraints.now) self.old self.new result }
-        ensures keeps { Keeps reader self.old self.new result }
+        ensures keeps_depth { KeepsDepth reader self.old self.new result }
     {
         read_default_with_constraints(self, Side::Root, None, default, constraints)
     }
@@ -679,7 +679,7 @@ pub trait Decoder {
         requires { F.IsAlwaysCallable default }
         ensures read { ReadsDefault reader in_root (λ usual. (a : _) × F.post default a (Ok usual))
             T.meaning T.eq tag (constraint_set constraints.now) self.old self.new result }
-        ensures keeps { Keeps reader self.old self.new result }
+        ensures keeps_depth { KeepsDepth reader self.old self.new result }
     {
         read_default_with_constraints(self, Side::Root, Some(tag), default, constraints)
     }
@@ -695,7 +695,7 @@ pub trait Decoder {
         ensures read { ReadsDefault reader in_additions
             (λ usual. (a : _) × F.post default a (Ok usual)) T.meaning T.eq T.meaning.tag
             T.meaning.constraints self.old self.new result }
-        ensures keeps { Keeps reader self.old self.new result }
+        ensures keeps_depth { KeepsDepth reader self.old self.new result }
     {
         read_default(self, Side::Additions, None, default)
     }
@@ -711,7 +711,7 @@ pub trait Decoder {
         ensures read { ReadsDefault reader in_additions
             (λ usual. (a : _) × F.post default a (Ok usual)) T.meaning T.eq tag
             T.meaning.constraints self.old self.new result }
-        ensures keeps { Keeps reader self.old self.new result }
+        ensures keeps_depth { KeepsDepth reader self.old self.new result }
     {
         read_default(self, Side::Additions, Some(tag), default)
     }
@@ -727,7 +727,7 @@ pub trait Decoder {
         ensures read { ReadsDefault reader in_additions
             (λ usual. (a : _) × F.post default a (Ok usual)) T.meaning T.eq T.meaning.tag
             (constraint_set constraints.now) self.old self.new result }
-        ensures keeps { Keeps reader self.old self.new result }
+        ensures keeps_depth { KeepsDepth reader self.old self.new result }
     {
         read_default_with_constraints(self, Side::Additions, None, default, constraints)
     }
@@ -743,7 +743,7 @@ pub trait Decoder {
         ensures read { ReadsDefault reader in_additions
             (λ usual. (a : _) × F.post default a (Ok usual)) T.meaning T.eq tag
             (constraint_set constraints.now) self.old self.new result }
-        ensures keeps { Keeps reader self.old self.new result }
+        ensures keeps_depth { KeepsDepth reader self.old self.new result }
     {
         read_default_with_constraints(self, Side::Additions, Some(tag), default, constraints)
     }
@@ -766,7 +766,7 @@ pub trait Decoder {
             ReadsBack reader self.old self.new
             (group_records (lines C.components) (option_map (component_records C.components) v))
             rest outer (λ w. option_eq C.eq w v ≡ true) result }
-        ensures keeps { Keeps reader self.old self.new result }
+        ensures keeps_depth { KeepsDepth reader self.old self.new result }
     {
         if !self.open_group::<C>()? {
             return Ok(None);
@@ -795,8 +795,8 @@ pub trait Decoder {
             rest outer (λ w. C.eq w v ≡ true) result }
         ensures as_meant { C.components.kind ≡ is_sequence → (c : ConstraintSet) →
             ReadsValue reader C.meaning C.eq tag c self.old self.new result }
-        ensures keeps { Keeps reader self.old self.new result }
-        ensures depth_first { NeedsAllowance reader self.old result }
+        ensures keeps_depth { KeepsDepth reader self.old self.new result }
+        ensures depth_first { NeedsDepth reader self.old result }
     {
         read_sequence(self, tag)
     }
@@ -818,8 +818,8 @@ pub trait Decoder {
             (table_of T.alternatives) n
             (chosen_meaning (all_of T.alternatives) (T.pick v)).records) rest outer
             (λ w. T.eq w v ≡ true) result }
-        ensures keeps { Keeps reader self.old self.new result }
-        ensures depth_first { NeedsAllowance reader self.old result }
+        ensures keeps_depth { KeepsDepth reader self.old self.new result }
+        ensures depth_first { NeedsDepth reader self.old result }
     {
         let chosen = self.open_choice::<T>(constraints)?;
         let value = match T::from_tag(self, chosen) {
@@ -830,7 +830,7 @@ pub trait Decoder {
         Ok(value)
     }
 
-    /// A CHOICE under a tag: the same as `decode_choice` under the tag that stands for none, and else after the tag, with its own
+    /// A CHOICE under a tag: the same as `decode_choice` under the CHOICE marker tag, and else after the tag, with its own
     /// constraints inside (X.680, 31.2.7).
     final fn decode_choice_with_tag<T: DecodeChoice + ChoiceType>(
         &mut self,
@@ -841,8 +841,8 @@ pub trait Decoder {
         Self: Sized,
         ensures read { ReadsValue reader T.meaning T.eq tag (constraint_set constraints.now)
             self.old self.new result }
-        ensures depth_first { NeedsAllowance reader self.old result }
-        ensures keeps { Keeps reader self.old self.new result }
+        ensures depth_first { NeedsDepth reader self.old result }
+        ensures keeps_depth { KeepsDepth reader self.old self.new result }
     {
         read_choice(self, tag, constraints)
     }
@@ -861,8 +861,8 @@ pub trait Decoder {
             ReadsBack reader self.old self.new (set_of_records tag (constraint_set constraints.now)
             n (flat_map (own_records T.meaning) vs)) rest outer (λ w. ⟦<SetOf<T> as PartialEq>⟧.eq w
             vs ≡ true) result }
-        ensures depth_first { NeedsAllowance reader self.old result }
-        ensures keeps { Keeps reader self.old self.new result }
+        ensures depth_first { NeedsDepth reader self.old result }
+        ensures keeps_depth { KeepsDepth reader self.old self.new result }
     {
         read_set_of(self, tag, constraints)
     }
@@ -884,8 +884,8 @@ pub trait Decoder {
             outer (λ w. S.eq w v ≡ true) result }
         ensures as_meant { S.components.kind ≡ is_set → (c : ConstraintSet) →
             ReadsValue reader S.meaning S.eq tag c self.old self.new result }
-        ensures depth_first { NeedsAllowance reader self.old result }
-        ensures keeps { Keeps reader self.old self.new result }
+        ensures depth_first { NeedsDepth reader self.old result }
+        ensures keeps_depth { KeepsDepth reader self.old self.new result }
     {
         read_set(self, tag)
     }

@@ -1,19 +1,19 @@
 //! A component that is absent where it equals a default.
-ghost use Rattle.asn1_dec.specs.Reading.{Keeps, ReadsDefault};
-ghost use Rattle.asn1_dec.specs.Sides.{side_of};
-ghost use Rattle.asn1_dec.specs.declared.error.DecodeError.TheVariants.{Memory};
+ghost use Rattle.asn1_codec.specs.Reading.{KeepsDepth, ReadsDefault};
+ghost use Rattle.asn1_codec.specs.Sides.{side_of};
+ghost use Rattle.asn1_codec.specs.declared.decode_error.DecodeError.TheVariants.{Memory};
 ghost use Rattle.asn1_model.specs.ConstraintSets.{constraint_set};
 ghost use Rattle.std.specs.Prelude.{◌≡◌, IfNone, IfSome, MatchResult, Ok, true, unwrap_or};
 
 use crate::decode::Decode;
 use crate::decoder::Decoder;
-use crate::error::DecodeError;
-use crate::optionals::{Side, read_optional, read_optional_with_constraints};
+use crate::optionals::{read_optional, read_optional_with_constraints};
 use asn1_bounds::Constraints;
+use asn1_codec::{DecodeError, Side};
 use asn1_tags::Tag;
 use std::alloc::{AllocError, Global};
 
-/// The value that was read, or what the closure answers where there is none. Where it answers nothing, for want of memory, the
+/// The value that was read, or what the closure answers where there is none. Where it answers nothing, because memory ran out, the
 /// decoder has failed.
 fn or_default<T: Drop, D: Decoder, F: FnOnce(Global) -> Result<T, AllocError>>(
     decoder: &mut D,
@@ -46,7 +46,7 @@ pub(crate) fn read_default<T: Decode, D: Decoder, F: FnOnce(Global) -> Result<T,
     ensures read { ReadsDefault D.reader (side_of side)
         (λ usual. (a : _) × F.post default a (Ok usual)) T.meaning T.eq
         (unwrap_or tag T.meaning.tag) T.meaning.constraints decoder.old decoder.new result }
-    ensures keeps { Keeps D.reader decoder.old decoder.new result }
+    ensures keeps_depth { KeepsDepth D.reader decoder.old decoder.new result }
 {
     let value = read_optional::<T, D>(decoder, side, tag)?;
     or_default(decoder, value, default)
@@ -69,7 +69,7 @@ pub(crate) fn read_default_with_constraints<
         (λ usual. (a : _) × F.post default a (Ok usual)) T.meaning T.eq
         (unwrap_or tag T.meaning.tag) (constraint_set constraints.now) decoder.old decoder.new
         result }
-    ensures keeps { Keeps D.reader decoder.old decoder.new result }
+    ensures keeps_depth { KeepsDepth D.reader decoder.old decoder.new result }
 {
     let value = read_optional_with_constraints::<T, D>(decoder, side, tag, constraints)?;
     or_default(decoder, value, default)

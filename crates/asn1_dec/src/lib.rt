@@ -11,7 +11,7 @@
 //! | [`DecodeChoice`] | a CHOICE whose alternatives are read |
 //! | [`DecodeSet`], [`keep_once`] | a SET whose components are read in whatever order they come |
 //! | [`DecodeError`], [`Needed`] | why a value was not read |
-//! | [`laws`] | what the derives of the errors give, and what types refuse |
+//! | [`laws`] | what types refuse |
 //!
 //! The types of the lower crates and of the language are read: `()`, `bool`, the built-in integers but `u128`, `Integer`,
 //! `LimitedInteger`, every kind of string, `ObjectIdentifier`, `Option`, `Box`, `Cow`, `Vec`, `SetOf`, `Implicit`, `Explicit`,
@@ -20,19 +20,19 @@
 //!
 //! What the contracts promise, and the words that they use:
 //!
-//! - What a decoder stands before is what is left of each list that is open (`stands` of `Reader`, in `specs/Reading.antt`). Before
+//! - What remains to be read is what is left of each list that is open (`remains` of `Reader`, in `specs/Reading.antt` of `asn1_codec`). Before
 //!   the records of a valid value of a well-tagged type, under the asked tag and constraints and any name, a call answers an
-//!   equal value, and then stands before what follows (`ReadsValue`, `ReadsBack`). It fails there only for want of memory, or
-//!   where the records are higher than the allowance (`MayFail`). A success is within the allowance (`within_allowance`).
-//! - Before other records nothing is said of the answer, but for those that a type states to refuse (`refused` of [`Decode`]): a
+//!   equal value, and then what follows remains to be read (`ReadsValue`, `ReadsBack`). It fails there only if memory runs out, or
+//!   where the records are nested deeper than the depth left (`MayFail`). A success is within the depth left (`within_depth`).
+//! - Before other records nothing is said of the answer, but for those that a type states to refuse (`refusals` of [`Decode`]): a
 //!   number outside its limits, and a list of another length than the array's, are read, and refused after that by an error of
 //!   the type's own (`Refuses`, `specs/Refusals.antt`).
 //! - A decoder's call that fails makes the decoder failed, one that succeeds leaves it not failed, and a failed one answers
-//!   `Failed` (`Keeps`). Of a codec's own calls, `Depth` comes only from opening a scope, if and only if there is no allowance
-//!   (`Enters`), and before anything else but `Failed` (`depth_first`); opening takes one from the allowance, and closing gives
-//!   it back (`Leaves`).
-//! - An error of a type's entry point made the decoder failed, or is the type's own (`LeavesDecoder`): then the decoder has not
-//!   failed, the allowance is as it was, and the decoder, if it was before the records of a valid value, is after them
+//!   `Failed` (`KeepsDepth`). Of a codec's own calls, `Depth` comes only from opening a scope, if and only if no depth is left
+//!   (`OpensScope`), and before anything else but `Failed` (`depth_first`); opening takes one from the depth left, and closing gives
+//!   it back (`ClosesScope`).
+//! - An error of a type's entry point made the decoder failed, or is the type's own (`AfterReading`): then the decoder has not
+//!   failed, the depth left is as it was, and the decoder, if it was before the records of a valid value, is after them
 //!   (`HasReadPast`), or it is as it was, where there was no memory for the permitted alphabet of the type's own constraints
 //!   (`HadNoMemory`). The call around the value makes the decoder failed (`refuse`). Where each value of a type is a record, a
 //!   failed decoder answers `Failed`.
@@ -40,7 +40,7 @@
 //! - Whether a component is there, a codec knows by a presence mark or by the next tag. So a component that is absent is read only
 //!   where what follows begins with none of its tags (`TellsPresence`, `ReadsOption`, `ReadsDefault`), which distinct tags
 //!   give: `EachApart` of `asn1_components`. Where each value of a type is a single record, anything may follow (`MayFollow`).
-//! - A codec states before what it stands, whether it has failed, its allowance, and which byte strings it takes as one value of
+//! - A codec states what remains to be read, whether it has failed, its depth left, and which byte strings it takes as one value of
 //!   an open type (`Reader`). The order inside sets means nothing to it (`IsLawful`): so it opens a set before some
 //!   rearrangement of what was written. That follows of a codec which states before which lists exactly it is (`up_to_order` of
 //!   `specs/Orders.antt`).
@@ -48,8 +48,7 @@
 //!   `MakesValue` of `specs/SetParts.antt`); no value is made where a component came twice, or one is missing (`EachFits`).
 //!   Which component a record is follows from its tag and the table of the type.
 //!
-//! `proofs/PartWays.antt` has lemmas for authors of types whose components are read in their order, and `proofs/ReadParts.antt`
-//! and `proofs/SlotLaws.antt` those for authors of a SET. `proofs/UpToOrder.antt` has those for authors of a codec.
+//! The words are those of `specs/` of `asn1_codec`, whose page says which of its lemmas are for authors of types and of codecs.
 //!
 //! Calls that make values take memory, and those with constraints that have a permitted alphabet.
 #![tactic(auto)]
@@ -61,20 +60,17 @@ mod decode_set;
 mod decoder;
 mod defaults;
 mod elements;
-mod error;
 mod fields;
 mod impls;
 pub mod laws;
-mod needed;
 mod optionals;
 mod sequences;
 mod sets;
 mod sets_of;
 mod slots;
 
+pub use asn1_codec::{DecodeError, Needed};
 pub use decode::{Decode, DecodeChoice, DecodeFields};
 pub use decode_set::DecodeSet;
 pub use decoder::Decoder;
-pub use error::DecodeError;
-pub use needed::Needed;
 pub use slots::keep_once;

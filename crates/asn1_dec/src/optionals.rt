@@ -1,6 +1,6 @@
 //! A component that may be absent, on either side of an extension marker.
-ghost use Rattle.asn1_dec.specs.Reading.{Keeps, ReadsBack, ReadsOption, Stays, TellsPresence, Outside};
-ghost use Rattle.asn1_dec.specs.Sides.{side_of};
+ghost use Rattle.asn1_codec.specs.Reading.{KeepsDepth, ReadsBack, ReadsOption, OpensNothing, TellsPresence, Outside};
+ghost use Rattle.asn1_codec.specs.Sides.{side_of};
 ghost use Rattle.asn1_model.specs.ConstraintSets.{constraint_set};
 ghost use Rattle.asn1_model.specs.Meaning.{CanStandInsideUnder};
 ghost use Rattle.asn1_model.specs.Records.{Name, Record, absent, present};
@@ -11,16 +11,9 @@ ghost use Rattle.std.specs.Prelude.{◌≡◌, List, OnErr, OnOk, Some, true, un
 
 use crate::decode::Decode;
 use crate::decoder::Decoder;
-use crate::error::DecodeError;
 use asn1_bounds::Constraints;
+use asn1_codec::{DecodeError, Side};
 use asn1_tags::{Tag, TagTree};
-
-/// Where a component is: in the root, or among the additions after the extension marker (X.680, 25.1).
-#[derive(Clone, Copy)]
-pub(crate) enum Side {
-    Root,
-    Additions,
-}
 
 /// Whether the component is there that is written under this tag, and begins with a tag of the tree.
 fn is_there<D: Decoder>(
@@ -31,7 +24,7 @@ fn is_there<D: Decoder>(
 ) -> Result<bool, DecodeError>
     ensures read { TellsPresence D.reader decoder.old decoder.new (present (side_of side) tag)
         (absent (side_of side) tag) (tree_tags (shape tree.entry)) result }
-    ensures stays { Stays D.reader decoder.old decoder.new result }
+    ensures opens_nothing { OpensNothing D.reader decoder.old decoder.new result }
 {
     match side {
         Side::Root => decoder.presence(tag, tree),
@@ -51,10 +44,10 @@ fn read_present<T: Decode, D: Decoder>(
         ReadsBack D.reader decoder.old decoder.new (T.meaning.records v tag
         (constraint_set constraints.now) n) rest outer (λ w. option_eq T.eq w (Some v) ≡
         true) result }
-    ensures same_allowance { OnOk result
-        (D.reader.allowance decoder.new ≡ D.reader.allowance decoder.old) }
+    ensures same_depth { OnOk result
+        (D.reader.depth_left decoder.new ≡ D.reader.depth_left decoder.old) }
     ensures no_failure { OnOk result (D.reader.failed decoder.new ≡ D.reader.failed decoder.old) }
-    ensures failing { OnErr result (D.reader.failed decoder.new ≡ true) }
+    ensures has_failed { OnErr result (D.reader.failed decoder.new ≡ true) }
 {
     match T::decode_with_tag_and_constraints(decoder, tag, constraints) {
         Ok(value) => Ok(Some(value)),
@@ -70,7 +63,7 @@ pub(crate) fn read_optional<T: Decode, D: Decoder>(
 ) -> Result<Option<T>, DecodeError>
     ensures read { ReadsOption D.reader (side_of side) T.meaning T.eq
         (unwrap_or tag T.meaning.tag) T.meaning.constraints decoder.old decoder.new result }
-    ensures keeps { Keeps D.reader decoder.old decoder.new result }
+    ensures keeps_depth { KeepsDepth D.reader decoder.old decoder.new result }
 {
     let table = T::table();
     let tag = tag.unwrap_or(table.tag);
@@ -93,7 +86,7 @@ pub(crate) fn read_optional_with_constraints<T: Decode, D: Decoder>(
     ensures read { ReadsOption D.reader (side_of side) T.meaning T.eq
         (unwrap_or tag T.meaning.tag) (constraint_set constraints.now) decoder.old decoder.new
         result }
-    ensures keeps { Keeps D.reader decoder.old decoder.new result }
+    ensures keeps_depth { KeepsDepth D.reader decoder.old decoder.new result }
 {
     let table = T::table();
     let tag = tag.unwrap_or(table.tag);

@@ -1,21 +1,21 @@
 //! A SET, by its components.
 ghost use Rattle.asn1_components.specs.ComponentLists.{EachIsOfType, EachIsValid};
 ghost use Rattle.asn1_components.specs.Components.{all_components, component_records, is_set, lines};
-ghost use Rattle.asn1_dec.specs.Reading.{Keeps, Moves, NeedsAllowance, Outside, ReadsBack, ReadsValue, records_in};
+ghost use Rattle.asn1_codec.specs.Reading.{KeepsDepth, Advances, NeedsDepth, Outside, ReadsBack, ReadsValue, records_in};
 ghost use Rattle.asn1_model.specs.Composites.{set_records};
 ghost use Rattle.asn1_model.specs.ConstraintSets.{ConstraintSet};
 ghost use Rattle.asn1_model.specs.Records.{Name, Record, highest, set};
-ghost use Rattle.asn1_dec.specs.SetParts.{ArePartsOf, CanBeInSet};
+ghost use Rattle.asn1_codec.specs.SetParts.{ArePartsOf, CanBeInSet};
 ghost use Rattle.std.specs.Prelude.{◌≡◌, ◌≤◌, IsPermutation, List, OnErr, OnOk, [], ◌∷◌, true};
 
 use crate::decode_set::DecodeSet;
 use crate::decoder::Decoder;
-use crate::error::DecodeError;
 use crate::fields::component_with_tag;
+use asn1_codec::DecodeError;
 use asn1_components::ConstructedType;
 use asn1_tags::Tag;
 
-/// The components that are left in a SET, of which there are at most so many records.
+/// The components that are left in a SET, of which there are at most this many records.
 fn read_parts<S: DecodeSet, D: Decoder>(
     decoder: &mut D,
     bound: usize,
@@ -24,14 +24,14 @@ fn read_parts<S: DecodeSet, D: Decoder>(
         CanBeInSet (all_components S.components) → EachIsOfType (all_components S.components) v →
         EachIsValid (all_components S.components) D.reader.takes v →
         IsPermutation items (component_records S.components v) → records_in items ≤ bound →
-        Moves D.reader decoder.old decoder.new (highest items)
+        Advances D.reader decoder.old decoder.new (highest items)
         (items, (set tag (lines S.components) n, rest) ∷ outer)
         ([], (set tag (lines S.components) n, rest) ∷ outer)
         (λ parts. ArePartsOf (all_components S.components) v S.index_of (S.is_part_of v)
         parts.items) result }
-    ensures same_allowance { OnOk result (D.reader.allowance decoder.new ≡
-        D.reader.allowance decoder.old) }
-    ensures failing { OnErr result (D.reader.failed decoder.new ≡ true) }
+    ensures same_depth { OnOk result (D.reader.depth_left decoder.new ≡
+        D.reader.depth_left decoder.old) }
+    ensures has_failed { OnErr result (D.reader.failed decoder.new ≡ true) }
 {
     let mut parts = Vec::new(decoder.global());
     for place in 0..bound {
@@ -64,8 +64,8 @@ fn read_components<S: DecodeSet, D: Decoder>(decoder: &mut D, tag: Tag) -> Resul
         ReadsBack D.reader decoder.old decoder.new
         (set_records tag (lines S.components) n (component_records S.components v)) rest outer
         (λ w. S.eq w v ≡ true) result }
-    ensures depth_first { NeedsAllowance D.reader decoder.old result }
-    ensures keeps { Keeps D.reader decoder.old decoder.new result }
+    ensures depth_first { NeedsDepth D.reader decoder.old result }
+    ensures keeps_depth { KeepsDepth D.reader decoder.old decoder.new result }
 {
     let bound = decoder.open_set::<S>(tag)?;
     let parts = read_parts::<S, D>(decoder, bound)?;
@@ -91,8 +91,8 @@ pub(crate) fn read_set<S: DecodeSet + ConstructedType, D: Decoder>(
         (λ w. S.eq w v ≡ true) result }
     ensures as_meant { S.components.kind ≡ is_set → (c : ConstraintSet) →
         ReadsValue D.reader S.meaning S.eq tag c decoder.old decoder.new result }
-    ensures depth_first { NeedsAllowance D.reader decoder.old result }
-    ensures keeps { Keeps D.reader decoder.old decoder.new result }
+    ensures depth_first { NeedsDepth D.reader decoder.old result }
+    ensures keeps_depth { KeepsDepth D.reader decoder.old decoder.new result }
 {
     read_components(decoder, tag)
 }

@@ -1,5 +1,5 @@
 //! A SET OF.
-ghost use Rattle.asn1_dec.specs.Reading.{Keeps, NeedsAllowance, Outside, ReadsBack};
+ghost use Rattle.asn1_codec.specs.Reading.{KeepsDepth, NeedsDepth, Outside, ReadsBack};
 ghost use Rattle.asn1_model.specs.Composites.{set_of_records};
 ghost use Rattle.asn1_model.specs.ConstraintSets.{constraint_set};
 ghost use Rattle.asn1_model.specs.Meaning.{CanStandInside, own_records};
@@ -10,8 +10,8 @@ ghost use Rattle.std.specs.Prelude.{◌≡◌, All, List, true};
 use crate::decode::Decode;
 use crate::decoder::Decoder;
 use crate::elements::read_elements;
-use crate::error::DecodeError;
 use asn1_bounds::Constraints;
+use asn1_codec::DecodeError;
 use asn1_tags::Tag;
 use asn1_types::SetOf;
 
@@ -27,8 +27,8 @@ pub(crate) fn read_set_of<T: Decode, D: Decoder>(
         ReadsBack D.reader decoder.old decoder.new (set_of_records tag
         (constraint_set constraints.now) n (flat_map (own_records T.meaning) vs)) rest outer (λ w.
         ⟦<SetOf<T> as PartialEq>⟧.eq w vs ≡ true) result }
-    ensures depth_first { NeedsAllowance D.reader decoder.old result }
-    ensures keeps { Keeps D.reader decoder.old decoder.new result }
+    ensures depth_first { NeedsDepth D.reader decoder.old result }
+    ensures keeps_depth { KeepsDepth D.reader decoder.old decoder.new result }
 {
     let bound = decoder.open_set_of(tag, constraints)?;
     let elements = read_elements(decoder, bound)?;

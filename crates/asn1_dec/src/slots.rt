@@ -1,8 +1,8 @@
 //! The components of a SET that were read so far.
-ghost use Rattle.asn1_dec.specs.Errors.{duplicate_field, reason};
+ghost use Rattle.asn1_codec.specs.DecodeErrors.{duplicate_field, reason};
 ghost use Rattle.std.specs.Prelude.{◌≡◌, IfErr, IsSome, None, OnErr, OnOk, Some};
 
-use crate::error::DecodeError;
+use asn1_codec::DecodeError;
 
 /// Keeps a component that was read. Where it was read before, the error is [`DecodeError::DuplicateField`] with the name, and the
 /// slot is as it was.

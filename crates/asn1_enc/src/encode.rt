@@ -3,18 +3,20 @@ ghost use Rattle.asn1_choices.specs.Alternatives.{all_of, chosen_meaning};
 ghost use Rattle.asn1_choices.specs.ChosenTags.{chosen_tag as tag_of_chosen};
 ghost use Rattle.asn1_components.specs.ComponentLists.{EachIsOfType};
 ghost use Rattle.asn1_components.specs.Components.{all_components, component_records};
-ghost use Rattle.asn1_enc.specs.Places.{IsOfTypeAt, records_at};
-ghost use Rattle.asn1_enc.specs.Writing.{Writes};
+ghost use Rattle.asn1_codec.specs.Places.{IsOfTypeAt, records_at};
+ghost use Rattle.asn1_codec.specs.Writing.{Writes};
+ghost use Rattle.asn1_codec.specs.GivenTypes.{as_it_is, given, with_constraints, with_tag};
+ghost use Rattle.asn1_codec.specs.WritingTypes.{WritesValue};
 ghost use Rattle.asn1_model.specs.ConstraintSets.{constraint_set};
-ghost use Rattle.asn1_model.specs.Meaning.{own_records};
+ghost use Rattle.asn1_model.specs.TaggedTypes.{tagged, untagged};
 ghost use Rattle.asn1_tags.specs.Names.{name_of};
 ghost use Rattle.std.specs.Prelude.{◌≡◌};
 
 use crate::encoder::Encoder;
-use crate::error::EncodeError;
 use crate::own_constraints::make_constraints;
 use asn1_bounds::Constraints;
 use asn1_choices::Choice;
+use asn1_codec::EncodeError;
 use asn1_components::FieldTable;
 use asn1_model::AsnType;
 use asn1_tags::{Identifier, Tag};
@@ -33,14 +35,14 @@ pub trait Encode: AsnType {
         constraints: &Constraints<'_>,
         name: Identifier,
     ) -> Result<(), EncodeError>
-        ensures { Writes E.writer encoder.old (Self.meaning.records self.now tag
-            (constraint_set constraints.now) (name_of name)) (Self.meaning.IsOfType
-            self.now) encoder.new result };
+        ensures { WritesValue E.writer
+            (given tag (constraint_set constraints.now) Self.meaning (name_of name)) self.now
+            encoder.old encoder.new result };
 
     /// Writes the value under the type's own tag, constraints and name.
     final fn encode<E: Encoder>(&self, encoder: &mut E) -> Result<(), EncodeError>
-        ensures { Writes E.writer encoder.old (own_records Self.meaning self.now)
-            (Self.meaning.IsOfType self.now) encoder.new result }
+        ensures { WritesValue E.writer (untagged Self.meaning) self.now encoder.old encoder.new
+            result }
     {
         let table = Self::table();
         let constraints = make_constraints(encoder, &table)?;
@@ -53,9 +55,8 @@ pub trait Encode: AsnType {
         encoder: &mut E,
         tag: Tag,
     ) -> Result<(), EncodeError>
-        ensures { Writes E.writer encoder.old (Self.meaning.records self.now tag
-            Self.meaning.constraints Self.meaning.name) (Self.meaning.IsOfType
-            self.now) encoder.new result }
+        ensures { WritesValue E.writer (tagged tag Self.meaning) self.now
+            encoder.old encoder.new result }
     {
         let table = Self::table();
         let constraints = make_constraints(encoder, &table)?;
@@ -68,9 +69,8 @@ pub trait Encode: AsnType {
         encoder: &mut E,
         name: Identifier,
     ) -> Result<(), EncodeError>
-        ensures { Writes E.writer encoder.old (Self.meaning.records self.now Self.meaning.tag
-            Self.meaning.constraints (name_of name)) (Self.meaning.IsOfType
-            self.now) encoder.new result }
+        ensures { WritesValue E.writer (as_it_is Self.meaning (name_of name)) self.now
+            encoder.old encoder.new result }
     {
         let table = Self::table();
         let constraints = make_constraints(encoder, &table)?;
@@ -84,9 +84,8 @@ pub trait Encode: AsnType {
         tag: Tag,
         name: Identifier,
     ) -> Result<(), EncodeError>
-        ensures { Writes E.writer encoder.old (Self.meaning.records self.now tag
-            Self.meaning.constraints (name_of name)) (Self.meaning.IsOfType
-            self.now) encoder.new result }
+        ensures { WritesValue E.writer (with_tag tag Self.meaning (name_of name)) self.now
+            encoder.old encoder.new result }
     {
         let constraints = make_constraints(encoder, &Self::table())?;
         self.encode_with_tag_and_constraints(encoder, tag, &constraints, name)
@@ -98,9 +97,9 @@ pub trait Encode: AsnType {
         encoder: &mut E,
         constraints: &Constraints<'_>,
     ) -> Result<(), EncodeError>
-        ensures { Writes E.writer encoder.old (Self.meaning.records self.now Self.meaning.tag
-            (constraint_set constraints.now) Self.meaning.name) (Self.meaning.IsOfType
-            self.now) encoder.new result }
+        ensures { WritesValue E.writer
+            (with_constraints (constraint_set constraints.now) Self.meaning Self.meaning.name)
+            self.now encoder.old encoder.new result }
     {
         let table = Self::table();
         self.encode_with_tag_and_constraints(encoder, table.tag, constraints, table.identifier)
@@ -113,9 +112,9 @@ pub trait Encode: AsnType {
         constraints: &Constraints<'_>,
         name: Identifier,
     ) -> Result<(), EncodeError>
-        ensures { Writes E.writer encoder.old (Self.meaning.records self.now Self.meaning.tag
-            (constraint_set constraints.now) (name_of name)) (Self.meaning.IsOfType
-            self.now) encoder.new result }
+        ensures { WritesValue E.writer
+            (with_constraints (constraint_set constraints.now) Self.meaning (name_of name))
+            self.now encoder.old encoder.new result }
     {
         self.encode_with_tag_and_constraints(encoder, Self::tag(), constraints, name)
     }

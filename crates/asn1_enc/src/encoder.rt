@@ -1,27 +1,27 @@
 //! What a codec writes with.
-ghost use Rattle.asn1_choices.specs.Alternatives.{all_of, chosen_meaning, table_of};
-ghost use Rattle.asn1_choices.specs.ChosenTags.{chosen_tag as tag_of_chosen};
-ghost use Rattle.asn1_components.specs.ComponentLists.{EachIsOfType};
-ghost use Rattle.asn1_components.specs.Components.{all_components, component_records, is_sequence, is_set, lines};
-ghost use Rattle.asn1_enc.specs.Writing.{Closes, ClosesGroup, IsLawful, NeedsAllowance, Opens, OpensGroup, Refuses, Writer, Writes};
+ghost use Rattle.asn1_choices.specs.Alternatives.{table_of};
+ghost use Rattle.asn1_components.specs.Components.{is_sequence, is_set, lines};
+ghost use Rattle.asn1_codec.specs.Writing.{ClosesScope, ClosesGroup, IsLawful, NeedsDepth, OpensScope, OpensGroup, IsOutOfMemory, Writer, Writes};
+ghost use Rattle.asn1_codec.specs.GivenTypes.{after_tag, as_it_is, given, with_constraints, with_tag};
+ghost use Rattle.asn1_codec.specs.WritingTypes.{WritesAlternative, WritesComponents, WritesContent, WritesDefault, WritesGroup, WritesOptional, WritesValue};
 ghost use Rattle.asn1_enumerations.specs.Enumerations.{number_of};
 ghost use Rattle.asn1_enumerations.specs.Labels.{labels_of};
-ghost use Rattle.asn1_model.specs.Composites.{alternative_records, default_records, group_records, list_records, option_records, prefix_records, raw_records, sequence_records, set_of_records, set_records};
+ghost use Rattle.asn1_model.specs.Composites.{list_records, option_records, prefix_records, raw_records, set_of_records};
 ghost use Rattle.asn1_model.specs.ConstraintSets.{constraint_set, unconstrained};
 ghost use Rattle.asn1_model.specs.Meaning.{own_records};
 ghost use Rattle.asn1_model.specs.Records.{absent, alternative, arcs, bits, bmp, discriminant, general, graphic, group_absent, ia5, in_additions, in_root, mark, null, number, numeric, octet, prefix, present, printable, scalar, sequence, sequence_of, set, set_of, teletex, truth, units, utf8, visible};
 ghost use Rattle.asn1_tags.specs.Names.{name_of};
 ghost use Rattle.asn1_strings.specs.Alphabets.{is_ia5, is_numeric, is_printable, is_visible};
 ghost use Rattle.std.specs.List.{flat_map};
-ghost use Rattle.std.specs.Option.{option_copied, option_map};
-ghost use Rattle.std.specs.Prelude.{◌≡◌, ◌<◌, ◌^◌, [], ◌∷◌, ⊤, All, Bool, IfSome, IsTrue, None, Ok, Some, false};
+ghost use Rattle.std.specs.Option.{option_copied};
+ghost use Rattle.std.specs.Prelude.{◌≡◌, ◌<◌, ◌^◌, [], ◌∷◌, ⊤, All, IsTrue, None, Ok, Some};
 ghost use Rattle.std.specs.Str.{IsUtf8};
 
 use crate::encode::{Encode, EncodeChoice, EncodeFields};
-use crate::error::EncodeError;
 use crate::own_constraints::make_constraints;
 use asn1_bounds::{Codec, Constraints};
 use asn1_choices::{Choice, ChoiceType};
+use asn1_codec::EncodeError;
 use asn1_components::{ConstructedType, FieldTable};
 use asn1_enumerations::{Enumerated, EnumeratedTable};
 use asn1_model::AsnType;
@@ -42,7 +42,7 @@ use std::alloc::{AllocError, Global};
 /// The calls before the law are a codec's own. Each that succeeds appends its record or presence mark to the innermost list
 /// that is open, and leaves those outside it; and tells that the value has what each value of its type has, such as that a
 /// `u8` is below 256. Each that fails makes the encoder failed. An encoder that has failed answers [`EncodeError::Failed`],
-/// and no other does. [`EncodeError::Depth`] comes only from opening a scope where there is no allowance, and is answered
+/// and no other does. [`EncodeError::Depth`] comes only from opening a scope where no depth is left, and is answered
 /// there before anything else but `Failed`. [`EncodeError::Custom`] comes only where the codec does not take the records.
 ///
 /// The calls after the law are the same for every codec.
@@ -53,22 +53,22 @@ pub trait Encoder {
     /// The codec's name.
     fn codec(&self) -> Codec;
 
-    /// How many scopes may still be opened in one another.
+    /// How many nested scopes may still be opened.
     fn depth(&self) -> usize
-        ensures { result ≡ writer.allowance self.now };
+        ensures { result ≡ writer.depth_left self.now };
 
     /// The allocator, with which a type makes its constraints.
     fn global(&self) -> Global;
 
     /// Makes the encoder failed, and answers [`EncodeError::Memory`], or [`EncodeError::Failed`] if it had failed before. For a
-    /// type whose own constraints could not be made for want of memory.
+    /// type whose own constraints could not be made because memory ran out.
     fn refuse_memory(&mut self) -> EncodeError
-        ensures { Refuses writer self.old self.new result };
+        ensures { IsOutOfMemory writer self.old self.new result };
 
     /// A BOOLEAN.
     fn encode_bool(&mut self, tag: Tag, value: bool, name: Identifier) -> Result<(), EncodeError>
-        ensures { Writes writer self.old (scalar tag unconstrained (name_of name) (truth value) ∷
-            []) ⊤ self.new result };
+        ensures { WritesContent writer tag unconstrained (name_of name) (truth value) ⊤ self.old
+            self.new result };
 
     /// A NULL.
     fn encode_null(&mut self, tag: Tag, name: Identifier) -> Result<(), EncodeError>
@@ -83,9 +83,8 @@ pub trait Encoder {
         number: isize,
         name: Identifier,
     ) -> Result<(), EncodeError>
-        ensures { Writes writer self.old
-            (scalar tag unconstrained (name_of name) (discriminant E.labels number) ∷ []) ⊤
-            self.new result };
+        ensures { WritesContent writer tag unconstrained (name_of name)
+            (discriminant E.labels number) ⊤ self.old self.new result };
 
     /// An OBJECT IDENTIFIER, by its arcs.
     fn encode_object_identifier(
@@ -94,8 +93,8 @@ pub trait Encoder {
         value: &[u32],
         name: Identifier,
     ) -> Result<(), EncodeError>
-        ensures { Writes writer self.old (scalar tag unconstrained (name_of name) (arcs value.now) ∷
-            []) (All (λ arc. arc < 2 ^ 32) value.now) self.new result };
+        ensures { WritesContent writer tag unconstrained (name_of name) (arcs value.now)
+            (All (λ arc. arc < 2 ^ 32) value.now) self.old self.new result };
 
     /// An INTEGER, of any type of whole numbers.
     fn encode_integer<T: IntegerType>(
@@ -105,8 +104,8 @@ pub trait Encoder {
         value: &T,
         name: Identifier,
     ) -> Result<(), EncodeError>
-        ensures { Writes writer self.old (scalar tag (constraint_set constraints.now) (name_of name)
-            (number (T.number value.now)) ∷ []) (T.fits (T.number value.now)) self.new result };
+        ensures { WritesContent writer tag (constraint_set constraints.now) (name_of name)
+            (number (T.number value.now)) (T.fits (T.number value.now)) self.old self.new result };
 
     /// A string of the kind `K`, by its units. The kind makes of them the string of whatever kind that a codec looks at
     /// ([`CodecString::as_any`]). The calls with a name for each kind give it units that a string of the kind can have; others a
@@ -118,9 +117,8 @@ pub trait Encoder {
         value: &[U],
         name: Identifier,
     ) -> Result<(), EncodeError>
-        ensures { Writes writer self.old
-            (scalar tag (constraint_set constraints.now) (name_of name) (K.content value.now) ∷ [])
-            ⊤ self.new result };
+        ensures { WritesContent writer tag (constraint_set constraints.now) (name_of name)
+            (K.content value.now) ⊤ self.old self.new result };
 
     /// A value of an open type, by its bytes, under whatever tag.
     fn encode_any(&mut self, tag: Tag, value: &Any, name: Identifier) -> Result<(), EncodeError>
@@ -152,15 +150,15 @@ pub trait Encoder {
         tag: Tag,
         name: Identifier,
     ) -> Result<(), EncodeError>
-        ensures { Opens writer self.old (sequence tag (lines C.components) (name_of name))
+        ensures { OpensScope writer self.old (sequence tag (lines C.components) (name_of name))
             self.new result };
 
     /// Opens a SET, whose components are those of the table of `C`.
     fn open_set<C: FieldTable>(&mut self, tag: Tag, name: Identifier) -> Result<(), EncodeError>
-        ensures { Opens writer self.old (set tag (lines C.components) (name_of name))
+        ensures { OpensScope writer self.old (set tag (lines C.components) (name_of name))
             self.new result };
 
-    /// Opens a SEQUENCE OF so many elements.
+    /// Opens a SEQUENCE OF this many elements.
     fn open_sequence_of(
         &mut self,
         tag: Tag,
@@ -168,10 +166,10 @@ pub trait Encoder {
         name: Identifier,
         count: usize,
     ) -> Result<(), EncodeError>
-        ensures { Opens writer self.old (sequence_of tag (constraint_set constraints.now)
+        ensures { OpensScope writer self.old (sequence_of tag (constraint_set constraints.now)
             (name_of name)) self.new result };
 
-    /// Opens a SET OF so many elements.
+    /// Opens a SET OF this many elements.
     fn open_set_of(
         &mut self,
         tag: Tag,
@@ -179,12 +177,12 @@ pub trait Encoder {
         name: Identifier,
         count: usize,
     ) -> Result<(), EncodeError>
-        ensures { Opens writer self.old (set_of tag (constraint_set constraints.now) (name_of name))
+        ensures { OpensScope writer self.old (set_of tag (constraint_set constraints.now) (name_of name))
             self.new result };
 
     /// Opens what follows an explicit tag.
     fn open_explicit_prefix(&mut self, tag: Tag, name: Identifier) -> Result<(), EncodeError>
-        ensures { Opens writer self.old (prefix tag (name_of name)) self.new result };
+        ensures { OpensScope writer self.old (prefix tag (name_of name)) self.new result };
 
     /// Opens a CHOICE, whose alternatives are those of `T`, by the tag of the chosen one.
     fn open_choice<T: Choice>(
@@ -193,16 +191,16 @@ pub trait Encoder {
         constraints: &Constraints<'_>,
         name: Identifier,
     ) -> Result<(), EncodeError>
-        ensures { Opens writer self.old
+        ensures { OpensScope writer self.old
             (alternative chosen (constraint_set constraints.now) (table_of T.alternatives)
             (name_of name)) self.new result };
 
     /// Closes the innermost scope.
     fn close(&mut self) -> Result<(), EncodeError>
-        ensures { Closes writer self.old self.new result };
+        ensures { ClosesScope writer self.old self.new result };
 
     /// Opens a group of additions, whose components are those of the table of `C`. It is no scope, and takes nothing from the
-    /// allowance.
+    /// depth left.
     fn open_group<C: FieldTable>(&mut self) -> Result<(), EncodeError>
         ensures { OpensGroup writer self.old (lines C.components) self.new result };
 
@@ -223,9 +221,8 @@ pub trait Encoder {
     ) -> Result<(), EncodeError>
     where
         Self: Sized,
-        ensures { Writes writer self.old
-            (scalar tag (constraint_set constraints.now) (name_of name) (bits value.now) ∷ [])
-            ⊤ self.new result }
+        ensures { WritesContent writer tag (constraint_set constraints.now) (name_of name)
+            (bits value.now) ⊤ self.old self.new result }
     {
         self.encode_string::<bool, Bits>(tag, constraints, value, name)
     }
@@ -240,10 +237,9 @@ pub trait Encoder {
     ) -> Result<(), EncodeError>
     where
         Self: Sized,
-        ensures { Writes writer self.old
-            (scalar tag (constraint_set constraints.now) (name_of name)
-            (units octet value.now) ∷ [])
-            (All (λ unit. unit < 2 ^ 8) value.now) self.new result }
+        ensures { WritesContent writer tag (constraint_set constraints.now) (name_of name)
+            (units octet value.now) (All (λ unit. unit < 2 ^ 8) value.now) self.old self.new
+            result }
     {
         self.encode_string::<u8, Octets>(tag, constraints, value, name)
     }
@@ -258,9 +254,8 @@ pub trait Encoder {
     ) -> Result<(), EncodeError>
     where
         Self: Sized,
-        ensures { Writes writer self.old
-            (scalar tag (constraint_set constraints.now) (name_of name) (units utf8 value.now) ∷ [])
-            (IsUtf8 value.now) self.new result }
+        ensures { WritesContent writer tag (constraint_set constraints.now) (name_of name)
+            (units utf8 value.now) (IsUtf8 value.now) self.old self.new result }
     {
         self.encode_string::<u8, Utf8>(tag, constraints, value.as_bytes(), name)
     }
@@ -275,10 +270,9 @@ pub trait Encoder {
     ) -> Result<(), EncodeError>
     where
         Self: Sized,
-        ensures { Writes writer self.old
-            (scalar tag (constraint_set constraints.now) (name_of name)
-            (units general value.now) ∷ [])
-            (All (λ unit. unit < 2 ^ 8) value.now) self.new result }
+        ensures { WritesContent writer tag (constraint_set constraints.now) (name_of name)
+            (units general value.now) (All (λ unit. unit < 2 ^ 8) value.now) self.old self.new
+            result }
     {
         self.encode_string::<u8, General>(tag, constraints, value.as_slice(), name)
     }
@@ -293,10 +287,9 @@ pub trait Encoder {
     ) -> Result<(), EncodeError>
     where
         Self: Sized,
-        ensures { Writes writer self.old
-            (scalar tag (constraint_set constraints.now) (name_of name)
-            (units graphic value.now) ∷ [])
-            (All (λ unit. unit < 2 ^ 8) value.now) self.new result }
+        ensures { WritesContent writer tag (constraint_set constraints.now) (name_of name)
+            (units graphic value.now) (All (λ unit. unit < 2 ^ 8) value.now) self.old self.new
+            result }
     {
         self.encode_string::<u8, Graphic>(tag, constraints, value.as_slice(), name)
     }
@@ -311,10 +304,9 @@ pub trait Encoder {
     ) -> Result<(), EncodeError>
     where
         Self: Sized,
-        ensures { Writes writer self.old
-            (scalar tag (constraint_set constraints.now) (name_of name)
-            (units visible value.now) ∷ [])
-            (All (λ unit. IsTrue (is_visible unit)) value.now) self.new result }
+        ensures { WritesContent writer tag (constraint_set constraints.now) (name_of name)
+            (units visible value.now) (All (λ unit. IsTrue (is_visible unit)) value.now) self.old
+            self.new result }
     {
         self.encode_string::<u8, Visible>(tag, constraints, value.as_slice(), name)
     }
@@ -329,9 +321,9 @@ pub trait Encoder {
     ) -> Result<(), EncodeError>
     where
         Self: Sized,
-        ensures { Writes writer self.old
-            (scalar tag (constraint_set constraints.now) (name_of name) (units ia5 value.now) ∷ [])
-            (All (λ unit. IsTrue (is_ia5 unit)) value.now) self.new result }
+        ensures { WritesContent writer tag (constraint_set constraints.now) (name_of name)
+            (units ia5 value.now) (All (λ unit. IsTrue (is_ia5 unit)) value.now) self.old self.new
+            result }
     {
         self.encode_string::<u8, Ia5>(tag, constraints, value.as_slice(), name)
     }
@@ -346,10 +338,9 @@ pub trait Encoder {
     ) -> Result<(), EncodeError>
     where
         Self: Sized,
-        ensures { Writes writer self.old
-            (scalar tag (constraint_set constraints.now) (name_of name)
-            (units printable value.now) ∷ [])
-            (All (λ unit. IsTrue (is_printable unit)) value.now) self.new result }
+        ensures { WritesContent writer tag (constraint_set constraints.now) (name_of name)
+            (units printable value.now) (All (λ unit. IsTrue (is_printable unit)) value.now)
+            self.old self.new result }
     {
         self.encode_string::<u8, Printable>(tag, constraints, value.as_slice(), name)
     }
@@ -364,10 +355,9 @@ pub trait Encoder {
     ) -> Result<(), EncodeError>
     where
         Self: Sized,
-        ensures { Writes writer self.old
-            (scalar tag (constraint_set constraints.now) (name_of name)
-            (units numeric value.now) ∷ [])
-            (All (λ unit. IsTrue (is_numeric unit)) value.now) self.new result }
+        ensures { WritesContent writer tag (constraint_set constraints.now) (name_of name)
+            (units numeric value.now) (All (λ unit. IsTrue (is_numeric unit)) value.now) self.old
+            self.new result }
     {
         self.encode_string::<u8, Numeric>(tag, constraints, value.as_slice(), name)
     }
@@ -382,10 +372,9 @@ pub trait Encoder {
     ) -> Result<(), EncodeError>
     where
         Self: Sized,
-        ensures { Writes writer self.old
-            (scalar tag (constraint_set constraints.now) (name_of name)
-            (units teletex value.now) ∷ [])
-            (All (λ unit. unit < 2 ^ 32) value.now) self.new result }
+        ensures { WritesContent writer tag (constraint_set constraints.now) (name_of name)
+            (units teletex value.now) (All (λ unit. unit < 2 ^ 32) value.now) self.old self.new
+            result }
     {
         self.encode_string::<u32, Teletex>(tag, constraints, value.as_slice(), name)
     }
@@ -400,9 +389,8 @@ pub trait Encoder {
     ) -> Result<(), EncodeError>
     where
         Self: Sized,
-        ensures { Writes writer self.old
-            (scalar tag (constraint_set constraints.now) (name_of name) (units bmp value.now) ∷ [])
-            (All (λ unit. unit < 2 ^ 16) value.now) self.new result }
+        ensures { WritesContent writer tag (constraint_set constraints.now) (name_of name)
+            (units bmp value.now) (All (λ unit. unit < 2 ^ 16) value.now) self.old self.new result }
     {
         self.encode_string::<u16, Bmp>(tag, constraints, value.as_slice(), name)
     }
@@ -416,10 +404,9 @@ pub trait Encoder {
     ) -> Result<(), EncodeError>
     where
         Self: Sized,
-        ensures { Writes writer self.old
-            (scalar tag unconstrained (name_of name)
-            (discriminant (labels_of T.enumeration) (number_of T.eq T.enumeration value.now)) ∷
-            []) ⊤ self.new result }
+        ensures { WritesContent writer tag unconstrained (name_of name)
+            (discriminant (labels_of T.enumeration) (number_of T.eq T.enumeration value.now)) ⊤
+            self.old self.new result }
     {
         self.encode_enumerated_number::<T>(tag, value.discriminant(), name)
     }
@@ -435,7 +422,7 @@ pub trait Encoder {
         Self: Sized,
         ensures writes { Writes writer self.old (prefix_records tag (name_of name)
             (own_records T.meaning value.now)) (T.meaning.IsOfType value.now) self.new result }
-        ensures depth_first { NeedsAllowance writer self.old result }
+        ensures depth_first { NeedsDepth writer self.old result }
     {
         self.open_explicit_prefix(tag, name)?;
         value.encode(self)?;
@@ -452,14 +439,11 @@ pub trait Encoder {
     ) -> Result<(), EncodeError>
     where
         Self: Sized,
-        ensures components { Writes writer self.old
-            (sequence_records tag (lines C.components) (name_of name)
-            (component_records C.components value.now))
-            (EachIsOfType (all_components C.components) value.now) self.new result }
-        ensures as_meant { C.components.kind ≡ is_sequence →
-            Writes writer self.old (C.meaning.records value.now tag unconstrained (name_of name))
-            (C.meaning.IsOfType value.now) self.new result }
-        ensures depth_first { NeedsAllowance writer self.old result }
+        ensures components { WritesComponents writer is_sequence tag (name_of name) C.components
+            value.now self.old self.new result }
+        ensures as_meant { C.components.kind ≡ is_sequence → WritesValue writer
+            (given tag unconstrained C.meaning (name_of name)) value.now self.old self.new result }
+        ensures depth_first { NeedsDepth writer self.old result }
     {
         self.open_sequence::<C>(tag, name)?;
         value.encode_fields(self)?;
@@ -479,7 +463,7 @@ pub trait Encoder {
         ensures writes { Writes writer self.old (list_records tag (constraint_set constraints.now)
             (name_of name) (flat_map (own_records T.meaning) elements.now)) (All T.meaning.IsOfType
             elements.now) self.new result }
-        ensures depth_first { NeedsAllowance writer self.old result }
+        ensures depth_first { NeedsDepth writer self.old result }
     {
         self.open_sequence_of(tag, constraints, name, elements.len())?;
         for element in elements {
@@ -498,12 +482,9 @@ pub trait Encoder {
     ) -> Result<(), EncodeError>
     where
         Self: Sized,
-        ensures { Writes writer self.old
-            (option_records in_root tag
-            (Some
-            (T.meaning.records value.now tag (constraint_set constraints.now)
-            (name_of name))))
-            (T.meaning.IsOfType value.now) self.new result }
+        ensures { WritesOptional writer in_root
+            (given tag (constraint_set constraints.now) T.meaning (name_of name)) (Some value.now)
+            self.old self.new result }
     {
         self.mark_present(tag)?;
         value.encode_with_tag_and_constraints(self, tag, constraints, name)
@@ -519,14 +500,11 @@ pub trait Encoder {
     ) -> Result<(), EncodeError>
     where
         Self: Sized,
-        ensures components { Writes writer self.old
-            (set_records tag (lines C.components) (name_of name)
-            (component_records C.components value.now))
-            (EachIsOfType (all_components C.components) value.now) self.new result }
-        ensures as_meant { C.components.kind ≡ is_set →
-            Writes writer self.old (C.meaning.records value.now tag unconstrained (name_of name))
-            (C.meaning.IsOfType value.now) self.new result }
-        ensures depth_first { NeedsAllowance writer self.old result }
+        ensures components { WritesComponents writer is_set tag (name_of name) C.components
+            value.now self.old self.new result }
+        ensures as_meant { C.components.kind ≡ is_set → WritesValue writer
+            (given tag unconstrained C.meaning (name_of name)) value.now self.old self.new result }
+        ensures depth_first { NeedsDepth writer self.old result }
     {
         self.open_set::<C>(tag, name)?;
         value.encode_fields(self)?;
@@ -546,7 +524,7 @@ pub trait Encoder {
         ensures writes { Writes writer self.old (set_of_records tag (constraint_set constraints.now)
             (name_of name) (flat_map (own_records T.meaning) elements.now)) (All T.meaning.IsOfType
             elements.now) self.new result }
-        ensures depth_first { NeedsAllowance writer self.old result }
+        ensures depth_first { NeedsDepth writer self.old result }
     {
         self.open_set_of(tag, constraints, name, elements.len())?;
         for element in elements.iter() {
@@ -564,21 +542,16 @@ pub trait Encoder {
     ) -> Result<(), EncodeError>
     where
         Self: Sized,
-        ensures writes { Writes writer self.old
-            (alternative_records (tag_of_chosen (all_of T.alternatives) (T.pick value.now))
-            (constraint_set constraints.now)
-            (table_of T.alternatives)
-            (name_of name)
-            (chosen_meaning (all_of T.alternatives) (T.pick value.now)).records)
-            (chosen_meaning (all_of T.alternatives) (T.pick value.now)).IsOfType self.new result }
-        ensures depth_first { NeedsAllowance writer self.old result }
+        ensures writes { WritesAlternative writer (constraint_set constraints.now) (name_of name)
+            T.alternatives (T.pick value.now) self.old self.new result }
+        ensures depth_first { NeedsDepth writer self.old result }
     {
         self.open_choice::<T>(value.chosen_tag(), constraints, name)?;
         value.encode_alternative(self)?;
         self.close()
     }
 
-    /// A CHOICE under a tag: untagged under the tag that stands for none, and else after the tag, with its own constraints and name
+    /// A CHOICE under a tag: untagged under the CHOICE marker tag, and else after the tag, with its own constraints and name
     /// (X.680, 31.2.7). Without a name it is written under the type's own.
     final fn encode_choice_with_tag<T: EncodeChoice + ChoiceType>(
         &mut self,
@@ -589,10 +562,10 @@ pub trait Encoder {
     ) -> Result<(), EncodeError>
     where
         Self: Sized,
-        ensures writes { Writes writer self.old (T.meaning.records value.now tag
-            (constraint_set constraints.now) (name_of name)) (T.meaning.IsOfType
-            value.now) self.new result }
-        ensures depth_first { NeedsAllowance writer self.old result }
+        ensures writes { WritesValue writer
+            (given tag (constraint_set constraints.now) T.meaning (name_of name)) value.now self.old
+            self.new result }
+        ensures depth_first { NeedsDepth writer self.old result }
     {
         let table = T::table();
         let name = name.or(table.identifier);
@@ -613,12 +586,8 @@ pub trait Encoder {
     ) -> Result<(), EncodeError>
     where
         Self: Sized,
-        ensures { Writes writer self.old
-            (option_records in_root T.meaning.tag
-            (Some
-            (T.meaning.records value.now T.meaning.tag T.meaning.constraints
-            (name_of name))))
-            (T.meaning.IsOfType value.now) self.new result }
+        ensures { WritesOptional writer in_root (as_it_is T.meaning (name_of name))
+            (Some value.now) self.old self.new result }
     {
         let table = T::table();
         let constraints = make_constraints(self, &table)?;
@@ -634,10 +603,8 @@ pub trait Encoder {
     ) -> Result<(), EncodeError>
     where
         Self: Sized,
-        ensures { Writes writer self.old
-            (option_records in_root tag
-            (Some (T.meaning.records value.now tag T.meaning.constraints (name_of name))))
-            (T.meaning.IsOfType value.now) self.new result }
+        ensures { WritesOptional writer in_root (with_tag tag T.meaning (name_of name))
+            (Some value.now) self.old self.new result }
     {
         let constraints = make_constraints(self, &T::table())?;
         self.encode_some_with_tag_and_constraints(tag, &constraints, value, name)
@@ -652,10 +619,8 @@ pub trait Encoder {
     ) -> Result<(), EncodeError>
     where
         Self: Sized,
-        ensures { Writes writer self.old
-            (option_records in_root tag
-            (Some (prefix_records tag (name_of name) (own_records T.meaning value.now))))
-            (T.meaning.IsOfType value.now) self.new result }
+        ensures { WritesOptional writer in_root (after_tag tag T.meaning (name_of name))
+            (Some value.now) self.old self.new result }
     {
         self.mark_present(tag)?;
         self.encode_explicit_prefix(tag, value, name)
@@ -689,13 +654,9 @@ pub trait Encoder {
     where
         Self: Sized,
         requires { F.IsAlwaysCallable default }
-        ensures { (equal : Bool) →
-            ((a : _) (usual : T) → F.post default a (Ok usual) → T.eq value.now usual ≡ equal) →
-            Writes writer self.old
-            (default_records in_root equal T.meaning.tag
-            (T.meaning.records value.now T.meaning.tag T.meaning.constraints
-            (name_of name)))
-            (equal ≡ false → T.meaning.IsOfType value.now) self.new result }
+        ensures { WritesDefault writer (as_it_is T.meaning (name_of name))
+            (λ usual. (a : _) × F.post default a (Ok usual)) T.eq value.now self.old self.new
+            result }
     {
         let Ok(usual) = default(self.global()) else {
             return Err(self.refuse_memory());
@@ -715,12 +676,9 @@ pub trait Encoder {
     where
         Self: Sized,
         requires { F.IsAlwaysCallable default }
-        ensures { (equal : Bool) →
-            ((a : _) (usual : T) → F.post default a (Ok usual) → T.eq value.now usual ≡ equal) →
-            Writes writer self.old
-            (default_records in_root equal tag
-            (T.meaning.records value.now tag T.meaning.constraints (name_of name)))
-            (equal ≡ false → T.meaning.IsOfType value.now) self.new result }
+        ensures { WritesDefault writer (with_tag tag T.meaning (name_of name))
+            (λ usual. (a : _) × F.post default a (Ok usual)) T.eq value.now self.old self.new
+            result }
     {
         let Ok(usual) = default(self.global()) else {
             return Err(self.refuse_memory());
@@ -746,13 +704,10 @@ pub trait Encoder {
     where
         Self: Sized,
         requires { F.IsAlwaysCallable default }
-        ensures { (equal : Bool) →
-            ((a : _) (usual : T) → F.post default a (Ok usual) → T.eq value.now usual ≡ equal) →
-            Writes writer self.old
-            (default_records in_root equal T.meaning.tag
-            (T.meaning.records value.now T.meaning.tag (constraint_set constraints.now)
-            (name_of name)))
-            (equal ≡ false → T.meaning.IsOfType value.now) self.new result }
+        ensures { WritesDefault writer
+            (with_constraints (constraint_set constraints.now) T.meaning (name_of name))
+            (λ usual. (a : _) × F.post default a (Ok usual)) T.eq value.now self.old self.new
+            result }
     {
         self.encode_default_with_tag_and_constraints(T::tag(), constraints, value, default, name)
     }
@@ -772,13 +727,10 @@ pub trait Encoder {
     where
         Self: Sized,
         requires { F.IsAlwaysCallable default }
-        ensures { (equal : Bool) →
-            ((a : _) (usual : T) → F.post default a (Ok usual) → T.eq value.now usual ≡ equal) →
-            Writes writer self.old
-            (default_records in_root equal tag
-            (T.meaning.records value.now tag (constraint_set constraints.now)
-            (name_of name)))
-            (equal ≡ false → T.meaning.IsOfType value.now) self.new result }
+        ensures { WritesDefault writer
+            (given tag (constraint_set constraints.now) T.meaning (name_of name))
+            (λ usual. (a : _) × F.post default a (Ok usual)) T.eq value.now self.old self.new
+            result }
     {
         let Ok(usual) = default(self.global()) else {
             return Err(self.refuse_memory());
@@ -798,12 +750,9 @@ pub trait Encoder {
     where
         Self: Sized,
         requires { F.IsAlwaysCallable default }
-        ensures { (equal : Bool) →
-            ((a : _) (usual : T) → F.post default a (Ok usual) → T.eq value.now usual ≡ equal) →
-            Writes writer self.old
-            (default_records in_root equal tag
-            (prefix_records tag (name_of name) (own_records T.meaning value.now)))
-            (equal ≡ false → T.meaning.IsOfType value.now) self.new result }
+        ensures { WritesDefault writer (after_tag tag T.meaning (name_of name))
+            (λ usual. (a : _) × F.post default a (Ok usual)) T.eq value.now self.old self.new
+            result }
     {
         let Ok(usual) = default(self.global()) else {
             return Err(self.refuse_memory());
@@ -823,13 +772,8 @@ pub trait Encoder {
     ) -> Result<(), EncodeError>
     where
         Self: Sized,
-        ensures { (equal : Bool) →
-            ((usual : T) → T.is_default usual → T.eq value.now usual ≡ equal) →
-            Writes writer self.old
-            (default_records in_root equal T.meaning.tag
-            (T.meaning.records value.now T.meaning.tag T.meaning.constraints
-            (name_of name)))
-            (equal ≡ false → T.meaning.IsOfType value.now) self.new result }
+        ensures { WritesDefault writer (as_it_is T.meaning (name_of name)) T.is_default T.eq
+            value.now self.old self.new result }
     {
         if *value == T::default() {
             self.encode_none::<T>(name)
@@ -847,12 +791,8 @@ pub trait Encoder {
     ) -> Result<(), EncodeError>
     where
         Self: Sized,
-        ensures { (equal : Bool) →
-            ((usual : T) → T.is_default usual → T.eq value.now usual ≡ equal) →
-            Writes writer self.old
-            (default_records in_root equal tag
-            (T.meaning.records value.now tag T.meaning.constraints (name_of name)))
-            (equal ≡ false → T.meaning.IsOfType value.now) self.new result }
+        ensures { WritesDefault writer (with_tag tag T.meaning (name_of name)) T.is_default T.eq
+            value.now self.old self.new result }
     {
         if *value == T::default() {
             self.encode_none_with_tag(tag, name)
@@ -871,12 +811,9 @@ pub trait Encoder {
     ) -> Result<(), EncodeError>
     where
         Self: Sized,
-        ensures { Writes writer self.old
-            (option_records in_additions tag
-            (option_map
-            (λ v. T.meaning.records v tag (constraint_set constraints.now) (name_of name))
-            (option_copied value.entry)))
-            (IfSome (option_copied value.entry) T.meaning.IsOfType) self.new result }
+        ensures { WritesOptional writer in_additions
+            (given tag (constraint_set constraints.now) T.meaning (name_of name))
+            (option_copied value.entry) self.old self.new result }
     {
         match value {
             None => self.mark_addition_absent(tag),
@@ -896,11 +833,8 @@ pub trait Encoder {
     ) -> Result<(), EncodeError>
     where
         Self: Sized,
-        ensures { Writes writer self.old
-            (option_records in_additions tag
-            (option_map (λ v. T.meaning.records v tag T.meaning.constraints (name_of name))
-            (option_copied value.entry)))
-            (IfSome (option_copied value.entry) T.meaning.IsOfType) self.new result }
+        ensures { WritesOptional writer in_additions (with_tag tag T.meaning (name_of name))
+            (option_copied value.entry) self.old self.new result }
     {
         let Some(value) = value else {
             return self.mark_addition_absent(tag);
@@ -918,11 +852,9 @@ pub trait Encoder {
     ) -> Result<(), EncodeError>
     where
         Self: Sized,
-        ensures { Writes writer self.old
-            (option_records in_additions tag
-            (option_map (λ v. prefix_records tag (name_of name) (own_records T.meaning v))
-            (option_copied value.entry)))
-            (IfSome (option_copied value.entry) T.meaning.IsOfType) self.new result }
+        ensures { WritesOptional writer in_additions
+            (after_tag tag T.meaning (name_of name)) (option_copied value.entry) self.old
+            self.new result }
     {
         match value {
             None => self.mark_addition_absent(tag),
@@ -941,11 +873,8 @@ pub trait Encoder {
     ) -> Result<(), EncodeError>
     where
         Self: Sized,
-        ensures { Writes writer self.old
-            (group_records (lines C.components)
-            (option_map (component_records C.components) (option_copied value.entry)))
-            (IfSome (option_copied value.entry) (EachIsOfType (all_components C.components)))
-            self.new result }
+        ensures { WritesGroup writer C.components (option_copied value.entry) self.old self.new
+            result }
     {
         match value {
             None => self.mark_group_absent(),

@@ -10,7 +10,6 @@
 //! | [`EncodeFields`] | a type whose components are written, each by its place: a SEQUENCE, a SET or a group of additions |
 //! | [`EncodeChoice`] | a CHOICE whose chosen alternative is written |
 //! | [`EncodeError`] | why a value was not written |
-//! | [`laws`] | what the derives of the error give |
 //!
 //! The types of the lower crates and of the language are written: `()`, `bool`, the built-in integers, `Integer`,
 //! `ConstrainedInteger`, every kind of string, `&str`, `ObjectIdentifier`, `Option`, references, `Box`, `Cow`, `Vec`, arrays,
@@ -19,19 +18,19 @@
 //! What the contracts promise, and the words that they use:
 //!
 //! - What a call writes is exactly the records of its value, after what was written before, in the innermost list that is open
-//!   (`Writes` of `specs/Writing.antt`). They are no higher than the allowance, which is then what it was. A success also
+//!   (`Writes` of `specs/Writing.antt` of `asn1_codec`). They are nested no deeper than the depth left, which is then what it was. A success also
 //!   tells that the value has what each value of its type has (`IsOfType`), so that no caller has to show it.
 //! - An error comes only where the encoder has failed from then on (`IsError`), and it is `Failed` if and only if the encoder
-//!   had failed before. `Depth` comes only where the records are higher than the allowance, and `Custom` only where the codec
+//!   had failed before. `Depth` comes only where the records are nested deeper than the depth left, and `Custom` only where the codec
 //!   rejects them, of an encoder that has written something (`Fails`). A type whose own constraints could not be made for want
 //!   of memory says so by `refuse_memory`.
-//! - A codec states what it has written, whether it has failed, its allowance, and which records it rejects (`Writer`). Its own
-//!   calls have the laws of these: opening a scope takes one from the allowance and closing gives it back (`Opens`, `Closes`),
-//!   a group is no scope (`OpensGroup`, `ClosesGroup`), and where there is no allowance the error is `Depth`, before any other
+//! - A codec states what it has written, whether it has failed, its depth left, and which records it rejects (`Writer`). Its own
+//!   calls have the laws of these: opening a scope takes one from the depth left and closing gives it back (`OpensScope`, `ClosesScope`),
+//!   a group is no scope (`OpensGroup`, `ClosesGroup`), and where no depth is left the error is `Depth`, before any other
 //!   but `Failed`. What it rejects and has written keeps to `IsLawful`: a list is rejected where a part of it is, or what a
 //!   record of it holds, presence marks alone never are, and the order inside sets means nothing.
 //! - The calls for whole types that open a scope at once answer `Depth` before any other error but `Failed` too
-//!   (`NeedsAllowance`).
+//!   (`NeedsDepth`).
 //! - `EncodeFields::encode_fields` is a loop over the places of the field table, proved once for all types. A type states a
 //!   line for each component (`encode_field`, `specs/Places.antt`), and no proof.
 //! - `encode_sequence` and `encode_set` (`as_meant`) and `encode_choice_with_tag` write the records of the type, by the law that
@@ -44,11 +43,9 @@
 
 mod encode;
 mod encoder;
-mod error;
 mod impls;
-pub mod laws;
 mod own_constraints;
 
+pub use asn1_codec::EncodeError;
 pub use encode::{Encode, EncodeChoice, EncodeFields};
 pub use encoder::Encoder;
-pub use error::EncodeError;

@@ -1,11 +1,11 @@
 //! The constraints of a type, by its table.
-ghost use Rattle.asn1_enc.specs.Writing.{Refuses};
+ghost use Rattle.asn1_codec.specs.Writing.{IsOutOfMemory};
 ghost use Rattle.asn1_model.specs.ConstraintSets.{constraint_set, table_constraints};
 ghost use Rattle.std.specs.Prelude.{◌≡◌, IfErr, IfOk, OnOk};
 
 use crate::encoder::Encoder;
-use crate::error::EncodeError;
 use asn1_bounds::Constraints;
+use asn1_codec::EncodeError;
 use asn1_model::TypeTable;
 
 /// Makes the constraints of a table. Where there is no memory for them, the encoder has failed.
@@ -16,7 +16,7 @@ pub(crate) fn make_constraints<E: Encoder>(
     ensures made { IfOk result
         (λ set. constraint_set set ≡ table_constraints table.now.constraints) }
     ensures same { OnOk result (encoder.new ≡ encoder.old) }
-    ensures refused { IfErr result (Refuses E.writer encoder.old encoder.new) }
+    ensures refused { IfErr result (IsOutOfMemory E.writer encoder.old encoder.new) }
 {
     match table.constraints.to_constraints(encoder.global()) {
         Ok(constraints) => Ok(constraints),

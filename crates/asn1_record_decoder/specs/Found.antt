@@ -4,10 +4,10 @@ use Rattle.asn1_tags.specs.declared.tags.Tag.{Tag}
 use Rattle.asn1_model.specs.Records as model
 use Rattle.asn1_model.specs.Records.{scalar, scope, raw, mark, holding, sequence, set, sequence_of, set_of, prefix, alternative}
 use Rattle.asn1_model.specs.Tags.{head_tag}
-use Rattle.asn1_dec.specs.Reading.{Moves, records_in, Outside}
-use Rattle.asn1_dec.specs.declared.error.DecodeError.{DecodeError}
-use Rattle.asn1_dec.specs.declared.error.DecodeError.TheVariants.{Memory}
-use Rattle.asn1_record_decoder.specs.Reading.{StandsExactly, in_one_order}
+use Rattle.asn1_codec.specs.Reading.{Advances, records_in, Outside}
+use Rattle.asn1_codec.specs.declared.decode_error.DecodeError.{DecodeError}
+use Rattle.asn1_codec.specs.declared.decode_error.DecodeError.TheVariants.{Memory}
+use Rattle.asn1_record_decoder.specs.Reading.{RemainsExactly, in_one_order}
 use Rattle.asn1_records.specs.Records.{record_of, records_of}
 use Rattle.asn1_records.specs.WithoutConstraints.{record_without, without_constraints}
 use Rattle.asn1_record_decoder.specs.declared.decoder.Opened.{Opened}
@@ -45,7 +45,7 @@ FoundIn x r Is result = IsRecord x r → MatchResult result Is (λ e. e ≡ Memo
 -- The next record was taken: it is this one, and the decoder is exactly before what follows.
 pub record Took (x : Record) (new : RecordDecoder) (r : model.Record) (rest : List model.Record) (outer : Outside) : Type 0 where
   pub is : IsRecord x r
-  pub at : StandsExactly new (rest, outer)
+  pub at : RemainsExactly new (rest, outer)
 
 -- the head is what is wanted
 abbrev pub Meets : Wanted → model.Head → Type 0
@@ -66,4 +66,4 @@ pub record IsOpened (h : model.Head) (items : List model.Record) (opened : Opene
 abbrev pub OpensWanted : Wanted → RecordDecoder → RecordDecoder → Result Opened DecodeError → Type 0
 OpensWanted wanted old new result =
     (h : model.Head) (items rest : List model.Record) (outer : Outside) → Meets wanted h →
-    Moves in_one_order old new 1 (holding h items ∷ rest, outer) (items, (h, rest) ∷ outer) (IsOpened h items) result
+    Advances in_one_order old new 1 (holding h items ∷ rest, outer) (items, (h, rest) ∷ outer) (IsOpened h items) result

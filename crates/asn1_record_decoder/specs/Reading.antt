@@ -1,7 +1,7 @@
--- Before what a record decoder stands.
+-- What remains to be read by a record decoder.
 use Rattle.std.specs.Prelude.{◌≡◌, true, false, List, [], ◌∷◌, map}
-use Rattle.asn1_dec.specs.Orders.{up_to_order}
-use Rattle.asn1_dec.specs.Reading.{Ahead, Outside, Reader}
+use Rattle.asn1_codec.specs.ReadingUpToOrder.{up_to_order}
+use Rattle.asn1_codec.specs.Reading.{Remaining, Outside, Reader}
 use Rattle.asn1_model.specs.Records.{Record}
 use Rattle.asn1_records.specs.Records.{records_of}
 use Rattle.asn1_records.specs.WithoutConstraints.{without_constraints}
@@ -22,20 +22,20 @@ abbrev pub outside_without : Outside → List (List Record)
 outside_without = map (λ scope. without_constraints scope.1)
 
 -- all lists
-abbrev pub ahead_without : Ahead → List (List Record)
-ahead_without ahead = without_constraints ahead.0 ∷ outside_without ahead.1
+abbrev pub remaining_without : Remaining → List (List Record)
+remaining_without ahead = without_constraints ahead.0 ∷ outside_without ahead.1
 
 -- The decoder is before exactly these lists: apart from constraints and tables, they are what is left.
-pub record StandsExactly (d : RecordDecoder) (ahead : Ahead) : Type 0 where
+pub record RemainsExactly (d : RecordDecoder) (ahead : Remaining) : Type 0 where
   pub no_failure : d.failed ≡ false
-  pub sees_them : sees d ≡ ahead_without ahead
+  pub sees_them : sees d ≡ remaining_without ahead
 
 -- The decoder in the order in which its records come. It takes any bytes as one value of an open type.
 abbrev pub in_one_order : Reader RecordDecoder
 in_one_order = record {
-  stands = λ d ahead. StandsExactly d ahead;
+  remains = λ d ahead. RemainsExactly d ahead;
   failed = λ d. d.failed;
-  allowance = λ d. d.allowance;
+  depth_left = λ d. d.depth_left;
   takes = λ _. true;
 }
 
@@ -44,5 +44,5 @@ abbrev pub record_reader : Reader RecordDecoder
 record_reader = up_to_order in_one_order
 
 -- the decoder is before these lists: up to the order inside sets, and apart from constraints and tables, they are what is left
-abbrev pub StandsBefore : RecordDecoder → Ahead → Type 0
-StandsBefore d ahead = record_reader.stands d ahead
+abbrev pub Remains : RecordDecoder → Remaining → Type 0
+Remains d ahead = record_reader.remains d ahead

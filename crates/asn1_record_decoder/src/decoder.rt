@@ -30,11 +30,11 @@ struct Rest<'a> {
 #[derive(Drop)]
 pub struct RecordDecoder<'a> {
     alloc: Global,
-    allowance: usize,
+    depth_left: usize,
     failed: bool,
     left: &'a [Record],
     outer: Vec<Rest<'a>>,
-    ghost counted: { allowance + vec_len outer < 2 ^ 64 },
+    ghost counted: { depth_left + vec_len outer < 2 ^ 64 },
 }
 
 /// A scope that was opened: the tag of its head, and how many records and marks are in it.
@@ -45,31 +45,32 @@ struct Opened {
 }
 
 impl<'a> RecordDecoder<'a> {
-    ghost use Rattle.asn1_dec.specs.declared.error.DecodeError.TheVariants.{Failed, Memory};
-    ghost use Rattle.asn1_dec.specs.Errors.{custom, reason};
-    ghost use Rattle.asn1_dec.specs.Reading.{Enters, Opens, OpensSet, Outside, ReadsContent, Stays, TellsPresence, records_in};
+    ghost use Rattle.asn1_codec.specs.declared.decode_error.DecodeError.TheVariants.{Failed, Memory};
+    ghost use Rattle.asn1_codec.specs.DecodeErrors.{custom, reason};
+    ghost use Rattle.asn1_codec.specs.Reading.{OpensScope, ReadsHead, ReadsHeadOfSet, Outside, ReadsContent, OpensNothing, TellsPresence, records_in};
     ghost use Rattle.asn1_model.specs.ConstraintSets.{ConstraintSet};
     ghost use Rattle.asn1_model.specs.Orders.{is_unordered};
     ghost use Rattle.asn1_model.specs.Records as model;
     ghost use Rattle.asn1_model.specs.Records.{Name, absent, present};
     ghost use Rattle.asn1_model.specs.Tags.{Tags};
     ghost use Rattle.asn1_record_decoder.specs.Found.{Meets, OpensWanted, Took};
-    ghost use Rattle.asn1_record_decoder.specs.Reading.{StandsBefore, StandsExactly, record_reader, sees};
+    ghost use Rattle.asn1_record_decoder.specs.Reading.{Remains, RemainsExactly, record_reader, sees};
     ghost use Rattle.asn1_records.specs.Carried.{Carries};
     ghost use Rattle.asn1_records.specs.WithoutConstraints.{content_without};
-    ghost use Rattle.asn1_records.specs.Records.{record_of, records_of, side_of};
+    ghost use Rattle.asn1_records.specs.Records.{record_of, records_of};
+    ghost use Rattle.asn1_codec.specs.Sides.{side_of};
     ghost use Rattle.std.specs.Prelude.{◌≡◌, ◌≢◌, ◌↔◌, ◌≤◌, ◌∷◌, [], ⊤, Err, IfErr, IfOk, IfSome, IsOk, List, MatchResult, None, OnErr, OnOk, codes, false, length, suc, true};
 
-    /// A decoder that is before these records, and may open so many scopes in one another.
+    /// A decoder that is before these records, and may open this many nested scopes.
     pub fn new(alloc: Global, records: &'a [Record], depth: usize) -> RecordDecoder<'a>
         ensures before { (rs : List model.Record) → Carries records.now rs →
-            StandsBefore result (rs, []) }
-        ensures allowance { record_reader.allowance result ≡ depth }
+            Remains result (rs, []) }
+        ensures depth_left { record_reader.depth_left result ≡ depth }
         ensures no_failure { record_reader.failed result ≡ false }
     {
         RecordDecoder {
             alloc,
-            allowance: depth,
+            depth_left: depth,
             failed: false,
             left: records,
             outer: Vec::new(alloc),
@@ -82,7 +83,7 @@ impl<'a> RecordDecoder<'a> {
     /// # Errors
     /// [`DecodeError::Failed`] where a call has failed before, and else [`DecodeError::Custom`], with the text `bad item`.
     pub fn finish(self) -> Result<(), DecodeError>
-        ensures all_read { IsOk result ↔ StandsBefore self.entry ([], []) }
+        ensures all_read { IsOk result ↔ Remains self.entry ([], []) }
         ensures failed { result ≡ Err Failed ↔ (record_reader.failed self.entry ≡ true) }
         ensures bad_item { IfErr result (λ e. e ≢ Failed → reason e ≡ custom (codes "bad item")) }
     {
@@ -98,7 +99,7 @@ impl<'a> RecordDecoder<'a> {
     /// Makes the decoder failed, and answers the error.
     fn fail(&mut self, error: DecodeError) -> DecodeError
         ensures same { result ≡ error }
-        ensures failing { self.new.failed ≡ true }
+        ensures has_failed { self.new.failed ≡ true }
     {
         self.failed = true;
         error
@@ -109,7 +110,7 @@ impl<'a> RecordDecoder<'a> {
         ensures taken { IfSome result (λ x. records_of self.old.left.now ≡ record_of x.now ∷
             records_of self.new.left.now) }
         ensures none { result ≡ None → records_of self.old.left.now ≡ [] }
-        ensures allowance { self.new.allowance ≡ self.old.allowance }
+        ensures depth_left { self.new.depth_left ≡ self.old.depth_left }
         ensures failed { self.new.failed ≡ self.old.failed }
         ensures outer { self.new.outer ≡ self.old.outer }
     {
@@ -123,9 +124,9 @@ impl<'a> RecordDecoder<'a> {
     /// The next record.
     fn next(&mut self) -> Result<&'a Record, DecodeError>
         ensures took { (r : model.Record) (rest : List model.Record) (outer : Outside) →
-            StandsExactly self.old (r ∷ rest, outer) →
+            RemainsExactly self.old (r ∷ rest, outer) →
             MatchResult result (λ x. Took x.now self.new r rest outer) (λ _. ⊥) }
-        ensures stays { Stays record_reader self.old self.new result }
+        ensures opens_nothing { OpensNothing record_reader self.old self.new result }
     {
         if self.failed {
             return Err(DecodeError::Failed);
@@ -143,7 +144,7 @@ impl<'a> RecordDecoder<'a> {
     fn answer<V>(&mut self, found: Result<V, DecodeError>) -> Result<V, DecodeError>
         ensures same { result ≡ found }
         ensures kept { OnOk result (self.new ≡ self.old) }
-        ensures failing { OnErr result (self.new.failed ≡ true) }
+        ensures has_failed { OnErr result (self.new.failed ≡ true) }
     {
         if found.is_err() {
             self.failed = true;
@@ -156,7 +157,7 @@ impl<'a> RecordDecoder<'a> {
         ensures read { (content : V.Value → model.Content) →
             ((x : V.Value) → content_without (content x) ≡ V.content x) → (c : ConstraintSet) →
             ReadsContent record_reader self.old self.new tag c content V.IsOfType V.Is result }
-        ensures stays { Stays record_reader self.old self.new result }
+        ensures opens_nothing { OpensNothing record_reader self.old self.new result }
     {
         let record = self.next()?;
         match found::content(record, tag) {
@@ -172,7 +173,7 @@ impl<'a> RecordDecoder<'a> {
     fn tell_presence(&mut self, side: Side, tag: Tag) -> Result<bool, DecodeError>
         ensures read { (own : Tags) → TellsPresence record_reader self.old self.new
             (present (side_of side) tag) (absent (side_of side) tag) own result }
-        ensures stays { Stays record_reader self.old self.new result }
+        ensures opens_nothing { OpensNothing record_reader self.old self.new result }
     {
         let record = self.next()?;
         let found = found::presence(record, side, tag);
@@ -181,17 +182,17 @@ impl<'a> RecordDecoder<'a> {
 
     /// Goes into a scope.
     fn enter(&mut self, tag: Tag, inner: &'a [Record]) -> Result<Opened, DecodeError>
-        requires room { 0 < self.now.allowance }
+        requires room { 0 < self.now.depth_left }
         ensures inside { OnOk result (sees self.new ≡ records_of inner.now ∷ sees self.old) }
         ensures opened { IfOk result (λ opened. (opened.tag ≡ tag) ×
             (opened.bound ≡ length inner.now)) }
-        ensures one_less { OnOk result (self.old.allowance ≡ suc self.new.allowance) }
+        ensures one_less { OnOk result (self.old.depth_left ≡ suc self.new.depth_left) }
         ensures failed { OnOk result (self.new.failed ≡ self.old.failed) }
         ensures memory { IfErr result (λ e. e ≡ Memory) }
-        ensures failing { OnErr result (self.new.failed ≡ true) }
+        ensures has_failed { OnErr result (self.new.failed ≡ true) }
     {
         let records = self.left;
-        self.allowance -= 1;
+        self.depth_left -= 1;
         if let Err(_) = self.outer.push(Rest { records }) {
             return Err(self.fail(DecodeError::Memory));
         }
@@ -205,12 +206,12 @@ impl<'a> RecordDecoder<'a> {
     /// Opens a scope.
     fn open(&mut self, wanted: Wanted) -> Result<Opened, DecodeError>
         ensures read { OpensWanted wanted self.old self.new result }
-        ensures enters { Enters record_reader self.old self.new result }
+        ensures opens_scope { OpensScope record_reader self.old self.new result }
     {
         if self.failed {
             return Err(DecodeError::Failed);
         }
-        if self.allowance == 0 {
+        if self.depth_left == 0 {
             return Err(self.fail(DecodeError::Depth));
         }
         let record = self.next()?;
@@ -224,8 +225,8 @@ impl<'a> RecordDecoder<'a> {
     fn open_in_order(&mut self, wanted: Wanted) -> Result<(), DecodeError>
         ensures read { (head : Name → model.Head) → ((n : Name) → Meets wanted (head n)) →
             ((n : Name) → is_unordered (head n) ≡ false) →
-            Opens record_reader self.old self.new head (λ _ _. ⊤) result }
-        ensures enters { Enters record_reader self.old self.new result }
+            ReadsHead record_reader self.old self.new head (λ _ _. ⊤) result }
+        ensures opens_scope { OpensScope record_reader self.old self.new result }
     {
         self.open(wanted)?;
         Ok(())
@@ -235,12 +236,12 @@ impl<'a> RecordDecoder<'a> {
     fn open_list(&mut self, wanted: Wanted) -> Result<usize, DecodeError>
         ensures read { (head : Name → model.Head) → ((n : Name) → Meets wanted (head n)) →
             ((n : Name) → is_unordered (head n) ≡ false) →
-            Opens record_reader self.old self.new head (λ items bound. records_in items ≤ bound)
+            ReadsHead record_reader self.old self.new head (λ items bound. records_in items ≤ bound)
             result }
         ensures read_set { (head : Name → model.Head) → ((n : Name) → Meets wanted (head n)) →
-            OpensSet record_reader self.old self.new head (λ items bound. records_in items ≤ bound)
+            ReadsHeadOfSet record_reader self.old self.new head (λ items bound. records_in items ≤ bound)
             result }
-        ensures enters { Enters record_reader self.old self.new result }
+        ensures opens_scope { OpensScope record_reader self.old self.new result }
     {
         let opened = self.open(wanted)?;
         Ok(opened.bound)
@@ -248,7 +249,7 @@ impl<'a> RecordDecoder<'a> {
 }
 
 impl<'a> Decoder for RecordDecoder<'a> {
-    ghost use Rattle.asn1_dec.proofs.UpToOrder.{lawful};
+    ghost use Rattle.asn1_codec.proofs.ReadingUpToOrder.{lawful};
     ghost use Rattle.asn1_record_decoder.specs.Reading.{in_one_order, record_reader};
     ghost use Rattle.std.specs.Prelude.{◌≡◌};
 
@@ -261,7 +262,7 @@ impl<'a> Decoder for RecordDecoder<'a> {
     }
 
     fn depth(&self) -> usize {
-        self.allowance
+        self.depth_left
     }
 
     fn global(&self) -> Global {
@@ -412,7 +413,7 @@ impl<'a> Decoder for RecordDecoder<'a> {
             [] => match self.outer.pop() {
                 Some(Rest { records }) => {
                     self.left = records;
-                    self.allowance += 1;
+                    self.depth_left += 1;
                     Ok(())
                 }
                 None => Err(self.fail(BAD_ITEM)),

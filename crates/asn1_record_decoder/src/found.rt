@@ -4,10 +4,11 @@ ghost use Rattle.asn1_model.specs.Records as model;
 ghost use Rattle.asn1_model.specs.Records.{Name, absent, group_absent, group_end, group_start, holding, is_mark, mark, present, raw, scalar};
 ghost use Rattle.asn1_model.specs.Tables.{Line, Table, no_table};
 ghost use Rattle.asn1_model.specs.Tags.{Has, head_tag, record_tags};
-ghost use Rattle.asn1_dec.specs.declared.error.DecodeError.TheVariants.{Depth};
+ghost use Rattle.asn1_codec.specs.declared.decode_error.DecodeError.TheVariants.{Depth};
 ghost use Rattle.asn1_record_decoder.specs.Found.{AreRecords, FoundIn, IsBytes, IsContentUnder, IsRecord, Meets};
 ghost use Rattle.asn1_records.specs.WithoutConstraints.{content_without};
-ghost use Rattle.asn1_records.specs.Records.{content_of, head_of, record_of, records_of, side_of};
+ghost use Rattle.asn1_records.specs.Records.{content_of, head_of, record_of, records_of};
+ghost use Rattle.asn1_codec.specs.Sides.{side_of};
 ghost use Rattle.std.specs.Prelude.{◌≡◌, ◌≢◌, ⊤, Err, IfOk, IfSome, IsSomeAnd, List, OnOk, ℕ, false, if◌then◌else◌, true};
 
 use crate::wanted::Wanted;

@@ -2,7 +2,7 @@
 ghost use Rattle.asn1_model.specs.Records as model;
 ghost use Rattle.asn1_model.specs.Records.{arcs, discriminant, null, number, truth};
 ghost use Rattle.asn1_records.specs.WithoutConstraints.{item_name, label_of_number};
-ghost use Rattle.asn1_dec.specs.declared.error.DecodeError.TheVariants.{Depth, Memory};
+ghost use Rattle.asn1_codec.specs.declared.decode_error.DecodeError.TheVariants.{Depth, Memory};
 ghost use Rattle.asn1_records.specs.Records.{content_of};
 ghost use Rattle.asn1_tags.specs.Names.{name_of};
 ghost use Rattle.std.specs.Bool.{Decides};

@@ -10,7 +10,7 @@
 //! What the contracts promise, and the words that they use:
 //!
 //! - The decoder keeps the laws of every decoder (`Decoder`). It is before the lists that its records are without constraints and
-//!   tables, up to the order inside sets (`StandsBefore` of `specs/Reading.antt`), and reads a set in the order in which its records
+//!   tables, up to the order inside sets (`Remains` of `specs/Reading.antt`), and reads a set in the order in which its records
 //!   come. It takes any bytes as one value of an open type (`takes` of [`laws`]).
 //! - A decoder of records that carry others (`Carries` of `asn1_records`) begins before these (`before` of
 //!   [`RecordDecoder::new`]), and [`RecordDecoder::finish`] succeeds if and only if all has been read (`all_read`), and says

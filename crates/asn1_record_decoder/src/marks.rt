@@ -1,5 +1,5 @@
 //! Presence marks before a record.
-ghost use Rattle.asn1_dec.specs.Reading.{marks_passed};
+ghost use Rattle.asn1_codec.specs.Reading.{marks_passed};
 ghost use Rattle.asn1_records.specs.Records.{records_of};
 ghost use Rattle.std.specs.Prelude.{◌≡◌};
 

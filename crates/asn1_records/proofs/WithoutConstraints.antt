@@ -1,7 +1,7 @@
 -- How records without constraints are put together.
 use Rattle.std.proofs.Common.{◌≡◌, Bool, true, false, ◌&&◌, List, [], ◌∷◌, ◌++◌, if◌then◌else◌, refl, sym, ap, ◌∙◌, Some}
 use Rattle.std.proofs.lemmas.List.{map-append}
-use Rattle.asn1_enc.specs.Writing.{Written, outermost, in_scope, in_group, followed_by}
+use Rattle.asn1_codec.specs.Writing.{Written, outermost, in_scope, in_group, followed_by}
 use Rattle.asn1_types.specs.AnyStrings.{IsStringOf}
 use Rattle.asn1_model.specs.Composites.{group_records}
 use Rattle.asn1_types.specs.declared.any_string.StringKind.{StringKind}

@@ -2,16 +2,16 @@
 use Rattle.std.proofs.Common.{◌≡◌, ℕ, suc, ◌+◌, ◌≤◌, ◌<◌, true, false, List, [], ◌∷◌, ◌++◌, refl, sym, ap, subst, ◌∙◌, ◌-◌, ◌^◌, arith, length, Result, Ok, Err}
 use Rattle.std.specs.Prelude.{⊤, Some}
 use Rattle.std.proofs.lemmas.List.{map-append}
-use Rattle.asn1_enc.specs.declared.error.EncodeError.{EncodeError}
-use Rattle.asn1_enc.specs.declared.error.EncodeError.TheVariants.{Custom}
-use Rattle.asn1_enc.specs.Writing.{Written, outermost, in_scope, in_group, followed_by, Appends, IsError, ScopeIsOpen, ScopeIsClosed, ScopeIsNotClosed, GroupIsOpen, GroupIsClosed, GroupIsNotClosed, Writes}
+use Rattle.asn1_codec.specs.declared.encode_error.EncodeError.{EncodeError}
+use Rattle.asn1_codec.specs.declared.encode_error.EncodeError.TheVariants.{Custom}
+use Rattle.asn1_codec.specs.Writing.{Written, outermost, in_scope, in_group, followed_by, Appends, IsError, ScopeIsOpen, ScopeIsClosed, ScopeIsNotClosed, GroupIsOpen, GroupIsClosed, GroupIsNotClosed, Writes}
 use Rattle.asn1_model.specs.Composites.{group_records}
 use Rattle.asn1_model.specs.Records as model
 use Rattle.asn1_model.specs.Records.{holding, height}
 use Rattle.asn1_model.specs.Tables.{Line, Table, no_table}
 use Rattle.asn1_records.specs.Records.{head_of, record_of, records_of}
-use Rattle.asn1_enc.specs.Orders.{WroteUpToOrder}
-use Rattle.asn1_enc.proofs.UpToOrder.{same_as_outermost, wrote_exactly}
+use Rattle.asn1_codec.specs.WritingUpToOrder.{WroteUpToOrder}
+use Rattle.asn1_codec.proofs.WritingUpToOrder.{same_as_outermost, wrote_exactly}
 use Rattle.asn1_records.specs.WithoutConstraints.{record_without, without_constraints, written_without, head_without}
 use Rattle.asn1_records.specs.Encoder.{inside, inside_all, written_so_far, in_one_order, record_writer}
 use Rattle.asn1_records.specs.Frames.{counted, scopes_in}
@@ -77,15 +77,15 @@ not_both b f t = let x : false ≡ true = sym f ∙ t in cc
 -- Appending.
 
 pub appended : (old new : RecordEncoder) (x : Record) (r : model.Record) → record_of x ≡ record_without r → height r ≡ 0 → new.records.items ≡ old.records.items ++ x ∷ [] →
-    new.outer ≡ old.outer → new.allowance ≡ old.allowance → old.failed ≡ false → new.failed ≡ false → Appends in_one_order old (r ∷ []) ⊤ new
-appended old new x r is flat records outer allowance was now = record {
+    new.outer ≡ old.outer → new.depth_left ≡ old.depth_left → old.failed ≡ false → new.failed ≡ false → Appends in_one_order old (r ∷ []) ⊤ new
+appended old new x r is flat records outer depth_left was now = record {
   written = λ w wrote.
       ap (λ o. inside_all outermost o.items (records_of new.records.items)) outer
       ∙ wrote_more old.outer.items old.records.items new.records.items (record_of x ∷ []) w (r ∷ []) (ap records_of records ∙ records_of-more old.records.items x) (ap (λ q. q ∷ []) is) wrote;
   no_failure = now ∙ sym was;
   unless_failed = λ failed. absurd (not_both old.failed was failed);
-  same_allowance = allowance;
-  within_allowance = omega (arith, flat);
+  same_depth = depth_left;
+  within_depth = omega (arith, flat);
   of_type = tt;
 }
 
@@ -102,30 +102,30 @@ opened old new f w outer moved none wrote =
 
 pub scope_opened : (old new : RecordEncoder) (f : Frame) (head : Head) (h : model.Head) → f.inner ≡ Scope head → head_of head ≡ head_without h →
     new.outer.items ≡ old.outer.items ++ f ∷ [] → f.records.items ≡ old.records.items → new.records.items ≡ [] →
-    old.allowance ≡ suc new.allowance → old.failed ≡ false → new.failed ≡ false → ScopeIsOpen in_one_order old h new
-scope_opened old new f head h inner is outer moved none allowance was now = record {
+    old.depth_left ≡ suc new.depth_left → old.failed ≡ false → new.failed ≡ false → ScopeIsOpen in_one_order old h new
+scope_opened old new f head h inner is outer moved none depth_left was now = record {
   opened = λ w wrote. opened old new f w outer moved none wrote ∙ ap (λ i. inside i (written_without w) []) inner ∙ ap (λ k. in_scope k [] (written_without w)) is;
   had_not_failed = was;
   no_failure = now;
-  one_less = allowance;
+  one_less = depth_left;
 }
 
 pub group_opened : (table : Table Line) (old new : RecordEncoder) (f : Frame) → f.inner ≡ Group →
     new.outer.items ≡ old.outer.items ++ f ∷ [] → f.records.items ≡ old.records.items → new.records.items ≡ [] →
-    old.allowance ≡ new.allowance → old.failed ≡ false → new.failed ≡ false → GroupIsOpen in_one_order old table new
-group_opened table old new f inner outer moved none allowance was now = record {
+    old.depth_left ≡ new.depth_left → old.failed ≡ false → new.failed ≡ false → GroupIsOpen in_one_order old table new
+group_opened table old new f inner outer moved none depth_left was now = record {
   opened = λ w wrote. opened old new f w outer moved none wrote ∙ ap (λ i. inside i (written_without w) []) inner;
   had_not_failed = was;
   no_failure = now;
-  same_allowance = sym allowance;
+  same_depth = sym depth_left;
 }
 
 -- Closing.
 
 pub scope_closed : (old new : RecordEncoder) (f : Frame) (head : Head) (x : Record) → f.inner ≡ Scope head → record_of x ≡ holding (head_of head) (records_of old.records.items) →
     old.outer.items ≡ new.outer.items ++ f ∷ [] → new.records.items ≡ f.records.items ++ x ∷ [] →
-    new.allowance ≡ suc old.allowance → old.failed ≡ false → new.failed ≡ false → ScopeIsClosed in_one_order old new
-scope_closed old new f head x inner is outer records allowance was now = record {
+    new.depth_left ≡ suc old.depth_left → old.failed ≡ false → new.failed ≡ false → ScopeIsClosed in_one_order old new
+scope_closed old new f head x inner is outer records depth_left was now = record {
   closed = λ h rs w wrote.
       let outside = inside_all outermost new.outer.items (records_of f.records.items) in
       let stood : in_scope (head_of head) (records_of old.records.items) outside ≡ in_scope (head_without h) (without_constraints rs) (written_without w) =
@@ -137,13 +137,13 @@ scope_closed old new f head x inner is outer records allowance was now = record 
       (ap (λ q. q ∷ []) (is ∙ ap (λ k. holding k (records_of old.records.items)) same_head ∙ ap (holding (head_without h)) same_inner ∙ sym (record_without-holding h rs))) same_outside;
   had_not_failed = was;
   no_failure = now;
-  one_more = allowance;
+  one_more = depth_left;
 }
 
 pub group_closed : (old new : RecordEncoder) (f : Frame) → f.inner ≡ Group →
     old.outer.items ≡ new.outer.items ++ f ∷ [] → records_of new.records.items ≡ records_of f.records.items ++ group_records no_table (Some (records_of old.records.items)) →
-    new.allowance ≡ old.allowance → old.failed ≡ false → new.failed ≡ false → GroupIsClosed in_one_order old new
-group_closed old new f inner outer records allowance was now = record {
+    new.depth_left ≡ old.depth_left → old.failed ≡ false → new.failed ≡ false → GroupIsClosed in_one_order old new
+group_closed old new f inner outer records depth_left was now = record {
   closed = λ table rs w wrote.
       let outside = inside_all outermost new.outer.items (records_of f.records.items) in
       let stood : in_group no_table (records_of old.records.items) outside ≡ in_group no_table (without_constraints rs) (written_without w) =
@@ -154,7 +154,7 @@ group_closed old new f inner outer records allowance was now = record {
       (ap (λ l. group_records no_table (Some l)) same_inner ∙ sym (group_records-without table rs)) same_outside;
   had_not_failed = was;
   no_failure = now;
-  same_allowance = allowance;
+  same_depth = depth_left;
 }
 
 own_error : (old new : RecordEncoder) (m : _) → old.failed ≡ false → new.failed ≡ true → IsError in_one_order old new (Custom m)
@@ -257,8 +257,8 @@ known old rs T new (Ok x) wrote fact = record {
   written = wrote.written;
   no_failure = wrote.no_failure;
   unless_failed = wrote.unless_failed;
-  same_allowance = wrote.same_allowance;
-  within_allowance = wrote.within_allowance;
+  same_depth = wrote.same_depth;
+  within_depth = wrote.within_depth;
   of_type = fact;
 }
 known old rs T new (Err e) wrote fact = wrote

@@ -1,7 +1,7 @@
 -- What a record encoder has written.
 use Rattle.std.specs.Prelude.{◌≡◌, List, [], ◌∷◌}
-use Rattle.asn1_enc.specs.Orders.{up_to_order}
-use Rattle.asn1_enc.specs.Writing.{Writer, Written, outermost, in_scope, in_group}
+use Rattle.asn1_codec.specs.WritingUpToOrder.{up_to_order}
+use Rattle.asn1_codec.specs.Writing.{Writer, Written, outermost, in_scope, in_group}
 use Rattle.asn1_model.specs.Records as model
 use Rattle.asn1_model.specs.Tables.{no_table}
 use Rattle.asn1_records.specs.Records.{head_of, records_of}
@@ -30,7 +30,7 @@ abbrev pub in_one_order : Writer RecordEncoder
 in_one_order = record {
   wrote = λ e w. written_so_far e ≡ written_without w;
   failed = λ e. e.failed;
-  allowance = λ e. e.allowance;
+  depth_left = λ e. e.depth_left;
   rejects = λ rs. ⊥;
 }
 

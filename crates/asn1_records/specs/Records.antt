@@ -13,8 +13,7 @@ use Rattle.asn1_records.specs.declared.record.Head.{Head}
 use Rattle.asn1_records.specs.declared.record.Head.TheVariants.{Sequence, Set, SequenceOf, SetOf, Prefix, Alternative}
 use Rattle.asn1_records.specs.declared.record.Mark.{Mark}
 use Rattle.asn1_records.specs.declared.record.Mark.TheVariants.{Present, Absent, GroupStart, GroupAbsent, GroupEnd}
-use Rattle.asn1_records.specs.declared.record.Side.{Side}
-use Rattle.asn1_records.specs.declared.record.Side.TheVariants.{Root, Additions}
+use Rattle.asn1_codec.specs.Sides.{side_of}
 use Rattle.asn1_records.specs.declared.record.Record.{Record, Record-F}
 use Rattle.asn1_records.specs.declared.record.Record.TheOpen.{Scalar, Scope, Raw, Mark as MarkRecord}
 use Rattle.asn1_records.specs.declared.record.Record.TheFolds.{fold-Record}
@@ -36,11 +35,6 @@ head_of (SequenceOf t n) = model.sequence_of t unconstrained (name_of n)
 head_of (SetOf t n) = model.set_of t unconstrained (name_of n)
 head_of (Prefix t n) = model.prefix t (name_of n)
 head_of (Alternative t n) = model.alternative t unconstrained no_table (name_of n)
-
--- where the component of a presence mark is
-abbrev pub side_of : Side → model.Side
-side_of Root = model.in_root
-side_of Additions = model.in_additions
 
 -- the presence mark
 abbrev pub mark_of : Mark → model.Mark

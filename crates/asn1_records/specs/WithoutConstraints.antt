@@ -5,7 +5,7 @@ use Rattle.std.specs.List.{find}
 use Rattle.std.specs.Option.{option_map}
 use Rattle.std.specs.Ordering.{int_eq}
 use Rattle.asn1_enumerations.specs.Labels.{Labels, all_labels}
-use Rattle.asn1_enc.specs.Writing.{Written, outermost, in_scope, in_group}
+use Rattle.asn1_codec.specs.Writing.{Written, outermost, in_scope, in_group}
 use Rattle.asn1_model.specs.ConstraintSets.{unconstrained}
 use Rattle.asn1_model.specs.Records.{Record, Records, none, more, scalar, scope, raw, mark, Content, null, truth, number, discriminant, arcs, bits, units, Head, sequence, set, sequence_of, set_of, prefix, alternative, Mark, present, absent, group_start, group_absent, group_end}
 use Rattle.asn1_model.specs.Tables.{no_table}

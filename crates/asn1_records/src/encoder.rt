@@ -5,9 +5,10 @@ ghost use Rattle.std.specs.Prelude.{◌+◌, ◌<◌, ◌^◌};
 use crate::content::Content;
 use crate::frame::{Frame, Inner};
 use crate::group::append_group;
-use crate::record::{Head, Mark, Record, Side};
+use crate::record::{Head, Mark, Record};
 use asn1_bounds::{Codec, Constraints};
 use asn1_choices::Choice;
+use asn1_codec::Side;
 use asn1_components::FieldTable;
 use asn1_enc::{EncodeError, Encoder};
 use asn1_enumerations::EnumeratedTable;
@@ -21,11 +22,11 @@ use std::mem;
 #[derive(Drop)]
 pub struct RecordEncoder {
     alloc: Global,
-    allowance: usize,
+    depth_left: usize,
     failed: bool,
     records: Vec<Record>,
     outer: Vec<Frame>,
-    ghost counted: { allowance + scopes_in outer.items < 2 ^ 64 },
+    ghost counted: { depth_left + scopes_in outer.items < 2 ^ 64 },
 }
 
 impl RecordEncoder {
@@ -33,8 +34,8 @@ impl RecordEncoder {
     ghost use Rattle.asn1_records.specs.Encoder.{record_writer};
     ghost use Rattle.asn1_records.specs.Records.{content_of, head_of, mark_of, record_of};
     ghost use Rattle.asn1_records.specs.WithoutConstraints.{content_without, head_without, mark_without, record_without};
-    ghost use Rattle.asn1_enc.specs.declared.error.EncodeError.TheVariants.{Memory};
-    ghost use Rattle.asn1_enc.specs.Writing.{Closes, ClosesGroup, Opens, OpensGroup, Refuses, Writes, outermost};
+    ghost use Rattle.asn1_codec.specs.declared.encode_error.EncodeError.TheVariants.{Memory};
+    ghost use Rattle.asn1_codec.specs.Writing.{ClosesScope, ClosesGroup, OpensScope, OpensGroup, IsOutOfMemory, Writes, outermost};
     ghost use Rattle.asn1_model.specs.ConstraintSets.{ConstraintSet};
     ghost use Rattle.asn1_model.specs.Records as model;
     ghost use Rattle.asn1_model.specs.Records.{height, mark, scalar};
@@ -42,16 +43,16 @@ impl RecordEncoder {
     ghost use Rattle.asn1_tags.specs.Names.{name_of};
     ghost use Rattle.std.specs.Prelude.{◌≡◌, [], ◌∷◌, ⊤, IfOk, List, false};
 
-    /// An encoder that may open so many scopes in one another, and has written nothing.
+    /// An encoder that may open this many nested scopes, and has written nothing.
     #[tactic(auto, using(crate::proofs::Writing::begins))]
     pub fn new(alloc: Global, depth: usize) -> RecordEncoder
         ensures nothing_written { record_writer.wrote result (outermost []) }
-        ensures allowance { record_writer.allowance result ≡ depth }
+        ensures depth_left { record_writer.depth_left result ≡ depth }
         ensures no_failure { record_writer.failed result ≡ false }
     {
         RecordEncoder {
             alloc,
-            allowance: depth,
+            depth_left: depth,
             failed: false,
             records: Vec::new(alloc),
             outer: Vec::new(alloc),
@@ -68,7 +69,7 @@ impl RecordEncoder {
 
     /// Makes the encoder failed, and answers the error, or `Failed` if it had failed before.
     fn fail(&mut self, error: EncodeError) -> EncodeError
-        ensures { error ≡ Memory → Refuses record_writer self.old self.new result }
+        ensures { error ≡ Memory → IsOutOfMemory record_writer self.old self.new result }
     {
         if self.failed {
             return EncodeError::Failed;
@@ -120,17 +121,17 @@ impl RecordEncoder {
     /// Opens a scope.
     fn open_scope(&mut self, head: Head) -> Result<(), EncodeError>
         ensures { (h : model.Head) → head_of head ≡ head_without h →
-            Opens record_writer self.old h self.new result }
+            OpensScope record_writer self.old h self.new result }
     {
         if self.failed {
             return Err(EncodeError::Failed);
         }
-        if self.allowance == 0 {
+        if self.depth_left == 0 {
             self.failed = true;
             return Err(EncodeError::Depth);
         }
         let records = mem::replace(&mut self.records, Vec::new(self.alloc));
-        self.allowance -= 1;
+        self.depth_left -= 1;
         if let Err(_) = self.outer.push(Frame {
             records,
             inner: Inner::Scope(head),
@@ -143,7 +144,7 @@ impl RecordEncoder {
 
     /// Closes the innermost scope.
     fn close_scope(&mut self) -> Result<(), EncodeError>
-        ensures { Closes record_writer self.old self.new result }
+        ensures { ClosesScope record_writer self.old self.new result }
     {
         if self.failed {
             return Err(EncodeError::Failed);
@@ -157,7 +158,7 @@ impl RecordEncoder {
             return Err(EncodeError::Custom("a group is open"));
         };
         let closed = mem::replace(&mut self.records, records);
-        self.allowance += 1;
+        self.depth_left += 1;
         if let Err(_) = self.records.push(Record::Scope(head, closed)) {
             self.failed = true;
             return Err(EncodeError::Memory);
@@ -210,7 +211,7 @@ impl RecordEncoder {
 #[tactic(auto, using(crate::proofs::Writing::known))]
 impl Encoder for RecordEncoder {
     ghost use Rattle.asn1_records.specs.Encoder.{in_one_order, record_writer};
-    ghost use Rattle.asn1_enc.proofs.UpToOrder.{lawful};
+    ghost use Rattle.asn1_codec.proofs.WritingUpToOrder.{lawful};
     ghost use Rattle.std.specs.Prelude.{◌≡◌};
 
     ghost writer = { record_writer };
@@ -222,7 +223,7 @@ impl Encoder for RecordEncoder {
     }
 
     fn depth(&self) -> usize {
-        self.allowance
+        self.depth_left
     }
 
     fn global(&self) -> Global {

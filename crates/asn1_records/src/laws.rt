@@ -1,6 +1,6 @@
 //! Laws of what no other contract names: what the encoder is as types see it, what holds of outputs whatever is written, and what
 //! derives give.
-ghost use Rattle.asn1_enc.specs.Writing.{Written};
+ghost use Rattle.asn1_codec.specs.Writing.{Written};
 ghost use Rattle.asn1_model.specs.Orders.{SameRecords};
 ghost use Rattle.asn1_model.specs.Records as model;
 ghost use Rattle.asn1_records.specs.Carried.{Carries};
@@ -10,7 +10,7 @@ ghost use Rattle.asn1_tags.specs.Derives.{ClonesAll, ComparesAll};
 ghost use Rattle.std.specs.Prelude.{◌≡◌, ◌↔◌, IsTrue, List};
 
 use crate::encoder::RecordEncoder;
-use crate::record::{Head, Mark, Record, Side};
+use crate::record::{Head, Mark, Record};
 use asn1_enc::Encoder;
 
 /// A law of the encoder: types see it as having written what `record_writer` says, and it rejects nothing.
@@ -34,12 +34,10 @@ pub fn heads_are_compared_by_what_they_are(a: &Head, b: &Head) -> bool
     a == b
 }
 
-/// A law of the derives: two presence marks, and two sides, are equal if and only if they are the same, and clones of marks,
-/// heads and sides are their sources.
+/// A law of the derives: two presence marks are equal if and only if they are the same, and clones of marks and heads are their
+/// sources.
 pub fn derives_keep_what_a_value_is()
     ensures marks { ComparesAll ⟦<Mark as PartialEq>⟧.eq }
     ensures clones_of_marks { ClonesAll ⟦<Mark as Clone>⟧.is_clone ⟦<Mark as Clone>⟧.is_infallible }
-    ensures sides { ComparesAll ⟦<Side as PartialEq>⟧.eq }
-    ensures clones_of_sides { ClonesAll ⟦<Side as Clone>⟧.is_clone ⟦<Side as Clone>⟧.is_infallible }
     ensures clones_of_heads { ClonesAll ⟦<Head as Clone>⟧.is_clone ⟦<Head as Clone>⟧.is_infallible }
 {}

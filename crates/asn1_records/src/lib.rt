@@ -30,6 +30,7 @@ mod group;
 pub mod laws;
 mod record;
 
+pub use asn1_codec::Side;
 pub use content::Content;
 pub use encoder::RecordEncoder;
-pub use record::{Head, Mark, Record, Side};
+pub use record::{Head, Mark, Record};

@@ -4,6 +4,7 @@ ghost use Rattle.asn1_model.specs.Records.{is_mark};
 ghost use Rattle.std.specs.Prelude.{◌≡◌};
 
 use crate::content::Content;
+use asn1_codec::Side;
 use asn1_tags::{Identifier, Tag};
 use asn1_types::Any;
 
@@ -36,15 +37,6 @@ pub enum Head {
     Prefix(Tag, Identifier),
     /// The chosen alternative of a CHOICE, by the tag of the alternative.
     Alternative(Tag, Identifier),
-}
-
-/// Where a component is in its definition.
-#[derive(Clone, Copy, Debug, PartialEq, Eq)]
-pub enum Side {
-    /// In the root.
-    Root,
-    /// Among the additions.
-    Additions,
 }
 
 /// A presence mark.

@@ -8,8 +8,8 @@ use Rattle.std.specs.String.{string_eq}
 use Rattle.std.proofs.lemmas.Bool.{and_from}
 use Rattle.asn1_components.proofs.Apart.{nothing_follows, sequence_apart}
 use Rattle.asn1_components.specs.Components.{all_components}
-use Rattle.asn1_dec.specs.declared.error.DecodeError.{DecodeError}
-use Rattle.asn1_dec.specs.Reading.{MayFail, Reader, Outside}
+use Rattle.asn1_codec.specs.declared.decode_error.DecodeError.{DecodeError}
+use Rattle.asn1_codec.specs.Reading.{MayFail, Reader, Outside}
 use Rattle.asn1_model.specs.ConstraintSets.{ConstraintSet, unconstrained}
 use Rattle.asn1_model.specs.Meaning.{CanStandInside, own_records, tags}
 use Rattle.asn1_model.specs.Records.{Name, Record, highest, holding, sequence, sequence_of}
@@ -34,10 +34,10 @@ inside_node v = label_records (out-Node v).label ++ children_record v ∷ []
 pub node_can : CanStandInside node_meaning
 node_can = search rules
 
--- so that the decoder stands before its label, once the record is open
+-- so that its label remains to be read, once the record is open
 pub one_level : {D : Type 0} (R : Reader D) (d : D) (v : Node) (t : Tag) (c : ConstraintSet) (n : Name) (rest : List Record) (outer : Outside) →
-    R.stands d (node_meaning.records v t c n ++ rest, outer) → R.stands d (holding (sequence t node_table n) (inside_node v) ∷ rest, outer)
-one_level R d v t c n rest outer at = subst (λ l. R.stands d (l ++ rest, outer)) (node_agrees.records v t c n) at
+    R.remains d (node_meaning.records v t c n ++ rest, outer) → R.remains d (holding (sequence t node_table n) (inside_node v) ∷ rest, outer)
+one_level R d v t c n rest outer at = subst (λ l. R.remains d (l ++ rest, outer)) (node_agrees.records v t c n) at
 
 -- no label begins as the children do
 pub label_apart : (v : Node) → ShareNone (tags text (universal 12)) (first_tags (children_record v ∷ []))
@@ -49,7 +49,7 @@ label_apart v =
 pub two_higher : (v : Node) (t : Tag) (c : ConstraintSet) (n : Name) → highest (node_meaning.records v t c n) ≡ highest (flat_map (own_records node_meaning) (children_of v)) + 2
 two_higher v t c n = node_height v
 
--- a failure so many scopes inside
+-- a failure this many scopes inside
 pub fails_deeper : {e : DecodeError} {a g : ℕ} (b h scopes : ℕ) → b ≡ a + scopes → g + scopes ≤ h → MayFail a g e → MayFail b h e
 fails_deeper b h scopes deeper low (inl memory) = inl memory
 fails_deeper b h scopes deeper low (inr deep) = inr (deep.0, omega (arith, deep.1, deeper, low))

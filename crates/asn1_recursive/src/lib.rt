@@ -17,7 +17,7 @@
 //!   fold, and what a value has by its type is said of all labels inside it. Tables, meaning and writer are proved to say the
 //!   same.
 //! - The records of a `Node` are written out (`node_records`, `node_is_two_higher_than_its_children`).
-//! - A `Node` is read by two functions that call each other. Each node opens two scopes, so the allowance of the decoder ends the
+//! - A `Node` is read by two functions that call each other. Each node opens two scopes, so the depth left of the decoder ends the
 //!   recursion, whatever the input.
 //! - [`laws`] says when two nodes are equal, and which names the tables have.
 //!

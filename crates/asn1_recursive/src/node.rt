@@ -122,7 +122,7 @@ pub fn node_records(parent: &Node, child: &Node, label: &Utf8String)
         []) ∷ []) ∷ []) ∷ [] }
 {}
 
-/// How many records are in one another in a node: two more than in its children, which are in a SEQUENCE and in a SEQUENCE OF.
+/// How deep the records of a node are nested: two more than in its children, which are in a SEQUENCE and in a SEQUENCE OF.
 /// So many scopes have to be open at once to write it.
 #[tactic(auto, using(crate::proofs::NodeHeights::node_height))]
 pub fn node_is_two_higher_than_its_children(node: &Node)

@@ -1,5 +1,5 @@
 //! How a node is read: by two functions that call each other.
-ghost use Rattle.asn1_dec.specs.Reading.{Keeps, Moves, Outside, ReadsBack};
+ghost use Rattle.asn1_codec.specs.Reading.{KeepsDepth, Advances, Outside, ReadsBack};
 ghost use Rattle.asn1_model.specs.ConstraintSets.{unconstrained};
 ghost use Rattle.asn1_model.specs.Meaning.{own_records};
 ghost use Rattle.asn1_model.specs.Records.{Head, Name, Record, highest};
@@ -13,14 +13,14 @@ use crate::node::Node;
 use asn1_dec::{DecodeError, Decoder};
 use asn1_types::{Constraints, Tag};
 
-/// A node under a tag. It opens two scopes before its children are read, so the allowance ends the recursion.
+/// A node under a tag. It opens two scopes before its children are read, so the depth left ends the recursion.
 #[cycle(nodes)]
 pub(crate) fn read_node<D: Decoder>(decoder: &mut D, tag: Tag) -> Result<Node, DecodeError>
     ensures read { (v : Node) (n : Name) (rest : List Record) (outer : Outside) →
         node_is_of_type v → node_is_valid D.reader.takes v →
         ReadsBack D.reader decoder.old decoder.new (node_meaning.records v tag unconstrained n) rest
         outer (λ w. ⟦<Node as PartialEq>⟧.eq w v ≡ true) result }
-    ensures keeps { Keeps D.reader decoder.old decoder.new result }
+    ensures keeps_depth { KeepsDepth D.reader decoder.old decoder.new result }
 {
     decoder.open_sequence::<Node>(tag)?;
     let label = decoder.decode_optional()?;
@@ -31,17 +31,17 @@ pub(crate) fn read_node<D: Decoder>(decoder: &mut D, tag: Tag) -> Result<Node, D
     Ok(Node { label, children })
 }
 
-/// The nodes that are left in the innermost scope, of which there are at most so many.
+/// The nodes that are left in the innermost scope, of which there are at most this many.
 #[cycle(nodes)]
 fn read_children<D: Decoder>(decoder: &mut D, bound: usize) -> Result<Vec<Node>, DecodeError>
     ensures read { (vs : List Node) (scope : Head × List Record) (outer : Outside) →
         All node_is_of_type vs → All (node_is_valid D.reader.takes) vs → length vs ≤ bound →
-        Moves D.reader decoder.old decoder.new (highest (flat_map (own_records node_meaning) vs))
+        Advances D.reader decoder.old decoder.new (highest (flat_map (own_records node_meaning) vs))
         (flat_map (own_records node_meaning) vs, scope ∷ outer) ([], scope ∷ outer)
         (λ w. pointwise ⟦<Node as PartialEq>⟧.eq w.items vs ≡ true) result }
-    ensures same_allowance { OnOk result (D.reader.allowance decoder.new ≡
-        D.reader.allowance decoder.old) }
-    ensures failing { OnErr result (D.reader.failed decoder.new ≡ true) }
+    ensures same_depth { OnOk result (D.reader.depth_left decoder.new ≡
+        D.reader.depth_left decoder.old) }
+    ensures has_failed { OnErr result (D.reader.failed decoder.new ≡ true) }
 {
     let mut children = Vec::new(decoder.global());
     for _index in 0..bound {

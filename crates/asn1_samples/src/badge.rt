@@ -2,7 +2,7 @@
 ghost use Rattle.std.specs.Prelude.{◌≡◌, [], ◌∷◌, None, OnOk, Some, map, pos, codes};
 ghost use Rattle.asn1_types.specs.Words.{lines, table_of, in_root, context, universal, untagged, required, optional, set, constructed_type, constructed_agrees, CanStandInside, own_records, holding, set_head, alternative_head, scalar, mark, absent, present, number, null, units, visible, unconstrained, values_of, Range};
 ghost use Rattle.asn1_components.specs.Components.{all_components, root_entries, table};
-ghost use Rattle.asn1_dec.specs.SetParts.{EachFits, MakesValue};
+ghost use Rattle.asn1_codec.specs.SetParts.{EachFits, MakesValue};
 ghost use Rattle.asn1_fields.specs.CanonicalOrder.{IsCanonical};
 ghost use Rattle.asn1_fields.specs.Entries.{component_of};
 ghost use Rattle.asn1_samples.specs.declared.shape.Shape.TheVariants.{Dot, Ring};
@@ -116,7 +116,7 @@ impl EncodeFields for Badge {
 
 impl DecodeSet for Badge {
     ghost use Rattle.asn1_samples.specs.BadgeParts.{IsBadgePart, badge_index};
-    ghost use Rattle.asn1_dec.proofs.OneRecordEach.{optional_is_one};
+    ghost use Rattle.asn1_codec.proofs.OneRecordEach.{optional_is_one};
     ghost use Rattle.std.proofs.Common.{rules, lit≤};
 
     type Part = BadgePart;

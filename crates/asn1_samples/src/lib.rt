@@ -24,8 +24,8 @@
 //!   which what follows does not begin with; so it is in a group whose last components are absent, where what follows is after
 //!   the group, as the note of a `Visit` is. The proof too has a line for each component, by the steps of `PartWays` of `asn1_dec`. A tag that no alternative
 //!   has is refused with the name of the CHOICE.
-//! - Each can be inside other types: `person_can_stand_inside` and its kin.
-//! - The records of some values are written out: `person_records` and its kin.
+//! - Each can be inside other types: `person_can_stand_inside` and the like.
+//! - The records of some values are written out: `person_records` and the like.
 //! - [`laws`] says which values are valid, when two values are equal, which names the tables have, and which types have an
 //!   extension marker. `envelope_is_valid` and `pair_is_valid` say when an `Envelope` and a `Pair` are valid.
 //!

@@ -1,12 +1,12 @@
 -- Why a value was not written and read back.
 use Rattle.std.specs.Prelude.{◌≡◌, ◌⊎◌, ℕ, ◌≤◌, ◌<◌, List, Result, Ok, Err}
-use Rattle.asn1_dec.specs.declared.error.DecodeError.TheVariants.{Memory, Depth}
+use Rattle.asn1_codec.specs.declared.decode_error.DecodeError.TheVariants.{Memory, Depth}
 use Rattle.asn1_model.specs.Records.{Record, highest}
 use Rattle.asn1_schema.specs.Rules.{Format, IsNotWritten}
 use Rattle.asn1_schema.specs.declared.round_trips.RoundTripError.{RoundTripError}
 use Rattle.asn1_schema.specs.declared.round_trips.RoundTripError.TheVariants.{Writing, Reading}
 
--- Writing failed as it may, or reading did, for want of memory, or since the records are higher than its depth: nothing else
+-- Writing failed as it may, or reading did, because memory ran out, or since the records are nested deeper than its depth: nothing else
 -- keeps a value that was written from being read back.
 abbrev pub FailsAs : {O : Type 0} → Format O → List Record → ℕ → ℕ → RoundTripError → Type 0
 FailsAs F rs write_depth read_depth (Writing e) = IsNotWritten F rs write_depth e

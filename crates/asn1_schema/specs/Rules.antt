@@ -1,10 +1,10 @@
 -- What a codec as a whole says of itself, and what writing and reading a value answer.
 use Rattle.std.specs.Prelude.{◌≡◌, ◌≢◌, ◌⊎◌, ℕ, ◌≤◌, ◌<◌, Bool, List, [], ◌∷◌, ◌++◌, MatchResult, Result}
-use Rattle.asn1_enc.specs.Writing.{IsCustom}
-use Rattle.asn1_enc.specs.declared.error.EncodeError.{EncodeError}
-use Rattle.asn1_enc.specs.declared.error.EncodeError.TheVariants as writing
-use Rattle.asn1_dec.specs.declared.error.DecodeError.{DecodeError}
-use Rattle.asn1_dec.specs.Reading.{MayFail}
+use Rattle.asn1_codec.specs.Writing.{IsCustom}
+use Rattle.asn1_codec.specs.declared.encode_error.EncodeError.{EncodeError}
+use Rattle.asn1_codec.specs.declared.encode_error.EncodeError.TheVariants as writing
+use Rattle.asn1_codec.specs.declared.decode_error.DecodeError.{DecodeError}
+use Rattle.asn1_codec.specs.Reading.{MayFail}
 use Rattle.asn1_model.specs.Orders.{SameRecords}
 use Rattle.asn1_model.specs.Records.{Record, Head, highest, holding}
 

@@ -16,7 +16,7 @@
 //! - An output carries lists of records (`Format` of `specs/Rules.antt`). `write_value` answers an output that carries the
 //!   value's own records, which are no higher than the depth, and tells that the value has what each value of its type has
 //!   (`IsWritten`); it fails as `IsNotWritten` says. Of an output that carries the own records of a valid value of a type that
-//!   can be inside others, `read_value` makes an equal value; it fails only for want of memory, or where the records are
+//!   can be inside others, `read_value` makes an equal value; it fails only if memory runs out, or where the records are
 //!   higher than the depth (`ReadsWhole`). An error by which a type states to refuse what it has read is answered as it
 //!   is, unless memory is short or the depth too little (`RefusesWhole`).
 //! - `round_trip` is the theorem (`back`): for every codec that keeps these laws and every such type, a valid value whose

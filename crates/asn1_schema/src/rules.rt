@@ -19,7 +19,7 @@ pub trait Rules {
     // What outputs are.
     ghost format: { Format Self.Output };
 
-    /// Writes a value under its type's own tag, constraints and name, with at most so many scopes in one another.
+    /// Writes a value under its type's own tag, constraints and name, with at most this many nested scopes.
     ///
     /// # Errors
     /// [`EncodeError::Depth`] only where the value's records are higher than the depth, [`EncodeError::Custom`] only where the
@@ -28,7 +28,7 @@ pub trait Rules {
         ensures { WritesWhole format (own_records T.meaning value.now)
             (T.meaning.IsOfType value.now) depth result };
 
-    /// Reads a value, with at most so many scopes in one another.
+    /// Reads a value, with at most this many nested scopes.
     ///
     /// # Errors
     /// Where the output carries the own records of a valid value of a well-tagged type, [`DecodeError::Depth`] only where these
@@ -39,7 +39,7 @@ pub trait Rules {
             T.meaning.IsValid format.takes v → format.carries output.now (own_records T.meaning v) →
             ReadsWhole (highest (own_records T.meaning v)) depth (λ w. T.eq w v ≡ true) result }
         ensures refuses { (rs : List Record) (error : _) →
-            T.refused format.takes T.meaning.tag T.meaning.constraints rs error →
+            T.refusals format.takes T.meaning.tag T.meaning.constraints rs error →
             format.carries output.now rs → RefusesWhole (highest rs) depth error result };
 
     // The law of a codec.

@@ -166,7 +166,7 @@ fn valid_values()
         ⟦<OctetString as AsnType>⟧.meaning.IsValid takes octets }
 {}
 
-/// A type that is no CHOICE has a tag, and an option stands in no list and in no option.
+/// A type that is no CHOICE has a tag, and an option is in no list and in no option.
 fn well_tagged_types()
     ensures under_a_tag { ⟦<Option<bool> as AsnType>⟧.meaning.IsWellTagged (context 0) }
     ensures under_none { ¬ ⟦<bool as AsnType>⟧.meaning.IsWellTagged CHOICE }
@@ -190,7 +190,7 @@ fn sameness()
     ensures contents { ¬ Same (raw None []) (raw None (0 ∷ [])) }
 {}
 
-/// Heights: of contents and marks 0, of a scope one more than what stands in it, and 1 where nothing does.
+/// Heights: of contents and marks 0, of a scope one more than what is in it, and 1 where nothing does.
 fn heights()
     ensures nothing { highest [] ≡ 0 }
     ensures flat { highest (mark (group_start no_table) ∷ raw None [] ∷ mark group_end ∷ []) ≡ 0 }
@@ -200,7 +200,7 @@ fn heights()
         (mark (absent in_root (context 1)) ∷ []))) ≡ 2 }
 {}
 
-/// First tags: marks are passed over, and a value that stands as its bytes may begin with every tag.
+/// First tags: marks are passed over, and a value that is given as its bytes may begin with every tag.
 fn firsts()
     ensures nothing { first_tags (mark (absent in_root (context 0)) ∷ mark group_absent ∷ []) ≡
         among [] }

@@ -25,7 +25,7 @@ use std::alloc::Global;
 use std::hash::{DefaultHasher, Hash, Hasher};
 use std::process::Abort;
 
-/// How often an element stands in a set counts, and its place does not. One that is not equal to itself stands nowhere.
+/// How often an element is in a set counts, and its place does not. One that is not equal to itself is nowhere.
 fn sets_by_definition()
     ensures turned { same_counts nat_eq (1 ∷ 2 ∷ 3 ∷ 4 ∷ 5 ∷ []) (5 ∷ 4 ∷ 3 ∷ 2 ∷ 1 ∷ []) ≡ true }
     ensures another { same_counts nat_eq (1 ∷ 2 ∷ 3 ∷ 4 ∷ 5 ∷ []) (1 ∷ 2 ∷ 3 ∷ 4 ∷ 6 ∷ []) ≡ false }
@@ -99,7 +99,7 @@ fn instance_of_truth(instance: &InstanceOf<bool>)
         true) ∷ []) ∷ []) ∷ [] }
 {}
 
-/// Which tags a wrapper may have: none that stands for no tag, and an implicit one no open type.
+/// Which tags a wrapper may have: none that means no tag, and an implicit one no open type.
 fn wrappers_under_tags()
     ensures tagged { ⟦<Implicit<tag::SET, bool> as AsnType>⟧.meaning.IsWellTagged (context 1) }
     ensures untagged { ⟦<Implicit<tag::SET, bool> as AsnType>⟧.meaning.IsWellTagged CHOICE → ⊥ }
@@ -167,7 +167,7 @@ fn sets_are_equal_in_any_order(rt: HostRuntime) {
     assert_sets(&rt, alloc, &[], &[], true);
 }
 
-/// Asserts whether the number can be taken out of the set, of which so many numbers are left, 1 among them.
+/// Asserts whether the number can be taken out of the set, of which this many numbers are left, 1 among them.
 fn assert_remove(
     rt: &impl Abort,
     numbers: &mut SetOf<u8>,

@@ -143,7 +143,7 @@ fn write_all_or_no_memory<E: Encoder>(rt: &impl Abort, encoder: &mut E) {
     assert_done_or_memory(rt, encoder, answer);
 }
 
-/// Each allocation may be refused: the first error is then for want of memory.
+/// Each allocation may be refused: the first error then says that memory ran out.
 #[test]
 fn memory_runs_out(rt: HostRuntime) {
     write_all_or_no_memory(&rt, &mut RecordEncoder::new(rt.alloc(), 1));

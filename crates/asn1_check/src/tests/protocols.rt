@@ -1,4 +1,4 @@
-//! The tables of real protocols that stand in the folder examples, each with its verdicts.
+//! The tables of real protocols in the folder examples, each with its verdicts.
 use super::assert_report;
 
 /// A table and what is written for it.

@@ -99,7 +99,7 @@ impl Write for Page {
     }
 }
 
-// What stands on the page is the first bytes of the report, so many.
+// What is on the page is this many first bytes of the report.
 fn assert_written(rt: &impl Abort, page: &Page, length: usize) {
     assert!(rt; page.length == length && length <= 256 && length <= REPORT.len());
     assert!(rt; &page.bytes[..length] == &REPORT[..length]);

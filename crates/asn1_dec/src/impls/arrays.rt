@@ -1,16 +1,16 @@
 //! Reading of arrays (X.680, 26).
-ghost use Rattle.asn1_dec.specs.Refusals.{HasOtherLength};
+ghost use Rattle.asn1_codec.specs.Refusals.{HasOtherLength};
 
 use crate::decode::Decode;
 use crate::decoder::Decoder;
-use crate::error::DecodeError;
 use asn1_bounds::Constraints;
+use asn1_codec::DecodeError;
 use asn1_tags::Tag;
 use asn1_types::Array;
 
 impl<T: Decode, const N: usize> Decode for Array<T, N> {
     // A list of another number of valid elements.
-    ghost refused = { HasOtherLength T.meaning N };
+    ghost refusals = { HasOtherLength T.meaning N };
 
     /// Reads a value under a tag and constraints. A list of another number of elements is read, and the error is
     /// [`DecodeError::IncorrectItemNumber`].

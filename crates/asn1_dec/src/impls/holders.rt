@@ -1,6 +1,6 @@
 //! Reading of what holds a value and means the same, and of what has no content.
-ghost use Rattle.asn1_dec.specs.Reading.{LeavesDecoder, ReadsValue, Refuses};
-ghost use Rattle.asn1_dec.specs.Refusals.{no_refusals};
+ghost use Rattle.asn1_codec.specs.Reading.{AfterReading, ReadsValue, Refuses};
+ghost use Rattle.asn1_codec.specs.Refusals.{no_refusals};
 ghost use Rattle.asn1_model.specs.ConstraintSets.{constraint_set};
 ghost use Rattle.asn1_model.specs.Kinds.{empty_type};
 ghost use Rattle.std.specs.Prelude.{◌≡◌, IsOk};
@@ -8,8 +8,8 @@ ghost use Rattle.std.specs.Prelude.{◌≡◌, IsOk};
 use crate::boxes::read_boxed;
 use crate::decode::Decode;
 use crate::decoder::Decoder;
-use crate::error::DecodeError;
 use asn1_bounds::Constraints;
+use asn1_codec::DecodeError;
 use asn1_model::AsnType;
 use asn1_tags::Tag;
 use std::borrow::Cow;
@@ -17,7 +17,7 @@ use std::marker::PhantomData;
 
 impl<T: Decode> Decode for Box<T> {
     // What its content refuses.
-    ghost refused = { T.refused };
+    ghost refusals = { T.refusals };
 
     fn decode_with_tag_and_constraints<D: Decoder>(
         decoder: &mut D,
@@ -32,7 +32,7 @@ impl<T: Decode> Decode for Box<T> {
 
 impl<T: Decode> Decode for Cow<'_, T> {
     // What its content refuses.
-    ghost refused = { T.refused };
+    ghost refusals = { T.refusals };
 
     fn decode_with_tag_and_constraints<D: Decoder>(
         decoder: &mut D,
@@ -53,8 +53,8 @@ impl<T: AsnType> Decode for PhantomData<T> {
     ) -> Result<PhantomData<T>, DecodeError>
         ensures read { ReadsValue D.reader empty_type ⟦<PhantomData<T> as PartialEq>⟧.eq tag
             (constraint_set constraints.now) decoder.old decoder.new result }
-        ensures leaves { LeavesDecoder D.reader empty_type tag (constraint_set constraints.now)
-            decoder.old decoder.new result }
+        ensures after_reading { AfterReading D.reader empty_type tag
+            (constraint_set constraints.now) decoder.old decoder.new result }
         ensures refuses { Refuses D.reader no_refusals tag (constraint_set constraints.now)
             decoder.old decoder.new result }
         ensures nothing { IsOk result × (decoder.new ≡ decoder.old) }

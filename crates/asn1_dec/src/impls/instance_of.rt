@@ -1,8 +1,8 @@
 //! Reading of INSTANCE OF (X.681, annex C).
 use crate::decode::{Decode, DecodeFields};
 use crate::decoder::Decoder;
-use crate::error::DecodeError;
 use asn1_bounds::Constraints;
+use asn1_codec::DecodeError;
 use asn1_strings::ObjectIdentifier;
 use asn1_tags::{Class, Tag};
 use asn1_types::InstanceOf;

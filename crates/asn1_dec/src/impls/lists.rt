@@ -1,8 +1,8 @@
 //! Reading of lists of elements (X.680, 26 and 28).
 use crate::decode::Decode;
 use crate::decoder::Decoder;
-use crate::error::DecodeError;
 use asn1_bounds::Constraints;
+use asn1_codec::DecodeError;
 use asn1_tags::Tag;
 use asn1_types::SetOf;
 

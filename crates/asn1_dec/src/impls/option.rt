@@ -1,13 +1,13 @@
 //! Reading of components that may be absent (X.680, 25.1).
-ghost use Rattle.asn1_dec.specs.Reading.{Keeps, LeavesDecoder, ReadsValue, Refuses};
-ghost use Rattle.asn1_dec.specs.Refusals.{no_refusals};
+ghost use Rattle.asn1_codec.specs.Reading.{KeepsDepth, AfterReading, ReadsValue, Refuses};
+ghost use Rattle.asn1_codec.specs.Refusals.{no_refusals};
 ghost use Rattle.asn1_model.specs.ConstraintSets.{constraint_set};
 ghost use Rattle.asn1_model.specs.Kinds.{option_type};
 
 use crate::decode::Decode;
 use crate::decoder::Decoder;
-use crate::error::DecodeError;
 use asn1_bounds::Constraints;
+use asn1_codec::DecodeError;
 use asn1_tags::Tag;
 
 impl<T: Decode> Decode for Option<T> {
@@ -20,11 +20,11 @@ impl<T: Decode> Decode for Option<T> {
     ) -> Result<Option<T>, DecodeError>
         ensures read { ReadsValue D.reader (option_type T.meaning) ⟦<Option<T> as PartialEq>⟧.eq tag
             (constraint_set constraints.now) decoder.old decoder.new result }
-        ensures leaves { LeavesDecoder D.reader (option_type T.meaning) tag
+        ensures after_reading { AfterReading D.reader (option_type T.meaning) tag
             (constraint_set constraints.now) decoder.old decoder.new result }
         ensures refuses { Refuses D.reader no_refusals tag (constraint_set constraints.now)
             decoder.old decoder.new result }
-        ensures keeps { Keeps D.reader decoder.old decoder.new result }
+        ensures keeps_depth { KeepsDepth D.reader decoder.old decoder.new result }
     {
         decoder.decode_optional_with_tag_and_constraints(tag, constraints)
     }

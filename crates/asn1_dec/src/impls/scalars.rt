@@ -1,10 +1,10 @@
 //! Reading of NULL, BOOLEAN and INTEGER (X.680, 18, 19 and 24).
-ghost use Rattle.asn1_dec.specs.Refusals.{IsOutside};
+ghost use Rattle.asn1_codec.specs.Refusals.{IsOutside};
 
 use crate::decode::Decode;
 use crate::decoder::Decoder;
-use crate::error::DecodeError;
 use asn1_bounds::Constraints;
+use asn1_codec::DecodeError;
 use asn1_tags::Tag;
 use asn1_values::{Integer, LimitedInteger, Limits};
 
@@ -150,7 +150,7 @@ impl Decode for Integer {
 
 impl<L: Limits> Decode for LimitedInteger<L> {
     // A number outside the limits.
-    ghost refused = { λ takes. IsOutside L.start L.end };
+    ghost refusals = { λ takes. IsOutside L.start L.end };
 
     /// Reads a value under a tag and constraints. A number that is outside the limits is read, and the error is
     /// [`DecodeError::OutOfRange`].

@@ -1,15 +1,15 @@
 //! Reading of types under other tags, and of open types (X.680, 31; X.681, 14).
 use crate::decode::Decode;
 use crate::decoder::Decoder;
-use crate::error::DecodeError;
 use asn1_bounds::Constraints;
+use asn1_codec::DecodeError;
 use asn1_model::AsnType;
 use asn1_tags::Tag;
 use asn1_types::{Any, Explicit, Implicit};
 
 impl<T: AsnType, V: Decode> Decode for Implicit<T, V> {
     // What its content refuses.
-    ghost refused = { V.refused };
+    ghost refusals = { V.refusals };
 
     fn decode_with_tag_and_constraints<D: Decoder>(
         decoder: &mut D,

@@ -1,8 +1,8 @@
 //! Writing of what holds a value and means the same, of options, and of what has no content.
 use crate::encode::Encode;
 use crate::encoder::Encoder;
-use crate::error::EncodeError;
 use asn1_bounds::Constraints;
+use asn1_codec::EncodeError;
 use asn1_model::AsnType;
 use asn1_tags::{Identifier, Tag};
 use std::borrow::Cow;

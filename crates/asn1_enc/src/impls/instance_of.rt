@@ -1,8 +1,8 @@
 //! Writing of INSTANCE OF (X.681, annex C).
 use crate::encode::{Encode, EncodeFields};
 use crate::encoder::Encoder;
-use crate::error::EncodeError;
 use asn1_bounds::Constraints;
+use asn1_codec::EncodeError;
 use asn1_tags::{Class, Identifier, Tag};
 use asn1_types::InstanceOf;
 

@@ -1,8 +1,8 @@
 //! Writing of lists and sets of elements (X.680, 26 and 28).
 use crate::encode::Encode;
 use crate::encoder::Encoder;
-use crate::error::EncodeError;
 use asn1_bounds::Constraints;
+use asn1_codec::EncodeError;
 use asn1_tags::{Identifier, Tag};
 use asn1_types::{Array, SetOf};
 

@@ -1,8 +1,8 @@
 //! Writing of NULL, BOOLEAN and INTEGER (X.680, 18, 19 and 24).
 use crate::encode::Encode;
 use crate::encoder::Encoder;
-use crate::error::EncodeError;
 use asn1_bounds::Constraints;
+use asn1_codec::EncodeError;
 use asn1_tags::{Identifier, Tag};
 use asn1_values::{Integer, LimitedInteger, Limits};
 

@@ -1,8 +1,8 @@
 //! Writing of strings of each kind, and of object identifiers (X.680, 22, 23, 32 and 41).
 use crate::encode::Encode;
 use crate::encoder::Encoder;
-use crate::error::EncodeError;
 use asn1_bounds::Constraints;
+use asn1_codec::EncodeError;
 use asn1_strings::{
     BitString, BmpString, GeneralString, GraphicString, Ia5String, NumericString, ObjectIdentifier,
     OctetString, PrintableString, TeletexString, VisibleString,

@@ -1,8 +1,8 @@
 //! Writing of types under other tags, and of open types (X.680, 31; X.681, 14).
 use crate::encode::Encode;
 use crate::encoder::Encoder;
-use crate::error::EncodeError;
 use asn1_bounds::Constraints;
+use asn1_codec::EncodeError;
 use asn1_model::AsnType;
 use asn1_tags::{Identifier, Tag};
 use asn1_types::{Any, Explicit, Implicit};

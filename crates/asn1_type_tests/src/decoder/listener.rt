@@ -1,7 +1,7 @@
 //! A codec that reads from no records: what it is told beside them is to be what its script says, line by line.
-ghost use Rattle.asn1_dec.specs.Reading.{Enters, Stays};
+ghost use Rattle.asn1_codec.specs.Reading.{OpensScope, OpensNothing};
 ghost use Rattle.std.specs.Prelude.{◌≡◌, MatchResult, false, true};
-ghost use Rattle.asn1_dec.specs.declared.error.DecodeError.TheVariants.{Failed};
+ghost use Rattle.asn1_codec.specs.declared.decode_error.DecodeError.TheVariants.{Failed};
 
 use asn1_bounds::{Codec, Constraints};
 use asn1_choices::Choice;
@@ -25,7 +25,7 @@ pub(super) enum Told {
     Group(&'static str, usize),
     /// A CHOICE of these alternatives: the name of the first, and how many there are.
     Choice(&'static str, usize),
-    /// An ENUMERATED type with so many items in its root, and so many after its extension marker.
+    /// An ENUMERATED type with this many items in its root, and this many after its extension marker.
     Items(usize, Option<usize>),
     /// A component of the root, which is asked for under a tag of this number.
     Component(u32),
@@ -84,7 +84,7 @@ impl Listener {
 
     /// A content, if there is one.
     fn content<V: Drop>(&mut self, value: Option<V>) -> Result<V, DecodeError>
-        ensures { Stays ⟦<Listener as Decoder>⟧.reader self.old self.new result }
+        ensures { OpensNothing ⟦<Listener as Decoder>⟧.reader self.old self.new result }
     {
         self.may_read()?;
         match value {
@@ -95,7 +95,7 @@ impl Listener {
 
     /// What is told is to be the next line of the script.
     fn hear(&mut self, told: Told) -> Result<(), DecodeError>
-        ensures { Stays ⟦<Listener as Decoder>⟧.reader self.old self.new result }
+        ensures { OpensNothing ⟦<Listener as Decoder>⟧.reader self.old self.new result }
     {
         self.may_read()?;
         match self.script {
@@ -109,7 +109,7 @@ impl Listener {
 
     /// Whether a component is there that is asked for in this way.
     fn hear_presence(&mut self, told: Told) -> Result<bool, DecodeError>
-        ensures { Stays ⟦<Listener as Decoder>⟧.reader self.old self.new result }
+        ensures { OpensNothing ⟦<Listener as Decoder>⟧.reader self.old self.new result }
     {
         self.hear(told)?;
         Ok(self.are_there)
@@ -117,7 +117,7 @@ impl Listener {
 
     /// The next of the tags, if one is left.
     fn next_tag(&mut self) -> Option<Tag>
-        ensures allowance { self.new.depth ≡ self.old.depth }
+        ensures depth_left { self.new.depth ≡ self.old.depth }
         ensures failed { self.new.has_failed ≡ self.old.has_failed }
     {
         let [first, rest @ ..] = self.tags else {
@@ -129,7 +129,7 @@ impl Listener {
 
     /// Opens a scope of any kind.
     fn open_scope(&mut self) -> Result<(), DecodeError>
-        ensures { Enters ⟦<Listener as Decoder>⟧.reader self.old self.new result }
+        ensures { OpensScope ⟦<Listener as Decoder>⟧.reader self.old self.new result }
     {
         self.may_read()?;
         match self.depth.checked_sub(1) {
@@ -143,7 +143,7 @@ impl Listener {
 
     /// Opens a scope of which more is told than the records say.
     fn open_told(&mut self, told: Told) -> Result<(), DecodeError>
-        ensures { Enters ⟦<Listener as Decoder>⟧.reader self.old self.new result }
+        ensures { OpensScope ⟦<Listener as Decoder>⟧.reader self.old self.new result }
     {
         self.open_scope()?;
         self.hear(told)
@@ -151,7 +151,7 @@ impl Listener {
 }
 
 impl Decoder for Listener {
-    ghost reader = { record { stands = λ _ _. ⊥; failed = λ d. d.has_failed; allowance = λ d. d.depth; takes = λ _. true } };
+    ghost reader = { record { remains = λ _ _. ⊥; failed = λ d. d.has_failed; depth_left = λ d. d.depth; takes = λ _. true } };
 
     fn codec(&self) -> Codec {
         Codec::Other(3)

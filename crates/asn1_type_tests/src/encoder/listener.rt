@@ -1,8 +1,8 @@
 //! A codec that keeps nothing of records, and of what else it is told the number of elements.
-ghost use Rattle.asn1_enc.specs.Writing.{Opens};
+ghost use Rattle.asn1_codec.specs.Writing.{OpensScope};
 ghost use Rattle.asn1_model.specs.Records.{Head};
 ghost use Rattle.std.specs.Prelude.{◌≡◌, ⊤, MatchResult, false, true};
-ghost use Rattle.asn1_enc.specs.declared.error.EncodeError.TheVariants.{Failed};
+ghost use Rattle.asn1_codec.specs.declared.encode_error.EncodeError.TheVariants.{Failed};
 
 use asn1_bounds::{Codec, Constraints};
 use asn1_choices::Choice;
@@ -50,10 +50,10 @@ impl Listener {
 impl Listener {
     /// Opens a scope of any kind.
     fn open_scope(&mut self, count: Option<usize>) -> Result<(), EncodeError>
-        ensures { (h : Head) → Opens (record {
+        ensures { (h : Head) → OpensScope (record {
           wrote = λ _ _. ⊤;
           failed = λ c. c.has_failed;
-          allowance = λ c. c.depth;
+          depth_left = λ c. c.depth;
           rejects = λ _. ⊥;
         }) self.old h self.new result }
     {
@@ -73,7 +73,7 @@ impl Listener {
 }
 
 impl Encoder for Listener {
-    ghost writer = { record { wrote = λ _ _. ⊤; failed = λ c. c.has_failed; allowance = λ c. c.depth; rejects = λ _. ⊥ } };
+    ghost writer = { record { wrote = λ _ _. ⊤; failed = λ c. c.has_failed; depth_left = λ c. c.depth; rejects = λ _. ⊥ } };
 
     fn codec(&self) -> Codec {
         Codec::Other(2)

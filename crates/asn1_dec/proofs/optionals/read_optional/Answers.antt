@@ -1,11 +1,11 @@
 use Rattle.std.proofs.Common.{◌≡◌, ap, inl, ◌∙◌}
 use Rattle.std.proofs.lemmas.Result.{err_from_is_err_and}
 use Rattle.std.specs.Prelude.{Err, refl}
-use Rattle.asn1_dec.specs.declared.error.DecodeError.TheVariants.{Memory}
+use Rattle.asn1_codec.specs.declared.decode_error.DecodeError.TheVariants.{Memory}
 use Rattle.asn1_model.specs.Tags.{tree_tags}
 use Rattle.std.specs.Prelude.{unwrap_or}
-use Rattle.asn1_dec.specs.Sides.{side_of}
-use Rattle.asn1_dec.proofs.Absence.{option_is_absent, option_is_read, option_not_told}
+use Rattle.asn1_codec.specs.Sides.{side_of}
+use Rattle.asn1_codec.proofs.ReadingOptionals.{option_is_absent, option_is_read, option_not_told}
 use Rattle.asn1_dec.proofs.optionals.read_optional.Goals as goal
 
 pub returns-in_err-is_there-clause-read : goal.returns-in_err-is_there-clause-read
@@ -31,7 +31,7 @@ returns-in_default-clause-read g c =
     let t = c.unwrap_or-tag.result in
     let is : t ≡ unwrap_or c.args.tag m.tag = c.unwrap_or-tag.ensures ∙ ap (unwrap_or c.args.tag) c.table-table.ensures.tag in
     let asked = ap tree_tags (c.under.ensures ∙ c.table-table.ensures.tree t) in
-    rw (← is, c.refuse.ensures.same) (option_is_read g.D.Decoder.reader (side_of c.args.side) m g.T.PartialEq.eq t m.constraints c.args.decoder.now c.is_there.new.decoder _ asked c.in_ok-is_there.ensures.read c.if-not-branch.false c.in_ok-is_there.ensures.stays.keeps.same_allowance c.args.decoder.now (Err Memory) (λ _ _ _ _ _ _ _ _. inl refl))
+    rw (← is, c.refuse.ensures.same) (option_is_read g.D.Decoder.reader (side_of c.args.side) m g.T.PartialEq.eq t m.constraints c.args.decoder.now c.is_there.new.decoder _ asked c.in_ok-is_there.ensures.read c.if-not-branch.false c.in_ok-is_there.ensures.opens_nothing.keeps_depth.same_depth c.args.decoder.now (Err Memory) (λ _ _ _ _ _ _ _ _. inl refl))
 
 pub returns-clause-read : goal.returns-clause-read
 returns-clause-read g c =
@@ -39,4 +39,4 @@ returns-clause-read g c =
     let t = c.unwrap_or-tag.result in
     let is : t ≡ unwrap_or c.args.tag m.tag = c.unwrap_or-tag.ensures ∙ ap (unwrap_or c.args.tag) c.table-table.ensures.tag in
     let asked = ap tree_tags (c.under.ensures ∙ c.table-table.ensures.tree t) in
-    rw (← is) (option_is_read g.D.Decoder.reader (side_of c.args.side) m g.T.PartialEq.eq t m.constraints c.args.decoder.now c.is_there.new.decoder _ asked c.in_ok-is_there.ensures.read c.if-not-branch.false c.in_ok-is_there.ensures.stays.keeps.same_allowance c.read_present.new.decoder c.read_present.result (rw (c.in-Ok.ensures.set, c.table-table.ensures.constraints) at c.read_present.ensures.read))
+    rw (← is) (option_is_read g.D.Decoder.reader (side_of c.args.side) m g.T.PartialEq.eq t m.constraints c.args.decoder.now c.is_there.new.decoder _ asked c.in_ok-is_there.ensures.read c.if-not-branch.false c.in_ok-is_there.ensures.opens_nothing.keeps_depth.same_depth c.read_present.new.decoder c.read_present.result (rw (c.in-Ok.ensures.set, c.table-table.ensures.constraints) at c.read_present.ensures.read))

@@ -3,9 +3,9 @@ use Rattle.std.proofs.lemmas.Result.{err_from_is_err_and}
 use Rattle.asn1_components.specs.Components.{all_components, lines}
 use Rattle.asn1_components.proofs.Apart.{set_apart}
 use Rattle.asn1_model.specs.Records.{set}
-use Rattle.asn1_dec.proofs.Steps.{fails_below}
-use Rattle.asn1_dec.proofs.SetItems.{records}
-use Rattle.asn1_dec.proofs.SetMidway.{comes, comes_at, filled, further, not_told, start, through}
+use Rattle.asn1_codec.proofs.ReadingSteps.{fails_below}
+use Rattle.asn1_codec.proofs.SetRecords.{records}
+use Rattle.asn1_codec.proofs.ReadingSets.{comes, comes_at, filled, further, not_told, start, through}
 use Rattle.asn1_dec.proofs.sets.read_parts.Goals as goal
 
 pub loop-place-init : goal.loop-place-init
@@ -18,16 +18,16 @@ loop-place-init g c = record {
 
 pub loop-place-preserved : goal.loop-place-preserved
 loop-place-preserved g c = record {
-  kept = omega (arith, c.loop-place.invariant.kept, c.in_ok-tag.ensures.stays.keeps.same_allowance, c.in-Ok.ensures.same_allowance);
+  kept = omega (arith, c.loop-place.invariant.kept, c.in_ok-tag.ensures.opens_nothing.keeps_depth.same_depth, c.in-Ok.ensures.same_depth);
   midway = λ v tag n items rest outer can of_type valid moved few at.
       let R = g.D.Decoder.reader in
       let cs = all_components g.S.FieldTable.components in
       let m = c.loop-place.invariant.midway v tag n items rest outer can of_type valid moved few at in
       let a = comes_at R cs v g.S.DecodeSet.index_of (g.S.DecodeSet.is_part_of v) c.in-Some-component_with_tag.index (set_apart cs can.1.0) c.in-Some-component_with_tag.ensures
-      (comes R cs v g.S.DecodeSet.index_of (g.S.DecodeSet.is_part_of v) c.next_component.new.self c.in-Some.tag can.0 m (rw c.in-Some.is at (c.in_ok-tag.ensures.read tag n can (records m.todo) rest outer)) c.in_ok-tag.ensures.stays.keeps.same_allowance) in
+      (comes R cs v g.S.DecodeSet.index_of (g.S.DecodeSet.is_part_of v) c.next_component.new.self c.in-Some.tag can.0 m (rw c.in-Some.is at (c.in_ok-tag.ensures.read tag n can (records m.todo) rest outer)) c.in_ok-tag.ensures.opens_nothing.keeps_depth.same_depth) in
       let r = c.in-Ok.ensures.read v (records a.todo) ((_, rest) ∷ outer) can.0 of_type valid a.is_there a.at in
       rw c.in-Ok-push.ensures.items
-      (further R cs v g.S.DecodeSet.index_of (g.S.DecodeSet.is_part_of v) c.decode_field.new.decoder c.in-Ok.part a r.answer.0 r.answer.1 r.within_allowance r.at c.in-Ok.ensures.same_allowance);
+      (further R cs v g.S.DecodeSet.index_of (g.S.DecodeSet.is_part_of v) c.decode_field.new.decoder c.in-Ok.part a r.answer.0 r.answer.1 r.within_depth r.at c.in-Ok.ensures.same_depth);
 }
 
 pub returns-in_err-tag-clause-read : goal.returns-in_err-tag-clause-read
@@ -39,15 +39,15 @@ returns-in_err-tag-clause-read g c = λ v tag n items rest outer can of_type val
 pub returns-in-None-clause-read : goal.returns-in-None-clause-read
 returns-in-None-clause-read g c = λ v tag n items rest outer can of_type valid moved few at.
     let m = c.loop-place.invariant.midway v tag n items rest outer can of_type valid moved few at in
-    let t = through g.D.Decoder.reader (all_components g.S.FieldTable.components) v g.S.DecodeSet.index_of (g.S.DecodeSet.is_part_of v) c.next_component.new.self m (rw c.in-None.is at (c.in_ok-tag.ensures.read tag n can (records m.todo) rest outer)) c.in_ok-tag.ensures.stays.keeps.same_allowance in
-    record { answer = t.parts_are; at = t.at; within_allowance = omega (arith, t.low, c.loop-place.invariant.kept, c.in_ok-tag.ensures.stays.keeps.same_allowance) }
+    let t = through g.D.Decoder.reader (all_components g.S.FieldTable.components) v g.S.DecodeSet.index_of (g.S.DecodeSet.is_part_of v) c.next_component.new.self m (rw c.in-None.is at (c.in_ok-tag.ensures.read tag n can (records m.todo) rest outer)) c.in_ok-tag.ensures.opens_nothing.keeps_depth.same_depth in
+    record { answer = t.parts_are; at = t.at; within_depth = omega (arith, t.low, c.loop-place.invariant.kept, c.in_ok-tag.ensures.opens_nothing.keeps_depth.same_depth) }
 
 pub returns-in-None-component_with_tag-clause-read : goal.returns-in-None-component_with_tag-clause-read
 returns-in-None-component_with_tag-clause-read g c = λ v tag n items rest outer can of_type valid moved few at.
     let R = g.D.Decoder.reader in
     let cs = all_components g.S.FieldTable.components in
     let m = c.loop-place.invariant.midway v tag n items rest outer can of_type valid moved few at in
-    let a = comes R cs v g.S.DecodeSet.index_of (g.S.DecodeSet.is_part_of v) c.next_component.new.self c.in-Some.tag can.0 m (rw c.in-Some.is at (c.in_ok-tag.ensures.read tag n can (records m.todo) rest outer)) c.in_ok-tag.ensures.stays.keeps.same_allowance in
+    let a = comes R cs v g.S.DecodeSet.index_of (g.S.DecodeSet.is_part_of v) c.next_component.new.self c.in-Some.tag can.0 m (rw c.in-Some.is at (c.in_ok-tag.ensures.read tag n can (records m.todo) rest outer)) c.in_ok-tag.ensures.opens_nothing.keeps_depth.same_depth in
     absurd (c.in-None-component_with_tag.ensures a.index a.begins)
 
 pub returns-in-Err-clause-read : goal.returns-in-Err-clause-read
@@ -56,9 +56,9 @@ returns-in-Err-clause-read g c = λ v tag n items rest outer can of_type valid m
     let cs = all_components g.S.FieldTable.components in
     let m = c.loop-place.invariant.midway v tag n items rest outer can of_type valid moved few at in
     let a = comes_at R cs v g.S.DecodeSet.index_of (g.S.DecodeSet.is_part_of v) c.in-Some-component_with_tag.index (set_apart cs can.1.0) c.in-Some-component_with_tag.ensures
-    (comes R cs v g.S.DecodeSet.index_of (g.S.DecodeSet.is_part_of v) c.next_component.new.self c.in-Some.tag can.0 m (rw c.in-Some.is at (c.in_ok-tag.ensures.read tag n can (records m.todo) rest outer)) c.in_ok-tag.ensures.stays.keeps.same_allowance) in
+    (comes R cs v g.S.DecodeSet.index_of (g.S.DecodeSet.is_part_of v) c.next_component.new.self c.in-Some.tag can.0 m (rw c.in-Some.is at (c.in_ok-tag.ensures.read tag n can (records m.todo) rest outer)) c.in_ok-tag.ensures.opens_nothing.keeps_depth.same_depth) in
     let r = c.in-Err.ensures.read v (records a.todo) ((_, rest) ∷ outer) can.0 of_type valid a.is_there a.at in
-    rw c.refuse-in-Err.ensures.same (fails_below _ _ _ (omega (arith, c.loop-place.invariant.kept, c.in_ok-tag.ensures.stays.keeps.same_allowance)) (omega (arith, a.no_higher)) r)
+    rw c.refuse-in-Err.ensures.same (fails_below _ _ _ (omega (arith, c.loop-place.invariant.kept, c.in_ok-tag.ensures.opens_nothing.keeps_depth.same_depth)) (omega (arith, a.no_higher)) r)
 
 pub returns-in_err-next_component-clause-read : goal.returns-in_err-next_component-clause-read
 returns-in_err-next_component-clause-read g c = λ v tag n items rest outer can of_type valid moved few at.
@@ -69,5 +69,5 @@ returns-in_err-next_component-clause-read g c = λ v tag n items rest outer can 
 pub returns-clause-read : goal.returns-clause-read
 returns-clause-read g c = λ v tag n items rest outer can of_type valid moved few at.
     let m = c.loop-place.invariant.midway v tag n items rest outer can of_type valid moved few at in
-    let t = filled g.D.Decoder.reader (all_components g.S.FieldTable.components) v g.S.DecodeSet.index_of (g.S.DecodeSet.is_part_of v) c.next_component-2.new.self c.in_ok-next_component.field-0 m (omega (arith, c.loop-place-test.false)) (c.in_ok-next_component.ensures.read tag n can (records m.todo) rest outer) c.in_ok-next_component.ensures.stays.keeps.same_allowance in
-    record { answer = t.parts_are; at = t.at; within_allowance = omega (arith, t.low, c.loop-place.invariant.kept, c.in_ok-next_component.ensures.stays.keeps.same_allowance) }
+    let t = filled g.D.Decoder.reader (all_components g.S.FieldTable.components) v g.S.DecodeSet.index_of (g.S.DecodeSet.is_part_of v) c.next_component-2.new.self c.in_ok-next_component.field-0 m (omega (arith, c.loop-place-test.false)) (c.in_ok-next_component.ensures.read tag n can (records m.todo) rest outer) c.in_ok-next_component.ensures.opens_nothing.keeps_depth.same_depth in
+    record { answer = t.parts_are; at = t.at; within_depth = omega (arith, t.low, c.loop-place.invariant.kept, c.in_ok-next_component.ensures.opens_nothing.keeps_depth.same_depth) }

@@ -1,7 +1,7 @@
 use Rattle.std.proofs.Common.{◌≡◌, ◌+◌, ◌*◌, List, ◌∷◌, length}
 use Rattle.std.specs.List.{flat_map, All}
-use Rattle.asn1_dec.proofs.Midway.{Midway}
-use Rattle.asn1_dec.specs.Reading.{Outside}
+use Rattle.asn1_codec.proofs.ReadingElements.{Midway}
+use Rattle.asn1_codec.specs.Reading.{Outside}
 use Rattle.asn1_model.specs.Meaning.{own_records}
 use Rattle.asn1_model.specs.Records.{Head, Record}
 use Rattle.asn1_recursive.specs.NodeComponents.{node_is_of_type, node_is_valid, node_meaning}
@@ -10,16 +10,16 @@ use Rattle.asn1_recursive.specs.declared.node.Node.{Node}
 use Rattle.asn1_recursive.proofs.node_reader.+nodes.Given as goal
 
 abbrev pub decreases-read_node : goal.decreases-read_node
-decreases-read_node g l = 2 * g.D.Decoder.reader.allowance l.decoder.now
+decreases-read_node g l = 2 * g.D.Decoder.reader.depth_left l.decoder.now
 
 abbrev pub decreases-read_children : goal.decreases-read_children
-decreases-read_children g l = 2 * g.D.Decoder.reader.allowance l.decoder.now + 1
+decreases-read_children g l = 2 * g.D.Decoder.reader.depth_left l.decoder.now + 1
 
 abbrev pub invariant-read_children-loop-index : goal.invariant-read_children-loop-index
 invariant-read_children-loop-index g l = record {
-  kept : g.D.Decoder.reader.allowance l.decoder ≡ g.D.Decoder.reader.allowance l.fn.decoder;
+  kept : g.D.Decoder.reader.depth_left l.decoder ≡ g.D.Decoder.reader.depth_left l.fn.decoder;
   count : length l.children.items ≡ l._index;
   midway : (vs : List Node) (scope : Head × List Record) (outer : Outside) → All node_is_of_type vs → All (node_is_valid g.D.Decoder.reader.takes) vs →
-      g.D.Decoder.reader.stands l.fn.decoder (flat_map (own_records node_meaning) vs, scope ∷ outer) →
+      g.D.Decoder.reader.remains l.fn.decoder (flat_map (own_records node_meaning) vs, scope ∷ outer) →
       Midway g.D.Decoder.reader node_meaning ghosts.eq l.decoder l.children.items vs (scope ∷ outer);
 }

@@ -29,7 +29,7 @@ abbrev begins_with_mark : Records → Bool
 begins_with_mark none = false
 begins_with_mark (more r rs) = is_mark r
 
--- whether what stands in the record begins with a mark
+-- whether what is in the record begins with a mark
 abbrev holds_mark_first : Record → Bool
 holds_mark_first (scalar t c n x) = false
 holds_mark_first (scope h rs) = begins_with_mark rs

@@ -11,7 +11,7 @@ returns-in_err-value-clause-read g c = λ v can of_type valid carries.
     let carried : Carries c.as_slice.result.now (own_records m v) = rw c.as_slice.ensures.value carries in
     let at = alone c.new-decoder.result (own_records m v) (c.new-decoder.ensures.before (own_records m v) carried) in
     let p = err_from_is_err_and c.from_residual.result c.from_residual.ensures.1 in
-    rw (p.1, p.2, ← c.new-decoder.ensures.allowance) (c.in_err-value.ensures.read v m.name [] [] can.1 of_type valid (inl can.0) at)
+    rw (p.1, p.2, ← c.new-decoder.ensures.depth_left) (c.in_err-value.ensures.read v m.name [] [] can.1 of_type valid (inl can.0) at)
 
 pub returns-in_err-finish-clause-read : goal.returns-in_err-finish-clause-read
 returns-in_err-finish-clause-read g c = λ v can of_type valid carries.
@@ -28,14 +28,14 @@ returns-clause-read g c = λ v can of_type valid carries.
     let carried : Carries c.as_slice.result.now (own_records m v) = rw c.as_slice.ensures.value carries in
     let at = alone c.new-decoder.result (own_records m v) (c.new-decoder.ensures.before (own_records m v) carried) in
     let read = c.in_ok-value.ensures.read v m.name [] [] can.1 of_type valid (inl can.0) at in
-    (read.answer, rw (← c.new-decoder.ensures.allowance) read.within_allowance)
+    (read.answer, rw (← c.new-decoder.ensures.depth_left) read.within_depth)
 
 pub returns-in_err-value-clause-refuses : goal.returns-in_err-value-clause-refuses
 returns-in_err-value-clause-refuses g c = λ rs error refused carries.
     let carried : Carries c.as_slice.result.now rs = rw c.as_slice.ensures.value carries in
     let at = alone c.new-decoder.result rs (c.new-decoder.ensures.before rs carried) in
     let p = err_from_is_err_and c.from_residual.result c.from_residual.ensures.1 in
-    rw (p.1, p.2, ← c.new-decoder.ensures.allowance) (own_or_failed (c.in_err-value.ensures.refuses rs [] [] error refused at))
+    rw (p.1, p.2, ← c.new-decoder.ensures.depth_left) (own_or_failed (c.in_err-value.ensures.refuses rs [] [] error refused at))
 
 pub returns-in_err-finish-clause-refuses : goal.returns-in_err-finish-clause-refuses
 returns-in_err-finish-clause-refuses g c = λ rs error refused carries.

@@ -3,8 +3,8 @@ use Rattle.std.proofs.lemmas.Result.{err_from_is_err_and}
 use Rattle.asn1_components.proofs.Apart.{group_ends}
 use Rattle.asn1_components.specs.Components.{all_components, lines}
 use Rattle.asn1_model.specs.Records.{group_end, mark}
-use Rattle.asn1_dec.proofs.Groups.{is_there, not_there, not_told}
-use Rattle.asn1_dec.proofs.Steps.{fails_below, flat_failure}
+use Rattle.asn1_codec.proofs.ReadingGroups.{is_there, not_there, not_told}
+use Rattle.asn1_codec.proofs.ReadingSteps.{fails_below, flat_failure}
 use Rattle.asn1_dec.proofs.decoder.Decoder.decode_extension_addition_group.Goals as goal
 
 pub returns-in_err-open_group-clause-read : goal.returns-in_err-open_group-clause-read
@@ -15,13 +15,13 @@ returns-in_err-open_group-clause-read g c = λ v rest outer can of_type valid ap
 pub returns-then-not-branch-clause-read : goal.returns-then-not-branch-clause-read
 returns-then-not-branch-clause-read g c = λ v rest outer can of_type valid apart at.
     let n = not_there (all_components g.C.FieldTable.components) (lines g.C.FieldTable.components) g.Self.Decoder.reader c.args.self.now c.open_group.new.self rest outer can.0 apart c.in_ok-open_group.ensures.read c.if-not-branch.true v valid at in
-    rw n.0 (record { answer = refl; at = n.1; within_allowance = omega arith })
+    rw n.0 (record { answer = refl; at = n.1; within_depth = omega arith })
 
 pub returns-in-Err-clause-read : goal.returns-in-Err-clause-read
 returns-in-Err-clause-read g c = λ v rest outer can of_type valid apart at.
     let n = is_there (all_components g.C.FieldTable.components) (lines g.C.FieldTable.components) g.Self.Decoder.reader c.args.self.now c.open_group.new.self rest outer can.0 apart c.in_ok-open_group.ensures.read c.if-not-branch.false v of_type valid at in
     let r = c.in-Err.ensures.read n.held (mark group_end ∷ rest) outer can n.of_type n.valid (group_ends (all_components g.C.FieldTable.components) (mark group_end ∷ rest) apart) n.at in
-    rw c.refuse.ensures.same (fails_below _ _ _ (sym c.in_ok-open_group.ensures.stays.keeps.same_allowance) (omega (arith, n.high)) r)
+    rw c.refuse.ensures.same (fails_below _ _ _ (sym c.in_ok-open_group.ensures.opens_nothing.keeps_depth.same_depth) (omega (arith, n.high)) r)
 
 pub returns-in_err-close_group-clause-read : goal.returns-in_err-close_group-clause-read
 returns-in_err-close_group-clause-read g c = λ v rest outer can of_type valid apart at.
@@ -35,4 +35,4 @@ returns-clause-read g c = λ v rest outer can of_type valid apart at.
     let n = is_there (all_components g.C.FieldTable.components) (lines g.C.FieldTable.components) g.Self.Decoder.reader c.args.self.now c.open_group.new.self rest outer can.0 apart c.in_ok-open_group.ensures.read c.if-not-branch.false v of_type valid at in
     let r = c.in-Ok.ensures.read n.held (mark group_end ∷ rest) outer can n.of_type n.valid (group_ends (all_components g.C.FieldTable.components) (mark group_end ∷ rest) apart) n.at in
     let k = c.in_ok-close_group.ensures.read rest outer r.at in
-    record { answer = rw n.is r.answer; at = k.at; within_allowance = omega (arith, r.within_allowance, n.high, c.in_ok-open_group.ensures.stays.keeps.same_allowance) }
+    record { answer = rw n.is r.answer; at = k.at; within_depth = omega (arith, r.within_depth, n.high, c.in_ok-open_group.ensures.opens_nothing.keeps_depth.same_depth) }

@@ -4,9 +4,9 @@ use Rattle.asn1_choices.specs.ChosenTags.{chosen_tag}
 use Rattle.asn1_model.specs.Composites.{alternative_records}
 use Rattle.asn1_model.specs.ConstraintSets.{constraint_set}
 use Rattle.asn1_tags.specs.Names.{name_of}
-use Rattle.asn1_enc.proofs.Choices.{as_tagged}
-use Rattle.asn1_enc.proofs.Names.{named_or}
-use Rattle.asn1_enc.proofs.Steps.{exits, inside_fails, open_fails}
+use Rattle.asn1_codec.proofs.WritingAlternatives.{as_tagged}
+use Rattle.asn1_codec.proofs.WritingNames.{named_or}
+use Rattle.asn1_codec.proofs.WritingSteps.{exits, inside_fails, open_fails}
 use Rattle.asn1_enc.proofs.encoder.Encoder.encode_choice_with_tag.Goals as goal
 
 pub returns-in_err-open_explicit_prefix-clause-writes : goal.returns-in_err-open_explicit_prefix-clause-writes

@@ -1,4 +1,4 @@
-use Rattle.asn1_enc.proofs.Steps.{writes_then}
+use Rattle.asn1_codec.proofs.WritingSteps.{writes_then}
 use Rattle.asn1_enc.proofs.encoder.Encoder.encode_extension_addition.Goals as goal
 
 pub returns-in_ok-mark_addition_present-in-Some : goal.returns-in_ok-mark_addition_present-in-Some

@@ -1,7 +1,7 @@
 use Rattle.asn1_model.specs.ConstraintSets.{unconstrained}
 use Rattle.asn1_components.specs.Components.{is_sequence}
 use Rattle.asn1_tags.specs.Names.{name_of}
-use Rattle.asn1_enc.proofs.Steps.{as_meant, exits, inside_fails, open_fails, writes_scope}
+use Rattle.asn1_codec.proofs.WritingSteps.{as_meant, exits, inside_fails, open_fails, writes_scope}
 use Rattle.asn1_enc.proofs.encoder.Encoder.encode_sequence.Goals as goal
 
 pub returns-in_err-open_sequence-clause-components : goal.returns-in_err-open_sequence-clause-components

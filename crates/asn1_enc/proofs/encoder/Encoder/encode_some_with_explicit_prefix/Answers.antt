@@ -1,4 +1,4 @@
-use Rattle.asn1_enc.proofs.Steps.{exits, fails_first, writes_then}
+use Rattle.asn1_codec.proofs.WritingSteps.{exits, fails_first, writes_then}
 use Rattle.asn1_enc.proofs.encoder.Encoder.encode_some_with_explicit_prefix.Goals as goal
 
 pub returns-in_err-mark_present : goal.returns-in_err-mark_present

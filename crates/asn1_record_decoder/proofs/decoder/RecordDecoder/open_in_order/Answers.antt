@@ -1,7 +1,7 @@
 use Rattle.std.proofs.Common.{Ok, Err, ap, ◌∙◌}
 use Rattle.std.specs.Prelude.{⊤}
 use Rattle.std.proofs.lemmas.Result.{err_from_is_err_and}
-use Rattle.asn1_dec.proofs.UpToOrder.{answer_in_any_order, opens}
+use Rattle.asn1_codec.proofs.ReadingUpToOrder.{answer_in_any_order, opens}
 use Rattle.asn1_record_decoder.specs.Reading.{in_one_order}
 use Rattle.asn1_record_decoder.proofs.Standing.{not_opened, was_opened}
 use Rattle.asn1_record_decoder.proofs.decoder.RecordDecoder.open_in_order.Goals as goal

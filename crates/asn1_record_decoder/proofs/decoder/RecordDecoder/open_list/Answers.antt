@@ -1,7 +1,7 @@
 use Rattle.std.proofs.Common.{◌≤◌, Ok, Err, ap, ◌∙◌}
 use Rattle.std.proofs.lemmas.Result.{err_from_is_err_and}
-use Rattle.asn1_dec.proofs.UpToOrder.{bound_in_any_order, opens, opens_set}
-use Rattle.asn1_dec.specs.Reading.{records_in}
+use Rattle.asn1_codec.proofs.ReadingUpToOrder.{bound_in_any_order, opens, opens_set}
+use Rattle.asn1_codec.specs.Reading.{records_in}
 use Rattle.asn1_record_decoder.specs.Reading.{in_one_order}
 use Rattle.asn1_record_decoder.proofs.Standing.{not_opened, was_opened}
 use Rattle.asn1_record_decoder.proofs.decoder.RecordDecoder.open_list.Goals as goal

@@ -1,6 +1,6 @@
 use Rattle.std.proofs.Common.{◌∙◌, Err}
-use Rattle.asn1_dec.proofs.Steps.{answered}
-use Rattle.asn1_dec.proofs.UpToOrder.{reads_content}
+use Rattle.asn1_codec.proofs.ReadingSteps.{answered}
+use Rattle.asn1_codec.proofs.ReadingUpToOrder.{reads_content}
 use Rattle.asn1_model.specs.Records.{scalar}
 use Rattle.asn1_record_decoder.specs.Reading.{in_one_order}
 use Rattle.asn1_record_decoder.proofs.decoder.RecordDecoder.scalar.Goals as goal

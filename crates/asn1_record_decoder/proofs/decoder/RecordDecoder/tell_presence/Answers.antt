@@ -1,9 +1,9 @@
 use Rattle.std.proofs.Common.{◌≡◌, true, false}
-use Rattle.asn1_dec.proofs.Steps.{answered}
-use Rattle.asn1_dec.proofs.UpToOrder.{tells_presence}
+use Rattle.asn1_codec.proofs.ReadingSteps.{answered}
+use Rattle.asn1_codec.proofs.ReadingUpToOrder.{tells_presence}
 use Rattle.asn1_model.specs.Records.{mark, present, absent}
 use Rattle.asn1_record_decoder.specs.Reading.{in_one_order}
-use Rattle.asn1_records.specs.Records.{side_of}
+use Rattle.asn1_codec.specs.Sides.{side_of}
 use Rattle.asn1_record_decoder.proofs.decoder.RecordDecoder.tell_presence.Goals as goal
 
 pub returns-in_err-record-clause-read : goal.returns-in_err-record-clause-read

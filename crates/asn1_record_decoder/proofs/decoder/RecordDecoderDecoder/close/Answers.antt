@@ -1,7 +1,7 @@
 use Rattle.std.proofs.Common.{refl, arith, ◌∷◌, Ok, Err}
 use Rattle.std.specs.Prelude.{⊤}
 use Rattle.std.proofs.lemmas.List.{nil_from_length}
-use Rattle.asn1_dec.proofs.UpToOrder.{reads_end}
+use Rattle.asn1_codec.proofs.ReadingUpToOrder.{reads_end}
 use Rattle.asn1_record_decoder.specs.Reading.{in_one_order}
 use Rattle.asn1_record_decoder.proofs.Standing.{nothing_left, not_outermost, closed}
 use Rattle.asn1_record_decoder.proofs.decoder.RecordDecoderDecoder.close.Goals as goal
@@ -19,4 +19,4 @@ returns-in-None-clause-read c =
 pub returns-in-Some-clause-read : goal.returns-in-Some-clause-read
 returns-in-Some-clause-read c =
     reads_end in_one_order c.args.self.now _ (Ok (tt {0}))
-    (λ h rest outer at. record { answer = tt; at = closed c.args.self.now _ c.in-Some.field-0 c.in-Some.ensures.items refl c.if-self.false h rest outer at; within_allowance = omega arith })
+    (λ h rest outer at. record { answer = tt; at = closed c.args.self.now _ c.in-Some.field-0 c.in-Some.ensures.items refl c.if-self.false h rest outer at; within_depth = omega arith })

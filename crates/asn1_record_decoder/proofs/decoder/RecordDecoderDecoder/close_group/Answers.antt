@@ -1,6 +1,6 @@
 use Rattle.std.specs.Prelude.{⊤}
-use Rattle.asn1_dec.proofs.Steps.{answered}
-use Rattle.asn1_dec.proofs.UpToOrder.{reads_mark}
+use Rattle.asn1_codec.proofs.ReadingSteps.{answered}
+use Rattle.asn1_codec.proofs.ReadingUpToOrder.{reads_mark}
 use Rattle.asn1_model.specs.Records.{mark, group_end}
 use Rattle.asn1_record_decoder.specs.Reading.{in_one_order}
 use Rattle.asn1_record_decoder.proofs.decoder.RecordDecoderDecoder.close_group.Goals as goal

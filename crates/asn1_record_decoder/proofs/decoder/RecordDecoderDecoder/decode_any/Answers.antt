@@ -1,6 +1,6 @@
 use Rattle.std.proofs.Common.{◌≡◌}
-use Rattle.asn1_dec.proofs.Steps.{answered}
-use Rattle.asn1_dec.proofs.UpToOrder.{reads_open_type}
+use Rattle.asn1_codec.proofs.ReadingSteps.{answered}
+use Rattle.asn1_codec.proofs.ReadingUpToOrder.{reads_open_type}
 use Rattle.asn1_model.specs.Records.{raw}
 use Rattle.asn1_record_decoder.specs.Reading.{in_one_order}
 use Rattle.asn1_record_decoder.proofs.decoder.RecordDecoderDecoder.decode_any.Goals as goal

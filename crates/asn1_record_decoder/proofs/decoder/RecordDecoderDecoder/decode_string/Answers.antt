@@ -13,4 +13,4 @@ pub returns-clause-read : goal.returns-clause-read
 returns-clause-read g c = λ list n rest outer of_kind at.
     let k = g.K.CodecString in
     let m = c.in_ok-string.ensures.read g.K.StringType.content (λ v. content_without-string k.own_kind (g.K.StringType.content v) (g.met.K.CodecString.is_string v)) (constraint_set c.args._constraints.now) list n rest outer of_kind at in
-    record { answer = m.answer; at = m.at; within_allowance = m.within_allowance }
+    record { answer = m.answer; at = m.at; within_depth = m.within_depth }

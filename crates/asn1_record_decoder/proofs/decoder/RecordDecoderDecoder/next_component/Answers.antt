@@ -1,7 +1,7 @@
 use Rattle.std.proofs.Common.{◌∷◌, refl, arith, Ok, Some, None}
 use Rattle.std.proofs.lemmas.List.{nil_from_length}
 use Rattle.asn1_components.specs.Components.{all_components, lines}
-use Rattle.asn1_dec.proofs.UpToOrder.{tells_next_tag}
+use Rattle.asn1_codec.proofs.ReadingUpToOrder.{tells_next_tag}
 use Rattle.asn1_model.specs.Records.{set}
 use Rattle.asn1_record_decoder.specs.Reading.{in_one_order}
 use Rattle.asn1_record_decoder.proofs.Standing.{none_found, next_found}

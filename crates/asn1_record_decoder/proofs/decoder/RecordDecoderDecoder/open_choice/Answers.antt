@@ -2,7 +2,7 @@ use Rattle.std.proofs.Common.{refl, subst, sym, Ok, Err, ap, ◌∙◌}
 use Rattle.std.proofs.lemmas.Result.{err_from_is_err_and}
 use Rattle.asn1_choices.specs.Alternatives.{all_of, table_of}
 use Rattle.asn1_choices.specs.ChosenTags.{TellsAlternative, tells_itself}
-use Rattle.asn1_dec.proofs.UpToOrder.{answer_in_any_order, opens}
+use Rattle.asn1_codec.proofs.ReadingUpToOrder.{answer_in_any_order, opens}
 use Rattle.asn1_model.specs.ConstraintSets.{constraint_set}
 use Rattle.asn1_model.specs.Records.{alternative}
 use Rattle.asn1_record_decoder.specs.Reading.{in_one_order}

@@ -1,8 +1,8 @@
 use Rattle.std.proofs.Common.{◌≡◌, true, false}
 use Rattle.asn1_components.specs.Components.{all_components, lines}
 use Rattle.asn1_components.specs.ComponentLists.{trees_of}
-use Rattle.asn1_dec.proofs.Steps.{answered}
-use Rattle.asn1_dec.proofs.UpToOrder.{tells_presence}
+use Rattle.asn1_codec.proofs.ReadingSteps.{answered}
+use Rattle.asn1_codec.proofs.ReadingUpToOrder.{tells_presence}
 use Rattle.asn1_model.specs.Records.{mark, group_start, group_absent}
 use Rattle.asn1_model.specs.Tags.{tree_tags}
 use Rattle.asn1_tags.specs.Trees.{choice}

@@ -1,5 +1,5 @@
 use Rattle.std.proofs.Common.{refl}
-use Rattle.asn1_enc.proofs.UpToOrder.{appends}
+use Rattle.asn1_codec.proofs.WritingUpToOrder.{appends}
 use Rattle.asn1_records.specs.Encoder.{in_one_order}
 use Rattle.asn1_records.proofs.Writing.{appended}
 use Rattle.asn1_records.proofs.encoder.RecordEncoder.append.Goals as goal

@@ -1,5 +1,5 @@
 use Rattle.std.proofs.Common.{refl, ◌∙◌, ap, arith, ◌≡◌, length, ◌++◌, Some}
-use Rattle.asn1_enc.proofs.UpToOrder.{group_is_closed, group_is_not_closed}
+use Rattle.asn1_codec.proofs.WritingUpToOrder.{group_is_closed, group_is_not_closed}
 use Rattle.asn1_model.specs.Composites.{group_records}
 use Rattle.asn1_model.specs.Tables.{no_table}
 use Rattle.asn1_records.specs.Records.{records_of}

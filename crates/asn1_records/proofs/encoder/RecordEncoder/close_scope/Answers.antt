@@ -1,5 +1,5 @@
 use Rattle.std.proofs.Common.{refl, ◌∙◌, ap, arith, ◌≡◌, ◌+◌, suc, length, [], ◌∷◌, ◌++◌}
-use Rattle.asn1_enc.proofs.UpToOrder.{scope_is_closed, scope_is_not_closed}
+use Rattle.asn1_codec.proofs.WritingUpToOrder.{scope_is_closed, scope_is_not_closed}
 use Rattle.asn1_model.specs.Records.{holding}
 use Rattle.asn1_records.specs.declared.record.Record.TheViews as Views
 use Rattle.asn1_records.specs.Records.{head_of, records_of}
@@ -20,7 +20,7 @@ pub returns-in_default-inner : goal.returns-in_default-inner
 returns-in_default-inner c = scope_is_not_closed in_one_order (group_inside _ _ c.in-Some.field-0 _ c.in_default-inner.is c.in-Some.ensures.items c.if-self.false refl)
 
 pub overflow_add-self : goal.overflow_add-self
-overflow_add-self c = omega (arith, room_after_scope _ _ c.in-Some.field-0 c.in-Scope.head c.args.self.now.allowance c.in-Scope.is c.in-Some.ensures.items c.args.self.now.counted)
+overflow_add-self c = omega (arith, room_after_scope _ _ c.in-Some.field-0 c.in-Scope.head c.args.self.now.depth_left c.in-Scope.is c.in-Some.ensures.items c.args.self.now.counted)
 
 pub invariant_of-self-in-Err : goal.invariant_of-self-in-Err
 invariant_of-self-in-Err c = record { counted = room_after_scope _ _ c.in-Some.field-0 c.in-Scope.head _ c.in-Scope.is c.in-Some.ensures.items c.args.self.now.counted }
@@ -30,7 +30,7 @@ invariant_of-self-in_default-push c = record { counted = room_after_scope _ _ c.
 
 pub returns : goal.returns
 returns c =
-    let one_more : c.args.self.now.allowance + 1 ≡ suc c.args.self.now.allowance = omega arith in
+    let one_more : c.args.self.now.depth_left + 1 ≡ suc c.args.self.now.depth_left = omega arith in
     scope_is_closed in_one_order
     (scope_closed _ _ c.in-Some.field-0 c.in-Scope.head (Views.Scope c.in-Scope.head c.replace-closed.result) c.in-Scope.is
     (scope_is c.in-Scope.head c.replace-closed.result ∙ ap (λ v. holding (head_of c.in-Scope.head) (records_of v.items)) c.replace-closed.ensures.value)

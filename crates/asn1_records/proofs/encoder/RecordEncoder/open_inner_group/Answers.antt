@@ -1,5 +1,5 @@
 use Rattle.std.proofs.Common.{refl, ◌∙◌, ap}
-use Rattle.asn1_enc.proofs.UpToOrder.{group_is_open}
+use Rattle.asn1_codec.proofs.WritingUpToOrder.{group_is_open}
 use Rattle.asn1_records.specs.declared.frame.Inner.TheVariants.{Group}
 use Rattle.asn1_records.specs.Encoder.{in_one_order}
 use Rattle.asn1_records.proofs.Writing.{group_opened, room_with_group}

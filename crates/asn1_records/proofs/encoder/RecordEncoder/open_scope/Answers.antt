@@ -1,5 +1,5 @@
 use Rattle.std.proofs.Common.{refl, ◌∙◌, ap, arith, rules, ◌≡◌, ◌-◌, suc}
-use Rattle.asn1_enc.proofs.UpToOrder.{scope_is_open}
+use Rattle.asn1_codec.proofs.WritingUpToOrder.{scope_is_open}
 use Rattle.asn1_records.specs.declared.frame.Inner.TheVariants.{Scope}
 use Rattle.asn1_records.specs.Encoder.{in_one_order}
 use Rattle.asn1_records.proofs.Writing.{scope_opened, room_with_scope}
@@ -10,6 +10,6 @@ invariant_of-self-in_default c = record { counted = room_with_scope _ _ (record 
 
 pub returns : goal.returns
 returns c = λ h is.
-    let one_less : c.args.self.now.allowance ≡ suc (c.args.self.now.allowance - 1) = omega arith in
+    let one_less : c.args.self.now.depth_left ≡ suc (c.args.self.now.depth_left - 1) = omega arith in
     scope_is_open in_one_order
     (scope_opened _ _ (record { records = c.replace-records.result; inner = Scope c.args.head }) c.args.head h refl is c.in_default.ensures.items (ap (λ v. v.items) c.replace-records.ensures.value) (ap (λ v. v.items) c.replace-records.ensures.after ∙ c.new.ensures.items) one_less c.if-self.false c.if-self.false)

@@ -1,7 +1,7 @@
 use Rattle.std.proofs.Common.{ap, inl, arith}
 use Rattle.std.proofs.lemmas.Result.{err_from_is_err_and}
 use Rattle.std.specs.Prelude.{Some, codes}
-use Rattle.asn1_dec.proofs.Tells.{its_tag}
+use Rattle.asn1_codec.proofs.TellingTags.{its_tag}
 use Rattle.asn1_samples.specs.declared.corner.Corner.TheVariants.{Left, Right}
 use Rattle.asn1_samples.proofs.corner.CornerDecodeChoice.from_tag.Goals as goal
 

@@ -4,7 +4,7 @@ use Rattle.std.proofs.lemmas.Bool.{and_from}
 use Rattle.std.proofs.lemmas.Result.{err_from_is_err_and}
 use Rattle.asn1_components.specs.Components.{all_components}
 use Rattle.asn1_samples.specs.contracts.envelope.EnvelopeFieldTable.TheImpl.{ghosts as envelope}
-use Rattle.asn1_dec.proofs.PartWays.{begin, step, stops, through}
+use Rattle.asn1_codec.proofs.ReadingComponents.{begin, step, stops, through}
 use Rattle.asn1_samples.proofs.envelope.EnvelopeDecodeFields.decode_fields.Goals as goal
 
 pub returns-in_err-kind-clause-read : goal.returns-in_err-kind-clause-read
@@ -17,12 +17,12 @@ pub returns-in_err-body-clause-read : goal.returns-in_err-body-clause-read
 returns-in_err-body-clause-read g c = λ v rest outer can of_type valid ends at.
     let p = err_from_is_err_and c.from_residual-in_err-body.result c.from_residual-in_err-body.ensures.1 in
     let start = begin g.D.Decoder.reader _ (all_components envelope.components) v rest outer can of_type valid ends at in
-    let kind = step start c.in_ok-kind.ensures.leaves.same_allowance (λ can of_type valid apart at. c.in_ok-kind.ensures.read v.kind (Some (codes "INTEGER")) _ outer can.1 of_type valid (inl can.0) at) in
+    let kind = step start c.in_ok-kind.ensures.after_reading.same_depth (λ can of_type valid apart at. c.in_ok-kind.ensures.read v.kind (Some (codes "INTEGER")) _ outer can.1 of_type valid (inl can.0) at) in
     rw (p.1, p.2) (stops kind.next (λ can of_type valid apart at. c.in_err-body.ensures.read v.body None _ outer can.1 of_type valid (inl can.0) at))
 
 pub returns-clause-read : goal.returns-clause-read
 returns-clause-read g c = λ v rest outer can of_type valid ends at.
     let start = begin g.D.Decoder.reader _ (all_components envelope.components) v rest outer can of_type valid ends at in
-    let kind = step start c.in_ok-kind.ensures.leaves.same_allowance (λ can of_type valid apart at. c.in_ok-kind.ensures.read v.kind (Some (codes "INTEGER")) _ outer can.1 of_type valid (inl can.0) at) in
-    let body = step kind.next c.in_ok-body.ensures.leaves.same_allowance (λ can of_type valid apart at. c.in_ok-body.ensures.read v.body None _ outer can.1 of_type valid (inl can.0) at) in
+    let kind = step start c.in_ok-kind.ensures.after_reading.same_depth (λ can of_type valid apart at. c.in_ok-kind.ensures.read v.kind (Some (codes "INTEGER")) _ outer can.1 of_type valid (inl can.0) at) in
+    let body = step kind.next c.in_ok-body.ensures.after_reading.same_depth (λ can of_type valid apart at. c.in_ok-body.ensures.read v.body None _ outer can.1 of_type valid (inl can.0) at) in
     through body.next (and_from _ _ kind.answer body.answer)

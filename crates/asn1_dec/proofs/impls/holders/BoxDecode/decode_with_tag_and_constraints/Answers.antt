@@ -1,7 +1,7 @@
 use Rattle.std.proofs.Common.{rules}
 use Rattle.asn1_model.specs.ConstraintSets.{constraint_set}
-use Rattle.asn1_dec.specs.Reading.{LeavesDecoder, ReadsValue, Refuses}
-use Rattle.asn1_dec.proofs.Boxed.{leaves_boxed, refuses_boxed}
+use Rattle.asn1_codec.specs.Reading.{AfterReading, ReadsValue, Refuses}
+use Rattle.asn1_codec.proofs.ReadingHolders.{leaves_boxed, refuses_boxed}
 use Rattle.asn1_dec.proofs.impls.holders.BoxDecode.decode_with_tag_and_constraints.Goals as goal
 
 pub returns-clause-leaves : goal.returns-clause-leaves
@@ -9,10 +9,10 @@ returns-clause-leaves g c =
     let m = g.T.AsnType.meaning in
     let constraints = constraint_set c.args.constraints.now in
     let read : ReadsValue g.D.Decoder.reader m g.T.PartialEq.eq c.args.tag constraints c.args.decoder.now c.read_boxed.new.decoder c.read_boxed.ensures.0 = search rules in
-    let leaves : LeavesDecoder g.D.Decoder.reader m c.args.tag constraints c.args.decoder.now c.read_boxed.new.decoder c.read_boxed.ensures.0 = search rules in
+    let leaves : AfterReading g.D.Decoder.reader m c.args.tag constraints c.args.decoder.now c.read_boxed.new.decoder c.read_boxed.ensures.0 = search rules in
     leaves_boxed g.D.Decoder.reader m (λ b. b.value) c.args.tag constraints c.args.decoder.now c.read_boxed.new.decoder g.T.PartialEq.eq c.read_boxed.ensures.0 c.read_boxed.result read leaves c.read_boxed.ensures.2
 
 pub returns-clause-refuses : goal.returns-clause-refuses
 returns-clause-refuses g c =
-    let refuses : Refuses g.D.Decoder.reader g.T.Decode.refused c.args.tag (constraint_set c.args.constraints.now) c.args.decoder.now c.read_boxed.new.decoder c.read_boxed.ensures.0 = search rules in
-    refuses_boxed g.D.Decoder.reader g.T.AsnType.meaning (λ b. b.value) c.args.tag (constraint_set c.args.constraints.now) c.args.decoder.now c.read_boxed.new.decoder g.T.Decode.refused c.read_boxed.ensures.0 c.read_boxed.result refuses c.read_boxed.ensures.2
+    let refuses : Refuses g.D.Decoder.reader g.T.Decode.refusals c.args.tag (constraint_set c.args.constraints.now) c.args.decoder.now c.read_boxed.new.decoder c.read_boxed.ensures.0 = search rules in
+    refuses_boxed g.D.Decoder.reader g.T.AsnType.meaning (λ b. b.value) c.args.tag (constraint_set c.args.constraints.now) c.args.decoder.now c.read_boxed.new.decoder g.T.Decode.refusals c.read_boxed.ensures.0 c.read_boxed.result refuses c.read_boxed.ensures.2

@@ -1,0 +1,39 @@
+-- A type under what a call is given: a tag, constraints and a name, and else its own.
+use Rattle.asn1_tags.specs.declared.tags.Tag.{Tag}
+use Rattle.asn1_model.specs.ConstraintSets.{ConstraintSet}
+use Rattle.asn1_model.specs.Meaning.{Meaning, CanStandInsideUnder}
+use Rattle.asn1_model.specs.Records.{Name}
+use Rattle.asn1_model.specs.TaggedTypes.{TaggedType, explicitly_tagged_as}
+
+-- A type under whatever name: a call that writes is given one, and one that reads takes any.
+abbrev pub Named : Type 0 → Type 1
+Named V = Name → TaggedType V
+
+-- A type under the tag and the constraints that a call is given.
+abbrev pub given : {V : Type 0} → Tag → ConstraintSet → Meaning V → Named V
+given t c m n = record {
+  tag = t;
+  tree = m.tree t;
+  records = λ v. m.records v t c n;
+  CanStandInside = CanStandInsideUnder m t;
+  IsOfType = m.IsOfType;
+  IsValid = m.IsValid;
+  one_record = λ can v. m.one_record v t c n can.0 can.1;
+  well_formed = λ takes v. m.well_formed takes v t c n;
+}
+
+-- under a tag, with its own constraints
+abbrev pub with_tag : {V : Type 0} → Tag → Meaning V → Named V
+with_tag t m = given t m.constraints m
+
+-- under constraints, with its own tag
+abbrev pub with_constraints : {V : Type 0} → ConstraintSet → Meaning V → Named V
+with_constraints c m = given m.tag c m
+
+-- under its own tag and constraints
+abbrev pub as_it_is : {V : Type 0} → Meaning V → Named V
+as_it_is m = given m.tag m.constraints m
+
+-- after an explicit tag
+abbrev pub after_tag : {V : Type 0} → Tag → Meaning V → Named V
+after_tag t m n = explicitly_tagged_as n t m

@@ -1,0 +1,12 @@
+pub mod DecodeErrors
+pub mod EncodeErrors
+pub mod GivenTypes
+pub mod Places
+pub mod Reading
+pub mod ReadingUpToOrder
+pub mod Refusals
+pub mod SetParts
+pub mod Sides
+pub mod Writing
+pub mod WritingTypes
+pub mod WritingUpToOrder

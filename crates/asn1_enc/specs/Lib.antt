@@ -1,4 +1,0 @@
-pub mod Errors
-pub mod Orders
-pub mod Places
-pub mod Writing
