@@ -4,8 +4,8 @@ use Rattle.asn1_codec.specs.Reading.{AfterReading, ReadsValue, Refuses}
 use Rattle.asn1_codec.proofs.ReadingHolders.{leaves_boxed, refuses_boxed}
 use Rattle.asn1_dec.proofs.impls.holders.BoxDecode.decode_with_tag_and_constraints.Goals as goal
 
-pub returns-clause-leaves : goal.returns-clause-leaves
-returns-clause-leaves g c =
+pub returns-clause-after_reading : goal.returns-clause-after_reading
+returns-clause-after_reading g c =
     let m = g.T.AsnType.meaning in
     let constraints = constraint_set c.args.constraints.now in
     let read : ReadsValue g.D.Decoder.reader m g.T.PartialEq.eq c.args.tag constraints c.args.decoder.now c.read_boxed.new.decoder c.read_boxed.ensures.0 = search rules in
