@@ -21,7 +21,7 @@ not_both b f t = let x : false ≡ true = sym f ∙ t in cc
 pub not_written : (old new : RecordEncoder) (rs : List Record) (depth : ℕ) (e : EncodeError) →
     record_writer.wrote old (outermost []) → record_writer.depth_left old ≡ depth → record_writer.failed old ≡ false → Fails record_writer old rs new e → IsNotWritten record_format rs depth e
 not_written old new rs depth e began allowed was fails = record {
-  too_high = λ is. rw (← allowed) (fails.too_high is);
+  too_deep = λ is. rw (← allowed) (fails.too_deep is);
   rejected = λ is. (fails.rejected is (outermost []) began).rejects;
   not_failed = λ is. not_both (record_writer.failed old) was (fails.error.failed_before.0 is);
 }

@@ -1,5 +1,5 @@
 //! A codec for tests and examples: what it makes of a value are the records of the value themselves, without their
-//! constraints and tables.
+//! constraints and tables but for the names of ENUMERATED items.
 //!
 //! | Item | What it is |
 //! |---|---|

@@ -6,10 +6,11 @@ use asn1_records::{Record, RecordEncoder};
 use asn1_schema::Rules;
 use std::alloc::Global;
 
-/// The rules of the record codec: a value becomes its records, without constraints and tables.
+/// The rules of the record codec: a value becomes its records, without constraints and tables but for the names of ENUMERATED
+/// items.
 ///
 /// They reject nothing, and take any bytes as one value of an open type. So `write_value` fails if memory runs out, or where the
-/// value's records are higher than the depth, and for no other reason.
+/// value's records are nested deeper than the depth, and for no other reason.
 ///
 /// Of records that are not those of the type, `read_value` answers an error or a value. [`DecodeError::Incomplete`] comes where
 /// no record is left outside all scopes, and [`DecodeError::Custom`], with the text `bad item`, where one is not what is asked

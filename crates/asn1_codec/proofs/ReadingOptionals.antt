@@ -28,8 +28,8 @@ after_option m t c n (Some w) rest follow none = cc
 pub under_tag : {V : Type 0} (m : Meaning V) (t : Tag) (c : ConstraintSet) (x : V) (n : Name) (rest : List Record) → CanStandInsideUnder m t → BeginsWithin (tags m t) (m.records x t c n ++ rest)
 under_tag m t c x n rest can = begins_before (tags m t) (m.records x t c n) rest (one_begins (tags m t) (m.records x t c n) (m.one_record x t c n can.0 can.1))
 
-pub after_tag : {V : Type 0} (m : Meaning V) (t : Tag) (c : ConstraintSet) (x : V) (n : Name) (rest : List Record) → BeginsWithin (only t) (prefix_records t n (m.records x m.tag c m.name) ++ rest)
-after_tag m t c x n rest = record { some = refl; within = only_in (only t) t (only_has t) }
+pub begins_after_tag : {V : Type 0} (m : Meaning V) (t : Tag) (c : ConstraintSet) (x : V) (n : Name) (rest : List Record) → BeginsWithin (only t) (prefix_records t n (m.records x m.tag c m.name) ++ rest)
+begins_after_tag m t c x n rest = record { some = refl; within = only_in (only t) t (only_has t) }
 
 -- A component that may be absent, which has these tags, and is the records of a value under any name.
 module _ {D V : Type 0} (R : Reader D) (side : Side) (t : Tag) (own : Tags) (records : Name → V → List Record) (Can : Type 0) (IsOfType IsValid : V → Type 0) (eq : V → V → Bool)

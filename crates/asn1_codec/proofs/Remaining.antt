@@ -1,4 +1,4 @@
--- What is the same ahead of a decoder.
+-- What remains to be read, up to the order inside sets.
 use Rattle.std.specs.Prelude.{◌≡◌, List, [], ◌∷◌, refl}
 use Rattle.std.proofs.Common.{ap}
 use Rattle.asn1_model.specs.Orders.{Same, SameRecords}

@@ -106,14 +106,14 @@ module _ {E : Type 0} (W : Writer E) where
   pub fails_later : {a b c : E} {rs ss : List Record} {T : Type 0} {e : EncodeError} → IsLawful W → Appends W a rs T b → Fails W b ss c e → Fails W a (rs ++ ss) c e
   fails_later {rs = rs} {ss} law p q = record {
     error = later_error p.no_failure q.error;
-    too_high = λ is. let high = q.too_high is in omega (arith, highest-append rs ss, high, p.same_depth);
+    too_deep = λ is. let high = q.too_deep is in omega (arith, highest-append rs ss, high, p.same_depth);
     rejected = λ is w wrote. subst W.rejects (ap (λ l. rs ++ l) (append-nil ss)) (law.part rs ss [] (q.rejected is _ (p.written w wrote)));
   }
 
   pub fails_first : {a b : E} {rs : List Record} {e : EncodeError} → IsLawful W → (ss : List Record) → Fails W a rs b e → Fails W a (rs ++ ss) b e
   fails_first {rs = rs} law ss q = record {
     error = q.error;
-    too_high = λ is. let high = q.too_high is in omega (arith, highest-append rs ss, high);
+    too_deep = λ is. let high = q.too_deep is in omega (arith, highest-append rs ss, high);
     rejected = λ is w wrote. law.part [] rs ss (q.rejected is w wrote);
   }
 
@@ -134,21 +134,21 @@ module _ {E : Type 0} (W : Writer E) where
   pub refused : {a b : E} {e : EncodeError} (rs : List Record) → IsOutOfMemory W a b e → Fails W a rs b e
   refused {a} {e = e} rs r = record {
     error = r.error;
-    too_high = λ is. absurd (refusal_is_not_deep (W.failed a) e r.memory r.error.failed_before.1 is);
+    too_deep = λ is. absurd (refusal_is_not_deep (W.failed a) e r.memory r.error.failed_before.1 is);
     rejected = λ is w wrote. absurd (refusal_is_not_custom (W.failed a) e r.memory r.error.failed_before.1 is);
   }
 
   pub open_fails : {a b : E} {h : Head} {e : EncodeError} (rs : List Record) → ScopeIsNotOpen W a h b e → Fails W a (holding h rs ∷ []) b e
   open_fails {h = h} rs q = record {
     error = q.error;
-    too_high = λ is. let deep = q.too_deep is in omega (arith, highest-holding h rs, deep);
+    too_deep = λ is. let deep = q.too_deep is in omega (arith, highest-holding h rs, deep);
     rejected = λ is w wrote. q.rejected is rs;
   }
 
   pub inside_fails : {a b c : E} {h : Head} {rs : List Record} {e : EncodeError} → IsLawful W → ScopeIsOpen W a h b → Fails W b rs c e → Fails W a (holding h rs ∷ []) c e
   inside_fails {h = h} {rs} law p q = record {
     error = later_error (p.no_failure ∙ sym p.had_not_failed) q.error;
-    too_high = λ is. let high = q.too_high is in omega (arith, highest-holding h rs, high, p.one_less);
+    too_deep = λ is. let high = q.too_deep is in omega (arith, highest-holding h rs, high, p.one_less);
     rejected = λ is w wrote. law.inner h rs (q.rejected is _ (p.opened w wrote));
   }
 
@@ -164,21 +164,21 @@ module _ {E : Type 0} (W : Writer E) where
   }
   writes_scope {h = h} {rs} d (Err e) p q r = record {
     error = later_error (q.no_failure ∙ p.no_failure ∙ sym p.had_not_failed) r.error;
-    too_high = λ is. absurd (r.not_too_deep is);
+    too_deep = λ is. absurd (r.not_too_deep is);
     rejected = λ is w wrote. r.rejected is h rs w (q.written (in_scope h [] w) (p.opened w wrote));
   }
 
   pub open_group_fails : {a b : E} {e : EncodeError} (rs : List Record) → GroupIsNotOpen W a b e → Fails W a rs b e
   open_group_fails rs q = record {
     error = q.error;
-    too_high = λ is. absurd (q.not_too_deep is);
+    too_deep = λ is. absurd (q.not_too_deep is);
     rejected = λ is w wrote. absurd (q.not_rejected is);
   }
 
   pub group_fails : {a b c : E} {table : Table Line} {rs : List Record} {e : EncodeError} → IsLawful W → GroupIsOpen W a table b → Fails W b rs c e → Fails W a (group_records table (Some rs)) c e
   group_fails {table = table} {rs} law p q = record {
     error = later_error (p.no_failure ∙ sym p.had_not_failed) q.error;
-    too_high = λ is. let high = q.too_high is in omega (arith, highest-group table rs, high, p.same_depth);
+    too_deep = λ is. let high = q.too_deep is in omega (arith, highest-group table rs, high, p.same_depth);
     rejected = λ is w wrote. group_rejected table W.rejects (marks_alone rs) rs law.part (law.marks rs) (q.rejected is _ (p.opened w wrote));
   }
 
@@ -194,7 +194,7 @@ module _ {E : Type 0} (W : Writer E) where
   }
   writes_group {table = table} {rs} d (Err e) p q r = record {
     error = later_error (q.no_failure ∙ p.no_failure ∙ sym p.had_not_failed) r.error;
-    too_high = λ is. absurd (r.not_too_deep is);
+    too_deep = λ is. absurd (r.not_too_deep is);
     rejected = λ is w wrote. r.rejected is table rs w (q.written (in_group table [] w) (p.opened w wrote));
   }
 

@@ -109,7 +109,7 @@ module _ {E : Type 0} (W : Writer E) where
   pub fails : {old new : E} {rs : List Record} {e : EncodeError} → Fails W old rs new e → Fails (up_to_order W) old rs new e
   fails {rs = rs} p = record {
     error = is_error p.error;
-    too_high = p.too_high;
+    too_deep = p.too_deep;
     rejected = λ custom w q. rejects_exactly rs (p.rejected custom q.exactly q.wrote);
   }
 

@@ -186,8 +186,8 @@ module _ {D : Type 0} (R : Reader D) where
       (equal ≡ true → ShareNone (tags m t) (first_tags rest)) →
       ReadsBack old new (default_records side equal t (m.records v t c n)) rest outer (λ w. eq w v ≡ true) result
 
-  -- A type's own error: the decoder what follows remains to be read the records, the depth left is as it was, and the decoder has
-  -- not failed.
+  -- A type's own error: what follows the records remains to be read, the depth left is as it was, and the decoder has not
+  -- failed.
   pub record IsOwnError (old new : D) (rest : List Record) (outer : Outside) (own e : DecodeError) : Type 0 where
     pub error : e ≡ own
     pub at : R.remains new (rest, outer)

@@ -67,10 +67,10 @@ module _ {E : Type 0} (W : Writer E) where
     pub has_failed : W.failed new ≡ true
     pub failed_before : (e ≡ Failed) ↔ (W.failed old ≡ true)
 
-  -- The records were not written: they are too high or rejected, or memory ran out, or the encoder had failed before.
+  -- The records were not written: they are nested too deep or rejected, or memory ran out, or the encoder had failed before.
   pub record Fails (old : E) (rs : List Record) (new : E) (e : EncodeError) : Type 0 where
     pub error : IsError old new e
-    pub too_high : e ≡ Depth → W.depth_left old < highest rs
+    pub too_deep : e ≡ Depth → W.depth_left old < highest rs
     pub rejected : IsCustom e → (w : Written) → W.wrote old w → W.rejects rs
 
   -- a call that writes records

@@ -1,16 +1,10 @@
 //! Laws of what no other contract names: what types refuse.
-ghost use Rattle.asn1_codec.specs.DecodeErrors.{reason};
 ghost use Rattle.asn1_codec.specs.Refusals.{HasOtherLength, IsOutside, RefuseTheSame};
-ghost use Rattle.asn1_codec.specs.declared.decode_error.DecodeError.TheVariants.{Memory};
-ghost use Rattle.asn1_tags.specs.Derives.{ClonesAll};
-ghost use Rattle.std.specs.Prelude.{◌≡◌, ◌↔◌, IsTrue};
 
 use crate::decode::Decode;
-use asn1_codec::{DecodeError, Needed};
 use asn1_model::AsnType;
 use asn1_types::{Array, Implicit};
 use asn1_values::{LimitedInteger, Limits};
-use std::alloc::AllocError;
 use std::borrow::Cow;
 
 /// A law of what types refuse: an INTEGER with limits a number outside of them (`limits`), an array a list of another length

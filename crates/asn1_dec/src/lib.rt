@@ -43,9 +43,9 @@
 //! - A codec states what remains to be read, whether it has failed, its depth left, and which byte strings it takes as one value of
 //!   an open type (`Reader`). The order inside sets means nothing to it (`IsLawful`): so it opens a set before some
 //!   rearrangement of what was written. That follows of a codec which states before which lists exactly it is (`up_to_order` of
-//!   `specs/Orders.antt`).
+//!   `specs/ReadingUpToOrder.antt`).
 //! - The components of a SET are read one by one, as parts, in whatever order they come, and then put together (`ReadsPart`,
-//!   `MakesValue` of `specs/SetParts.antt`); no value is made where a component came twice, or one is missing (`EachFits`).
+//!   `MakesValue` of `specs/SetParts.antt` there); no value is made where a component came twice, or one is missing (`EachFits`).
 //!   Which component a record is follows from its tag and the table of the type.
 //!
 //! The words are those of `specs/` of `asn1_codec`, whose page says which of its lemmas are for authors of types and of codecs.

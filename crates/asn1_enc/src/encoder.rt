@@ -72,7 +72,7 @@ pub trait Encoder {
 
     /// A NULL.
     fn encode_null(&mut self, tag: Tag, name: Identifier) -> Result<(), EncodeError>
-        ensures { Writes writer self.old (scalar tag unconstrained (name_of name) null ∷ []) ⊤
+        ensures { WritesContent writer tag unconstrained (name_of name) null ⊤ self.old
             self.new result };
 
     /// The number of a value of an ENUMERATED type, whose items are those of the table of `E`: some codecs write the number,
@@ -420,8 +420,8 @@ pub trait Encoder {
     ) -> Result<(), EncodeError>
     where
         Self: Sized,
-        ensures writes { Writes writer self.old (prefix_records tag (name_of name)
-            (own_records T.meaning value.now)) (T.meaning.IsOfType value.now) self.new result }
+        ensures writes { WritesValue writer (after_tag tag T.meaning (name_of name)) value.now self.old
+            self.new result }
         ensures depth_first { NeedsDepth writer self.old result }
     {
         self.open_explicit_prefix(tag, name)?;

@@ -6,9 +6,10 @@ ghost use Rattle.std.specs.Prelude.{◌≡◌, ◌↔◌, List, ℕ, true};
 use crate::decoder::RecordDecoder;
 use asn1_dec::Decoder;
 
-/// A law of the decoder: what remains to be read by it is what types see, and it takes any bytes as one value of an open type.
+/// A law of the decoder: what remains to be read is what types see (`remains`), and it takes any bytes as one value of an open
+/// type.
 pub fn the_decoder_takes_any_bytes(decoder: &RecordDecoder<'_>)
-    ensures stands { (ahead : Remaining) →
+    ensures remains { (ahead : Remaining) →
         ⟦<RecordDecoder<'static> as Decoder>⟧.reader.remains decoder.now ahead ↔
         Remains decoder.now ahead }
     ensures takes { (bytes : List ℕ) →

@@ -18,7 +18,8 @@ use asn1_values::IntegerType;
 use std::alloc::{AllocError, Global};
 use std::mem;
 
-/// An encoder that keeps what it is given, without constraints and tables, as a tree of records. It rejects nothing.
+/// An encoder that keeps what it is given, without constraints and tables but for the name of an ENUMERATED item, as a tree of
+/// records. It rejects nothing.
 #[derive(Drop)]
 pub struct RecordEncoder {
     alloc: Global,

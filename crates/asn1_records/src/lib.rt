@@ -2,7 +2,7 @@
 //!
 //! | Item | What it is |
 //! |---|---|
-//! | [`Record`], [`Head`], [`Content`], [`Mark`], [`Side`] | a record as a program has it, without constraints and tables |
+//! | [`Record`], [`Head`], [`Content`], [`Mark`], [`Side`] | a record as a program has it, without constraints and tables but for the name of an ENUMERATED item |
 //! | [`RecordEncoder`] | the encoder to which a type is written, and which answers the records |
 //! | [`laws`] | what the encoder is as types see it, what holds of records whatever is written, and what the derives give |
 //!

@@ -8,7 +8,7 @@ use asn1_codec::Side;
 use asn1_tags::{Identifier, Tag};
 use asn1_types::Any;
 
-/// A record, without constraints and tables: a content, or a scope that holds other records and presence marks, or the bytes
+/// A record, without constraints and tables but for the name of an ENUMERATED item: a content, or a scope that holds other records and presence marks, or the bytes
 /// of an open type, or a presence mark.
 #[derive(Drop)]
 pub enum Record {

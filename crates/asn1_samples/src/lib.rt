@@ -22,8 +22,8 @@
 //! - Each is read: from its records a codec gives an equal value (`Decode`), whatever the codec. The reader has a line
 //!   for each component (`decode_fields`) or alternative (`from_tag`). A component that may be absent is asked for under its own tag,
 //!   which what follows does not begin with; so it is in a group whose last components are absent, where what follows is after
-//!   the group, as the note of a `Visit` is. The proof too has a line for each component, by the steps of `PartWays` of `asn1_dec`. A tag that no alternative
-//!   has is refused with the name of the CHOICE.
+//!   the group, as the note of a `Visit` is. The proof too has a line for each component, by the steps of
+//!   `ReadingComponents` of `asn1_codec`. A tag that no alternative has is refused with the name of the CHOICE.
 //! - Each can be inside other types: `person_can_stand_inside` and the like.
 //! - The records of some values are written out: `person_records` and the like.
 //! - [`laws`] says which values are valid, when two values are equal, which names the tables have, and which types have an

@@ -24,16 +24,16 @@ module _ {O : Type 0} (F : Format O) where
     pub part : (before rs after : List Record) → F.rejects rs → F.rejects (before ++ (rs ++ after))
     pub inner : (h : Head) (rs : List Record) → F.rejects rs → F.rejects (holding h rs ∷ [])
 
-  -- The output carries the records, which are no higher than the depth, and the value that they are of has what it has by its
+  -- The output carries the records, which are nested no deeper than the depth, and the value that they are of has what it has by its
   -- type.
   pub record IsWritten (rs : List Record) (IsOfType : Type 0) (depth : ℕ) (output : O) : Type 0 where
     pub carried : F.carries output rs
     pub within_depth : highest rs ≤ depth
     pub of_type : IsOfType
 
-  -- There was no memory, or the records are higher than the depth, or rejected.
+  -- There was no memory, or the records are nested deeper than the depth, or rejected.
   pub record IsNotWritten (rs : List Record) (depth : ℕ) (e : EncodeError) : Type 0 where
-    pub too_high : e ≡ writing.Depth → depth < highest rs
+    pub too_deep : e ≡ writing.Depth → depth < highest rs
     pub rejected : IsCustom e → F.rejects rs
     pub not_failed : e ≢ writing.Failed
 
@@ -41,12 +41,12 @@ module _ {O : Type 0} (F : Format O) where
   abbrev pub WritesWhole : List Record → Type 0 → ℕ → Result O EncodeError → Type 0
   WritesWhole rs IsOfType depth result = MatchResult result (IsWritten rs IsOfType depth) (IsNotWritten rs depth)
 
--- The answer is one that this holds of, and the records are no higher than the depth; or there was no memory; or they are
+-- The answer is one that this holds of, and the records are nested no deeper than the depth; or there was no memory; or they are
 -- higher.
 abbrev pub ReadsWhole : {V : Type 0} → ℕ → ℕ → (V → Type 0) → Result V DecodeError → Type 0
 ReadsWhole height depth Is result =
     MatchResult result (λ w. Is w × (height ≤ depth)) (MayFail depth height)
 
--- The answer is this error of the type; or there was no memory, or the records are higher than the depth.
+-- The answer is this error of the type; or there was no memory, or the records are nested deeper than the depth.
 abbrev pub RefusesWhole : {V : Type 0} → ℕ → ℕ → DecodeError → Result V DecodeError → Type 0
 RefusesWhole height depth own result = MatchResult result (λ _. ⊥) (λ e. MayFail depth height e ⊎ (e ≡ own))

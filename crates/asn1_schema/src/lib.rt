@@ -14,7 +14,7 @@
 //! What the contracts promise, and the words that they use:
 //!
 //! - An output carries lists of records (`Format` of `specs/Rules.antt`). `write_value` answers an output that carries the
-//!   value's own records, which are no higher than the depth, and tells that the value has what each value of its type has
+//!   value's own records, which are nested no deeper than the depth, and tells that the value has what each value of its type has
 //!   (`IsWritten`); it fails as `IsNotWritten` says. Of an output that carries the own records of a valid value of a type that
 //!   can be inside others, `read_value` makes an equal value; it fails only if memory runs out, or where the records are
 //!   higher than the depth (`ReadsWhole`). An error by which a type states to refuse what it has read is answered as it

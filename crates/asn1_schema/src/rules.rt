@@ -22,7 +22,7 @@ pub trait Rules {
     /// Writes a value under its type's own tag, constraints and name, with at most this many nested scopes.
     ///
     /// # Errors
-    /// [`EncodeError::Depth`] only where the value's records are higher than the depth, [`EncodeError::Custom`] only where the
+    /// [`EncodeError::Depth`] only where the value's records are nested deeper than the depth, [`EncodeError::Custom`] only where the
     /// codec rejects them, and else [`EncodeError::Memory`].
     fn write_value<T: Encode>(&self, value: &T, depth: usize) -> Result<Self::Output, EncodeError>
         ensures { WritesWhole format (own_records T.meaning value.now)
@@ -32,7 +32,7 @@ pub trait Rules {
     ///
     /// # Errors
     /// Where the output carries the own records of a valid value of a well-tagged type, [`DecodeError::Depth`] only where these
-    /// are higher than the depth, and else [`DecodeError::Memory`]. Where it carries records that the type refuses, the error of
+    /// are nested deeper than the depth, and else [`DecodeError::Memory`]. Where it carries records that the type refuses, the error of
     /// the type, or one of these two in the same way. Of other outputs nothing is said.
     fn read_value<T: Decode>(&self, output: &Self::Output, depth: usize) -> Result<T, DecodeError>
         ensures read { (v : T) → CanStandInside T.meaning → T.meaning.IsOfType v →
