@@ -1,3 +1,5 @@
+pub mod FilterLaws
+pub mod NestedLaws
 pub mod NodeHeights
 pub mod NodeLaws
 pub mod Validity

@@ -1,5 +1,5 @@
 -- One level of a node, as a reader sees it.
-use Rattle.std.proofs.Common.{◌≡◌, ℕ, ◌+◌, ◌≤◌, true, List, [], ◌∷◌, ◌++◌, inl, inr, arith, rules, subst, ◌∙◌}
+use Rattle.std.proofs.Common.{◌≡◌, ◌+◌, true, List, [], ◌∷◌, ◌++◌, rules, subst, ◌∙◌}
 use Rattle.std.specs.Cmp.Lexicographic.{pointwise}
 use Rattle.std.specs.List.{flat_map}
 use Rattle.std.specs.Option.{option_eq}
@@ -8,8 +8,7 @@ use Rattle.std.specs.String.{string_eq}
 use Rattle.std.proofs.lemmas.Bool.{and_from}
 use Rattle.asn1_components.proofs.Apart.{nothing_follows, sequence_apart}
 use Rattle.asn1_components.specs.Components.{all_components}
-use Rattle.asn1_codec.specs.declared.decode_error.DecodeError.{DecodeError}
-use Rattle.asn1_codec.specs.Reading.{MayFail, Reader, Outside}
+use Rattle.asn1_codec.specs.Reading.{Reader, Outside}
 use Rattle.asn1_model.specs.ConstraintSets.{ConstraintSet, unconstrained}
 use Rattle.asn1_model.specs.Meaning.{CanStandInside, own_records, tags}
 use Rattle.asn1_model.specs.Records.{Name, Record, highest, holding, sequence, sequence_of}
@@ -48,11 +47,6 @@ label_apart v =
 -- so high is a node under whatever tag
 pub two_higher : (v : Node) (t : Tag) (c : ConstraintSet) (n : Name) → highest (node_meaning.records v t c n) ≡ highest (flat_map (own_records node_meaning) (children_of v)) + 2
 two_higher v t c n = node_height v
-
--- a failure this many scopes inside
-pub fails_deeper : {e : DecodeError} {a g : ℕ} (b h scopes : ℕ) → b ≡ a + scopes → g + scopes ≤ h → MayFail a g e → MayFail b h e
-fails_deeper b h scopes deeper low (inl memory) = inl memory
-fails_deeper b h scopes deeper low (inr deep) = inr (deep.0, omega (arith, deep.1, deeper, low))
 
 -- nodes with equal labels and equal children are equal
 pub same_nodes : (w v : Node) → option_eq string_eq (out-Node w).label (out-Node v).label ≡ true → pointwise ghosts.eq (out-Node w).children.items (out-Node v).children.items ≡ true → ghosts.eq w v ≡ true

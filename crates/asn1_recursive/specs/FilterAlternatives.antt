@@ -15,7 +15,7 @@ use Rattle.asn1_model.specs.WellFormed.{well_formed_append, well_formed_elements
 use Rattle.asn1_model.specs.TaggedTypes.{tagged}
 use Rattle.asn1_model.specs.Tags.{CHOICE, context}
 use Rattle.asn1_choices.specs.Alternatives.{Alternatives, OneOf, SaysTheSame, ValueMeaning, all_of, alternative, chosen_meaning, closed, none_say, says_itself, value_meaning}
-use Rattle.asn1_choices.specs.ChoiceTypes.{alternatives_with_itself, inside_itself, itself_under, table_with_itself}
+use Rattle.asn1_choices.specs.ChoiceTypes.{alternatives_with_itself, choice_holding_itself, inside_itself, itself_under, table_with_itself}
 use Rattle.asn1_types.specs.Kinds.{set_of_type}
 use Rattle.asn1_recursive.specs.declared.filter.Filter.{Filter, And', Or', Not', Present, Row_of-Filter, end_of-Filter, more_of-Filter, items-the_row-Filter}
 
@@ -120,3 +120,7 @@ filter_agrees (Or' shape filters) =
     record { records = same.records; of_type = same.of_type; valid = same.valid }
 filter_agrees (Not' place inner) = says_itself
 filter_agrees (Present name) = says_itself
+
+-- What a filter means.
+abbrev pub filter_meaning : Meaning Filter
+filter_meaning = choice_holding_itself (codes "Filter") filter_alternatives_with filter_means filter_pick filter_agrees

@@ -8,7 +8,7 @@ use Rattle.asn1_model.specs.Meaning.{Meaning}
 use Rattle.asn1_model.specs.Tables.{Line, Table}
 use Rattle.asn1_model.specs.TaggedTypes.{tagged, untagged}
 use Rattle.asn1_choices.specs.Alternatives.{Alternatives, OneOf, SaysTheSame, ValueMeaning, all_of, alternative, closed, chosen_meaning, says_itself, value_meaning}
-use Rattle.asn1_choices.specs.ChoiceTypes.{alternatives_with_itself, itself_under, table_with_itself}
+use Rattle.asn1_choices.specs.ChoiceTypes.{alternatives_with_itself, choice_holding_itself, itself_under, table_with_itself}
 use Rattle.asn1_recursive.specs.declared.nested.Nested.{Nested, Null, Flag, Inner'}
 
 -- the alternatives, beside what a value inside another is to them
@@ -40,3 +40,7 @@ pub nested_agrees : (v : Nested) → SaysTheSame (nested_means v) (chosen_meanin
 nested_agrees Null = says_itself
 nested_agrees (Flag b) = says_itself
 nested_agrees (Inner' p inner) = says_itself
+
+-- What a value means.
+abbrev pub nested_meaning : Meaning Nested
+nested_meaning = choice_holding_itself (codes "Nested") nested_alternatives_with nested_means nested_pick nested_agrees

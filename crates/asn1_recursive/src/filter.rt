@@ -8,13 +8,18 @@
 //!     present [7] OCTET STRING
 //! }
 //! ```
-ghost use Rattle.std.specs.Prelude.{Bool, List, ℕ, codes};
+ghost use Rattle.std.specs.Prelude.{Bool, List, ℕ};
 ghost use Rattle.asn1_model.specs.Meaning.{CanStandInside};
-ghost use Rattle.asn1_choices.specs.ChoiceTypes.{choice_holding_itself, itself_agrees};
-ghost use Rattle.asn1_recursive.specs.FilterAlternatives.{filter_alternatives, filter_alternatives_with, filter_pick, filter_means, filter_agrees};
+ghost use Rattle.asn1_choices.specs.ChoiceTypes.{itself_agrees};
+ghost use Rattle.asn1_recursive.specs.FilterAlternatives.{filter_alternatives, filter_pick, filter_meaning, filter_agrees};
 
+use crate::filter_reader::{read_alternative, read_filter};
+use asn1_dec::{Decode, DecodeChoice, DecodeError, Decoder};
+use asn1_enc::{Encode, EncodeChoice, EncodeError, Encoder};
 use asn1_strings::OctetString;
-use asn1_types::{AsnType, Choice, ChoiceType, Class, Identifier, SetOf, Tag, TagTree, TypeTable};
+use asn1_types::{
+    AsnType, Choice, ChoiceType, Class, Constraints, Identifier, SetOf, Tag, TagTree, TypeTable,
+};
 
 /// Which entries a search finds: a CHOICE that holds itself, and sets of itself.
 #[derive(PartialEq, Eq, Debug, Drop)]
@@ -29,22 +34,22 @@ pub enum Filter {
     Present(OctetString),
 }
 
-const AND: Tag = Tag {
+pub(crate) const AND: Tag = Tag {
     class: Class::Context,
     value: 0,
 };
 
-const OR: Tag = Tag {
+pub(crate) const OR: Tag = Tag {
     class: Class::Context,
     value: 1,
 };
 
-const NOT: Tag = Tag {
+pub(crate) const NOT: Tag = Tag {
     class: Class::Context,
     value: 2,
 };
 
-const PRESENT: Tag = Tag {
+pub(crate) const PRESENT: Tag = Tag {
     class: Class::Context,
     value: 7,
 };
@@ -75,7 +80,7 @@ impl Choice for Filter {
 }
 
 impl AsnType for Filter {
-    ghost meaning = { choice_holding_itself (codes "Filter") filter_alternatives_with filter_means filter_pick filter_agrees };
+    ghost meaning = { filter_meaning };
 
     fn table() -> TypeTable {
         TypeTable::choice(Identifier(Some("Filter")), Filter::variants())
@@ -100,3 +105,53 @@ pub fn filter_can_stand_inside()
 pub fn each_filter_is_valid(filter: &Filter)
     ensures { (takes : List ℕ → Bool) → ⟦<Filter as AsnType>⟧.meaning.IsValid takes filter.now }
 {}
+
+impl Encode for Filter {
+    #[cycle(filter)]
+    fn encode_with_tag_and_constraints<E: Encoder>(
+        &self,
+        encoder: &mut E,
+        tag: Tag,
+        constraints: &Constraints<'_>,
+        name: Identifier,
+    ) -> Result<(), EncodeError> {
+        encoder.encode_choice_with_tag(tag, constraints, self, name)
+    }
+}
+
+impl EncodeChoice for Filter {
+    fn chosen_tag(&self) -> Tag {
+        match self {
+            Filter::And(_) => AND,
+            Filter::Or(_) => OR,
+            Filter::Not(_) => NOT,
+            Filter::Present(_) => PRESENT,
+        }
+    }
+
+    #[cycle(filter)]
+    fn encode_alternative<E: Encoder>(&self, encoder: &mut E) -> Result<(), EncodeError> {
+        match self {
+            Filter::And(filters) => filters.encode_with_tag(encoder, AND),
+            Filter::Or(filters) => filters.encode_with_tag(encoder, OR),
+            Filter::Not(inner) => inner.encode_with_tag(encoder, NOT),
+            Filter::Present(name) => name.encode_with_tag(encoder, PRESENT),
+        }
+    }
+}
+
+impl Decode for Filter {
+    fn decode_with_tag_and_constraints<D: Decoder>(
+        decoder: &mut D,
+        tag: Tag,
+        constraints: &Constraints<'_>,
+    ) -> Result<Filter, DecodeError> {
+        read_filter(decoder, tag, constraints)
+    }
+}
+
+impl DecodeChoice for Filter {
+    fn from_tag<D: Decoder>(decoder: &mut D, tag: Tag) -> Result<Filter, DecodeError> {
+        read_alternative(decoder, tag)
+    }
+}

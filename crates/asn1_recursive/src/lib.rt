@@ -1,10 +1,10 @@
-//! Sample types that hold themselves. One of them is written and read.
+//! Sample types that hold themselves.
 //!
 //! | Item | What it is |
 //! |---|---|
 //! | [`Node`] | a SEQUENCE with a list of its own type inside; it is written and read |
-//! | [`Filter`] | a CHOICE with sets of its own type inside: the filters of LDAP, cut down |
-//! | [`Nested`] | a CHOICE with its own type inside, under a tag |
+//! | [`Filter`] | a CHOICE with sets of its own type inside: the filters of LDAP, cut down; it is written and read |
+//! | [`Nested`] | a CHOICE with its own type inside, under a tag; it is written and read |
 //! | [`laws`] | the names of components and of alternatives, and which nodes are equal |
 //!
 //! What the contracts promise:
@@ -19,6 +19,8 @@
 //! - The records of a `Node` are written out (`node_records`, `node_is_two_higher_than_its_children`).
 //! - A `Node` is read by two functions that call each other. Each node opens two scopes, so the depth left of the decoder ends the
 //!   recursion, whatever the input.
+//! - A `Nested` and a `Filter` are read by functions that call one another too, and open a scope before each alternative. Their
+//!   proofs go by the steps of `asn1_open` for a CHOICE that holds itself.
 //! - [`laws`] says when two nodes are equal, and which names the tables have.
 //!
 //! The prover wants such a type, its tables, its writer and its reader in one crate. A call takes memory where a codec does,
@@ -26,8 +28,10 @@
 #![tactic(auto, using(asn1_tags::proofs::Leaves::tree_shapes))]
 
 mod filter;
+mod filter_reader;
 pub mod laws;
 mod nested;
+mod nested_reader;
 mod node;
 mod node_reader;
 

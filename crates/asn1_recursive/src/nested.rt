@@ -1,13 +1,18 @@
 //! `Nested ::= CHOICE { null NULL, flag BOOLEAN, inner [0] Nested }`
-ghost use Rattle.std.specs.Prelude.{Bool, List, ℕ, codes};
+ghost use Rattle.std.specs.Prelude.{Bool, List, ℕ};
 ghost use Rattle.asn1_model.specs.Meaning.{CanStandInside};
-ghost use Rattle.asn1_choices.specs.ChoiceTypes.{choice_holding_itself, itself_agrees};
-ghost use Rattle.asn1_recursive.specs.NestedAlternatives.{nested_alternatives, nested_alternatives_with, nested_pick, nested_means, nested_agrees};
+ghost use Rattle.asn1_choices.specs.ChoiceTypes.{itself_agrees};
+ghost use Rattle.asn1_recursive.specs.NestedAlternatives.{nested_alternatives, nested_pick, nested_meaning, nested_agrees};
 
-use asn1_types::{AsnType, Choice, ChoiceType, Class, Identifier, Tag, TagTree, TypeTable};
+use crate::nested_reader::{read_alternative, read_nested};
+use asn1_dec::{Decode, DecodeChoice, DecodeError, Decoder};
+use asn1_enc::{Encode, EncodeChoice, EncodeError, Encoder};
+use asn1_types::{
+    AsnType, Choice, ChoiceType, Class, Constraints, Identifier, Tag, TagTree, TypeTable,
+};
 
 /// A CHOICE that holds itself.
-#[derive(Drop)]
+#[derive(PartialEq, Eq, Debug, Drop)]
 pub enum Nested {
     /// `null NULL`
     Null,
@@ -17,7 +22,7 @@ pub enum Nested {
     Inner(Box<Nested>),
 }
 
-const INNER: Tag = Tag {
+pub(crate) const INNER: Tag = Tag {
     class: Class::Context,
     value: 0,
 };
@@ -47,7 +52,7 @@ impl Choice for Nested {
 }
 
 impl AsnType for Nested {
-    ghost meaning = { choice_holding_itself (codes "Nested") nested_alternatives_with nested_means nested_pick nested_agrees };
+    ghost meaning = { nested_meaning };
 
     fn table() -> TypeTable {
         TypeTable::choice(Identifier(Some("Nested")), Nested::variants())
@@ -72,3 +77,51 @@ pub fn nested_can_stand_inside()
 pub fn each_nested_is_valid(nested: &Nested)
     ensures { (takes : List ℕ → Bool) → ⟦<Nested as AsnType>⟧.meaning.IsValid takes nested.now }
 {}
+
+impl Encode for Nested {
+    #[cycle(nested)]
+    fn encode_with_tag_and_constraints<E: Encoder>(
+        &self,
+        encoder: &mut E,
+        tag: Tag,
+        constraints: &Constraints<'_>,
+        name: Identifier,
+    ) -> Result<(), EncodeError> {
+        encoder.encode_choice_with_tag(tag, constraints, self, name)
+    }
+}
+
+impl EncodeChoice for Nested {
+    fn chosen_tag(&self) -> Tag {
+        match self {
+            Nested::Null => Tag::NULL,
+            Nested::Flag(_) => Tag::BOOL,
+            Nested::Inner(_) => INNER,
+        }
+    }
+
+    #[cycle(nested)]
+    fn encode_alternative<E: Encoder>(&self, encoder: &mut E) -> Result<(), EncodeError> {
+        match self {
+            Nested::Null => ().encode(encoder),
+            Nested::Flag(flag) => flag.encode(encoder),
+            Nested::Inner(inner) => inner.encode_with_tag(encoder, INNER),
+        }
+    }
+}
+
+impl Decode for Nested {
+    fn decode_with_tag_and_constraints<D: Decoder>(
+        decoder: &mut D,
+        tag: Tag,
+        constraints: &Constraints<'_>,
+    ) -> Result<Nested, DecodeError> {
+        read_nested(decoder, tag, constraints)
+    }
+}
+
+impl DecodeChoice for Nested {
+    fn from_tag<D: Decoder>(decoder: &mut D, tag: Tag) -> Result<Nested, DecodeError> {
+        read_alternative(decoder, tag)
+    }
+}

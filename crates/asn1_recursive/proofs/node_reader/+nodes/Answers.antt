@@ -7,7 +7,8 @@ use Rattle.asn1_codec.proofs.ReadingSteps.{fails_below, flat_failure}
 use Rattle.asn1_model.specs.ConstraintSets.{unconstrained}
 use Rattle.asn1_model.specs.Meaning.{own_records}
 use Rattle.asn1_recursive.proofs.NodeHeights.{label_height}
-use Rattle.asn1_recursive.proofs.NodeLaws.{children_of, children_record, fails_deeper, inside_node, label_apart, node_can, one_level, same_nodes, two_higher}
+use Rattle.asn1_open.proofs.ChoiceSteps.{fails_deeper}
+use Rattle.asn1_recursive.proofs.NodeLaws.{children_of, children_record, inside_node, label_apart, node_can, one_level, same_nodes, two_higher}
 use Rattle.asn1_recursive.specs.NodeComponents.{node_agrees, node_meaning}
 use Rattle.asn1_recursive.specs.contracts.node.NodePartialEq.TheImpl.{ghosts}
 use Rattle.asn1_recursive.specs.declared.node.Node.{out-Node, out-roll-Node}

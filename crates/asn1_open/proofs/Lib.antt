@@ -1,0 +1,3 @@
+pub mod ChoiceSteps
+pub mod OpenLaws
+pub mod OpenValues

@@ -1,0 +1,37 @@
+-- What holds of each `Open`: it is valid, and how high its record is.
+use Rattle.std.proofs.Common.{◌≡◌, ◌≢◌, ◌+◌, ℕ, Bool, List, refl, arith, ap, ◌∙◌}
+use Rattle.asn1_model.specs.Meaning.{own_records}
+use Rattle.asn1_model.specs.Records.{highest}
+use Rattle.asn1_types.specs.declared.instance_of.InstanceOf.{InstanceOf as Instance}
+use Rattle.asn1_open.specs.OpenAlternatives.{open_meaning, open_means}
+use Rattle.asn1_open.specs.declared.open_value.Open.{Open, BitString, Bool as Flag, Integer, Null, ObjectIdentifier, OctetString, UniversalString, VisibleString, InstanceOf, InstanceOf'}
+use Rattle.std.specs.declared.alloc.Global.{Global}
+use Rattle.std.specs.declared.boxed.Box.{Box}
+
+pub each_open_valid : (v : Open) (takes : List ℕ → Bool) → (open_means v).IsValid takes
+each_open_valid (BitString string) takes = tt
+each_open_valid (Flag flag) takes = tt
+each_open_valid (Integer number) takes = tt
+each_open_valid Null takes = tt
+each_open_valid (ObjectIdentifier arcs) takes = tt
+each_open_valid (OctetString string) takes = tt
+each_open_valid (UniversalString string) takes = tt
+each_open_valid (VisibleString string) takes = tt
+each_open_valid (InstanceOf' place type_id value) takes = (tt, (each_open_valid value takes, tt))
+
+-- an INSTANCE OF, as the alternative that it is
+pub instance_height : (v : Open) (instance : Box (Instance Open) Global) → v ≡ InstanceOf instance →
+    highest (own_records open_meaning v) ≡ highest (own_records open_meaning instance.value.value) + 3
+instance_height v instance is = ap (λ w. highest (own_records open_meaning w)) is ∙ omega arith
+
+-- every other alternative
+pub flat_height : (v : Open) → ((instance : Box (Instance Open) Global) → v ≢ InstanceOf instance) → highest (own_records open_meaning v) ≡ 1
+flat_height (BitString string) other = refl
+flat_height (Flag flag) other = refl
+flat_height (Integer number) other = refl
+flat_height Null other = refl
+flat_height (ObjectIdentifier arcs) other = refl
+flat_height (OctetString string) other = refl
+flat_height (UniversalString string) other = refl
+flat_height (VisibleString string) other = refl
+flat_height (InstanceOf' place type_id value) other = absurd (other (record { ptr = place.ptr; alloc = place.alloc; value = record { type_id = type_id; value = value } }) refl)

@@ -1,0 +1,2 @@
+pub mod ChoiceReading
+pub mod OpenAlternatives

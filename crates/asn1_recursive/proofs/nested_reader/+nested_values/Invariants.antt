@@ -1,0 +1,11 @@
+use Rattle.std.proofs.Common.{◌+◌, ◌*◌}
+use Rattle.asn1_recursive.proofs.nested_reader.+nested_values.Given as goal
+
+abbrev pub decreases-read_nested : goal.decreases-read_nested
+decreases-read_nested g l = 3 * g.D.Decoder.reader.depth_left l.decoder.now + 1
+
+abbrev pub decreases-read_untagged : goal.decreases-read_untagged
+decreases-read_untagged g l = 3 * g.D.Decoder.reader.depth_left l.decoder.now
+
+abbrev pub decreases-read_alternative : goal.decreases-read_alternative
+decreases-read_alternative g l = 3 * g.D.Decoder.reader.depth_left l.decoder.now + 2

@@ -1,0 +1,139 @@
+//! How a filter is read: by five functions that call one another.
+ghost use Rattle.asn1_choices.specs.Alternatives.{Each, all_of};
+ghost use Rattle.asn1_choices.specs.ChosenTags.{LacksTag};
+ghost use Rattle.asn1_codec.specs.DecodeErrors.{no_valid_choice, reason};
+ghost use Rattle.asn1_codec.specs.Reading.{KeepsDepth, Advances, Outside, ReadsBack, ReadsValue};
+ghost use Rattle.asn1_model.specs.Composites.{set_of_records};
+ghost use Rattle.asn1_model.specs.ConstraintSets.{constraint_set, unconstrained};
+ghost use Rattle.asn1_model.specs.Meaning.{own_records};
+ghost use Rattle.asn1_model.specs.Records.{Head, Name, Record, highest};
+ghost use Rattle.asn1_model.specs.Tags.{CHOICE};
+ghost use Rattle.asn1_open.specs.ChoiceReading.{ReadsChosen};
+ghost use Rattle.asn1_recursive.specs.FilterAlternatives.{filter_alternatives, filter_meaning, filter_pick};
+ghost use Rattle.asn1_recursive.specs.declared.filter.Filter.{Filter};
+ghost use Rattle.std.specs.Cmp.Lexicographic.{pointwise};
+ghost use Rattle.std.specs.List.{flat_map};
+ghost use Rattle.std.specs.Prelude.{◌≡◌, ◌≤◌, [], ◌∷◌, All, List, OnErr, OnOk, codes, length, true};
+ghost use Rattle.std.specs.Result.{IsErrAnd};
+
+use crate::filter::{AND, Filter, NOT, OR, PRESENT};
+use asn1_dec::{Decode, DecodeError, Decoder};
+use asn1_strings::OctetString;
+use asn1_types::{Constraints, SetOf, Tag};
+
+/// A filter under a tag: untagged under the CHOICE marker tag, and else after the tag.
+#[cycle(filters)]
+pub(crate) fn read_filter<D: Decoder>(
+    decoder: &mut D,
+    tag: Tag,
+    constraints: &Constraints<'_>,
+) -> Result<Filter, DecodeError>
+    ensures read { ReadsValue D.reader filter_meaning ⟦<Filter as PartialEq>⟧.eq tag
+        (constraint_set constraints.now) decoder.old decoder.new result }
+    ensures keeps_depth { KeepsDepth D.reader decoder.old decoder.new result }
+{
+    if tag.is_choice() {
+        return read_untagged(decoder, constraints);
+    }
+    decoder.open_explicit_prefix(tag)?;
+    let filter = read_untagged(decoder, &Constraints::NONE)?;
+    decoder.close()?;
+    Ok(filter)
+}
+
+/// A filter without a tag. It opens a scope before the alternative is read, so the depth left ends
+/// the recursion.
+#[cycle(filters)]
+fn read_untagged<D: Decoder>(
+    decoder: &mut D,
+    constraints: &Constraints<'_>,
+) -> Result<Filter, DecodeError>
+    ensures read { ReadsValue D.reader filter_meaning ⟦<Filter as PartialEq>⟧.eq CHOICE
+        (constraint_set constraints.now) decoder.old decoder.new result }
+    ensures keeps_depth { KeepsDepth D.reader decoder.old decoder.new result }
+{
+    let chosen = decoder.open_choice::<Filter>(constraints)?;
+    let filter = match read_alternative(decoder, chosen) {
+        Ok(filter) => filter,
+        Err(error) => return Err(decoder.refuse(error)),
+    };
+    decoder.close()?;
+    Ok(filter)
+}
+
+/// The alternative that can begin with the tag.
+#[cycle(filters)]
+pub(crate) fn read_alternative<D: Decoder>(decoder: &mut D, tag: Tag) -> Result<Filter, DecodeError>
+    ensures read { ReadsChosen D.reader filter_alternatives filter_pick ⟦<Filter as PartialEq>⟧.eq tag
+        decoder.old decoder.new result }
+    ensures unknown { Each (LacksTag tag) (all_of filter_alternatives) →
+        IsErrAnd result (λ e. reason e ≡ no_valid_choice (codes "Filter")) }
+    ensures same_depth { OnOk result (D.reader.depth_left decoder.new ≡
+        D.reader.depth_left decoder.old) }
+{
+    match tag {
+        AND => {
+            let filters = read_set(decoder, AND)?;
+            Ok(Filter::And(filters))
+        }
+        OR => {
+            let filters = read_set(decoder, OR)?;
+            Ok(Filter::Or(filters))
+        }
+        NOT => {
+            let inner = read_filter(decoder, NOT, &Constraints::NONE)?;
+            match Box::new(decoder.global(), inner) {
+                Ok(inner) => Ok(Filter::Not(inner)),
+                Err(_) => Err(DecodeError::Memory),
+            }
+        }
+        PRESENT => {
+            let name = OctetString::decode_with_tag(decoder, PRESENT)?;
+            Ok(Filter::Present(name))
+        }
+        _ => Err(DecodeError::NoValidChoice("Filter")),
+    }
+}
+
+/// A set of filters under a tag, in whatever order they come.
+#[cycle(filters)]
+fn read_set<D: Decoder>(decoder: &mut D, tag: Tag) -> Result<SetOf<Filter>, DecodeError>
+    ensures read { (vs : List Filter) (n : Name) (rest : List Record) (outer : Outside) →
+        All filter_meaning.IsOfType vs → All (filter_meaning.IsValid D.reader.takes) vs →
+        ReadsBack D.reader decoder.old decoder.new (set_of_records tag unconstrained n
+        (flat_map (own_records filter_meaning) vs)) rest outer
+        (λ w. ⟦<SetOf<Filter> as PartialEq>⟧.eq w vs ≡ true) result }
+    ensures keeps_depth { KeepsDepth D.reader decoder.old decoder.new result }
+{
+    let bound = decoder.open_set_of(tag, &Constraints::NONE)?;
+    let filters = read_filters(decoder, bound)?;
+    decoder.close()?;
+    Ok(SetOf::from_vec(filters))
+}
+
+/// The filters that are left in the innermost scope, of which there are at most `bound`.
+#[cycle(filters)]
+fn read_filters<D: Decoder>(decoder: &mut D, bound: usize) -> Result<Vec<Filter>, DecodeError>
+    ensures read { (vs : List Filter) (scope : Head × List Record) (outer : Outside) →
+        All filter_meaning.IsOfType vs → All (filter_meaning.IsValid D.reader.takes) vs →
+        length vs ≤ bound →
+        Advances D.reader decoder.old decoder.new (highest (flat_map (own_records filter_meaning) vs))
+        (flat_map (own_records filter_meaning) vs, scope ∷ outer) ([], scope ∷ outer)
+        (λ w. pointwise ⟦<Filter as PartialEq>⟧.eq w.items vs ≡ true) result }
+    ensures same_depth { OnOk result (D.reader.depth_left decoder.new ≡
+        D.reader.depth_left decoder.old) }
+    ensures has_failed { OnErr result (D.reader.failed decoder.new ≡ true) }
+{
+    let mut filters = Vec::new(decoder.global());
+    for _index in 0..bound {
+        if !decoder.more()? {
+            return Ok(filters);
+        }
+        let filter = read_filter(decoder, Tag::CHOICE, &Constraints::NONE)?;
+        match filters.push(filter) {
+            Ok(()) => {}
+            Err(_) => return Err(decoder.refuse(DecodeError::Memory)),
+        }
+    }
+    Ok(filters)
+}

@@ -1,0 +1,5 @@
+pub mod Outputs
+pub mod PiecesRead
+pub mod Remaining
+pub mod Steps
+pub mod Streams

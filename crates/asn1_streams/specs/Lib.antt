@@ -1,0 +1,11 @@
+pub mod Bytes
+pub mod Fronts
+pub mod Iters
+pub mod NoRules
+pub mod Outputs
+pub mod Pieces
+pub mod Progress
+pub mod Remaining
+pub mod RoundTrips
+pub mod Sources
+pub mod States

@@ -1,0 +1,11 @@
+-- What remains to be read of a stream of values.
+use Rattle.std.specs.Prelude.{◌≡◌, ℕ, ⊤, true, List, [], ◌∷◌}
+use Rattle.asn1_streams.specs.Fronts.{Fronts}
+use Rattle.asn1_streams.specs.Pieces.{AreFronts}
+
+-- The values that came are the same as those that were written, one by one, as far as both go, and
+-- what is unread are fronts of the others.
+abbrev pub Remains : {R V : Type 0} → Fronts R V → R → List V → List V → List ℕ → Type 0
+Remains F reader [] vs unread = AreFronts F reader vs unread
+Remains F reader (w ∷ ws) [] unread = ⊤
+Remains F reader (w ∷ ws) (v ∷ vs) unread = (F.same w v ≡ true) × Remains F reader ws vs unread

@@ -1,0 +1,135 @@
+//! Runs over a reader whose values are single bytes, and over rules that refuse everything.
+ghost use Rattle.asn1_streams.specs.Bytes.{byte_fronts, byte_front_is_cut};
+ghost use Rattle.std.proofs.Common.{rules};
+ghost use Rattle.asn1_streams.specs.NoRules.{no_format, no_format_is_lawful};
+
+use crate::{FrontReader, Iter, iter_of, read_pieces, round_trip_in_pieces, write_list};
+use asn1_schema::{Decode, DecodeError, Encode, EncodeError, Needed, RoundTripError, Rules};
+use std::alloc::Global;
+use std::process::Abort;
+
+/// Reads one byte as a value.
+#[derive(Clone, Copy, Drop)]
+struct ByteReader;
+
+impl FrontReader<u8> for ByteReader {
+    ghost fronts = { byte_fronts };
+
+    fn read_front(&self, input: &[u8]) -> Result<(u8, usize), DecodeError> {
+        match input {
+            [] => Err(DecodeError::Incomplete(Needed::Size(1))),
+            [first, ..] => Ok((*first, 1)),
+        }
+    }
+
+    ghost lawful = { record {
+      is_cut = λ reader bytes v n front. byte_front_is_cut bytes v n front;
+      within = λ reader bytes n cut. Prim.search rules;
+    } };
+}
+
+/// Writes and reads nothing.
+struct NoRules;
+
+impl Rules for NoRules {
+    type Output = Vec<u8>;
+
+    ghost format = { no_format };
+
+    fn write_value<T: Encode>(&self, _value: &T, _depth: usize) -> Result<Vec<u8>, EncodeError> {
+        Err(EncodeError::Custom("refused"))
+    }
+
+    fn read_value<T: Decode>(&self, _output: &Vec<u8>, _depth: usize) -> Result<T, DecodeError> {
+        Err(DecodeError::Custom("refused"))
+    }
+
+    ghost lawful = { no_format_is_lawful };
+}
+
+/// The next byte is this one, and then this many bytes have been consumed and shifted.
+fn assert_next(
+    rt: &impl Abort,
+    iter: &mut Iter<'_, u8, ByteReader>,
+    byte: u8,
+    consumed: u128,
+    shifted: u128,
+) {
+    assert!(rt; iter.next() == Some(Ok(byte)));
+    assert!(rt; iter.consumed() == consumed && iter.shifted() == shifted);
+}
+
+/// There is no next byte, and this is unread, before and after.
+fn assert_ends(rt: &impl Abort, iter: &mut Iter<'_, u8, ByteReader>) {
+    let consumed = iter.consumed();
+    assert!(rt; iter.next() == Some(Err(DecodeError::Incomplete(Needed::Size(1)))));
+    assert!(rt; iter.unread().is_empty() && iter.consumed() == consumed);
+}
+
+fn append(rt: &impl Abort, iter: &mut Iter<'_, u8, ByteReader>, piece: &[u8]) {
+    iter.append_bytes(piece).expect(rt, "memory");
+}
+
+/// What is read of these pieces, when `n` values are asked for.
+fn assert_read(
+    rt: &impl Abort,
+    alloc: Global,
+    pieces: &[&[u8]],
+    n: usize,
+    values: &[u8],
+    last: Option<DecodeError>,
+) {
+    let read = read_pieces(alloc, ByteReader, pieces, n).expect(rt, "memory");
+    assert!(rt; read.values.as_slice() == values && read.last == last);
+}
+
+#[test]
+fn bytes_that_were_read_are_dropped_at_half(rt: HostRuntime) {
+    let mut iter = iter_of(rt.alloc(), &[], ByteReader);
+    append(&rt, &mut iter, &[1, 2, 3, 4]);
+    assert_next(&rt, &mut iter, 1, 1, 0);
+    assert_next(&rt, &mut iter, 2, 2, 0);
+    assert_next(&rt, &mut iter, 3, 3, 1);
+    assert_next(&rt, &mut iter, 4, 4, 1);
+    assert_ends(&rt, &mut iter);
+}
+
+#[test]
+fn borrowed_bytes_are_copied_at_the_first_append(rt: HostRuntime) {
+    let mut iter = Iter::new(rt.alloc(), &[1, 2], ByteReader);
+    assert_next(&rt, &mut iter, 1, 1, 0);
+    append(&rt, &mut iter, &[3]);
+    assert!(rt; iter.unread() == [2, 3].as_slice());
+    assert!(rt; iter.consumed() == 1 && iter.shifted() == 0);
+}
+
+#[test]
+fn values_are_read_from_pieces(rt: HostRuntime) {
+    let alloc = rt.alloc();
+    let pieces: &[&[u8]] = &[&[1, 2], &[], &[3]];
+    let missing = Some(DecodeError::Incomplete(Needed::Size(1)));
+    assert_read(&rt, alloc, pieces, 4, &[1, 2, 3], missing);
+    assert_read(&rt, alloc, pieces, 2, &[1, 2], None);
+    assert_read(&rt, alloc, pieces, 0, &[], None);
+    assert_read(&rt, alloc, &[], 4, &[], None);
+}
+
+#[test]
+fn rules_that_refuse_write_only_the_empty_list(rt: HostRuntime) {
+    let alloc = rt.alloc();
+    let none = write_list::<u8, NoRules>(alloc, &NoRules, &[], 1).expect(&rt, "no value");
+    assert!(rt; none.is_empty());
+    let refused = write_list::<u8, NoRules>(alloc, &NoRules, &[7], 1).err();
+    assert!(rt; refused == Some(EncodeError::Custom("refused")));
+}
+
+#[test]
+fn a_list_is_written_before_it_is_read_back(rt: HostRuntime) {
+    let alloc = rt.alloc();
+    let none = round_trip_in_pieces(alloc, &NoRules, ByteReader, &[], 1, &[2, 0]).expect(
+        &rt, "no value",
+    );
+    assert!(rt; none.values.is_empty() && none.last.is_none());
+    let refused = round_trip_in_pieces(alloc, &NoRules, ByteReader, &[7], 1, &[2, 0]).err();
+    assert!(rt; refused == Some(RoundTripError::Writing(EncodeError::Custom("refused"))));
+}
