@@ -1,0 +1,153 @@
+-- Packed records are items: the header is found in front of whatever follows.
+use Rattle.std.proofs.Common.{◌≡◌, ℕ, ◌-◌, Bool, true, false, Option, None, Some, List, [], ◌∷◌, ◌++◌, append_assoc, length, take, refl, sym, ap, ◌∙◌, arith, length-append}
+use Rattle.std.proofs.Math.Seq.{take-append_seam}
+use Rattle.std.proofs.lemmas.Nat.{from_be_bytes-to_be_bytes_4}
+use Rattle.std.specs.Prelude.{if◌then◌else◌, ◌==◌, ◌&&◌, nat_le}
+use Rattle.std.specs.Option.{option_and_then}
+use Rattle.std.specs.Int.{w32, to_be_bytes, from_be_bytes}
+use borrow.Author.Tests.{eqb-true}
+use Rattle.asn1_tags.specs.Tags.{class_number}
+use Rattle.asn1_tags.specs.declared.classes.Class.{Class}
+use Rattle.asn1_tags.specs.declared.tags.Tag.{Tag}
+use Rattle.asn1_model.specs.Records as model
+use Rattle.asn1_model.specs.Records.{sequence, set, sequence_of, set_of, prefix, alternative}
+use Rattle.asn1_model.specs.Tags.{head_tag}
+use Rattle.asn1_items.specs.Headers.{Header, class_at, number_at, from_size, from_content, of_kind, from_class, header_at, is_one, is_one_item, kind_of}
+use Rattle.asn1_items.specs.Numbers.{four_bytes}
+use Rattle.asn1_items.specs.Items.{IsItem}
+use Rattle.asn1_items.proofs.Headers.{class_at-number}
+
+-- the number of the four bytes of a number
+abbrev pub number_at_four : ℕ → ℕ
+number_at_four n = from_be_bytes w32 (to_be_bytes w32 n)
+
+-- the header with more behind it
+abbrev pub extend : Header → List ℕ → Header
+extend h ys = record { kind = h.kind; tag = h.tag; content = h.content; size = h.size; body = h.body ++ ys }
+
+some_is : {A : Type 0} {x y : A} → Some x ≡ Some y → x ≡ y
+some_is e = cc
+
+from_size-append : (kind : ℕ) (t : Tag) (content : ℕ) (xs ys : List ℕ) (h : Header) → from_size kind t content xs ≡ Some h → from_size kind t content (xs ++ ys) ≡ Some (extend h ys)
+from_size-append kind t content (a ∷ b ∷ c ∷ d ∷ body) ys h e = ap (λ g. Some (extend g ys)) (some_is e)
+from_size-append kind t content _ ys h e = cc
+
+from_content-append : (kind : ℕ) (t : Tag) (xs ys : List ℕ) (h : Header) → from_content kind t xs ≡ Some h → from_content kind t (xs ++ ys) ≡ Some (extend h ys)
+from_content-append kind t [] ys h e = cc
+from_content-append kind t (content ∷ xs) ys h e = from_size-append kind t content xs ys h e
+
+of_kind-append : (kind : ℕ) (t : Tag) (xs ys : List ℕ) (h : Header) → of_kind kind t xs ≡ Some h → of_kind kind t (xs ++ ys) ≡ Some (extend h ys)
+of_kind-append kind t xs ys h e = by (kind == 1) e
+  where
+    by : (b : Bool) → (if b then from_content kind t xs else from_size kind t 0 xs) ≡ Some h → (if b then from_content kind t (xs ++ ys) else from_size kind t 0 (xs ++ ys)) ≡ Some (extend h ys)
+    by true e = from_content-append kind t xs ys h e
+    by false e = from_size-append kind t 0 xs ys h e
+
+from_class-append : (kind : ℕ) (xs ys : List ℕ) (h : Header) → from_class kind xs ≡ Some h → from_class kind (xs ++ ys) ≡ Some (extend h ys)
+from_class-append kind (class ∷ a ∷ b ∷ c ∷ d ∷ rest) ys h e = by (class_at class) e
+  where
+    by : (o : Option Class) → option_and_then (λ k. of_kind kind (record { class = k; value = number_at a b c d }) rest) o ≡ Some h →
+        option_and_then (λ k. of_kind kind (record { class = k; value = number_at a b c d }) (rest ++ ys)) o ≡ Some (extend h ys)
+    by None e = cc
+    by (Some k) e = of_kind-append kind (record { class = k; value = number_at a b c d }) rest ys h e
+from_class-append kind _ ys h e = cc
+
+-- the header stays with any bytes behind
+pub header_at-append : (xs ys : List ℕ) (h : Header) → header_at xs ≡ Some h → header_at (xs ++ ys) ≡ Some (extend h ys)
+header_at-append [] ys h e = cc
+header_at-append (kind ∷ rest) ys h e = by (nat_le 1 kind && nat_le kind 7) e
+  where
+    by : (b : Bool) → (if b then from_class kind rest else None) ≡ Some h → (if b then from_class kind (rest ++ ys) else None) ≡ Some (extend h ys)
+    by true e = from_class-append kind rest ys h e
+    by false e = cc
+
+-- What is one item, whatever follows it.
+pub record IsOneItem (own back : List ℕ) : Type 0 where
+  pub header : Header
+  pub at : header_at (own ++ back) ≡ Some header
+  pub inside : List ℕ
+  pub body : header.body ≡ inside ++ back
+  pub size : header.size ≡ length inside
+
+pub one_item : (own back : List ℕ) → is_one_item own ≡ true → IsOneItem own back
+one_item own back one = by (header_at own) refl one
+  where
+    by : (o : Option Header) → header_at own ≡ o → is_one o ≡ true → IsOneItem own back
+    by None found one = cc
+    by (Some h) found one = record { header = extend h back; at = header_at-append own back h found; inside = h.body; body = refl; size = sym (eqb-true (length h.body) h.size one) }
+
+-- a content
+pub content_item : (t : Tag) (content : ℕ) (inside bytes back : List ℕ) → IsItem 1 t (content ∷ []) inside bytes →
+    header_at (bytes ++ back) ≡ Some (record { kind = 1; tag = t; content = content; size = length inside; body = inside ++ back })
+content_item t content inside bytes back item =
+    let tag : record { class = t.class; value = number_at_four t.value } ≡ t = ap (λ n. record { class = t.class; value = n }) (from_be_bytes-to_be_bytes_4 t.value item.tag_fits) in
+    let size : number_at_four (length inside) ≡ length inside = from_be_bytes-to_be_bytes_4 (length inside) item.size_fits in
+    ap (λ b. header_at (b ++ back)) item.are
+    ∙ ap (option_and_then (λ k. Some (record { kind = 1; tag = record { class = k; value = number_at_four t.value }; content = content; size = number_at_four (length inside); body = inside ++ back }))) (class_at-number t.class)
+    ∙ ap (λ u. Some (record { kind = 1; tag = u; content = content; size = number_at_four (length inside); body = inside ++ back })) tag
+    ∙ ap (λ n. Some (record { kind = 1; tag = t; content = content; size = n; body = inside ++ back })) size
+
+-- a scope
+scope_item_of : (kind : ℕ) (t : Tag) (inside bytes back : List ℕ) → (nat_le 1 kind && nat_le kind 7) ≡ true → (kind == 1) ≡ false → IsItem kind t [] inside bytes →
+    header_at (bytes ++ back) ≡ Some (record { kind = kind; tag = t; content = 0; size = length inside; body = inside ++ back })
+scope_item_of kind t inside bytes back known scope item =
+    let tag : record { class = t.class; value = number_at_four t.value } ≡ t = ap (λ n. record { class = t.class; value = n }) (from_be_bytes-to_be_bytes_4 t.value item.tag_fits) in
+    let size : number_at_four (length inside) ≡ length inside = from_be_bytes-to_be_bytes_4 (length inside) item.size_fits in
+    let rest = four_bytes t.value ++ four_bytes (length inside) ++ inside ++ back in
+    ap (λ b. header_at (b ++ back)) item.are
+    ∙ ap (λ b. if b then from_class kind (class_number t.class ∷ rest) else None) known
+    ∙ ap (option_and_then (λ k. of_kind kind (record { class = k; value = number_at_four t.value }) (four_bytes (length inside) ++ inside ++ back))) (class_at-number t.class)
+    ∙ ap (λ b. if b then from_content kind (record { class = t.class; value = number_at_four t.value }) (four_bytes (length inside) ++ inside ++ back) else from_size kind (record { class = t.class; value = number_at_four t.value }) 0 (four_bytes (length inside) ++ inside ++ back)) scope
+    ∙ ap (λ u. Some (record { kind = kind; tag = u; content = 0; size = number_at_four (length inside); body = inside ++ back })) tag
+    ∙ ap (λ n. Some (record { kind = kind; tag = t; content = 0; size = n; body = inside ++ back })) size
+
+pub scope_item : (h : model.Head) (inside bytes back : List ℕ) → IsItem (kind_of h) (head_tag h) [] inside bytes →
+    header_at (bytes ++ back) ≡ Some (record { kind = kind_of h; tag = head_tag h; content = 0; size = length inside; body = inside ++ back })
+scope_item (sequence t table n) inside bytes back item = scope_item_of 2 t inside bytes back refl refl item
+scope_item (set t table n) inside bytes back item = scope_item_of 3 t inside bytes back refl refl item
+scope_item (sequence_of t c n) inside bytes back item = scope_item_of 4 t inside bytes back refl refl item
+scope_item (set_of t c n) inside bytes back item = scope_item_of 5 t inside bytes back refl refl item
+scope_item (prefix t n) inside bytes back item = scope_item_of 6 t inside bytes back refl refl item
+scope_item (alternative t c table n) inside bytes back item = scope_item_of 7 t inside bytes back refl refl item
+
+-- What stands before the body is the rest of the bytes.
+size_front : (kind : ℕ) (t : Tag) (content : ℕ) (xs : List ℕ) (h : Header) → from_size kind t content xs ≡ Some h → (front : List ℕ) × (xs ≡ front ++ h.body)
+size_front kind t content (a ∷ b ∷ c ∷ d ∷ body) h e = (a ∷ b ∷ c ∷ d ∷ [], ap (λ (g : Header). a ∷ b ∷ c ∷ d ∷ g.body) (some_is e))
+size_front kind t content _ h e = cc
+
+kind_front : (kind : ℕ) (t : Tag) (xs : List ℕ) (h : Header) → of_kind kind t xs ≡ Some h → (front : List ℕ) × (xs ≡ front ++ h.body)
+kind_front kind t xs h e = by (kind == 1) xs e
+  where
+    by : (b : Bool) (xs : List ℕ) → (if b then from_content kind t xs else from_size kind t 0 xs) ≡ Some h → (front : List ℕ) × (xs ≡ front ++ h.body)
+    by true [] e = cc
+    by true (content ∷ xs) e = let f = size_front kind t content xs h e in (content ∷ f.0, ap (λ l. content ∷ l) f.1)
+    by false xs e = size_front kind t 0 xs h e
+
+class_front : (kind : ℕ) (xs : List ℕ) (h : Header) → from_class kind xs ≡ Some h → (front : List ℕ) × (xs ≡ front ++ h.body)
+class_front kind (class ∷ a ∷ b ∷ c ∷ d ∷ rest) h e = by (class_at class) e
+  where
+    by : (o : Option Class) → option_and_then (λ k. of_kind kind (record { class = k; value = number_at a b c d }) rest) o ≡ Some h → (front : List ℕ) × (class ∷ a ∷ b ∷ c ∷ d ∷ rest ≡ front ++ h.body)
+    by None e = cc
+    by (Some k) e = let f = kind_front kind (record { class = k; value = number_at a b c d }) rest h e in (class ∷ a ∷ b ∷ c ∷ d ∷ f.0, ap (λ l. class ∷ a ∷ b ∷ c ∷ d ∷ l) f.1)
+class_front kind _ h e = cc
+
+pub header_front : (xs : List ℕ) (h : Header) → header_at xs ≡ Some h → (front : List ℕ) × (xs ≡ front ++ h.body)
+header_front [] h e = cc
+header_front (kind ∷ rest) h e = by (nat_le 1 kind && nat_le kind 7) e
+  where
+    by : (b : Bool) → (if b then from_class kind rest else None) ≡ Some h → (front : List ℕ) × (kind ∷ rest ≡ front ++ h.body)
+    by true e = let f = class_front kind rest h e in (kind ∷ f.0, ap (λ l. kind ∷ l) f.1)
+    by false e = cc
+
+-- what is in front of a rest
+pub front_is : (xs front inside back : List ℕ) (n : ℕ) → xs ≡ front ++ (inside ++ back) → n ≡ length back → xs ≡ take (length xs - n) xs ++ back
+front_is xs front inside back n is long =
+    let joined : xs ≡ (front ++ inside) ++ back = is ∙ sym (append_assoc front inside back) in
+    let enough : length xs - n ≡ length (front ++ inside) = omega (arith, ap length joined, length-append (front ++ inside) back) in
+    joined ∙ ap (λ l. l ++ back) (sym (ap (λ k. take k xs) enough ∙ ap (take (length (front ++ inside))) joined ∙ take-append_seam (front ++ inside) back))
+
+-- what is in front of one rest is one thing
+pub same_front : (xs ys back : List ℕ) → xs ++ back ≡ ys ++ back → xs ≡ ys
+same_front xs ys back e =
+    let long : length xs ≡ length ys = omega (arith, ap length e, length-append xs back, length-append ys back) in
+    sym (take-append_seam xs back) ∙ ap (take (length xs)) e ∙ ap (λ n. take n (ys ++ back)) long ∙ take-append_seam ys back

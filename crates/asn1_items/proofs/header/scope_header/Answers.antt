@@ -1,0 +1,18 @@
+use Rattle.std.proofs.Common.{ap, ◌∙◌}
+use Rattle.asn1_items.specs.Headers.{Header}
+use Rattle.asn1_items.proofs.Headers.{scope_header_is}
+use Rattle.asn1_items.proofs.Octets.{rest_is}
+use Rattle.asn1_items.proofs.header.scope_header.Goals as goal
+
+pub returns-clause-found : goal.returns-clause-found
+returns-clause-found c = λ h high e.
+    let found = scope_header_is c.args.kind c.args.bytes.now c.in-Some.class h high c.in-len9-up.len_at_least c.in-Some.ensures.number e in
+    let p = c.from_be_bytes.ensures in
+    let q = c.from_be_bytes-2.ensures in
+    record {
+      kind = ap (λ (g : Header). g.kind) found;
+      tag = (let t = ap (λ (g : Header). g.tag) found in cc);
+      content = ap (λ (g : Header). g.content) found;
+      size = q ∙ ap (λ (g : Header). g.size) found;
+      body = rest_is 9 c.args.bytes.now c.in-len9-up.len_at_least ∙ ap (λ (g : Header). g.body) found;
+    }

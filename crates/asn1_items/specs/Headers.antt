@@ -1,0 +1,93 @@
+-- The header of an item, as a function of the bytes, and the bytes that are one item. More bytes behind change nothing.
+use Rattle.std.specs.Prelude.{◌≡◌, ℕ, zero, suc, Bool, false, ◌&&◌, Option, None, Some, List, [], ◌∷◌, ◌==◌, nat_le, nat_eq, length, if◌then◌else◌, ⊤}
+use Rattle.std.specs.Option.{option_and_then}
+use Rattle.std.specs.Int.{w32, from_be_bytes}
+use Rattle.asn1_items.specs.Numbers.{four_bytes}
+use Rattle.asn1_items.specs.declared.header.Wanted.{Wanted}
+use Rattle.asn1_items.specs.declared.header.Wanted.TheVariants as wanted
+use Rattle.asn1_items.specs.declared.header.Header.{Header as Found}
+use Rattle.asn1_model.specs.Records.{Head, sequence, set, sequence_of, set_of, prefix, alternative}
+use Rattle.asn1_tags.specs.Tags.{class_number}
+use Rattle.asn1_tags.specs.declared.classes.Class.{Class}
+use Rattle.asn1_tags.specs.declared.classes.Class.TheVariants.{Universal, Application, Context, Private}
+use Rattle.asn1_tags.specs.declared.tags.Tag.{Tag}
+
+-- the kind of an item that holds others; an item of a content has the kind 1
+abbrev pub kind_of : Head → ℕ
+kind_of (sequence t table n) = 2
+kind_of (set t table n) = 3
+kind_of (sequence_of t c n) = 4
+kind_of (set_of t c n) = 5
+kind_of (prefix t n) = 6
+kind_of (alternative t c table n) = 7
+
+-- a tag: its class, and its number in four bytes
+abbrev pub tag_bytes : Tag → List ℕ
+tag_bytes t = class_number t.class ∷ four_bytes t.value
+
+-- What the bytes of an item begin with, and what follows. An item that holds others has no content kind, which is then 0.
+pub record Header : Type 0 where
+  pub kind : ℕ
+  pub tag : Tag
+  pub content : ℕ
+  pub size : ℕ
+  pub body : List ℕ
+
+-- the class of a byte
+abbrev pub class_at : ℕ → Option Class
+class_at zero = Some Universal
+class_at (suc zero) = Some Application
+class_at (suc (suc zero)) = Some Context
+class_at (suc (suc (suc zero))) = Some Private
+class_at (suc (suc (suc (suc byte)))) = None
+
+-- the number of four bytes
+abbrev pub number_at : ℕ → ℕ → ℕ → ℕ → ℕ
+number_at a b c d = from_be_bytes w32 (a ∷ b ∷ c ∷ d ∷ [])
+
+-- the header from its length on
+abbrev pub from_size : ℕ → Tag → ℕ → List ℕ → Option Header
+from_size kind tag content (a ∷ b ∷ c ∷ d ∷ body) = Some (record { kind = kind; tag = tag; content = content; size = number_at a b c d; body = body })
+from_size kind tag content _ = None
+
+-- from its content kind on
+abbrev pub from_content : ℕ → Tag → List ℕ → Option Header
+from_content kind tag (content ∷ rest) = from_size kind tag content rest
+from_content kind tag [] = None
+
+-- an item of a content, and one that holds others
+abbrev pub of_kind : ℕ → Tag → List ℕ → Option Header
+of_kind kind tag rest = if kind == 1 then from_content kind tag rest else from_size kind tag 0 rest
+
+-- from its class on
+abbrev pub from_class : ℕ → List ℕ → Option Header
+from_class kind (class ∷ a ∷ b ∷ c ∷ d ∷ rest) = option_and_then (λ k. of_kind kind (record { class = k; value = number_at a b c d }) rest) (class_at class)
+from_class kind _ = None
+
+-- the header
+abbrev pub header_at : List ℕ → Option Header
+header_at (kind ∷ rest) = if nat_le 1 kind && nat_le kind 7 then from_class kind rest else None
+header_at [] = None
+
+-- the bytes are one item, whose body is as long as its header says
+abbrev pub is_one : Option Header → Bool
+is_one (Some h) = nat_eq (length h.body) h.size
+is_one None = false
+
+abbrev pub is_one_item : List ℕ → Bool
+is_one_item bytes = is_one (header_at bytes)
+
+-- The header that the program found is this one.
+pub record IsHeader (found : Found) (h : Header) : Type 0 where
+  pub kind : found.kind ≡ h.kind
+  pub tag : found.tag ≡ h.tag
+  pub content : found.content ≡ h.content
+  pub size : found.size ≡ h.size
+  pub body : found.body.now ≡ h.body
+
+-- The header is what is wanted.
+abbrev pub Meets : Wanted → Header → Type 0
+Meets (wanted.Content t k) h = (h.kind ≡ 1) × (h.tag ≡ t) × (h.content ≡ k)
+Meets (wanted.Scope k t) h = (h.kind ≡ k) × (h.tag ≡ t)
+Meets wanted.Alternative h = h.kind ≡ 7
+Meets wanted.Any h = ⊤

@@ -1,0 +1,79 @@
+-- The bytes of records: a header and what is inside, item by item.
+use Rattle.std.specs.Prelude.{◌≡◌, ◌⊎◌, ℕ, ◌<◌, ◌≤◌, ◌^◌, ⊤, ◌&&◌, List, [], ◌∷◌, ◌++◌, length, nat_le, IsTrue, if◌then◌else◌}
+use Rattle.asn1_items.specs.Contents.{IsContent, content_kind}
+use Rattle.asn1_items.specs.Headers.{is_one_item, kind_of, tag_bytes}
+use Rattle.asn1_items.specs.Numbers.{four_bytes}
+use Rattle.asn1_model.specs.Records.{Record, Records, Mark, scalar, scope, raw, mark, none, more, present, absent, group_start, group_absent, group_end}
+use Rattle.asn1_model.specs.Tags.{head_tag}
+use Rattle.asn1_tags.specs.declared.tags.Tag.{Tag}
+
+-- A form of items: the bytes of each presence mark, and which bytes are the value of an open type.
+pub record ItemForm : Type 1 where
+  pub mark_bytes : Mark → List ℕ
+  pub IsOpenType : List ℕ → Type 0
+
+-- An item: its kind, its tag, its content kind if it has one, the length of what is inside, and what is inside. The number of
+-- the tag and the length are below 2^32.
+pub record IsItem (kind : ℕ) (t : Tag) (content_kind inside bytes : List ℕ) : Type 0 where
+  pub are : bytes ≡ kind ∷ tag_bytes t ++ content_kind ++ four_bytes (length inside) ++ inside
+  pub tag_fits : t.value < 2 ^ 32
+  pub size_fits : length inside < 2 ^ 32
+
+-- An item that has something inside of which this holds.
+pub record Holds (IsInside : List ℕ → Type 0) (kind : ℕ) (t : Tag) (content_kind bytes : List ℕ) : Type 0 where
+  pub inside : List ℕ
+  pub is : IsInside inside
+  pub item : IsItem kind t content_kind inside bytes
+
+-- The bytes of one thing, and after them those of others.
+pub record IsJoined (IsFirst AreOthers : List ℕ → Type 0) (bytes : List ℕ) : Type 0 where
+  pub first : List ℕ
+  pub others : List ℕ
+  pub is_first : IsFirst first
+  pub are_others : AreOthers others
+  pub are : bytes ≡ first ++ others
+
+-- The record has these bytes, in a form. Names, constraints and tables have none.
+abbrev mutual
+  pub HasBytes : ItemForm → Record → List ℕ → Type 0
+  HasBytes F (scalar t c n x) bytes = Holds (IsContent x) 1 t (content_kind x ∷ []) bytes
+  HasBytes F (scope h rs) bytes = Holds (HaveBytes F rs) (kind_of h) (head_tag h) [] bytes
+  HasBytes F (raw n own) bytes = (bytes ≡ own) × F.IsOpenType own
+  HasBytes F (mark m) bytes = bytes ≡ F.mark_bytes m
+
+  pub HaveBytes : ItemForm → Records → List ℕ → Type 0
+  HaveBytes F none bytes = bytes ≡ []
+  HaveBytes F (more r rs) bytes = IsJoined (HasBytes F r) (HaveBytes F rs) bytes
+
+-- There is a record that is too long in a form, at some depth: 2^32 bytes or more are inside.
+abbrev mutual
+  pub IsTooLong : ItemForm → Record → Type 0
+  IsTooLong F (scalar t c n x) = (content : List ℕ) × IsContent x content × (2 ^ 32 ≤ length content)
+  IsTooLong F (scope h rs) = SomeTooLong F rs ⊎ ((inside : List ℕ) × HaveBytes F rs inside × (2 ^ 32 ≤ length inside))
+  IsTooLong F (raw n own) = ⊥
+  IsTooLong F (mark m) = ⊥
+
+  pub SomeTooLong : ItemForm → Records → Type 0
+  SomeTooLong F none = ⊥
+  SomeTooLong F (more r rs) = IsTooLong F r ⊎ SomeTooLong F rs
+
+-- the byte of a presence mark in the packed form
+abbrev pub mark_byte : Mark → ℕ
+mark_byte (present side t) = 16
+mark_byte (absent side t) = 17
+mark_byte (group_start table) = 18
+mark_byte group_absent = 19
+mark_byte group_end = 20
+
+-- what is left after the presence marks in front, in the packed form
+abbrev pub marks_skipped : List ℕ → List ℕ
+marks_skipped [] = []
+marks_skipped (byte ∷ rest) = if nat_le 16 byte && nat_le byte 20 then marks_skipped rest else byte ∷ rest
+
+-- The packed form, in which a presence mark is one byte: as an encoder writes it, where an open type may be any bytes, and as a
+-- decoder reads it, where it is one item.
+abbrev pub as_written : ItemForm
+as_written = record { mark_bytes = λ m. mark_byte m ∷ []; IsOpenType = λ own. ⊤ }
+
+abbrev pub as_read : ItemForm
+as_read = record { mark_bytes = λ m. mark_byte m ∷ []; IsOpenType = λ own. IsTrue (is_one_item own) }

@@ -1,0 +1,7 @@
+pub mod Bits
+pub mod Buffers
+pub mod Contents
+pub mod Headers
+pub mod Items
+pub mod Numbers
+pub mod Slices

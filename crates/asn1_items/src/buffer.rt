@@ -1,0 +1,214 @@
+//! The bytes that are written, in the packed form.
+ghost use Rattle.asn1_enc.specs.Writing.{Written, followed_by, in_group, in_scope, outermost};
+ghost use Rattle.asn1_items.specs.Buffers.{HasWritten, open_scopes};
+ghost use Rattle.asn1_items.specs.Contents.{LooksLike, content_of};
+ghost use Rattle.asn1_items.specs.Headers.{kind_of};
+ghost use Rattle.asn1_items.specs.Items.{HaveBytes, IsTooLong, as_written, mark_byte};
+ghost use Rattle.asn1_items.specs.declared.error.BufferError.TheVariants.{Memory};
+ghost use Rattle.asn1_model.specs.Composites.{group_records};
+ghost use Rattle.asn1_model.specs.ConstraintSets.{ConstraintSet};
+ghost use Rattle.asn1_model.specs.Records as model;
+ghost use Rattle.asn1_model.specs.Records.{Name, held, holding, mark, raw, scalar};
+ghost use Rattle.asn1_model.specs.Tables.{Line, Table};
+ghost use Rattle.asn1_model.specs.Tags.{head_tag};
+ghost use Rattle.std.specs.Prelude.{◌≡◌, ◌≢◌, ◌≤◌, ◌∷◌, [], IfErr, IfOk, List, MatchResult, OnOk, Some, suc};
+
+use crate::bytes::{push_tag, write_length};
+use crate::content::Content;
+use crate::error::BufferError;
+use crate::frame::Frame;
+use asn1_tags::Tag;
+use std::alloc::Global;
+
+/// The bytes of records, in the packed form, as an encoder writes them. The length of a scope is written when it is closed, so
+/// each byte is written once, however deep the scopes are.
+///
+/// After an error nothing is promised about what has been written.
+#[derive(Drop)]
+pub struct Buffer {
+    alloc: Global,
+    bytes: Vec<u8>,
+    has_records: bool,
+    outer: Vec<Frame>,
+}
+
+impl Buffer {
+    /// A buffer in which nothing has been written.
+    pub fn new(alloc: Global) -> Buffer
+        ensures nothing_written { HasWritten (outermost []) result }
+        ensures none_open { open_scopes result ≡ 0 }
+    {
+        Buffer {
+            alloc,
+            bytes: Vec::new(alloc),
+            has_records: false,
+            outer: Vec::new(alloc),
+        }
+    }
+
+    /// The bytes that have been written, where no scope and no group is open.
+    pub fn finish(self) -> Vec<u8>
+        ensures { (rs : List model.Record) → HasWritten (outermost rs) self →
+            HaveBytes as_written (held rs) result.items }
+    {
+        self.bytes
+    }
+
+    /// Appends a content under a tag to the innermost list.
+    ///
+    /// # Errors
+    /// [`BufferError::Memory`], and [`BufferError::TooLong`] where the content is 2^32 bytes long or more.
+    pub fn append_scalar(&mut self, tag: Tag, content: Content<'_>) -> Result<(), BufferError>
+        ensures written { (c : ConstraintSet) (n : Name) (x : model.Content) (w : Written) →
+            LooksLike (content_of content.entry) x → HasWritten w self.old →
+            IfOk result (λ _. HasWritten (followed_by w (scalar tag c n x ∷ [])) self.new) }
+        ensures too_long { (c : ConstraintSet) (n : Name) (x : model.Content) →
+            LooksLike (content_of content.entry) x →
+            IfErr result (λ e. e ≢ Memory → IsTooLong as_written (scalar tag c n x)) }
+        ensures same_scopes { open_scopes self.new ≡ open_scopes self.old }
+    {
+        push_tag(&mut self.bytes, 1, tag)?;
+        self.bytes.extend_from_slice(&[content.kind(), 0, 0, 0, 0])?;
+        let start = self.bytes.len();
+        content.append_to(&mut self.bytes, self.alloc)?;
+        write_length(&mut self.bytes, start)?;
+        self.has_records = true;
+        Ok(())
+    }
+
+    /// Appends the bytes of an open type.
+    ///
+    /// # Errors
+    /// [`BufferError::Memory`].
+    pub fn append_open_type(&mut self, bytes: &[u8]) -> Result<(), BufferError>
+        ensures written { (n : Name) (w : Written) → HasWritten w self.old →
+            IfOk result (λ _. HasWritten (followed_by w (raw n bytes.now ∷ [])) self.new) }
+        ensures memory { IfErr result (λ e. e ≡ Memory) }
+        ensures same_scopes { open_scopes self.new ≡ open_scopes self.old }
+    {
+        self.bytes.extend_from_slice(bytes)?;
+        self.has_records = true;
+        Ok(())
+    }
+
+    /// Appends a presence mark, by its byte.
+    ///
+    /// # Errors
+    /// [`BufferError::Memory`].
+    pub fn append_mark(&mut self, byte: u8) -> Result<(), BufferError>
+        ensures written { (m : model.Mark) (w : Written) → mark_byte m ≡ byte →
+            HasWritten w self.old →
+            IfOk result (λ _. HasWritten (followed_by w (mark m ∷ [])) self.new) }
+        ensures memory { IfErr result (λ e. e ≡ Memory) }
+        ensures same_scopes { open_scopes self.new ≡ open_scopes self.old }
+    {
+        self.bytes.extend_from_slice(&[byte])?;
+        Ok(())
+    }
+
+    /// Opens an item of this kind that holds others.
+    ///
+    /// # Errors
+    /// [`BufferError::Memory`].
+    pub fn open_scope(&mut self, kind: u8, tag: Tag) -> Result<(), BufferError>
+        ensures opened { (h : model.Head) (w : Written) → kind_of h ≡ kind → head_tag h ≡ tag →
+            HasWritten w self.old → IfOk result (λ _. HasWritten (in_scope h [] w) self.new) }
+        ensures memory { IfErr result (λ e. e ≡ Memory) }
+        ensures one_more { OnOk result (open_scopes self.new ≡ suc (open_scopes self.old)) }
+        ensures none_after_error { IfErr result (λ _. open_scopes self.new ≡ open_scopes self.old) }
+    {
+        push_tag(&mut self.bytes, kind, tag)?;
+        self.bytes.extend_from_slice(&[0, 0, 0, 0])?;
+        let start = self.bytes.len();
+        let has_records = self.has_records;
+        if let Err(_) = self.outer.push(Frame {
+            start,
+            has_records,
+            is_group: false,
+        }) {
+            return Err(BufferError::Memory);
+        }
+        self.has_records = false;
+        Ok(())
+    }
+
+    /// Closes the innermost scope: its length is written over the place that was left for it.
+    ///
+    /// # Errors
+    /// [`BufferError::TooLong`] where 2^32 bytes or more are inside, and [`BufferError::NotOpen`] where no scope is innermost.
+    pub fn close_scope(&mut self) -> Result<(), BufferError>
+        ensures closed { (h : model.Head) (rs : List model.Record) (w : Written) →
+            HasWritten (in_scope h rs w) self.old →
+            MatchResult result
+            (λ _. HasWritten (followed_by w (holding h rs ∷ [])) self.new)
+            (λ _. IsTooLong as_written (holding h rs)) }
+        ensures one_less { OnOk result (open_scopes self.old ≡ suc (open_scopes self.new)) }
+        ensures no_more { open_scopes self.new ≤ open_scopes self.old }
+    {
+        let Some(frame) = self.outer.pop() else {
+            return Err(BufferError::NotOpen);
+        };
+        if frame.is_group {
+            return Err(BufferError::NotOpen);
+        }
+        write_length(&mut self.bytes, frame.start)?;
+        self.has_records = true;
+        Ok(())
+    }
+
+    /// Opens a group.
+    ///
+    /// # Errors
+    /// [`BufferError::Memory`].
+    pub fn open_group(&mut self) -> Result<(), BufferError>
+        ensures opened { (table : Table Line) (w : Written) → HasWritten w self.old →
+            IfOk result (λ _. HasWritten (in_group table [] w) self.new) }
+        ensures memory { IfErr result (λ e. e ≡ Memory) }
+        ensures same_scopes { open_scopes self.new ≡ open_scopes self.old }
+    {
+        self.bytes.extend_from_slice(&[0x12])?;
+        let start = self.bytes.len();
+        let has_records = self.has_records;
+        if let Err(_) = self.outer.push(Frame {
+            start,
+            has_records,
+            is_group: true,
+        }) {
+            return Err(BufferError::Memory);
+        }
+        self.has_records = false;
+        Ok(())
+    }
+
+    /// Closes the innermost group, which is absent where its components are presence marks alone.
+    ///
+    /// # Errors
+    /// [`BufferError::Memory`], and [`BufferError::NotOpen`] where no group is innermost.
+    pub fn close_group(&mut self) -> Result<(), BufferError>
+        ensures closed { (table : Table Line) (rs : List model.Record) (w : Written) →
+            HasWritten (in_group table rs w) self.old →
+            MatchResult result
+            (λ _. HasWritten (followed_by w (group_records table (Some rs))) self.new)
+            (λ e. e ≡ Memory) }
+        ensures same_scopes { OnOk result (open_scopes self.new ≡ open_scopes self.old) }
+        ensures no_more { open_scopes self.new ≤ open_scopes self.old }
+    {
+        let Some(frame) = self.outer.pop() else {
+            return Err(BufferError::NotOpen);
+        };
+        if !frame.is_group {
+            return Err(BufferError::NotOpen);
+        }
+        if frame.start == 0 {
+            return Err(BufferError::NotOpen);
+        }
+        if self.has_records {
+            self.bytes.extend_from_slice(&[0x14])?;
+            return Ok(());
+        }
+        self.bytes.truncate(frame.start - 1);
+        self.has_records = frame.has_records;
+        self.bytes.extend_from_slice(&[0x13])?;
+        Ok(())
+    }
+}

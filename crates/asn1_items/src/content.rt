@@ -1,0 +1,105 @@
+//! The content of an item, as it is written.
+ghost use Rattle.asn1_items.specs.Contents.{IsContent, content_kind, content_of, string_kind};
+ghost use Rattle.asn1_items.specs.Numbers.{Appended};
+ghost use Rattle.asn1_types.specs.AnyStrings.{content_of_str, octet_kind};
+ghost use Rattle.std.specs.Prelude.{◌≡◌, IfOk};
+
+use crate::bits::append_bits;
+use crate::numbers::{append_fours, append_integer, append_twos};
+use asn1_types::{AnyStr, OctetKind};
+use asn1_values::Integer;
+use std::alloc::{AllocError, Global};
+
+/// The content of an item, borrowed from a value that is written.
+#[derive(Clone, Copy, Debug)]
+pub enum Content<'a> {
+    /// NULL, which has no bytes.
+    Null,
+    /// A BOOLEAN: 0 or 1.
+    Truth(bool),
+    /// An INTEGER: 1 if it is negative and else 0, and its magnitude without leading zeros.
+    Number(&'a Integer),
+    /// The number of an item of an ENUMERATED type, as an INTEGER.
+    Discriminant(isize),
+    /// The arcs of an OBJECT IDENTIFIER, four bytes each.
+    Arcs(&'a [u32]),
+    /// A string: the number of unused bits and the octets of a BIT STRING, four bytes for each unit of a TeletexString, two of a
+    /// BMPString, and the octets of the other kinds.
+    String(AnyStr<'a>),
+}
+
+impl Content<'_> {
+    /// The number of the kind of content, by which a header tells it.
+    pub fn kind(self) -> u8
+        ensures { result ≡ content_kind (content_of self.entry) }
+    {
+        match self {
+            Content::Truth(_) => 1,
+            Content::Number(_) => 2,
+            Content::Discriminant(_) => 3,
+            Content::Null => 4,
+            Content::Arcs(_) => 5,
+            Content::String(string) => kind_of_string(string),
+        }
+    }
+
+    /// Appends the bytes of the content.
+    ///
+    /// After an error there are some of them.
+    pub fn append_to(self, bytes: &mut Vec<u8>, alloc: Global) -> Result<(), AllocError>
+        ensures appended { IfOk result (λ _.
+            Appended (IsContent (content_of self.entry)) bytes.old.items bytes.new.items) }
+    {
+        match self {
+            Content::Null => Ok(()),
+            Content::Truth(truth) => bytes.extend_from_slice(&[u8::from(truth)]),
+            Content::Number(number) => append_integer(bytes, alloc, number),
+            Content::Discriminant(number) => {
+                append_integer(bytes, alloc, &Integer::from_i128(number as i128))
+            }
+            Content::Arcs(arcs) => append_fours(bytes, arcs),
+            Content::String(string) => append_string(bytes, string),
+        }
+    }
+}
+
+/// The number of the kind of a string.
+fn kind_of_string(string: AnyStr<'_>) -> u8
+    ensures { result ≡ content_kind (content_of_str string.entry) }
+{
+    match string {
+        AnyStr::Bits(_) => 7,
+        AnyStr::Octets(kind, _) => kind_of_octets(kind),
+        AnyStr::Teletex(_) => 15,
+        AnyStr::Bmp(_) => 16,
+    }
+}
+
+/// The number of a kind of string whose units are octets.
+pub(crate) fn kind_of_octets(kind: OctetKind) -> u8
+    ensures { result ≡ string_kind (octet_kind kind) }
+{
+    match kind {
+        OctetKind::OctetString => 6,
+        OctetKind::Utf8 => 8,
+        OctetKind::Visible => 9,
+        OctetKind::General => 10,
+        OctetKind::Graphic => 11,
+        OctetKind::Ia5 => 12,
+        OctetKind::Printable => 13,
+        OctetKind::Numeric => 14,
+    }
+}
+
+/// Appends the bytes of a string.
+fn append_string(bytes: &mut Vec<u8>, string: AnyStr<'_>) -> Result<(), AllocError>
+    ensures { IfOk result (λ _.
+        Appended (IsContent (content_of_str string.entry)) bytes.old.items bytes.new.items) }
+{
+    match string {
+        AnyStr::Bits(bits) => append_bits(bytes, bits),
+        AnyStr::Octets(_, octets) => bytes.extend_from_slice(octets),
+        AnyStr::Teletex(units) => append_fours(bytes, units),
+        AnyStr::Bmp(units) => append_twos(bytes, units),
+    }
+}

@@ -1,0 +1,222 @@
+//! What is read from the content of an item.
+ghost use Rattle.asn1_items.specs.Contents.{IsContent, content_kind, kind_number};
+ghost use Rattle.asn1_items.specs.declared.error.ItemError.TheVariants.{Memory};
+ghost use Rattle.asn1_model.specs.Records as model;
+ghost use Rattle.asn1_model.specs.Records.{arcs, discriminant, null, number, truth};
+ghost use Rattle.asn1_model.specs.Tables.{no_table};
+ghost use Rattle.asn1_types.specs.AnyStrings.{IsStringOf, content_of_string};
+ghost use Rattle.std.specs.Prelude.{◌≡◌, ⊤, Bool, IfOk, List, MatchResult, ℕ, ℤ, refl};
+
+use crate::bits::read_bits;
+use crate::content::kind_of_octets;
+use crate::error::ItemError;
+use crate::numbers::{read_fours, read_integer, read_twos};
+use asn1_strings::ObjectIdentifier;
+use asn1_types::{AnyString, CodecString, StringKind};
+use asn1_values::{Integer, IntegerType};
+use std::alloc::Global;
+
+/// A type that is read from the content of an item.
+pub trait FromContent: Sized {
+    // What the contents are of that are read as the type, and the content of each.
+    ghost Value: { Type 0 };
+
+    ghost content: { Value → model.Content };
+
+    // Which of it is of the type.
+    ghost IsOfType: { Value → Type 0 };
+
+    // What was read.
+    ghost Is: { Self → Value → Type 0 };
+
+    // The number of the kind of content.
+    ghost own_kind: { ℕ };
+
+    /// The number of the kind of content, by which a header tells it.
+    fn kind() -> u8
+        ensures { result ≡ own_kind };
+
+    /// What is read from these bytes, if they are a content of the kind.
+    ///
+    /// # Errors
+    /// [`ItemError::Memory`], and [`ItemError::Malformed`] where the bytes are no content of the kind, or not of the type.
+    fn from_content(alloc: Global, bytes: &[u8]) -> Result<Self, ItemError>
+        ensures read { (x : Value) → IsOfType x → IsContent (content x) bytes.now →
+            MatchResult result (λ w. Is w x) (λ e. e ≡ Memory) };
+
+    // The law of a kind: each content has its number.
+    ghost has_kind: { (x : Value) → content_kind (content x) ≡ own_kind };
+}
+
+impl FromContent for bool {
+    ghost Value = { Bool };
+
+    ghost content = { truth };
+
+    ghost IsOfType = { λ _. ⊤ };
+
+    ghost Is = { λ w v. w ≡ v };
+
+    ghost own_kind = { 1 };
+
+    fn kind() -> u8 {
+        1
+    }
+
+    fn from_content(_alloc: Global, bytes: &[u8]) -> Result<Self, ItemError> {
+        match bytes {
+            [0] => Ok(false),
+            [1] => Ok(true),
+            _ => Err(ItemError::Malformed),
+        }
+    }
+
+    ghost has_kind = { λ _. refl };
+}
+
+impl FromContent for () {
+    ghost Value = { Unit {0} };
+
+    ghost content = { λ _. null };
+
+    ghost IsOfType = { λ _. ⊤ };
+
+    ghost Is = { λ w v. w ≡ v };
+
+    ghost own_kind = { 4 };
+
+    fn kind() -> u8 {
+        4
+    }
+
+    fn from_content(_alloc: Global, bytes: &[u8]) -> Result<Self, ItemError> {
+        match bytes {
+            [] => Ok(()),
+            _ => Err(ItemError::Malformed),
+        }
+    }
+
+    ghost has_kind = { λ _. refl };
+}
+
+impl FromContent for Integer {
+    ghost Value = { ℤ };
+
+    ghost content = { number };
+
+    ghost IsOfType = { λ _. ⊤ };
+
+    ghost Is = { λ w z. w ≡ z };
+
+    ghost own_kind = { 2 };
+
+    fn kind() -> u8 {
+        2
+    }
+
+    fn from_content(alloc: Global, bytes: &[u8]) -> Result<Self, ItemError> {
+        read_integer(alloc, bytes)
+    }
+
+    ghost has_kind = { λ _. refl };
+}
+
+/// The number of an item of an ENUMERATED type.
+impl FromContent for isize {
+    ghost Value = { ℤ };
+
+    ghost content = { discriminant no_table };
+
+    ghost IsOfType = { λ _. ⊤ };
+
+    ghost Is = { λ w z. w ≡ z };
+
+    ghost own_kind = { 3 };
+
+    fn kind() -> u8 {
+        3
+    }
+
+    fn from_content(alloc: Global, bytes: &[u8]) -> Result<Self, ItemError> {
+        let number = read_integer(alloc, bytes)?;
+        match isize::try_from_integer(number) {
+            Some(number) => Ok(number),
+            None => Err(ItemError::Malformed),
+        }
+    }
+
+    ghost has_kind = { λ _. refl };
+}
+
+impl FromContent for ObjectIdentifier {
+    ghost Value = { List ℕ };
+
+    ghost content = { arcs };
+
+    ghost IsOfType = { λ _. ⊤ };
+
+    ghost Is = { λ w v. w ≡ v };
+
+    ghost own_kind = { 5 };
+
+    fn kind() -> u8 {
+        5
+    }
+
+    fn from_content(alloc: Global, bytes: &[u8]) -> Result<Self, ItemError> {
+        Ok(ObjectIdentifier::new(read_fours(alloc, bytes)?))
+    }
+
+    ghost has_kind = { λ _. refl };
+}
+
+/// A string of the kind `K`.
+pub struct StringOf<U, K: CodecString<U>> {
+    /// The string.
+    pub string: K::Owned,
+}
+
+impl<U, K: CodecString<U>> FromContent for StringOf<U, K> {
+    ghost use Rattle.asn1_items.specs.Contents.{kind_of_string};
+
+    ghost Value = { List U };
+
+    ghost content = { K.content };
+
+    ghost IsOfType = { K.AreOfKind };
+
+    ghost Is = { λ w v. K.units_in w.string ≡ v };
+
+    ghost own_kind = { kind_number K.own_kind };
+
+    fn kind() -> u8 {
+        match K::kind() {
+            StringKind::Bits => 7,
+            StringKind::Octets(kind) => kind_of_octets(kind),
+            StringKind::Teletex => 15,
+            StringKind::Bmp => 16,
+        }
+    }
+
+    fn from_content(alloc: Global, bytes: &[u8]) -> Result<Self, ItemError> {
+        match K::from_any(read_string(alloc, K::kind(), bytes)?) {
+            Some(string) => Ok(StringOf { string }),
+            None => Err(ItemError::Malformed),
+        }
+    }
+
+    ghost has_kind = { λ list. kind_of_string K.own_kind (K.content list) (K.is_string list) };
+}
+
+/// Reads the bytes of a string of this kind. Its units need not be those that strings of the kind can have.
+fn read_string(alloc: Global, kind: StringKind, bytes: &[u8]) -> Result<AnyString, ItemError>
+    ensures read { (x : model.Content) → IsStringOf kind x → IsContent x bytes.now →
+        MatchResult result (λ string. content_of_string string ≡ x) (λ e. e ≡ Memory) }
+{
+    match kind {
+        StringKind::Bits => Ok(AnyString::Bits(read_bits(alloc, bytes)?)),
+        StringKind::Octets(kind) => Ok(AnyString::Octets(kind, Vec::from_slice(alloc, bytes)?)),
+        StringKind::Teletex => Ok(AnyString::Teletex(read_fours(alloc, bytes)?)),
+        StringKind::Bmp => Ok(AnyString::Bmp(read_twos(alloc, bytes)?)),
+    }
+}

@@ -1,0 +1,52 @@
+//! Items, the bytes of records: what is common to codecs over bytes, in the packed form.
+//!
+//! | Item | What it is |
+//! |---|---|
+//! | [`Content`], [`FromContent`], [`StringOf`] | the content of an item, as it is written and as it is read |
+//! | [`Header`], [`Wanted`], [`find_header`] | what an item begins with, and what it has to be that is read |
+//! | [`Buffer`] | the bytes that are written, with a frame for each scope and group that is open |
+//! | [`Slices`], [`Item`] | the bytes that are read, list by list |
+//! | [`ItemError`], [`BufferError`] | why an item was not read, or not written |
+//! | [`laws`] | what the derives give |
+//!
+//! An item is its kind (1 of a content, 2 to 7 of what holds others), its tag, the kind of its content if it has one, the
+//! length of what is inside in four bytes, and what is inside. Numbers have the highest byte first. A presence mark is one byte.
+//!
+//! What the contracts promise, and the words that they use:
+//!
+//! - Each kind of content has bytes of its own (`IsContent` of `specs/Contents.antt`, over `specs/Numbers.antt` and
+//!   `specs/Bits.antt`). [`Content::append_to`] appends them (`appended`), and [`FromContent::from_content`] reads the value of
+//!   which they are (`read`).
+//! - The header of an item is a function of the bytes (`header_at` of `specs/Headers.antt`), which [`find_header`] finds
+//!   (`found`). More bytes behind change nothing (`header_at-append` of `proofs/Items`). [`Wanted::is_met_by`] tells if and only
+//!   if the header is what is wanted (`met`).
+//! - A record has bytes by recursion on the record (`HasBytes` of `specs/Items.antt`), in a form that says the bytes of presence
+//!   marks and which bytes are the value of an open type (`ItemForm`). A record is too long where 2^32 bytes or more are inside
+//!   (`IsTooLong`).
+//! - A [`Buffer`] has written the records that it was given, in the lists that are open (`HasWritten` of
+//!   `specs/Buffers.antt`). It refuses the records that are too long, and else fails only where memory runs out.
+//! - [`Slices`] are what is left of each list (`left_inside` and `left_outside` of `specs/Slices.antt`). An item is cut off by
+//!   the length in its header (`took` of [`Slices::take_item`]), and nothing is copied or reserved by a length that a header tells.
+//!
+//! Of bytes that are no item, and of contents that are not those that are asked for, the docs of each call say which error comes.
+//! The lemmas of `proofs/Items` are for the crates above.
+#![tactic(auto)]
+
+mod bits;
+mod buffer;
+mod bytes;
+mod content;
+mod error;
+mod frame;
+mod from_content;
+mod header;
+pub mod laws;
+mod numbers;
+mod slices;
+
+pub use buffer::Buffer;
+pub use content::Content;
+pub use error::{BufferError, ItemError};
+pub use from_content::{FromContent, StringOf};
+pub use header::{Header, Wanted, find_header};
+pub use slices::{Item, Slices};

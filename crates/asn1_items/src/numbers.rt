@@ -1,0 +1,98 @@
+//! Numbers as bytes, the highest first.
+ghost use Rattle.asn1_items.specs.declared.error.ItemError.TheVariants.{Memory};
+ghost use Rattle.asn1_items.specs.Numbers.{Appended, AreFours, AreTwos, IsInteger};
+ghost use Rattle.std.specs.Prelude.{◌≡◌, IfOk, List, MatchResult, ℕ, ℤ};
+
+use crate::error::ItemError;
+use asn1_values::Integer;
+use std::alloc::{AllocError, Global};
+
+/// Appends the sign of an integer, and its magnitude without leading zeros.
+pub(crate) fn append_integer(
+    bytes: &mut Vec<u8>,
+    alloc: Global,
+    number: &Integer,
+) -> Result<(), AllocError>
+    ensures { IfOk result (λ _.
+        Appended (IsInteger number.now) bytes.old.items bytes.new.items) }
+{
+    let (negative, digits) = number.sign_magnitude(alloc)?;
+    bytes.push(u8::from(negative))?;
+    bytes.extend_from_slice(&digits)
+}
+
+/// Appends numbers of two bytes each.
+pub(crate) fn append_twos(bytes: &mut Vec<u8>, numbers: &[u16]) -> Result<(), AllocError>
+    ensures { IfOk result (λ _.
+        Appended (AreTwos numbers.now) bytes.old.items bytes.new.items) }
+{
+    for number in numbers {
+        bytes.extend_from_slice(&number.to_be_bytes())?;
+    }
+    Ok(())
+}
+
+/// Appends numbers of four bytes each.
+pub(crate) fn append_fours(bytes: &mut Vec<u8>, numbers: &[u32]) -> Result<(), AllocError>
+    ensures { IfOk result (λ _.
+        Appended (AreFours numbers.now) bytes.old.items bytes.new.items) }
+{
+    for number in numbers {
+        bytes.extend_from_slice(&number.to_be_bytes())?;
+    }
+    Ok(())
+}
+
+/// Reads an integer. Another spelling of the same number is refused.
+pub(crate) fn read_integer(alloc: Global, bytes: &[u8]) -> Result<Integer, ItemError>
+    ensures read { (z : ℤ) → IsInteger z bytes.now →
+        MatchResult result (λ n. n ≡ z) (λ e. e ≡ Memory) }
+    ensures only { IfOk result (λ n. IsInteger n bytes.now) }
+{
+    let [sign, digits @ ..] = bytes else {
+        return Err(ItemError::Malformed);
+    };
+    let negative = *sign == 1;
+    if *sign > 1 || digits.first() == Some(&0) || (negative && digits.is_empty()) {
+        return Err(ItemError::Malformed);
+    }
+    Ok(Integer::from_sign_magnitude(alloc, negative, digits)?)
+}
+
+/// Reads numbers of two bytes each.
+pub(crate) fn read_twos(alloc: Global, bytes: &[u8]) -> Result<Vec<u16>, ItemError>
+    ensures read { (list : List ℕ) → AreTwos list bytes.now →
+        MatchResult result (λ v. v.items ≡ list) (λ e. e ≡ Memory) }
+{
+    let mut numbers = Vec::new(alloc);
+    let mut left = bytes;
+    while let [a, b, rest @ ..] = left {
+        if let Err(_) = numbers.push(u16::from_be_bytes([*a, *b])) {
+            return Err(ItemError::Memory);
+        }
+        left = rest;
+    }
+    if !left.is_empty() {
+        return Err(ItemError::Malformed);
+    }
+    Ok(numbers)
+}
+
+/// Reads numbers of four bytes each.
+pub(crate) fn read_fours(alloc: Global, bytes: &[u8]) -> Result<Vec<u32>, ItemError>
+    ensures read { (list : List ℕ) → AreFours list bytes.now →
+        MatchResult result (λ v. v.items ≡ list) (λ e. e ≡ Memory) }
+{
+    let mut numbers = Vec::new(alloc);
+    let mut left = bytes;
+    while let [a, b, c, d, rest @ ..] = left {
+        if let Err(_) = numbers.push(u32::from_be_bytes([*a, *b, *c, *d])) {
+            return Err(ItemError::Memory);
+        }
+        left = rest;
+    }
+    if !left.is_empty() {
+        return Err(ItemError::Malformed);
+    }
+    Ok(numbers)
+}
