@@ -1,0 +1,357 @@
+//! The encoder that writes packed bytes.
+ghost use Rattle.asn1_items.specs.Buffers.{open_scopes};
+ghost use Rattle.std.specs.Prelude.{◌+◌, ◌<◌, ◌^◌};
+
+use asn1_bounds::{Codec, Constraints};
+use asn1_choices::Choice;
+use asn1_components::FieldTable;
+use asn1_enc::{EncodeError, Encoder};
+use asn1_enumerations::EnumeratedTable;
+use asn1_items::{Buffer, BufferError, Content};
+use asn1_tags::{Identifier, Tag};
+use asn1_types::{Any, CodecString};
+use asn1_values::IntegerType;
+use std::alloc::Global;
+
+/// An encoder that writes packed bytes.
+///
+/// It rejects the records that are too long, with 2^32 bytes or more inside an item: [`EncodeError::Custom`], with the text
+/// `item too long`.
+#[derive(Drop)]
+pub struct PackedEncoder {
+    alloc: Global,
+    allowance: usize,
+    failed: bool,
+    buffer: Buffer,
+    ghost counted: { allowance + open_scopes buffer < 2 ^ 64 },
+}
+
+impl PackedEncoder {
+    ghost use Rattle.asn1_enc.specs.Writing.{Closes, ClosesGroup, IsCustom, Opens, OpensGroup, Refuses, Writes, outermost};
+    ghost use Rattle.asn1_enc.specs.declared.error.EncodeError.TheVariants.{Depth, Failed, Memory};
+    ghost use Rattle.asn1_items.specs.Contents.{LooksLike, content_of};
+    ghost use Rattle.asn1_items.specs.Headers.{kind_of};
+    ghost use Rattle.asn1_items.specs.Items.{mark_byte};
+    ghost use Rattle.asn1_items.specs.declared.error.BufferError.TheVariants as buffer_error;
+    ghost use Rattle.asn1_model.specs.ConstraintSets.{ConstraintSet};
+    ghost use Rattle.asn1_model.specs.Records as model;
+    ghost use Rattle.asn1_model.specs.Records.{Name, mark, raw, scalar};
+    ghost use Rattle.asn1_model.specs.Tables.{Line, Table};
+    ghost use Rattle.asn1_model.specs.Tags.{head_tag};
+    ghost use Rattle.asn1_packed.specs.Carried.{Carries};
+    ghost use Rattle.asn1_packed.specs.Encoder.{packed_writer};
+    ghost use Rattle.std.specs.Prelude.{◌≡◌, ◌≢◌, ◌∷◌, [], ⊤, List, false, true};
+
+    /// An encoder that has written nothing, and may open this many nested scopes.
+    pub fn new(alloc: Global, depth: usize) -> PackedEncoder
+        ensures nothing_written { packed_writer.wrote result (outermost []) }
+        ensures allowance { packed_writer.allowance result ≡ depth }
+        ensures no_failure { packed_writer.failed result ≡ false }
+    {
+        PackedEncoder {
+            alloc,
+            allowance: depth,
+            failed: false,
+            buffer: Buffer::new(alloc),
+        }
+    }
+
+    /// The bytes that have been written, where no scope and no group is open and no call has failed.
+    pub fn finish(self) -> Vec<u8>
+        ensures { (rs : List model.Record) → packed_writer.wrote self (outermost rs) →
+            Carries result.items rs }
+    {
+        self.buffer.finish()
+    }
+
+    /// Makes the encoder failed, and answers the error, or `Failed` if it had failed before.
+    fn fail(&mut self, error: EncodeError) -> EncodeError
+        ensures { error ≡ Memory → Refuses packed_writer self.old self.new result }
+    {
+        if self.failed {
+            return EncodeError::Failed;
+        }
+        self.failed = true;
+        error
+    }
+
+    /// Makes the encoder failed by an error of the buffer.
+    fn refuse(&mut self, error: BufferError) -> EncodeError
+        ensures custom { IsCustom result → error ≢ buffer_error.Memory }
+        ensures not_too_deep { result ≢ Depth }
+        ensures not_failed { result ≢ Failed }
+        ensures failing { self.new.failed ≡ true }
+    {
+        self.failed = true;
+        match error {
+            BufferError::Memory => EncodeError::Memory,
+            BufferError::TooLong => EncodeError::Custom("item too long"),
+            BufferError::NotOpen => EncodeError::Custom("nothing is open"),
+        }
+    }
+
+    /// Appends a content under a tag.
+    fn append_scalar(&mut self, tag: Tag, content: Content<'_>) -> Result<(), EncodeError>
+        ensures { (c : ConstraintSet) (n : Name) (x : model.Content) →
+            LooksLike (content_of content.entry) x →
+            Writes packed_writer self.old (scalar tag c n x ∷ []) ⊤ self.new result }
+    {
+        if self.failed {
+            return Err(EncodeError::Failed);
+        }
+        match self.buffer.append_scalar(tag, content) {
+            Ok(()) => Ok(()),
+            Err(error) => Err(self.refuse(error)),
+        }
+    }
+
+    /// Appends the bytes of an open type.
+    fn append_open_type(&mut self, bytes: &[u8]) -> Result<(), EncodeError>
+        ensures { (n : Name) →
+            Writes packed_writer self.old (raw n bytes.now ∷ []) ⊤ self.new result }
+    {
+        if self.failed {
+            return Err(EncodeError::Failed);
+        }
+        match self.buffer.append_open_type(bytes) {
+            Ok(()) => Ok(()),
+            Err(error) => Err(self.refuse(error)),
+        }
+    }
+
+    /// Appends a presence mark, by its byte.
+    fn append_mark(&mut self, byte: u8) -> Result<(), EncodeError>
+        ensures { (m : model.Mark) → mark_byte m ≡ byte →
+            Writes packed_writer self.old (mark m ∷ []) ⊤ self.new result }
+    {
+        if self.failed {
+            return Err(EncodeError::Failed);
+        }
+        match self.buffer.append_mark(byte) {
+            Ok(()) => Ok(()),
+            Err(error) => Err(self.refuse(error)),
+        }
+    }
+
+    /// Opens a scope of this kind.
+    fn open_scope(&mut self, kind: u8, tag: Tag) -> Result<(), EncodeError>
+        ensures { (h : model.Head) → kind_of h ≡ kind → head_tag h ≡ tag →
+            Opens packed_writer self.old h self.new result }
+    {
+        if self.failed {
+            return Err(EncodeError::Failed);
+        }
+        if self.allowance == 0 {
+            self.failed = true;
+            return Err(EncodeError::Depth);
+        }
+        match self.buffer.open_scope(kind, tag) {
+            Ok(()) => {
+                self.allowance -= 1;
+                Ok(())
+            }
+            Err(error) => Err(self.refuse(error)),
+        }
+    }
+
+    /// Closes the innermost scope.
+    fn close_scope(&mut self) -> Result<(), EncodeError>
+        ensures { Closes packed_writer self.old self.new result }
+    {
+        if self.failed {
+            return Err(EncodeError::Failed);
+        }
+        match self.buffer.close_scope() {
+            Ok(()) => {
+                self.allowance += 1;
+                Ok(())
+            }
+            Err(error) => Err(self.refuse(error)),
+        }
+    }
+
+    /// Opens a group.
+    fn open_inner_group(&mut self) -> Result<(), EncodeError>
+        ensures { (table : Table Line) → OpensGroup packed_writer self.old table self.new result }
+    {
+        if self.failed {
+            return Err(EncodeError::Failed);
+        }
+        match self.buffer.open_group() {
+            Ok(()) => Ok(()),
+            Err(error) => Err(self.refuse(error)),
+        }
+    }
+
+    /// Closes the innermost group.
+    fn close_inner_group(&mut self) -> Result<(), EncodeError>
+        ensures { ClosesGroup packed_writer self.old self.new result }
+    {
+        if self.failed {
+            return Err(EncodeError::Failed);
+        }
+        match self.buffer.close_group() {
+            Ok(()) => Ok(()),
+            Err(error) => Err(self.refuse(error)),
+        }
+    }
+}
+
+#[tactic(auto, using(crate::proofs::Written::known))]
+impl Encoder for PackedEncoder {
+    ghost use Rattle.asn1_enc.proofs.UpToOrder.{lawful};
+    ghost use Rattle.asn1_packed.specs.Encoder.{in_one_order, packed_writer, rejects_by_parts};
+    ghost use Rattle.std.specs.Prelude.{◌≡◌};
+
+    ghost writer = { packed_writer };
+
+    fn codec(&self) -> Codec
+        ensures { result ≡ Codec.Other 0 }
+    {
+        Codec::Other(0)
+    }
+
+    fn depth(&self) -> usize {
+        self.allowance
+    }
+
+    fn global(&self) -> Global {
+        self.alloc
+    }
+
+    fn refuse_memory(&mut self) -> EncodeError {
+        self.fail(EncodeError::Memory)
+    }
+
+    fn encode_bool(&mut self, tag: Tag, value: bool, _name: Identifier) -> Result<(), EncodeError> {
+        self.append_scalar(tag, Content::Truth(value))
+    }
+
+    fn encode_null(&mut self, tag: Tag, _name: Identifier) -> Result<(), EncodeError> {
+        self.append_scalar(tag, Content::Null)
+    }
+
+    fn encode_enumerated_number<E: EnumeratedTable>(
+        &mut self,
+        tag: Tag,
+        number: isize,
+        _name: Identifier,
+    ) -> Result<(), EncodeError> {
+        self.append_scalar(tag, Content::Discriminant(number))
+    }
+
+    fn encode_object_identifier(
+        &mut self,
+        tag: Tag,
+        value: &[u32],
+        _name: Identifier,
+    ) -> Result<(), EncodeError> {
+        self.append_scalar(tag, Content::Arcs(value))
+    }
+
+    fn encode_integer<T: IntegerType>(
+        &mut self,
+        tag: Tag,
+        _constraints: &Constraints<'_>,
+        value: &T,
+        _name: Identifier,
+    ) -> Result<(), EncodeError> {
+        match value.to_integer(self.alloc) {
+            Ok(number) => self.append_scalar(tag, Content::Number(&number)),
+            Err(_) => Err(self.fail(EncodeError::Memory)),
+        }
+    }
+
+    fn encode_string<U, K: CodecString<U>>(
+        &mut self,
+        tag: Tag,
+        _constraints: &Constraints<'_>,
+        value: &[U],
+        _name: Identifier,
+    ) -> Result<(), EncodeError> {
+        self.append_scalar(tag, Content::String(K::as_any(value)))
+    }
+
+    fn encode_any(&mut self, _tag: Tag, value: &Any, _name: Identifier) -> Result<(), EncodeError> {
+        self.append_open_type(value.as_bytes())
+    }
+
+    fn mark_present(&mut self, _tag: Tag) -> Result<(), EncodeError> {
+        self.append_mark(0x10)
+    }
+
+    fn mark_absent(&mut self, _tag: Tag) -> Result<(), EncodeError> {
+        self.append_mark(0x11)
+    }
+
+    fn mark_addition_present(&mut self, _tag: Tag) -> Result<(), EncodeError> {
+        self.append_mark(0x10)
+    }
+
+    fn mark_addition_absent(&mut self, _tag: Tag) -> Result<(), EncodeError> {
+        self.append_mark(0x11)
+    }
+
+    fn mark_group_absent(&mut self) -> Result<(), EncodeError> {
+        self.append_mark(0x13)
+    }
+
+    fn open_sequence<C: FieldTable>(
+        &mut self,
+        tag: Tag,
+        _name: Identifier,
+    ) -> Result<(), EncodeError> {
+        self.open_scope(2, tag)
+    }
+
+    fn open_set<C: FieldTable>(&mut self, tag: Tag, _name: Identifier) -> Result<(), EncodeError> {
+        self.open_scope(3, tag)
+    }
+
+    fn open_sequence_of(
+        &mut self,
+        tag: Tag,
+        _constraints: &Constraints<'_>,
+        _name: Identifier,
+        _count: usize,
+    ) -> Result<(), EncodeError> {
+        self.open_scope(4, tag)
+    }
+
+    fn open_set_of(
+        &mut self,
+        tag: Tag,
+        _constraints: &Constraints<'_>,
+        _name: Identifier,
+        _count: usize,
+    ) -> Result<(), EncodeError> {
+        self.open_scope(5, tag)
+    }
+
+    fn open_explicit_prefix(&mut self, tag: Tag, _name: Identifier) -> Result<(), EncodeError> {
+        self.open_scope(6, tag)
+    }
+
+    fn open_choice<T: Choice>(
+        &mut self,
+        chosen: Tag,
+        _constraints: &Constraints<'_>,
+        _name: Identifier,
+    ) -> Result<(), EncodeError> {
+        self.open_scope(7, chosen)
+    }
+
+    fn close(&mut self) -> Result<(), EncodeError> {
+        self.close_scope()
+    }
+
+    fn open_group<C: FieldTable>(&mut self) -> Result<(), EncodeError> {
+        self.open_inner_group()
+    }
+
+    fn close_group(&mut self) -> Result<(), EncodeError> {
+        self.close_inner_group()
+    }
+
+    ghost lawful = { lawful in_one_order rejects_by_parts };
+}
