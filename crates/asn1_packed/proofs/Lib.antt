@@ -1,1 +1,5 @@
+mod Forms
+mod Labels
+mod Passing
+mod Standing
 mod Written

@@ -1,2 +1,4 @@
 pub mod Carried
+pub mod Decoder
 pub mod Encoder
+pub mod Laws

@@ -1,4 +1,4 @@
-use Rattle.std.proofs.Common.{◌≡◌, ◌+◌, suc, arith}
+use Rattle.std.proofs.Common.{◌≡◌, ◌+◌, suc, arith, refl}
 use Rattle.asn1_enc.proofs.UpToOrder.{scope_is_closed as closed_in_any_order, scope_is_not_closed as not_closed_in_any_order}
 use Rattle.asn1_packed.specs.Encoder.{in_one_order}
 use Rattle.asn1_packed.proofs.Written.{scope_is_closed, scope_is_not_closed}

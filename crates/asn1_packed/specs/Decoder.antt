@@ -1,0 +1,65 @@
+-- Before what a packed decoder stands, and what it opens.
+use Rattle.std.specs.Prelude.{◌≡◌, ℕ, ◌≤◌, ⊤, false, List, [], ◌∷◌, map, Result}
+use Rattle.asn1_dec.specs.Orders.{up_to_order}
+use Rattle.asn1_dec.specs.Reading.{Ahead, Moves, Outside, Reader, records_in}
+use Rattle.asn1_dec.specs.declared.error.DecodeError.{DecodeError}
+use Rattle.asn1_items.specs.Headers.{is_one_item, kind_of}
+use Rattle.asn1_items.specs.Items.{HaveBytes, as_read}
+use Rattle.asn1_items.specs.Slices.{left_inside, left_outside}
+use Rattle.asn1_items.specs.declared.header.Wanted.{Wanted}
+use Rattle.asn1_items.specs.declared.header.Wanted.TheVariants.{Content, Scope, Alternative, Any}
+use Rattle.asn1_model.specs.Records.{Head, Record, held, holding}
+use Rattle.asn1_model.specs.Tags.{head_tag}
+use Rattle.asn1_packed.specs.declared.decoder.Opened.{Opened}
+use Rattle.asn1_packed.specs.declared.decoder.PackedDecoder.{PackedDecoder}
+
+-- The bytes are those of the lists, list by list.
+abbrev pub AllHaveBytes : List (List Record) → List (List ℕ) → Type 0
+AllHaveBytes [] [] = ⊤
+AllHaveBytes (rs ∷ lists) (bytes ∷ others) = HaveBytes as_read (held rs) bytes × AllHaveBytes lists others
+AllHaveBytes _ _ = ⊥
+
+-- the lists outside, without the heads of their scopes
+abbrev pub lists_outside : Outside → List (List Record)
+lists_outside = map (λ scope. scope.1)
+
+-- The decoder is before exactly these lists: what is left are their bytes.
+pub record StandsExactly (d : PackedDecoder) (ahead : Ahead) : Type 0 where
+  pub no_failure : d.failed ≡ false
+  pub inside : HaveBytes as_read (held ahead.0) (left_inside d.slices)
+  pub outside : AllHaveBytes (lists_outside ahead.1) (left_outside d.slices)
+
+-- The decoder in the order in which its bytes come. It takes what is one item as one value of an open type.
+abbrev pub in_one_order : Reader PackedDecoder
+in_one_order = record {
+  stands = λ d ahead. StandsExactly d ahead;
+  failed = λ d. d.failed;
+  allowance = λ d. d.allowance;
+  takes = λ bytes. is_one_item bytes;
+}
+
+-- the decoder as types see it: the order inside sets means nothing
+abbrev pub packed_reader : Reader PackedDecoder
+packed_reader = up_to_order in_one_order
+
+-- the decoder is before these lists, up to the order inside sets
+abbrev pub StandsBefore : PackedDecoder → Ahead → Type 0
+StandsBefore d ahead = packed_reader.stands d ahead
+
+-- The head is what is wanted.
+abbrev pub IsWanted : Wanted → Head → Type 0
+IsWanted (Content t k) h = ⊥
+IsWanted (Scope k t) h = (kind_of h ≡ k) × (head_tag h ≡ t)
+IsWanted Alternative h = kind_of h ≡ 7
+IsWanted Any h = ⊥
+
+-- What was opened is a record of this head, which holds these.
+pub record IsOpened (h : Head) (items : List Record) (opened : Opened) : Type 0 where
+  pub has_tag : opened.tag ≡ head_tag h
+  pub is_bound : records_in items ≤ opened.bound
+
+-- A call that opens a record whose head is what is wanted, exactly before what is in it, in the order in which it comes.
+abbrev pub OpensWanted : Wanted → PackedDecoder → PackedDecoder → Result Opened DecodeError → Type 0
+OpensWanted wanted old new result =
+    (h : Head) (items rest : List Record) (outer : Outside) → IsWanted wanted h →
+    Moves in_one_order old new 1 (holding h items ∷ rest, outer) (items, (h, rest) ∷ outer) (IsOpened h items) result

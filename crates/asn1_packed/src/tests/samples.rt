@@ -1,0 +1,44 @@
+//! The sample types.
+use crate::rules::PackedRules;
+use crate::tests::cases::passes;
+use asn1_sample_tests::{depth, samples};
+
+/// A NULL, which is one item.
+const ONE_ITEM: &[u8] = &[1, 0, 0, 0, 0, 5, 4, 0, 0, 0, 0];
+
+#[test]
+fn samples_come_back(rt: HostRuntime) {
+    let alloc = rt.alloc();
+    let rules = PackedRules::new(alloc);
+    passes(&rt, "persons", samples::persons_come_back(&rules, alloc));
+    passes(&rt, "profiles", samples::profiles_come_back(&rules, alloc));
+    passes(&rt, "visits", samples::visits_come_back(&rules, alloc));
+    passes(&rt, "settings", samples::settings_come_back(&rules));
+    passes(
+        &rt,
+        "envelopes",
+        samples::envelopes_come_back(&rules, alloc, ONE_ITEM),
+    );
+    passes(&rt, "plates", samples::plates_come_back(&rules, alloc));
+    passes(&rt, "notices", samples::notices_come_back(&rules, alloc));
+    passes(&rt, "pairs", samples::pairs_come_back(&rules));
+    passes(
+        &rt,
+        "elevens",
+        samples::pairs_outside_limits_are_refused(&rules),
+    );
+}
+
+#[test]
+fn choices_sets_and_nodes_come_back(rt: HostRuntime) {
+    let alloc = rt.alloc();
+    let rules = PackedRules::new(alloc);
+    passes(
+        &rt,
+        "alternatives",
+        samples::alternatives_come_back(&rules, alloc),
+    );
+    passes(&rt, "badges", samples::badges_come_back(&rules, alloc));
+    passes(&rt, "nodes", samples::nodes_come_back(&rules, alloc));
+    passes(&rt, "depth", depth::samples_need_their_depth(&rules, alloc));
+}
