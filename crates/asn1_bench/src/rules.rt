@@ -36,6 +36,7 @@ impl Rules for BenchRules {
     ghost use Rattle.asn1_model.specs.Meaning.{CanStandInside, own_records};
     ghost use Rattle.asn1_model.specs.Records as model;
     ghost use Rattle.asn1_model.specs.Records.{highest};
+    ghost use Rattle.asn1_model.specs.WellFormed.{AreWellFormed};
     ghost use Rattle.asn1_records.proofs.Carrying.{carries_in_any_order};
     ghost use Rattle.asn1_schema.specs.Rules.{ReadsWhole, RefusesWhole};
     ghost use Rattle.std.specs.Prelude.{◌≡◌, ◌∷◌, ◌++◌, IsErr, List, true};
@@ -57,7 +58,8 @@ impl Rules for BenchRules {
             ReadsWhole (highest (own_records T.meaning v)) depth (λ w. T.eq w v ≡ true) result }
         ensures refuses { (rs : List model.Record) (error : _) →
             T.refusals record_format.takes T.meaning.tag T.meaning.constraints rs error →
-            record_format.carries output.now rs → RefusesWhole (highest rs) depth error result }
+            AreWellFormed record_format.takes rs → record_format.carries output.now rs →
+            RefusesWhole (highest rs) depth error result }
         ensures none_left { (v : T) (r : model.Record) (rest : List model.Record) →
             CanStandInside T.meaning → T.meaning.IsOfType v →
             T.meaning.IsValid record_format.takes v →

@@ -1,6 +1,7 @@
 //! A codec as a whole.
 ghost use Rattle.asn1_model.specs.Meaning.{CanStandInside, own_records};
 ghost use Rattle.asn1_model.specs.Records.{Record, highest};
+ghost use Rattle.asn1_model.specs.WellFormed.{AreWellFormed};
 ghost use Rattle.asn1_schema.specs.Rules.{Format, IsLawful, ReadsWhole, RefusesWhole, WritesWhole};
 ghost use Rattle.std.specs.Prelude.{◌≡◌, List, true};
 
@@ -10,8 +11,8 @@ use asn1_enc::{Encode, EncodeError};
 /// The rules by which values become outputs and outputs are read: a codec as a whole.
 ///
 /// An output carries lists of records. What `write_value` gives carries the value's own records, and of an output that carries
-/// the own records of a valid value of a well-tagged type `read_value` makes an equal value. What a type refuses by an error of
-/// its own, `read_value` refuses by that error.
+/// the own records of a valid value of a well-tagged type `read_value` makes an equal value. Well-formed records that a type refuses
+/// by an error of its own, `read_value` refuses by that error.
 pub trait Rules {
     /// What a value becomes.
     type Output: Drop;
@@ -32,7 +33,7 @@ pub trait Rules {
     ///
     /// # Errors
     /// Where the output carries the own records of a valid value of a well-tagged type, [`DecodeError::Depth`] only where these
-    /// are nested deeper than the depth, and else [`DecodeError::Memory`]. Where it carries records that the type refuses, the error of
+    /// are nested deeper than the depth, and else [`DecodeError::Memory`]. Where it carries well-formed records that the type refuses, the error of
     /// the type, or one of these two in the same way. Of other outputs nothing is said.
     fn read_value<T: Decode>(&self, output: &Self::Output, depth: usize) -> Result<T, DecodeError>
         ensures read { (v : T) → CanStandInside T.meaning → T.meaning.IsOfType v →
@@ -40,7 +41,8 @@ pub trait Rules {
             ReadsWhole (highest (own_records T.meaning v)) depth (λ w. T.eq w v ≡ true) result }
         ensures refuses { (rs : List Record) (error : _) →
             T.refusals format.takes T.meaning.tag T.meaning.constraints rs error →
-            format.carries output.now rs → RefusesWhole (highest rs) depth error result };
+            AreWellFormed format.takes rs → format.carries output.now rs →
+            RefusesWhole (highest rs) depth error result };
 
     // The law of a codec.
     ghost lawful: { IsLawful format };

@@ -31,19 +31,19 @@ returns-clause-read g c = λ v can of_type valid carries.
     (read.answer, rw (← c.new-decoder.ensures.depth_left) read.within_depth)
 
 pub returns-in_err-value-clause-refuses : goal.returns-in_err-value-clause-refuses
-returns-in_err-value-clause-refuses g c = λ rs error refused carries.
+returns-in_err-value-clause-refuses g c = λ rs error refused well_formed carries.
     let carried : Carries c.as_slice.result.now rs = rw c.as_slice.ensures.value carries in
     let at = alone c.new-decoder.result rs (c.new-decoder.ensures.before rs carried) in
     let p = err_from_is_err_and c.from_residual.result c.from_residual.ensures.1 in
     rw (p.1, p.2, ← c.new-decoder.ensures.depth_left) (own_or_failed (c.in_err-value.ensures.refuses rs [] [] error refused at))
 
 pub returns-in_err-finish-clause-refuses : goal.returns-in_err-finish-clause-refuses
-returns-in_err-finish-clause-refuses g c = λ rs error refused carries.
+returns-in_err-finish-clause-refuses g c = λ rs error refused well_formed carries.
     let carried : Carries c.as_slice.result.now rs = rw c.as_slice.ensures.value carries in
     absurd (c.in_ok-value.ensures.refuses rs [] [] error refused (alone c.new-decoder.result rs (c.new-decoder.ensures.before rs carried)))
 
 pub returns-clause-refuses : goal.returns-clause-refuses
-returns-clause-refuses g c = λ rs error refused carries.
+returns-clause-refuses g c = λ rs error refused well_formed carries.
     let carried : Carries c.as_slice.result.now rs = rw c.as_slice.ensures.value carries in
     absurd (c.in_ok-value.ensures.refuses rs [] [] error refused (alone c.new-decoder.result rs (c.new-decoder.ensures.before rs carried)))
 
