@@ -7,7 +7,7 @@ use Rattle.asn1_bench.specs.declared.reader.BenchReader.{BenchReader}
 use Rattle.asn1_items.proofs.Items.{IsOneItem, content_item, extend, header_at-append, one_item, scope_item}
 use Rattle.asn1_items.specs.Contents.{content_kind}
 use Rattle.asn1_items.specs.Headers.{Header, header_at, is_one_item, kind_of}
-use Rattle.asn1_items.specs.Items.{HasBytes, HaveBytes}
+use Rattle.asn1_items.specs.Items.{HasBytes, HaveBytes, packed_marks, read_with}
 use Rattle.asn1_model.proofs.SameRecords.{same-mark}
 use Rattle.asn1_model.proofs.SameUpToOrder.{same_as_cons, same_as_none}
 use Rattle.asn1_model.specs.Meaning.{Meaning, CanStandInside, own_records}
@@ -16,10 +16,8 @@ use Rattle.asn1_model.specs.Records.{Record, held, is_mark, mark, more, none, ra
 use Rattle.asn1_model.specs.Tags.{IsOneRecord, Tags, head_tag}
 use Rattle.asn1_model.specs.WellFormed.{AreWellFormed}
 use Rattle.asn1_packed.proofs.Forms.{carried_is_read}
-use Rattle.asn1_packed.specs.Carried.{Carries}
+use Rattle.asn1_packed.specs.Carried.{Carries, TakesBytes}
 use Rattle.asn1_packed.specs.Format.{packed_format}
-use Rattle.asn1_packed.specs.Marks.{packed_marks}
-use Rattle.asn1_packed.specs.Presence.{read_with}
 use Rattle.asn1_streams.specs.Fronts.{BelongsTo, IsSteady}
 
 -- bytes behind change nothing
@@ -110,3 +108,10 @@ belongs m eq reader can = record {
   equal = λ w v same. same;
   as_deep = λ v. omega arith;
 }
+
+-- in the packed form each presence mark has a byte
+pub takes_bytes : (r : Record) → TakesBytes packed_marks r
+takes_bytes (mark m) = λ none. cc
+takes_bytes (scalar t c n x) = tt
+takes_bytes (scope h rs) = tt
+takes_bytes (raw n own) = tt

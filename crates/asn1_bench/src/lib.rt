@@ -29,7 +29,6 @@ mod reader;
 mod rules;
 #[cfg(test)]
 mod tests;
-mod whole;
 
 pub use reader::BenchReader;
 pub use rules::BenchRules;

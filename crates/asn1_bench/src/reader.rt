@@ -2,9 +2,9 @@
 ghost use Rattle.asn1_bench.specs.Fronts.{IsCut};
 ghost use Rattle.std.specs.Prelude.{MatchOption, ℕ};
 
-use crate::whole::read_whole;
 use asn1_dec::{Decode, DecodeError};
 use asn1_items::find_header;
+use asn1_packed::{PresenceMarks, read_whole};
 use asn1_streams::FrontReader;
 use std::alloc::Global;
 
@@ -33,7 +33,7 @@ impl BenchReader {
 
     /// Why bytes are not read that begin with no whole item.
     fn fault<D: Decode>(&self, input: &[u8]) -> DecodeError {
-        match read_whole::<D>(self.alloc, input, self.depth) {
+        match read_whole::<PresenceMarks, D>(self.alloc, input, self.depth) {
             Ok(_no_item) => DecodeError::Custom("bad item"),
             Err(error) => error,
         }
@@ -49,7 +49,7 @@ impl<D: Decode> FrontReader<D> for BenchReader {
         let Some(length) = item_length(input) else {
             return Err(self.fault::<D>(input));
         };
-        let value = read_whole(self.alloc, &input[..length], self.depth)?;
+        let value = read_whole::<PresenceMarks, D>(self.alloc, &input[..length], self.depth)?;
         Ok((value, length))
     }
 

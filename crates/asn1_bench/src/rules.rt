@@ -1,8 +1,7 @@
 //! The packed codec as a whole.
-use crate::whole::read_whole;
 use asn1_dec::{Decode, DecodeError};
 use asn1_enc::{Encode, EncodeError};
-use asn1_packed::PackedEncoder;
+use asn1_packed::{PresenceMarks, read_whole, write_whole};
 use asn1_schema::Rules;
 use std::alloc::Global;
 
@@ -46,9 +45,7 @@ impl Rules for BenchRules {
     ghost format = { packed_format };
 
     fn write_value<T: Encode>(&self, value: &T, depth: usize) -> Result<Vec<u8>, EncodeError> {
-        let mut encoder = PackedEncoder::new(self.alloc, depth);
-        value.encode(&mut encoder)?;
-        Ok(encoder.finish())
+        write_whole::<PresenceMarks, T>(self.alloc, value, depth)
     }
 
     fn read_value<T: Decode>(&self, output: &Vec<u8>, depth: usize) -> Result<T, DecodeError>
@@ -66,7 +63,7 @@ impl Rules for BenchRules {
             AreWellFormed packed_format.takes (r ∷ rest) →
             packed_format.carries output.now (own_records T.meaning v ++ r ∷ rest) → IsErr result }
     {
-        read_whole(self.alloc, output.as_slice(), depth)
+        read_whole::<PresenceMarks, T>(self.alloc, output.as_slice(), depth)
     }
 
     ghost lawful = { packed_is_lawful };
