@@ -38,7 +38,7 @@
 //!   failed decoder answers `Failed`.
 //! - A tag that no alternative of a CHOICE has is refused with the name of the type (`unknown` of [`DecodeChoice`]).
 //! - Whether a component is there, a codec knows by a presence mark or by the next tag. So a component that is absent is read only
-//!   where what follows begins with none of its tags (`TellsPresence`, `ReadsOption`, `ReadsDefault`), which distinct tags
+//!   where what follows begins with none of its tags (`TellsPresence`, `ReadsOptional`, `ReadsDefault`), which distinct tags
 //!   give: `EachApart` of `asn1_components`. Where each value of a type is a single record, anything may follow (`MayFollow`).
 //! - A codec states what remains to be read, whether it has failed, its depth left, and which byte strings it takes as one value of
 //!   an open type (`Reader`). The order inside sets means nothing to it (`IsLawful`): so it opens a set before some

@@ -7,11 +7,11 @@ use Rattle.asn1_tags.specs.Names.{name_of}
 use Rattle.asn1_codec.proofs.WritingAlternatives.{as_tagged}
 use Rattle.asn1_codec.proofs.WritingNames.{named_or}
 use Rattle.asn1_codec.proofs.WritingSteps.{exits, inside_fails, open_fails}
-use Rattle.asn1_enc.proofs.encoder.Encoder.encode_choice_with_tag.Goals as goal
+use Rattle.asn1_enc.proofs.choices.write_choice.Goals as goal
 
 pub returns-in_err-open_explicit_prefix-clause-writes : goal.returns-in_err-open_explicit_prefix-clause-writes
 returns-in_err-open_explicit_prefix-clause-writes g c =
-    let W = g.Self.Encoder.writer in
+    let W = g.E.Encoder.writer in
     let m = g.T.AsnType.meaning in
     let means = chosen_meaning (all_of g.T.Choice.alternatives) (g.T.Choice.pick c.args.value.now) in
     as_tagged W m g.T.Choice.alternatives g.T.Choice.pick c.args.value.now c.args.tag (constraint_set c.args.constraints.now) (name_of c.args.name) (name_of c.or-name.result) _ _ _ g.met.T.ChoiceType.agrees
@@ -22,10 +22,10 @@ returns-in_err-open_explicit_prefix-clause-writes g c =
 
 pub returns-in_err-encode_choice-clause-writes : goal.returns-in_err-encode_choice-clause-writes
 returns-in_err-encode_choice-clause-writes g c =
-    let W = g.Self.Encoder.writer in
+    let W = g.E.Encoder.writer in
     let m = g.T.AsnType.meaning in
     as_tagged W m g.T.Choice.alternatives g.T.Choice.pick c.args.value.now c.args.tag (constraint_set c.args.constraints.now) (name_of c.args.name) (name_of c.or-name.result) _ _ _ g.met.T.ChoiceType.agrees
     (sym c.is_choice.ensures.parts ∙ c.if-is_choice.false)
     (rw c.table-table.ensures.identifier at (named_or (name_of c.args.name) (name_of c.table-table.result.identifier) (name_of c.or-name.result) c.or-name.ensures.named c.or-name.ensures.empty))
     (exits W _ _ _ _ _ c.from_residual-in_err-encode_choice.ensures.1
-    (inside_fails W g.met.Self.Encoder.lawful c.in_ok-open_explicit_prefix.ensures (rw (c.in_ok-own_constraints.ensures.made, c.table-table.ensures.constraints, c.table-table.ensures.identifier, c.in_ok-own_constraints.ensures.same) at c.in_err-encode_choice.ensures.writes)))
+    (inside_fails W g.met.E.Encoder.lawful c.in_ok-open_explicit_prefix.ensures (rw (c.in_ok-own_constraints.ensures.made, c.table-table.ensures.constraints, c.table-table.ensures.identifier, c.in_ok-own_constraints.ensures.same) at c.in_err-encode_choice.ensures.writes)))
