@@ -4,7 +4,7 @@ ghost use Rattle.std.specs.Prelude.{MatchOption, ℕ};
 
 use asn1_dec::{Decode, DecodeError};
 use asn1_items::find_header;
-use asn1_packed::{PresenceMarks, read_whole};
+use asn1_packed::{PackedDecoder, read_whole};
 use asn1_streams::FrontReader;
 use std::alloc::Global;
 
@@ -21,7 +21,12 @@ pub struct BenchReader {
 }
 
 impl BenchReader {
-    ghost use Rattle.std.specs.Prelude.{◌≡◌};
+    ghost use Rattle.asn1_items.specs.Headers.{is_one_item};
+    ghost use Rattle.asn1_model.specs.Meaning.{CanStandInside, own_records};
+    ghost use Rattle.asn1_model.specs.Records.{highest};
+    ghost use Rattle.asn1_packed.specs.Carried.{Carries};
+    ghost use Rattle.asn1_schema.specs.Rules.{ReadsWhole};
+    ghost use Rattle.std.specs.Prelude.{◌≡◌, true};
 
     /// A reader that may open this many nested scopes, with the allocator that values are made by.
     pub fn new(alloc: Global, depth: usize) -> BenchReader
@@ -31,9 +36,21 @@ impl BenchReader {
         BenchReader { alloc, depth }
     }
 
+    /// Reads the value whose bytes these are.
+    fn read<D: Decode>(&self, bytes: &[u8]) -> Result<D, DecodeError>
+        ensures { (v : D) → CanStandInside D.meaning → D.meaning.IsOfType v →
+            D.meaning.IsValid (λ own. is_one_item own) v →
+            Carries bytes.now (own_records D.meaning v) →
+            ReadsWhole (highest (own_records D.meaning v)) self.now.depth
+            (λ w. D.eq w v ≡ true) result }
+    {
+        let decoder = PackedDecoder::new(self.alloc, bytes, self.depth);
+        read_whole(decoder)
+    }
+
     /// Why bytes are not read that begin with no whole item.
     fn fault<D: Decode>(&self, input: &[u8]) -> DecodeError {
-        match read_whole::<PresenceMarks, D>(self.alloc, input, self.depth) {
+        match self.read::<D>(input) {
             Ok(_no_item) => DecodeError::Custom("bad item"),
             Err(error) => error,
         }
@@ -49,7 +66,7 @@ impl<D: Decode> FrontReader<D> for BenchReader {
         let Some(length) = item_length(input) else {
             return Err(self.fault::<D>(input));
         };
-        let value = read_whole::<PresenceMarks, D>(self.alloc, &input[..length], self.depth)?;
+        let value = self.read(&input[..length])?;
         Ok((value, length))
     }
 

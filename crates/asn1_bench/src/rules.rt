@@ -1,7 +1,7 @@
 //! The packed codec as a whole.
 use asn1_dec::{Decode, DecodeError};
 use asn1_enc::{Encode, EncodeError};
-use asn1_packed::{PresenceMarks, read_whole, write_whole};
+use asn1_packed::{PackedDecoder, PresenceMarks, read_whole, write_whole};
 use asn1_schema::Rules;
 use std::alloc::Global;
 
@@ -63,7 +63,8 @@ impl Rules for BenchRules {
             AreWellFormed packed_format.takes (r ∷ rest) →
             packed_format.carries output.now (own_records T.meaning v ++ r ∷ rest) → IsErr result }
     {
-        read_whole::<PresenceMarks, T>(self.alloc, output.as_slice(), depth)
+        let decoder = PackedDecoder::new(self.alloc, output.as_slice(), depth);
+        read_whole(decoder)
     }
 
     ghost lawful = { packed_is_lawful };

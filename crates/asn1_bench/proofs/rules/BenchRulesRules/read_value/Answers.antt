@@ -1,20 +1,30 @@
 use Rattle.std.proofs.Common.{◌∷◌, ◌++◌}
 use Rattle.asn1_bench.proofs.Fronts.{takes_bytes}
+use Rattle.asn1_items.specs.Headers.{is_one_item}
+use Rattle.asn1_items.specs.Items.{packed_marks}
 use Rattle.asn1_model.specs.Meaning.{own_records}
+use Rattle.asn1_model.specs.WellFormed.{well_formed_append}
+use Rattle.asn1_packed.proofs.WholeValues.{not_at_end}
 use Rattle.asn1_packed.specs.Carried.{Carries}
 use Rattle.asn1_bench.proofs.rules.BenchRulesRules.read_value.Goals as goal
 
 pub returns-clause-read : goal.returns-clause-read
 returns-clause-read g c = λ v can of_type valid carries.
-    let carried : Carries c.as_slice.result.now (own_records g.T.AsnType.meaning v) = rw c.as_slice.ensures.value carries in
-    c.read_whole.ensures.read v can of_type valid carried
+    let m = g.T.AsnType.meaning in
+    let carried : Carries c.as_slice.result.now (own_records m v) = rw c.as_slice.ensures.value carries in
+    let well_formed = m.well_formed (λ own. is_one_item own) v m.tag m.constraints m.name valid in
+    rw (← c.new-decoder.ensures.depth_left) (c.read_whole.ensures.read v can of_type valid (c.new-decoder.ensures.before (own_records m v) carried well_formed))
 
 pub returns-clause-refuses : goal.returns-clause-refuses
 returns-clause-refuses g c = λ rs error refused well_formed carries.
     let carried : Carries c.as_slice.result.now rs = rw c.as_slice.ensures.value carries in
-    c.read_whole.ensures.refuses rs error refused well_formed carried
+    rw (← c.new-decoder.ensures.depth_left) (c.read_whole.ensures.refuses rs error refused (c.new-decoder.ensures.before rs carried well_formed))
 
 pub returns-clause-none_left : goal.returns-clause-none_left
 returns-clause-none_left g c = λ v r rest can of_type valid well_formed carries.
-    let carried : Carries c.as_slice.result.now (own_records g.T.AsnType.meaning v ++ r ∷ rest) = rw c.as_slice.ensures.value carries in
-    c.read_whole.ensures.none_left v r rest can of_type valid (takes_bytes r) well_formed carried
+    let m = g.T.AsnType.meaning in
+    let rs = own_records m v ++ r ∷ rest in
+    let carried : Carries c.as_slice.result.now rs = rw c.as_slice.ensures.value carries in
+    let own = m.well_formed (λ own. is_one_item own) v m.tag m.constraints m.name valid in
+    let both = well_formed_append (λ own. is_one_item own) (own_records m v) (r ∷ rest) own well_formed in
+    c.read_whole.ensures.none_left v (r ∷ rest) can of_type valid (c.new-decoder.ensures.before rs carried both) (λ d. not_at_end packed_marks d r rest (takes_bytes r))
