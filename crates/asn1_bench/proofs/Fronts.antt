@@ -1,5 +1,5 @@
 -- Fronts of packed bytes: bytes behind change nothing, and what was written is one.
-use Rattle.std.proofs.Common.{◌≡◌, ℕ, Bool, false, List, [], ◌∷◌, ◌++◌, Some, ap, sym, subst, refl, ◌∙◌, arith, append-nil, length, length-append, take}
+use Rattle.std.proofs.Common.{◌≡◌, ℕ, Bool, true, false, List, [], ◌∷◌, ◌++◌, Some, ap, sym, subst, refl, ◌∙◌, arith, append-nil, length, length-append, take}
 use Rattle.std.proofs.Math.Seq.{take-length}
 use Rattle.std.proofs.lemmas.List.{take-append-le}
 use Rattle.asn1_bench.specs.Fronts.{IsCut, IsFrontOf, cut_within, packed_fronts}
@@ -7,15 +7,14 @@ use Rattle.asn1_bench.specs.declared.reader.BenchReader.{BenchReader}
 use Rattle.asn1_items.proofs.Items.{IsOneItem, content_item, extend, header_at-append, one_item, scope_item}
 use Rattle.asn1_items.specs.Contents.{content_kind}
 use Rattle.asn1_items.specs.Headers.{Header, header_at, is_one_item, kind_of}
-use Rattle.asn1_items.specs.Items.{HasBytes, HaveBytes, packed_marks, read_with}
+use Rattle.asn1_items.specs.Items.{HasBytes, HaveBytes, packed_marks, written_with}
 use Rattle.asn1_model.proofs.SameRecords.{same-mark}
 use Rattle.asn1_model.proofs.SameUpToOrder.{same_as_cons, same_as_none}
 use Rattle.asn1_model.specs.Meaning.{Meaning, CanStandInside, own_records}
-use Rattle.asn1_model.specs.Orders.{SameRecords}
-use Rattle.asn1_model.specs.Records.{Record, held, is_mark, mark, more, none, raw, scalar, scope}
+use Rattle.asn1_model.specs.Orders.{Same, SameRecords, equal}
+use Rattle.asn1_model.specs.Records.{Name, Record, held, is_mark, mark, more, none, raw, scalar, scope}
 use Rattle.asn1_model.specs.Tags.{IsOneRecord, Tags, head_tag}
-use Rattle.asn1_model.specs.WellFormed.{AreWellFormed}
-use Rattle.asn1_packed.proofs.Forms.{carried_is_read}
+use Rattle.asn1_model.specs.WellFormed.{AreWellFormed, IsWellFormed}
 use Rattle.asn1_packed.specs.Carried.{Carries, TakesBytes}
 use Rattle.asn1_packed.specs.Format.{packed_format}
 use Rattle.asn1_streams.specs.Fronts.{BelongsTo, IsSteady}
@@ -52,24 +51,28 @@ steady m eq reader = record {
   one_cut = λ bytes m n a b. one_cut bytes m n a b;
 }
 
+-- the bytes of an open type in a well-formed record are one item
+taken : (n : Name) (own : List ℕ) (s : Record) → Same (raw n own) s → IsWellFormed (λ own. is_one_item own) s → is_one_item own ≡ true
+taken n own _ (equal _) well_formed = well_formed
+
 -- a record that is no presence mark is one item
-item_of : (r : Record) (bytes : List ℕ) → is_mark r ≡ false → HasBytes (read_with packed_marks) r bytes → IsOneItem bytes []
-item_of (scalar t c n x) bytes no_mark p = record {
+item_of : (r s : Record) (bytes : List ℕ) → Same r s → is_mark s ≡ false → IsWellFormed (λ own. is_one_item own) s → HasBytes (written_with packed_marks) r bytes → IsOneItem bytes []
+item_of (scalar t c n x) s bytes same no_mark well_formed p = record {
   header = record { kind = 1; tag = t; content = content_kind x; size = length p.inside; body = p.inside ++ [] };
   at = content_item t (content_kind x) p.inside bytes [] p.item;
   inside = p.inside;
   body = refl;
   size = refl;
 }
-item_of (scope h rs) bytes no_mark p = record {
+item_of (scope h rs) s bytes same no_mark well_formed p = record {
   header = record { kind = kind_of h; tag = head_tag h; content = 0; size = length p.inside; body = p.inside ++ [] };
   at = scope_item h p.inside bytes [] p.item;
   inside = p.inside;
   body = refl;
   size = refl;
 }
-item_of (raw n own) bytes no_mark p = subst (λ l. IsOneItem l []) (sym p.0) (one_item own [] p.1)
-item_of (mark m) bytes no_mark p = cc
+item_of (raw n own) s bytes same no_mark well_formed p = subst (λ l. IsOneItem l []) (sym p.0) (one_item own [] (taken n own s same well_formed))
+item_of (mark m) s bytes same no_mark well_formed p = let no : true ≡ false = same-mark same ∙ no_mark in cc
 
 -- and a cut of all of its bytes
 cut_of_item : (bytes : List ℕ) → IsOneItem bytes [] → IsCut bytes (length bytes)
@@ -82,19 +85,19 @@ cut_of_item bytes item =
       long = omega (arith, long);
     }
 
-cut_alone : (r : Record) (bytes : List ℕ) → is_mark r ≡ false → HaveBytes (read_with packed_marks) (more r none) bytes → IsCut bytes (length bytes)
-cut_alone r bytes no_mark p =
+cut_alone : (r s : Record) (bytes : List ℕ) → Same r s → is_mark s ≡ false → IsWellFormed (λ own. is_one_item own) s → HaveBytes (written_with packed_marks) (more r none) bytes → IsCut bytes (length bytes)
+cut_alone r s bytes same no_mark well_formed p =
     let is : bytes ≡ p.first = p.are ∙ ap (λ l. p.first ++ l) p.are_others ∙ append-nil p.first in
-    subst (λ l. IsCut l (length l)) (sym is) (cut_of_item p.first (item_of r p.first no_mark p.is_first))
+    subst (λ l. IsCut l (length l)) (sym is) (cut_of_item p.first (item_of r s p.first same no_mark well_formed p.is_first))
 
 -- so are the bytes of a list of one record
 cut_of_one : (bytes : List ℕ) (rs : List Record) (tags : Tags) → IsOneRecord tags rs → AreWellFormed (λ own. is_one_item own) rs → Carries bytes rs → IsCut bytes (length bytes)
 cut_of_one bytes rs tags one well_formed carried =
-    let read = carried_is_read packed_marks bytes rs carried well_formed in
     let same : SameRecords carried.exactly (one.item ∷ []) = subst (λ l. SameRecords carried.exactly l) one.alone carried.same in
+    let well : AreWellFormed (λ own. is_one_item own) (one.item ∷ []) = subst (λ l. AreWellFormed (λ own. is_one_item own) l) one.alone well_formed in
     let begins = same_as_cons carried.exactly one.item [] same in
     let alone : carried.exactly ≡ begins.first ∷ [] = begins.is ∙ ap (λ l. begins.first ∷ l) (same_as_none begins.others begins.same_others) in
-    cut_alone begins.first bytes (same-mark begins.same_first ∙ one.no_mark) (subst (λ l. HaveBytes (read_with packed_marks) (held l) bytes) alone read)
+    cut_alone begins.first one.item bytes begins.same_first one.no_mark well.0 (subst (λ l. HaveBytes (written_with packed_marks) (held l) bytes) alone carried.have_bytes)
 
 pub belongs : {V : Type 0} (m : Meaning V) (eq : V → V → Bool) (reader : BenchReader) → CanStandInside m → BelongsTo (packed_fronts m eq) reader packed_format m eq
 belongs m eq reader can = record {

@@ -1,11 +1,11 @@
 -- Which records have no output.
 use Rattle.std.specs.Prelude.{List}
-use Rattle.asn1_items.specs.Items.{SomeTooLong, as_written}
+use Rattle.asn1_items.specs.Items.{SomeTooLong, packed_marks, written_with}
 use Rattle.asn1_model.specs.Orders.{SameRecords}
 use Rattle.asn1_model.specs.Records.{Record, held}
 
 -- Some item of the records, at whatever depth, has 2^32 bytes or more inside, with the elements of sets in some order.
 pub record AreTooLong (rs : List Record) : Type 0 where
   pub exactly : List Record
-  pub too_long : SomeTooLong as_written (held exactly)
+  pub too_long : SomeTooLong (written_with packed_marks) (held exactly)
   pub same : SameRecords exactly rs

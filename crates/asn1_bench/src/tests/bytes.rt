@@ -71,10 +71,20 @@ fn assert_integer(rt: &impl Abort, alloc: Global, number: i128, bytes: &[u8]) {
 #[test]
 fn numbers_are_a_sign_and_a_magnitude(rt: HostRuntime) {
     let alloc = rt.alloc();
-    assert_integer(&rt, alloc, -256, &[1, 0, 0, 0, 0, 2, 2, 0, 0, 0, 3, 1, 1, 0]);
+    assert_integer(
+        &rt,
+        alloc,
+        -256,
+        &[1, 0, 0, 0, 0, 2, 2, 0, 0, 0, 3, 1, 1, 0],
+    );
     assert_integer(&rt, alloc, 0, &[1, 0, 0, 0, 0, 2, 2, 0, 0, 0, 1, 0]);
     assert_integer(&rt, alloc, 30, &[1, 0, 0, 0, 0, 2, 2, 0, 0, 0, 2, 0, 30]);
-    assert_bytes(&rt, alloc, &Color::Blue, &[1, 0, 0, 0, 0, 10, 3, 0, 0, 0, 2, 0, 5]);
+    assert_bytes(
+        &rt,
+        alloc,
+        &Color::Blue,
+        &[1, 0, 0, 0, 0, 10, 3, 0, 0, 0, 2, 0, 5],
+    );
     assert_bytes(&rt, alloc, &true, TRUE);
 }
 
@@ -87,10 +97,20 @@ fn assert_bits(rt: &impl Abort, alloc: Global, bits: &[bool], bytes: &[u8]) {
 fn bits_begin_at_the_highest(rt: HostRuntime) {
     let alloc = rt.alloc();
     let three = [true, false, true];
-    assert_bits(&rt, alloc, &three, &[1, 0, 0, 0, 0, 3, 7, 0, 0, 0, 2, 5, 0xa0]);
+    assert_bits(
+        &rt,
+        alloc,
+        &three,
+        &[1, 0, 0, 0, 0, 3, 7, 0, 0, 0, 2, 5, 0xa0],
+    );
     assert_bits(&rt, alloc, &[], &[1, 0, 0, 0, 0, 3, 7, 0, 0, 0, 1, 0]);
     let eight = [true, false, false, false, false, false, true, true];
-    assert_bits(&rt, alloc, &eight, &[1, 0, 0, 0, 0, 3, 7, 0, 0, 0, 2, 0, 0x83]);
+    assert_bits(
+        &rt,
+        alloc,
+        &eight,
+        &[1, 0, 0, 0, 0, 3, 7, 0, 0, 0, 2, 0, 0x83],
+    );
 }
 
 fn assert_arcs(rt: &impl Abort, alloc: Global, arcs: &[u32], bytes: &[u8]) {
@@ -120,8 +140,18 @@ fn units_have_one_two_or_four_bytes(rt: HostRuntime) {
     assert_arcs(&rt, alloc, &[1, 3], &two);
     let four = [1, 0, 0, 0, 0, 20, 15, 0, 0, 0, 4, 0, 1, 0, 0];
     assert_teletex(&rt, alloc, &[65536], &four);
-    assert_bmp(&rt, alloc, &[258], &[1, 0, 0, 0, 0, 30, 16, 0, 0, 0, 2, 1, 2]);
-    assert_plate(&rt, alloc, b"AB", &[1, 0, 0, 0, 0, 26, 9, 0, 0, 0, 2, 0x41, 0x42]);
+    assert_bmp(
+        &rt,
+        alloc,
+        &[258],
+        &[1, 0, 0, 0, 0, 30, 16, 0, 0, 0, 2, 1, 2],
+    );
+    assert_plate(
+        &rt,
+        alloc,
+        b"AB",
+        &[1, 0, 0, 0, 0, 26, 9, 0, 0, 0, 2, 0x41, 0x42],
+    );
 }
 
 fn assert_none(rt: &impl Abort, alloc: Global) {
@@ -133,7 +163,9 @@ fn assert_none(rt: &impl Abort, alloc: Global) {
 fn scopes_have_the_length_of_what_is_inside(rt: HostRuntime) {
     let alloc = rt.alloc();
     assert_none(&rt, alloc);
-    let inner = [6, 0, 0, 0, 0, 1, 0, 0, 0, 12, 1, 0, 0, 0, 0, 1, 1, 0, 0, 0, 1, 1];
+    let inner = [
+        6, 0, 0, 0, 0, 1, 0, 0, 0, 12, 1, 0, 0, 0, 0, 1, 1, 0, 0, 0, 1, 1,
+    ];
     assert_bytes(&rt, alloc, &Explicit::<tag::BOOL, bool>::new(true), &inner);
     assert_bytes(&rt, alloc, &Open::Null, OPEN);
 }

@@ -4,8 +4,7 @@ use asn1_bounds::Codec;
 use asn1_codec_tests::{CallRules, Calls, Failure, calls};
 use asn1_dec::{DecodeError, Decoder};
 use asn1_enc::{EncodeError, Encoder};
-use asn1_packed::PackedDecoder;
-use asn1_packed::PackedEncoder;
+use asn1_packed::{PackedDecoder, PackedEncoder};
 use asn1_sample_tests::{calls as sample_calls, sets};
 use std::alloc::Global;
 

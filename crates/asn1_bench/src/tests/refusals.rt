@@ -54,8 +54,20 @@ fn missing_bytes_are_counted(rt: HostRuntime) {
     lacks::<bool>(&rt, alloc, "nothing", &[], 1);
     lacks::<bool>(&rt, alloc, "a kind", &[1], 10);
     lacks::<bool>(&rt, alloc, "a class", &[1, 4], 9);
-    lacks::<bool>(&rt, alloc, "a header but one", &[1, 0, 0, 0, 0, 1, 1, 0, 0, 0], 1);
-    lacks::<bool>(&rt, alloc, "no content", &[1, 0, 0, 0, 0, 1, 1, 0, 0, 0, 1], 1);
+    lacks::<bool>(
+        &rt,
+        alloc,
+        "a header but one",
+        &[1, 0, 0, 0, 0, 1, 1, 0, 0, 0],
+        1,
+    );
+    lacks::<bool>(
+        &rt,
+        alloc,
+        "no content",
+        &[1, 0, 0, 0, 0, 1, 1, 0, 0, 0, 1],
+        1,
+    );
     lacks::<Vec<bool>>(&rt, alloc, "the kind of a list", &[4], 9);
     lacks::<Vec<bool>>(&rt, alloc, "no body", &[4, 0, 0, 0, 0, 16, 0, 0, 0, 7], 7);
     let long = [1, 0, 0, 0, 0, 1, 1, 0xff, 0xff, 0xff, 0xff, 1];
@@ -78,14 +90,39 @@ fn the_header_is_looked_at_before_the_body(rt: HostRuntime) {
     let alloc = rt.alloc();
     is_bad::<bool>(&rt, alloc, "no class", &[1, 4, 0, 0, 0, 1, 1, 0, 0, 0, 9]);
     is_bad::<bool>(&rt, alloc, "a scope", &[2, 0, 0, 0, 0, 1, 0, 0, 0, 9]);
-    is_bad::<bool>(&rt, alloc, "another class", &[1, 2, 0, 0, 0, 1, 1, 0, 0, 0, 9]);
-    is_bad::<bool>(&rt, alloc, "another tag", &[1, 0, 0, 0, 0, 2, 1, 0, 0, 0, 9]);
+    is_bad::<bool>(
+        &rt,
+        alloc,
+        "another class",
+        &[1, 2, 0, 0, 0, 1, 1, 0, 0, 0, 9],
+    );
+    is_bad::<bool>(
+        &rt,
+        alloc,
+        "another tag",
+        &[1, 0, 0, 0, 0, 2, 1, 0, 0, 0, 9],
+    );
     is_bad::<bool>(&rt, alloc, "a wide tag", &[1, 0, 1, 0, 0, 1, 1, 0, 0, 0, 9]);
-    is_bad::<bool>(&rt, alloc, "another content", &[1, 0, 0, 0, 0, 1, 2, 0, 0, 0, 9]);
+    is_bad::<bool>(
+        &rt,
+        alloc,
+        "another content",
+        &[1, 0, 0, 0, 0, 1, 2, 0, 0, 0, 9],
+    );
     is_bad::<Vec<bool>>(&rt, alloc, "a sequence", &[2, 0, 0, 0, 0, 16, 0, 0, 0, 9]);
-    is_bad::<Vec<bool>>(&rt, alloc, "a tag of a set", &[4, 0, 0, 0, 0, 17, 0, 0, 0, 9]);
+    is_bad::<Vec<bool>>(
+        &rt,
+        alloc,
+        "a tag of a set",
+        &[4, 0, 0, 0, 0, 17, 0, 0, 0, 9],
+    );
     is_bad::<Corner>(&rt, alloc, "no choice", &[6, 0, 0, 0, 0, 1, 0, 0, 0, 9]);
-    is_bad::<Ia5String>(&rt, alloc, "another string", &[1, 0, 0, 0, 0, 22, 9, 0, 0, 0, 9]);
+    is_bad::<Ia5String>(
+        &rt,
+        alloc,
+        "another string",
+        &[1, 0, 0, 0, 0, 22, 9, 0, 0, 0, 9],
+    );
     is_bad::<BmpString>(&rt, alloc, "octets", &[1, 0, 0, 0, 0, 30, 9, 0, 0, 0, 9]);
 }
 
@@ -95,19 +132,59 @@ fn another_spelling_is_refused(rt: HostRuntime) {
     is_bad::<bool>(&rt, alloc, "two", &[1, 0, 0, 0, 0, 1, 1, 0, 0, 0, 1, 2]);
     is_bad::<bool>(&rt, alloc, "no truth", &[1, 0, 0, 0, 0, 1, 1, 0, 0, 0, 0]);
     is_bad::<()>(&rt, alloc, "a null", &[1, 0, 0, 0, 0, 5, 4, 0, 0, 0, 1, 0]);
-    is_bad::<u8>(&rt, alloc, "a zero", &[1, 0, 0, 0, 0, 2, 2, 0, 0, 0, 2, 0, 0]);
-    is_bad::<u8>(&rt, alloc, "a negative zero", &[1, 0, 0, 0, 0, 2, 2, 0, 0, 0, 1, 1]);
-    is_bad::<Integer>(&rt, alloc, "a sign", &[1, 0, 0, 0, 0, 2, 2, 0, 0, 0, 2, 2, 7]);
+    is_bad::<u8>(
+        &rt,
+        alloc,
+        "a zero",
+        &[1, 0, 0, 0, 0, 2, 2, 0, 0, 0, 2, 0, 0],
+    );
+    is_bad::<u8>(
+        &rt,
+        alloc,
+        "a negative zero",
+        &[1, 0, 0, 0, 0, 2, 2, 0, 0, 0, 1, 1],
+    );
+    is_bad::<Integer>(
+        &rt,
+        alloc,
+        "a sign",
+        &[1, 0, 0, 0, 0, 2, 2, 0, 0, 0, 2, 2, 7],
+    );
     is_bad::<Integer>(&rt, alloc, "no sign", &[1, 0, 0, 0, 0, 2, 2, 0, 0, 0, 0]);
-    is_bad::<u8>(&rt, alloc, "a leading zero", &[1, 0, 0, 0, 0, 2, 2, 0, 0, 0, 3, 0, 0, 7]);
-    is_bad::<u8>(&rt, alloc, "256", &[1, 0, 0, 0, 0, 2, 2, 0, 0, 0, 3, 0, 1, 0]);
-    is_bad::<Color>(&rt, alloc, "no item", &[1, 0, 0, 0, 0, 10, 3, 0, 0, 0, 2, 0, 2]);
+    is_bad::<u8>(
+        &rt,
+        alloc,
+        "a leading zero",
+        &[1, 0, 0, 0, 0, 2, 2, 0, 0, 0, 3, 0, 0, 7],
+    );
+    is_bad::<u8>(
+        &rt,
+        alloc,
+        "256",
+        &[1, 0, 0, 0, 0, 2, 2, 0, 0, 0, 3, 0, 1, 0],
+    );
+    is_bad::<Color>(
+        &rt,
+        alloc,
+        "no item",
+        &[1, 0, 0, 0, 0, 10, 3, 0, 0, 0, 2, 0, 2],
+    );
     let arcs = [1, 0, 0, 0, 0, 6, 5, 0, 0, 0, 3, 0, 0, 1];
     is_bad::<ObjectIdentifier>(&rt, alloc, "three bytes", &arcs);
-    is_bad::<BmpString>(&rt, alloc, "one byte", &[1, 0, 0, 0, 0, 30, 16, 0, 0, 0, 1, 1]);
+    is_bad::<BmpString>(
+        &rt,
+        alloc,
+        "one byte",
+        &[1, 0, 0, 0, 0, 30, 16, 0, 0, 0, 1, 1],
+    );
     let feed = [1, 0, 0, 0, 0, 26, 9, 0, 0, 0, 1, 10];
     is_bad::<VisibleString>(&rt, alloc, "a line feed", &feed);
-    is_bad::<String>(&rt, alloc, "no text", &[1, 0, 0, 0, 0, 12, 8, 0, 0, 0, 1, 255]);
+    is_bad::<String>(
+        &rt,
+        alloc,
+        "no text",
+        &[1, 0, 0, 0, 0, 12, 8, 0, 0, 0, 1, 255],
+    );
 }
 
 #[test]
@@ -124,10 +201,20 @@ fn other_bits_are_refused(rt: HostRuntime) {
 #[test]
 fn what_is_missing_inside_a_scope_is_bad(rt: HostRuntime) {
     let alloc = rt.alloc();
-    is_bad::<Vec<bool>>(&rt, alloc, "past the end", &[4, 0, 0, 0, 0, 16, 0, 0, 0, 1, 1]);
+    is_bad::<Vec<bool>>(
+        &rt,
+        alloc,
+        "past the end",
+        &[4, 0, 0, 0, 0, 16, 0, 0, 0, 1, 1],
+    );
     is_bad::<Person>(&rt, alloc, "none", &[2, 0, 0, 0, 0, 16, 0, 0, 0, 0]);
     is_bad::<Profile>(&rt, alloc, "no mark", &[2, 0, 0, 0, 0, 16, 0, 0, 0, 0]);
-    is_bad::<Profile>(&rt, alloc, "another mark", &[2, 0, 0, 0, 0, 16, 0, 0, 0, 1, 18]);
+    is_bad::<Profile>(
+        &rt,
+        alloc,
+        "another mark",
+        &[2, 0, 0, 0, 0, 16, 0, 0, 0, 1, 18],
+    );
 }
 
 /// `TRUE`, twice.
@@ -152,9 +239,27 @@ fn what_is_no_alternative_is_refused(rt: HostRuntime) {
     let real = [
         7, 0, 0, 0, 0, 9, 0, 0, 0, 11, 1, 0, 0, 0, 0, 9, 4, 0, 0, 0, 0,
     ];
-    refused::<Corner>(&rt, alloc, "no corner", &real, DecodeError::NoValidChoice("Corner"));
-    refused::<Shape>(&rt, alloc, "no shape", &real, DecodeError::NoValidChoice("Shape"));
-    refused::<Open>(&rt, alloc, "no open", &real, DecodeError::NoValidChoice("Open"));
+    refused::<Corner>(
+        &rt,
+        alloc,
+        "no corner",
+        &real,
+        DecodeError::NoValidChoice("Corner"),
+    );
+    refused::<Shape>(
+        &rt,
+        alloc,
+        "no shape",
+        &real,
+        DecodeError::NoValidChoice("Shape"),
+    );
+    refused::<Open>(
+        &rt,
+        alloc,
+        "no open",
+        &real,
+        DecodeError::NoValidChoice("Open"),
+    );
 }
 
 /// The badge, whose NULL has another tag.

@@ -1,7 +1,7 @@
 //! The sample types.
 use crate::rules::BenchRules;
-use crate::tests::cases::passes;
 use crate::tests::bytes::NULL;
+use crate::tests::cases::passes;
 use asn1_sample_tests::{depth, samples};
 
 #[test]

@@ -1,7 +1,7 @@
 //! A value of each type, and what no codec reads.
 use crate::rules::BenchRules;
-use crate::tests::cases::passes;
 use crate::tests::bytes::NULL;
+use crate::tests::cases::passes;
 use asn1_codec_tests::{nested_lists_need_their_depth, refusals, types};
 
 #[test]
