@@ -48,7 +48,7 @@ returns-in_err-own_constraints-clause-writes g c =
     (sym c.is_choice.ensures.parts ∙ c.if-is_choice.false)
     (rw c.table-table.ensures.identifier at (named_or (name_of c.args.name) (name_of c.table-table.result.identifier) (name_of c.or-name.result) c.or-name.ensures.named c.or-name.ensures.empty))
     (exits W _ _ _ means.IsOfType _ c.from_residual-in_err-own_constraints.ensures.1
-    (inside_fails W g.met.E.Encoder.lawful c.in_ok-open_explicit_prefix.ensures 
+    (inside_fails W g.met.E.Encoder.lawful c.in_ok-open_explicit_prefix.ensures
     (refused W (alternative_records (chosen_tag (all_of g.T.Choice.alternatives) (g.T.Choice.pick c.args.value.now)) m.constraints (table_of g.T.Choice.alternatives) m.name means.records) c.in_err-own_constraints.ensures.refused)))
 
 pub returns-clause-writes : goal.returns-clause-writes
