@@ -25,6 +25,7 @@ pub mod TellingTags
 pub mod TwoComponents
 pub mod WritingAlternatives
 pub mod WritingComponents
+pub mod WritingDefaults
 pub mod WritingElements
 pub mod WritingNames
 pub mod WritingSteps

@@ -1,5 +1,5 @@
 -- A component that may be absent, or has a default.
-use Rattle.std.proofs.Common.{◌≡◌, Bool, true, false, List, ◌++◌, Option, None, Some, Result, Ok, Err, refl, inl, inr, arith, sym, ◌∙◌, subst}
+use Rattle.std.proofs.Common.{◌≡◌, Bool, true, false, List, ◌++◌, Option, None, Some, Result, Ok, Err, refl, inl, inr, arith, sym, subst}
 use Rattle.std.specs.Cmp.{IsEquivalence}
 use Rattle.std.specs.Option.{IfSome, IfNone, option_eq, option_map}
 use Rattle.std.specs.Result.{MatchResult}

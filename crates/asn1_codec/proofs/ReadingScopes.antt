@@ -1,8 +1,8 @@
 -- A scope that is opened, read to its end, and closed.
-use Rattle.std.proofs.Common.{◌≡◌, ℕ, suc, ◌≤◌, List, [], ◌∷◌, ◌++◌}
+use Rattle.std.proofs.Common.{◌≡◌, suc, List, [], ◌∷◌, ◌++◌}
 use Rattle.std.specs.Prelude.{⊤}
-use Rattle.asn1_model.specs.Records.{Head, Name, Record, highest, holding}
-use Rattle.asn1_codec.specs.Reading.{HasAdvanced, MayFail, Outside, Reader, Remaining}
+use Rattle.asn1_model.specs.Records.{Head, Record, highest, holding}
+use Rattle.asn1_codec.specs.Reading.{HasAdvanced, MayFail, Outside, Reader}
 use Rattle.asn1_codec.specs.declared.decode_error.DecodeError.{DecodeError}
 use Rattle.asn1_codec.proofs.ReadingSteps.{fails_inside, flat_failure, to_end, within_scope}
 

@@ -1,6 +1,6 @@
 -- How steps of reading follow one another.
 pub use Rattle.asn1_codec.proofs.Heights.{highest-append, highest-holding}
-use Rattle.std.proofs.Common.{◌≡◌, Bool, true, ℕ, suc, max, ◌≤◌, List, [], ◌∷◌, ◌++◌, inl, inr, arith, ap, sym, ◌∙◌, subst, append-nil, Result, Ok, Err}
+use Rattle.std.proofs.Common.{◌≡◌, Bool, true, ℕ, suc, ◌≤◌, List, [], ◌∷◌, ◌++◌, inl, inr, arith, sym, subst, append-nil, Result, Ok, Err}
 use Rattle.std.specs.Cmp.{IsEquivalence}
 use Rattle.asn1_model.specs.Records.{Record, Head, height, highest, holding}
 use Rattle.asn1_codec.specs.declared.decode_error.DecodeError.{DecodeError}

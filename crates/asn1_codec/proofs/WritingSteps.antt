@@ -1,6 +1,6 @@
 -- How steps of writing follow one another.
 pub use Rattle.asn1_codec.proofs.Heights.{highest-append, highest-holding}
-use Rattle.std.proofs.Common.{◌≡◌, ℕ, suc, max, Bool, true, false, ◌&&◌, List, [], ◌∷◌, ◌++◌, if◌then◌else◌, refl, sym, ap, ◌∙◌, subst, append_assoc, append-nil, zero-le, arith, Some, Result, Ok, Err}
+use Rattle.std.proofs.Common.{◌≡◌, Bool, true, false, ◌&&◌, List, [], ◌∷◌, ◌++◌, if◌then◌else◌, refl, sym, ap, ◌∙◌, subst, append_assoc, append-nil, zero-le, arith, Some, Result, Ok, Err}
 use Rattle.std.specs.Result.{IsErrAnd}
 use Rattle.asn1_components.specs.ComponentLists.{EachIsOfType}
 use Rattle.asn1_components.specs.Components.{Components, Kind, AgreesWithComponents, all_components, component_records, head_in, lines}

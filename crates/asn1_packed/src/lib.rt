@@ -8,6 +8,7 @@
 //! | [`Presence`], [`MarkKind`] | how a codec over items tells what may be absent |
 //! | [`PresenceMarks`] | how the packed codec tells it: by marks of one byte each |
 //! | [`ItemEncoder`], [`ItemDecoder`] | the encoder and the decoder of any codec over items |
+//! | [`laws`] | what types see of these, and what the derives give |
 //!
 //! `asn1_items` has the bytes of items. What differs between codecs over items is [`Presence`] alone: the bytes of presence marks,
 //! and how a decoder finds what they tell.
@@ -37,6 +38,7 @@
 
 mod decoder;
 mod encoder;
+pub mod laws;
 mod marks;
 mod presence;
 mod whole;

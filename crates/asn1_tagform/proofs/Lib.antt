@@ -1,0 +1,2 @@
+mod GroupTags
+mod Telling

@@ -1,0 +1,17 @@
+use Rattle.asn1_items.specs.Headers.{is_one_item}
+use Rattle.asn1_model.specs.Meaning.{own_records}
+use Rattle.asn1_packed.specs.Carried.{CarriesWith}
+use Rattle.asn1_tagform.specs.Next.{no_marks}
+use Rattle.asn1_tagform.proofs.rules.TagRulesRules.read_value.Goals as goal
+
+pub returns-clause-read : goal.returns-clause-read
+returns-clause-read g c = λ v can of_type valid carries.
+    let m = g.T.AsnType.meaning in
+    let carried : CarriesWith no_marks c.as_slice.result.now (own_records m v) = rw c.as_slice.ensures.value carries in
+    let well = m.well_formed (λ own. is_one_item own) v m.tag m.constraints m.name valid in
+    rw (← c.new-decoder.ensures.depth_left) (c.read_whole.ensures.read v can of_type valid (c.new-decoder.ensures.before (own_records m v) carried well))
+
+pub returns-clause-refuses : goal.returns-clause-refuses
+returns-clause-refuses g c = λ rs error refused well carries.
+    let carried : CarriesWith no_marks c.as_slice.result.now rs = rw c.as_slice.ensures.value carries in
+    rw (← c.new-decoder.ensures.depth_left) (c.read_whole.ensures.refuses rs error refused (c.new-decoder.ensures.before rs carried well))

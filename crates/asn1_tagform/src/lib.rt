@@ -1,0 +1,28 @@
+//! The tag form, a codec over items with tags and no presence marks.
+//!
+//! | Item | What it is |
+//! |---|---|
+//! | [`TagRules`] | the codec as a whole |
+//! | [`NextItem`] | how it tells what may be absent |
+//! | [`laws`] | what it is, and what the derives give |
+//!
+//! The items are those of the packed form (`asn1_items`), without the bytes of presence marks, and the encoder and the decoder
+//! are those of `asn1_packed`. A component that may be absent is there if and only if an item follows in the scope whose class and
+//! number are one of its tags; a group if and only if they are one of those of its components. An open type, and a choice of
+//! nothing, can begin with any tag.
+//!
+//! What the contracts promise, and the words that they use:
+//!
+//! - [`TagRules`] keep the laws of every codec (`Rules` of `asn1_schema`), so that what is written is read back equal. Their format
+//!   is `tag_format` of `specs/Format.antt`: bytes carry the records whose items they are, up to the order inside sets
+//!   (`CarriesWith` of `asn1_packed`, with `no_marks` of `specs/Next.antt`). Records are rejected that are too long, and no others.
+//! - Of bytes that no value gave nothing is said but by tests. The errors are those of the packed form.
+#![tactic(auto)]
+
+pub mod laws;
+mod next_item;
+mod rules;
+mod tags;
+
+pub use next_item::NextItem;
+pub use rules::TagRules;

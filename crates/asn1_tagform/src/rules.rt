@@ -1,0 +1,52 @@
+//! The tag form as a whole.
+use crate::next_item::NextItem;
+use asn1_dec::{Decode, DecodeError};
+use asn1_enc::{Encode, EncodeError};
+use asn1_packed::{ItemDecoder, read_whole, write_whole};
+use asn1_schema::Rules;
+use std::alloc::Global;
+
+/// The rules of the tag form: a value becomes the bytes of its items, without presence marks.
+///
+/// They reject the records that are too long, with 2^32 bytes or more inside an item, and take one item as one value of an open
+/// type. So `write_value` fails if memory runs out, where the value's records are nested deeper than the depth, by
+/// [`EncodeError::Custom`] with the text `item too long`, and for no other reason.
+///
+/// Of bytes that are not those of a value of the type, `read_value` answers an error or a value. [`DecodeError::Incomplete`]
+/// comes where bytes are missing outside all scopes, with how many of the part that is read, and [`DecodeError::Custom`], with
+/// the text `bad item`, where the bytes are not what is asked for or some are left. An error of the type's own is answered as it
+/// is.
+#[derive(Clone, Copy, Debug)]
+pub struct TagRules {
+    alloc: Global,
+}
+
+impl TagRules {
+    ghost use Rattle.std.specs.Prelude.{◌≡◌};
+
+    /// The rules, with the allocator that bytes and values are made by.
+    pub fn new(alloc: Global) -> TagRules
+        ensures { result.alloc ≡ alloc }
+    {
+        TagRules { alloc }
+    }
+}
+
+impl Rules for TagRules {
+    ghost use Rattle.asn1_tagform.specs.Format.{tag_format, tag_form_is_lawful};
+
+    type Output = Vec<u8>;
+
+    ghost format = { tag_format };
+
+    fn write_value<T: Encode>(&self, value: &T, depth: usize) -> Result<Vec<u8>, EncodeError> {
+        write_whole::<NextItem, T>(self.alloc, value, depth)
+    }
+
+    fn read_value<T: Decode>(&self, output: &Vec<u8>, depth: usize) -> Result<T, DecodeError> {
+        let decoder = ItemDecoder::<NextItem>::new(self.alloc, output.as_slice(), depth);
+        read_whole(decoder)
+    }
+
+    ghost lawful = { tag_form_is_lawful };
+}
