@@ -47,8 +47,11 @@ fn is_too_high<R: Rules, T: Encode>(rules: &R, value: &T, depth: usize) -> Resul
     }
 }
 
-/// Whether the value is read of an output with this many nested scopes.
-fn is_read<R: Rules, T: Decode>(
+/// Whether the value is read of the output with this many nested scopes.
+///
+/// # Errors
+/// [`Failure::Another`] where another is read; else why none was.
+pub fn is_read<R: Rules, T: Decode>(
     rules: &R,
     output: &R::Output,
     depth: usize,

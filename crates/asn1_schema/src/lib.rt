@@ -9,8 +9,8 @@
 //! | [`UniversalString`], [`UtcTime`], [`GeneralizedTime`], [`ObjectDescriptor`] | the kinds of string that are another kind under a tag |
 //! | [`laws`] | what the derives of the errors give, and which kind of string each name is |
 //!
-//! It is the one crate that an author of types or of a codec names in crates.txt. Each public name of the crates below is
-//! re-exported, but for the macro `item!`, which is of `asn1_enumerations`. The crates stand here under the names of their subjects
+//! It is the one crate that an author of types or of a codec names in crates.txt, but that theorems about a CHOICE want `asn1_tags`
+//! there too. Each public name of the crates below is re-exported, but for the macro `item!`, which is of `asn1_enumerations`. The crates stand here under the names of their subjects
 //! too (`types`, `strings`, `codec` and so on), in code, and so do their definitions and their lemmas: `specs/Lib.antt` and
 //! `proofs/Lib.antt` pass them on. The words with which an author says what a type means are `Rattle.asn1_schema.specs.Words`.
 //!
