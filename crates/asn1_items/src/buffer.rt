@@ -141,8 +141,8 @@ impl Buffer {
     /// # Errors
     /// [`BufferError::TooLong`] where 2^32 bytes or more are inside, and [`BufferError::NotOpen`] where no scope is innermost.
     pub fn close_scope(&mut self) -> Result<(), BufferError>
-        ensures closed { (marks : MarkBytes) (h : model.Head) (rs : List model.Record) (w : Written) →
-            HasWritten marks (in_scope h rs w) self.old →
+        ensures closed { (marks : MarkBytes) (h : model.Head) (rs : List model.Record)
+            (w : Written) → HasWritten marks (in_scope h rs w) self.old →
             MatchResult result
             (λ _. HasWritten marks (followed_by w (holding h rs ∷ [])) self.new)
             (λ _. IsTooLong (written_with marks) (holding h rs)) }

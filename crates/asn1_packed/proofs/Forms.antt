@@ -1,11 +1,11 @@
 -- The bytes of records whose open types are one item each are those that a decoder reads.
-use Rattle.std.specs.Prelude.{◌≡◌, ⊤, List, ℕ, All, IsTrue}
+use Rattle.std.specs.Prelude.{⊤, List, ℕ, All, IsTrue}
 use Rattle.std.proofs.lemmas.List.Elements.{All-nil, All-cons, All-head, All-tail}
 use Rattle.std.proofs.lemmas.List.Sorted.{All-permutation, IsPermutation-sym}
 use Rattle.asn1_items.specs.Headers.{is_one_item}
 use Rattle.asn1_items.specs.Items.{HasBytes, HaveBytes, MarkBytes, read_with, written_with}
 use Rattle.asn1_model.specs.Orders.{Same, SameAll, equal, in_place, in_any_order, at_end, next}
-use Rattle.asn1_model.specs.Records.{Mark, Record, Records, scalar, scope, raw, mark, none, more, held, listed}
+use Rattle.asn1_model.specs.Records.{Record, Records, scalar, scope, raw, mark, none, more, held, listed}
 use Rattle.asn1_model.specs.WellFormed.{AreWellFormed, IsWellFormed, EachIsWellFormed}
 use Rattle.asn1_packed.specs.Carried.{CarriesWith}
 

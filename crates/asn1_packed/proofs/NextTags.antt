@@ -1,5 +1,5 @@
 -- The tag of the header of what is next is one with which the record that is next begins.
-use Rattle.std.proofs.Common.{◌≡◌, ℕ, zero, ◌+◌, ◌≤◌, ◌<◌, Bool, true, false, List, [], ◌∷◌, ◌++◌, refl, sym, ap, subst, ◌∙◌, arith, Option, Some, None}
+use Rattle.std.proofs.Common.{◌≡◌, ℕ, false, List, [], ◌∷◌, ◌++◌, refl, sym, ap, subst, ◌∙◌, arith, Option, Some, None}
 use Rattle.asn1_components.specs.ComponentTypes.{ComponentType}
 use Rattle.asn1_codec.proofs.MarksPassed.{first_left, next_tag, no_next_tag}
 use Rattle.asn1_codec.specs.Reading.{IsNextTag, HasAdvanced, Outside, marks_passed}

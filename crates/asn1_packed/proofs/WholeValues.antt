@@ -1,5 +1,5 @@
 -- A value as a whole, written and read.
-use Rattle.std.proofs.Common.{◌≡◌, ◌⊎◌, ℕ, true, false, List, [], ◌∷◌, ◌++◌, inl, inr, refl, sym, subst, ◌∙◌, append-nil}
+use Rattle.std.proofs.Common.{◌≡◌, ◌⊎◌, ℕ, false, List, [], ◌∷◌, ◌++◌, inl, inr, refl, sym, subst, ◌∙◌, append-nil}
 use Rattle.asn1_codec.proofs.ReadingUpToOrder.{at_the_end}
 use Rattle.asn1_codec.proofs.Remaining.{same_as_record}
 use Rattle.asn1_codec.specs.Reading.{IsOwnError, MayFail, Outside, Reader}

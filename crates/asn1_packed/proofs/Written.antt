@@ -1,5 +1,5 @@
 -- An encoder over items keeps the laws of a codec, by what its buffer has written.
-use Rattle.std.proofs.Common.{◌≡◌, ◌≢◌, ℕ, suc, Bool, true, false, List, [], ◌∷◌, sym, ap, subst, ◌∙◌, arith, inl, Result, Ok, Err}
+use Rattle.std.proofs.Common.{◌≡◌, ◌≢◌, ℕ, suc, true, false, List, [], ◌∷◌, sym, ap, subst, ◌∙◌, arith, inl, Result, Ok, Err}
 use Rattle.std.specs.Prelude.{⊤, Some}
 use Rattle.asn1_codec.proofs.WritingUpToOrder.{same_as_outermost}
 use Rattle.asn1_codec.specs.WritingUpToOrder.{WroteUpToOrder}

@@ -1,5 +1,5 @@
 -- The formats of codecs over items, and their law.
-use Rattle.std.specs.Prelude.{ℕ, List, Vec}
+use Rattle.std.specs.Prelude.{ℕ, Vec}
 use Rattle.std.specs.declared.alloc.Global.{Global}
 use Rattle.asn1_codec.proofs.WritingUpToOrder.{lawful}
 use Rattle.asn1_items.specs.Headers.{is_one_item}

@@ -85,7 +85,8 @@ impl<'a, P: Presence> ItemDecoder<'a, P> {
     /// [`DecodeError::Failed`] where a call has failed before, and else [`DecodeError::Custom`], with the text `bad item`.
     pub fn finish(self) -> Result<(), DecodeError>
         ensures all_read { IsOk result ↔ Remains P.mark_bytes self.entry ([], []) }
-        ensures failed { result ≡ Err Failed ↔ ((item_reader P.mark_bytes).failed self.entry ≡ true) }
+        ensures failed { result ≡ Err Failed ↔
+            ((item_reader P.mark_bytes).failed self.entry ≡ true) }
         ensures bad_item { IfErr result (λ e. e ≢ Failed → reason e ≡ custom (codes "bad item")) }
     {
         if self.failed {

@@ -70,7 +70,8 @@ impl<P: Presence> ItemEncoder<P> {
 
     /// Makes the encoder failed, and answers the error, or `Failed` if it had failed before.
     fn fail(&mut self, error: EncodeError) -> EncodeError
-        ensures { error ≡ Memory → IsOutOfMemory (item_writer P.mark_bytes) self.old self.new result }
+        ensures { error ≡ Memory →
+            IsOutOfMemory (item_writer P.mark_bytes) self.old self.new result }
     {
         if self.failed {
             return EncodeError::Failed;
@@ -176,7 +177,8 @@ impl<P: Presence> ItemEncoder<P> {
 
     /// Opens a group.
     fn open_inner_group(&mut self) -> Result<(), EncodeError>
-        ensures { (table : Table Line) → OpensGroup (item_writer P.mark_bytes) self.old table self.new result }
+        ensures { (table : Table Line) →
+            OpensGroup (item_writer P.mark_bytes) self.old table self.new result }
     {
         if self.failed {
             return Err(EncodeError::Failed);

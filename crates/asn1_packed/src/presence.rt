@@ -57,7 +57,8 @@ pub trait Presence {
             (absent side t) (tree_tags (shape tree.entry)) slices.old slices.new result }
         ensures keeps_outside { KeepsOutside slices.old slices.new };
 
-    /// Whether the group of additions is there whose components are those of the table of `C`. Goes past the presence mark that says so.
+    /// Whether the group of additions is there whose components are those of the table of `C`. Goes past the presence mark that
+    /// says so.
     ///
     /// # Errors
     /// As `component`.

@@ -1,4 +1,4 @@
-use Rattle.std.proofs.Common.{◌≡◌, refl, sym, subst, ◌∙◌, Ok, Err, arith, inl}
+use Rattle.std.proofs.Common.{refl, sym, subst, ◌∙◌, Ok, Err, arith, inl}
 use Rattle.asn1_codec.proofs.ReadingUpToOrder.{reads_content}
 use Rattle.asn1_items.specs.Contents.{IsContent}
 use Rattle.asn1_model.specs.Records.{scalar}

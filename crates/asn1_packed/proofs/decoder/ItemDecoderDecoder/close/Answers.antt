@@ -1,4 +1,4 @@
-use Rattle.std.proofs.Common.{◌∷◌, Ok, Err, arith}
+use Rattle.std.proofs.Common.{Ok, Err, arith}
 use Rattle.std.specs.Prelude.{⊤}
 use Rattle.asn1_codec.proofs.ReadingUpToOrder.{reads_end}
 use Rattle.asn1_packed.proofs.Remaining.{closed, none_is_outside, not_both, some_outside}

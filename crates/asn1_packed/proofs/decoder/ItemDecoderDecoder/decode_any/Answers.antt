@@ -1,4 +1,4 @@
-use Rattle.std.proofs.Common.{◌≡◌, ◌++◌, Ok, Err, refl, sym, ap, ◌∙◌, arith, inl}
+use Rattle.std.proofs.Common.{◌≡◌, ◌++◌, Ok, Err, sym, ap, ◌∙◌, arith, inl}
 use Rattle.asn1_codec.proofs.ReadingUpToOrder.{reads_open_type}
 use Rattle.asn1_items.proofs.Items.{one_item, same_front}
 use Rattle.asn1_items.specs.Headers.{header_at}
