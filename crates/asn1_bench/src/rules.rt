@@ -8,8 +8,8 @@ use std::alloc::Global;
 /// The rules of the packed codec: a value becomes the bytes of its records.
 ///
 /// They reject the records that are too long, with 2^32 bytes or more inside an item, and take one item as one value of an open
-/// type. So `write_value` fails if memory runs out, where the value's records are nested deeper than the depth, by
-/// [`EncodeError::Custom`] with the text `item too long`, and for no other reason.
+/// type. So `write_value` fails if memory runs out, where the value's records are nested deeper than the depth, or where they
+/// are too long, by [`EncodeError::Custom`] with the text `item too long`; and for no other reason.
 ///
 /// Of bytes that are not those of a value of the type, `read_value` answers an error or a value. [`DecodeError::Incomplete`]
 /// comes where bytes are missing outside all scopes, with how many of the part that is read, and [`DecodeError::Custom`], with

@@ -263,16 +263,19 @@ fn what_is_no_alternative_is_refused(rt: HostRuntime) {
 }
 
 /// The badge, whose NULL has another tag.
+const UNKNOWN: &[u8] = &[
+    0x03, 0x00, 0x00, 0x00, 0x00, 0x11, 0x00, 0x00, 0x00, 0x23, 0x01, 0x00, 0x00, 0x00, 0x00, 0x02,
+    0x02, 0x00, 0x00, 0x00, 0x02, 0x00, 0x07, 0x11, 0x07, 0x00, 0x00, 0x00, 0x00, 0x09, 0x00, 0x00,
+    0x00, 0x0b, 0x01, 0x00, 0x00, 0x00, 0x00, 0x09, 0x04, 0x00, 0x00, 0x00, 0x00,
+];
+
 #[test]
 fn a_component_of_another_tag_is_unknown(rt: HostRuntime) {
-    let mut bytes = list(rt.alloc(), BADGE).expect(&rt, "memory");
-    bytes[29] = 9;
-    bytes[39] = 9;
     let unknown = DecodeError::UnknownField {
         index: 1,
         tag: Tag::REAL,
     };
-    refused::<Badge>(&rt, rt.alloc(), "a REAL", &bytes, unknown);
+    refused::<Badge>(&rt, rt.alloc(), "a REAL", UNKNOWN, unknown);
 }
 
 /// An error of a type's own is answered as it is, also from inside a list.
@@ -323,23 +326,31 @@ fn length_of_damaged(rt: &impl Abort, alloc: Global, place: usize, byte: u8) -> 
 /// Asserts that the sign, the age and the letters of the name alone may be another byte.
 fn assert_damaged(rt: &impl Abort, alloc: Global, place: usize, byte: u8) {
     let length = length_of_damaged(rt, alloc, place, byte);
-    let may_change = place == 21 || place == 22 || place >= 34 || PERSON[place] == byte;
-    assert!(rt; length == 37 && may_change || length == 0);
+    let is_value = place == 21 || place == 22 || place >= 34;
+    let may_be = is_value || PERSON.get(place) == Some(&byte);
+    assert!(rt; length == 0 || length == 37 && may_be);
+}
+
+fn assert_each_byte(rt: &impl Abort, alloc: Global, place: usize) {
+    for byte in 0..=255u8 {
+        assert_damaged(rt, alloc, place, byte);
+    }
 }
 
 #[test]
 fn each_byte_of_a_person_may_be_another(rt: HostRuntime) {
-    for place in 0..PERSON.len() {
-        for byte in 0..=255u8 {
-            assert_damaged(&rt, rt.alloc(), place, byte);
-        }
+    for place in 0..37 {
+        assert_each_byte(&rt, rt.alloc(), place);
     }
 }
 
 /// Asserts how the front of bytes is read as a BOOLEAN.
 fn assert_front(rt: &impl Abort, alloc: Global, bytes: &[u8], answer: Result<usize, DecodeError>) {
     let front: Result<(bool, usize), _> = BenchReader::new(alloc, 0).read_front(bytes);
-    assert!(rt; front.map(|(_, length)| length) == answer);
+    match front {
+        Ok((value, length)) => assert!(rt; value && answer == Ok(length)),
+        Err(error) => assert!(rt; answer == Err(error)),
+    }
 }
 
 #[test]
@@ -347,7 +358,7 @@ fn a_reader_reads_one_item(rt: HostRuntime) {
     let alloc = rt.alloc();
     assert_front(&rt, alloc, TWICE, Ok(12));
     let missing = DecodeError::Incomplete(Needed::Size(1));
-    assert_front(&rt, alloc, &TRUE[..11], Err(missing));
+    assert_front(&rt, alloc, &[1, 0, 0, 0, 0, 1, 1, 0, 0, 0, 1], Err(missing));
     assert_front(&rt, alloc, &[], Err(missing));
     assert_front(&rt, alloc, &[8], Err(BAD_ITEM));
 }
