@@ -9,6 +9,7 @@
 //! | [`Decode`] | a type whose values are read, by four entry points; one of them is the type's own |
 //! | [`DecodeFields`] | a type whose components are read in their order: a SEQUENCE or a group of additions |
 //! | [`DecodeChoice`] | a CHOICE whose alternatives are read |
+//! | [`component_with_tag`] | the component of a SET that begins with a tag |
 //! | [`DecodeSet`], [`keep_once`] | a SET whose components are read in whatever order they come |
 //! | [`DecodeError`], [`Needed`] | why a value was not read |
 //! | [`laws`] | what types refuse |
@@ -73,4 +74,5 @@ pub use asn1_codec::{DecodeError, Needed};
 pub use decode::{Decode, DecodeChoice, DecodeFields};
 pub use decode_set::DecodeSet;
 pub use decoder::Decoder;
+pub use fields::component_with_tag;
 pub use slots::keep_once;

@@ -1,1 +1,2 @@
 mod ReadByPlace
+mod ReadInSets

@@ -9,6 +9,7 @@
 //! |---|---|
 //! | [`Slotted`], [`filled`], [`or_default`] | a type with a slot for each component, and what is in a slot |
 //! | [`DecodeByPlace`] | a SEQUENCE or a group of additions whose components are read into slots |
+//! | [`DecodeSetByPlace`], [`decode_set_by_place`] | a SET whose components are read into slots, in whatever order they come |
 //! | [`required`], [`optional`], [`addition`], [`group`], [`once`] | the calls that read a component into its slot |
 //! | [`Tagging`] | how the type of a component is tagged: as its list of components says |
 //!
@@ -24,6 +25,7 @@
 //! - At each place of a type its call has to promise that (`ReadsAt`, `ReadsOnceAt`), and to leave what other slots hold (`kept`).
 //! - Of slots that hold what a value has an equal value is made (`MakesValue`). Where a component is missing that is always
 //!   there, the error says which is the first (`RefusesMissing`).
+//! - So `decode_by_place` reads a SEQUENCE or a group as `decode_fields` of `asn1_dec` has to, and [`decode_set_by_place`] reads
 //!   a SET as `decode_set` of `Decoder` does.
 //!
 //! The other words are those of `asn1_codec` and of the crates below it. The calls take memory as the types of the components do.
@@ -31,11 +33,13 @@
 
 mod by_place;
 mod calls;
+mod set_by_place;
 mod slotted;
 mod tagged;
 mod tagging;
 
 pub use by_place::DecodeByPlace;
 pub use calls::{addition, group, once, optional, required};
+pub use set_by_place::{DecodeSetByPlace, decode_set_by_place};
 pub use slotted::{Slotted, filled, or_default};
 pub use tagging::Tagging;
