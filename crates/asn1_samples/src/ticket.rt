@@ -155,7 +155,7 @@ impl DecodeSetByPlace for Ticket {
 
     ghost no_group = { refl };
 
-    ghost empty_at_first = { λ slots empty. empty };
+    ghost empty_at_first = { λ slots empty. (empty.0, (empty.1, empty.2)) };
 }
 
 /// What `Ticket { seat: 7, name: None, paid: false }` is to every codec: the default is not written.
