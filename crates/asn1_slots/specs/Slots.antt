@@ -296,7 +296,10 @@ abbrev SameAll : {V : Type 0} → List (ComponentType V) → Type 0
 SameAll [] = ⊤
 SameAll (c ∷ cs) = SameComponent c c × SameAll cs
 
+same_all : {V : Type 0} (cs : List (ComponentType V)) → SameAll cs
+same_all [] = tt
+same_all (c ∷ cs) = (λ v. ((λ h. h), (λ h. h), (λ takes h. h), (λ rest h. h), refl), same_all cs)
+
 -- so it is for each type whose components are stated by its slots
-pub slots_agree : {V : Type 0} (cs : List (ComponentType V)) → SameAll cs
-slots_agree [] = tt
-slots_agree (c ∷ cs) = (λ v. ((λ h. h), (λ h. h), (λ takes h. h), (λ rest h. h), refl), slots_agree cs)
+pub slots_agree : {V : Type 0} (components : Components V) → SameAll (all_components components)
+slots_agree components = same_all (all_components components)

@@ -1,7 +1,10 @@
 -- How the type of a component is tagged (X.680, 31).
+use Rattle.std.specs.Prelude.{Option, unwrap_or}
+use Rattle.asn1_codec.specs.GivenTypes.{given}
 use Rattle.asn1_model.specs.ConstraintSets.{ConstraintSet}
 use Rattle.asn1_model.specs.Meaning.{Meaning}
 use Rattle.asn1_model.specs.TaggedTypes.{TaggedType, explicitly_tagged, tagged, untagged}
+use Rattle.asn1_tags.specs.declared.tags.Tag.{Tag}
 use Rattle.asn1_slots.specs.declared.tagging.Tagging.{Tagging}
 use Rattle.asn1_slots.specs.declared.tagging.Tagging.TheVariants.{Untagged, Tagged, Explicit}
 
@@ -11,6 +14,6 @@ under Untagged m = untagged m
 under (Tagged t) m = tagged t m
 under (Explicit t) m = explicitly_tagged t m
 
--- a type under these constraints, in the place of its own
-abbrev pub constrained : {W : Type 0} → ConstraintSet → Meaning W → Meaning W
-constrained c m = record m { constraints = c }
+-- the type under these constraints, and this tag, or its own where none is given
+abbrev pub under_constraints : {W : Type 0} → Option Tag → ConstraintSet → Meaning W → TaggedType W
+under_constraints tag c m = given (unwrap_or tag m.tag) c m m.name

@@ -11,6 +11,7 @@
 //! | [`DecodeByPlace`] | a SEQUENCE or a group of additions whose components are read into slots |
 //! | [`DecodeSetByPlace`], [`decode_set_by_place`] | a SET whose components are read into slots, in whatever order they come |
 //! | [`required`], [`optional`], [`addition`], [`group`], [`once`] | the calls that read a component into its slot |
+//! | [`required_with_constraints`], [`optional_with_constraints`], [`addition_with_constraints`] | the same under constraints of the component's own |
 //! | [`Tagging`] | how the type of a component is tagged: as its list of components says |
 //!
 //! What the contracts promise, and the words that they use:
@@ -33,6 +34,7 @@
 
 mod by_place;
 mod calls;
+mod constrained;
 mod set_by_place;
 mod slotted;
 mod tagged;
@@ -40,6 +42,9 @@ mod tagging;
 
 pub use by_place::DecodeByPlace;
 pub use calls::{addition, group, once, optional, required};
+pub use constrained::{
+    addition_with_constraints, optional_with_constraints, required_with_constraints,
+};
 pub use set_by_place::{DecodeSetByPlace, decode_set_by_place};
 pub use slotted::{Slotted, filled, or_default};
 pub use tagging::Tagging;
