@@ -59,7 +59,7 @@ fn bare(contact: Option<Contact>) -> Profile {
     }
 }
 
-fn with_contact(
+pub(super) fn with_contact(
     alloc: Global,
     phone: Option<&[u8]>,
     mail: Option<&[u8]>,
@@ -68,7 +68,7 @@ fn with_contact(
     Ok(bare(Some(contact)))
 }
 
-fn full(alloc: Global) -> Result<Profile, Failure> {
+pub(super) fn full(alloc: Global) -> Result<Profile, Failure> {
     let contact = contact(alloc, Some(b"12"), Some(b"a@b"))?;
     let nick = text(alloc, "Al")?;
     Ok(Profile {

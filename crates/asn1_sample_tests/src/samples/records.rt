@@ -35,7 +35,7 @@ pub fn envelopes_come_back<R: Rules>(
     made_comes_back(rules, envelope(alloc, value))
 }
 
-fn envelope(alloc: Global, value: &[u8]) -> Result<Envelope, Failure> {
+pub(super) fn envelope(alloc: Global, value: &[u8]) -> Result<Envelope, Failure> {
     let body = Any::new(list(alloc, value)?);
     Ok(Envelope { kind: 1, body })
 }
@@ -59,7 +59,7 @@ pub fn notices_come_back<R: Rules>(rules: &R, alloc: Global) -> Result<(), Failu
     ))
 }
 
-fn notice(alloc: Global, urgent: Option<bool>) -> Result<Notice, Failure> {
+pub(super) fn notice(alloc: Global, urgent: Option<bool>) -> Result<Notice, Failure> {
     let text = text(alloc, "Fire")?;
     Ok(Notice {
         id: 7,

@@ -36,7 +36,7 @@ fn with_note(alloc: Global) -> Result<Visit, Failure> {
     Ok(visit(None, Some(note)))
 }
 
-fn with_both(alloc: Global) -> Result<Visit, Failure> {
+pub(super) fn with_both(alloc: Global) -> Result<Visit, Failure> {
     let contact = contact(alloc, Some(b"12"), None)?;
     let note = text(alloc, "ok")?;
     Ok(visit(Some(contact), Some(note)))
