@@ -1,15 +1,18 @@
 pub mod ComponentTags
+pub mod Heights
 pub mod MarksPassed
 pub mod OneRecordEach
 pub mod ReadingAlternatives
 pub mod ReadingComponents
 pub mod ReadingConstructed
+pub mod ReadingDefaults
 pub mod ReadingElements
 pub mod ReadingGroups
 pub mod ReadingHolders
 pub mod ReadingOnce
 pub mod ReadingOptionals
 pub mod ReadingParts
+pub mod ReadingScopes
 pub mod ReadingSets
 pub mod ReadingSetsOf
 pub mod ReadingSteps
@@ -22,6 +25,7 @@ pub mod TellingTags
 pub mod TwoComponents
 pub mod WritingAlternatives
 pub mod WritingComponents
+pub mod WritingDefaults
 pub mod WritingElements
 pub mod WritingNames
 pub mod WritingSteps

@@ -1,5 +1,5 @@
 -- A component that may be absent, or has a default.
-use Rattle.std.proofs.Common.{◌≡◌, Bool, true, false, List, ◌++◌, Option, None, Some, Result, Ok, Err, refl, inl, inr, arith, sym, ◌∙◌, subst}
+use Rattle.std.proofs.Common.{◌≡◌, Bool, true, false, List, ◌++◌, Option, None, Some, Result, Ok, Err, refl, inl, inr, arith, sym, subst}
 use Rattle.std.specs.Cmp.{IsEquivalence}
 use Rattle.std.specs.Option.{IfSome, IfNone, option_eq, option_map}
 use Rattle.std.specs.Result.{MatchResult}
@@ -16,6 +16,8 @@ use Rattle.asn1_model.proofs.FirstTags.{begins_before, one_begins}
 use Rattle.asn1_codec.specs.declared.decode_error.DecodeError.{DecodeError}
 use Rattle.asn1_codec.specs.declared.decode_error.DecodeError.TheVariants.{Memory}
 use Rattle.asn1_codec.specs.Reading.{Reader, MayFollow, ReadsBack, ReadsDefault, ReadsOption, ReadsOptional, TellsPresence, Outside}
+use Rattle.asn1_codec.specs.GivenTypes.{given}
+use Rattle.asn1_codec.proofs.ReadingDefaults as defaults
 use Rattle.asn1_codec.proofs.ReadingSteps.{fails_below, flat_failure}
 
 pub after_option : {V : Type 0} (m : Meaning V) (t : Tag) (c : ConstraintSet) (n : Name) (v : Option V) (rest : List Record) →
@@ -112,21 +114,10 @@ module _ {D V : Type 0} (R : Reader D) (side : Side) (m : Meaning V) (eq : V →
 
   -- a component with a default is one that may be absent
   pub default_fails : (IsUsual : V → Type 0) (old new : D) (e : DecodeError) → ReadsOption R side m eq t c old new (Err e) → ReadsDefault R side IsUsual m eq t c old new (Err e)
-  default_fails IsUsual old new e reads v true n rest outer is can of_type valid apart at = reads None n rest outer can tt tt (λ _. apart refl) at
-  default_fails IsUsual old new e reads v false n rest outer is can of_type valid apart at = reads (Some v) n rest outer can (of_type refl) (valid refl) (λ none. cc) at
+  default_fails IsUsual = defaults.default_fails R side (given t c m) eq IsUsual
 
   pub default_reads : (law : IsEquivalence eq) (IsUsual : V → Type 0) (old mid new : D) (value : Option V) (result : Result V DecodeError) → ReadsOption R side m eq t c old mid (Ok value) →
       IfSome value (λ v. (result ≡ Ok v) × (new ≡ mid)) →
       IfNone value (MatchResult result (λ usual. IsUsual usual × (new ≡ mid)) (λ e. (e ≡ Memory) × (R.failed new ≡ true))) →
       ReadsDefault R side IsUsual m eq t c old new result
-  default_reads law IsUsual old mid new (Some w) result reads there away v true n rest outer is can of_type valid apart at =
-      let wrong = (reads None n rest outer can tt tt (λ _. apart refl) at).answer in cc
-  default_reads law IsUsual old mid new (Some w) result reads there away v false n rest outer is can of_type valid apart at =
-      let r = reads (Some v) n rest outer can (of_type refl) (valid refl) (λ none. cc) at in
-      rw there.0 (record { answer = r.answer; at = subst (λ d. R.remains d (rest, outer)) (sym there.1) r.at; within_depth = r.within_depth })
-  default_reads law IsUsual old mid new None (Ok usual) reads there away v true n rest outer is can of_type valid apart at =
-      let r = reads None n rest outer can tt tt (λ _. apart refl) at in
-      record { answer = law.symm usual v ∙ is usual away.0; at = subst (λ d. R.remains d (rest, outer)) (sym away.1) r.at; within_depth = r.within_depth }
-  default_reads law IsUsual old mid new None (Err e) reads there away v true n rest outer is can of_type valid apart at = inl away.0
-  default_reads law IsUsual old mid new None result reads there away v false n rest outer is can of_type valid apart at =
-      let wrong = (reads (Some v) n rest outer can (of_type refl) (valid refl) (λ none. cc) at).answer in cc
+  default_reads law IsUsual = defaults.default_reads R side (given t c m) eq IsUsual law

@@ -1,22 +1,12 @@
 -- How steps of reading follow one another.
-use Rattle.std.proofs.Common.{◌≡◌, Bool, true, ℕ, suc, max, ◌≤◌, List, [], ◌∷◌, ◌++◌, inl, inr, arith, ap, sym, ◌∙◌, subst, append-nil, Result, Ok, Err}
+pub use Rattle.asn1_codec.proofs.Heights.{highest-append, highest-holding}
+use Rattle.std.proofs.Common.{◌≡◌, Bool, true, ℕ, suc, ◌≤◌, List, [], ◌∷◌, ◌++◌, inl, inr, arith, sym, subst, append-nil, Result, Ok, Err}
 use Rattle.std.specs.Cmp.{IsEquivalence}
 use Rattle.asn1_model.specs.Records.{Record, Head, height, highest, holding}
-use Rattle.asn1_model.proofs.Lists.{inner_height-held}
 use Rattle.asn1_codec.specs.declared.decode_error.DecodeError.{DecodeError}
 use Rattle.asn1_codec.specs.declared.decode_error.DecodeError.TheVariants.{Memory}
 use Rattle.asn1_codec.specs.Reading.{Remaining, Reader, MayFail, HasAdvanced, Advances, Outside}
 use Rattle.std.specs.Prelude.{MatchResult, OnOk}
-
-pub highest-append : (rs ss : List Record) → highest (rs ++ ss) ≡ max (highest rs) (highest ss)
-highest-append [] ss = omega arith
-highest-append (r ∷ rs) ss = omega (arith, highest-append rs ss)
-
-max-zero : (n : ℕ) → max n 0 ≡ n
-max-zero n = omega arith
-
-pub highest-holding : (h : Head) (rs : List Record) → highest (holding h rs ∷ []) ≡ suc (highest rs)
-highest-holding h rs = max-zero (height (holding h rs)) ∙ ap suc (inner_height-held rs)
 
 -- what is the same is equal
 pub same_is_equal : {V : Type 0} {eq : V → V → Bool} → IsEquivalence eq → (w v : V) → w ≡ v → eq w v ≡ true

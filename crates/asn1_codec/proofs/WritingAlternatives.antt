@@ -1,5 +1,5 @@
 -- A CHOICE under a tag.
-use Rattle.std.proofs.Common.{◌≡◌, false, if◌then◌else◌, sym, ap, ◌∙◌, subst, Result}
+use Rattle.std.proofs.Common.{◌≡◌, true, false, if◌then◌else◌, sym, ap, ◌∙◌, subst, Result}
 use Rattle.asn1_choices.specs.Alternatives.{Alternatives, OneOf, all_of, chosen_meaning, table_of}
 use Rattle.asn1_choices.specs.ChoiceTypes.{AgreesWithChoice}
 use Rattle.asn1_choices.specs.ChosenTags.{chosen_tag}
@@ -28,3 +28,17 @@ module _ {E : Type 0} (W : Writer E) {V : Type 0} (m : Meaning V) (alts : Altern
       (ap (λ x. prefix_records t x inner) named
       ∙ sym (law.records v t c n ∙ ap (λ x. if x then alternative_records chosen c (table_of alts) (name_or n m.name) rs else prefix_records t (name_or n m.name) inner) tagged))
       (in_other_words W a b (prefix_records t k inner) result ((law.of_type v).1) q)
+
+  -- under the CHOICE marker tag
+  pub as_untagged : (v : V) (t : Tag) (c : ConstraintSet) (n k : Name) (a b : E) {A : Type 0} (result : Result A EncodeError) →
+      AgreesWithChoice alts pick m → tag_eq t CHOICE ≡ true → k ≡ name_or n m.name →
+      Writes W a (alternative_records (chosen_tag (all_of alts) (pick v)) c (table_of alts) k (chosen_meaning (all_of alts) (pick v)).records) (chosen_meaning (all_of alts) (pick v)).IsOfType b result →
+      Writes W a (m.records v t c n) (m.IsOfType v) b result
+  as_untagged v t c n k a b result law untagged named q =
+      let rs = (chosen_meaning (all_of alts) (pick v)).records in
+      let chosen = chosen_tag (all_of alts) (pick v) in
+      let inner = alternative_records chosen m.constraints (table_of alts) m.name rs in
+      subst (λ l. Writes W a l (m.IsOfType v) b result)
+      (ap (λ x. alternative_records chosen c (table_of alts) x rs) named
+      ∙ sym (law.records v t c n ∙ ap (λ x. if x then alternative_records chosen c (table_of alts) (name_or n m.name) rs else prefix_records t (name_or n m.name) inner) untagged))
+      (in_other_words W a b (alternative_records chosen c (table_of alts) k rs) result ((law.of_type v).1) q)

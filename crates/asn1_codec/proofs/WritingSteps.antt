@@ -1,5 +1,6 @@
 -- How steps of writing follow one another.
-use Rattle.std.proofs.Common.{◌≡◌, ℕ, suc, max, Bool, true, false, ◌&&◌, List, [], ◌∷◌, ◌++◌, if◌then◌else◌, refl, sym, ap, ◌∙◌, subst, append_assoc, append-nil, zero-le, arith, Some, Result, Ok, Err}
+pub use Rattle.asn1_codec.proofs.Heights.{highest-append, highest-holding}
+use Rattle.std.proofs.Common.{◌≡◌, Bool, true, false, ◌&&◌, List, [], ◌∷◌, ◌++◌, if◌then◌else◌, refl, sym, ap, ◌∙◌, subst, append_assoc, append-nil, zero-le, arith, Some, Result, Ok, Err}
 use Rattle.std.specs.Result.{IsErrAnd}
 use Rattle.asn1_components.specs.ComponentLists.{EachIsOfType}
 use Rattle.asn1_components.specs.Components.{Components, Kind, AgreesWithComponents, all_components, component_records, head_in, lines}
@@ -8,7 +9,6 @@ use Rattle.asn1_model.specs.ConstraintSets.{ConstraintSet}
 use Rattle.asn1_model.specs.Meaning.{Meaning}
 use Rattle.asn1_model.specs.Records.{Record, Head, Name, scalar, scope, raw, mark, group_start, group_absent, group_end, holding, height, highest, is_mark, marks_alone}
 use Rattle.asn1_model.specs.Tables.{Line, Table}
-use Rattle.asn1_model.proofs.Lists.{inner_height-held}
 use Rattle.asn1_tags.specs.declared.tags.Tag.{Tag}
 use Rattle.asn1_codec.specs.declared.encode_error.EncodeError.{EncodeError}
 use Rattle.asn1_codec.specs.declared.encode_error.EncodeError.TheVariants.{Memory, Depth, Failed}
@@ -23,16 +23,6 @@ followed_by_none : (w : Written) → w ≡ followed_by w []
 followed_by_none (outermost done) = ap outermost (sym (append-nil done))
 followed_by_none (in_scope h done outer) = ap (λ l. in_scope h l outer) (sym (append-nil done))
 followed_by_none (in_group table done outer) = ap (λ l. in_group table l outer) (sym (append-nil done))
-
-pub highest-append : (rs ss : List Record) → highest (rs ++ ss) ≡ max (highest rs) (highest ss)
-highest-append [] ss = omega arith
-highest-append (r ∷ rs) ss = omega (arith, highest-append rs ss)
-
-max-zero : (n : ℕ) → max n 0 ≡ n
-max-zero n = omega arith
-
-pub highest-holding : (h : Head) (rs : List Record) → highest (holding h rs ∷ []) ≡ suc (highest rs)
-highest-holding h rs = max-zero (height (holding h rs)) ∙ ap suc (inner_height-held rs)
 
 mark-height : (r : Record) → is_mark r ≡ true → height r ≡ 0
 mark-height (scalar t c n x) is = refl

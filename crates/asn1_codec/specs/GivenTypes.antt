@@ -1,8 +1,12 @@
 -- A type under what a call is given: a tag, constraints and a name, and else its own.
+use Rattle.std.specs.Prelude.{refl}
+use Rattle.asn1_tags.specs.Trees.{leaf}
 use Rattle.asn1_tags.specs.declared.tags.Tag.{Tag}
+use Rattle.asn1_model.specs.Composites.{prefix_records}
 use Rattle.asn1_model.specs.ConstraintSets.{ConstraintSet}
-use Rattle.asn1_model.specs.Meaning.{Meaning, CanStandInsideUnder}
-use Rattle.asn1_model.specs.Records.{Name}
+use Rattle.asn1_model.specs.Meaning.{Meaning, CanStandInside, CanStandInsideUnder}
+use Rattle.asn1_model.specs.OneRecord.{scope_is_one}
+use Rattle.asn1_model.specs.Records.{Name, prefix}
 use Rattle.asn1_model.specs.TaggedTypes.{TaggedType, explicitly_tagged_as}
 
 -- A type under whatever name: a call that writes is given one, and one that reads takes any.
@@ -37,3 +41,16 @@ as_it_is m = given m.tag m.constraints m
 -- after an explicit tag
 abbrev pub after_tag : {V : Type 0} → Tag → Meaning V → Named V
 after_tag t m n = explicitly_tagged_as n t m
+
+-- after an explicit tag, under constraints of its own or those that a call is given; of the tag nothing is asked
+abbrev pub given_after_tag : {V : Type 0} → Tag → ConstraintSet → Meaning V → Named V
+given_after_tag t c m n = record {
+  tag = t;
+  tree = leaf t;
+  records = λ v. prefix_records t n (m.records v m.tag c m.name);
+  CanStandInside = CanStandInside m;
+  IsOfType = m.IsOfType;
+  IsValid = m.IsValid;
+  one_record = λ _ v. scope_is_one t (prefix t n) (m.records v m.tag c m.name) refl;
+  well_formed = λ takes v valid. ((tt, m.well_formed takes v m.tag c m.name valid), tt);
+}

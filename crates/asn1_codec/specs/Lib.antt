@@ -1,8 +1,10 @@
 pub mod DecodeErrors
+pub mod Defaults
 pub mod EncodeErrors
 pub mod GivenTypes
 pub mod Places
 pub mod Reading
+pub mod ReadingTypes
 pub mod ReadingUpToOrder
 pub mod Refusals
 pub mod SetParts

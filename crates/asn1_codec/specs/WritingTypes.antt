@@ -1,5 +1,6 @@
 -- What a call writes of a value of a type.
-use Rattle.std.specs.Prelude.{◌≡◌, Bool, false, [], ◌∷◌, Option, IfSome, Result}
+use Rattle.std.specs.Prelude.{◌≡◌, Bool, false, List, [], ◌∷◌, All, Option, IfSome, Result}
+use Rattle.std.specs.List.{flat_map}
 use Rattle.std.specs.Option.{option_map}
 use Rattle.asn1_tags.specs.declared.tags.Tag.{Tag}
 use Rattle.asn1_choices.specs.Alternatives.{Alternatives, OneOf, all_of, chosen_meaning, table_of}
@@ -8,7 +9,8 @@ use Rattle.asn1_components.specs.ComponentLists.{EachIsOfType}
 use Rattle.asn1_components.specs.Components.{Components, Kind, all_components, component_records, head_in, lines}
 use Rattle.asn1_model.specs.Composites.{alternative_records, default_records, group_records, option_records}
 use Rattle.asn1_model.specs.ConstraintSets.{ConstraintSet}
-use Rattle.asn1_model.specs.Records.{Content, Name, Side, holding, in_root, scalar}
+use Rattle.asn1_model.specs.Meaning.{Meaning, own_records}
+use Rattle.asn1_model.specs.Records.{Content, Head, Name, Side, holding, in_root, scalar}
 use Rattle.asn1_model.specs.TaggedTypes.{TaggedType}
 use Rattle.asn1_codec.specs.Writing.{Writer, Writes}
 use Rattle.asn1_codec.specs.declared.encode_error.EncodeError.{EncodeError}
@@ -28,12 +30,28 @@ module _ {E : Type 0} (W : Writer E) where
       (chosen_meaning (all_of alternatives) x).records)
       (chosen_meaning (all_of alternatives) x).IsOfType new result
 
+  -- A call that writes what a CHOICE holds: the chosen alternative.
+  abbrev pub WritesChosen : {A : Type 0} → (alternatives : Alternatives) → OneOf (all_of alternatives) → E → E →
+      Result A EncodeError → Type 0
+  WritesChosen alternatives x old new result =
+      Writes W old (chosen_meaning (all_of alternatives) x).records (chosen_meaning (all_of alternatives) x).IsOfType new result
+
 module _ {E : Type 0} (W : Writer E) {V : Type 0} where
   -- A call that writes the components of a SEQUENCE or a SET (X.680, 25 and 27), under a tag and a name.
   abbrev pub WritesComponents : {A : Type 0} → Kind → Tag → Name → Components V → V → E → E → Result A EncodeError → Type 0
   WritesComponents kind t n components v old new result =
       Writes W old (holding (head_in kind t (lines components) n) (component_records components v) ∷ [])
       (EachIsOfType (all_components components) v) new result
+
+  -- A call that writes what a SEQUENCE, a SET or a group holds: its components, in the order of their definition.
+  abbrev pub WritesFields : {A : Type 0} → Components V → V → E → E → Result A EncodeError → Type 0
+  WritesFields components v old new result =
+      Writes W old (component_records components v) (EachIsOfType (all_components components) v) new result
+
+  -- A call that writes a SEQUENCE OF or a SET OF (26 and 28), by its head and its elements.
+  abbrev pub WritesElements : {A : Type 0} → Head → Meaning V → List V → E → E → Result A EncodeError → Type 0
+  WritesElements head m vs old new result =
+      Writes W old (holding head (flat_map (own_records m) vs) ∷ []) (All m.IsOfType vs) new result
 
   -- A call that writes a group of additions (25.1), which may be absent.
   abbrev pub WritesGroup : {A : Type 0} → Components V → Option V → E → E → Result A EncodeError → Type 0

@@ -18,7 +18,8 @@
 //! | `WritingUpToOrder.antt`, `ReadingUpToOrder.antt` | the same of a codec to which the order inside sets means nothing |
 //! | `Refusals.antt` | what a type refuses of what it reads, by an error of its own |
 //! | `SetParts.antt` | the components of a SET, as they are read: one by one, in whatever order |
-//! | `GivenTypes.antt`, `WritingTypes.antt` | a type under what a call is given, and what a call writes of its values |
+//! | `GivenTypes.antt`, `Defaults.antt` | a type under what a call is given, and a default that a closure makes |
+//! | `WritingTypes.antt`, `ReadingTypes.antt` | what a call writes of the values of a type, and what a call reads |
 //! | `Places.antt`, `Sides.antt` | the component at a place, and the side of an extension marker on which it is |
 //! | `EncodeErrors.antt`, `DecodeErrors.antt` | what an error says |
 //!

@@ -1,16 +1,12 @@
 //! Types that are read.
-ghost use Rattle.asn1_choices.specs.Alternatives.{CanBeChosen, Each, HaveDistinctTags, all_of, chosen, chosen_meaning};
+ghost use Rattle.asn1_choices.specs.Alternatives.{Each, all_of};
 ghost use Rattle.asn1_choices.specs.ChosenTags.{LacksTag};
-ghost use Rattle.asn1_components.specs.ComponentLists.{CanBeInSequence, EachIsOfType, EachIsValid};
-ghost use Rattle.asn1_components.specs.Components.{all_components, component_records};
-ghost use Rattle.asn1_components.specs.Following.{EndsApart};
 ghost use Rattle.asn1_codec.specs.DecodeErrors.{no_valid_choice, reason};
-ghost use Rattle.asn1_codec.specs.Reading.{AfterReading, AfterReadingWithOwnConstraints, ReadsBack, ReadsValue, Refuses, Outside};
+ghost use Rattle.asn1_codec.specs.Reading.{AfterReading, AfterReadingWithOwnConstraints, ReadsValue, Refuses};
+ghost use Rattle.asn1_codec.specs.ReadingTypes.{ReadsChosen, ReadsFields};
 ghost use Rattle.asn1_codec.specs.Refusals.{Refusals, no_refusals};
 ghost use Rattle.asn1_model.specs.ConstraintSets.{constraint_set};
-ghost use Rattle.asn1_model.specs.Records.{Record};
-ghost use Rattle.asn1_model.specs.Tags.{Has, tree_tags};
-ghost use Rattle.std.specs.Prelude.{◌≡◌, List, OnOk, [], true, unwrap_or};
+ghost use Rattle.std.specs.Prelude.{◌≡◌, OnOk, [], unwrap_or};
 ghost use Rattle.std.specs.Result.{IsErrAnd};
 
 use crate::decoder::Decoder;
@@ -106,13 +102,7 @@ pub trait DecodeFields: FieldTable + Eq + Sized + Drop {
     /// Reads all components. What follows them begins with no tag of those after the last that is always there. After an error
     /// nothing is known of the decoder, until the caller makes it failed ([`Decoder::refuse`]).
     fn decode_fields<D: Decoder>(decoder: &mut D) -> Result<Self, DecodeError>
-        ensures read { (v : Self) (rest : List Record) (outer : Outside) →
-            CanBeInSequence (all_components Self.components) →
-            EachIsOfType (all_components Self.components) v →
-            EachIsValid (all_components Self.components) D.reader.takes v →
-            EndsApart (all_components Self.components) rest →
-            ReadsBack D.reader decoder.old decoder.new (component_records Self.components v) rest
-            outer (λ w. Self.eq w v ≡ true) result }
+        ensures read { ReadsFields D.reader Self.components Self.eq decoder.old decoder.new result }
         ensures same_depth { OnOk result (D.reader.depth_left decoder.new ≡
             D.reader.depth_left decoder.old) };
 }
@@ -123,15 +113,8 @@ pub trait DecodeChoice: AsnType + Choice + Eq + Sized + Drop {
     /// the name of the type. After an error nothing is known of the decoder, until the caller makes it failed
     /// ([`Decoder::refuse`]).
     fn from_tag<D: Decoder>(decoder: &mut D, tag: Tag) -> Result<Self, DecodeError>
-        ensures read { (v : Self) (rest : List Record) (outer : Outside) →
-            HaveDistinctTags (all_of Self.alternatives) →
-            Each CanBeChosen (all_of Self.alternatives) →
-            (chosen_meaning (all_of Self.alternatives) (Self.pick v)).IsOfType →
-            (chosen_meaning (all_of Self.alternatives) (Self.pick v)).IsValid D.reader.takes →
-            Has (tree_tags (chosen (all_of Self.alternatives) (Self.pick v)).type.tree) tag →
-            ReadsBack D.reader decoder.old decoder.new
-            (chosen_meaning (all_of Self.alternatives) (Self.pick v)).records rest outer
-            (λ w. Self.eq w v ≡ true) result }
+        ensures read { ReadsChosen D.reader tag Self.alternatives Self.pick Self.eq
+            decoder.old decoder.new result }
         ensures unknown { Each (LacksTag tag) (all_of Self.alternatives) →
             IsErrAnd result (λ e. reason e ≡ no_valid_choice (unwrap_or Self.meaning.name [])) }
         ensures same_depth { OnOk result (D.reader.depth_left decoder.new ≡

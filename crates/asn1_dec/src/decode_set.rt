@@ -51,5 +51,6 @@ pub trait DecodeSet: FieldTable + Eq + Sized + Drop {
             parts.items) };
 
     // The law: no component is a group.
-    ghost one_record_each: { (v : Self) → EachCanStandInside (all_components Self.components) → EachIsOneRecord (all_components Self.components) v };
+    ghost one_record_each: { (v : Self) → EachCanStandInside (all_components Self.components) →
+        EachIsOneRecord (all_components Self.components) v };
 }

@@ -1,31 +1,28 @@
 //! What a codec reads with.
-ghost use Rattle.asn1_choices.specs.Alternatives.{CanBeChosen, Each, HaveDistinctTags, all_of, chosen_meaning, table_of};
-ghost use Rattle.asn1_choices.specs.ChosenTags.{TellsAlternative, chosen_tag};
-ghost use Rattle.asn1_components.specs.ComponentLists.{CanBeInSequence, EachIsOfType, EachIsValid, trees_of};
-ghost use Rattle.asn1_components.specs.Components.{all_components, component_records, is_sequence, is_set, lines};
-ghost use Rattle.asn1_codec.specs.Reading.{OpensScope, IsLawful, KeepsDepth, ClosesScope, NeedsDepth, ReadsHead, ReadsHeadOfSet, Outside, Reader, ReadsBack, ReadsContent, ReadsDefault, ReadsEnd, ReadsMark, ReadsOpenType, ReadsOption, ReadsOptionAfterTag, ReadsValue, OpensNothing, TellsMore, TellsNextTag, TellsPresence, records_in};
+ghost use Rattle.asn1_components.specs.ComponentLists.{trees_of};
+ghost use Rattle.asn1_components.specs.Components.{all_components, is_sequence, is_set, lines};
+ghost use Rattle.asn1_codec.specs.Defaults.{MayAnswer};
+ghost use Rattle.asn1_codec.specs.GivenTypes.{as_it_is, given, given_after_tag, with_constraints, with_tag};
+ghost use Rattle.asn1_codec.specs.Reading.{ClosesScope, IsLawful, KeepsDepth, NeedsDepth, OpensNothing, OpensScope, Reader, ReadsEnd, ReadsHead, ReadsHeadOfSet, ReadsMark, ReadsValue, TellsMore, TellsNextTag, TellsPresence, records_in};
+ghost use Rattle.asn1_codec.specs.ReadingTypes.{Reads, ReadsAlternative, ReadsComponents, ReadsContent, ReadsDefault, ReadsElements, ReadsGroup, ReadsHeadOfChoice, ReadsOpenType, ReadsOptional};
 ghost use Rattle.asn1_codec.specs.SetParts.{CanBeInSet};
 ghost use Rattle.asn1_enumerations.specs.Enumerations.{number_of};
 ghost use Rattle.asn1_enumerations.specs.Labels.{HasNumber, labels_of};
-ghost use Rattle.asn1_model.specs.Composites.{alternative_records, group_records, list_records, prefix_records, sequence_records, set_of_records, set_records};
 ghost use Rattle.asn1_model.specs.ConstraintSets.{ConstraintSet, constraint_set, unconstrained};
-ghost use Rattle.asn1_model.specs.Meaning.{CanStandInside, own_records};
-ghost use Rattle.asn1_model.specs.Records.{Name, Record, absent, alternative, arcs, bits, bmp, discriminant, general, graphic, group_absent, group_end, group_start, ia5, in_additions, in_root, marks_alone, null, number, numeric, octet, prefix, present, printable, sequence, sequence_of, set, set_of, teletex, truth, units, utf8, visible};
-ghost use Rattle.asn1_model.specs.Tags.{ShareNone, first_tags, tree_tags};
+ghost use Rattle.asn1_model.specs.Records.{Name, absent, arcs, bits, bmp, discriminant, general, graphic, group_absent, group_end, group_start, ia5, in_additions, in_root, null, number, numeric, octet, prefix, present, printable, sequence, sequence_of, set, set_of, teletex, truth, units, utf8, visible};
+ghost use Rattle.asn1_model.specs.Tags.{tree_tags};
 ghost use Rattle.asn1_tags.specs.Trees.{choice, shape};
 ghost use Rattle.asn1_tags.specs.declared.tags.Tag.{Tag};
 ghost use Rattle.asn1_strings.specs.Alphabets.{is_ia5, is_numeric, is_printable, is_visible};
 ghost use Rattle.std.specs.Cmp.Lexicographic.{pointwise};
-ghost use Rattle.std.specs.List.{flat_map};
-ghost use Rattle.std.specs.Option.{option_eq, option_map};
-ghost use Rattle.std.specs.Prelude.{◌≡◌, ◌≤◌, ◌<◌, ◌^◌, ⊤, All, IfSome, IsTrue, List, Ok, Option, false, true};
+ghost use Rattle.std.specs.Prelude.{◌≡◌, ◌≤◌, ◌<◌, ◌^◌, ⊤, All, IsTrue, true};
 ghost use Rattle.std.specs.Str.{IsUtf8};
 ghost use Rattle.std.specs.String.{string_bytes};
 
 use crate::choices::read_choice;
 use crate::decode::{Decode, DecodeChoice, DecodeFields};
 use crate::decode_set::DecodeSet;
-use crate::defaults::{read_default, read_default_with_constraints};
+use crate::defaults::{or_default, read_default, read_default_with_constraints};
 use crate::elements::read_elements;
 use crate::optionals::{read_optional, read_optional_with_constraints};
 use crate::sequences::read_sequence;
@@ -57,7 +54,7 @@ use std::alloc::{AllocError, Global};
 /// opening a scope where no depth is left, and is answered there before anything else but `Failed`.
 ///
 /// The calls after the law are the same for every codec.
-pub trait Decoder {
+pub trait Decoder: Sized {
     // What remains to be read, and what the decoder may open.
     ghost reader: { Reader Self };
 
@@ -78,14 +75,14 @@ pub trait Decoder {
 
     /// A BOOLEAN.
     fn decode_bool(&mut self, tag: Tag) -> Result<bool, DecodeError>
-        ensures read { ReadsContent reader self.old self.new tag unconstrained truth (λ _. ⊤)
-            (λ w v. w ≡ v) result }
+        ensures read { ReadsContent reader tag unconstrained truth (λ _. ⊤) (λ w v. w ≡ v)
+            self.old self.new result }
         ensures opens_nothing { OpensNothing reader self.old self.new result };
 
     /// A NULL.
     fn decode_null(&mut self, tag: Tag) -> Result<(), DecodeError>
-        ensures read { ReadsContent reader self.old self.new tag unconstrained (λ _. null) (λ _. ⊤)
-            (λ w v. w ≡ v) result }
+        ensures read { ReadsContent reader tag unconstrained (λ _. null) (λ _. ⊤) (λ w v. w ≡ v)
+            self.old self.new result }
         ensures opens_nothing { OpensNothing reader self.old self.new result };
 
     /// The number of a value of an ENUMERATED type, which is its content. The table of `E` tells the codec which numbers there
@@ -94,16 +91,14 @@ pub trait Decoder {
         &mut self,
         tag: Tag,
     ) -> Result<isize, DecodeError>
-        ensures read { ReadsContent reader self.old self.new tag unconstrained
-            (discriminant E.labels)
-            (HasNumber E.labels)
-            (λ w z. w ≡ z) result }
+        ensures read { ReadsContent reader tag unconstrained (discriminant E.labels)
+            (HasNumber E.labels) (λ w z. w ≡ z) self.old self.new result }
         ensures opens_nothing { OpensNothing reader self.old self.new result };
 
     /// An OBJECT IDENTIFIER.
     fn decode_object_identifier(&mut self, tag: Tag) -> Result<ObjectIdentifier, DecodeError>
-        ensures read { ReadsContent reader self.old self.new tag unconstrained arcs
-            (All (λ arc. arc < 2 ^ 32)) (λ w v. w ≡ v) result }
+        ensures read { ReadsContent reader tag unconstrained arcs (All (λ arc. arc < 2 ^ 32))
+            (λ w v. w ≡ v) self.old self.new result }
         ensures opens_nothing { OpensNothing reader self.old self.new result };
 
     /// An INTEGER, as a value of any type of whole numbers that has it.
@@ -112,8 +107,8 @@ pub trait Decoder {
         tag: Tag,
         constraints: &Constraints<'_>,
     ) -> Result<I, DecodeError>
-        ensures read { ReadsContent reader self.old self.new tag (constraint_set constraints.now)
-            number I.fits (λ w z. I.number w ≡ z) result }
+        ensures read { ReadsContent reader tag (constraint_set constraints.now) number I.fits
+            (λ w z. I.number w ≡ z) self.old self.new result }
         ensures opens_nothing { OpensNothing reader self.old self.new result };
 
     /// A string of the kind `K`. The kind says what its units are ([`CodecString::kind`]), and makes the answer of the string that
@@ -123,13 +118,13 @@ pub trait Decoder {
         tag: Tag,
         constraints: &Constraints<'_>,
     ) -> Result<K::Owned, DecodeError>
-        ensures read { ReadsContent reader self.old self.new tag (constraint_set constraints.now)
-            K.content K.AreOfKind (λ w v. K.units_in w ≡ v) result }
+        ensures read { ReadsContent reader tag (constraint_set constraints.now) K.content
+            K.AreOfKind (λ w v. K.units_in w ≡ v) self.old self.new result }
         ensures opens_nothing { OpensNothing reader self.old self.new result };
 
     /// A value of an open type, by its bytes, under whatever tag.
     fn decode_any(&mut self, tag: Tag) -> Result<Any, DecodeError>
-        ensures read { ReadsOpenType reader self.old self.new (λ w bytes. w ≡ bytes) result }
+        ensures read { ReadsOpenType reader (λ w bytes. w ≡ bytes) self.old self.new result }
         ensures opens_nothing { OpensNothing reader self.old self.new result };
 
     /// Whether the component of the root is there that is written under this tag, and begins with a tag of the tree. A codec
@@ -137,15 +132,13 @@ pub trait Decoder {
     /// outermost list that has marks.
     fn presence(&mut self, tag: Tag, tree: TagTree<'static>) -> Result<bool, DecodeError>
         ensures read { TellsPresence reader self.old self.new (present in_root tag)
-            (absent in_root tag)
-            (tree_tags (shape tree.entry)) result }
+            (absent in_root tag) (tree_tags (shape tree.entry)) result }
         ensures opens_nothing { OpensNothing reader self.old self.new result };
 
     /// The same of an addition, which some codecs write in another way. What `presence` says of the outermost list holds here too.
     fn addition_presence(&mut self, tag: Tag, tree: TagTree<'static>) -> Result<bool, DecodeError>
         ensures read { TellsPresence reader self.old self.new (present in_additions tag)
-            (absent in_additions tag)
-            (tree_tags (shape tree.entry)) result }
+            (absent in_additions tag) (tree_tags (shape tree.entry)) result }
         ensures opens_nothing { OpensNothing reader self.old self.new result };
 
     /// Whether the group of additions is there whose components are those of the table of `C`. If it is, its components then
@@ -188,8 +181,9 @@ pub trait Decoder {
         tag: Tag,
         constraints: &Constraints<'_>,
     ) -> Result<usize, DecodeError>
-        ensures read { ReadsHead reader self.old self.new (sequence_of tag
-            (constraint_set constraints.now)) (λ items bound. records_in items ≤ bound) result }
+        ensures read { ReadsHead reader self.old self.new
+            (sequence_of tag (constraint_set constraints.now))
+            (λ items bound. records_in items ≤ bound) result }
         ensures opens_scope { OpensScope reader self.old self.new result };
 
     /// Opens a SET OF, whose elements come in any order, and answers a bound on their number.
@@ -206,11 +200,8 @@ pub trait Decoder {
 
     /// Opens a CHOICE, whose alternatives are those of `T`, which can be told apart, and answers a tag of the chosen one.
     fn open_choice<T: Choice>(&mut self, constraints: &Constraints<'_>) -> Result<Tag, DecodeError>
-        ensures read { (chosen : Tag) →
-            HaveDistinctTags (all_of T.alternatives) → Each CanBeChosen (all_of T.alternatives) →
-            ReadsHead reader self.old self.new
-            (alternative chosen (constraint_set constraints.now) (table_of T.alternatives))
-            (λ _ tag. TellsAlternative chosen tag (all_of T.alternatives)) result }
+        ensures read { ReadsHeadOfChoice reader (constraint_set constraints.now) T.alternatives
+            self.old self.new result }
         ensures opens_scope { OpensScope reader self.old self.new result };
 
     /// Whether a record is left in the innermost scope. Reads nothing. It is asked inside a scope: at the outermost list a codec
@@ -233,10 +224,8 @@ pub trait Decoder {
         tag: Tag,
         constraints: &Constraints<'_>,
     ) -> Result<BitString, DecodeError>
-    where
-        Self: Sized,
-        ensures read { ReadsContent reader self.old self.new tag (constraint_set constraints.now)
-            bits (λ _. ⊤) (λ w v. w ≡ v) result }
+        ensures read { ReadsContent reader tag (constraint_set constraints.now) bits (λ _. ⊤)
+            (λ w v. w ≡ v) self.old self.new result }
         ensures opens_nothing { OpensNothing reader self.old self.new result }
     {
         self.decode_string::<bool, Bits>(tag, constraints)
@@ -248,10 +237,8 @@ pub trait Decoder {
         tag: Tag,
         constraints: &Constraints<'_>,
     ) -> Result<Vec<u8>, DecodeError>
-    where
-        Self: Sized,
-        ensures read { ReadsContent reader self.old self.new tag (constraint_set constraints.now)
-            (units octet) (All (λ unit. unit < 2 ^ 8)) (λ w v. w.items ≡ v) result }
+        ensures read { ReadsContent reader tag (constraint_set constraints.now) (units octet)
+            (All (λ unit. unit < 2 ^ 8)) (λ w v. w.items ≡ v) self.old self.new result }
         ensures opens_nothing { OpensNothing reader self.old self.new result }
     {
         self.decode_string::<u8, Octets>(tag, constraints)
@@ -263,10 +250,8 @@ pub trait Decoder {
         tag: Tag,
         constraints: &Constraints<'_>,
     ) -> Result<String, DecodeError>
-    where
-        Self: Sized,
-        ensures read { ReadsContent reader self.old self.new tag (constraint_set constraints.now)
-            (units utf8) IsUtf8 (λ w v. string_bytes w ≡ v) result }
+        ensures read { ReadsContent reader tag (constraint_set constraints.now) (units utf8) IsUtf8
+            (λ w v. string_bytes w ≡ v) self.old self.new result }
         ensures opens_nothing { OpensNothing reader self.old self.new result }
     {
         self.decode_string::<u8, Utf8>(tag, constraints)
@@ -278,10 +263,8 @@ pub trait Decoder {
         tag: Tag,
         constraints: &Constraints<'_>,
     ) -> Result<GeneralString, DecodeError>
-    where
-        Self: Sized,
-        ensures read { ReadsContent reader self.old self.new tag (constraint_set constraints.now)
-            (units general) (All (λ unit. unit < 2 ^ 8)) (λ w v. w ≡ v) result }
+        ensures read { ReadsContent reader tag (constraint_set constraints.now) (units general)
+            (All (λ unit. unit < 2 ^ 8)) (λ w v. w ≡ v) self.old self.new result }
         ensures opens_nothing { OpensNothing reader self.old self.new result }
     {
         self.decode_string::<u8, General>(tag, constraints)
@@ -293,10 +276,8 @@ pub trait Decoder {
         tag: Tag,
         constraints: &Constraints<'_>,
     ) -> Result<GraphicString, DecodeError>
-    where
-        Self: Sized,
-        ensures read { ReadsContent reader self.old self.new tag (constraint_set constraints.now)
-            (units graphic) (All (λ unit. unit < 2 ^ 8)) (λ w v. w ≡ v) result }
+        ensures read { ReadsContent reader tag (constraint_set constraints.now) (units graphic)
+            (All (λ unit. unit < 2 ^ 8)) (λ w v. w ≡ v) self.old self.new result }
         ensures opens_nothing { OpensNothing reader self.old self.new result }
     {
         self.decode_string::<u8, Graphic>(tag, constraints)
@@ -308,10 +289,8 @@ pub trait Decoder {
         tag: Tag,
         constraints: &Constraints<'_>,
     ) -> Result<VisibleString, DecodeError>
-    where
-        Self: Sized,
-        ensures read { ReadsContent reader self.old self.new tag (constraint_set constraints.now)
-            (units visible) (All (λ unit. IsTrue (is_visible unit))) (λ w v. w ≡ v) result }
+        ensures read { ReadsContent reader tag (constraint_set constraints.now) (units visible)
+            (All (λ unit. IsTrue (is_visible unit))) (λ w v. w ≡ v) self.old self.new result }
         ensures opens_nothing { OpensNothing reader self.old self.new result }
     {
         self.decode_string::<u8, Visible>(tag, constraints)
@@ -323,10 +302,8 @@ pub trait Decoder {
         tag: Tag,
         constraints: &Constraints<'_>,
     ) -> Result<Ia5String, DecodeError>
-    where
-        Self: Sized,
-        ensures read { ReadsContent reader self.old self.new tag (constraint_set constraints.now)
-            (units ia5) (All (λ unit. IsTrue (is_ia5 unit))) (λ w v. w ≡ v) result }
+        ensures read { ReadsContent reader tag (constraint_set constraints.now) (units ia5)
+            (All (λ unit. IsTrue (is_ia5 unit))) (λ w v. w ≡ v) self.old self.new result }
         ensures opens_nothing { OpensNothing reader self.old self.new result }
     {
         self.decode_string::<u8, Ia5>(tag, constraints)
@@ -338,10 +315,8 @@ pub trait Decoder {
         tag: Tag,
         constraints: &Constraints<'_>,
     ) -> Result<PrintableString, DecodeError>
-    where
-        Self: Sized,
-        ensures read { ReadsContent reader self.old self.new tag (constraint_set constraints.now)
-            (units printable) (All (λ unit. IsTrue (is_printable unit))) (λ w v. w ≡ v) result }
+        ensures read { ReadsContent reader tag (constraint_set constraints.now) (units printable)
+            (All (λ unit. IsTrue (is_printable unit))) (λ w v. w ≡ v) self.old self.new result }
         ensures opens_nothing { OpensNothing reader self.old self.new result }
     {
         self.decode_string::<u8, Printable>(tag, constraints)
@@ -353,10 +328,8 @@ pub trait Decoder {
         tag: Tag,
         constraints: &Constraints<'_>,
     ) -> Result<NumericString, DecodeError>
-    where
-        Self: Sized,
-        ensures read { ReadsContent reader self.old self.new tag (constraint_set constraints.now)
-            (units numeric) (All (λ unit. IsTrue (is_numeric unit))) (λ w v. w ≡ v) result }
+        ensures read { ReadsContent reader tag (constraint_set constraints.now) (units numeric)
+            (All (λ unit. IsTrue (is_numeric unit))) (λ w v. w ≡ v) self.old self.new result }
         ensures opens_nothing { OpensNothing reader self.old self.new result }
     {
         self.decode_string::<u8, Numeric>(tag, constraints)
@@ -368,10 +341,8 @@ pub trait Decoder {
         tag: Tag,
         constraints: &Constraints<'_>,
     ) -> Result<TeletexString, DecodeError>
-    where
-        Self: Sized,
-        ensures read { ReadsContent reader self.old self.new tag (constraint_set constraints.now)
-            (units teletex) (All (λ unit. unit < 2 ^ 32)) (λ w v. w ≡ v) result }
+        ensures read { ReadsContent reader tag (constraint_set constraints.now) (units teletex)
+            (All (λ unit. unit < 2 ^ 32)) (λ w v. w ≡ v) self.old self.new result }
         ensures opens_nothing { OpensNothing reader self.old self.new result }
     {
         self.decode_string::<u32, Teletex>(tag, constraints)
@@ -383,10 +354,8 @@ pub trait Decoder {
         tag: Tag,
         constraints: &Constraints<'_>,
     ) -> Result<BmpString, DecodeError>
-    where
-        Self: Sized,
-        ensures read { ReadsContent reader self.old self.new tag (constraint_set constraints.now)
-            (units bmp) (All (λ unit. unit < 2 ^ 16)) (λ w v. w ≡ v) result }
+        ensures read { ReadsContent reader tag (constraint_set constraints.now) (units bmp)
+            (All (λ unit. unit < 2 ^ 16)) (λ w v. w ≡ v) self.old self.new result }
         ensures opens_nothing { OpensNothing reader self.old self.new result }
     {
         self.decode_string::<u16, Bmp>(tag, constraints)
@@ -394,12 +363,9 @@ pub trait Decoder {
 
     /// A value of an ENUMERATED type, by its number.
     final fn decode_enumerated<E: Enumerated>(&mut self, tag: Tag) -> Result<E, DecodeError>
-    where
-        Self: Sized,
-        ensures read { ReadsContent reader self.old self.new tag unconstrained
-            (λ v. discriminant (labels_of E.enumeration) (number_of E.eq E.enumeration v))
-            (λ _. ⊤)
-            (λ w v. w ≡ v) result }
+        ensures read { ReadsContent reader tag unconstrained
+            (λ v. discriminant (labels_of E.enumeration) (number_of E.eq E.enumeration v)) (λ _. ⊤)
+            (λ w v. w ≡ v) self.old self.new result }
         ensures opens_nothing { OpensNothing reader self.old self.new result }
     {
         let number = self.decode_enumerated_number::<E>(tag)?;
@@ -411,12 +377,8 @@ pub trait Decoder {
 
     /// A value after an explicit tag.
     final fn decode_explicit_prefix<T: Decode>(&mut self, tag: Tag) -> Result<T, DecodeError>
-    where
-        Self: Sized,
-        ensures read { (v : T) (n : Name) (rest : List Record) (outer : Outside) →
-            CanStandInside T.meaning → T.meaning.IsOfType v → T.meaning.IsValid reader.takes v →
-            ReadsBack reader self.old self.new (prefix_records tag n (own_records T.meaning v)) rest
-            outer (λ w. T.eq w v ≡ true) result }
+        ensures read { Reads reader (given_after_tag tag T.meaning.constraints T.meaning) T.eq
+            self.old self.new result }
         ensures keeps_depth { KeepsDepth reader self.old self.new result }
         ensures depth_first { NeedsDepth reader self.old result }
     {
@@ -435,13 +397,8 @@ pub trait Decoder {
         tag: Tag,
         constraints: &Constraints<'_>,
     ) -> Result<T, DecodeError>
-    where
-        Self: Sized,
-        ensures read { (v : T) (n : Name) (rest : List Record) (outer : Outside) →
-            CanStandInside T.meaning → T.meaning.IsOfType v → T.meaning.IsValid reader.takes v →
-            ReadsBack reader self.old self.new (prefix_records tag n
-            (T.meaning.records v T.meaning.tag (constraint_set constraints.now)
-            T.meaning.name)) rest outer (λ w. T.eq w v ≡ true) result }
+        ensures read { Reads reader (given_after_tag tag (constraint_set constraints.now) T.meaning)
+            T.eq self.old self.new result }
         ensures keeps_depth { KeepsDepth reader self.old self.new result }
         ensures depth_first { NeedsDepth reader self.old result }
     {
@@ -460,14 +417,8 @@ pub trait Decoder {
         tag: Tag,
         constraints: &Constraints<'_>,
     ) -> Result<Vec<T>, DecodeError>
-    where
-        Self: Sized,
-        ensures read { (vs : List T) (n : Name) (rest : List Record) (outer : Outside) →
-            CanStandInside T.meaning → All T.meaning.IsOfType vs →
-            All (T.meaning.IsValid reader.takes) vs →
-            ReadsBack reader self.old self.new (list_records tag (constraint_set constraints.now) n
-            (flat_map (own_records T.meaning) vs)) rest outer (λ w. pointwise T.eq w.items vs ≡
-            true) result }
+        ensures read { ReadsElements reader (sequence_of tag (constraint_set constraints.now))
+            T.meaning (λ w. pointwise T.eq w.items) self.old self.new result }
         ensures keeps_depth { KeepsDepth reader self.old self.new result }
         ensures depth_first { NeedsDepth reader self.old result }
     {
@@ -479,9 +430,7 @@ pub trait Decoder {
 
     /// A component that may be absent.
     final fn decode_optional<T: Decode>(&mut self) -> Result<Option<T>, DecodeError>
-    where
-        Self: Sized,
-        ensures read { ReadsOption reader in_root T.meaning T.eq T.meaning.tag T.meaning.constraints
+        ensures read { ReadsOptional reader in_root (as_it_is T.meaning) T.eq
             self.old self.new result }
         ensures keeps_depth { KeepsDepth reader self.old self.new result }
     {
@@ -493,10 +442,8 @@ pub trait Decoder {
         &mut self,
         tag: Tag,
     ) -> Result<Option<T>, DecodeError>
-    where
-        Self: Sized,
-        ensures read { ReadsOption reader in_root T.meaning T.eq tag T.meaning.constraints self.old
-            self.new result }
+        ensures read { ReadsOptional reader in_root (with_tag tag T.meaning) T.eq
+            self.old self.new result }
         ensures keeps_depth { KeepsDepth reader self.old self.new result }
     {
         read_optional(self, Side::Root, Some(tag))
@@ -507,10 +454,9 @@ pub trait Decoder {
         &mut self,
         constraints: &Constraints<'_>,
     ) -> Result<Option<T>, DecodeError>
-    where
-        Self: Sized,
-        ensures read { ReadsOption reader in_root T.meaning T.eq T.meaning.tag
-            (constraint_set constraints.now) self.old self.new result }
+        ensures read { ReadsOptional reader in_root
+            (with_constraints (constraint_set constraints.now) T.meaning) T.eq
+            self.old self.new result }
         ensures keeps_depth { KeepsDepth reader self.old self.new result }
     {
         read_optional_with_constraints(self, Side::Root, None, constraints)
@@ -522,10 +468,8 @@ pub trait Decoder {
         tag: Tag,
         constraints: &Constraints<'_>,
     ) -> Result<Option<T>, DecodeError>
-    where
-        Self: Sized,
-        ensures read { ReadsOption reader in_root T.meaning T.eq tag
-            (constraint_set constraints.now) self.old self.new result }
+        ensures read { ReadsOptional reader in_root
+            (given tag (constraint_set constraints.now) T.meaning) T.eq self.old self.new result }
         ensures keeps_depth { KeepsDepth reader self.old self.new result }
     {
         read_optional_with_constraints(self, Side::Root, Some(tag), constraints)
@@ -536,10 +480,8 @@ pub trait Decoder {
         &mut self,
         tag: Tag,
     ) -> Result<Option<T>, DecodeError>
-    where
-        Self: Sized,
-        ensures read { ReadsOptionAfterTag reader in_root T.meaning T.eq tag T.meaning.constraints
-            self.old self.new result }
+        ensures read { ReadsOptional reader in_root
+            (given_after_tag tag T.meaning.constraints T.meaning) T.eq self.old self.new result }
         ensures keeps_depth { KeepsDepth reader self.old self.new result }
     {
         if !self.presence(tag, TagTree::Leaf(tag))? {
@@ -551,10 +493,8 @@ pub trait Decoder {
 
     /// An addition, which may be absent.
     final fn decode_extension_addition<T: Decode>(&mut self) -> Result<Option<T>, DecodeError>
-    where
-        Self: Sized,
-        ensures read { ReadsOption reader in_additions T.meaning T.eq T.meaning.tag
-            T.meaning.constraints self.old self.new result }
+        ensures read { ReadsOptional reader in_additions (as_it_is T.meaning) T.eq
+            self.old self.new result }
         ensures keeps_depth { KeepsDepth reader self.old self.new result }
     {
         read_optional(self, Side::Additions, None)
@@ -565,9 +505,7 @@ pub trait Decoder {
         &mut self,
         tag: Tag,
     ) -> Result<Option<T>, DecodeError>
-    where
-        Self: Sized,
-        ensures read { ReadsOption reader in_additions T.meaning T.eq tag T.meaning.constraints
+        ensures read { ReadsOptional reader in_additions (with_tag tag T.meaning) T.eq
             self.old self.new result }
         ensures keeps_depth { KeepsDepth reader self.old self.new result }
     {
@@ -579,10 +517,9 @@ pub trait Decoder {
         &mut self,
         constraints: &Constraints<'_>,
     ) -> Result<Option<T>, DecodeError>
-    where
-        Self: Sized,
-        ensures read { ReadsOption reader in_additions T.meaning T.eq T.meaning.tag
-            (constraint_set constraints.now) self.old self.new result }
+        ensures read { ReadsOptional reader in_additions
+            (with_constraints (constraint_set constraints.now) T.meaning) T.eq
+            self.old self.new result }
         ensures keeps_depth { KeepsDepth reader self.old self.new result }
     {
         read_optional_with_constraints(self, Side::Additions, None, constraints)
@@ -594,10 +531,8 @@ pub trait Decoder {
         tag: Tag,
         constraints: &Constraints<'_>,
     ) -> Result<Option<T>, DecodeError>
-    where
-        Self: Sized,
-        ensures read { ReadsOption reader in_additions T.meaning T.eq tag
-            (constraint_set constraints.now) self.old self.new result }
+        ensures read { ReadsOptional reader in_additions
+            (given tag (constraint_set constraints.now) T.meaning) T.eq self.old self.new result }
         ensures keeps_depth { KeepsDepth reader self.old self.new result }
     {
         read_optional_with_constraints(self, Side::Additions, Some(tag), constraints)
@@ -609,10 +544,9 @@ pub trait Decoder {
         tag: Tag,
         constraints: &Constraints<'_>,
     ) -> Result<Option<T>, DecodeError>
-    where
-        Self: Sized,
-        ensures read { ReadsOptionAfterTag reader in_additions T.meaning T.eq tag
-            (constraint_set constraints.now) self.old self.new result }
+        ensures read { ReadsOptional reader in_additions
+            (given_after_tag tag (constraint_set constraints.now) T.meaning) T.eq
+            self.old self.new result }
         ensures keeps_depth { KeepsDepth reader self.old self.new result }
     {
         if !self.addition_presence(tag, TagTree::Leaf(tag))? {
@@ -627,11 +561,9 @@ pub trait Decoder {
         &mut self,
         default: F,
     ) -> Result<T, DecodeError>
-    where
-        Self: Sized,
         requires { F.IsAlwaysCallable default }
-        ensures read { ReadsDefault reader in_root (λ usual. (a : _) × F.post default a (Ok usual))
-            T.meaning T.eq T.meaning.tag T.meaning.constraints self.old self.new result }
+        ensures read { ReadsDefault reader in_root (as_it_is T.meaning) (MayAnswer F.FnOnce default)
+            T.eq self.old self.new result }
         ensures keeps_depth { KeepsDepth reader self.old self.new result }
     {
         read_default(self, Side::Root, None, default)
@@ -643,11 +575,9 @@ pub trait Decoder {
         tag: Tag,
         default: F,
     ) -> Result<T, DecodeError>
-    where
-        Self: Sized,
         requires { F.IsAlwaysCallable default }
-        ensures read { ReadsDefault reader in_root (λ usual. (a : _) × F.post default a (Ok usual))
-            T.meaning T.eq tag T.meaning.constraints self.old self.new result }
+        ensures read { ReadsDefault reader in_root (with_tag tag T.meaning)
+            (MayAnswer F.FnOnce default) T.eq self.old self.new result }
         ensures keeps_depth { KeepsDepth reader self.old self.new result }
     {
         read_default(self, Side::Root, Some(tag), default)
@@ -659,11 +589,10 @@ pub trait Decoder {
         default: F,
         constraints: &Constraints<'_>,
     ) -> Result<T, DecodeError>
-    where
-        Self: Sized,
         requires { F.IsAlwaysCallable default }
-        ensures read { ReadsDefault reader in_root (λ usual. (a : _) × F.post default a (Ok usual))
-            T.meaning T.eq T.meaning.tag (constraint_set constraints.now) self.old self.new result }
+        ensures read { ReadsDefault reader in_root
+            (with_constraints (constraint_set constraints.now) T.meaning)
+            (MayAnswer F.FnOnce default) T.eq self.old self.new result }
         ensures keeps_depth { KeepsDepth reader self.old self.new result }
     {
         read_default_with_constraints(self, Side::Root, None, default, constraints)
@@ -674,14 +603,28 @@ pub trait Decoder {
         T: Decode,
         F: FnOnce(Global) -> Result<T, AllocError>,
     >(&mut self, tag: Tag, default: F, constraints: &Constraints<'_>) -> Result<T, DecodeError>
-    where
-        Self: Sized,
         requires { F.IsAlwaysCallable default }
-        ensures read { ReadsDefault reader in_root (λ usual. (a : _) × F.post default a (Ok usual))
-            T.meaning T.eq tag (constraint_set constraints.now) self.old self.new result }
+        ensures read { ReadsDefault reader in_root
+            (given tag (constraint_set constraints.now) T.meaning) (MayAnswer F.FnOnce default) T.eq
+            self.old self.new result }
         ensures keeps_depth { KeepsDepth reader self.old self.new result }
     {
         read_default_with_constraints(self, Side::Root, Some(tag), default, constraints)
+    }
+
+    /// The same as `decode_default`, after an explicit tag.
+    final fn decode_default_with_explicit_prefix<
+        T: Decode,
+        F: FnOnce(Global) -> Result<T, AllocError>,
+    >(&mut self, tag: Tag, default: F) -> Result<T, DecodeError>
+        requires { F.IsAlwaysCallable default }
+        ensures read { ReadsDefault reader in_root
+            (given_after_tag tag T.meaning.constraints T.meaning) (MayAnswer F.FnOnce default) T.eq
+            self.old self.new result }
+        ensures keeps_depth { KeepsDepth reader self.old self.new result }
+    {
+        let value = self.decode_optional_with_explicit_prefix(tag)?;
+        or_default(self, value, default)
     }
 
     /// An addition with a default, which is what the closure answers where the addition is absent.
@@ -689,12 +632,9 @@ pub trait Decoder {
         T: Decode,
         F: FnOnce(Global) -> Result<T, AllocError>,
     >(&mut self, default: F) -> Result<T, DecodeError>
-    where
-        Self: Sized,
         requires { F.IsAlwaysCallable default }
-        ensures read { ReadsDefault reader in_additions
-            (λ usual. (a : _) × F.post default a (Ok usual)) T.meaning T.eq T.meaning.tag
-            T.meaning.constraints self.old self.new result }
+        ensures read { ReadsDefault reader in_additions (as_it_is T.meaning)
+            (MayAnswer F.FnOnce default) T.eq self.old self.new result }
         ensures keeps_depth { KeepsDepth reader self.old self.new result }
     {
         read_default(self, Side::Additions, None, default)
@@ -705,12 +645,9 @@ pub trait Decoder {
         T: Decode,
         F: FnOnce(Global) -> Result<T, AllocError>,
     >(&mut self, tag: Tag, default: F) -> Result<T, DecodeError>
-    where
-        Self: Sized,
         requires { F.IsAlwaysCallable default }
-        ensures read { ReadsDefault reader in_additions
-            (λ usual. (a : _) × F.post default a (Ok usual)) T.meaning T.eq tag
-            T.meaning.constraints self.old self.new result }
+        ensures read { ReadsDefault reader in_additions (with_tag tag T.meaning)
+            (MayAnswer F.FnOnce default) T.eq self.old self.new result }
         ensures keeps_depth { KeepsDepth reader self.old self.new result }
     {
         read_default(self, Side::Additions, Some(tag), default)
@@ -721,12 +658,10 @@ pub trait Decoder {
         T: Decode,
         F: FnOnce(Global) -> Result<T, AllocError>,
     >(&mut self, default: F, constraints: &Constraints<'_>) -> Result<T, DecodeError>
-    where
-        Self: Sized,
         requires { F.IsAlwaysCallable default }
         ensures read { ReadsDefault reader in_additions
-            (λ usual. (a : _) × F.post default a (Ok usual)) T.meaning T.eq T.meaning.tag
-            (constraint_set constraints.now) self.old self.new result }
+            (with_constraints (constraint_set constraints.now) T.meaning)
+            (MayAnswer F.FnOnce default) T.eq self.old self.new result }
         ensures keeps_depth { KeepsDepth reader self.old self.new result }
     {
         read_default_with_constraints(self, Side::Additions, None, default, constraints)
@@ -737,12 +672,10 @@ pub trait Decoder {
         T: Decode,
         F: FnOnce(Global) -> Result<T, AllocError>,
     >(&mut self, tag: Tag, default: F, constraints: &Constraints<'_>) -> Result<T, DecodeError>
-    where
-        Self: Sized,
         requires { F.IsAlwaysCallable default }
         ensures read { ReadsDefault reader in_additions
-            (λ usual. (a : _) × F.post default a (Ok usual)) T.meaning T.eq tag
-            (constraint_set constraints.now) self.old self.new result }
+            (given tag (constraint_set constraints.now) T.meaning) (MayAnswer F.FnOnce default) T.eq
+            self.old self.new result }
         ensures keeps_depth { KeepsDepth reader self.old self.new result }
     {
         read_default_with_constraints(self, Side::Additions, Some(tag), default, constraints)
@@ -753,19 +686,7 @@ pub trait Decoder {
     final fn decode_extension_addition_group<C: DecodeFields>(
         &mut self,
     ) -> Result<Option<C>, DecodeError>
-    where
-        Self: Sized,
-        ensures read { (v : Option C) (rest : List Record) (outer : Outside) →
-            CanBeInSequence (all_components C.components) →
-            IfSome v (EachIsOfType (all_components C.components)) →
-            IfSome v
-            (λ w. EachIsValid (all_components C.components) reader.takes w ×
-            (marks_alone (component_records C.components w) ≡ false)) →
-            ShareNone (tree_tags (choice (trees_of (all_components C.components))))
-            (first_tags rest) →
-            ReadsBack reader self.old self.new
-            (group_records (lines C.components) (option_map (component_records C.components) v))
-            rest outer (λ w. option_eq C.eq w v ≡ true) result }
+        ensures read { ReadsGroup reader C.components C.eq self.old self.new result }
         ensures keeps_depth { KeepsDepth reader self.old self.new result }
     {
         if !self.open_group::<C>()? {
@@ -784,15 +705,8 @@ pub trait Decoder {
         &mut self,
         tag: Tag,
     ) -> Result<C, DecodeError>
-    where
-        Self: Sized,
-        ensures components { (v : C) (n : Name) (rest : List Record) (outer : Outside) →
-            CanBeInSequence (all_components C.components) →
-            EachIsOfType (all_components C.components) v →
-            EachIsValid (all_components C.components) reader.takes v →
-            ReadsBack reader self.old self.new
-            (sequence_records tag (lines C.components) n (component_records C.components v))
-            rest outer (λ w. C.eq w v ≡ true) result }
+        ensures components { ReadsComponents reader is_sequence tag C.components C.eq
+            self.old self.new result }
         ensures as_meant { C.components.kind ≡ is_sequence → (c : ConstraintSet) →
             ReadsValue reader C.meaning C.eq tag c self.old self.new result }
         ensures keeps_depth { KeepsDepth reader self.old self.new result }
@@ -806,18 +720,8 @@ pub trait Decoder {
         &mut self,
         constraints: &Constraints<'_>,
     ) -> Result<T, DecodeError>
-    where
-        Self: Sized,
-        ensures read { (v : T) (n : Name) (rest : List Record) (outer : Outside) →
-            HaveDistinctTags (all_of T.alternatives) → Each CanBeChosen (all_of T.alternatives) →
-            (chosen_meaning (all_of T.alternatives) (T.pick v)).IsOfType →
-            (chosen_meaning (all_of T.alternatives) (T.pick v)).IsValid reader.takes →
-            ReadsBack reader self.old self.new
-            (alternative_records (chosen_tag (all_of T.alternatives) (T.pick v))
-            (constraint_set constraints.now)
-            (table_of T.alternatives) n
-            (chosen_meaning (all_of T.alternatives) (T.pick v)).records) rest outer
-            (λ w. T.eq w v ≡ true) result }
+        ensures read { ReadsAlternative reader (constraint_set constraints.now) T.alternatives
+            T.pick T.eq self.old self.new result }
         ensures keeps_depth { KeepsDepth reader self.old self.new result }
         ensures depth_first { NeedsDepth reader self.old result }
     {
@@ -837,8 +741,6 @@ pub trait Decoder {
         tag: Tag,
         constraints: &Constraints<'_>,
     ) -> Result<T, DecodeError>
-    where
-        Self: Sized,
         ensures read { ReadsValue reader T.meaning T.eq tag (constraint_set constraints.now)
             self.old self.new result }
         ensures depth_first { NeedsDepth reader self.old result }
@@ -853,14 +755,8 @@ pub trait Decoder {
         tag: Tag,
         constraints: &Constraints<'_>,
     ) -> Result<SetOf<T>, DecodeError>
-    where
-        Self: Sized,
-        ensures read { (vs : List T) (n : Name) (rest : List Record) (outer : Outside) →
-            CanStandInside T.meaning → All T.meaning.IsOfType vs →
-            All (T.meaning.IsValid reader.takes) vs →
-            ReadsBack reader self.old self.new (set_of_records tag (constraint_set constraints.now)
-            n (flat_map (own_records T.meaning) vs)) rest outer (λ w. ⟦<SetOf<T> as PartialEq>⟧.eq w
-            vs ≡ true) result }
+        ensures read { ReadsElements reader (set_of tag (constraint_set constraints.now)) T.meaning
+            ⟦<SetOf<T> as PartialEq>⟧.eq self.old self.new result }
         ensures depth_first { NeedsDepth reader self.old result }
         ensures keeps_depth { KeepsDepth reader self.old self.new result }
     {
@@ -873,15 +769,8 @@ pub trait Decoder {
         &mut self,
         tag: Tag,
     ) -> Result<S, DecodeError>
-    where
-        Self: Sized,
-        ensures components { (v : S) (n : Name) (rest : List Record) (outer : Outside) →
-            CanBeInSet (all_components S.components) →
-            EachIsOfType (all_components S.components) v →
-            EachIsValid (all_components S.components) reader.takes v →
-            ReadsBack reader self.old self.new
-            (set_records tag (lines S.components) n (component_records S.components v)) rest
-            outer (λ w. S.eq w v ≡ true) result }
+        ensures components { ReadsComponents reader is_set tag S.components S.eq
+            self.old self.new result }
         ensures as_meant { S.components.kind ≡ is_set → (c : ConstraintSet) →
             ReadsValue reader S.meaning S.eq tag c self.old self.new result }
         ensures depth_first { NeedsDepth reader self.old result }

@@ -1,5 +1,8 @@
 //! A component that is absent where it equals a default.
-ghost use Rattle.asn1_codec.specs.Reading.{KeepsDepth, ReadsDefault};
+ghost use Rattle.asn1_codec.specs.Defaults.{MayAnswer};
+ghost use Rattle.asn1_codec.specs.GivenTypes.{given, with_tag};
+ghost use Rattle.asn1_codec.specs.Reading.{KeepsDepth};
+ghost use Rattle.asn1_codec.specs.ReadingTypes.{ReadsDefault};
 ghost use Rattle.asn1_codec.specs.Sides.{side_of};
 ghost use Rattle.asn1_codec.specs.declared.decode_error.DecodeError.TheVariants.{Memory};
 ghost use Rattle.asn1_model.specs.ConstraintSets.{constraint_set};
@@ -15,7 +18,7 @@ use std::alloc::{AllocError, Global};
 
 /// The value that was read, or what the closure answers where there is none. Where it answers nothing, because memory ran out, the
 /// decoder has failed.
-fn or_default<T: Drop, D: Decoder, F: FnOnce(Global) -> Result<T, AllocError>>(
+pub(crate) fn or_default<T: Drop, D: Decoder, F: FnOnce(Global) -> Result<T, AllocError>>(
     decoder: &mut D,
     value: Option<T>,
     default: F,
@@ -23,7 +26,7 @@ fn or_default<T: Drop, D: Decoder, F: FnOnce(Global) -> Result<T, AllocError>>(
     requires { F.IsAlwaysCallable default }
     ensures there { IfSome value (λ v. (result ≡ Ok v) × (decoder.new ≡ decoder.old)) }
     ensures absent { IfNone value (MatchResult result
-        (λ usual. ((a : _) × F.post default a (Ok usual)) × (decoder.new ≡ decoder.old))
+        (λ usual. MayAnswer F.FnOnce default usual × (decoder.new ≡ decoder.old))
         (λ e. (e ≡ Memory) × (D.reader.failed decoder.new ≡ true))) }
 {
     match value {
@@ -44,8 +47,8 @@ pub(crate) fn read_default<T: Decode, D: Decoder, F: FnOnce(Global) -> Result<T,
 ) -> Result<T, DecodeError>
     requires { F.IsAlwaysCallable default }
     ensures read { ReadsDefault D.reader (side_of side)
-        (λ usual. (a : _) × F.post default a (Ok usual)) T.meaning T.eq
-        (unwrap_or tag T.meaning.tag) T.meaning.constraints decoder.old decoder.new result }
+        (with_tag (unwrap_or tag T.meaning.tag) T.meaning) (MayAnswer F.FnOnce default) T.eq
+        decoder.old decoder.new result }
     ensures keeps_depth { KeepsDepth D.reader decoder.old decoder.new result }
 {
     let value = read_optional::<T, D>(decoder, side, tag)?;
@@ -66,9 +69,8 @@ pub(crate) fn read_default_with_constraints<
 ) -> Result<T, DecodeError>
     requires { F.IsAlwaysCallable default }
     ensures read { ReadsDefault D.reader (side_of side)
-        (λ usual. (a : _) × F.post default a (Ok usual)) T.meaning T.eq
-        (unwrap_or tag T.meaning.tag) (constraint_set constraints.now) decoder.old decoder.new
-        result }
+        (given (unwrap_or tag T.meaning.tag) (constraint_set constraints.now) T.meaning)
+        (MayAnswer F.FnOnce default) T.eq decoder.old decoder.new result }
     ensures keeps_depth { KeepsDepth D.reader decoder.old decoder.new result }
 {
     let value = read_optional_with_constraints::<T, D>(decoder, side, tag, constraints)?;

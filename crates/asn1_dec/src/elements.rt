@@ -1,10 +1,7 @@
 //! The elements of a list.
-ghost use Rattle.asn1_codec.specs.Reading.{Advances, Outside};
-ghost use Rattle.asn1_model.specs.Meaning.{CanStandInside, own_records};
-ghost use Rattle.asn1_model.specs.Records.{Head, Record, highest};
+ghost use Rattle.asn1_codec.specs.ReadingTypes.{ReadsElementsLeft};
 ghost use Rattle.std.specs.Cmp.Lexicographic.{pointwise};
-ghost use Rattle.std.specs.List.{flat_map};
-ghost use Rattle.std.specs.Prelude.{◌≡◌, ◌≤◌, [], ◌∷◌, All, List, OnErr, OnOk, length, true};
+ghost use Rattle.std.specs.Prelude.{◌≡◌, OnErr, OnOk, true};
 
 use crate::decode::Decode;
 use crate::decoder::Decoder;
@@ -15,12 +12,8 @@ pub(crate) fn read_elements<T: Decode, D: Decoder>(
     decoder: &mut D,
     bound: usize,
 ) -> Result<Vec<T>, DecodeError>
-    ensures read { (vs : List T) (scope : Head × List Record) (outer : Outside) →
-        CanStandInside T.meaning → All T.meaning.IsOfType vs →
-        All (T.meaning.IsValid D.reader.takes) vs → length vs ≤ bound →
-        Advances D.reader decoder.old decoder.new (highest (flat_map (own_records T.meaning) vs))
-        (flat_map (own_records T.meaning) vs, scope ∷ outer) ([], scope ∷ outer)
-        (λ w. pointwise T.eq w.items vs ≡ true) result }
+    ensures read { ReadsElementsLeft D.reader bound T.meaning (λ w. pointwise T.eq w.items)
+        decoder.old decoder.new result }
     ensures same_depth { OnOk result (D.reader.depth_left decoder.new ≡
         D.reader.depth_left decoder.old) }
     ensures has_failed { OnErr result (D.reader.failed decoder.new ≡ true) }

@@ -16,7 +16,7 @@ fn can_begin_with(tree: TagTree<'static>, tag: Tag) -> bool
 }
 
 /// The index of a component that can begin with the tag; `None` where there is none.
-pub(crate) fn component_with_tag<C: FieldTable>(tag: Tag) -> Option<usize>
+pub fn component_with_tag<C: FieldTable>(tag: Tag) -> Option<usize>
     ensures { MatchOption result ((k : ℕ) → CanBeginWith (all_components C.components) k tag → ⊥)
         (λ k. CanBeginWith (all_components C.components) k tag) }
 {

@@ -9,6 +9,7 @@
 //! | [`Decode`] | a type whose values are read, by four entry points; one of them is the type's own |
 //! | [`DecodeFields`] | a type whose components are read in their order: a SEQUENCE or a group of additions |
 //! | [`DecodeChoice`] | a CHOICE whose alternatives are read |
+//! | [`component_with_tag`] | the component of a SET that begins with a tag |
 //! | [`DecodeSet`], [`keep_once`] | a SET whose components are read in whatever order they come |
 //! | [`DecodeError`], [`Needed`] | why a value was not read |
 //! | [`laws`] | what types refuse |
@@ -38,7 +39,7 @@
 //!   failed decoder answers `Failed`.
 //! - A tag that no alternative of a CHOICE has is refused with the name of the type (`unknown` of [`DecodeChoice`]).
 //! - Whether a component is there, a codec knows by a presence mark or by the next tag. So a component that is absent is read only
-//!   where what follows begins with none of its tags (`TellsPresence`, `ReadsOption`, `ReadsDefault`), which distinct tags
+//!   where what follows begins with none of its tags (`TellsPresence`, `ReadsOptional`, `ReadsDefault`), which distinct tags
 //!   give: `EachApart` of `asn1_components`. Where each value of a type is a single record, anything may follow (`MayFollow`).
 //! - A codec states what remains to be read, whether it has failed, its depth left, and which byte strings it takes as one value of
 //!   an open type (`Reader`). The order inside sets means nothing to it (`IsLawful`): so it opens a set before some
@@ -73,4 +74,5 @@ pub use asn1_codec::{DecodeError, Needed};
 pub use decode::{Decode, DecodeChoice, DecodeFields};
 pub use decode_set::DecodeSet;
 pub use decoder::Decoder;
+pub use fields::component_with_tag;
 pub use slots::keep_once;

@@ -1,13 +1,14 @@
 //! A component that may be absent, on either side of an extension marker.
-ghost use Rattle.asn1_codec.specs.Reading.{KeepsDepth, ReadsBack, ReadsOption, OpensNothing, TellsPresence, Outside};
+ghost use Rattle.asn1_codec.specs.GivenTypes.{given, with_tag};
+ghost use Rattle.asn1_codec.specs.Reading.{KeepsDepth, OpensNothing, TellsPresence};
+ghost use Rattle.asn1_codec.specs.ReadingTypes.{Reads, ReadsOptional};
 ghost use Rattle.asn1_codec.specs.Sides.{side_of};
 ghost use Rattle.asn1_model.specs.ConstraintSets.{constraint_set};
-ghost use Rattle.asn1_model.specs.Meaning.{CanStandInsideUnder};
-ghost use Rattle.asn1_model.specs.Records.{Name, Record, absent, present};
+ghost use Rattle.asn1_model.specs.Records.{absent, present};
 ghost use Rattle.asn1_model.specs.Tags.{tree_tags};
 ghost use Rattle.asn1_tags.specs.Trees.{shape};
 ghost use Rattle.std.specs.Option.{option_eq};
-ghost use Rattle.std.specs.Prelude.{◌≡◌, List, OnErr, OnOk, Some, true, unwrap_or};
+ghost use Rattle.std.specs.Prelude.{◌≡◌, OnErr, OnOk, Some, true, unwrap_or};
 
 use crate::decode::Decode;
 use crate::decoder::Decoder;
@@ -38,12 +39,8 @@ fn read_present<T: Decode, D: Decoder>(
     tag: Tag,
     constraints: &Constraints<'_>,
 ) -> Result<Option<T>, DecodeError>
-    ensures read { (v : T) (n : Name) (rest : List Record) (outer : Outside) →
-        CanStandInsideUnder T.meaning tag → T.meaning.IsOfType v →
-        T.meaning.IsValid D.reader.takes v →
-        ReadsBack D.reader decoder.old decoder.new (T.meaning.records v tag
-        (constraint_set constraints.now) n) rest outer (λ w. option_eq T.eq w (Some v) ≡
-        true) result }
+    ensures read { Reads D.reader (given tag (constraint_set constraints.now) T.meaning)
+        (λ w v. option_eq T.eq w (Some v)) decoder.old decoder.new result }
     ensures same_depth { OnOk result
         (D.reader.depth_left decoder.new ≡ D.reader.depth_left decoder.old) }
     ensures no_failure { OnOk result (D.reader.failed decoder.new ≡ D.reader.failed decoder.old) }
@@ -61,8 +58,8 @@ pub(crate) fn read_optional<T: Decode, D: Decoder>(
     side: Side,
     tag: Option<Tag>,
 ) -> Result<Option<T>, DecodeError>
-    ensures read { ReadsOption D.reader (side_of side) T.meaning T.eq
-        (unwrap_or tag T.meaning.tag) T.meaning.constraints decoder.old decoder.new result }
+    ensures read { ReadsOptional D.reader (side_of side)
+        (with_tag (unwrap_or tag T.meaning.tag) T.meaning) T.eq decoder.old decoder.new result }
     ensures keeps_depth { KeepsDepth D.reader decoder.old decoder.new result }
 {
     let table = T::table();
@@ -83,9 +80,9 @@ pub(crate) fn read_optional_with_constraints<T: Decode, D: Decoder>(
     tag: Option<Tag>,
     constraints: &Constraints<'_>,
 ) -> Result<Option<T>, DecodeError>
-    ensures read { ReadsOption D.reader (side_of side) T.meaning T.eq
-        (unwrap_or tag T.meaning.tag) (constraint_set constraints.now) decoder.old decoder.new
-        result }
+    ensures read { ReadsOptional D.reader (side_of side)
+        (given (unwrap_or tag T.meaning.tag) (constraint_set constraints.now) T.meaning) T.eq
+        decoder.old decoder.new result }
     ensures keeps_depth { KeepsDepth D.reader decoder.old decoder.new result }
 {
     let table = T::table();

@@ -1,10 +1,7 @@
 //! A SEQUENCE, by its components.
-ghost use Rattle.asn1_components.specs.ComponentLists.{CanBeInSequence, EachIsOfType, EachIsValid};
-ghost use Rattle.asn1_components.specs.Components.{all_components, component_records, lines};
-ghost use Rattle.asn1_codec.specs.Reading.{KeepsDepth, NeedsDepth, Outside, ReadsBack};
-ghost use Rattle.asn1_model.specs.Composites.{sequence_records};
-ghost use Rattle.asn1_model.specs.Records.{Name, Record};
-ghost use Rattle.std.specs.Prelude.{◌≡◌, List, true};
+ghost use Rattle.asn1_components.specs.Components.{is_sequence};
+ghost use Rattle.asn1_codec.specs.Reading.{KeepsDepth, NeedsDepth};
+ghost use Rattle.asn1_codec.specs.ReadingTypes.{ReadsComponents};
 
 use crate::decode::DecodeFields;
 use crate::decoder::Decoder;
@@ -16,13 +13,8 @@ pub(crate) fn read_sequence<C: DecodeFields, D: Decoder>(
     decoder: &mut D,
     tag: Tag,
 ) -> Result<C, DecodeError>
-    ensures read { (v : C) (n : Name) (rest : List Record) (outer : Outside) →
-        CanBeInSequence (all_components C.components) →
-        EachIsOfType (all_components C.components) v →
-        EachIsValid (all_components C.components) D.reader.takes v →
-        ReadsBack D.reader decoder.old decoder.new
-        (sequence_records tag (lines C.components) n (component_records C.components v)) rest
-        outer (λ w. C.eq w v ≡ true) result }
+    ensures read { ReadsComponents D.reader is_sequence tag C.components C.eq
+        decoder.old decoder.new result }
     ensures keeps_depth { KeepsDepth D.reader decoder.old decoder.new result }
     ensures depth_first { NeedsDepth D.reader decoder.old result }
 {

@@ -1,12 +1,9 @@
 //! A SET, by its components.
-ghost use Rattle.asn1_components.specs.ComponentLists.{EachIsOfType, EachIsValid};
-ghost use Rattle.asn1_components.specs.Components.{all_components, component_records, is_set, lines};
-ghost use Rattle.asn1_codec.specs.Reading.{KeepsDepth, Advances, NeedsDepth, Outside, ReadsBack, ReadsValue, records_in};
-ghost use Rattle.asn1_model.specs.Composites.{set_records};
+ghost use Rattle.asn1_components.specs.Components.{is_set};
+ghost use Rattle.asn1_codec.specs.Reading.{KeepsDepth, NeedsDepth, ReadsValue};
+ghost use Rattle.asn1_codec.specs.ReadingTypes.{ReadsComponents, ReadsPartsLeft};
 ghost use Rattle.asn1_model.specs.ConstraintSets.{ConstraintSet};
-ghost use Rattle.asn1_model.specs.Records.{Name, Record, highest, set};
-ghost use Rattle.asn1_codec.specs.SetParts.{ArePartsOf, CanBeInSet};
-ghost use Rattle.std.specs.Prelude.{◌≡◌, ◌≤◌, IsPermutation, List, OnErr, OnOk, [], ◌∷◌, true};
+ghost use Rattle.std.specs.Prelude.{◌≡◌, OnErr, OnOk, true};
 
 use crate::decode_set::DecodeSet;
 use crate::decoder::Decoder;
@@ -20,15 +17,8 @@ fn read_parts<S: DecodeSet, D: Decoder>(
     decoder: &mut D,
     bound: usize,
 ) -> Result<Vec<S::Part>, DecodeError>
-    ensures read { (v : S) (tag : Tag) (n : Name) (items rest : List Record) (outer : Outside) →
-        CanBeInSet (all_components S.components) → EachIsOfType (all_components S.components) v →
-        EachIsValid (all_components S.components) D.reader.takes v →
-        IsPermutation items (component_records S.components v) → records_in items ≤ bound →
-        Advances D.reader decoder.old decoder.new (highest items)
-        (items, (set tag (lines S.components) n, rest) ∷ outer)
-        ([], (set tag (lines S.components) n, rest) ∷ outer)
-        (λ parts. ArePartsOf (all_components S.components) v S.index_of (S.is_part_of v)
-        parts.items) result }
+    ensures read { ReadsPartsLeft D.reader bound S.components S.index_of S.is_part_of
+        (λ parts. parts.items) decoder.old decoder.new result }
     ensures same_depth { OnOk result (D.reader.depth_left decoder.new ≡
         D.reader.depth_left decoder.old) }
     ensures has_failed { OnErr result (D.reader.failed decoder.new ≡ true) }
@@ -58,12 +48,8 @@ fn read_parts<S: DecodeSet, D: Decoder>(
 
 /// A SET under a tag.
 fn read_components<S: DecodeSet, D: Decoder>(decoder: &mut D, tag: Tag) -> Result<S, DecodeError>
-    ensures read { (v : S) (n : Name) (rest : List Record) (outer : Outside) →
-        CanBeInSet (all_components S.components) → EachIsOfType (all_components S.components) v →
-        EachIsValid (all_components S.components) D.reader.takes v →
-        ReadsBack D.reader decoder.old decoder.new
-        (set_records tag (lines S.components) n (component_records S.components v)) rest outer
-        (λ w. S.eq w v ≡ true) result }
+    ensures read { ReadsComponents D.reader is_set tag S.components S.eq
+        decoder.old decoder.new result }
     ensures depth_first { NeedsDepth D.reader decoder.old result }
     ensures keeps_depth { KeepsDepth D.reader decoder.old decoder.new result }
 {
@@ -83,12 +69,8 @@ pub(crate) fn read_set<S: DecodeSet + ConstructedType, D: Decoder>(
     decoder: &mut D,
     tag: Tag,
 ) -> Result<S, DecodeError>
-    ensures components { (v : S) (n : Name) (rest : List Record) (outer : Outside) →
-        CanBeInSet (all_components S.components) → EachIsOfType (all_components S.components) v →
-        EachIsValid (all_components S.components) D.reader.takes v →
-        ReadsBack D.reader decoder.old decoder.new
-        (set_records tag (lines S.components) n (component_records S.components v)) rest outer
-        (λ w. S.eq w v ≡ true) result }
+    ensures components { ReadsComponents D.reader is_set tag S.components S.eq
+        decoder.old decoder.new result }
     ensures as_meant { S.components.kind ≡ is_set → (c : ConstraintSet) →
         ReadsValue D.reader S.meaning S.eq tag c decoder.old decoder.new result }
     ensures depth_first { NeedsDepth D.reader decoder.old result }

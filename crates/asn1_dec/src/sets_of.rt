@@ -1,11 +1,8 @@
 //! A SET OF.
-ghost use Rattle.asn1_codec.specs.Reading.{KeepsDepth, NeedsDepth, Outside, ReadsBack};
-ghost use Rattle.asn1_model.specs.Composites.{set_of_records};
+ghost use Rattle.asn1_codec.specs.Reading.{KeepsDepth, NeedsDepth};
+ghost use Rattle.asn1_codec.specs.ReadingTypes.{ReadsElements};
 ghost use Rattle.asn1_model.specs.ConstraintSets.{constraint_set};
-ghost use Rattle.asn1_model.specs.Meaning.{CanStandInside, own_records};
-ghost use Rattle.asn1_model.specs.Records.{Name, Record};
-ghost use Rattle.std.specs.List.{flat_map};
-ghost use Rattle.std.specs.Prelude.{◌≡◌, All, List, true};
+ghost use Rattle.asn1_model.specs.Records.{set_of};
 
 use crate::decode::Decode;
 use crate::decoder::Decoder;
@@ -21,12 +18,8 @@ pub(crate) fn read_set_of<T: Decode, D: Decoder>(
     tag: Tag,
     constraints: &Constraints<'_>,
 ) -> Result<SetOf<T>, DecodeError>
-    ensures read { (vs : List T) (n : Name) (rest : List Record) (outer : Outside) →
-        CanStandInside T.meaning → All T.meaning.IsOfType vs →
-        All (T.meaning.IsValid D.reader.takes) vs →
-        ReadsBack D.reader decoder.old decoder.new (set_of_records tag
-        (constraint_set constraints.now) n (flat_map (own_records T.meaning) vs)) rest outer (λ w.
-        ⟦<SetOf<T> as PartialEq>⟧.eq w vs ≡ true) result }
+    ensures read { ReadsElements D.reader (set_of tag (constraint_set constraints.now)) T.meaning
+        ⟦<SetOf<T> as PartialEq>⟧.eq decoder.old decoder.new result }
     ensures depth_first { NeedsDepth D.reader decoder.old result }
     ensures keeps_depth { KeepsDepth D.reader decoder.old decoder.new result }
 {

@@ -1,12 +1,11 @@
 //! Types that are written.
-ghost use Rattle.asn1_choices.specs.Alternatives.{all_of, chosen_meaning};
+ghost use Rattle.asn1_choices.specs.Alternatives.{all_of};
 ghost use Rattle.asn1_choices.specs.ChosenTags.{chosen_tag as tag_of_chosen};
-ghost use Rattle.asn1_components.specs.ComponentLists.{EachIsOfType};
-ghost use Rattle.asn1_components.specs.Components.{all_components, component_records};
+ghost use Rattle.asn1_components.specs.Components.{all_components};
 ghost use Rattle.asn1_codec.specs.Places.{IsOfTypeAt, records_at};
 ghost use Rattle.asn1_codec.specs.Writing.{Writes};
 ghost use Rattle.asn1_codec.specs.GivenTypes.{as_it_is, given, with_constraints, with_tag};
-ghost use Rattle.asn1_codec.specs.WritingTypes.{WritesValue};
+ghost use Rattle.asn1_codec.specs.WritingTypes.{WritesChosen, WritesFields, WritesValue};
 ghost use Rattle.asn1_model.specs.ConstraintSets.{constraint_set};
 ghost use Rattle.asn1_model.specs.TaggedTypes.{tagged, untagged};
 ghost use Rattle.asn1_tags.specs.Names.{name_of};
@@ -124,14 +123,13 @@ pub trait Encode: AsnType {
 pub trait EncodeFields: FieldTable {
     /// Writes the component at a place of the definition, and nothing at a place after the last.
     fn encode_field<E: Encoder>(&self, place: usize, encoder: &mut E) -> Result<(), EncodeError>
-        ensures { Writes E.writer encoder.old (records_at (all_components Self.components) place
-            self.now) (IsOfTypeAt (all_components Self.components) place
-            self.now) encoder.new result };
+        ensures { Writes E.writer encoder.old
+            (records_at (all_components Self.components) place self.now)
+            (IsOfTypeAt (all_components Self.components) place self.now) encoder.new result };
 
     /// Writes all components, in the order of their definition.
     final fn encode_fields<E: Encoder>(&self, encoder: &mut E) -> Result<(), EncodeError>
-        ensures { Writes E.writer encoder.old (component_records Self.components self.now)
-            (EachIsOfType (all_components Self.components) self.now) encoder.new result }
+        ensures { WritesFields E.writer Self.components self.now encoder.old encoder.new result }
     {
         for place in 0..Self::field_count() {
             self.encode_field(place, encoder)?;
@@ -148,7 +146,6 @@ pub trait EncodeChoice: AsnType + Choice {
 
     /// Writes the chosen alternative.
     fn encode_alternative<E: Encoder>(&self, encoder: &mut E) -> Result<(), EncodeError>
-        ensures { Writes E.writer encoder.old (chosen_meaning (all_of Self.alternatives)
-            (Self.pick self.now)).records (chosen_meaning (all_of Self.alternatives)
-            (Self.pick self.now)).IsOfType encoder.new result };
+        ensures { WritesChosen E.writer Self.alternatives (Self.pick self.now) encoder.old
+            encoder.new result };
 }

@@ -1,22 +1,23 @@
 //! What a codec writes with.
 ghost use Rattle.asn1_choices.specs.Alternatives.{table_of};
 ghost use Rattle.asn1_components.specs.Components.{is_sequence, is_set, lines};
-ghost use Rattle.asn1_codec.specs.Writing.{ClosesScope, ClosesGroup, IsLawful, NeedsDepth, OpensScope, OpensGroup, IsOutOfMemory, Writer, Writes};
+ghost use Rattle.asn1_codec.specs.Defaults.{MayAnswer};
 ghost use Rattle.asn1_codec.specs.GivenTypes.{after_tag, as_it_is, given, with_constraints, with_tag};
-ghost use Rattle.asn1_codec.specs.WritingTypes.{WritesAlternative, WritesComponents, WritesContent, WritesDefault, WritesGroup, WritesOptional, WritesValue};
+ghost use Rattle.asn1_codec.specs.Writing.{ClosesScope, ClosesGroup, IsLawful, NeedsDepth, OpensScope, OpensGroup, IsOutOfMemory, Writer, Writes};
+ghost use Rattle.asn1_codec.specs.WritingTypes.{WritesAlternative, WritesComponents, WritesContent, WritesDefault, WritesElements, WritesGroup, WritesOptional, WritesValue};
 ghost use Rattle.asn1_enumerations.specs.Enumerations.{number_of};
 ghost use Rattle.asn1_enumerations.specs.Labels.{labels_of};
-ghost use Rattle.asn1_model.specs.Composites.{list_records, option_records, prefix_records, raw_records, set_of_records};
+ghost use Rattle.asn1_model.specs.Composites.{option_records, raw_records};
 ghost use Rattle.asn1_model.specs.ConstraintSets.{constraint_set, unconstrained};
-ghost use Rattle.asn1_model.specs.Meaning.{own_records};
-ghost use Rattle.asn1_model.specs.Records.{absent, alternative, arcs, bits, bmp, discriminant, general, graphic, group_absent, ia5, in_additions, in_root, mark, null, number, numeric, octet, prefix, present, printable, scalar, sequence, sequence_of, set, set_of, teletex, truth, units, utf8, visible};
+ghost use Rattle.asn1_model.specs.Records.{absent, alternative, arcs, bits, bmp, discriminant, general, graphic, group_absent, ia5, in_additions, in_root, mark, null, number, numeric, octet, prefix, present, printable, sequence, sequence_of, set, set_of, teletex, truth, units, utf8, visible};
 ghost use Rattle.asn1_tags.specs.Names.{name_of};
 ghost use Rattle.asn1_strings.specs.Alphabets.{is_ia5, is_numeric, is_printable, is_visible};
-ghost use Rattle.std.specs.List.{flat_map};
 ghost use Rattle.std.specs.Option.{option_copied};
-ghost use Rattle.std.specs.Prelude.{◌≡◌, ◌<◌, ◌^◌, [], ◌∷◌, ⊤, All, IsTrue, None, Ok, Some};
+ghost use Rattle.std.specs.Prelude.{◌≡◌, ◌<◌, ◌^◌, [], ◌∷◌, ⊤, All, IsTrue, None, Some};
 ghost use Rattle.std.specs.Str.{IsUtf8};
 
+use crate::choices::write_choice;
+use crate::defaults::equals_default;
 use crate::encode::{Encode, EncodeChoice, EncodeFields};
 use crate::own_constraints::make_constraints;
 use asn1_bounds::{Codec, Constraints};
@@ -46,7 +47,7 @@ use std::alloc::{AllocError, Global};
 /// there before anything else but `Failed`. [`EncodeError::Custom`] comes only where the codec does not take the records.
 ///
 /// The calls after the law are the same for every codec.
-pub trait Encoder {
+pub trait Encoder: Sized {
     // What has been written, and what may be.
     ghost writer: { Writer Self };
 
@@ -219,8 +220,6 @@ pub trait Encoder {
         value: &[bool],
         name: Identifier,
     ) -> Result<(), EncodeError>
-    where
-        Self: Sized,
         ensures { WritesContent writer tag (constraint_set constraints.now) (name_of name)
             (bits value.now) ⊤ self.old self.new result }
     {
@@ -235,8 +234,6 @@ pub trait Encoder {
         value: &[u8],
         name: Identifier,
     ) -> Result<(), EncodeError>
-    where
-        Self: Sized,
         ensures { WritesContent writer tag (constraint_set constraints.now) (name_of name)
             (units octet value.now) (All (λ unit. unit < 2 ^ 8) value.now) self.old self.new
             result }
@@ -252,8 +249,6 @@ pub trait Encoder {
         value: &str,
         name: Identifier,
     ) -> Result<(), EncodeError>
-    where
-        Self: Sized,
         ensures { WritesContent writer tag (constraint_set constraints.now) (name_of name)
             (units utf8 value.now) (IsUtf8 value.now) self.old self.new result }
     {
@@ -268,8 +263,6 @@ pub trait Encoder {
         value: &GeneralString,
         name: Identifier,
     ) -> Result<(), EncodeError>
-    where
-        Self: Sized,
         ensures { WritesContent writer tag (constraint_set constraints.now) (name_of name)
             (units general value.now) (All (λ unit. unit < 2 ^ 8) value.now) self.old self.new
             result }
@@ -285,8 +278,6 @@ pub trait Encoder {
         value: &GraphicString,
         name: Identifier,
     ) -> Result<(), EncodeError>
-    where
-        Self: Sized,
         ensures { WritesContent writer tag (constraint_set constraints.now) (name_of name)
             (units graphic value.now) (All (λ unit. unit < 2 ^ 8) value.now) self.old self.new
             result }
@@ -302,8 +293,6 @@ pub trait Encoder {
         value: &VisibleString,
         name: Identifier,
     ) -> Result<(), EncodeError>
-    where
-        Self: Sized,
         ensures { WritesContent writer tag (constraint_set constraints.now) (name_of name)
             (units visible value.now) (All (λ unit. IsTrue (is_visible unit)) value.now) self.old
             self.new result }
@@ -319,8 +308,6 @@ pub trait Encoder {
         value: &Ia5String,
         name: Identifier,
     ) -> Result<(), EncodeError>
-    where
-        Self: Sized,
         ensures { WritesContent writer tag (constraint_set constraints.now) (name_of name)
             (units ia5 value.now) (All (λ unit. IsTrue (is_ia5 unit)) value.now) self.old self.new
             result }
@@ -336,8 +323,6 @@ pub trait Encoder {
         value: &PrintableString,
         name: Identifier,
     ) -> Result<(), EncodeError>
-    where
-        Self: Sized,
         ensures { WritesContent writer tag (constraint_set constraints.now) (name_of name)
             (units printable value.now) (All (λ unit. IsTrue (is_printable unit)) value.now)
             self.old self.new result }
@@ -353,8 +338,6 @@ pub trait Encoder {
         value: &NumericString,
         name: Identifier,
     ) -> Result<(), EncodeError>
-    where
-        Self: Sized,
         ensures { WritesContent writer tag (constraint_set constraints.now) (name_of name)
             (units numeric value.now) (All (λ unit. IsTrue (is_numeric unit)) value.now) self.old
             self.new result }
@@ -370,8 +353,6 @@ pub trait Encoder {
         value: &TeletexString,
         name: Identifier,
     ) -> Result<(), EncodeError>
-    where
-        Self: Sized,
         ensures { WritesContent writer tag (constraint_set constraints.now) (name_of name)
             (units teletex value.now) (All (λ unit. unit < 2 ^ 32) value.now) self.old self.new
             result }
@@ -387,8 +368,6 @@ pub trait Encoder {
         value: &BmpString,
         name: Identifier,
     ) -> Result<(), EncodeError>
-    where
-        Self: Sized,
         ensures { WritesContent writer tag (constraint_set constraints.now) (name_of name)
             (units bmp value.now) (All (λ unit. unit < 2 ^ 16) value.now) self.old self.new result }
     {
@@ -402,8 +381,6 @@ pub trait Encoder {
         value: &T,
         name: Identifier,
     ) -> Result<(), EncodeError>
-    where
-        Self: Sized,
         ensures { WritesContent writer tag unconstrained (name_of name)
             (discriminant (labels_of T.enumeration) (number_of T.eq T.enumeration value.now)) ⊤
             self.old self.new result }
@@ -418,8 +395,6 @@ pub trait Encoder {
         value: &T,
         name: Identifier,
     ) -> Result<(), EncodeError>
-    where
-        Self: Sized,
         ensures writes { WritesValue writer (after_tag tag T.meaning (name_of name)) value.now self.old
             self.new result }
         ensures depth_first { NeedsDepth writer self.old result }
@@ -437,8 +412,6 @@ pub trait Encoder {
         value: &C,
         name: Identifier,
     ) -> Result<(), EncodeError>
-    where
-        Self: Sized,
         ensures components { WritesComponents writer is_sequence tag (name_of name) C.components
             value.now self.old self.new result }
         ensures as_meant { C.components.kind ≡ is_sequence → WritesValue writer
@@ -458,11 +431,9 @@ pub trait Encoder {
         constraints: &Constraints<'_>,
         name: Identifier,
     ) -> Result<(), EncodeError>
-    where
-        Self: Sized,
-        ensures writes { Writes writer self.old (list_records tag (constraint_set constraints.now)
-            (name_of name) (flat_map (own_records T.meaning) elements.now)) (All T.meaning.IsOfType
-            elements.now) self.new result }
+        ensures writes { WritesElements writer
+            (sequence_of tag (constraint_set constraints.now) (name_of name)) T.meaning elements.now
+            self.old self.new result }
         ensures depth_first { NeedsDepth writer self.old result }
     {
         self.open_sequence_of(tag, constraints, name, elements.len())?;
@@ -480,8 +451,6 @@ pub trait Encoder {
         value: &T,
         name: Identifier,
     ) -> Result<(), EncodeError>
-    where
-        Self: Sized,
         ensures { WritesOptional writer in_root
             (given tag (constraint_set constraints.now) T.meaning (name_of name)) (Some value.now)
             self.old self.new result }
@@ -498,8 +467,6 @@ pub trait Encoder {
         value: &C,
         name: Identifier,
     ) -> Result<(), EncodeError>
-    where
-        Self: Sized,
         ensures components { WritesComponents writer is_set tag (name_of name) C.components
             value.now self.old self.new result }
         ensures as_meant { C.components.kind ≡ is_set → WritesValue writer
@@ -519,11 +486,9 @@ pub trait Encoder {
         constraints: &Constraints<'_>,
         name: Identifier,
     ) -> Result<(), EncodeError>
-    where
-        Self: Sized,
-        ensures writes { Writes writer self.old (set_of_records tag (constraint_set constraints.now)
-            (name_of name) (flat_map (own_records T.meaning) elements.now)) (All T.meaning.IsOfType
-            elements.now) self.new result }
+        ensures writes { WritesElements writer
+            (set_of tag (constraint_set constraints.now) (name_of name)) T.meaning elements.now
+            self.old self.new result }
         ensures depth_first { NeedsDepth writer self.old result }
     {
         self.open_set_of(tag, constraints, name, elements.len())?;
@@ -540,8 +505,6 @@ pub trait Encoder {
         value: &T,
         name: Identifier,
     ) -> Result<(), EncodeError>
-    where
-        Self: Sized,
         ensures writes { WritesAlternative writer (constraint_set constraints.now) (name_of name)
             T.alternatives (T.pick value.now) self.old self.new result }
         ensures depth_first { NeedsDepth writer self.old result }
@@ -560,22 +523,12 @@ pub trait Encoder {
         value: &T,
         name: Identifier,
     ) -> Result<(), EncodeError>
-    where
-        Self: Sized,
         ensures writes { WritesValue writer
             (given tag (constraint_set constraints.now) T.meaning (name_of name)) value.now self.old
             self.new result }
         ensures depth_first { NeedsDepth writer self.old result }
     {
-        let table = T::table();
-        let name = name.or(table.identifier);
-        if tag.is_choice() {
-            return self.encode_choice(constraints, value, name);
-        }
-        self.open_explicit_prefix(tag, name)?;
-        let own_constraints = make_constraints(self, &table)?;
-        self.encode_choice(&own_constraints, value, table.identifier)?;
-        self.close()
+        write_choice(self, tag, constraints, value, name)
     }
 
     /// A component that may be absent, and is there, under a name.
@@ -584,14 +537,10 @@ pub trait Encoder {
         value: &T,
         name: Identifier,
     ) -> Result<(), EncodeError>
-    where
-        Self: Sized,
         ensures { WritesOptional writer in_root (as_it_is T.meaning (name_of name))
             (Some value.now) self.old self.new result }
     {
-        let table = T::table();
-        let constraints = make_constraints(self, &table)?;
-        self.encode_some_with_tag_and_constraints(table.tag, &constraints, value, name)
+        self.encode_some_with_tag(T::tag(), value, name)
     }
 
     /// A component that may be absent, and is there, under a tag and a name.
@@ -601,8 +550,6 @@ pub trait Encoder {
         value: &T,
         name: Identifier,
     ) -> Result<(), EncodeError>
-    where
-        Self: Sized,
         ensures { WritesOptional writer in_root (with_tag tag T.meaning (name_of name))
             (Some value.now) self.old self.new result }
     {
@@ -617,8 +564,6 @@ pub trait Encoder {
         value: &T,
         name: Identifier,
     ) -> Result<(), EncodeError>
-    where
-        Self: Sized,
         ensures { WritesOptional writer in_root (after_tag tag T.meaning (name_of name))
             (Some value.now) self.old self.new result }
     {
@@ -626,10 +571,24 @@ pub trait Encoder {
         self.encode_explicit_prefix(tag, value, name)
     }
 
+    /// A component that may be absent, after an explicit tag.
+    final fn encode_optional_with_explicit_prefix<T: Encode>(
+        &mut self,
+        tag: Tag,
+        value: Option<&T>,
+        name: Identifier,
+    ) -> Result<(), EncodeError>
+        ensures { WritesOptional writer in_root (after_tag tag T.meaning (name_of name))
+            (option_copied value.entry) self.old self.new result }
+    {
+        match value {
+            None => self.encode_none_with_tag(tag, name),
+            Some(value) => self.encode_some_with_explicit_prefix(tag, value, name),
+        }
+    }
+
     /// A component of a type that may be absent, and is.
     final fn encode_none<T: AsnType>(&mut self, name: Identifier) -> Result<(), EncodeError>
-    where
-        Self: Sized,
         ensures { Writes writer self.old (option_records in_root T.meaning.tag None) ⊤
             self.new result }
     {
@@ -638,8 +597,6 @@ pub trait Encoder {
 
     /// A component that may be absent, and is, under a tag.
     final fn encode_none_with_tag(&mut self, tag: Tag, _name: Identifier) -> Result<(), EncodeError>
-    where
-        Self: Sized,
         ensures { Writes writer self.old (option_records in_root tag None) ⊤ self.new result }
     {
         self.mark_absent(tag)
@@ -651,21 +608,11 @@ pub trait Encoder {
         T: Encode + PartialEq + Drop,
         F: FnOnce(Global) -> Result<T, AllocError>,
     >(&mut self, value: &T, default: F, name: Identifier) -> Result<(), EncodeError>
-    where
-        Self: Sized,
         requires { F.IsAlwaysCallable default }
         ensures { WritesDefault writer (as_it_is T.meaning (name_of name))
-            (λ usual. (a : _) × F.post default a (Ok usual)) T.eq value.now self.old self.new
-            result }
+            (MayAnswer F.FnOnce default) T.eq value.now self.old self.new result }
     {
-        let Ok(usual) = default(self.global()) else {
-            return Err(self.refuse_memory());
-        };
-        if *value == usual {
-            self.encode_none::<T>(name)
-        } else {
-            self.encode_some(value, name)
-        }
+        self.encode_default_with_tag(T::tag(), value, default, name)
     }
 
     /// The same as `encode_default`, under a tag.
@@ -673,17 +620,11 @@ pub trait Encoder {
         T: Encode + PartialEq + Drop,
         F: FnOnce(Global) -> Result<T, AllocError>,
     >(&mut self, tag: Tag, value: &T, default: F, name: Identifier) -> Result<(), EncodeError>
-    where
-        Self: Sized,
         requires { F.IsAlwaysCallable default }
         ensures { WritesDefault writer (with_tag tag T.meaning (name_of name))
-            (λ usual. (a : _) × F.post default a (Ok usual)) T.eq value.now self.old self.new
-            result }
+            (MayAnswer F.FnOnce default) T.eq value.now self.old self.new result }
     {
-        let Ok(usual) = default(self.global()) else {
-            return Err(self.refuse_memory());
-        };
-        if *value == usual {
+        if equals_default(self, value, default)? {
             self.encode_none_with_tag(tag, name)
         } else {
             self.encode_some_with_tag(tag, value, name)
@@ -701,13 +642,10 @@ pub trait Encoder {
         default: F,
         name: Identifier,
     ) -> Result<(), EncodeError>
-    where
-        Self: Sized,
         requires { F.IsAlwaysCallable default }
         ensures { WritesDefault writer
             (with_constraints (constraint_set constraints.now) T.meaning (name_of name))
-            (λ usual. (a : _) × F.post default a (Ok usual)) T.eq value.now self.old self.new
-            result }
+            (MayAnswer F.FnOnce default) T.eq value.now self.old self.new result }
     {
         self.encode_default_with_tag_and_constraints(T::tag(), constraints, value, default, name)
     }
@@ -724,18 +662,12 @@ pub trait Encoder {
         default: F,
         name: Identifier,
     ) -> Result<(), EncodeError>
-    where
-        Self: Sized,
         requires { F.IsAlwaysCallable default }
         ensures { WritesDefault writer
             (given tag (constraint_set constraints.now) T.meaning (name_of name))
-            (λ usual. (a : _) × F.post default a (Ok usual)) T.eq value.now self.old self.new
-            result }
+            (MayAnswer F.FnOnce default) T.eq value.now self.old self.new result }
     {
-        let Ok(usual) = default(self.global()) else {
-            return Err(self.refuse_memory());
-        };
-        if *value == usual {
+        if equals_default(self, value, default)? {
             self.encode_none_with_tag(tag, name)
         } else {
             self.encode_some_with_tag_and_constraints(tag, constraints, value, name)
@@ -747,17 +679,11 @@ pub trait Encoder {
         T: Encode + PartialEq + Drop,
         F: FnOnce(Global) -> Result<T, AllocError>,
     >(&mut self, tag: Tag, value: &T, default: F, name: Identifier) -> Result<(), EncodeError>
-    where
-        Self: Sized,
         requires { F.IsAlwaysCallable default }
         ensures { WritesDefault writer (after_tag tag T.meaning (name_of name))
-            (λ usual. (a : _) × F.post default a (Ok usual)) T.eq value.now self.old self.new
-            result }
+            (MayAnswer F.FnOnce default) T.eq value.now self.old self.new result }
     {
-        let Ok(usual) = default(self.global()) else {
-            return Err(self.refuse_memory());
-        };
-        if *value == usual {
+        if equals_default(self, value, default)? {
             self.encode_none_with_tag(tag, name)
         } else {
             self.encode_some_with_explicit_prefix(tag, value, name)
@@ -770,16 +696,10 @@ pub trait Encoder {
         value: &T,
         name: Identifier,
     ) -> Result<(), EncodeError>
-    where
-        Self: Sized,
         ensures { WritesDefault writer (as_it_is T.meaning (name_of name)) T.is_default T.eq
             value.now self.old self.new result }
     {
-        if *value == T::default() {
-            self.encode_none::<T>(name)
-        } else {
-            self.encode_some(value, name)
-        }
+        self.encode_with_tag_or_default(T::tag(), value, name)
     }
 
     /// The same as `encode_or_default`, under a tag.
@@ -789,8 +709,6 @@ pub trait Encoder {
         value: &T,
         name: Identifier,
     ) -> Result<(), EncodeError>
-    where
-        Self: Sized,
         ensures { WritesDefault writer (with_tag tag T.meaning (name_of name)) T.is_default T.eq
             value.now self.old self.new result }
     {
@@ -809,8 +727,6 @@ pub trait Encoder {
         value: Option<&T>,
         name: Identifier,
     ) -> Result<(), EncodeError>
-    where
-        Self: Sized,
         ensures { WritesOptional writer in_additions
             (given tag (constraint_set constraints.now) T.meaning (name_of name))
             (option_copied value.entry) self.old self.new result }
@@ -831,8 +747,6 @@ pub trait Encoder {
         value: Option<&T>,
         name: Identifier,
     ) -> Result<(), EncodeError>
-    where
-        Self: Sized,
         ensures { WritesOptional writer in_additions (with_tag tag T.meaning (name_of name))
             (option_copied value.entry) self.old self.new result }
     {
@@ -850,8 +764,6 @@ pub trait Encoder {
         value: Option<&T>,
         name: Identifier,
     ) -> Result<(), EncodeError>
-    where
-        Self: Sized,
         ensures { WritesOptional writer in_additions
             (after_tag tag T.meaning (name_of name)) (option_copied value.entry) self.old
             self.new result }
@@ -871,8 +783,6 @@ pub trait Encoder {
         value: Option<&C>,
         _name: Identifier,
     ) -> Result<(), EncodeError>
-    where
-        Self: Sized,
         ensures { WritesGroup writer C.components (option_copied value.entry) self.old self.new
             result }
     {

@@ -41,6 +41,8 @@
 //! No call takes memory but those of a codec, closures that make a default, and constraints with a permitted alphabet.
 #![tactic(auto, using(asn1_tags::proofs::Leaves::tree_shapes))]
 
+mod choices;
+mod defaults;
 mod encode;
 mod encoder;
 mod impls;

@@ -6,7 +6,7 @@ use Rattle.asn1_codec.specs.Writing.{Written, outermost, in_scope, in_group, fol
 use Rattle.asn1_items.specs.Buffers.{IsList, IsOpenScope, IsOpenGroup, IsWritten, inward, scopes_in}
 use Rattle.asn1_items.specs.Contents.{IsContent, LooksLike, content_kind}
 use Rattle.asn1_items.specs.Headers.{kind_of, tag_bytes}
-use Rattle.asn1_items.specs.Items.{HasBytes, HaveBytes, IsTooLong, as_written}
+use Rattle.asn1_items.specs.Items.{HasBytes, HaveBytes, IsTooLong, MarkBytes, written_with}
 use Rattle.asn1_items.specs.Numbers.{Appended, four_bytes}
 use Rattle.asn1_items.specs.declared.frame.Frame.{Frame}
 use Rattle.asn1_model.specs.Composites.{group_records}
@@ -17,21 +17,6 @@ use Rattle.asn1_model.specs.Tables.{Line, Table}
 use Rattle.asn1_model.specs.Tags.{head_tag}
 use Rattle.asn1_tags.specs.declared.tags.Tag.{Tag}
 
--- Lists after one another.
-
-bytes-append : (rs ss : List model.Record) (a b : List ℕ) → HaveBytes as_written (held rs) a → HaveBytes as_written (held ss) b → HaveBytes as_written (held (rs ++ ss)) (a ++ b)
-bytes-append [] ss a b p q = subst (λ l. HaveBytes as_written (held ss) (l ++ b)) (sym p) q
-bytes-append (r ∷ rs) ss a b p q = record {
-  first = p.first;
-  others = p.others ++ b;
-  is_first = p.is_first;
-  are_others = bytes-append rs ss p.others b p.are_others q;
-  are = ap (λ l. l ++ b) p.are ∙ append_assoc p.first p.others b;
-}
-
-one_record : (r : model.Record) (bytes : List ℕ) → HasBytes as_written r bytes → HaveBytes as_written (held (r ∷ [])) bytes
-one_record r bytes p = record { first = bytes; others = []; is_first = p; are_others = refl; are = sym (append-nil bytes) }
-
 alone-append : (rs ss : List model.Record) → not (marks_alone (rs ++ ss)) ≡ (not (marks_alone rs) || not (marks_alone ss))
 alone-append [] ss = refl
 alone-append (r ∷ rs) ss = by (is_mark r) (alone-append rs ss)
@@ -40,47 +25,6 @@ alone-append (r ∷ rs) ss = by (is_mark r) (alone-append rs ss)
     by true h = h
     by false h = refl
 
-list-append : (rs ss : List model.Record) (a b : List ℕ) (some : Bool) → IsList rs a some → HaveBytes as_written (held ss) b → IsList (rs ++ ss) (a ++ b) (some || not (marks_alone ss))
-list-append rs ss a b some p q = record {
-  have_bytes = bytes-append rs ss a b p.have_bytes q;
-  flag = ap (λ s. s || not (marks_alone ss)) p.flag ∙ sym (alone-append rs ss);
-}
-
--- more records in the innermost list
-followed : (w : Written) (fs : List Frame) (bytes more : List ℕ) (some : Bool) (ss : List model.Record) → IsWritten w fs bytes some → HaveBytes as_written (held ss) more →
-    IsWritten (followed_by w ss) fs (bytes ++ more) (some || not (marks_alone ss))
-followed (outermost rs) [] bytes more some ss p q = list-append rs ss bytes more some p q
-followed (outermost rs) (f ∷ fs) bytes more some ss p q = absurd p
-followed (in_scope h rs w) [] bytes more some ss p q = absurd p
-followed (in_scope h rs w) (f ∷ fs) bytes more some ss p q =
-    let s = p.1 in (
-      p.0,
-      record {
-        before = s.before;
-        size = s.size;
-        inside = s.inside ++ more;
-        outside = s.outside;
-        are = ap (λ l. l ++ more) s.are ∙ append_assoc (s.before ++ kind_of h ∷ tag_bytes (head_tag h)) (s.size ++ s.inside) more ∙ ap (λ l. (s.before ++ kind_of h ∷ tag_bytes (head_tag h)) ++ l) (append_assoc s.size s.inside more);
-        size_long = s.size_long;
-        starts = s.starts;
-        tag_fits = s.tag_fits;
-        list = list-append rs ss s.inside more some s.list q;
-      },
-    )
-followed (in_group table rs w) [] bytes more some ss p q = absurd p
-followed (in_group table rs w) (f ∷ fs) bytes more some ss p q =
-    let s = p.1 in (
-      p.0,
-      record {
-        before = s.before;
-        inside = s.inside ++ more;
-        outside = s.outside;
-        are = ap (λ l. l ++ more) s.are ∙ append_assoc s.before (18 ∷ s.inside) more;
-        starts = s.starts;
-        list = list-append rs ss s.inside more some s.list q;
-      },
-    )
-
 or_true : (b : Bool) → true ≡ (b || true)
 or_true true = refl
 or_true false = refl
@@ -88,20 +32,6 @@ or_true false = refl
 or_false : (b : Bool) → b ≡ (b || false)
 or_false true = refl
 or_false false = refl
-
--- a record was appended that is no presence mark, or a mark
-pub appended : (fs : List Frame) (bytes more new : List ℕ) (some : Bool) (r : model.Record) → is_mark r ≡ false → HasBytes as_written r more → new ≡ bytes ++ more →
-    (w : Written) → IsWritten w (inward [] fs) bytes some → IsWritten (followed_by w (r ∷ [])) (inward [] fs) new true
-appended fs bytes more new some r unmarked has is w wrote =
-    let flag : true ≡ (some || not (is_mark r && true)) = or_true some ∙ ap (λ b. some || not (b && true)) (sym unmarked) in
-    subst (λ b. IsWritten (followed_by w (r ∷ [])) (inward [] fs) b true) (sym is)
-    (subst (λ s. IsWritten (followed_by w (r ∷ [])) (inward [] fs) (bytes ++ more) s) (sym flag) (followed w (inward [] fs) bytes more some (r ∷ []) wrote (one_record r more has)))
-
-pub mark_appended : (fs : List Frame) (bytes more new : List ℕ) (some : Bool) (m : model.Mark) → HasBytes as_written (model.mark m) more → new ≡ bytes ++ more →
-    (w : Written) → IsWritten w (inward [] fs) bytes some → IsWritten (followed_by w (model.mark m ∷ [])) (inward [] fs) new some
-mark_appended fs bytes more new some m has is w wrote =
-    subst (λ b. IsWritten (followed_by w (model.mark m ∷ [])) (inward [] fs) b some) (sym is)
-    (subst (λ s. IsWritten (followed_by w (model.mark m ∷ [])) (inward [] fs) (bytes ++ more) s) (sym (or_false some)) (followed w (inward [] fs) bytes more some (model.mark m ∷ []) wrote (one_record (model.mark m) more has)))
 
 -- The bytes of an item of a content, whose length was written over four zeros.
 pub record ScalarPlaced (y : model.Content) (t : Tag) (bytes filled : List ℕ) (start : ℕ) : Type 0 where
@@ -125,20 +55,6 @@ placed y t bytes headed opened filled k start one two kind starts a =
       starts = omega (arith, starts, ap length split, length-append front (0 ∷ 0 ∷ 0 ∷ 0 ∷ []));
       is = a.is;
     }
-
--- what was written is the content
-pub scalar_written : (y x : model.Content) (t : Tag) (c : ConstraintSet) (n : Name) (bytes filled new : List ℕ) (start : ℕ) → LooksLike y x → (p : ScalarPlaced y t bytes filled start) → t.value < 2 ^ 32 →
-    length p.inside < 2 ^ 32 → new ≡ p.front ++ (four_bytes (length p.inside) ++ p.inside) → (fs : List Frame) (some : Bool) (w : Written) → IsWritten w (inward [] fs) bytes some →
-    IsWritten (followed_by w (scalar t c n x ∷ [])) (inward [] fs) new true
-scalar_written y x t c n bytes filled new start like p tag_fits small is fs some w wrote =
-    let front = 1 ∷ tag_bytes t ++ content_kind y ∷ [] in
-    let rest = four_bytes (length p.inside) ++ p.inside in
-    let whole : new ≡ bytes ++ (front ++ rest) = is ∙ ap (λ l. l ++ rest) p.front_is ∙ append_assoc bytes front rest in
-    let same : new ≡ bytes ++ (1 ∷ tag_bytes t ++ (content_kind x ∷ []) ++ rest) = whole ∙ ap (λ k. bytes ++ (1 ∷ tag_bytes t ++ (k ∷ []) ++ rest)) like.kind in
-    appended fs bytes (1 ∷ tag_bytes t ++ (content_kind x ∷ []) ++ rest) new some (scalar t c n x) refl (record { inside = p.inside; is = like.bytes p.inside p.is; item = record { are = refl; tag_fits = tag_fits; size_fits = small } }) same w wrote
-
-pub scalar_too_long : (y x : model.Content) (t : Tag) (c : ConstraintSet) (n : Name) (bytes filled : List ℕ) (start : ℕ) → LooksLike y x → (p : ScalarPlaced y t bytes filled start) → 2 ^ 32 ≤ length p.inside → IsTooLong as_written (scalar t c n x)
-scalar_too_long y x t c n bytes filled start like p long = (p.inside, like.bytes p.inside p.is, long)
 
 -- Frames.
 
@@ -169,96 +85,18 @@ counts false n = omega arith
 pub no_more_scopes : (fs gs : List Frame) (f : Frame) → fs ≡ gs ++ f ∷ [] → scopes_in gs ≤ scopes_in fs
 no_more_scopes fs gs f is = omega (arith, ap scopes_in is ∙ scopes_in-last gs f, counts f.is_group (scopes_in gs))
 
--- a scope was opened
-pub scope_opened : (fs gs : List Frame) (f : Frame) (h : model.Head) (bytes new size : List ℕ) (some : Bool) → f.is_group ≡ false → f.has_records ≡ some → f.start ≡ length new → (head_tag h).value < 2 ^ 32 → length size ≡ 4 →
-    gs ≡ fs ++ f ∷ [] → new ≡ (bytes ++ kind_of h ∷ tag_bytes (head_tag h)) ++ size →
-    (w : Written) → IsWritten w (inward [] fs) bytes some → IsWritten (in_scope h [] w) (inward [] gs) new false
-scope_opened fs gs f h bytes new size some scope flag start tag_fits size_long outer is w wrote =
-    let long = ap length is in
-    subst (λ l. IsWritten (in_scope h [] w) l new false) (sym (ap (inward []) outer ∙ inward-last [] fs f)) (
-      scope,
-      record {
-        before = bytes;
-        size = size;
-        inside = [];
-        outside = subst (λ s. IsWritten w (inward [] fs) bytes s) (sym flag) wrote;
-        are = is ∙ ap (λ l. (bytes ++ kind_of h ∷ tag_bytes (head_tag h)) ++ l) (sym (append-nil size));
-        size_long = size_long;
-        starts = omega (arith, start, long, size_long, length-append (bytes ++ kind_of h ∷ tag_bytes (head_tag h)) size, length-append bytes (kind_of h ∷ tag_bytes (head_tag h)));
-        tag_fits = tag_fits;
-        list = record { have_bytes = refl; flag = refl };
-      },
-    )
-
--- what is known of the innermost frame where a scope is open
-pub scope_of : (fs gs : List Frame) (f : Frame) (bytes : List ℕ) (some : Bool) (h : model.Head) (rs : List model.Record) (w : Written) → fs ≡ gs ++ f ∷ [] → IsWritten (in_scope h rs w) (inward [] fs) bytes some →
-    (f.is_group ≡ false) × IsOpenScope (λ before. IsWritten w (inward [] gs) before f.has_records) h rs f.start bytes some
-scope_of fs gs f bytes some h rs w outer wrote = subst (λ l. IsWritten (in_scope h rs w) l bytes some) (ap (inward []) outer ∙ inward-last [] gs f) wrote
-
 -- the length of a scope is written before what is inside
 abbrev pub PatchedAs : List ℕ → List ℕ → ℕ → Type 0
 PatchedAs old new start =
     (before place inside : List ℕ) → old ≡ before ++ (place ++ inside) → length place ≡ 4 → start ≡ length before + 4 →
     (length inside < 2 ^ 32) × (new ≡ before ++ (four_bytes (length inside) ++ inside))
 
-pub scope_closed : (fs gs : List Frame) (f : Frame) (bytes new : List ℕ) (some : Bool) → fs ≡ gs ++ f ∷ [] → PatchedAs bytes new f.start →
-    (h : model.Head) (rs : List model.Record) (w : Written) → IsWritten (in_scope h rs w) (inward [] fs) bytes some → IsWritten (followed_by w (holding h rs ∷ [])) (inward [] gs) new true
-scope_closed fs gs f bytes new some outer patched h rs w wrote =
-    let s = (scope_of fs gs f bytes some h rs w outer wrote).1 in
-    let header = kind_of h ∷ tag_bytes (head_tag h) in
-    let p = patched (s.before ++ header) s.size s.inside s.are s.size_long (omega (arith, s.starts, length-append s.before header)) in
-    let item = header ++ (four_bytes (length s.inside) ++ s.inside) in
-    let has : HasBytes as_written (holding h rs) item = record {
-      inside = s.inside;
-      is = s.list.have_bytes;
-      item = record { are = refl; tag_fits = s.tag_fits; size_fits = p.0 };
-    } in
-    let whole : new ≡ s.before ++ item = p.1 ∙ append_assoc s.before header (four_bytes (length s.inside) ++ s.inside) in
-    appended gs s.before item new f.has_records (holding h rs) refl has whole w s.outside
-
 -- or what is inside is too long
 abbrev pub HasLongInside : List ℕ → ℕ → Type 0
 HasLongInside old start = (before place inside : List ℕ) → old ≡ before ++ (place ++ inside) → length place ≡ 4 → start ≡ length before + 4 → 2 ^ 32 ≤ length inside
 
-pub scope_too_long : (fs gs : List Frame) (f : Frame) (bytes : List ℕ) (some : Bool) → fs ≡ gs ++ f ∷ [] → HasLongInside bytes f.start →
-    (h : model.Head) (rs : List model.Record) (w : Written) → IsWritten (in_scope h rs w) (inward [] fs) bytes some → IsTooLong as_written (holding h rs)
-scope_too_long fs gs f bytes some outer long h rs w wrote =
-    let s = (scope_of fs gs f bytes some h rs w outer wrote).1 in
-    let header = kind_of h ∷ tag_bytes (head_tag h) in
-    inr (s.inside, s.list.have_bytes, long (s.before ++ header) s.size s.inside s.are s.size_long (omega (arith, s.starts, length-append s.before header)))
-
 pub not_both : (b : Bool) → b ≡ false → b ≡ true → ⊥
 not_both b f t = let x : false ≡ true = sym f ∙ t in cc
-
--- no scope is open
-pub no_scope : (fs : List Frame) (bytes : List ℕ) (some : Bool) (h : model.Head) (rs : List model.Record) (w : Written) → length fs ≡ 0 → IsWritten (in_scope h rs w) (inward [] fs) bytes some → ⊥
-no_scope [] bytes some h rs w none wrote = wrote
-no_scope (f ∷ fs) bytes some h rs w none wrote = absurd (omega arith)
-
-pub no_group : (fs : List Frame) (bytes : List ℕ) (some : Bool) (table : Table Line) (rs : List model.Record) (w : Written) → length fs ≡ 0 → IsWritten (in_group table rs w) (inward [] fs) bytes some → ⊥
-no_group [] bytes some table rs w none wrote = wrote
-no_group (f ∷ fs) bytes some table rs w none wrote = absurd (omega arith)
-
--- a group was opened
-pub group_opened : (fs gs : List Frame) (f : Frame) (bytes new : List ℕ) (some : Bool) → f.is_group ≡ true → f.has_records ≡ some → f.start ≡ length new → gs ≡ fs ++ f ∷ [] → new ≡ bytes ++ 18 ∷ [] →
-    (table : Table Line) (w : Written) → IsWritten w (inward [] fs) bytes some → IsWritten (in_group table [] w) (inward [] gs) new false
-group_opened fs gs f bytes new some group flag start outer is table w wrote =
-    subst (λ l. IsWritten (in_group table [] w) l new false) (sym (ap (inward []) outer ∙ inward-last [] fs f)) (
-      group,
-      record {
-        before = bytes;
-        inside = [];
-        outside = subst (λ s. IsWritten w (inward [] fs) bytes s) (sym flag) wrote;
-        are = is;
-        starts = omega (arith, start, ap length is, length-append bytes (18 ∷ []));
-        list = record { have_bytes = refl; flag = refl };
-      },
-    )
-
--- what is known of the innermost frame where a group is open
-pub group_of : (fs gs : List Frame) (f : Frame) (bytes : List ℕ) (some : Bool) (table : Table Line) (rs : List model.Record) (w : Written) → fs ≡ gs ++ f ∷ [] → IsWritten (in_group table rs w) (inward [] fs) bytes some →
-    (f.is_group ≡ true) × IsOpenGroup (λ before. IsWritten w (inward [] gs) before f.has_records) rs f.start bytes some
-group_of fs gs f bytes some table rs w outer wrote = subst (λ l. IsWritten (in_group table rs w) l bytes some) (ap (inward []) outer ∙ inward-last [] gs f) wrote
 
 group_alone : (table : Table Line) (rs : List model.Record) (b : Bool) → marks_alone rs ≡ b → group_records table (Some rs) ≡ (if b then model.mark model.group_absent ∷ [] else model.mark (model.group_start table) ∷ rs ++ model.mark model.group_end ∷ [])
 group_alone table rs b is = ap (λ a. if a then model.mark model.group_absent ∷ [] else model.mark (model.group_start table) ∷ rs ++ model.mark model.group_end ∷ []) is
@@ -275,42 +113,199 @@ pub is_a_group : (b : Bool) → not b ≡ false → b ≡ true
 is_a_group true e = refl
 is_a_group false e = cc
 
--- a group that is there was closed
-pub group_closed : (fs gs : List Frame) (f : Frame) (bytes new : List ℕ) (some : Bool) → fs ≡ gs ++ f ∷ [] → some ≡ true → new ≡ bytes ++ 20 ∷ [] →
-    (table : Table Line) (rs : List model.Record) (w : Written) → IsWritten (in_group table rs w) (inward [] fs) bytes some → IsWritten (followed_by w (group_records table (Some rs))) (inward [] gs) new some
-group_closed fs gs f bytes new some outer there is table rs w wrote =
-    let s = (group_of fs gs f bytes some table rs w outer wrote).1 in
-    let firm : marks_alone rs ≡ false = not_alone (marks_alone rs) (sym there ∙ s.list.flag) in
-    let group = model.mark (model.group_start table) ∷ (rs ++ model.mark model.group_end ∷ []) in
-    let more = 18 ∷ (s.inside ++ 20 ∷ []) in
-    let have : HaveBytes as_written (held group) more = bytes-append (model.mark (model.group_start table) ∷ []) (rs ++ model.mark model.group_end ∷ []) (18 ∷ []) (s.inside ++ 20 ∷ []) (one_record (model.mark (model.group_start table)) (18 ∷ []) refl)
-    (bytes-append rs (model.mark model.group_end ∷ []) s.inside (20 ∷ []) s.list.have_bytes (one_record (model.mark model.group_end) (20 ∷ []) refl)) in
-    let whole : new ≡ s.before ++ more = is ∙ ap (λ l. l ++ 20 ∷ []) s.are ∙ append_assoc s.before (18 ∷ s.inside) (20 ∷ []) in
-    let flag : some ≡ (f.has_records || not (marks_alone group)) = there ∙ or_true f.has_records ∙ ap (λ b. f.has_records || b) (sym (alone-append rs (model.mark model.group_end ∷ []) ∙ ap (λ b. not b || false) firm)) in
-    subst (λ g. IsWritten (followed_by w g) (inward [] gs) new some) (sym (group_alone table rs false firm))
-    (subst (λ b. IsWritten (followed_by w group) (inward [] gs) b some) (sym whole)
-    (subst (λ b. IsWritten (followed_by w group) (inward [] gs) (s.before ++ more) b) (sym flag) (followed w (inward [] gs) s.before more f.has_records group s.outside have)))
+module _ (marks : MarkBytes) where
+  bytes-append : (rs ss : List model.Record) (a b : List ℕ) → HaveBytes (written_with marks) (held rs) a → HaveBytes (written_with marks) (held ss) b → HaveBytes (written_with marks) (held (rs ++ ss)) (a ++ b)
+  bytes-append [] ss a b p q = subst (λ l. HaveBytes (written_with marks) (held ss) (l ++ b)) (sym p) q
+  bytes-append (r ∷ rs) ss a b p q = record {
+    first = p.first;
+    others = p.others ++ b;
+    is_first = p.is_first;
+    are_others = bytes-append rs ss p.others b p.are_others q;
+    are = ap (λ l. l ++ b) p.are ∙ append_assoc p.first p.others b;
+  }
 
--- a group that is absent was closed
-pub absent_group_closed : (fs gs : List Frame) (f : Frame) (bytes cut new : List ℕ) (some : Bool) → fs ≡ gs ++ f ∷ [] → some ≡ false → cut ≡ take (f.start - 1) bytes → new ≡ cut ++ 19 ∷ [] →
-    (table : Table Line) (rs : List model.Record) (w : Written) → IsWritten (in_group table rs w) (inward [] fs) bytes some → IsWritten (followed_by w (group_records table (Some rs))) (inward [] gs) new f.has_records
-absent_group_closed fs gs f bytes cut new some outer none cut_is is table rs w wrote =
-    let s = (group_of fs gs f bytes some table rs w outer wrote).1 in
-    let alone : marks_alone rs ≡ true = is_alone (marks_alone rs) (sym none ∙ s.list.flag) in
-    let long : f.start - 1 ≡ length s.before = omega (arith, s.starts) in
-    let kept : take (f.start - 1) bytes ≡ s.before = ap (λ n. take n bytes) long ∙ ap (take (length s.before)) s.are ∙ take-append_seam s.before (18 ∷ s.inside) in
-    let whole : new ≡ s.before ++ 19 ∷ [] = is ∙ ap (λ l. l ++ 19 ∷ []) (cut_is ∙ kept) in
-    subst (λ g. IsWritten (followed_by w g) (inward [] gs) new f.has_records) (sym (group_alone table rs true alone))
-    (mark_appended gs s.before (19 ∷ []) new f.has_records model.group_absent refl whole w s.outside)
+  one_record : (r : model.Record) (bytes : List ℕ) → HasBytes (written_with marks) r bytes → HaveBytes (written_with marks) (held (r ∷ [])) bytes
+  one_record r bytes p = record { first = bytes; others = []; is_first = p; are_others = refl; are = sym (append-nil bytes) }
 
--- no group is open where the innermost list is another's, or nothing is before it
-pub group_starts : (fs gs : List Frame) (f : Frame) (bytes : List ℕ) (some : Bool) (table : Table Line) (rs : List model.Record) (w : Written) → fs ≡ gs ++ f ∷ [] → IsWritten (in_group table rs w) (inward [] fs) bytes some → 1 ≤ f.start
-group_starts fs gs f bytes some table rs w outer wrote = let s = (group_of fs gs f bytes some table rs w outer wrote).1 in omega (arith, s.starts)
+  list-append : (rs ss : List model.Record) (a b : List ℕ) (some : Bool) → IsList marks rs a some → HaveBytes (written_with marks) (held ss) b → IsList marks (rs ++ ss) (a ++ b) (some || not (marks_alone ss))
+  list-append rs ss a b some p q = record {
+    have_bytes = bytes-append rs ss a b p.have_bytes q;
+    flag = ap (λ s. s || not (marks_alone ss)) p.flag ∙ sym (alone-append rs ss);
+  }
 
--- what was written at the end
-pub finished : (fs : List Frame) (bytes : List ℕ) (some : Bool) (rs : List model.Record) → IsWritten (outermost rs) (inward [] fs) bytes some → HaveBytes as_written (held rs) bytes
-finished fs bytes some rs wrote = top (inward [] fs) wrote
-  where
-    top : (gs : List Frame) → IsWritten (outermost rs) gs bytes some → HaveBytes as_written (held rs) bytes
-    top [] p = p.have_bytes
-    top (f ∷ gs) p = absurd p
+  -- more records in the innermost list
+  followed : (w : Written) (fs : List Frame) (bytes more : List ℕ) (some : Bool) (ss : List model.Record) → IsWritten marks w fs bytes some → HaveBytes (written_with marks) (held ss) more →
+      IsWritten marks (followed_by w ss) fs (bytes ++ more) (some || not (marks_alone ss))
+  followed (outermost rs) [] bytes more some ss p q = list-append rs ss bytes more some p q
+  followed (outermost rs) (f ∷ fs) bytes more some ss p q = absurd p
+  followed (in_scope h rs w) [] bytes more some ss p q = absurd p
+  followed (in_scope h rs w) (f ∷ fs) bytes more some ss p q =
+      let s = p.1 in (
+        p.0,
+        record {
+          before = s.before;
+          size = s.size;
+          inside = s.inside ++ more;
+          outside = s.outside;
+          are = ap (λ l. l ++ more) s.are ∙ append_assoc (s.before ++ kind_of h ∷ tag_bytes (head_tag h)) (s.size ++ s.inside) more ∙ ap (λ l. (s.before ++ kind_of h ∷ tag_bytes (head_tag h)) ++ l) (append_assoc s.size s.inside more);
+          size_long = s.size_long;
+          starts = s.starts;
+          tag_fits = s.tag_fits;
+          list = list-append rs ss s.inside more some s.list q;
+        },
+      )
+  followed (in_group table rs w) [] bytes more some ss p q = absurd p
+  followed (in_group table rs w) (f ∷ fs) bytes more some ss p q =
+      let s = p.1 in (
+        p.0,
+        record {
+          before = s.before;
+          inside = s.inside ++ more;
+          outside = s.outside;
+          are = ap (λ l. l ++ more) s.are ∙ append_assoc s.before (marks (model.group_start table) ++ s.inside) more ∙ ap (λ l. s.before ++ l) (append_assoc (marks (model.group_start table)) s.inside more);
+          starts = s.starts;
+          list = list-append rs ss s.inside more some s.list q;
+        },
+      )
+
+  -- a record was appended that is no presence mark, or a mark
+  pub appended : (fs : List Frame) (bytes more new : List ℕ) (some : Bool) (r : model.Record) → is_mark r ≡ false → HasBytes (written_with marks) r more → new ≡ bytes ++ more →
+      (w : Written) → IsWritten marks w (inward [] fs) bytes some → IsWritten marks (followed_by w (r ∷ [])) (inward [] fs) new true
+  appended fs bytes more new some r unmarked has is w wrote =
+      let flag : true ≡ (some || not (is_mark r && true)) = or_true some ∙ ap (λ b. some || not (b && true)) (sym unmarked) in
+      subst (λ b. IsWritten marks (followed_by w (r ∷ [])) (inward [] fs) b true) (sym is)
+      (subst (λ s. IsWritten marks (followed_by w (r ∷ [])) (inward [] fs) (bytes ++ more) s) (sym flag) (followed w (inward [] fs) bytes more some (r ∷ []) wrote (one_record r more has)))
+
+  pub mark_appended : (fs : List Frame) (bytes more new : List ℕ) (some : Bool) (m : model.Mark) → HasBytes (written_with marks) (model.mark m) more → new ≡ bytes ++ more →
+      (w : Written) → IsWritten marks w (inward [] fs) bytes some → IsWritten marks (followed_by w (model.mark m ∷ [])) (inward [] fs) new some
+  mark_appended fs bytes more new some m has is w wrote =
+      subst (λ b. IsWritten marks (followed_by w (model.mark m ∷ [])) (inward [] fs) b some) (sym is)
+      (subst (λ s. IsWritten marks (followed_by w (model.mark m ∷ [])) (inward [] fs) (bytes ++ more) s) (sym (or_false some)) (followed w (inward [] fs) bytes more some (model.mark m ∷ []) wrote (one_record (model.mark m) more has)))
+
+  -- what was written is the content
+  pub scalar_written : (y x : model.Content) (t : Tag) (c : ConstraintSet) (n : Name) (bytes filled new : List ℕ) (start : ℕ) → LooksLike y x → (p : ScalarPlaced y t bytes filled start) → t.value < 2 ^ 32 →
+      length p.inside < 2 ^ 32 → new ≡ p.front ++ (four_bytes (length p.inside) ++ p.inside) → (fs : List Frame) (some : Bool) (w : Written) → IsWritten marks w (inward [] fs) bytes some →
+      IsWritten marks (followed_by w (scalar t c n x ∷ [])) (inward [] fs) new true
+  scalar_written y x t c n bytes filled new start like p tag_fits small is fs some w wrote =
+      let front = 1 ∷ tag_bytes t ++ content_kind y ∷ [] in
+      let rest = four_bytes (length p.inside) ++ p.inside in
+      let whole : new ≡ bytes ++ (front ++ rest) = is ∙ ap (λ l. l ++ rest) p.front_is ∙ append_assoc bytes front rest in
+      let same : new ≡ bytes ++ (1 ∷ tag_bytes t ++ (content_kind x ∷ []) ++ rest) = whole ∙ ap (λ k. bytes ++ (1 ∷ tag_bytes t ++ (k ∷ []) ++ rest)) like.kind in
+      appended fs bytes (1 ∷ tag_bytes t ++ (content_kind x ∷ []) ++ rest) new some (scalar t c n x) refl (record { inside = p.inside; is = like.bytes p.inside p.is; item = record { are = refl; tag_fits = tag_fits; size_fits = small } }) same w wrote
+
+  pub scalar_too_long : (y x : model.Content) (t : Tag) (c : ConstraintSet) (n : Name) (bytes filled : List ℕ) (start : ℕ) → LooksLike y x → (p : ScalarPlaced y t bytes filled start) → 2 ^ 32 ≤ length p.inside → IsTooLong (written_with marks) (scalar t c n x)
+  scalar_too_long y x t c n bytes filled start like p long = (p.inside, like.bytes p.inside p.is, long)
+
+  -- a scope was opened
+  pub scope_opened : (fs gs : List Frame) (f : Frame) (h : model.Head) (bytes new size : List ℕ) (some : Bool) → f.is_group ≡ false → f.has_records ≡ some → f.start ≡ length new → (head_tag h).value < 2 ^ 32 → length size ≡ 4 →
+      gs ≡ fs ++ f ∷ [] → new ≡ (bytes ++ kind_of h ∷ tag_bytes (head_tag h)) ++ size →
+      (w : Written) → IsWritten marks w (inward [] fs) bytes some → IsWritten marks (in_scope h [] w) (inward [] gs) new false
+  scope_opened fs gs f h bytes new size some scope flag start tag_fits size_long outer is w wrote =
+      let long = ap length is in
+      subst (λ l. IsWritten marks (in_scope h [] w) l new false) (sym (ap (inward []) outer ∙ inward-last [] fs f)) (
+        scope,
+        record {
+          before = bytes;
+          size = size;
+          inside = [];
+          outside = subst (λ s. IsWritten marks w (inward [] fs) bytes s) (sym flag) wrote;
+          are = is ∙ ap (λ l. (bytes ++ kind_of h ∷ tag_bytes (head_tag h)) ++ l) (sym (append-nil size));
+          size_long = size_long;
+          starts = omega (arith, start, long, size_long, length-append (bytes ++ kind_of h ∷ tag_bytes (head_tag h)) size, length-append bytes (kind_of h ∷ tag_bytes (head_tag h)));
+          tag_fits = tag_fits;
+          list = record { have_bytes = refl; flag = refl };
+        },
+      )
+
+  -- what is known of the innermost frame where a scope is open
+  pub scope_of : (fs gs : List Frame) (f : Frame) (bytes : List ℕ) (some : Bool) (h : model.Head) (rs : List model.Record) (w : Written) → fs ≡ gs ++ f ∷ [] → IsWritten marks (in_scope h rs w) (inward [] fs) bytes some →
+      (f.is_group ≡ false) × IsOpenScope marks (λ before. IsWritten marks w (inward [] gs) before f.has_records) h rs f.start bytes some
+  scope_of fs gs f bytes some h rs w outer wrote = subst (λ l. IsWritten marks (in_scope h rs w) l bytes some) (ap (inward []) outer ∙ inward-last [] gs f) wrote
+
+  pub scope_closed : (fs gs : List Frame) (f : Frame) (bytes new : List ℕ) (some : Bool) → fs ≡ gs ++ f ∷ [] → PatchedAs bytes new f.start →
+      (h : model.Head) (rs : List model.Record) (w : Written) → IsWritten marks (in_scope h rs w) (inward [] fs) bytes some → IsWritten marks (followed_by w (holding h rs ∷ [])) (inward [] gs) new true
+  scope_closed fs gs f bytes new some outer patched h rs w wrote =
+      let s = (scope_of fs gs f bytes some h rs w outer wrote).1 in
+      let header = kind_of h ∷ tag_bytes (head_tag h) in
+      let p = patched (s.before ++ header) s.size s.inside s.are s.size_long (omega (arith, s.starts, length-append s.before header)) in
+      let item = header ++ (four_bytes (length s.inside) ++ s.inside) in
+      let has : HasBytes (written_with marks) (holding h rs) item = record {
+        inside = s.inside;
+        is = s.list.have_bytes;
+        item = record { are = refl; tag_fits = s.tag_fits; size_fits = p.0 };
+      } in
+      let whole : new ≡ s.before ++ item = p.1 ∙ append_assoc s.before header (four_bytes (length s.inside) ++ s.inside) in
+      appended gs s.before item new f.has_records (holding h rs) refl has whole w s.outside
+
+  pub scope_too_long : (fs gs : List Frame) (f : Frame) (bytes : List ℕ) (some : Bool) → fs ≡ gs ++ f ∷ [] → HasLongInside bytes f.start →
+      (h : model.Head) (rs : List model.Record) (w : Written) → IsWritten marks (in_scope h rs w) (inward [] fs) bytes some → IsTooLong (written_with marks) (holding h rs)
+  scope_too_long fs gs f bytes some outer long h rs w wrote =
+      let s = (scope_of fs gs f bytes some h rs w outer wrote).1 in
+      let header = kind_of h ∷ tag_bytes (head_tag h) in
+      inr (s.inside, s.list.have_bytes, long (s.before ++ header) s.size s.inside s.are s.size_long (omega (arith, s.starts, length-append s.before header)))
+
+  -- no scope is open
+  pub no_scope : (fs : List Frame) (bytes : List ℕ) (some : Bool) (h : model.Head) (rs : List model.Record) (w : Written) → length fs ≡ 0 → IsWritten marks (in_scope h rs w) (inward [] fs) bytes some → ⊥
+  no_scope [] bytes some h rs w none wrote = wrote
+  no_scope (f ∷ fs) bytes some h rs w none wrote = absurd (omega arith)
+
+  pub no_group : (fs : List Frame) (bytes : List ℕ) (some : Bool) (table : Table Line) (rs : List model.Record) (w : Written) → length fs ≡ 0 → IsWritten marks (in_group table rs w) (inward [] fs) bytes some → ⊥
+  no_group [] bytes some table rs w none wrote = wrote
+  no_group (f ∷ fs) bytes some table rs w none wrote = absurd (omega arith)
+
+  -- a group was opened
+  pub group_opened : (fs gs : List Frame) (f : Frame) (bytes new : List ℕ) (some : Bool) → f.is_group ≡ true → f.has_records ≡ some → f.start ≡ length bytes → gs ≡ fs ++ f ∷ [] →
+      (table : Table Line) (w : Written) → new ≡ bytes ++ marks (model.group_start table) → IsWritten marks w (inward [] fs) bytes some → IsWritten marks (in_group table [] w) (inward [] gs) new false
+  group_opened fs gs f bytes new some group flag start outer table w is wrote =
+      subst (λ l. IsWritten marks (in_group table [] w) l new false) (sym (ap (inward []) outer ∙ inward-last [] fs f)) (
+        group,
+        record {
+          before = bytes;
+          inside = [];
+          outside = subst (λ s. IsWritten marks w (inward [] fs) bytes s) (sym flag) wrote;
+          are = is ∙ ap (λ l. bytes ++ l) (sym (append-nil (marks (model.group_start table))));
+          starts = start;
+          list = record { have_bytes = refl; flag = refl };
+        },
+      )
+
+  -- what is known of the innermost frame where a group is open
+  pub group_of : (fs gs : List Frame) (f : Frame) (bytes : List ℕ) (some : Bool) (table : Table Line) (rs : List model.Record) (w : Written) → fs ≡ gs ++ f ∷ [] → IsWritten marks (in_group table rs w) (inward [] fs) bytes some →
+      (f.is_group ≡ true) × IsOpenGroup marks (λ before. IsWritten marks w (inward [] gs) before f.has_records) table rs f.start bytes some
+  group_of fs gs f bytes some table rs w outer wrote = subst (λ l. IsWritten marks (in_group table rs w) l bytes some) (ap (inward []) outer ∙ inward-last [] gs f) wrote
+
+  -- a group that is there was closed
+  pub group_closed : (fs gs : List Frame) (f : Frame) (bytes new end : List ℕ) (some : Bool) → fs ≡ gs ++ f ∷ [] → some ≡ true → new ≡ bytes ++ end → marks model.group_end ≡ end →
+      (table : Table Line) (rs : List model.Record) (w : Written) → IsWritten marks (in_group table rs w) (inward [] fs) bytes some → IsWritten marks (followed_by w (group_records table (Some rs))) (inward [] gs) new some
+  group_closed fs gs f bytes new end some outer there is ends table rs w wrote =
+      let s = (group_of fs gs f bytes some table rs w outer wrote).1 in
+      let firm : marks_alone rs ≡ false = not_alone (marks_alone rs) (sym there ∙ s.list.flag) in
+      let start = marks (model.group_start table) in
+      let group = model.mark (model.group_start table) ∷ (rs ++ model.mark model.group_end ∷ []) in
+      let more = start ++ (s.inside ++ end) in
+      let have : HaveBytes (written_with marks) (held group) more = bytes-append (model.mark (model.group_start table) ∷ []) (rs ++ model.mark model.group_end ∷ []) start (s.inside ++ end) (one_record (model.mark (model.group_start table)) start refl)
+      (bytes-append rs (model.mark model.group_end ∷ []) s.inside end s.list.have_bytes (one_record (model.mark model.group_end) end (sym ends))) in
+      let whole : new ≡ s.before ++ more = is ∙ ap (λ l. l ++ end) s.are ∙ append_assoc s.before (start ++ s.inside) end ∙ ap (λ l. s.before ++ l) (append_assoc start s.inside end) in
+      let flag : some ≡ (f.has_records || not (marks_alone group)) = there ∙ or_true f.has_records ∙ ap (λ b. f.has_records || b) (sym (alone-append rs (model.mark model.group_end ∷ []) ∙ ap (λ b. not b || false) firm)) in
+      subst (λ g. IsWritten marks (followed_by w g) (inward [] gs) new some) (sym (group_alone table rs false firm))
+      (subst (λ b. IsWritten marks (followed_by w group) (inward [] gs) b some) (sym whole)
+      (subst (λ b. IsWritten marks (followed_by w group) (inward [] gs) (s.before ++ more) b) (sym flag) (followed w (inward [] gs) s.before more f.has_records group s.outside have)))
+
+  -- a group that is absent was closed
+  pub absent_group_closed : (fs gs : List Frame) (f : Frame) (bytes cut new away : List ℕ) (some : Bool) → fs ≡ gs ++ f ∷ [] → some ≡ false → cut ≡ take f.start bytes → new ≡ cut ++ away → marks model.group_absent ≡ away →
+      (table : Table Line) (rs : List model.Record) (w : Written) → IsWritten marks (in_group table rs w) (inward [] fs) bytes some → IsWritten marks (followed_by w (group_records table (Some rs))) (inward [] gs) new f.has_records
+  absent_group_closed fs gs f bytes cut new away some outer none cut_is is absent table rs w wrote =
+      let s = (group_of fs gs f bytes some table rs w outer wrote).1 in
+      let alone : marks_alone rs ≡ true = is_alone (marks_alone rs) (sym none ∙ s.list.flag) in
+      let kept : take f.start bytes ≡ s.before = ap (λ n. take n bytes) s.starts ∙ ap (take (length s.before)) s.are ∙ take-append_seam s.before (marks (model.group_start table) ++ s.inside) in
+      let whole : new ≡ s.before ++ away = is ∙ ap (λ l. l ++ away) (cut_is ∙ kept) in
+      subst (λ g. IsWritten marks (followed_by w g) (inward [] gs) new f.has_records) (sym (group_alone table rs true alone))
+      (mark_appended gs s.before away new f.has_records model.group_absent (sym absent) whole w s.outside)
+
+  -- what was written at the end
+  pub finished : (fs : List Frame) (bytes : List ℕ) (some : Bool) (rs : List model.Record) → IsWritten marks (outermost rs) (inward [] fs) bytes some → HaveBytes (written_with marks) (held rs) bytes
+  finished fs bytes some rs wrote = top (inward [] fs) wrote
+    where
+      top : (gs : List Frame) → IsWritten marks (outermost rs) gs bytes some → HaveBytes (written_with marks) (held rs) bytes
+      top [] p = p.have_bytes
+      top (f ∷ gs) p = absurd p

@@ -1,47 +1,49 @@
--- What a buffer has written.
+-- What a buffer has written, with presence marks of these bytes.
 use Rattle.std.specs.Prelude.{◌≡◌, ℕ, suc, ◌+◌, ◌<◌, ◌^◌, Bool, true, false, not, List, [], ◌∷◌, ◌++◌, length, if◌then◌else◌}
 use Rattle.asn1_codec.specs.Writing.{Written, outermost, in_scope, in_group}
 use Rattle.asn1_items.specs.Headers.{kind_of, tag_bytes}
-use Rattle.asn1_items.specs.Items.{HaveBytes, as_written}
+use Rattle.asn1_items.specs.Items.{HaveBytes, MarkBytes, written_with}
 use Rattle.asn1_items.specs.declared.buffer.Buffer.{Buffer}
 use Rattle.asn1_items.specs.declared.frame.Frame.{Frame}
-use Rattle.asn1_model.specs.Records.{Record, Head, held, marks_alone}
+use Rattle.asn1_model.specs.Records.{Record, Head, group_start, held, marks_alone}
+use Rattle.asn1_model.specs.Tables.{Line, Table}
 use Rattle.asn1_model.specs.Tags.{head_tag}
 
--- The innermost list: its bytes, and whether there is a record in it that is no presence mark.
-pub record IsList (rs : List Record) (bytes : List ℕ) (has_records : Bool) : Type 0 where
-  pub have_bytes : HaveBytes as_written (held rs) bytes
-  pub flag : has_records ≡ not (marks_alone rs)
+module _ (marks : MarkBytes) where
+  -- The innermost list: its bytes, and whether there is a record in it that is no presence mark.
+  pub record IsList (rs : List Record) (bytes : List ℕ) (has_records : Bool) : Type 0 where
+    pub have_bytes : HaveBytes (written_with marks) (held rs) bytes
+    pub flag : has_records ≡ not (marks_alone rs)
 
--- A scope that is open: what is outside, the header, whose length is not known yet, and what is inside.
-pub record IsOpenScope (IsOutside : List ℕ → Type 0) (h : Head) (rs : List Record) (start : ℕ) (bytes : List ℕ) (has_records : Bool) : Type 0 where
-  pub before : List ℕ
-  pub size : List ℕ
-  pub inside : List ℕ
-  pub outside : IsOutside before
-  pub are : bytes ≡ (before ++ kind_of h ∷ tag_bytes (head_tag h)) ++ (size ++ inside)
-  pub size_long : length size ≡ 4
-  pub starts : start ≡ length before + 10
-  pub tag_fits : (head_tag h).value < 2 ^ 32
-  pub list : IsList rs inside has_records
+  -- A scope that is open: what is outside, the header, whose length is not known yet, and what is inside.
+  pub record IsOpenScope (IsOutside : List ℕ → Type 0) (h : Head) (rs : List Record) (start : ℕ) (bytes : List ℕ) (has_records : Bool) : Type 0 where
+    pub before : List ℕ
+    pub size : List ℕ
+    pub inside : List ℕ
+    pub outside : IsOutside before
+    pub are : bytes ≡ (before ++ kind_of h ∷ tag_bytes (head_tag h)) ++ (size ++ inside)
+    pub size_long : length size ≡ 4
+    pub starts : start ≡ length before + 10
+    pub tag_fits : (head_tag h).value < 2 ^ 32
+    pub list : IsList rs inside has_records
 
--- A group that is open: what is outside, the mark, and what is inside.
-pub record IsOpenGroup (IsOutside : List ℕ → Type 0) (rs : List Record) (start : ℕ) (bytes : List ℕ) (has_records : Bool) : Type 0 where
-  pub before : List ℕ
-  pub inside : List ℕ
-  pub outside : IsOutside before
-  pub are : bytes ≡ before ++ 18 ∷ inside
-  pub starts : start ≡ length before + 1
-  pub list : IsList rs inside has_records
+  -- A group that is open: what is outside, the mark, and what is inside.
+  pub record IsOpenGroup (IsOutside : List ℕ → Type 0) (table : Table Line) (rs : List Record) (start : ℕ) (bytes : List ℕ) (has_records : Bool) : Type 0 where
+    pub before : List ℕ
+    pub inside : List ℕ
+    pub outside : IsOutside before
+    pub are : bytes ≡ before ++ (marks (group_start table) ++ inside)
+    pub starts : start ≡ length before
+    pub list : IsList rs inside has_records
 
--- What has been written, where the frames come innermost first.
-abbrev pub IsWritten : Written → List Frame → List ℕ → Bool → Type 0
-IsWritten (outermost rs) [] bytes some = IsList rs bytes some
-IsWritten (outermost rs) (f ∷ fs) bytes some = ⊥
-IsWritten (in_scope h rs w) [] bytes some = ⊥
-IsWritten (in_scope h rs w) (f ∷ fs) bytes some = (f.is_group ≡ false) × IsOpenScope (λ before. IsWritten w fs before f.has_records) h rs f.start bytes some
-IsWritten (in_group table rs w) [] bytes some = ⊥
-IsWritten (in_group table rs w) (f ∷ fs) bytes some = (f.is_group ≡ true) × IsOpenGroup (λ before. IsWritten w fs before f.has_records) rs f.start bytes some
+  -- What has been written, where the frames come innermost first.
+  abbrev pub IsWritten : Written → List Frame → List ℕ → Bool → Type 0
+  IsWritten (outermost rs) [] bytes some = IsList rs bytes some
+  IsWritten (outermost rs) (f ∷ fs) bytes some = ⊥
+  IsWritten (in_scope h rs w) [] bytes some = ⊥
+  IsWritten (in_scope h rs w) (f ∷ fs) bytes some = (f.is_group ≡ false) × IsOpenScope (λ before. IsWritten w fs before f.has_records) h rs f.start bytes some
+  IsWritten (in_group table rs w) [] bytes some = ⊥
+  IsWritten (in_group table rs w) (f ∷ fs) bytes some = (f.is_group ≡ true) × IsOpenGroup (λ before. IsWritten w fs before f.has_records) table rs f.start bytes some
 
 -- the frames, innermost first
 abbrev pub inward : List Frame → List Frame → List Frame
@@ -49,8 +51,8 @@ inward inner [] = inner
 inward inner (f ∷ fs) = inward (f ∷ inner) fs
 
 -- The buffer has written these records, in the lists that are open.
-abbrev pub HasWritten : Written → Buffer → Type 0
-HasWritten w b = IsWritten w (inward [] b.outer.items) b.bytes.items b.has_records
+abbrev pub HasWritten : MarkBytes → Written → Buffer → Type 0
+HasWritten marks w b = IsWritten marks w (inward [] b.outer.items) b.bytes.items b.has_records
 
 -- how many of the lists that are open are scopes
 abbrev pub scopes_in : List Frame → ℕ

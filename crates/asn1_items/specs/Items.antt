@@ -7,9 +7,13 @@ use Rattle.asn1_model.specs.Records.{Record, Records, Mark, scalar, scope, raw, 
 use Rattle.asn1_model.specs.Tags.{head_tag}
 use Rattle.asn1_tags.specs.declared.tags.Tag.{Tag}
 
+-- the bytes of each presence mark
+abbrev pub MarkBytes : Type 0
+MarkBytes = Mark → List ℕ
+
 -- A form of items: the bytes of each presence mark, and which bytes are the value of an open type.
 pub record ItemForm : Type 1 where
-  pub mark_bytes : Mark → List ℕ
+  pub mark_bytes : MarkBytes
   pub IsOpenType : List ℕ → Type 0
 
 -- An item: its kind, its tag, its content kind if it has one, the length of what is inside, and what is inside. The number of
@@ -70,10 +74,14 @@ abbrev pub marks_skipped : List ℕ → List ℕ
 marks_skipped [] = []
 marks_skipped (byte ∷ rest) = if nat_le 16 byte && nat_le byte 20 then marks_skipped rest else byte ∷ rest
 
--- The packed form, in which a presence mark is one byte: as an encoder writes it, where an open type may be any bytes, and as a
--- decoder reads it, where it is one item.
-abbrev pub as_written : ItemForm
-as_written = record { mark_bytes = λ m. mark_byte m ∷ []; IsOpenType = λ own. ⊤ }
+-- The presence marks of the packed form: one byte each.
+abbrev pub packed_marks : MarkBytes
+packed_marks m = mark_byte m ∷ []
 
-abbrev pub as_read : ItemForm
-as_read = record { mark_bytes = λ m. mark_byte m ∷ []; IsOpenType = λ own. IsTrue (is_one_item own) }
+-- The forms with these bytes of presence marks: as an encoder writes it, where an open type may be any bytes, and as a decoder
+-- reads it, where it is one item.
+abbrev pub written_with : MarkBytes → ItemForm
+written_with marks = record { mark_bytes = marks; IsOpenType = λ own. ⊤ }
+
+abbrev pub read_with : MarkBytes → ItemForm
+read_with marks = record { mark_bytes = marks; IsOpenType = λ own. IsTrue (is_one_item own) }

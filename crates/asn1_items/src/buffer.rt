@@ -1,14 +1,14 @@
-//! The bytes that are written, in the packed form.
+//! The bytes of items that are written.
 ghost use Rattle.asn1_codec.specs.Writing.{Written, followed_by, in_group, in_scope, outermost};
 ghost use Rattle.asn1_items.specs.Buffers.{HasWritten, open_scopes};
 ghost use Rattle.asn1_items.specs.Contents.{LooksLike, content_of};
 ghost use Rattle.asn1_items.specs.Headers.{kind_of};
-ghost use Rattle.asn1_items.specs.Items.{HaveBytes, IsTooLong, as_written, mark_byte};
+ghost use Rattle.asn1_items.specs.Items.{HaveBytes, IsTooLong, MarkBytes, written_with};
 ghost use Rattle.asn1_items.specs.declared.error.BufferError.TheVariants.{Memory};
 ghost use Rattle.asn1_model.specs.Composites.{group_records};
 ghost use Rattle.asn1_model.specs.ConstraintSets.{ConstraintSet};
 ghost use Rattle.asn1_model.specs.Records as model;
-ghost use Rattle.asn1_model.specs.Records.{Name, held, holding, mark, raw, scalar};
+ghost use Rattle.asn1_model.specs.Records.{Name, group_absent, group_end, group_start, held, holding, mark, raw, scalar};
 ghost use Rattle.asn1_model.specs.Tables.{Line, Table};
 ghost use Rattle.asn1_model.specs.Tags.{head_tag};
 ghost use Rattle.std.specs.Prelude.{◌≡◌, ◌≢◌, ◌≤◌, ◌∷◌, [], IfErr, IfOk, List, MatchResult, OnOk, Some, suc};
@@ -20,8 +20,8 @@ use crate::frame::Frame;
 use asn1_tags::Tag;
 use std::alloc::Global;
 
-/// The bytes of records, in the packed form, as an encoder writes them. The length of a scope is written when it is closed, so
-/// each byte is written once, however deep the scopes are.
+/// The bytes of records, as an encoder writes them, which gives the bytes of each presence mark. The length of a scope is
+/// written when it is closed, so each byte is written once, however deep the scopes are.
 ///
 /// After an error nothing is promised about what has been written.
 #[derive(Drop)]
@@ -35,7 +35,8 @@ pub struct Buffer {
 impl Buffer {
     /// A buffer in which nothing has been written.
     pub fn new(alloc: Global) -> Buffer
-        ensures nothing_written { HasWritten (outermost []) result }
+        ensures nothing_written { (marks : MarkBytes) →
+            HasWritten marks (outermost []) result }
         ensures none_open { open_scopes result ≡ 0 }
     {
         Buffer {
@@ -48,8 +49,9 @@ impl Buffer {
 
     /// The bytes that have been written, where no scope and no group is open.
     pub fn finish(self) -> Vec<u8>
-        ensures { (rs : List model.Record) → HasWritten (outermost rs) self →
-            HaveBytes as_written (held rs) result.items }
+        ensures { (marks : MarkBytes) (rs : List model.Record) →
+            HasWritten marks (outermost rs) self →
+            HaveBytes (written_with marks) (held rs) result.items }
     {
         self.bytes
     }
@@ -59,12 +61,12 @@ impl Buffer {
     /// # Errors
     /// [`BufferError::Memory`], and [`BufferError::TooLong`] where the content is 2^32 bytes long or more.
     pub fn append_scalar(&mut self, tag: Tag, content: Content<'_>) -> Result<(), BufferError>
-        ensures written { (c : ConstraintSet) (n : Name) (x : model.Content) (w : Written) →
-            LooksLike (content_of content.entry) x → HasWritten w self.old →
-            IfOk result (λ _. HasWritten (followed_by w (scalar tag c n x ∷ [])) self.new) }
-        ensures too_long { (c : ConstraintSet) (n : Name) (x : model.Content) →
+        ensures written { (marks : MarkBytes) (c : ConstraintSet) (n : Name) (x : model.Content)
+            (w : Written) → LooksLike (content_of content.entry) x → HasWritten marks w self.old →
+            IfOk result (λ _. HasWritten marks (followed_by w (scalar tag c n x ∷ [])) self.new) }
+        ensures too_long { (marks : MarkBytes) (c : ConstraintSet) (n : Name) (x : model.Content) →
             LooksLike (content_of content.entry) x →
-            IfErr result (λ e. e ≢ Memory → IsTooLong as_written (scalar tag c n x)) }
+            IfErr result (λ e. e ≢ Memory → IsTooLong (written_with marks) (scalar tag c n x)) }
         ensures same_scopes { open_scopes self.new ≡ open_scopes self.old }
     {
         push_tag(&mut self.bytes, 1, tag)?;
@@ -81,8 +83,9 @@ impl Buffer {
     /// # Errors
     /// [`BufferError::Memory`].
     pub fn append_open_type(&mut self, bytes: &[u8]) -> Result<(), BufferError>
-        ensures written { (n : Name) (w : Written) → HasWritten w self.old →
-            IfOk result (λ _. HasWritten (followed_by w (raw n bytes.now ∷ [])) self.new) }
+        ensures written { (marks : MarkBytes) (n : Name) (w : Written) →
+            HasWritten marks w self.old →
+            IfOk result (λ _. HasWritten marks (followed_by w (raw n bytes.now ∷ [])) self.new) }
         ensures memory { IfErr result (λ e. e ≡ Memory) }
         ensures same_scopes { open_scopes self.new ≡ open_scopes self.old }
     {
@@ -91,18 +94,18 @@ impl Buffer {
         Ok(())
     }
 
-    /// Appends a presence mark, by its byte.
+    /// Appends a presence mark, by its bytes.
     ///
     /// # Errors
     /// [`BufferError::Memory`].
-    pub fn append_mark(&mut self, byte: u8) -> Result<(), BufferError>
-        ensures written { (m : model.Mark) (w : Written) → mark_byte m ≡ byte →
-            HasWritten w self.old →
-            IfOk result (λ _. HasWritten (followed_by w (mark m ∷ [])) self.new) }
+    pub fn append_mark(&mut self, bytes: &[u8]) -> Result<(), BufferError>
+        ensures written { (marks : MarkBytes) (m : model.Mark) (w : Written) →
+            marks m ≡ bytes.now → HasWritten marks w self.old →
+            IfOk result (λ _. HasWritten marks (followed_by w (mark m ∷ [])) self.new) }
         ensures memory { IfErr result (λ e. e ≡ Memory) }
         ensures same_scopes { open_scopes self.new ≡ open_scopes self.old }
     {
-        self.bytes.extend_from_slice(&[byte])?;
+        self.bytes.extend_from_slice(bytes)?;
         Ok(())
     }
 
@@ -111,8 +114,9 @@ impl Buffer {
     /// # Errors
     /// [`BufferError::Memory`].
     pub fn open_scope(&mut self, kind: u8, tag: Tag) -> Result<(), BufferError>
-        ensures opened { (h : model.Head) (w : Written) → kind_of h ≡ kind → head_tag h ≡ tag →
-            HasWritten w self.old → IfOk result (λ _. HasWritten (in_scope h [] w) self.new) }
+        ensures opened { (marks : MarkBytes) (h : model.Head) (w : Written) →
+            kind_of h ≡ kind → head_tag h ≡ tag → HasWritten marks w self.old →
+            IfOk result (λ _. HasWritten marks (in_scope h [] w) self.new) }
         ensures memory { IfErr result (λ e. e ≡ Memory) }
         ensures one_more { OnOk result (open_scopes self.new ≡ suc (open_scopes self.old)) }
         ensures none_after_error { IfErr result (λ _. open_scopes self.new ≡ open_scopes self.old) }
@@ -137,11 +141,11 @@ impl Buffer {
     /// # Errors
     /// [`BufferError::TooLong`] where 2^32 bytes or more are inside, and [`BufferError::NotOpen`] where no scope is innermost.
     pub fn close_scope(&mut self) -> Result<(), BufferError>
-        ensures closed { (h : model.Head) (rs : List model.Record) (w : Written) →
-            HasWritten (in_scope h rs w) self.old →
+        ensures closed { (marks : MarkBytes) (h : model.Head) (rs : List model.Record) (w : Written) →
+            HasWritten marks (in_scope h rs w) self.old →
             MatchResult result
-            (λ _. HasWritten (followed_by w (holding h rs ∷ [])) self.new)
-            (λ _. IsTooLong as_written (holding h rs)) }
+            (λ _. HasWritten marks (followed_by w (holding h rs ∷ [])) self.new)
+            (λ _. IsTooLong (written_with marks) (holding h rs)) }
         ensures one_less { OnOk result (open_scopes self.old ≡ suc (open_scopes self.new)) }
         ensures no_more { open_scopes self.new ≤ open_scopes self.old }
     {
@@ -156,18 +160,19 @@ impl Buffer {
         Ok(())
     }
 
-    /// Opens a group.
+    /// Opens a group, which begins with this presence mark.
     ///
     /// # Errors
     /// [`BufferError::Memory`].
-    pub fn open_group(&mut self) -> Result<(), BufferError>
-        ensures opened { (table : Table Line) (w : Written) → HasWritten w self.old →
-            IfOk result (λ _. HasWritten (in_group table [] w) self.new) }
+    pub fn open_group(&mut self, start_mark: &[u8]) -> Result<(), BufferError>
+        ensures opened { (marks : MarkBytes) (table : Table Line) (w : Written) →
+            marks (group_start table) ≡ start_mark.now → HasWritten marks w self.old →
+            IfOk result (λ _. HasWritten marks (in_group table [] w) self.new) }
         ensures memory { IfErr result (λ e. e ≡ Memory) }
         ensures same_scopes { open_scopes self.new ≡ open_scopes self.old }
     {
-        self.bytes.extend_from_slice(&[0x12])?;
         let start = self.bytes.len();
+        self.bytes.extend_from_slice(start_mark)?;
         let has_records = self.has_records;
         if let Err(_) = self.outer.push(Frame {
             start,
@@ -180,15 +185,17 @@ impl Buffer {
         Ok(())
     }
 
-    /// Closes the innermost group, which is absent where its components are presence marks alone.
+    /// Closes the innermost group by the presence mark of its end; or by the mark of an absent group, where its components are
+    /// presence marks alone.
     ///
     /// # Errors
     /// [`BufferError::Memory`], and [`BufferError::NotOpen`] where no group is innermost.
-    pub fn close_group(&mut self) -> Result<(), BufferError>
-        ensures closed { (table : Table Line) (rs : List model.Record) (w : Written) →
-            HasWritten (in_group table rs w) self.old →
+    pub fn close_group(&mut self, end_mark: &[u8], absent_mark: &[u8]) -> Result<(), BufferError>
+        ensures closed { (marks : MarkBytes) (table : Table Line) (rs : List model.Record)
+            (w : Written) → marks group_end ≡ end_mark.now → marks group_absent ≡ absent_mark.now →
+            HasWritten marks (in_group table rs w) self.old →
             MatchResult result
-            (λ _. HasWritten (followed_by w (group_records table (Some rs))) self.new)
+            (λ _. HasWritten marks (followed_by w (group_records table (Some rs))) self.new)
             (λ e. e ≡ Memory) }
         ensures same_scopes { OnOk result (open_scopes self.new ≡ open_scopes self.old) }
         ensures no_more { open_scopes self.new ≤ open_scopes self.old }
@@ -199,16 +206,13 @@ impl Buffer {
         if !frame.is_group {
             return Err(BufferError::NotOpen);
         }
-        if frame.start == 0 {
-            return Err(BufferError::NotOpen);
-        }
         if self.has_records {
-            self.bytes.extend_from_slice(&[0x14])?;
+            self.bytes.extend_from_slice(end_mark)?;
             return Ok(());
         }
-        self.bytes.truncate(frame.start - 1);
+        self.bytes.truncate(frame.start);
         self.has_records = frame.has_records;
-        self.bytes.extend_from_slice(&[0x13])?;
+        self.bytes.extend_from_slice(absent_mark)?;
         Ok(())
     }
 }

@@ -3,7 +3,7 @@
 /// A list that waits for one inside it.
 #[derive(Clone, Copy, Drop)]
 pub(crate) struct Frame {
-    /// Where the bytes of the list inside begin.
+    /// Where the bytes inside a scope begin, or where a group begins.
     pub(crate) start: usize,
     /// Whether there is a record in this list that is no presence mark.
     pub(crate) has_records: bool,

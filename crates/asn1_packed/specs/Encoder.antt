@@ -1,55 +1,57 @@
--- What a packed encoder has written, and what it rejects.
+-- What an encoder over items has written, and what it rejects.
 use Rattle.std.specs.Prelude.{◌≡◌, Bool, true, false, ◌&&◌, List, [], ◌∷◌, ◌++◌, refl}
 use Rattle.std.proofs.Common.{inl, inr}
 use Rattle.asn1_codec.specs.WritingUpToOrder.{RejectsByParts, up_to_order}
 use Rattle.asn1_codec.specs.Writing.{Writer}
 use Rattle.asn1_items.specs.Buffers.{HasWritten}
-use Rattle.asn1_items.specs.Items.{IsTooLong, SomeTooLong, as_written}
+use Rattle.asn1_items.specs.Items.{IsTooLong, MarkBytes, SomeTooLong, written_with}
 use Rattle.asn1_model.specs.Records as model
 use Rattle.asn1_model.specs.Records.{held, is_mark, marks_alone}
-use Rattle.asn1_packed.specs.declared.encoder.PackedEncoder.{PackedEncoder}
-
--- The encoder in the order in which it writes. It rejects records that are too long, at whatever depth.
-abbrev pub in_one_order : Writer PackedEncoder
-in_one_order = record {
-  wrote = λ e w. HasWritten w e.buffer;
-  failed = λ e. e.failed;
-  depth_left = λ e. e.depth_left;
-  rejects = λ rs. SomeTooLong as_written (held rs);
-}
-
--- the encoder as types see it: the order inside sets means nothing
-abbrev pub packed_writer : Writer PackedEncoder
-packed_writer = up_to_order in_one_order
-
--- Records are too long where a part of them is, or what one of them holds; presence marks never are.
-too_long_after : (before rs : List model.Record) → SomeTooLong as_written (held rs) → SomeTooLong as_written (held (before ++ rs))
-too_long_after [] rs t = t
-too_long_after (b ∷ before) rs t = inr (too_long_after before rs t)
-
-too_long_before : (rs after : List model.Record) → SomeTooLong as_written (held rs) → SomeTooLong as_written (held (rs ++ after))
-too_long_before [] after t = absurd t
-too_long_before (r ∷ rs) after (inl t) = inl t
-too_long_before (r ∷ rs) after (inr t) = inr (too_long_before rs after t)
-
-mark_not_long : (r : model.Record) → is_mark r ≡ true → IsTooLong as_written r → ⊥
-mark_not_long (model.scalar t c n x) e l = cc
-mark_not_long (model.scope h rs) e l = cc
-mark_not_long (model.raw n own) e l = cc
-mark_not_long (model.mark m) e l = l
+use Rattle.asn1_packed.specs.declared.encoder.ItemEncoder.{ItemEncoder}
 
 both_true : (a b : Bool) → (a && b) ≡ true → (a ≡ true) × (b ≡ true)
 both_true true b e = (refl, e)
 both_true false b e = cc
 
-marks_not_long : (rs : List model.Record) → marks_alone rs ≡ true → SomeTooLong as_written (held rs) → ⊥
-marks_not_long [] e l = l
-marks_not_long (r ∷ rs) e (inl l) = mark_not_long r ((both_true (is_mark r) (marks_alone rs) e).0) l
-marks_not_long (r ∷ rs) e (inr l) = marks_not_long rs ((both_true (is_mark r) (marks_alone rs) e).1) l
+module _ (marks : MarkBytes) where
+  -- Records are too long where a part of them is, or what one of them holds; presence marks never are.
+  too_long_after : (before rs : List model.Record) → SomeTooLong (written_with marks) (held rs) → SomeTooLong (written_with marks) (held (before ++ rs))
+  too_long_after [] rs t = t
+  too_long_after (b ∷ before) rs t = inr (too_long_after before rs t)
 
-pub rejects_by_parts : RejectsByParts in_one_order
-rejects_by_parts = record {
-  part = λ before rs after t. too_long_after before (rs ++ after) (too_long_before rs after t);
-  inner = λ h rs t. inl (inl t);
-  marks = λ rs alone t. marks_not_long rs alone t;
-}
+  too_long_before : (rs after : List model.Record) → SomeTooLong (written_with marks) (held rs) → SomeTooLong (written_with marks) (held (rs ++ after))
+  too_long_before [] after t = absurd t
+  too_long_before (r ∷ rs) after (inl t) = inl t
+  too_long_before (r ∷ rs) after (inr t) = inr (too_long_before rs after t)
+
+  mark_not_long : (r : model.Record) → is_mark r ≡ true → IsTooLong (written_with marks) r → ⊥
+  mark_not_long (model.scalar t c n x) e l = cc
+  mark_not_long (model.scope h rs) e l = cc
+  mark_not_long (model.raw n own) e l = cc
+  mark_not_long (model.mark m) e l = l
+
+  marks_not_long : (rs : List model.Record) → marks_alone rs ≡ true → SomeTooLong (written_with marks) (held rs) → ⊥
+  marks_not_long [] e l = l
+  marks_not_long (r ∷ rs) e (inl l) = mark_not_long r ((both_true (is_mark r) (marks_alone rs) e).0) l
+  marks_not_long (r ∷ rs) e (inr l) = marks_not_long rs ((both_true (is_mark r) (marks_alone rs) e).1) l
+
+module _ {P : Type 0} (marks : MarkBytes) where
+  -- The encoder in the order in which it writes. It rejects records that are too long, at whatever depth.
+  abbrev pub in_one_order : Writer (ItemEncoder P)
+  in_one_order = record {
+    wrote = λ e w. HasWritten marks w e.buffer;
+    failed = λ e. e.failed;
+    depth_left = λ e. e.depth_left;
+    rejects = λ rs. SomeTooLong (written_with marks) (held rs);
+  }
+
+  -- the encoder as types see it: the order inside sets means nothing
+  abbrev pub item_writer : Writer (ItemEncoder P)
+  item_writer = up_to_order in_one_order
+
+  pub rejects_by_parts : RejectsByParts in_one_order
+  rejects_by_parts = record {
+    part = λ before rs after t. too_long_after marks before (rs ++ after) (too_long_before marks rs after t);
+    inner = λ h rs t. inl (inl t);
+    marks = λ rs alone t. marks_not_long marks rs alone t;
+  }

@@ -1,7 +1,8 @@
-//! The encoder that writes packed bytes.
+//! The encoder that writes the bytes of items.
 ghost use Rattle.asn1_items.specs.Buffers.{open_scopes};
 ghost use Rattle.std.specs.Prelude.{◌+◌, ◌<◌, ◌^◌};
 
+use crate::presence::{MarkKind, Presence};
 use asn1_bounds::{Codec, Constraints};
 use asn1_choices::Choice;
 use asn1_components::FieldTable;
@@ -12,61 +13,64 @@ use asn1_tags::{Identifier, Tag};
 use asn1_types::{Any, CodecString};
 use asn1_values::IntegerType;
 use std::alloc::Global;
+use std::marker::PhantomData;
 
-/// An encoder that writes packed bytes.
+/// An encoder that writes the bytes of items. `P` says how what may be absent is told.
 ///
 /// It rejects the records that are too long, with 2^32 bytes or more inside an item: [`EncodeError::Custom`], with the text
 /// `item too long`.
 #[derive(Drop)]
-pub struct PackedEncoder {
+pub struct ItemEncoder<P> {
     alloc: Global,
     depth_left: usize,
     failed: bool,
     buffer: Buffer,
+    presence: PhantomData<P>,
     ghost counted: { depth_left + open_scopes buffer < 2 ^ 64 },
 }
 
-impl PackedEncoder {
+impl<P: Presence> ItemEncoder<P> {
     ghost use Rattle.asn1_codec.specs.Writing.{ClosesScope, ClosesGroup, IsCustom, OpensScope, OpensGroup, IsOutOfMemory, Writes, outermost};
     ghost use Rattle.asn1_codec.specs.declared.encode_error.EncodeError.TheVariants.{Depth, Failed, Memory};
     ghost use Rattle.asn1_items.specs.Contents.{LooksLike, content_of};
     ghost use Rattle.asn1_items.specs.Headers.{kind_of};
-    ghost use Rattle.asn1_items.specs.Items.{mark_byte};
+    ghost use Rattle.asn1_packed.specs.Presence.{kind_of_mark};
     ghost use Rattle.asn1_items.specs.declared.error.BufferError.TheVariants as buffer_error;
     ghost use Rattle.asn1_model.specs.ConstraintSets.{ConstraintSet};
     ghost use Rattle.asn1_model.specs.Records as model;
     ghost use Rattle.asn1_model.specs.Records.{Name, mark, raw, scalar};
     ghost use Rattle.asn1_model.specs.Tables.{Line, Table};
     ghost use Rattle.asn1_model.specs.Tags.{head_tag};
-    ghost use Rattle.asn1_packed.specs.Carried.{Carries};
-    ghost use Rattle.asn1_packed.specs.Encoder.{packed_writer};
+    ghost use Rattle.asn1_packed.specs.Carried.{CarriesWith};
+    ghost use Rattle.asn1_packed.specs.Encoder.{item_writer};
     ghost use Rattle.std.specs.Prelude.{◌≡◌, ◌≢◌, ◌∷◌, [], ⊤, List, false, true};
 
     /// An encoder that has written nothing, and may open this many nested scopes.
-    pub fn new(alloc: Global, depth: usize) -> PackedEncoder
-        ensures nothing_written { packed_writer.wrote result (outermost []) }
-        ensures depth_left { packed_writer.depth_left result ≡ depth }
-        ensures no_failure { packed_writer.failed result ≡ false }
+    pub fn new(alloc: Global, depth: usize) -> ItemEncoder<P>
+        ensures nothing_written { (item_writer P.mark_bytes).wrote result (outermost []) }
+        ensures depth_left { (item_writer P.mark_bytes).depth_left result ≡ depth }
+        ensures no_failure { (item_writer P.mark_bytes).failed result ≡ false }
     {
-        PackedEncoder {
+        ItemEncoder {
             alloc,
             depth_left: depth,
             failed: false,
             buffer: Buffer::new(alloc),
+            presence: PhantomData,
         }
     }
 
     /// The bytes that have been written, where no scope and no group is open and no call has failed.
     pub fn finish(self) -> Vec<u8>
-        ensures { (rs : List model.Record) → packed_writer.wrote self (outermost rs) →
-            Carries result.items rs }
+        ensures { (rs : List model.Record) → (item_writer P.mark_bytes).wrote self (outermost rs) →
+            CarriesWith P.mark_bytes result.items rs }
     {
         self.buffer.finish()
     }
 
     /// Makes the encoder failed, and answers the error, or `Failed` if it had failed before.
     fn fail(&mut self, error: EncodeError) -> EncodeError
-        ensures { error ≡ Memory → IsOutOfMemory packed_writer self.old self.new result }
+        ensures { error ≡ Memory → IsOutOfMemory (item_writer P.mark_bytes) self.old self.new result }
     {
         if self.failed {
             return EncodeError::Failed;
@@ -94,7 +98,7 @@ impl PackedEncoder {
     fn append_scalar(&mut self, tag: Tag, content: Content<'_>) -> Result<(), EncodeError>
         ensures { (c : ConstraintSet) (n : Name) (x : model.Content) →
             LooksLike (content_of content.entry) x →
-            Writes packed_writer self.old (scalar tag c n x ∷ []) ⊤ self.new result }
+            Writes (item_writer P.mark_bytes) self.old (scalar tag c n x ∷ []) ⊤ self.new result }
     {
         if self.failed {
             return Err(EncodeError::Failed);
@@ -108,7 +112,7 @@ impl PackedEncoder {
     /// Appends the bytes of an open type.
     fn append_open_type(&mut self, bytes: &[u8]) -> Result<(), EncodeError>
         ensures { (n : Name) →
-            Writes packed_writer self.old (raw n bytes.now ∷ []) ⊤ self.new result }
+            Writes (item_writer P.mark_bytes) self.old (raw n bytes.now ∷ []) ⊤ self.new result }
     {
         if self.failed {
             return Err(EncodeError::Failed);
@@ -119,15 +123,15 @@ impl PackedEncoder {
         }
     }
 
-    /// Appends a presence mark, by its byte.
-    fn append_mark(&mut self, byte: u8) -> Result<(), EncodeError>
-        ensures { (m : model.Mark) → mark_byte m ≡ byte →
-            Writes packed_writer self.old (mark m ∷ []) ⊤ self.new result }
+    /// Appends a presence mark of this kind.
+    fn append_mark(&mut self, kind: MarkKind) -> Result<(), EncodeError>
+        ensures { (m : model.Mark) → kind_of_mark m ≡ kind →
+            Writes (item_writer P.mark_bytes) self.old (mark m ∷ []) ⊤ self.new result }
     {
         if self.failed {
             return Err(EncodeError::Failed);
         }
-        match self.buffer.append_mark(byte) {
+        match self.buffer.append_mark(P::bytes_of_mark(kind)) {
             Ok(()) => Ok(()),
             Err(error) => Err(self.refuse(error)),
         }
@@ -136,7 +140,7 @@ impl PackedEncoder {
     /// Opens a scope of this kind.
     fn open_scope(&mut self, kind: u8, tag: Tag) -> Result<(), EncodeError>
         ensures { (h : model.Head) → kind_of h ≡ kind → head_tag h ≡ tag →
-            OpensScope packed_writer self.old h self.new result }
+            OpensScope (item_writer P.mark_bytes) self.old h self.new result }
     {
         if self.failed {
             return Err(EncodeError::Failed);
@@ -156,7 +160,7 @@ impl PackedEncoder {
 
     /// Closes the innermost scope.
     fn close_scope(&mut self) -> Result<(), EncodeError>
-        ensures { ClosesScope packed_writer self.old self.new result }
+        ensures { ClosesScope (item_writer P.mark_bytes) self.old self.new result }
     {
         if self.failed {
             return Err(EncodeError::Failed);
@@ -172,12 +176,15 @@ impl PackedEncoder {
 
     /// Opens a group.
     fn open_inner_group(&mut self) -> Result<(), EncodeError>
-        ensures { (table : Table Line) → OpensGroup packed_writer self.old table self.new result }
+        ensures { (table : Table Line) → OpensGroup (item_writer P.mark_bytes) self.old table self.new result }
     {
         if self.failed {
             return Err(EncodeError::Failed);
         }
-        match self.buffer.open_group() {
+        match self
+            .buffer
+            .open_group(P::bytes_of_mark(MarkKind::GroupStart))
+        {
             Ok(()) => Ok(()),
             Err(error) => Err(self.refuse(error)),
         }
@@ -185,12 +192,14 @@ impl PackedEncoder {
 
     /// Closes the innermost group.
     fn close_inner_group(&mut self) -> Result<(), EncodeError>
-        ensures { ClosesGroup packed_writer self.old self.new result }
+        ensures { ClosesGroup (item_writer P.mark_bytes) self.old self.new result }
     {
         if self.failed {
             return Err(EncodeError::Failed);
         }
-        match self.buffer.close_group() {
+        let end = P::bytes_of_mark(MarkKind::GroupEnd);
+        let absent = P::bytes_of_mark(MarkKind::GroupAbsent);
+        match self.buffer.close_group(end, absent) {
             Ok(()) => Ok(()),
             Err(error) => Err(self.refuse(error)),
         }
@@ -198,17 +207,17 @@ impl PackedEncoder {
 }
 
 #[tactic(auto, using(crate::proofs::Written::known))]
-impl Encoder for PackedEncoder {
+impl<P: Presence> Encoder for ItemEncoder<P> {
     ghost use Rattle.asn1_codec.proofs.WritingUpToOrder.{lawful};
-    ghost use Rattle.asn1_packed.specs.Encoder.{in_one_order, packed_writer, rejects_by_parts};
+    ghost use Rattle.asn1_packed.specs.Encoder.{in_one_order, item_writer, rejects_by_parts};
     ghost use Rattle.std.specs.Prelude.{◌≡◌};
 
-    ghost writer = { packed_writer };
+    ghost writer = { item_writer P.mark_bytes };
 
     fn codec(&self) -> Codec
-        ensures { result ≡ Codec.Other 0 }
+        ensures { result ≡ P.own_codec }
     {
-        Codec::Other(0)
+        P::codec()
     }
 
     fn depth(&self) -> usize {
@@ -277,23 +286,23 @@ impl Encoder for PackedEncoder {
     }
 
     fn mark_present(&mut self, _tag: Tag) -> Result<(), EncodeError> {
-        self.append_mark(0x10)
+        self.append_mark(MarkKind::Present)
     }
 
     fn mark_absent(&mut self, _tag: Tag) -> Result<(), EncodeError> {
-        self.append_mark(0x11)
+        self.append_mark(MarkKind::Absent)
     }
 
     fn mark_addition_present(&mut self, _tag: Tag) -> Result<(), EncodeError> {
-        self.append_mark(0x10)
+        self.append_mark(MarkKind::Present)
     }
 
     fn mark_addition_absent(&mut self, _tag: Tag) -> Result<(), EncodeError> {
-        self.append_mark(0x11)
+        self.append_mark(MarkKind::Absent)
     }
 
     fn mark_group_absent(&mut self) -> Result<(), EncodeError> {
-        self.append_mark(0x13)
+        self.append_mark(MarkKind::GroupAbsent)
     }
 
     fn open_sequence<C: FieldTable>(
@@ -353,5 +362,5 @@ impl Encoder for PackedEncoder {
         self.close_inner_group()
     }
 
-    ghost lawful = { lawful in_one_order rejects_by_parts };
+    ghost lawful = { lawful (in_one_order P.mark_bytes) (rejects_by_parts P.mark_bytes) };
 }

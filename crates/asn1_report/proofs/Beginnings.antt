@@ -41,12 +41,12 @@ pub not_false : (b : Bool) → not b ≡ true → b ≡ false
 not_false true h = sym h
 not_false false h = refl
 
--- nothing may stand after each tree
+-- nothing may come after each tree
 pub nothing_may_follow : (tree : Tree) → may_follow tree [] ≡ true
 nothing_may_follow (leaf tag) = refl
 nothing_may_follow (choice trees) = refl
 
--- after a tree of a choice stands a space or a bracket
+-- after a tree of a choice comes a space or a bracket
 pub follows_in_choice : (tree : Tree) (trees : Trees) (left : List ℕ) → may_follow tree (spelling_after trees ++ 41 ∷ left) ≡ true
 follows_in_choice (leaf tag) none left = refl
 follows_in_choice (leaf tag) (more t ts) left = refl

@@ -105,7 +105,7 @@ first-append : (ds left : List ℕ) → 0 < length ds → get_or (ds ++ left) 0 
 first-append [] left some = absurd (omega arith)
 first-append (d ∷ ds) left some = refl
 
--- a digit 0 in front stands alone
+-- a digit 0 in front is the only one
 pub number-lone_zero : (text : List ℕ) (k : ℕ) (n : ℕ) (left : List ℕ) → BeginsWithNumber text n left → length text ≤ k + 1 → get_or text 0 0 ≡ 48 →
     begins_with_digit (take k (drop 1 text)) ≡ false
 number-lone_zero text k zero left begins all zero_first =
@@ -148,7 +148,7 @@ digits-begin text n left some low high value small rest =
 ten_times-more : (n d p v : ℕ) → (n * 10 + d) * p + v ≡ n * (p * 10) + ((0 * 10 + d) * p + v)
 ten_times-more n d p v = omega arith
 
--- each digit makes what stands in front of it count ten times
+-- each digit makes what is in front of it count ten times
 digits_value_after-digits_value : (n : ℕ) (ds : List ℕ) → digits_value_after 10 n ds ≡ n * 10 ^ length ds + digits_value 10 ds
 digits_value_after-digits_value n [] = omega arith
 digits_value_after-digits_value n (d ∷ ds) =
@@ -192,7 +192,7 @@ plain_digits (d ∷ e ∷ ds) h = (grind (arith, common_steps), omega arith)
 number_by : (ds : List ℕ) → is_plain_number ds ≡ true → number_of ds ≡ cond (ltb (digits_value 10 ds) (2 ^ 32)) (Some (digits_value 10 ds)) None
 number_by ds h = ap (λ b. cond (b && ltb (digits_value 10 ds) (2 ^ 32)) (Some (digits_value 10 ds)) None) h
 
--- a digit 0 in front stands alone
+-- a digit 0 in front is the only one
 lone_zero : (ds : List ℕ) → is_plain_number ds ≡ true → get_or ds 0 0 ≡ 48 → length ds ≡ 1
 lone_zero [] h zero_first = cc
 lone_zero (d ∷ []) h zero_first = refl

@@ -93,7 +93,7 @@ not_true : (b : Bool) → (b ≡ true → ⊥) → b ≡ false
 not_true true never = absurd (never refl)
 not_true false never = refl
 
--- what stands before the first line feed, and after it
+-- what comes before the first line feed, and after it
 pub no_feed_before : (bytes : List ℕ) (k : ℕ) → IsFirstByte (is_byte 10) bytes (Some k) → HasNoFeed (take k bytes)
 no_feed_before bytes k found = λ j d lt.
     let short = length-take k bytes in
@@ -131,7 +131,7 @@ nothing_taken bytes written checker = record {
   takes = record { after = λ given before taken. subst (λ all. HasTaken all before written checker) (sym (append-nil given)) taken };
 }
 
--- what stands in a slice from a place on
+-- what is in a slice from a place on
 slice_from : (n : ℕ) (bytes : List ℕ) → take (length bytes - n) (drop n bytes) ≡ drop n bytes
 slice_from n bytes = take_all (length bytes - n) (drop n bytes) (let left = length-drop n bytes in omega arith)
 

@@ -1,4 +1,4 @@
--- How a tree is read where it stands, and the trees of a choice one after another.
+-- How a tree is read in its place, and the trees of a choice one after another.
 use Rattle.std.proofs.Common.{◌≡◌, ℕ, suc, ◌+◌, ◌-◌, ◌≤◌, false, List, [], ◌∷◌, ◌++◌, length, get_or, take, drop, Result, Ok, Err, Option, Some, None, refl, sym, ap, ◌∙◌, subst, append_assoc, arith}
 use Rattle.std.specs.Prelude.{All, IfOk, MatchOption}
 use Rattle.std.specs.Fmt.{decimal}

@@ -6,7 +6,7 @@ use Rattle.std.specs.List.{onto_first}
 abbrev pub depth_after : ℕ → ℕ → ℕ
 depth_after depth byte = if byte == 40 then depth + 1 else (if byte == 41 then depth - 1 else depth)
 
--- what stands between the spaces outside all brackets, in a text before which this many brackets are open
+-- what is between the spaces outside all brackets, in a text before which this many brackets are open
 abbrev pub elements_at : ℕ → List ℕ → List (List ℕ)
 elements_at depth [] = [] ∷ []
 elements_at depth (byte ∷ bytes) =

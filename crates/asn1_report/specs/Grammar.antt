@@ -32,7 +32,7 @@ tag_of [] = None
 tag_of (letter ∷ digits) =
     option_and_then (λ class. option_map (λ value. record { class = class; value = value }) (number_of digits)) (class_of letter)
 
--- what stands between a text's first byte and its last, where these are a bracket that opens and one that closes
+-- what is between a text's first byte and its last, where these are a bracket that opens and one that closes
 abbrev pub between_brackets : List ℕ → Option (List ℕ)
 between_brackets [] = None
 between_brackets (byte ∷ bytes) = if (byte == 40) && ends_with_byte 41 bytes then Some (take (length bytes - 1) bytes) else None
@@ -60,7 +60,7 @@ abbrev pub end_of : List ℕ → Option (Option ℤ)
 end_of [] = Some None
 end_of (byte ∷ bytes) = option_map (λ number. Some number) (integer_of (byte ∷ bytes))
 
--- a range: the text of its start, a dot, and what stands after that, another dot and the text of its end
+-- a range: the text of its start, a dot, and what comes after that, another dot and the text of its end
 abbrev pub range_of : List ℕ → List ℕ → Option (Bounded ℤ)
 range_of start [] = None
 range_of start (byte ∷ bytes) =

@@ -2,7 +2,7 @@
 use Rattle.std.specs.Prelude.{ℕ, ◌==◌, List, [], ◌∷◌, Option, Some, None, nat_le, length, if◌then◌else◌}
 use Rattle.std.specs.List.{slice_split}
 
--- what stands between the line feeds; after the last of them stands a line too, and where that is empty, so is its answer
+-- what is between the line feeds; after the last of them there is a line too, and where that is empty, so is its answer
 abbrev pub lines_of : List ℕ → List (List ℕ)
 lines_of bytes = slice_split (λ byte. byte == 10) bytes
 

@@ -1,4 +1,4 @@
--- What the types of this crate stand for.
+-- What the types of this crate mean.
 use Rattle.std.specs.Prelude.{ℕ, List, [], ◌∷◌, Option, Some, None, if◌then◌else◌, option_map}
 use Rattle.asn1_clash.specs.Seen.{component_seen, components_seen, tree_seen}
 use Rattle.asn1_report.specs.Report.{State}

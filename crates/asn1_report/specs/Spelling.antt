@@ -41,7 +41,7 @@ abbrev mutual
   brackets_of none = 0
   brackets_of (more tree trees) = max (brackets tree) (brackets_of trees)
 
--- whether a tree's text ends where this follows it: after a tag no further digit may stand
+-- whether a tree's text ends where this follows it: after a tag no further digit may follow
 abbrev pub may_follow : Tree → List ℕ → Bool
 may_follow (leaf tag) left = not (begins_with_digit left)
 may_follow (choice trees) left = true

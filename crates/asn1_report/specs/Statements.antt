@@ -14,9 +14,9 @@ use Rattle.asn1_report.specs.Parts.{parts_of}
 pub data Statement : Type 0 where
   -- nothing: the line is empty
   says_nothing : Statement
-  -- that a name stands for a tree
+  -- that a name is that of a tree
   names_tree : List ℕ → Tree → Statement
-  -- that a name stands for what two bounds have in common
+  -- that a name is that of what two bounds have in common
   names_bounds : List ℕ → Bounded ℤ → Bounded ℤ → Statement
   -- that a table of that kind and name begins
   begins_table : Kind → List ℕ → Statement

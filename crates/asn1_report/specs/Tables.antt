@@ -13,7 +13,7 @@ abbrev pub kind_word : Kind → List ℕ
 kind_word Sequence = codes "sequence"
 kind_word Set = codes "set"
 
--- the least pair of places whose components must have distinct tags in a table of that kind, and have not
+-- the least pair of places whose components share a tag although X.680 forbids it in a table of that kind
 abbrev pub clash_of : Kind → List Component → Option (ℕ × ℕ)
 clash_of Sequence components = sequence_clash components
 clash_of Set components = set_clash components
@@ -23,7 +23,7 @@ abbrev pub clash_text : Option (ℕ × ℕ) → List ℕ
 clash_text None = codes "no clash"
 clash_text (Some (i, j)) = codes "clash " ++ decimal i ++ codes " " ++ decimal j
 
--- whether components stand in canonical order, in words
+-- whether components are in canonical order, in words
 abbrev pub order_text : Bool → List ℕ
 order_text in_order = if in_order then codes "canonical" else codes "not canonical"
 

@@ -18,7 +18,7 @@ fn read_end(text: &[u8]) -> Option<Option<i128>>
     }
 }
 
-// The range whose start has the first text, and whose end stands after a dot of the second.
+// The range whose start has the first text, and whose end comes after a dot of the second.
 fn read_range(start: &[u8], after: &[u8]) -> Option<Bounded<i128>>
     ensures read { result ≡ range_of start.now after.now }
 {

@@ -23,7 +23,7 @@
 //! the error say is the contract of the function in [`laws`].
 //!
 //! What the program keeps of a tree is its flat form, of `asn1_clash` (`specs/Flattened.antt`). `specs/Reading.antt` says what it
-//! keeps between two reads, `specs/Seen.antt` what the types of this crate stand for.
+//! keeps between two reads, `specs/Seen.antt` what the types of this crate mean.
 #![tactic(auto)]
 
 mod bound;

@@ -13,7 +13,7 @@ pub(crate) fn is_name(text: &[u8]) -> bool
     }
 }
 
-// Whether each byte may stand in a name.
+// Whether each byte may be in a name.
 fn has_name_bytes(text: &[u8]) -> bool
     ensures name_bytes { result ≡ list_all is_name_byte text.now }
 {

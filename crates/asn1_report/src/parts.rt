@@ -2,7 +2,7 @@
 ghost use Rattle.std.specs.Prelude.{◌≡◌, ◌==◌, option_map, position};
 ghost use Rattle.asn1_report.specs.Parts.{parts_of, split_once};
 
-/// What stands before the first byte of that value, and what stands after it, if the text has such a byte.
+/// What comes before the first byte of that value, and what comes after it, if the text has such a byte.
 #[tactic(auto, unfolding(crate::specs::Parts::split_once))]
 pub(crate) fn split_once(text: &[u8], separator: u8) -> Option<(&[u8], &[u8])>
     ensures cut { option_map (λ (before, after). (before.now, after.now)) result
@@ -12,21 +12,21 @@ pub(crate) fn split_once(text: &[u8], separator: u8) -> Option<(&[u8], &[u8])>
     Some((&text[..place], &text[place + 1..]))
 }
 
-// Where the first byte of that value stands.
+// Where the first byte of that value is.
 fn place_of(text: &[u8], separator: u8) -> Option<usize>
     ensures place { result ≡ position (λ byte. byte == separator) text.now }
 {
     text.iter().position(|byte| *byte == separator)
 }
 
-/// The parts of a text: its first word, its second, and what stands after these, with a space between each two.
+/// The parts of a text: its first word, its second, and what comes after these, with a space between each two.
 #[derive(Clone, Copy)]
 pub(crate) enum Parts<'a> {
     /// A text without a space.
     One(&'a [u8]),
     /// A text with one space.
     Two(&'a [u8], &'a [u8]),
-    /// A text with more; the last part has all that stands after the second space.
+    /// A text with more; the last part has all that comes after the second space.
     Three(&'a [u8], &'a [u8], &'a [u8]),
 }
 

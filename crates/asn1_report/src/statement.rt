@@ -23,12 +23,12 @@ use std::mem;
 pub(crate) enum Statement<'a> {
     /// Nothing: the line is empty.
     SaysNothing,
-    /// That a name stands for a tree.
+    /// That a name is that of a tree.
     NamesTree {
         name: &'a [u8],
         tree: FlatTree,
     },
-    /// That a name stands for what two bounds have in common.
+    /// That a name is that of what two bounds have in common.
     NamesBounds {
         name: &'a [u8],
         first: Bounded<i128>,

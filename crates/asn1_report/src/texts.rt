@@ -6,7 +6,7 @@ use std::alloc::AllocError;
 use std::fmt::Display;
 use std::io::Write;
 
-/// Writes a line with the verdict on what that name of that kind stands for.
+/// Writes a line with the verdict on what that name of that kind means.
 pub(crate) fn write_verdict<V: Display + Drop>(
     kind: &str,
     name: &[u8],

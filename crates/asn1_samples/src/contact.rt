@@ -1,11 +1,15 @@
 //! `[[ phone [3] NumericString OPTIONAL, mail [4] IA5String OPTIONAL ]]`: the group of additions of a `Profile`.
 ghost use Rattle.std.specs.Prelude.{[], ◌∷◌, codes};
-ghost use Rattle.asn1_types.specs.Words.{context, tagged, optional, sequence};
+ghost use Rattle.asn1_components.specs.Components.{all_components};
+ghost use Rattle.asn1_slots.specs.Slots.{optional_slot, sequence_of_slots, slots_agree};
+ghost use Rattle.asn1_types.specs.Words.{context, tagged, sequence};
 
 use asn1_dec::{DecodeError, DecodeFields, Decoder};
 use asn1_enc::{Encode, EncodeError, EncodeFields, Encoder};
+use asn1_slots::{DecodeByPlace, Slotted, Tagging, optional};
 use asn1_strings::{Ia5String, NumericString};
 use asn1_types::{AsnType, Class, Field, FieldTable, Tag, TagTree};
+use std::alloc::Global;
 
 /// How to reach someone: a group of additions, which has no tag of its own.
 #[derive(PartialEq, Eq, Debug, Drop)]
@@ -29,10 +33,22 @@ const MAIL: Tag = Tag {
 /// The trees of the components, which are those of the group.
 pub(crate) const CONTACT: &[TagTree<'static>] = &[TagTree::Leaf(PHONE), TagTree::Leaf(MAIL)];
 
+impl Slotted for Contact {
+    type Slots = (Option<NumericString>, Option<Ia5String>);
+
+    ghost layout = { optional_slot (codes "phone") (λ c. c.phone) (λ s. s.0) (tagged (context 3) ⟦<NumericString as AsnType>⟧.meaning) ⟦<NumericString as PartialEq>⟧.eq ∷
+        optional_slot (codes "mail") (λ c. c.mail) (λ s. s.1) (tagged (context 4) ⟦<Ia5String as AsnType>⟧.meaning) ⟦<Ia5String as PartialEq>⟧.eq ∷ [] };
+
+    fn from_slots(_alloc: Global, slots: Self::Slots) -> Result<Contact, DecodeError> {
+        Ok(Contact {
+            phone: slots.0,
+            mail: slots.1,
+        })
+    }
+}
+
 impl FieldTable for Contact {
-    ghost components = { sequence (
-        optional (codes "phone") (λ c. c.phone) (tagged (context 3) ⟦<NumericString as AsnType>⟧.meaning) ∷
-        optional (codes "mail") (λ c. c.mail) (tagged (context 4) ⟦<Ia5String as AsnType>⟧.meaning) ∷ []) };
+    ghost components = { sequence_of_slots ⟦<Contact as Slotted>⟧.layout };
 
     fn field_count() -> usize {
         2
@@ -63,8 +79,22 @@ impl EncodeFields for Contact {
 
 impl DecodeFields for Contact {
     fn decode_fields<D: Decoder>(decoder: &mut D) -> Result<Contact, DecodeError> {
-        let phone = decoder.decode_optional_with_tag(PHONE)?;
-        let mail = decoder.decode_optional_with_tag(MAIL)?;
-        Ok(Contact { phone, mail })
+        Contact::decode_by_place(decoder)
     }
+}
+
+impl DecodeByPlace for Contact {
+    fn decode_field<D: Decoder>(
+        place: usize,
+        slots: &mut Self::Slots,
+        decoder: &mut D,
+    ) -> Result<(), DecodeError> {
+        match place {
+            0 => optional(&mut slots.0, decoder, Tagging::Tagged(PHONE)),
+            1 => optional(&mut slots.1, decoder, Tagging::Tagged(MAIL)),
+            _ => Ok(()),
+        }
+    }
+
+    ghost agrees = { slots_agree (all_components ⟦<Contact as FieldTable>⟧.components) };
 }

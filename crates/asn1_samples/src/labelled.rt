@@ -4,13 +4,17 @@ ghost use Rattle.std.specs.Cmp.{nat_eq_equiv, on_equiv, on_per, partial_equiv_fr
 ghost use Rattle.std.specs.Hash as fed;
 ghost use Rattle.std.specs.Hash.{on_Alike, same_Alike};
 ghost use Rattle.std.specs.Ordering.{on};
-ghost use Rattle.asn1_types.specs.Words.{lines, context, universal, tagged, required, sequence, constructed_type, constructed_agrees, CanStandInside, own_records, holding, sequence_head, scalar, number, values_of, Range};
+ghost use Rattle.asn1_components.specs.Components.{all_components};
+ghost use Rattle.asn1_slots.specs.Slots.{required_slot, sequence_of_slots, slots_agree};
+ghost use Rattle.asn1_types.specs.Words.{lines, context, universal, tagged, constructed_type, constructed_agrees, CanStandInside, own_records, holding, sequence_head, scalar, number, values_of, Range};
 
 use asn1_dec::{Decode, DecodeError, DecodeFields, Decoder};
 use asn1_enc::{Encode, EncodeError, EncodeFields, Encoder};
+use asn1_slots::{DecodeByPlace, Slotted, Tagging, filled, required};
 use asn1_types::{
     AsnType, Class, Constraints, ConstructedType, Field, FieldTable, Identifier, Tag, TypeTable,
 };
+use std::alloc::Global;
 use std::hash::{Hash, Hasher};
 
 /// A number with a note. Two with one key are equal, whatever their notes.
@@ -56,10 +60,22 @@ const NOTE: Tag = Tag {
     value: 1,
 };
 
+impl Slotted for Labelled {
+    type Slots = (Option<u8>, Option<u8>);
+
+    ghost layout = { required_slot (codes "key") (λ l. l.key) (λ s. s.0) (tagged (context 0) ⟦<u8 as AsnType>⟧.meaning) ⟦<u8 as PartialEq>⟧.eq ∷
+        required_slot (codes "note") (λ l. l.note) (λ s. s.1) (tagged (context 1) ⟦<u8 as AsnType>⟧.meaning) ⟦<u8 as PartialEq>⟧.eq ∷ [] };
+
+    fn from_slots(_alloc: Global, slots: Self::Slots) -> Result<Labelled, DecodeError> {
+        Ok(Labelled {
+            key: filled(slots.0, "key")?,
+            note: filled(slots.1, "note")?,
+        })
+    }
+}
+
 impl FieldTable for Labelled {
-    ghost components = { sequence (
-        required (codes "key") (λ l. l.key) (tagged (context 0) ⟦<u8 as AsnType>⟧.meaning) ∷
-        required (codes "note") (λ l. l.note) (tagged (context 1) ⟦<u8 as AsnType>⟧.meaning) ∷ []) };
+    ghost components = { sequence_of_slots ⟦<Labelled as Slotted>⟧.layout };
 
     fn field_count() -> usize {
         2
@@ -133,10 +149,24 @@ impl Decode for Labelled {
 
 impl DecodeFields for Labelled {
     fn decode_fields<D: Decoder>(decoder: &mut D) -> Result<Labelled, DecodeError> {
-        let key = u8::decode_with_tag(decoder, KEY)?;
-        let note = u8::decode_with_tag(decoder, NOTE)?;
-        Ok(Labelled { key, note })
+        Labelled::decode_by_place(decoder)
     }
+}
+
+impl DecodeByPlace for Labelled {
+    fn decode_field<D: Decoder>(
+        place: usize,
+        slots: &mut Self::Slots,
+        decoder: &mut D,
+    ) -> Result<(), DecodeError> {
+        match place {
+            0 => required(&mut slots.0, decoder, Tagging::Tagged(KEY)),
+            1 => required(&mut slots.1, decoder, Tagging::Tagged(NOTE)),
+            _ => Ok(()),
+        }
+    }
+
+    ghost agrees = { slots_agree (all_components ⟦<Labelled as FieldTable>⟧.components) };
 }
 
 /// What `Labelled { key: 1, note: 9 }` is to every codec: the note is written too.

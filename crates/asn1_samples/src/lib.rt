@@ -48,6 +48,7 @@ mod plate;
 mod profile;
 mod settings;
 mod shape;
+mod ticket;
 mod visit;
 
 pub use badge::{Badge, badge_can_stand_inside, badge_records, badge_table_is_canonical};
@@ -63,4 +64,5 @@ pub use plate::{Plate, plate_can_stand_inside, plate_records};
 pub use profile::{Profile, profile_can_stand_inside, profile_records};
 pub use settings::{Settings, settings_can_stand_inside, settings_records};
 pub use shape::{Shape, shape_can_stand_inside, shape_records};
+pub use ticket::{Ticket, ticket_can_stand_inside, ticket_records};
 pub use visit::{Visit, visit_can_stand_inside, visit_records};

@@ -1,14 +1,18 @@
 //! `Notice ::= SEQUENCE { id [0] INTEGER (0..255), urgent [1] EXPLICIT BOOLEAN OPTIONAL, text [2] UTF8String }`
 ghost use Rattle.std.specs.Prelude.{◌≡◌, [], ◌∷◌, None, Some, true, pos, codes};
 ghost use Rattle.std.specs.String.{string_bytes};
-ghost use Rattle.asn1_types.specs.Words.{lines, in_root, context, universal, tagged, explicitly_tagged, required, optional, sequence, constructed_type, constructed_agrees, CanStandInside, own_records, holding, sequence_head, prefix, scalar, mark, absent, present, number, truth, units, utf8, unconstrained, values_of, Range};
+ghost use Rattle.asn1_components.specs.Components.{all_components};
+ghost use Rattle.asn1_slots.specs.Slots.{optional_slot, required_slot, sequence_of_slots, slots_agree};
+ghost use Rattle.asn1_types.specs.Words.{lines, in_root, context, universal, tagged, explicitly_tagged, constructed_type, constructed_agrees, CanStandInside, own_records, holding, sequence_head, prefix, scalar, mark, absent, present, number, truth, units, utf8, unconstrained, values_of, Range};
 
 use asn1_dec::{Decode, DecodeError, DecodeFields, Decoder};
 use asn1_enc::{Encode, EncodeError, EncodeFields, Encoder};
+use asn1_slots::{DecodeByPlace, Slotted, Tagging, filled, optional, required};
 use asn1_strings::Utf8String;
 use asn1_types::{
     AsnType, Class, Constraints, ConstructedType, Field, FieldTable, Identifier, Tag, TypeTable,
 };
+use std::alloc::Global;
 
 /// What someone is told, and whether at once.
 #[derive(PartialEq, Eq, Debug, Drop)]
@@ -36,12 +40,24 @@ const TEXT: Tag = Tag {
     value: 2,
 };
 
+impl Slotted for Notice {
+    type Slots = (Option<u8>, Option<bool>, Option<Utf8String>);
+
+    ghost layout = { required_slot (codes "id") (λ n. n.id) (λ s. s.0) (tagged (context 0) ⟦<u8 as AsnType>⟧.meaning) ⟦<u8 as PartialEq>⟧.eq ∷
+        optional_slot (codes "urgent") (λ n. n.urgent) (λ s. s.1) (explicitly_tagged (context 1) ⟦<bool as AsnType>⟧.meaning) ⟦<bool as PartialEq>⟧.eq ∷
+        required_slot (codes "text") (λ n. n.text) (λ s. s.2) (tagged (context 2) ⟦<Utf8String as AsnType>⟧.meaning) ⟦<Utf8String as PartialEq>⟧.eq ∷ [] };
+
+    fn from_slots(_alloc: Global, slots: Self::Slots) -> Result<Notice, DecodeError> {
+        Ok(Notice {
+            id: filled(slots.0, "id")?,
+            urgent: slots.1,
+            text: filled(slots.2, "text")?,
+        })
+    }
+}
+
 impl FieldTable for Notice {
-    ghost components = { sequence (
-        required (codes "id") (λ n. n.id) (tagged (context 0) ⟦<u8 as AsnType>⟧.meaning) ∷
-        optional (codes "urgent") (λ n. n.urgent)
-        (explicitly_tagged (context 1) ⟦<bool as AsnType>⟧.meaning) ∷
-        required (codes "text") (λ n. n.text) (tagged (context 2) ⟦<Utf8String as AsnType>⟧.meaning) ∷ []) };
+    ghost components = { sequence_of_slots ⟦<Notice as Slotted>⟧.layout };
 
     fn field_count() -> usize {
         3
@@ -122,11 +138,25 @@ impl Decode for Notice {
 
 impl DecodeFields for Notice {
     fn decode_fields<D: Decoder>(decoder: &mut D) -> Result<Notice, DecodeError> {
-        let id = u8::decode_with_tag(decoder, ID)?;
-        let urgent = decoder.decode_optional_with_explicit_prefix(URGENT)?;
-        let text = Utf8String::decode_with_tag(decoder, TEXT)?;
-        Ok(Notice { id, urgent, text })
+        Notice::decode_by_place(decoder)
     }
+}
+
+impl DecodeByPlace for Notice {
+    fn decode_field<D: Decoder>(
+        place: usize,
+        slots: &mut Self::Slots,
+        decoder: &mut D,
+    ) -> Result<(), DecodeError> {
+        match place {
+            0 => required(&mut slots.0, decoder, Tagging::Tagged(ID)),
+            1 => optional(&mut slots.1, decoder, Tagging::Explicit(URGENT)),
+            2 => required(&mut slots.2, decoder, Tagging::Tagged(TEXT)),
+            _ => Ok(()),
+        }
+    }
+
+    ghost agrees = { slots_agree (all_components ⟦<Notice as FieldTable>⟧.components) };
 }
 
 /// What a notice is to every codec: `Notice { id: 7, urgent: Some(true), text: "Come" }` (`urgent`), and the same without

@@ -1,12 +1,16 @@
 //! `Pair{T, U} ::= SEQUENCE { first T, second [0] U OPTIONAL }`
 ghost use Rattle.std.specs.Prelude.{◌≡◌, ◌↔◌, ℕ, Bool, List, [], ◌∷◌, None, Some, IfSome, true, pos, codes};
+ghost use Rattle.asn1_components.specs.Components.{all_components};
+ghost use Rattle.asn1_slots.specs.Slots.{optional_slot, required_slot, slots_agree};
 ghost use Rattle.asn1_types.specs.Words.{lines, in_root, context, universal, tagged, untagged, required, optional, sequence, constructed_type, constructed_agrees, CanStandInside, CanStandInsideUnder, own_records, holding, sequence_head, scalar, mark, absent, present, number, truth, unconstrained, values_of, Range};
 
 use asn1_dec::{Decode, DecodeError, DecodeFields, Decoder};
 use asn1_enc::{Encode, EncodeError, EncodeFields, Encoder};
+use asn1_slots::{DecodeByPlace, Slotted, Tagging, filled, optional, required};
 use asn1_types::{
     AsnType, Class, Constraints, ConstructedType, Field, FieldTable, Identifier, Tag, TypeTable,
 };
+use std::alloc::Global;
 
 /// A value of one type, and perhaps one of another.
 #[derive(PartialEq, Eq, Debug, Drop)]
@@ -21,6 +25,20 @@ const SECOND: Tag = Tag {
     class: Class::Context,
     value: 0,
 };
+
+impl<T: Decode, U: Decode> Slotted for Pair<T, U> {
+    type Slots = (Option<T>, Option<U>);
+
+    ghost layout = { required_slot (codes "first") (λ p. p.first) (λ s. s.0) (untagged T.meaning) T.eq ∷
+        optional_slot (codes "second") (λ p. p.second) (λ s. s.1) (tagged (context 0) U.meaning) U.eq ∷ [] };
+
+    fn from_slots(_alloc: Global, slots: Self::Slots) -> Result<Pair<T, U>, DecodeError> {
+        Ok(Pair {
+            first: filled(slots.0, "first")?,
+            second: slots.1,
+        })
+    }
+}
 
 impl<T: AsnType, U: AsnType> FieldTable for Pair<T, U> {
     ghost components = { sequence (
@@ -107,10 +125,24 @@ impl<T: Decode, U: Decode> Decode for Pair<T, U> {
 
 impl<T: Decode, U: Decode> DecodeFields for Pair<T, U> {
     fn decode_fields<D: Decoder>(decoder: &mut D) -> Result<Pair<T, U>, DecodeError> {
-        let first = T::decode(decoder)?;
-        let second = decoder.decode_optional_with_tag(SECOND)?;
-        Ok(Pair { first, second })
+        Pair::decode_by_place(decoder)
     }
+}
+
+impl<T: Decode, U: Decode> DecodeByPlace for Pair<T, U> {
+    fn decode_field<D: Decoder>(
+        place: usize,
+        slots: &mut Self::Slots,
+        decoder: &mut D,
+    ) -> Result<(), DecodeError> {
+        match place {
+            0 => required(&mut slots.0, decoder, Tagging::Untagged),
+            1 => optional(&mut slots.1, decoder, Tagging::Tagged(SECOND)),
+            _ => Ok(()),
+        }
+    }
+
+    ghost agrees = { slots_agree (all_components ⟦<Pair<T, U> as FieldTable>⟧.components) };
 }
 
 /// What a pair of a number and a truth value is to every codec: `Pair { first: 7, second: Some(true) }` (`both`), and

@@ -1,15 +1,19 @@
 //! `Person ::= SEQUENCE { age INTEGER, name UTF8String }`
 ghost use Rattle.std.specs.Prelude.{◌≡◌, [], ◌∷◌, Some, pos, codes};
 ghost use Rattle.std.specs.String.{string_bytes};
-ghost use Rattle.asn1_types.specs.Words.{lines, universal, untagged, required, sequence, constructed_type, constructed_agrees, CanStandInside, own_records, holding, sequence_head, scalar, number, units, utf8, unconstrained};
+ghost use Rattle.asn1_components.specs.Components.{all_components};
+ghost use Rattle.asn1_slots.specs.Slots.{required_slot, sequence_of_slots, slots_agree};
+ghost use Rattle.asn1_types.specs.Words.{lines, universal, untagged, constructed_type, constructed_agrees, CanStandInside, own_records, holding, sequence_head, scalar, number, units, utf8, unconstrained};
 
 use asn1_dec::{Decode, DecodeError, DecodeFields, Decoder};
 use asn1_enc::{Encode, EncodeError, EncodeFields, Encoder};
+use asn1_slots::{DecodeByPlace, Slotted, Tagging, filled, required};
 use asn1_strings::Utf8String;
 use asn1_types::{
     AsnType, Constraints, ConstructedType, Field, FieldTable, Identifier, Tag, TypeTable,
 };
 use asn1_values::Integer;
+use std::alloc::Global;
 
 /// How old someone is, and their name.
 #[derive(PartialEq, Eq, Debug, Drop)]
@@ -20,10 +24,22 @@ pub struct Person {
     pub name: Utf8String,
 }
 
+impl Slotted for Person {
+    type Slots = (Option<Integer>, Option<Utf8String>);
+
+    ghost layout = { required_slot (codes "age") (λ p. p.age) (λ s. s.0) (untagged ⟦<Integer as AsnType>⟧.meaning) ⟦<Integer as PartialEq>⟧.eq ∷
+        required_slot (codes "name") (λ p. p.name) (λ s. s.1) (untagged ⟦<Utf8String as AsnType>⟧.meaning) ⟦<Utf8String as PartialEq>⟧.eq ∷ [] };
+
+    fn from_slots(_alloc: Global, slots: Self::Slots) -> Result<Person, DecodeError> {
+        Ok(Person {
+            age: filled(slots.0, "age")?,
+            name: filled(slots.1, "name")?,
+        })
+    }
+}
+
 impl FieldTable for Person {
-    ghost components = { sequence (
-        required (codes "age") (λ p. p.age) (untagged ⟦<Integer as AsnType>⟧.meaning) ∷
-        required (codes "name") (λ p. p.name) (untagged ⟦<Utf8String as AsnType>⟧.meaning) ∷ []) };
+    ghost components = { sequence_of_slots ⟦<Person as Slotted>⟧.layout };
 
     fn field_count() -> usize {
         2
@@ -97,10 +113,24 @@ impl Decode for Person {
 
 impl DecodeFields for Person {
     fn decode_fields<D: Decoder>(decoder: &mut D) -> Result<Person, DecodeError> {
-        let age = Integer::decode(decoder)?;
-        let name = Utf8String::decode(decoder)?;
-        Ok(Person { age, name })
+        Person::decode_by_place(decoder)
     }
+}
+
+impl DecodeByPlace for Person {
+    fn decode_field<D: Decoder>(
+        place: usize,
+        slots: &mut Self::Slots,
+        decoder: &mut D,
+    ) -> Result<(), DecodeError> {
+        match place {
+            0 => required(&mut slots.0, decoder, Tagging::Untagged),
+            1 => required(&mut slots.1, decoder, Tagging::Untagged),
+            _ => Ok(()),
+        }
+    }
+
+    ghost agrees = { slots_agree (all_components ⟦<Person as FieldTable>⟧.components) };
 }
 
 /// What `Person { age: 30, name: "Ann" }` is to every codec.

@@ -11,17 +11,21 @@
 //! ```
 ghost use Rattle.std.specs.Prelude.{◌≡◌, [], ◌∷◌, None, Some, pos, codes};
 ghost use Rattle.std.specs.String.{string_bytes};
-ghost use Rattle.asn1_types.specs.Words.{lines, labels_of, in_root, context, universal, tagged, required, optional, with_default, extensible_sequence, group, constructed_type, constructed_agrees, CanStandInside, own_records, holding, sequence_head, scalar, mark, absent, present, group_start, group_end, group_absent, number, discriminant, units, utf8, ia5, unconstrained, values_of, Range};
+ghost use Rattle.asn1_components.specs.Components.{all_components};
+ghost use Rattle.asn1_slots.specs.Slots.{default_slot, extensible_sequence_after, group_slot, optional_slot, required_slot, slots_agree};
+ghost use Rattle.asn1_types.specs.Words.{lines, labels_of, in_root, context, universal, tagged, constructed_type, constructed_agrees, CanStandInside, own_records, holding, sequence_head, scalar, mark, absent, present, group_start, group_end, group_absent, number, discriminant, units, utf8, ia5, unconstrained, values_of, Range};
 ghost use Rattle.asn1_samples.specs.declared.color.Color.TheVariants.{Red, Blue};
 
 use crate::color::Color;
 use crate::contact::{CONTACT, Contact};
 use asn1_dec::{Decode, DecodeError, DecodeFields, Decoder};
 use asn1_enc::{Encode, EncodeError, EncodeFields, Encoder};
+use asn1_slots::{DecodeByPlace, Slotted, Tagging, filled, group, optional, or_default, required};
 use asn1_strings::{Ia5String, Utf8String};
 use asn1_types::{
     AsnType, Class, Constraints, ConstructedType, Field, FieldTable, Identifier, Tag, TypeTable,
 };
+use std::alloc::Global;
 
 /// What is known of someone.
 #[derive(PartialEq, Eq, Debug, Drop)]
@@ -51,12 +55,31 @@ const COLOR: Tag = Tag {
     value: 2,
 };
 
+impl Slotted for Profile {
+    type Slots = (
+        Option<Utf8String>,
+        Option<u8>,
+        Option<Color>,
+        Option<Contact>,
+    );
+
+    ghost layout = { optional_slot (codes "nick") (λ p. p.nick) (λ s. s.0) (tagged (context 0) ⟦<Utf8String as AsnType>⟧.meaning) ⟦<Utf8String as PartialEq>⟧.eq ∷
+        required_slot (codes "level") (λ p. p.level) (λ s. s.1) (tagged (context 1) ⟦<u8 as AsnType>⟧.meaning) ⟦<u8 as PartialEq>⟧.eq ∷
+        default_slot (codes "color") (λ p. p.color) Red (λ s. s.2) (tagged (context 2) ⟦<Color as AsnType>⟧.meaning) ⟦<Color as PartialEq>⟧.eq ∷
+        group_slot (codes "contact") (λ p. p.contact) (λ s. s.3) ⟦<Contact as FieldTable>⟧.components ⟦<Contact as PartialEq>⟧.eq ∷ [] };
+
+    fn from_slots(_alloc: Global, slots: Self::Slots) -> Result<Profile, DecodeError> {
+        Ok(Profile {
+            nick: slots.0,
+            level: filled(slots.1, "level")?,
+            color: or_default(slots.2, Color::Red),
+            contact: slots.3,
+        })
+    }
+}
+
 impl FieldTable for Profile {
-    ghost components = { extensible_sequence (
-        optional (codes "nick") (λ p. p.nick) (tagged (context 0) ⟦<Utf8String as AsnType>⟧.meaning) ∷
-        required (codes "level") (λ p. p.level) (tagged (context 1) ⟦<u8 as AsnType>⟧.meaning) ∷
-        with_default (codes "color") (λ p. p.color) (λ p. ⟦<Color as PartialEq>⟧.eq p.color Red) (tagged (context 2) ⟦<Color as AsnType>⟧.meaning) ∷ []) (
-        group (codes "contact") (λ p. p.contact) ⟦<Contact as FieldTable>⟧.components ∷ []) };
+    ghost components = { extensible_sequence_after 3 ⟦<Profile as Slotted>⟧.layout };
 
     fn field_count() -> usize {
         4
@@ -139,17 +162,26 @@ impl Decode for Profile {
 
 impl DecodeFields for Profile {
     fn decode_fields<D: Decoder>(decoder: &mut D) -> Result<Profile, DecodeError> {
-        let nick = decoder.decode_optional_with_tag(NICK)?;
-        let level = u8::decode_with_tag(decoder, LEVEL)?;
-        let color = decoder.decode_default_with_tag(COLOR, |_| Ok(Color::Red))?;
-        let contact = decoder.decode_extension_addition_group()?;
-        Ok(Profile {
-            nick,
-            level,
-            color,
-            contact,
-        })
+        Profile::decode_by_place(decoder)
     }
+}
+
+impl DecodeByPlace for Profile {
+    fn decode_field<D: Decoder>(
+        place: usize,
+        slots: &mut Self::Slots,
+        decoder: &mut D,
+    ) -> Result<(), DecodeError> {
+        match place {
+            0 => optional(&mut slots.0, decoder, Tagging::Tagged(NICK)),
+            1 => required(&mut slots.1, decoder, Tagging::Tagged(LEVEL)),
+            2 => optional(&mut slots.2, decoder, Tagging::Tagged(COLOR)),
+            3 => group(&mut slots.3, decoder),
+            _ => Ok(()),
+        }
+    }
+
+    ghost agrees = { slots_agree (all_components ⟦<Profile as FieldTable>⟧.components) };
 }
 
 /// What a profile is to every codec: `Profile { nick: None, level: 7, color: Red, contact: None }` (`empty`), the same with a

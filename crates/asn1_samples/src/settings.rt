@@ -1,13 +1,17 @@
 //! `Settings ::= SEQUENCE { entry [0] Labelled DEFAULT { key 1, note 0 } }`
 ghost use Rattle.std.specs.Prelude.{◌≡◌, [], ◌∷◌, Some, pos, codes};
-ghost use Rattle.asn1_types.specs.Words.{lines, in_root, context, universal, tagged, with_default, sequence, constructed_type, constructed_agrees, CanStandInside, own_records, holding, sequence_head, scalar, mark, absent, present, number, values_of, Range};
+ghost use Rattle.asn1_components.specs.Components.{all_components};
+ghost use Rattle.asn1_slots.specs.Slots.{default_slot, sequence_of_slots, slots_agree};
+ghost use Rattle.asn1_types.specs.Words.{lines, in_root, context, universal, tagged, constructed_type, constructed_agrees, CanStandInside, own_records, holding, sequence_head, scalar, mark, absent, present, number, values_of, Range};
 
 use crate::labelled::Labelled;
 use asn1_dec::{Decode, DecodeError, DecodeFields, Decoder};
 use asn1_enc::{Encode, EncodeError, EncodeFields, Encoder};
+use asn1_slots::{DecodeByPlace, Slotted, Tagging, optional, or_default};
 use asn1_types::{
     AsnType, Class, Constraints, ConstructedType, Field, FieldTable, Identifier, Tag, TypeTable,
 };
+use std::alloc::Global;
 
 /// What is set, unless it is as usual. An entry with the key of the default is the default, and its note is not written.
 #[derive(PartialEq, Eq, Debug, Drop)]
@@ -21,9 +25,20 @@ const ENTRY: Tag = Tag {
     value: 0,
 };
 
+impl Slotted for Settings {
+    type Slots = (Option<Labelled>,);
+
+    ghost layout = { default_slot (codes "entry") (λ s. s.entry) (record { key = 1; note = 0 }) (λ s. s.0) (tagged (context 0) ⟦<Labelled as AsnType>⟧.meaning) ⟦<Labelled as PartialEq>⟧.eq ∷ [] };
+
+    fn from_slots(_alloc: Global, slots: Self::Slots) -> Result<Settings, DecodeError> {
+        Ok(Settings {
+            entry: or_default(slots.0, Labelled { key: 1, note: 0 }),
+        })
+    }
+}
+
 impl FieldTable for Settings {
-    ghost components = { sequence (
-        with_default (codes "entry") (λ s. s.entry) (λ s. ⟦<Labelled as PartialEq>⟧.eq s.entry (record { key = 1; note = 0 })) (tagged (context 0) ⟦<Labelled as AsnType>⟧.meaning) ∷ []) };
+    ghost components = { sequence_of_slots ⟦<Settings as Slotted>⟧.layout };
 
     fn field_count() -> usize {
         1
@@ -100,9 +115,23 @@ impl Decode for Settings {
 
 impl DecodeFields for Settings {
     fn decode_fields<D: Decoder>(decoder: &mut D) -> Result<Settings, DecodeError> {
-        let entry = decoder.decode_default_with_tag(ENTRY, |_| Ok(Labelled { key: 1, note: 0 }))?;
-        Ok(Settings { entry })
+        Settings::decode_by_place(decoder)
     }
+}
+
+impl DecodeByPlace for Settings {
+    fn decode_field<D: Decoder>(
+        place: usize,
+        slots: &mut Self::Slots,
+        decoder: &mut D,
+    ) -> Result<(), DecodeError> {
+        match place {
+            0 => optional(&mut slots.0, decoder, Tagging::Tagged(ENTRY)),
+            _ => Ok(()),
+        }
+    }
+
+    ghost agrees = { slots_agree (all_components ⟦<Settings as FieldTable>⟧.components) };
 }
 
 /// What settings are to every codec: an entry with the key 1 and the note 9, which equals the default (`default`), and one

@@ -10,15 +10,19 @@
 //! ```
 ghost use Rattle.std.specs.Prelude.{◌≡◌, [], ◌∷◌, None, Some, pos, codes};
 ghost use Rattle.std.specs.String.{string_bytes};
-ghost use Rattle.asn1_types.specs.Words.{lines, in_root, in_additions, context, universal, tagged, required, addition, extensible_sequence, group, constructed_type, constructed_agrees, CanStandInside, own_records, holding, sequence_head, scalar, mark, absent, present, group_start, group_end, number, units, utf8, numeric, unconstrained, values_of, Range};
+ghost use Rattle.asn1_components.specs.Components.{all_components};
+ghost use Rattle.asn1_slots.specs.Slots.{addition_slot, extensible_sequence_after, group_slot, required_slot, slots_agree};
+ghost use Rattle.asn1_types.specs.Words.{lines, in_root, in_additions, context, universal, tagged, constructed_type, constructed_agrees, CanStandInside, own_records, holding, sequence_head, scalar, mark, absent, present, group_start, group_end, number, units, utf8, numeric, unconstrained, values_of, Range};
 
 use crate::contact::{CONTACT, Contact};
 use asn1_dec::{Decode, DecodeError, DecodeFields, Decoder};
 use asn1_enc::{Encode, EncodeError, EncodeFields, Encoder};
+use asn1_slots::{DecodeByPlace, Slotted, Tagging, addition, filled, group, required};
 use asn1_strings::{NumericString, Utf8String};
 use asn1_types::{
     AsnType, Class, Constraints, ConstructedType, Field, FieldTable, Identifier, Tag, TypeTable,
 };
+use std::alloc::Global;
 
 /// When someone came, and what is known of it.
 #[derive(PartialEq, Eq, Debug, Drop)]
@@ -41,11 +45,24 @@ const NOTE: Tag = Tag {
     value: 5,
 };
 
+impl Slotted for Visit {
+    type Slots = (Option<u16>, Option<Contact>, Option<Utf8String>);
+
+    ghost layout = { required_slot (codes "day") (λ v. v.day) (λ s. s.0) (tagged (context 0) ⟦<u16 as AsnType>⟧.meaning) ⟦<u16 as PartialEq>⟧.eq ∷
+        group_slot (codes "contact") (λ v. v.contact) (λ s. s.1) ⟦<Contact as FieldTable>⟧.components ⟦<Contact as PartialEq>⟧.eq ∷
+        addition_slot (codes "note") (λ v. v.note) (λ s. s.2) (tagged (context 5) ⟦<Utf8String as AsnType>⟧.meaning) ⟦<Utf8String as PartialEq>⟧.eq ∷ [] };
+
+    fn from_slots(_alloc: Global, slots: Self::Slots) -> Result<Visit, DecodeError> {
+        Ok(Visit {
+            day: filled(slots.0, "day")?,
+            contact: slots.1,
+            note: slots.2,
+        })
+    }
+}
+
 impl FieldTable for Visit {
-    ghost components = { extensible_sequence (
-        required (codes "day") (λ v. v.day) (tagged (context 0) ⟦<u16 as AsnType>⟧.meaning) ∷ []) (
-        group (codes "contact") (λ v. v.contact) ⟦<Contact as FieldTable>⟧.components ∷
-        addition (codes "note") (λ v. v.note) (tagged (context 5) ⟦<Utf8String as AsnType>⟧.meaning) ∷ []) };
+    ghost components = { extensible_sequence_after 1 ⟦<Visit as Slotted>⟧.layout };
 
     fn field_count() -> usize {
         3
@@ -125,11 +142,25 @@ impl Decode for Visit {
 
 impl DecodeFields for Visit {
     fn decode_fields<D: Decoder>(decoder: &mut D) -> Result<Visit, DecodeError> {
-        let day = u16::decode_with_tag(decoder, DAY)?;
-        let contact = decoder.decode_extension_addition_group()?;
-        let note = decoder.decode_extension_addition_with_tag(NOTE)?;
-        Ok(Visit { day, contact, note })
+        Visit::decode_by_place(decoder)
     }
+}
+
+impl DecodeByPlace for Visit {
+    fn decode_field<D: Decoder>(
+        place: usize,
+        slots: &mut Self::Slots,
+        decoder: &mut D,
+    ) -> Result<(), DecodeError> {
+        match place {
+            0 => required(&mut slots.0, decoder, Tagging::Tagged(DAY)),
+            1 => group(&mut slots.1, decoder),
+            2 => addition(&mut slots.2, decoder, Tagging::Tagged(NOTE)),
+            _ => Ok(()),
+        }
+    }
+
+    ghost agrees = { slots_agree (all_components ⟦<Visit as FieldTable>⟧.components) };
 }
 
 /// What a visit is to every codec: `Visit { day: 7, contact: Some(Contact { phone: Some("12"), mail: None }), note }`, of which the

@@ -5,11 +5,14 @@
 //! | [`Rules`] | a codec as a whole: what a value becomes, and how that is read |
 //! | [`round_trip`] | writes a value and reads it back |
 //! | [`RoundTripError`] | which of the two failed |
+//! | [`recode`], [`RecodeError`] | reads a value by one codec and writes it by another |
 //! | [`UniversalString`], [`UtcTime`], [`GeneralizedTime`], [`ObjectDescriptor`] | the kinds of string that are another kind under a tag |
-//! | [`laws`] | what the derives of the error give, and which kind of string each name is |
+//! | [`laws`] | what the derives of the errors give, and which kind of string each name is |
 //!
-//! The types and traits of the crates below that an author of types or of a codec needs are handed on, so that code names this
-//! crate alone.
+//! It is the one crate that an author of types or of a codec names in crates.txt. Each public name of the crates below is
+//! re-exported, but for the macro `item!`, which is of `asn1_enumerations`. The crates stand here under the names of their subjects
+//! too (`types`, `strings`, `codec` and so on), in code, and so do their definitions and their lemmas: `specs/Lib.antt` and
+//! `proofs/Lib.antt` pass them on. The words with which an author says what a type means are `Rattle.asn1_schema.specs.Words`.
 //!
 //! What the contracts promise, and the words that they use:
 //!
@@ -24,13 +27,17 @@
 //!   `specs/RoundTrips.antt`). Its premises are that the type's tags are distinct, and that the value is valid: open types in
 //!   it hold one value each, a group that is there writes a component, numbers are within their limits. Of every other value too,
 //!   one that was written is no higher than the depth of writing, and writing fails as it may (`written`).
+//! - `recode` goes from any codec to any other: of an input that carries the own records of a valid value of such a type it makes an
+//!   output that carries those of an equal value (`recoded`), and it fails as reading and writing may (`specs/Recoding.antt`).
 #![tactic(auto)]
 
 pub mod laws;
+mod recoding;
 mod round_trips;
 mod rules;
 mod tagged_strings;
 
+pub use asn1_bounds as bounds;
 pub use asn1_bounds::Codec;
 pub use asn1_bounds::Constraint;
 pub use asn1_bounds::ConstraintDiscriminant;
@@ -39,6 +46,11 @@ pub use asn1_bounds::InnerSubtypeConstraint;
 pub use asn1_bounds::InnerSubtypeConstraintError;
 pub use asn1_bounds::TooWide;
 pub use asn1_bounds::WholeNumber;
+pub use asn1_choices as choices;
+pub use asn1_codec as codec;
+pub use asn1_codec::Side;
+pub use asn1_components as components;
+pub use asn1_dec as dec;
 pub use asn1_dec::Decode;
 pub use asn1_dec::DecodeChoice;
 pub use asn1_dec::DecodeError;
@@ -47,13 +59,24 @@ pub use asn1_dec::DecodeSet;
 pub use asn1_dec::Decoder;
 pub use asn1_dec::Needed;
 pub use asn1_dec::keep_once;
+pub use asn1_enc as enc;
 pub use asn1_enc::Encode;
 pub use asn1_enc::EncodeChoice;
 pub use asn1_enc::EncodeError;
 pub use asn1_enc::EncodeFields;
 pub use asn1_enc::Encoder;
+pub use asn1_enumerations as enumerations;
 pub use asn1_enumerations::EnumeratedTable;
 pub use asn1_enumerations::item;
+pub use asn1_fields as fields;
+pub use asn1_model as model;
+pub use asn1_open as open_values;
+pub use asn1_open::Open;
+pub use asn1_open::an_instance_is_three_deeper_than_its_value;
+pub use asn1_open::each_open_is_valid;
+pub use asn1_open::open_can_stand_inside;
+pub use asn1_ranges as ranges;
+pub use asn1_strings as strings;
 pub use asn1_strings::Alphabet;
 pub use asn1_strings::AlphabetError;
 pub use asn1_strings::AlphabetString;
@@ -77,8 +100,10 @@ pub use asn1_strings::UnitString;
 pub use asn1_strings::Utf8String;
 pub use asn1_strings::VisibleString;
 pub use asn1_strings::kind;
+pub use asn1_tags as tags;
 pub use asn1_tags::Variants;
 pub use asn1_tags::VariantsError;
+pub use asn1_types as types;
 pub use asn1_types::Any;
 pub use asn1_types::AnyStr;
 pub use asn1_types::AnyString;
@@ -138,6 +163,7 @@ pub use asn1_types::tables_are_in_order;
 pub use asn1_types::tag;
 pub use asn1_types::the_chosen_tag_tells_the_alternative;
 pub use asn1_types::written_number;
+pub use asn1_values as values;
 pub use asn1_values::Between;
 pub use asn1_values::ConstrainedInteger;
 pub use asn1_values::Integer;
@@ -145,6 +171,8 @@ pub use asn1_values::IntegerType;
 pub use asn1_values::LimitedInteger;
 pub use asn1_values::Limits;
 pub use asn1_values::OutOfRangeError;
+pub use recoding::RecodeError;
+pub use recoding::recode;
 pub use round_trips::RoundTripError;
 pub use round_trips::round_trip;
 pub use rules::Rules;

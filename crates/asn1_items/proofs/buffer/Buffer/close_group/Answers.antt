@@ -1,30 +1,22 @@
-use Rattle.std.proofs.Common.{◌≡◌, ◌≤◌, ℕ, ap, arith, sym}
+use Rattle.std.proofs.Common.{ap, sym}
 use Rattle.std.specs.Prelude.{not}
-use Rattle.asn1_items.proofs.Writing.{absent_group_closed, group_closed, group_of, group_starts, is_a_group, no_more_scopes, not_both, same_scopes}
+use Rattle.asn1_items.proofs.Writing.{absent_group_closed, group_closed, group_of, is_a_group, no_more_scopes, not_both, same_scopes}
 use Rattle.asn1_items.proofs.buffer.Buffer.close_group.Goals as goal
 
-zero_start : (n : ℕ) → 1 ≤ n → n ≡ 0 → ⊥
-zero_start n above none = omega (arith, above, none)
-
 pub returns-then-not-frame-clause-closed : goal.returns-then-not-frame-clause-closed
-returns-then-not-frame-clause-closed c = λ table rs w wrote.
+returns-then-not-frame-clause-closed c = λ marks table rs w ends absent wrote.
     let old = c.args.self.now in
-    absurd (not_both _ (ap not (group_of old.outer.items c.pop.new.self.items c.in-Some.frame old.bytes.items old.has_records table rs w c.in-Some.ensures.items wrote).0) c.if-not-frame.true)
-
-pub returns-then-frame-eq0-clause-closed : goal.returns-then-frame-eq0-clause-closed
-returns-then-frame-eq0-clause-closed c = λ table rs w wrote.
-    let old = c.args.self.now in
-    absurd (zero_start _ (group_starts old.outer.items c.pop.new.self.items c.in-Some.frame old.bytes.items old.has_records table rs w c.in-Some.ensures.items wrote) c.if-frame-eq0.true)
+    absurd (not_both _ (ap not (group_of marks old.outer.items c.pop.new.self.items c.in-Some.frame old.bytes.items old.has_records table rs w c.in-Some.ensures.items wrote).0) c.if-not-frame.true)
 
 pub returns-then-self-clause-closed : goal.returns-then-self-clause-closed
-returns-then-self-clause-closed c = λ table rs w wrote.
+returns-then-self-clause-closed c = λ marks table rs w ends absent wrote.
     let old = c.args.self.now in
-    group_closed old.outer.items c.pop.new.self.items c.in-Some.frame old.bytes.items c.extend_from_slice.new.self.items old.has_records c.in-Some.ensures.items c.if-self.true c.in_ok-extend_from_slice.ensures.items table rs w wrote
+    group_closed marks old.outer.items c.pop.new.self.items c.in-Some.frame old.bytes.items c.extend_from_slice.new.self.items c.args.end_mark.now old.has_records c.in-Some.ensures.items c.if-self.true c.in_ok-extend_from_slice.ensures.items ends table rs w wrote
 
 pub returns-clause-closed : goal.returns-clause-closed
-returns-clause-closed c = λ table rs w wrote.
+returns-clause-closed c = λ marks table rs w ends absent wrote.
     let old = c.args.self.now in
-    absent_group_closed old.outer.items c.pop.new.self.items c.in-Some.frame old.bytes.items c.truncate.new.self.items c.extend_from_slice-2.new.self.items old.has_records c.in-Some.ensures.items c.if-self.false c.truncate.ensures.items c.in_ok-extend_from_slice-2.ensures.items table rs w wrote
+    absent_group_closed marks old.outer.items c.pop.new.self.items c.in-Some.frame old.bytes.items c.truncate.new.self.items c.extend_from_slice-2.new.self.items c.args.absent_mark.now old.has_records c.in-Some.ensures.items c.if-self.false c.truncate.ensures.items c.in_ok-extend_from_slice-2.ensures.items absent table rs w wrote
 
 pub returns-then-self-clause-same_scopes : goal.returns-then-self-clause-same_scopes
 returns-then-self-clause-same_scopes c = sym (same_scopes c.pop.new.self.items c.args.self.now.outer.items c.in-Some.frame (is_a_group c.in-Some.frame.is_group c.if-not-frame.false) c.in-Some.ensures.items)
@@ -34,9 +26,6 @@ returns-clause-same_scopes c = sym (same_scopes c.pop.new.self.items c.args.self
 
 pub returns-then-not-frame-clause-no_more : goal.returns-then-not-frame-clause-no_more
 returns-then-not-frame-clause-no_more c = no_more_scopes c.args.self.now.outer.items c.pop.new.self.items c.in-Some.frame c.in-Some.ensures.items
-
-pub returns-then-frame-eq0-clause-no_more : goal.returns-then-frame-eq0-clause-no_more
-returns-then-frame-eq0-clause-no_more c = no_more_scopes c.args.self.now.outer.items c.pop.new.self.items c.in-Some.frame c.in-Some.ensures.items
 
 pub returns-in_err-extend_from_slice-clause-no_more : goal.returns-in_err-extend_from_slice-clause-no_more
 returns-in_err-extend_from_slice-clause-no_more c = no_more_scopes c.args.self.now.outer.items c.pop.new.self.items c.in-Some.frame c.in-Some.ensures.items

@@ -1,0 +1,147 @@
+-- What a call reads of the values of a type.
+use Rattle.std.specs.Prelude.{◌≡◌, ◌≤◌, ℕ, Bool, true, false, List, [], ◌∷◌, All, IsPermutation, None, Option, IfSome, Result, length}
+use Rattle.std.specs.List.{flat_map}
+use Rattle.std.specs.Option.{option_eq, option_map}
+use Rattle.asn1_tags.specs.Trees.{choice}
+use Rattle.asn1_tags.specs.declared.tags.Tag.{Tag}
+use Rattle.asn1_choices.specs.Alternatives.{Alternatives, CanBeChosen, Each, HaveDistinctTags, OneOf, all_of, chosen, chosen_meaning, table_of}
+use Rattle.asn1_choices.specs.ChosenTags.{TellsAlternative, chosen_tag}
+use Rattle.asn1_components.specs.ComponentLists.{CanBeInSequence, EachCanStandInside, EachIsOfType, EachIsValid, trees_of}
+use Rattle.asn1_components.specs.Components.{AreDistinctIn, Components, Kind, all_components, component_records, head_in, lines}
+use Rattle.asn1_components.specs.Following.{EndsApart}
+use Rattle.asn1_model.specs.Composites.{alternative_records, default_records, group_records, option_records}
+use Rattle.asn1_model.specs.ConstraintSets.{ConstraintSet}
+use Rattle.asn1_model.specs.Meaning.{Meaning, CanStandInside, own_records}
+use Rattle.asn1_model.specs.Records.{Content, alternative, Head, Name, Record, Side, highest, holding, marks_alone, set}
+use Rattle.asn1_model.specs.Tags.{Has, ShareNone, first_tags, tree_tags}
+use Rattle.asn1_codec.specs.GivenTypes.{Named}
+use Rattle.asn1_codec.specs.Reading as reading
+use Rattle.asn1_codec.specs.Reading.{Advances, Outside, Reader, ReadsBack, ReadsHead, records_in}
+use Rattle.asn1_codec.specs.SetParts.{ArePartsOf, CanBeInSet}
+use Rattle.asn1_codec.specs.declared.decode_error.DecodeError.{DecodeError}
+
+module _ {D : Type 0} (R : Reader D) where
+  -- A call that reads a content, under a tag, constraints and any name: of each that is of the type, it answers what `Is` holds
+  -- of.
+  abbrev pub ReadsContent : {X V : Type 0} → Tag → ConstraintSet → (X → Content) → (IsOfType : X → Type 0) → (V → X → Type 0) →
+      D → D → Result V DecodeError → Type 0
+  ReadsContent t c content IsOfType Is old new result = reading.ReadsContent R old new t c content IsOfType Is result
+
+  -- A call that reads the bytes of an open type, of any name: of those that the codec takes as one value, it answers what `Is`
+  -- holds of.
+  abbrev pub ReadsOpenType : {V : Type 0} → (V → List ℕ → Type 0) → D → D → Result V DecodeError → Type 0
+  ReadsOpenType Is old new result = reading.ReadsOpenType R old new Is result
+
+  -- A call that opens a CHOICE of these alternatives (X.680, 29), which can be told apart, under constraints and any name. It answers
+  -- a tag that the chosen one can begin with, where that can begin with its own.
+  abbrev pub ReadsHeadOfChoice : ConstraintSet → Alternatives → D → D → Result Tag DecodeError → Type 0
+  ReadsHeadOfChoice c alternatives old new result =
+      (tag : Tag) → HaveDistinctTags (all_of alternatives) → Each CanBeChosen (all_of alternatives) →
+      ReadsHead R old new (alternative tag c (table_of alternatives)) (λ _ told. TellsAlternative tag told (all_of alternatives)) result
+
+module _ {D : Type 0} (R : Reader D) {V : Type 0} where
+  -- A call that reads a value of a type that can be there, under any name: of each that is of the type and valid, it answers
+  -- one that is equal.
+  abbrev pub Reads : {W : Type 0} → Named V → (W → V → Bool) → D → D → Result W DecodeError → Type 0
+  Reads type eq old new result =
+      (v : V) (n : Name) (rest : List Record) (outer : Outside) →
+      (type n).CanStandInside → (type n).IsOfType v → (type n).IsValid R.takes v →
+      ReadsBack R old new ((type n).records v) rest outer (λ w. eq w v ≡ true) result
+
+  -- A call that reads a component that may be absent, on this side of the extension marker (X.680, 25.1). What follows one that
+  -- is absent begins with none of its tags.
+  abbrev pub ReadsOptional : Side → Named V → (V → V → Bool) → D → D → Result (Option V) DecodeError → Type 0
+  ReadsOptional side type eq old new result =
+      (v : Option V) (n : Name) (rest : List Record) (outer : Outside) →
+      (type n).CanStandInside → IfSome v (type n).IsOfType → IfSome v ((type n).IsValid R.takes) →
+      (v ≡ None → ShareNone (tree_tags (type n).tree) (first_tags rest)) →
+      ReadsBack R old new (option_records side (type n).tag (option_map (type n).records v)) rest outer (λ w. option_eq eq w v ≡ true) result
+
+  -- A call that reads a component with a default (X.680, 25.5), where each value that may be the default compares with the value
+  -- alike: it is absent where it equals the default. Of an absent one nothing is asked, but that what follows begins with none
+  -- of its tags.
+  abbrev pub ReadsDefault : Side → Named V → (IsDefault : V → Type 0) → (V → V → Bool) → D → D → Result V DecodeError → Type 0
+  ReadsDefault side type IsDefault eq old new result =
+      (v : V) (equal : Bool) (n : Name) (rest : List Record) (outer : Outside) →
+      ((usual : V) → IsDefault usual → eq v usual ≡ equal) →
+      (type n).CanStandInside → (equal ≡ false → (type n).IsOfType v) → (equal ≡ false → (type n).IsValid R.takes v) →
+      (equal ≡ true → ShareNone (tree_tags (type n).tree) (first_tags rest)) →
+      ReadsBack R old new (default_records side equal (type n).tag ((type n).records v)) rest outer (λ w. eq w v ≡ true) result
+
+  -- A call that reads a SEQUENCE or a SET, by its components (X.680, 25 and 27), under a tag and any name.
+  abbrev pub ReadsComponents : Kind → Tag → Components V → (V → V → Bool) → D → D → Result V DecodeError → Type 0
+  ReadsComponents kind t components eq old new result =
+      (v : V) (n : Name) (rest : List Record) (outer : Outside) →
+      EachCanStandInside (all_components components) × AreDistinctIn kind (all_components components) →
+      EachIsOfType (all_components components) v → EachIsValid (all_components components) R.takes v →
+      ReadsBack R old new (holding (head_in kind t (lines components) n) (component_records components v) ∷ []) rest outer (λ w. eq w v ≡ true) result
+
+  -- A call that reads what a SEQUENCE or a group holds: its components, in the order of their definition. What follows them begins
+  -- with no tag of those after the last that is always there.
+  abbrev pub ReadsFields : Components V → (V → V → Bool) → D → D → Result V DecodeError → Type 0
+  ReadsFields components eq old new result =
+      (v : V) (rest : List Record) (outer : Outside) →
+      CanBeInSequence (all_components components) → EachIsOfType (all_components components) v →
+      EachIsValid (all_components components) R.takes v → EndsApart (all_components components) rest →
+      ReadsBack R old new (component_records components v) rest outer (λ w. eq w v ≡ true) result
+
+  -- A call that reads a group of additions (25.1), which may be absent. One that is there writes a component. What follows it
+  -- begins with no tag of its components.
+  abbrev pub ReadsGroup : Components V → (V → V → Bool) → D → D → Result (Option V) DecodeError → Type 0
+  ReadsGroup components eq old new result =
+      (v : Option V) (rest : List Record) (outer : Outside) →
+      CanBeInSequence (all_components components) → IfSome v (EachIsOfType (all_components components)) →
+      IfSome v (λ w. EachIsValid (all_components components) R.takes w × (marks_alone (component_records components w) ≡ false)) →
+      ShareNone (tree_tags (choice (trees_of (all_components components)))) (first_tags rest) →
+      ReadsBack R old new (group_records (lines components) (option_map (component_records components) v)) rest outer
+      (λ w. option_eq eq w v ≡ true) result
+
+  -- A call that reads a CHOICE by its chosen alternative (29), where its alternatives can be told apart, under constraints and any
+  -- name.
+  abbrev pub ReadsAlternative : ConstraintSet → (alternatives : Alternatives) → (V → OneOf (all_of alternatives)) → (V → V → Bool) →
+      D → D → Result V DecodeError → Type 0
+  ReadsAlternative c alternatives pick eq old new result =
+      (v : V) (n : Name) (rest : List Record) (outer : Outside) →
+      HaveDistinctTags (all_of alternatives) → Each CanBeChosen (all_of alternatives) →
+      (chosen_meaning (all_of alternatives) (pick v)).IsOfType → (chosen_meaning (all_of alternatives) (pick v)).IsValid R.takes →
+      ReadsBack R old new
+      (alternative_records (chosen_tag (all_of alternatives) (pick v)) c (table_of alternatives) n
+      (chosen_meaning (all_of alternatives) (pick v)).records)
+      rest outer (λ w. eq w v ≡ true) result
+
+  -- A call that reads what a CHOICE holds: the chosen alternative, which can begin with this tag.
+  abbrev pub ReadsChosen : Tag → (alternatives : Alternatives) → (V → OneOf (all_of alternatives)) → (V → V → Bool) →
+      D → D → Result V DecodeError → Type 0
+  ReadsChosen t alternatives pick eq old new result =
+      (v : V) (rest : List Record) (outer : Outside) →
+      HaveDistinctTags (all_of alternatives) → Each CanBeChosen (all_of alternatives) →
+      (chosen_meaning (all_of alternatives) (pick v)).IsOfType → (chosen_meaning (all_of alternatives) (pick v)).IsValid R.takes →
+      Has (tree_tags (chosen (all_of alternatives) (pick v)).type.tree) t →
+      ReadsBack R old new (chosen_meaning (all_of alternatives) (pick v)).records rest outer (λ w. eq w v ≡ true) result
+
+  -- A call that reads a SEQUENCE OF or a SET OF (26 and 28), by its head and its elements, under any name.
+  abbrev pub ReadsElements : {W : Type 0} → (Name → Head) → Meaning V → (W → List V → Bool) → D → D → Result W DecodeError → Type 0
+  ReadsElements head m eq old new result =
+      (vs : List V) (n : Name) (rest : List Record) (outer : Outside) →
+      CanStandInside m → All m.IsOfType vs → All (m.IsValid R.takes) vs →
+      ReadsBack R old new (holding (head n) (flat_map (own_records m) vs) ∷ []) rest outer (λ w. eq w vs ≡ true) result
+
+  -- A call that reads the elements that are left in the innermost scope, of which there are at most this many.
+  abbrev pub ReadsElementsLeft : {W : Type 0} → ℕ → Meaning V → (W → List V → Bool) → D → D → Result W DecodeError → Type 0
+  ReadsElementsLeft bound m eq old new result =
+      (vs : List V) (scope : Head × List Record) (outer : Outside) →
+      CanStandInside m → All m.IsOfType vs → All (m.IsValid R.takes) vs → length vs ≤ bound →
+      Advances R old new (highest (flat_map (own_records m) vs)) (flat_map (own_records m) vs, scope ∷ outer) ([], scope ∷ outer)
+      (λ w. eq w vs ≡ true) result
+
+  -- A call that reads the components that are left in a SET, of which there are at most this many records: in any order, and as
+  -- parts.
+  abbrev pub ReadsPartsLeft : {P W : Type 0} → ℕ → Components V → (P → ℕ) → (V → P → Type 0) → (W → List P) →
+      D → D → Result W DecodeError → Type 0
+  ReadsPartsLeft bound components index_of IsPartOf parts_in old new result =
+      (v : V) (t : Tag) (n : Name) (items rest : List Record) (outer : Outside) →
+      CanBeInSet (all_components components) → EachIsOfType (all_components components) v →
+      EachIsValid (all_components components) R.takes v →
+      IsPermutation items (component_records components v) → records_in items ≤ bound →
+      Advances R old new (highest items) (items, (set t (lines components) n, rest) ∷ outer) ([], (set t (lines components) n, rest) ∷ outer)
+      (λ w. ArePartsOf (all_components components) v index_of (IsPartOf v) (parts_in w)) result

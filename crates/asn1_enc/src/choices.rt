@@ -1,0 +1,39 @@
+//! A CHOICE under whatever tag.
+ghost use Rattle.asn1_codec.specs.GivenTypes.{given};
+ghost use Rattle.asn1_codec.specs.Writing.{NeedsDepth};
+ghost use Rattle.asn1_codec.specs.WritingTypes.{WritesValue};
+ghost use Rattle.asn1_model.specs.ConstraintSets.{constraint_set};
+ghost use Rattle.asn1_tags.specs.Names.{name_of};
+
+use crate::encode::EncodeChoice;
+use crate::encoder::Encoder;
+use crate::own_constraints::make_constraints;
+use asn1_bounds::Constraints;
+use asn1_choices::ChoiceType;
+use asn1_codec::EncodeError;
+use asn1_tags::{Identifier, Tag};
+
+/// A CHOICE under a tag: untagged under the CHOICE marker tag, and else after the tag, with its own constraints and name
+/// (X.680, 31.2.7). Without a name it is written under the type's own.
+pub(crate) fn write_choice<T: EncodeChoice + ChoiceType, E: Encoder>(
+    encoder: &mut E,
+    tag: Tag,
+    constraints: &Constraints<'_>,
+    value: &T,
+    name: Identifier,
+) -> Result<(), EncodeError>
+    ensures writes { WritesValue E.writer
+        (given tag (constraint_set constraints.now) T.meaning (name_of name)) value.now
+        encoder.old encoder.new result }
+    ensures depth_first { NeedsDepth E.writer encoder.old result }
+{
+    let table = T::table();
+    let name = name.or(table.identifier);
+    if tag.is_choice() {
+        return encoder.encode_choice(constraints, value, name);
+    }
+    encoder.open_explicit_prefix(tag, name)?;
+    let own_constraints = make_constraints(encoder, &table)?;
+    encoder.encode_choice(&own_constraints, value, table.identifier)?;
+    encoder.close()
+}

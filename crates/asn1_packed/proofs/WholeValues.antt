@@ -1,0 +1,71 @@
+-- A value as a whole, written and read.
+use Rattle.std.proofs.Common.{◌≡◌, ◌⊎◌, ℕ, true, false, List, [], ◌∷◌, ◌++◌, inl, inr, refl, sym, subst, ◌∙◌, append-nil}
+use Rattle.asn1_codec.proofs.ReadingUpToOrder.{at_the_end}
+use Rattle.asn1_codec.proofs.Remaining.{same_as_record}
+use Rattle.asn1_codec.specs.Reading.{IsOwnError, MayFail, Outside, Reader}
+use Rattle.asn1_codec.specs.declared.decode_error.DecodeError.{DecodeError}
+use Rattle.asn1_codec.specs.declared.encode_error.EncodeError.{EncodeError}
+use Rattle.asn1_codec.specs.Writing.{Fails, outermost}
+use Rattle.asn1_items.specs.Items.{HaveBytes, MarkBytes, read_with}
+use Rattle.asn1_model.proofs.SameRecords.{same-mark}
+use Rattle.asn1_model.proofs.SameUpToOrder.{same_as_mark}
+use Rattle.asn1_model.specs.Orders.{Same}
+use Rattle.asn1_model.specs.Records.{Record, held, is_mark, scalar, scope, raw, mark}
+use Rattle.asn1_schema.specs.Rules.{IsNotWritten}
+use Rattle.asn1_packed.proofs.Remaining.{not_both, some_left}
+use Rattle.asn1_packed.specs.Carried.{TakesBytes}
+use Rattle.asn1_packed.specs.Decoder.{Remains, in_one_order}
+use Rattle.asn1_packed.specs.Encoder.{item_writer}
+use Rattle.asn1_packed.specs.Format.{item_format}
+use Rattle.asn1_packed.specs.declared.decoder.ItemDecoder.{ItemDecoder}
+use Rattle.asn1_packed.specs.declared.encoder.ItemEncoder.{ItemEncoder}
+
+-- records that are alone remain before nothing
+pub before_nothing : {D : Type 0} (R : Reader D) (d : D) (rs : List Record) → R.remains d (rs, []) → R.remains d (rs ++ [], [])
+before_nothing R d rs at = subst (λ l. R.remains d (l, [])) (sym (append-nil rs)) at
+
+-- why records are not read that the type refuses
+pub own_or_failed : {D : Type 0} (R : Reader D) {old new : D} {rest : List Record} {outer : Outside} {depth_left height : ℕ} {own e : DecodeError} →
+    MayFail depth_left height e ⊎ IsOwnError R old new rest outer own e → MayFail depth_left height e ⊎ (e ≡ own)
+own_or_failed R (inl fails) = inl fails
+own_or_failed R (inr error) = inr error.error
+
+-- what has bytes has them up to order, and is not nothing
+no_mark_takes : (marks : MarkBytes) (q : Record) → is_mark q ≡ false → TakesBytes marks q
+no_mark_takes marks (scalar t c n x) e = tt
+no_mark_takes marks (scope h rs) e = tt
+no_mark_takes marks (raw n own) e = tt
+no_mark_takes marks (mark m) e = cc
+
+same_takes : (marks : MarkBytes) (q r : Record) → Same q r → TakesBytes marks r → TakesBytes marks q
+same_takes marks q (scalar t c n x) same takes = no_mark_takes marks q (same-mark same)
+same_takes marks q (scope h rs) same takes = no_mark_takes marks q (same-mark same)
+same_takes marks q (raw n own) same takes = no_mark_takes marks q (same-mark same)
+same_takes marks q (mark m) same takes = subst (TakesBytes marks) (sym (same_as_mark same)) takes
+
+nothing_first : (xs ys : List ℕ) → xs ++ ys ≡ [] → xs ≡ []
+nothing_first [] ys e = refl
+nothing_first (x ∷ xs) ys e = cc
+
+some_bytes : (marks : MarkBytes) (r : Record) (rest : List Record) (bytes : List ℕ) → TakesBytes marks r → HaveBytes (read_with marks) (held (r ∷ rest)) bytes → bytes ≡ [] → ⊥
+some_bytes marks (scalar t c n x) rest bytes takes p none = some_left marks (scalar t c n x) rest bytes refl p none
+some_bytes marks (scope h rs) rest bytes takes p none = some_left marks (scope h rs) rest bytes refl p none
+some_bytes marks (raw n own) rest bytes takes p none = some_left marks (raw n own) rest bytes refl p none
+some_bytes marks (mark m) rest bytes takes p none = takes (sym p.is_first ∙ nothing_first p.first p.others (sym p.are ∙ none))
+
+module _ {P : Type 0} (marks : MarkBytes) where
+  -- why a value was not written
+  pub not_written : (old new : ItemEncoder P) (rs : List Record) (depth : ℕ) (e : EncodeError) →
+      (item_writer marks).wrote old (outermost []) → (item_writer marks).depth_left old ≡ depth → (item_writer marks).failed old ≡ false → Fails (item_writer marks) old rs new e → IsNotWritten (item_format P marks) rs depth e
+  not_written old new rs depth e began allowed was fails = record {
+    too_deep = λ is. rw (← allowed) (fails.too_deep is);
+    rejected = λ is. fails.rejected is (outermost []) began;
+    not_failed = λ is. not_both ((item_writer marks).failed old) was (fails.error.failed_before.0 is);
+  }
+
+  -- a record that is left is not the end
+  pub not_at_end : (d : ItemDecoder P) (r : Record) (rest : List Record) → TakesBytes marks r → Remains marks d (r ∷ rest, []) → Remains marks d ([], []) → ⊥
+  not_at_end d r rest takes at end =
+      let a = same_as_record at.same in
+      let exact = subst (λ l. (in_one_order marks).remains d l) a.is at.remains in
+      some_bytes marks a.first a.rest _ (same_takes marks a.first r a.same takes) exact.inside (at_the_end (in_one_order marks) d end).inside

@@ -1,0 +1,414 @@
+//! The decoder that reads from the bytes of items.
+ghost use Rattle.asn1_items.specs.Slices.{open_lists};
+ghost use Rattle.std.specs.Prelude.{◌+◌, ◌<◌, ◌^◌};
+
+use crate::presence::Presence;
+use asn1_bounds::{Codec, Constraints};
+use asn1_choices::Choice;
+use asn1_components::FieldTable;
+use asn1_dec::{DecodeError, Decoder, Needed};
+use asn1_enumerations::EnumeratedTable;
+use asn1_items::{FromContent, Item, ItemError, Slices, StringOf, Wanted};
+use asn1_strings::ObjectIdentifier;
+use asn1_tags::{Tag, TagTree};
+use asn1_types::{Any, CodecString};
+use asn1_values::{Integer, IntegerType};
+use std::alloc::Global;
+use std::marker::PhantomData;
+
+/// The bytes are not what they are read as.
+const BAD_ITEM: DecodeError = DecodeError::Custom("bad item");
+
+/// A decoder that reads from the bytes of items. It borrows them, and copies none but those of the values that it answers.
+/// `P` says how what may be absent is told.
+///
+/// Where bytes are missing outside all scopes the error is [`DecodeError::Incomplete`], with the number of bytes that are missing
+/// of the part that is read; where the bytes are not those that are asked for it is [`DecodeError::Custom`], with the text
+/// `bad item`.
+#[derive(Drop)]
+pub struct ItemDecoder<'a, P> {
+    alloc: Global,
+    depth_left: usize,
+    failed: bool,
+    slices: Slices<'a>,
+    presence: PhantomData<P>,
+    ghost counted: { depth_left + open_lists slices < 2 ^ 64 },
+}
+
+/// A scope that was opened: the tag of its head, and how many bytes are in it.
+#[derive(Clone, Copy)]
+struct Opened {
+    tag: Tag,
+    bound: usize,
+}
+
+impl<'a, P: Presence> ItemDecoder<'a, P> {
+    ghost use Rattle.asn1_codec.specs.DecodeErrors.{custom, reason};
+    ghost use Rattle.asn1_codec.specs.Reading.{OpensNothing, OpensScope, ReadsContent, ReadsHead, ReadsHeadOfSet, TellsPresence, records_in};
+    ghost use Rattle.asn1_codec.specs.declared.decode_error.DecodeError.TheVariants.{Depth, Failed, Memory};
+    ghost use Rattle.asn1_items.specs.Contents.{LooksLike};
+    ghost use Rattle.asn1_items.specs.Headers.{Header, Meets, header_at, is_one_item};
+    ghost use Rattle.asn1_items.specs.Slices.{IsTaken, left_inside, left_outside};
+    ghost use Rattle.asn1_items.specs.declared.error.ItemError.TheVariants as item_error;
+    ghost use Rattle.asn1_model.specs.ConstraintSets.{ConstraintSet};
+    ghost use Rattle.asn1_model.specs.Orders.{is_unordered};
+    ghost use Rattle.asn1_model.specs.Records as model;
+    ghost use Rattle.asn1_model.specs.Records.{Name, Side, absent, present};
+    ghost use Rattle.asn1_model.specs.Tags.{tree_tags};
+    ghost use Rattle.asn1_model.specs.WellFormed.{AreWellFormed};
+    ghost use Rattle.asn1_packed.specs.Carried.{CarriesWith};
+    ghost use Rattle.asn1_packed.specs.Decoder.{IsWanted, OpensWanted, Remains, item_reader};
+    ghost use Rattle.asn1_tags.specs.Trees.{shape};
+    ghost use Rattle.asn1_tags.specs.declared.tags.Tag.{Tag as Under};
+    ghost use Rattle.std.specs.Prelude.{◌≡◌, ◌≢◌, ◌↔◌, ◌≤◌, ◌++◌, [], ⊤, Err, IfErr, IsOk, List, MatchResult, OnOk, Some, codes, false, length, ℕ, true};
+
+    /// A decoder that is before these bytes, and may open this many nested scopes.
+    pub fn new(alloc: Global, bytes: &'a [u8], depth: usize) -> ItemDecoder<'a, P>
+        ensures before { (rs : List model.Record) → CarriesWith P.mark_bytes bytes.now rs →
+            AreWellFormed (λ own. is_one_item own) rs → Remains P.mark_bytes result (rs, []) }
+        ensures depth_left { (item_reader P.mark_bytes).depth_left result ≡ depth }
+        ensures no_failure { (item_reader P.mark_bytes).failed result ≡ false }
+    {
+        ItemDecoder {
+            alloc,
+            depth_left: depth,
+            failed: false,
+            slices: Slices::new(alloc, bytes),
+            presence: PhantomData,
+        }
+    }
+
+    /// Ends the reading, which succeeds if and only if all has been read: no call has failed, no scope is open, and no byte is
+    /// left.
+    ///
+    /// # Errors
+    /// [`DecodeError::Failed`] where a call has failed before, and else [`DecodeError::Custom`], with the text `bad item`.
+    pub fn finish(self) -> Result<(), DecodeError>
+        ensures all_read { IsOk result ↔ Remains P.mark_bytes self.entry ([], []) }
+        ensures failed { result ≡ Err Failed ↔ ((item_reader P.mark_bytes).failed self.entry ≡ true) }
+        ensures bad_item { IfErr result (λ e. e ≢ Failed → reason e ≡ custom (codes "bad item")) }
+    {
+        if self.failed {
+            return Err(DecodeError::Failed);
+        }
+        if !self.slices.is_at_end() {
+            return Err(BAD_ITEM);
+        }
+        if !self.slices.is_outermost() {
+            return Err(BAD_ITEM);
+        }
+        Ok(())
+    }
+
+    /// Makes the decoder failed, and answers the error.
+    fn fail(&mut self, error: DecodeError) -> DecodeError
+        ensures same { result ≡ error }
+        ensures has_failed { self.new.failed ≡ true }
+    {
+        self.failed = true;
+        error
+    }
+
+    /// Makes the decoder failed, since an item was not read.
+    fn fault(&mut self, error: ItemError) -> DecodeError
+        ensures memory { error ≡ item_error.Memory → result ≡ Memory }
+        ensures not_too_deep { result ≢ Depth }
+        ensures not_failed { result ≢ Failed }
+        ensures has_failed { self.new.failed ≡ true }
+    {
+        self.failed = true;
+        match error {
+            ItemError::Memory => DecodeError::Memory,
+            ItemError::Missing(count) => {
+                if self.slices.is_outermost() {
+                    DecodeError::Incomplete(Needed::Size(count))
+                } else {
+                    BAD_ITEM
+                }
+            }
+            ItemError::Malformed => BAD_ITEM,
+        }
+    }
+
+    /// Takes the next item, which is to be what is wanted.
+    fn take(&mut self, wanted: Wanted) -> Result<Item<'a>, DecodeError>
+        ensures took { (h : Header) (inside back : List ℕ) → self.old.failed ≡ false →
+            header_at (left_inside self.old.slices) ≡ Some h → h.body ≡ inside ++ back →
+            h.size ≡ length inside → Meets wanted h →
+            MatchResult result
+            (λ i. IsTaken i h.tag inside back self.old.slices self.new.slices) (λ _. ⊥) }
+        ensures outside { OnOk result
+            (left_outside self.new.slices ≡ left_outside self.old.slices) }
+        ensures opens_nothing { OpensNothing (item_reader P.mark_bytes) self.old self.new result }
+    {
+        if self.failed {
+            return Err(DecodeError::Failed);
+        }
+        match self.slices.take_item(wanted) {
+            Ok(item) => Ok(item),
+            Err(error) => Err(self.fault(error)),
+        }
+    }
+
+    /// A content under a tag.
+    fn scalar<V: FromContent>(&mut self, tag: Tag) -> Result<V, DecodeError>
+        ensures read { (content : V.Value → model.Content) →
+            ((x : V.Value) → LooksLike (content x) (V.content x)) → (c : ConstraintSet) →
+            ReadsContent (item_reader P.mark_bytes) self.old self.new tag c content
+            V.IsOfType V.Is result }
+        ensures opens_nothing { OpensNothing (item_reader P.mark_bytes) self.old self.new result }
+    {
+        let item = self.take(Wanted::Content(tag, V::kind()))?;
+        match V::from_content(self.alloc, item.body) {
+            Ok(value) => Ok(value),
+            Err(error) => Err(self.fault(error)),
+        }
+    }
+
+    /// Whether the component is there that begins with a tag of the tree.
+    fn tell_presence(&mut self, tree: TagTree<'static>) -> Result<bool, DecodeError>
+        ensures read { (side : Side) (t : Under) → TellsPresence (item_reader P.mark_bytes)
+            self.old self.new (present side t) (absent side t) (tree_tags (shape tree.entry))
+            result }
+        ensures opens_nothing { OpensNothing (item_reader P.mark_bytes) self.old self.new result }
+    {
+        if self.failed {
+            return Err(DecodeError::Failed);
+        }
+        match P::component(&mut self.slices, tree) {
+            Ok(is_there) => Ok(is_there),
+            Err(error) => Err(self.fault(error)),
+        }
+    }
+
+    /// Opens a scope.
+    fn open(&mut self, wanted: Wanted) -> Result<Opened, DecodeError>
+        ensures read { OpensWanted P.mark_bytes wanted self.old self.new result }
+        ensures opens_scope { OpensScope (item_reader P.mark_bytes) self.old self.new result }
+    {
+        if self.failed {
+            return Err(DecodeError::Failed);
+        }
+        if self.depth_left == 0 {
+            return Err(self.fail(DecodeError::Depth));
+        }
+        let item = self.take(wanted)?;
+        if let Err(_) = self.slices.enter(item.body) {
+            return Err(self.fail(DecodeError::Memory));
+        }
+        self.depth_left -= 1;
+        Ok(Opened {
+            tag: item.tag,
+            bound: item.body.len(),
+        })
+    }
+
+    /// Opens a scope in which the order of the records means something.
+    fn open_in_order(&mut self, wanted: Wanted) -> Result<(), DecodeError>
+        ensures read { (head : Name → model.Head) → ((n : Name) → IsWanted wanted (head n)) →
+            ((n : Name) → is_unordered (head n) ≡ false) →
+            ReadsHead (item_reader P.mark_bytes) self.old self.new head (λ _ _. ⊤) result }
+        ensures opens_scope { OpensScope (item_reader P.mark_bytes) self.old self.new result }
+    {
+        self.open(wanted)?;
+        Ok(())
+    }
+
+    /// Opens a list of elements or the components of a set, and answers how many bytes are in it.
+    fn open_list(&mut self, wanted: Wanted) -> Result<usize, DecodeError>
+        ensures read { (head : Name → model.Head) → ((n : Name) → IsWanted wanted (head n)) →
+            ((n : Name) → is_unordered (head n) ≡ false) →
+            ReadsHead (item_reader P.mark_bytes) self.old self.new head
+            (λ items bound. records_in items ≤ bound) result }
+        ensures read_set { (head : Name → model.Head) → ((n : Name) → IsWanted wanted (head n)) →
+            ReadsHeadOfSet (item_reader P.mark_bytes) self.old self.new head
+            (λ items bound. records_in items ≤ bound) result }
+        ensures opens_scope { OpensScope (item_reader P.mark_bytes) self.old self.new result }
+    {
+        let opened = self.open(wanted)?;
+        Ok(opened.bound)
+    }
+}
+
+impl<'a, P: Presence> Decoder for ItemDecoder<'a, P> {
+    ghost use Rattle.asn1_codec.proofs.ReadingUpToOrder.{lawful};
+    ghost use Rattle.asn1_packed.specs.Decoder.{in_one_order, item_reader};
+    ghost use Rattle.std.specs.Prelude.{◌≡◌};
+
+    ghost reader = { item_reader P.mark_bytes };
+
+    fn codec(&self) -> Codec
+        ensures { result ≡ P.own_codec }
+    {
+        P::codec()
+    }
+
+    fn depth(&self) -> usize {
+        self.depth_left
+    }
+
+    fn global(&self) -> Global {
+        self.alloc
+    }
+
+    fn refuse(&mut self, error: DecodeError) -> DecodeError {
+        self.fail(error)
+    }
+
+    fn decode_bool(&mut self, tag: Tag) -> Result<bool, DecodeError> {
+        self.scalar(tag)
+    }
+
+    fn decode_null(&mut self, tag: Tag) -> Result<(), DecodeError> {
+        self.scalar(tag)
+    }
+
+    fn decode_enumerated_number<E: EnumeratedTable>(
+        &mut self,
+        tag: Tag,
+    ) -> Result<isize, DecodeError> {
+        let number = self.scalar(tag)?;
+        match E::name_of_number(number) {
+            Some(_) => Ok(number),
+            None => Err(self.fail(BAD_ITEM)),
+        }
+    }
+
+    fn decode_object_identifier(&mut self, tag: Tag) -> Result<ObjectIdentifier, DecodeError> {
+        self.scalar(tag)
+    }
+
+    fn decode_integer<I: IntegerType>(
+        &mut self,
+        tag: Tag,
+        _constraints: &Constraints<'_>,
+    ) -> Result<I, DecodeError> {
+        let number: Integer = self.scalar(tag)?;
+        match I::try_from_integer(number) {
+            Some(value) => Ok(value),
+            None => Err(self.fail(BAD_ITEM)),
+        }
+    }
+
+    fn decode_string<U, K: CodecString<U>>(
+        &mut self,
+        tag: Tag,
+        _constraints: &Constraints<'_>,
+    ) -> Result<K::Owned, DecodeError> {
+        let StringOf { string } = self.scalar::<StringOf<U, K>>(tag)?;
+        Ok(string)
+    }
+
+    fn decode_any(&mut self, _tag: Tag) -> Result<Any, DecodeError> {
+        let item = self.take(Wanted::Any)?;
+        match Vec::from_slice(self.alloc, item.bytes) {
+            Ok(bytes) => Ok(Any::new(bytes)),
+            Err(_) => Err(self.fail(DecodeError::Memory)),
+        }
+    }
+
+    fn presence(&mut self, _tag: Tag, tree: TagTree<'static>) -> Result<bool, DecodeError> {
+        self.tell_presence(tree)
+    }
+
+    fn addition_presence(
+        &mut self,
+        _tag: Tag,
+        tree: TagTree<'static>,
+    ) -> Result<bool, DecodeError> {
+        self.tell_presence(tree)
+    }
+
+    fn open_group<C: FieldTable>(&mut self) -> Result<bool, DecodeError> {
+        if self.failed {
+            return Err(DecodeError::Failed);
+        }
+        match P::group::<C>(&mut self.slices) {
+            Ok(is_there) => Ok(is_there),
+            Err(error) => Err(self.fault(error)),
+        }
+    }
+
+    fn close_group(&mut self) -> Result<(), DecodeError> {
+        if self.failed {
+            return Err(DecodeError::Failed);
+        }
+        match P::end_of_group(&mut self.slices) {
+            Ok(()) => Ok(()),
+            Err(error) => Err(self.fault(error)),
+        }
+    }
+
+    fn open_sequence<C: FieldTable>(&mut self, tag: Tag) -> Result<(), DecodeError> {
+        self.open_in_order(Wanted::Scope(2, tag))
+    }
+
+    fn open_set<C: FieldTable>(&mut self, tag: Tag) -> Result<usize, DecodeError> {
+        self.open_list(Wanted::Scope(3, tag))
+    }
+
+    fn next_component<C: FieldTable>(&mut self) -> Result<Option<Tag>, DecodeError> {
+        if self.failed {
+            return Err(DecodeError::Failed);
+        }
+        P::skip_marks(&mut self.slices);
+        if self.slices.is_at_end() {
+            return Ok(None);
+        }
+        match self.slices.next_header() {
+            Ok(header) => Ok(Some(header.tag)),
+            Err(error) => Err(self.fault(error)),
+        }
+    }
+
+    fn open_sequence_of(
+        &mut self,
+        tag: Tag,
+        _constraints: &Constraints<'_>,
+    ) -> Result<usize, DecodeError> {
+        self.open_list(Wanted::Scope(4, tag))
+    }
+
+    fn open_set_of(
+        &mut self,
+        tag: Tag,
+        _constraints: &Constraints<'_>,
+    ) -> Result<usize, DecodeError> {
+        self.open_list(Wanted::Scope(5, tag))
+    }
+
+    fn open_explicit_prefix(&mut self, tag: Tag) -> Result<(), DecodeError> {
+        self.open_in_order(Wanted::Scope(6, tag))
+    }
+
+    fn open_choice<T: Choice>(
+        &mut self,
+        _constraints: &Constraints<'_>,
+    ) -> Result<Tag, DecodeError> {
+        let opened = self.open(Wanted::Alternative)?;
+        Ok(opened.tag)
+    }
+
+    fn more(&mut self) -> Result<bool, DecodeError> {
+        if self.failed {
+            return Err(DecodeError::Failed);
+        }
+        Ok(!self.slices.is_at_end())
+    }
+
+    fn close(&mut self) -> Result<(), DecodeError> {
+        if self.failed {
+            return Err(DecodeError::Failed);
+        }
+        if !self.slices.is_at_end() {
+            return Err(self.fail(BAD_ITEM));
+        }
+        if !self.slices.leave() {
+            return Err(self.fail(BAD_ITEM));
+        }
+        self.depth_left += 1;
+        Ok(())
+    }
+
+    ghost lawful = { lawful (in_one_order P.mark_bytes) };
+}

@@ -1,0 +1,170 @@
+//! `Ticket ::= SET { seat [0] INTEGER (0..65535), name [1] UTF8String OPTIONAL, paid [2] BOOLEAN DEFAULT FALSE }`
+ghost use Rattle.std.specs.Prelude.{◌≡◌, [], ◌∷◌, None, Some, false, pos, codes, refl};
+ghost use Rattle.asn1_components.specs.Components.{all_components};
+ghost use Rattle.asn1_slots.specs.Slots.{default_slot, optional_slot, required_slot, set_of_slots, slots_agree};
+ghost use Rattle.asn1_types.specs.Words.{lines, in_root, context, universal, tagged, constructed_type, constructed_agrees, CanStandInside, own_records, holding, set_head, scalar, mark, absent, number, values_of, Range};
+
+use asn1_dec::{Decode, DecodeError, Decoder};
+use asn1_enc::{Encode, EncodeError, EncodeFields, Encoder};
+use asn1_slots::{
+    DecodeSetByPlace, Slotted, Tagging, decode_set_by_place, filled, once, or_default,
+};
+use asn1_strings::Utf8String;
+use asn1_types::{
+    AsnType, Class, Constraints, ConstructedType, Field, FieldTable, Identifier, Tag, TypeTable,
+};
+use std::alloc::Global;
+
+/// Where someone sits, perhaps who, and whether it is paid: a SET with a default.
+#[derive(PartialEq, Eq, Debug, Drop)]
+pub struct Ticket {
+    /// `seat [0] INTEGER (0..65535)`
+    pub seat: u16,
+    /// `name [1] UTF8String OPTIONAL`
+    pub name: Option<Utf8String>,
+    /// `paid [2] BOOLEAN DEFAULT FALSE`
+    pub paid: bool,
+}
+
+const SEAT: Tag = Tag {
+    class: Class::Context,
+    value: 0,
+};
+
+const NAME: Tag = Tag {
+    class: Class::Context,
+    value: 1,
+};
+
+const PAID: Tag = Tag {
+    class: Class::Context,
+    value: 2,
+};
+
+impl Slotted for Ticket {
+    type Slots = (Option<u16>, Option<Utf8String>, Option<bool>);
+
+    ghost layout = { required_slot (codes "seat") (λ t. t.seat) (λ s. s.0) (tagged (context 0) ⟦<u16 as AsnType>⟧.meaning) ⟦<u16 as PartialEq>⟧.eq ∷
+        optional_slot (codes "name") (λ t. t.name) (λ s. s.1) (tagged (context 1) ⟦<Utf8String as AsnType>⟧.meaning) ⟦<Utf8String as PartialEq>⟧.eq ∷
+        default_slot (codes "paid") (λ t. t.paid) false (λ s. s.2) (tagged (context 2) ⟦<bool as AsnType>⟧.meaning) ⟦<bool as PartialEq>⟧.eq ∷ [] };
+
+    fn from_slots(_alloc: Global, slots: Self::Slots) -> Result<Ticket, DecodeError> {
+        Ok(Ticket {
+            seat: filled(slots.0, "seat")?,
+            name: slots.1,
+            paid: or_default(slots.2, false),
+        })
+    }
+}
+
+impl FieldTable for Ticket {
+    ghost components = { set_of_slots ⟦<Ticket as Slotted>⟧.layout };
+
+    fn field_count() -> usize {
+        3
+    }
+
+    fn field_at(place: usize) -> Option<Field<'static>> {
+        match place {
+            0 => Some(Field::new_required_type_with_tag::<u16>(0, SEAT, "seat")),
+            1 => Some(Field::new_optional_type_with_tag::<Utf8String>(1, NAME, "name")),
+            2 => Some(Field::new_default_type_with_tag::<bool>(2, PAID, "paid")),
+            _ => None,
+        }
+    }
+
+    fn marker_place() -> Option<usize> {
+        None
+    }
+}
+
+impl AsnType for Ticket {
+    ghost meaning = { constructed_type (codes "Ticket") ⟦<Ticket as FieldTable>⟧.components };
+
+    fn table() -> TypeTable {
+        TypeTable::new(Tag::SET, Identifier(Some("Ticket")))
+    }
+
+    fn is_present(&self) -> bool {
+        true
+    }
+}
+
+impl ConstructedType for Ticket {
+    ghost agrees = { constructed_agrees };
+}
+
+/// A `Ticket` can be inside other types: no two of its components share a tag.
+pub fn ticket_can_stand_inside()
+    ensures { CanStandInside ⟦<Ticket as AsnType>⟧.meaning }
+{}
+
+impl Encode for Ticket {
+    fn encode_with_tag_and_constraints<E: Encoder>(
+        &self,
+        encoder: &mut E,
+        tag: Tag,
+        _constraints: &Constraints<'_>,
+        name: Identifier,
+    ) -> Result<(), EncodeError> {
+        encoder.encode_set(tag, self, name)
+    }
+}
+
+impl EncodeFields for Ticket {
+    fn encode_field<E: Encoder>(&self, place: usize, encoder: &mut E) -> Result<(), EncodeError> {
+        match place {
+            0 => self.seat.encode_with_tag(encoder, SEAT),
+            1 => self.name.encode_with_tag(encoder, NAME),
+            2 => encoder.encode_default_with_tag(
+                PAID,
+                &self.paid,
+                |_| Ok(false),
+                bool::identifier(),
+            ),
+            _ => Ok(()),
+        }
+    }
+}
+
+impl Decode for Ticket {
+    fn decode_with_tag_and_constraints<D: Decoder>(
+        decoder: &mut D,
+        tag: Tag,
+        _constraints: &Constraints<'_>,
+    ) -> Result<Ticket, DecodeError> {
+        decode_set_by_place(decoder, tag)
+    }
+}
+
+impl DecodeSetByPlace for Ticket {
+    fn decode_field<D: Decoder>(
+        place: usize,
+        slots: &mut Self::Slots,
+        decoder: &mut D,
+    ) -> Result<(), DecodeError> {
+        match place {
+            0 => once(&mut slots.0, decoder, Tagging::Tagged(SEAT), "seat"),
+            1 => once(&mut slots.1, decoder, Tagging::Tagged(NAME), "name"),
+            2 => once(&mut slots.2, decoder, Tagging::Tagged(PAID), "paid"),
+            _ => Ok(()),
+        }
+    }
+
+    ghost agrees = { slots_agree (all_components ⟦<Ticket as FieldTable>⟧.components) };
+
+    ghost no_group = { refl };
+
+    ghost empty_at_first = { λ slots empty. (empty.0, (empty.1, empty.2)) };
+}
+
+/// What `Ticket { seat: 7, name: None, paid: false }` is to every codec: the default is not written.
+pub fn ticket_records(ticket: &Ticket)
+    ensures { ticket.now ≡ record { seat = 7; name = None; paid = false } →
+        own_records ⟦<Ticket as AsnType>⟧.meaning ticket.now ≡
+        holding (set_head (universal 17) (lines ⟦<Ticket as FieldTable>⟧.components)
+        (Some (codes "Ticket"))) (scalar (context 0)
+        (values_of (Range (Some (pos 0)) (Some (pos 65535)))) (Some (codes "INTEGER"))
+        (number (pos 7)) ∷ mark (absent in_root (context 1)) ∷
+        mark (absent in_root (context 2)) ∷ []) ∷ [] }
+{}

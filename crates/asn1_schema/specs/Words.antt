@@ -1,0 +1,28 @@
+-- What the author of a type writes: the words that say what the type means, and the steps of a reader's proof, from one place.
+
+-- tags, and types under tags (X.680, 31)
+pub use Rattle.asn1_types.specs.Words.{universal, context, untagged, tagged, explicitly_tagged, explicitly_tagged_as}
+pub use Rattle.asn1_schema.specs.TagClasses.{application, private}
+-- the components of a SEQUENCE or a SET (25 and 27)
+pub use Rattle.asn1_types.specs.Words.{required, optional, with_default, addition, addition_with_default}
+pub use Rattle.asn1_types.specs.Words.{lines, group, sequence, extensible_sequence, set, extensible_set}
+-- its meaning; one whose own tag is not that of its kind, as [APPLICATION 0] SEQUENCE, is `constructed_type_under` that tag
+pub use Rattle.asn1_types.specs.Words.{constructed_type, constructed_type_under, constructed_agrees}
+-- the alternatives of a CHOICE (29), and which of them a value is
+pub use Rattle.asn1_types.specs.Words.{table_of, inl, inr, alternative, closed_choice, extensible_choice, choice_of, choice_agrees}
+-- the items of an ENUMERATED type (20)
+pub use Rattle.asn1_types.specs.Words.{item, by_test, closed_enumeration, extensible_enumeration, labels_of, enumeration_type, enumeration_agrees}
+-- that a type can be inside others, and the records of a value
+pub use Rattle.asn1_types.specs.Words.{CanStandInside, CanStandInsideUnder, own_records}
+pub use Rattle.asn1_types.specs.Words.{holding, scalar, raw, mark, null, truth, number, discriminant, arcs, bits, units, octet, utf8, visible, general, graphic, ia5, printable, numeric, teletex, bmp}
+pub use Rattle.asn1_types.specs.Words.{sequence_head, set_head, sequence_of, set_of, prefix, alternative_head}
+pub use Rattle.asn1_types.specs.Words.{in_root, in_additions, present, absent, group_start, group_absent, group_end}
+-- the constraints in records
+pub use Rattle.asn1_types.specs.Words.{unconstrained, values_of, size_of, characters_of, Range}
+-- a CHOICE that holds itself
+pub use Rattle.asn1_choices.specs.Alternatives.{Alternatives, OneOf, SaysTheSame, ValueMeaning, all_of, chosen_meaning, says_itself, value_meaning}
+pub use Rattle.asn1_choices.specs.ChoiceTypes.{alternatives_with_itself, choice_holding_itself, inside_itself, itself_agrees, itself_under, table_with_itself}
+-- the proof of a reader: the components that are read in their order, and the parts of a SET
+pub use Rattle.asn1_components.specs.Components.{all_components}
+pub use Rattle.asn1_codec.proofs.ReadingComponents.{begin, step, stops, through}
+pub use Rattle.asn1_codec.specs.SetParts.{EachFits, MakesValue}

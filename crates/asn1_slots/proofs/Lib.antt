@@ -1,0 +1,2 @@
+mod ReadByPlace
+mod ReadInSets

@@ -1,0 +1,38 @@
+use Rattle.std.proofs.Common.{◌≡◌, ◌<◌, length, refl, arith, ◌∙◌}
+use Rattle.std.proofs.lemmas.Result.{err_from_is_err_and}
+use Rattle.asn1_components.proofs.TableLengths.{length-table}
+use Rattle.asn1_components.specs.Components.{all_components}
+use Rattle.asn1_slots.proofs.ReadByPlace.{none_yet, one_more, not_read, all_read}
+use Rattle.asn1_slots.proofs.by_place.DecodeByPlace.decode_by_place.Goals as goal
+
+pub loop-place-init : goal.loop-place-init
+loop-place-init g c = record {
+  same_depth = refl;
+  way = λ v rest outer can of_type valid ends at. none_yet g.D.Decoder.reader (all_components g.Self.FieldTable.components) g.Self.Slotted.layout g.met.Self.DecodeByPlace.agrees _ v rest outer _ can of_type valid ends at;
+}
+
+pub loop-place-preserved : goal.loop-place-preserved
+loop-place-preserved g c =
+    let cs = all_components g.Self.FieldTable.components in
+    let low : c.loop-place.place < length cs = omega (arith, c.loop-place-test.true, c.loop-place.auto.place-end, c.field_count-place-end.ensures, length-table g.Self.FieldTable.components) in
+    record {
+      same_depth = c.in_ok-decode_field.ensures.same_depth ∙ c.loop-place.invariant.same_depth;
+      way = λ v rest outer can of_type valid ends at.
+          let upto = c.loop-place.invariant.way v rest outer can of_type valid ends at in
+          one_more g.D.Decoder.reader cs g.Self.Slotted.layout g.met.Self.DecodeByPlace.agrees _ v rest outer _ _ _ _ _ c.loop-place.place low upto _ c.in_ok-decode_field.ensures.same_depth c.in_ok-decode_field.ensures.read (c.in_ok-decode_field.ensures.kept v upto.hold);
+    }
+
+pub returns-in_err-decode_field-clause-read : goal.returns-in_err-decode_field-clause-read
+returns-in_err-decode_field-clause-read g c = λ v rest outer can of_type valid ends at.
+    let cs = all_components g.Self.FieldTable.components in
+    let low : c.loop-place.place < length cs = omega (arith, c.loop-place-test.true, c.loop-place.auto.place-end, c.field_count-place-end.ensures, length-table g.Self.FieldTable.components) in
+    let p = err_from_is_err_and c.from_residual.result c.from_residual.ensures.1 in
+    let upto = c.loop-place.invariant.way v rest outer can of_type valid ends at in
+    rw (p.1, p.2) (not_read g.D.Decoder.reader cs g.Self.Slotted.layout g.met.Self.DecodeByPlace.agrees _ v rest outer _ _ _ _ _ c.loop-place.place low upto _ c.in_err-decode_field.ensures.read)
+
+pub returns-clause-read : goal.returns-clause-read
+returns-clause-read g c = λ v rest outer can of_type valid ends at.
+    let cs = all_components g.Self.FieldTable.components in
+    let end : length cs ≡ c.loop-place.place = omega (arith, c.loop-place-test.false, c.loop-place.auto.place-end, c.field_count-place-end.ensures, length-table g.Self.FieldTable.components) in
+    let upto = c.loop-place.invariant.way v rest outer can of_type valid ends at in
+    all_read g.D.Decoder.reader cs g.Self.Slotted.layout g.met.Self.DecodeByPlace.agrees _ v rest outer g.Self.PartialEq.eq _ _ c.loop-place.place c.from_slots.result end upto c.from_slots.ensures.made

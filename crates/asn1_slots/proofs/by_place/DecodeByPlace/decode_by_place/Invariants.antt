@@ -1,0 +1,19 @@
+use Rattle.std.proofs.Common.{◌≡◌, List, ◌∷◌, ◌++◌}
+use Rattle.asn1_components.specs.ComponentLists.{CanBeInSequence, EachIsOfType, EachIsValid, all_records}
+use Rattle.asn1_components.specs.Components.{all_components}
+use Rattle.asn1_components.specs.Following.{EndsApart}
+use Rattle.asn1_codec.specs.Reading.{Outside}
+use Rattle.asn1_model.specs.Records.{Record}
+use Rattle.asn1_slots.proofs.ReadByPlace.{ReadUpTo}
+use Rattle.asn1_slots.proofs.by_place.DecodeByPlace.decode_by_place.Given as goal
+
+abbrev pub invariant-loop-place : goal.invariant-loop-place
+invariant-loop-place g l =
+    let R = g.D.Decoder.reader in
+    let cs = all_components g.Self.FieldTable.components in
+    record {
+      same_depth : R.depth_left l.decoder ≡ R.depth_left l.fn.decoder;
+      way : (v : _) (rest : List Record) (outer : Outside) → CanBeInSequence cs → EachIsOfType cs v → EachIsValid cs R.takes v → EndsApart cs rest →
+          R.remains l.fn.decoder (all_records cs v ++ rest, outer) →
+          ReadUpTo R cs g.Self.Slotted.layout l.place l.fn.decoder l.decoder l.slots v rest outer;
+    }

@@ -1,0 +1,4 @@
+pub mod Filling
+pub mod InSets
+pub mod Slots
+pub mod Taggings

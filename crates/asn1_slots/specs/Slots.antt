@@ -1,0 +1,305 @@
+-- The components of a SEQUENCE or a group, each read into a slot of its own.
+use Rattle.std.specs.Prelude.{◌≡◌, ◌≢◌, ◌≤◌, ◌&&◌, ℕ, zero, suc, ⊤, Bool, true, false, List, [], ◌∷◌, drop, length, take, Option, None, Some, IfSome, Result, MatchResult, is_some, if◌then◌else◌, refl}
+use Rattle.std.specs.Option.{option_eq}
+use Rattle.std.specs.Result.{IsErrAnd}
+use Rattle.asn1_components.specs.Components.{Components, all_components, extensible_sequence, extensible_set, group, sequence, set}
+use Rattle.asn1_components.specs.ComponentTypes.{ComponentType, default_in, optional_in, required}
+use Rattle.asn1_components.specs.Following.{BeginsApart, Where}
+use Rattle.asn1_codec.specs.DecodeErrors.{missing_field, reason}
+use Rattle.asn1_codec.specs.Reading.{Outside, Reader, ReadsBack, records_in}
+use Rattle.asn1_codec.specs.SetParts.{unmarked}
+use Rattle.asn1_codec.proofs.ReadingSteps.{in_other_words}
+use Rattle.asn1_codec.specs.declared.decode_error.DecodeError.{DecodeError}
+use Rattle.asn1_codec.specs.declared.decode_error.DecodeError.TheVariants.{Memory}
+use Rattle.asn1_fields.specs.Entries.{may_be_absent}
+use Rattle.asn1_model.specs.Composites.{default_records, option_records}
+use Rattle.asn1_model.specs.Records.{Record, Side, in_additions, in_root}
+use Rattle.asn1_model.specs.TaggedTypes.{TaggedType}
+use Rattle.asn1_slots.specs.Filling.{Fills, FillsGroup, FillsOnce, FillsOptional}
+use Rattle.asn1_slots.specs.InSets.{one_default, one_optional, one_required, slot_of_absent, slot_of_present, unless_default, written_default, written_optional, written_required}
+
+-- A call that reads this component: then the answer to the question is yes.
+abbrev pub ReadsInto : {D V A : Type 0} → Reader D → ComponentType V → (V → Bool) → D → D → Result A DecodeError → Type 0
+ReadsInto {V = V} R c holds old new result =
+    (v : V) (rest : List Record) (outer : Outside) → c.CanStandInside → c.IsOfType v →
+    c.IsValid R.takes v → Where (may_be_absent c.presence) (BeginsApart c.tree rest) →
+    ReadsBack R old new (c.records v) rest outer (λ _. holds v ≡ true) result
+
+-- A component of the values V, and its slot among the slots S.
+pub record Slot (S V : Type 0) : Type 1 where
+  pub component : ComponentType V
+  -- it is no group of additions
+  pub is_single : Bool
+  pub IsEmpty : S → Type 0
+  -- the slot is not empty, or the component may be absent
+  pub is_filled : S → Bool
+  -- the slot has what the value has, or what is equal
+  pub holds : S → V → Bool
+  -- what a call promises that reads the component into the slot
+  pub Reads : {D A : Type 0} → Reader D → D → D → S → Result A DecodeError → Type 0
+  -- which is enough
+  pub reads : {D A : Type 0} (R : Reader D) (old new : D) (s : S) (result : Result A DecodeError) →
+      Reads R old new s result → ReadsInto R component (holds s) old new result
+  -- what a call promises that reads it in a SET, by the slots before and after
+  pub ReadsOnce : {D A : Type 0} → Reader D → D → D → S → S → Result A DecodeError → Type 0
+  -- Where it is no group, it is one record in a SET, or absent.
+  pub is_one : is_single ≡ true → component.CanStandInside → (v : V) → records_in (component.records v) ≤ 1
+  -- what is there is read into an empty slot, without its presence mark
+  pub reads_once : {D A : Type 0} (R : Reader D) (old new : D) (before after : S) (result : Result A DecodeError) →
+      is_single ≡ true → ReadsOnce R old new before after result → IsEmpty before →
+      (v : V) (rest : List Record) (outer : Outside) → component.CanStandInside → component.IsOfType v →
+      component.IsValid R.takes v → unmarked (component.records v) ≢ [] →
+      ReadsBack R old new (unmarked (component.records v)) rest outer (λ _. holds after v ≡ true) result
+  -- what is absent has an empty slot
+  pub is_absent : is_single ≡ true → (s : S) (v : V) → component.CanStandInside → IsEmpty s →
+      unmarked (component.records v) ≡ [] → holds s v ≡ true
+
+-- The slot of a component with a default: it has what the value has, or it is empty, and the value has the default.
+abbrev pub holds_or_default : {W : Type 0} → (W → W → Bool) → W → Option W → W → Bool
+holds_or_default eq usual None w = eq w usual
+holds_or_default eq usual (Some x) w = eq x w
+
+holds_default : {W : Type 0} (eq : W → W → Bool) (usual w : W) (slot : Option W) (is_default : Bool) →
+    eq w usual ≡ is_default → option_eq eq slot (unless_default is_default w) ≡ true →
+    holds_or_default eq usual slot w ≡ true
+holds_default eq usual w None true is same = is
+holds_default eq usual w None false is same = cc
+holds_default eq usual w (Some x) true is same = cc
+holds_default eq usual w (Some x) false is same = same
+
+-- the slot of a component with a default is filled as that of one that may be absent
+pub reads_default : {D A W : Type 0} (R : Reader D) (side : Side) (type : TaggedType W) (eq : W → W → Bool)
+    (usual : W) (old new : D) (slot : Option W) (result : Result A DecodeError) →
+    FillsOptional R side type eq old new slot result → (w : W) (rest : List Record) (outer : Outside) (is_default : Bool) →
+    eq w usual ≡ is_default → type.CanStandInside → (is_default ≡ false → type.IsOfType w) →
+    (is_default ≡ false → type.IsValid R.takes w) → BeginsApart type.tree rest →
+    ReadsBack R old new (default_records side is_default type.tag (type.records w)) rest outer (λ _. holds_or_default eq usual slot w ≡ true) result
+reads_default R side type eq usual old new slot result fills w rest outer true is can of_type valid apart =
+    in_other_words R old new _ _ _ result (λ _ same. holds_default eq usual w slot true is same)
+    (fills.reads None rest outer can tt tt apart)
+reads_default R side type eq usual old new slot result fills w rest outer false is can of_type valid apart =
+    in_other_words R old new _ _ _ result (λ _ same. holds_default eq usual w slot false is same)
+    (fills.reads (Some w) rest outer can (of_type refl) (valid refl) apart)
+
+-- what is asked of a value that is not the default
+pub if_not_default : {W : Type 0} (P : W → Type 0) (is_default : Bool) (w : W) → (is_default ≡ false → P w) →
+    IfSome (unless_default is_default w) P
+if_not_default P true w holds = tt
+if_not_default P false w holds = holds refl
+
+-- and of its slot
+pub default_is_read : {W : Type 0} (eq : W → W → Bool) (usual w : W) (slot : Option W) →
+    option_eq eq slot (unless_default (eq w usual) w) ≡ true → holds_or_default eq usual slot w ≡ true
+default_is_read eq usual w slot same = holds_default eq usual w slot (eq w usual) refl same
+
+-- which no group is
+pub no_group : {P : Type 0} → false ≡ true → P
+no_group wrong = cc
+
+module _ {S V W : Type 0} (name : List ℕ) where
+  -- the slot of a component that is always there
+  abbrev pub required_slot : (V → W) → (S → Option W) → TaggedType W → (W → W → Bool) → Slot S V
+  required_slot get slot type eq = record {
+    component = required name get type;
+    is_single = true;
+    IsEmpty = λ s. slot s ≡ None;
+    is_filled = λ s. is_some (slot s);
+    holds = λ s v. option_eq eq (slot s) (Some (get v));
+    Reads = λ R old new s result. Fills R type eq old new (slot s) result;
+    reads = λ R old new s result fills v rest outer can of_type valid apart.
+        fills.reads (get v) rest outer can of_type valid;
+    ReadsOnce = λ R old new before after result.
+        FillsOnce R name type eq old new (slot before) (slot after) result;
+    is_one = λ single can v. one_required type can (get v);
+    reads_once = λ R old new before after result single fills empty v rest outer can of_type valid some.
+        slot_of_present type R name eq old new (slot before) (slot after) result fills empty (Some (get v))
+        _ rest outer can of_type valid (written_required type can (get v)) some;
+    is_absent = λ single s v can empty none.
+        slot_of_absent type can eq (slot s) (Some (get v)) _ (written_required type can (get v)) empty none;
+  }
+
+  -- of one that may be absent, on this side
+  abbrev optional_slot_in : Side → (V → Option W) → (S → Option W) → TaggedType W → (W → W → Bool) → Slot S V
+  optional_slot_in side get slot type eq = record {
+    component = optional_in side name get type;
+    is_single = true;
+    IsEmpty = λ s. slot s ≡ None;
+    is_filled = λ s. true;
+    holds = λ s v. option_eq eq (slot s) (get v);
+    Reads = λ R old new s result. FillsOptional R side type eq old new (slot s) result;
+    reads = λ R old new s result fills v rest outer can of_type valid apart.
+        fills.reads (get v) rest outer can of_type valid apart;
+    ReadsOnce = λ R old new before after result.
+        FillsOnce R name type eq old new (slot before) (slot after) result;
+    is_one = λ single can v. one_optional type can side (get v);
+    reads_once = λ R old new before after result single fills empty v rest outer can of_type valid some.
+        slot_of_present type R name eq old new (slot before) (slot after) result fills empty (get v)
+        _ rest outer can of_type valid (written_optional type can side (get v)) some;
+    is_absent = λ single s v can empty none.
+        slot_of_absent type can eq (slot s) (get v) _ (written_optional type can side (get v)) empty none;
+  }
+
+  -- of the root, and of the additions
+  abbrev pub optional_slot : (V → Option W) → (S → Option W) → TaggedType W → (W → W → Bool) → Slot S V
+  optional_slot = optional_slot_in in_root
+
+  abbrev pub addition_slot : (V → Option W) → (S → Option W) → TaggedType W → (W → W → Bool) → Slot S V
+  addition_slot = optional_slot_in in_additions
+
+  -- of one with a default, on this side, which a value has where the slot is empty
+  abbrev default_slot_in : Side → (V → W) → W → (S → Option W) → TaggedType W → (W → W → Bool) → Slot S V
+  default_slot_in side get usual slot type eq = record {
+    component = default_in side name get (λ v. eq (get v) usual) type;
+    is_single = true;
+    IsEmpty = λ s. slot s ≡ None;
+    is_filled = λ s. true;
+    holds = λ s v. holds_or_default eq usual (slot s) (get v);
+    Reads = λ R old new s result. FillsOptional R side type eq old new (slot s) result;
+    reads = λ R old new s result fills v rest outer can of_type valid apart.
+        reads_default R side type eq usual old new (slot s) result fills (get v) rest outer (eq (get v) usual)
+        refl can of_type valid apart;
+    ReadsOnce = λ R old new before after result.
+        FillsOnce R name type eq old new (slot before) (slot after) result;
+    is_one = λ single can v. one_default type can side (eq (get v) usual) (get v);
+    reads_once = λ R old new before after result single fills empty v rest outer can of_type valid some.
+        in_other_words R old new _ _ _ result (λ _ same. default_is_read eq usual (get v) (slot after) same)
+        (slot_of_present type R name eq old new (slot before) (slot after) result fills empty
+        (unless_default (eq (get v) usual) (get v)) _ rest outer can (if_not_default _ (eq (get v) usual) (get v) of_type)
+        (if_not_default _ (eq (get v) usual) (get v) valid)
+        (written_default type can side (eq (get v) usual) (get v)) some);
+    is_absent = λ single s v can empty none. default_is_read eq usual (get v) (slot s)
+        (slot_of_absent type can eq (slot s) (unless_default (eq (get v) usual) (get v)) _
+        (written_default type can side (eq (get v) usual) (get v)) empty none);
+  }
+
+  -- of the root, and of the additions
+  abbrev pub default_slot : (V → W) → W → (S → Option W) → TaggedType W → (W → W → Bool) → Slot S V
+  default_slot = default_slot_in in_root
+
+  abbrev pub addition_with_default_slot : (V → W) → W → (S → Option W) → TaggedType W → (W → W → Bool) → Slot S V
+  addition_with_default_slot = default_slot_in in_additions
+
+  -- of a group of additions, which is in no SET that is read into slots
+  abbrev pub group_slot : (V → Option W) → (S → Option W) → Components W → (W → W → Bool) → Slot S V
+  group_slot get slot components eq = record {
+    component = group name get components;
+    is_single = false;
+    IsEmpty = λ s. slot s ≡ None;
+    is_filled = λ s. true;
+    holds = λ s v. option_eq eq (slot s) (get v);
+    Reads = λ R old new s result. FillsGroup R components eq old new (slot s) result;
+    reads = λ R old new s result fills v rest outer can of_type valid apart.
+        fills.reads (get v) rest outer can.0 of_type valid apart;
+    ReadsOnce = λ R old new before after result. ⊤;
+    is_one = λ wrong. no_group wrong;
+    reads_once = λ R old new before after result wrong. no_group wrong;
+    is_absent = λ wrong. no_group wrong;
+  }
+
+module _ {S V : Type 0} where
+  -- the components of the slots
+  abbrev pub components_of : List (Slot S V) → List (ComponentType V)
+  components_of [] = []
+  components_of (h ∷ hs) = h.component ∷ components_of hs
+
+  -- a SEQUENCE of these components, without an extension marker
+  abbrev pub sequence_of_slots : List (Slot S V) → Components V
+  sequence_of_slots slots = sequence (components_of slots)
+
+  -- one whose root has this many of them, and then an extension marker
+  abbrev pub extensible_sequence_after : ℕ → List (Slot S V) → Components V
+  extensible_sequence_after k slots = extensible_sequence (components_of (take k slots)) (components_of (drop k slots))
+
+  -- a SET of them, without an extension marker, and with one
+  abbrev pub set_of_slots : List (Slot S V) → Components V
+  set_of_slots slots = set (components_of slots)
+
+  abbrev pub extensible_set_after : ℕ → List (Slot S V) → Components V
+  extensible_set_after k slots = extensible_set (components_of (take k slots)) (components_of (drop k slots))
+
+  -- each slot before this place has what the value has
+  abbrev pub HoldBefore : List (Slot S V) → ℕ → S → V → Type 0
+  HoldBefore [] place s v = ⊤
+  HoldBefore (h ∷ hs) zero s v = ⊤
+  HoldBefore (h ∷ hs) (suc place) s v = (h.holds s v ≡ true) × HoldBefore hs place s v
+
+  -- all slots are empty
+  abbrev pub AreEmpty : List (Slot S V) → S → Type 0
+  AreEmpty [] s = ⊤
+  AreEmpty (h ∷ []) s = h.IsEmpty s
+  AreEmpty (h ∷ i ∷ hs) s = h.IsEmpty s × AreEmpty (i ∷ hs) s
+
+  -- none of the components is a group
+  abbrev pub has_no_group : List (Slot S V) → Bool
+  has_no_group [] = true
+  has_no_group (h ∷ hs) = h.is_single && has_no_group hs
+
+  -- what a slot holds it still holds, and one that was empty is empty
+  abbrev pub IsKept : Slot S V → S → S → V → Type 0
+  IsKept h before after v =
+      (h.holds before v ≡ true → h.holds after v ≡ true) × (h.IsEmpty before → h.IsEmpty after)
+
+  abbrev pub AllAreKept : List (Slot S V) → S → S → V → Type 0
+  AllAreKept [] before after v = ⊤
+  AllAreKept (h ∷ hs) before after v = IsKept h before after v × AllAreKept hs before after v
+
+  -- each slot but that of this index is kept
+  abbrev pub OthersAreKept : List (Slot S V) → ℕ → S → S → V → Type 0
+  OthersAreKept [] index before after v = ⊤
+  OthersAreKept (h ∷ hs) zero before after v = AllAreKept hs before after v
+  OthersAreKept (h ∷ hs) (suc index) before after v =
+      IsKept h before after v × OthersAreKept hs index before after v
+
+  -- the call reads the component of this index in a SET, into its slot
+  abbrev pub ReadsOnceAt : {D A : Type 0} → Reader D → List (Slot S V) → ℕ → D → D → S → S → Result A DecodeError → Type 0
+  ReadsOnceAt R [] index old new before after result = ⊤
+  ReadsOnceAt R (h ∷ hs) zero old new before after result = h.ReadsOnce R old new before after result
+  ReadsOnceAt R (h ∷ hs) (suc index) old new before after result = ReadsOnceAt R hs index old new before after result
+
+  -- the call reads the component at this place into its slot
+  abbrev pub ReadsAt : {D A : Type 0} → Reader D → List (Slot S V) → ℕ → D → D → S → Result A DecodeError → Type 0
+  ReadsAt R [] place old new s result = ⊤
+  ReadsAt R (h ∷ hs) zero old new s result = h.Reads R old new s result
+  ReadsAt R (h ∷ hs) (suc place) old new s result = ReadsAt R hs place old new s result
+
+  -- the name of the first component that is always there and whose slot is empty
+  abbrev pub first_missing : List (Slot S V) → S → Option (List ℕ)
+  first_missing [] s = None
+  first_missing (h ∷ hs) s = if h.is_filled s then first_missing hs s else Some h.component.name
+
+  -- Where a component is missing, the error says which is the first.
+  abbrev pub RefusesMissing : {A : Type 0} → List (Slot S V) → S → Result A DecodeError → Type 0
+  RefusesMissing slots s result =
+      IfSome (first_missing slots s) (λ name. IsErrAnd result (λ e. reason e ≡ missing_field name))
+
+  -- of the slots of a value an equal one is made, unless memory runs out
+  abbrev pub MakesValue : List (Slot S V) → (V → V → Bool) → S → Result V DecodeError → Type 0
+  MakesValue slots eq s result =
+      (v : V) → HoldBefore slots (length slots) s v →
+      MatchResult result (λ w. eq w v ≡ true) (λ e. e ≡ Memory)
+
+-- Two components are the same to a reader.
+abbrev pub SameComponent : {V : Type 0} → ComponentType V → ComponentType V → Type 0
+SameComponent {V = V} c d = (v : V) →
+    (c.CanStandInside → d.CanStandInside) × (c.IsOfType v → d.IsOfType v) × ((takes : List ℕ → Bool) → c.IsValid takes v → d.IsValid takes v)
+    × ((rest : List Record) → Where (may_be_absent c.presence) (BeginsApart c.tree rest) → Where (may_be_absent d.presence) (BeginsApart d.tree rest))
+    × (c.records v ≡ d.records v)
+
+-- The slots are those of these components.
+abbrev pub AreSlotsOf : {S V : Type 0} → List (ComponentType V) → List (Slot S V) → Type 0
+AreSlotsOf [] [] = ⊤
+AreSlotsOf [] (h ∷ hs) = ⊥
+AreSlotsOf (c ∷ cs) [] = ⊥
+AreSlotsOf (c ∷ cs) (h ∷ hs) = SameComponent c h.component × AreSlotsOf cs hs
+
+abbrev SameAll : {V : Type 0} → List (ComponentType V) → Type 0
+SameAll [] = ⊤
+SameAll (c ∷ cs) = SameComponent c c × SameAll cs
+
+same_all : {V : Type 0} (cs : List (ComponentType V)) → SameAll cs
+same_all [] = tt
+same_all (c ∷ cs) = (λ v. ((λ h. h), (λ h. h), (λ takes h. h), (λ rest h. h), refl), same_all cs)
+
+-- so it is for each type whose components are stated by its slots
+pub slots_agree : {V : Type 0} (components : Components V) → SameAll (all_components components)
+slots_agree components = same_all (all_components components)

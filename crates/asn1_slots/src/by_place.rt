@@ -1,0 +1,52 @@
+//! Types that are read by place.
+ghost use Rattle.asn1_codec.specs.Reading.{Outside, ReadsBack};
+ghost use Rattle.asn1_components.specs.ComponentLists.{CanBeInSequence, EachIsOfType, EachIsValid};
+ghost use Rattle.asn1_components.specs.Components.{all_components, component_records};
+ghost use Rattle.asn1_components.specs.Following.{EndsApart};
+ghost use Rattle.asn1_model.specs.Records.{Record};
+ghost use Rattle.asn1_slots.specs.Slots.{AreSlotsOf, HoldBefore, ReadsAt};
+ghost use Rattle.std.specs.Prelude.{◌≡◌, List, OnOk, true};
+
+use crate::slotted::Slotted;
+use asn1_codec::DecodeError;
+use asn1_components::FieldTable;
+use asn1_dec::Decoder;
+
+/// A type whose components are read one by one, each by its place in the definition, into slots: a SEQUENCE or a group of
+/// additions.
+pub trait DecodeByPlace: FieldTable + Slotted + Drop {
+    /// Reads the component at a place into its slot, and leaves the slots before it. At the places after the last component it
+    /// does nothing.
+    fn decode_field<D: Decoder>(
+        place: usize,
+        slots: &mut Self::Slots,
+        decoder: &mut D,
+    ) -> Result<(), DecodeError>
+        ensures read { ReadsAt D.reader Self.layout place decoder.old decoder.new slots.new result }
+        ensures kept { (v : Self) → HoldBefore Self.layout place slots.old v →
+            HoldBefore Self.layout place slots.new v }
+        ensures same_depth { OnOk result (D.reader.depth_left decoder.new ≡
+            D.reader.depth_left decoder.old) };
+
+    // The law: these are the slots of the components.
+    ghost agrees: { AreSlotsOf (all_components Self.FieldTable.components) Self.Slotted.layout };
+
+    /// Reads all components: what [`asn1_dec::DecodeFields::decode_fields`] of the type calls.
+    final fn decode_by_place<D: Decoder>(decoder: &mut D) -> Result<Self, DecodeError>
+        ensures read { (v : Self) (rest : List Record) (outer : Outside) →
+            CanBeInSequence (all_components Self.components) →
+            EachIsOfType (all_components Self.components) v →
+            EachIsValid (all_components Self.components) D.reader.takes v →
+            EndsApart (all_components Self.components) rest →
+            ReadsBack D.reader decoder.old decoder.new (component_records Self.components v) rest
+            outer (λ w. Self.eq w v ≡ true) result }
+        ensures same_depth { OnOk result (D.reader.depth_left decoder.new ≡
+            D.reader.depth_left decoder.old) }
+    {
+        let mut slots = Self::Slots::default();
+        for place in 0..Self::field_count() {
+            Self::decode_field(place, &mut slots, decoder)?;
+        }
+        Self::from_slots(decoder.global(), slots)
+    }
+}

@@ -1,0 +1,87 @@
+//! The calls that read a component into its slot.
+ghost use Rattle.asn1_model.specs.Records.{in_additions, in_root};
+ghost use Rattle.asn1_slots.specs.Filling.{Fills, FillsGroup, FillsOnce, FillsOptional};
+ghost use Rattle.asn1_slots.specs.Taggings.{under};
+ghost use Rattle.std.specs.Prelude.{◌≡◌, OnOk};
+
+use crate::tagged::{read_addition, read_component, read_optional};
+use crate::tagging::Tagging;
+use asn1_codec::DecodeError;
+use asn1_dec::{Decode, DecodeFields, Decoder};
+
+/// Reads a component that is always there.
+pub fn required<T: Decode, D: Decoder>(
+    slot: &mut Option<T>,
+    decoder: &mut D,
+    tagging: Tagging,
+) -> Result<(), DecodeError>
+    ensures read { Fills D.reader (under tagging T.meaning) T.eq decoder.old decoder.new slot.new
+        result }
+    ensures same_depth { OnOk result (D.reader.depth_left decoder.new ≡
+        D.reader.depth_left decoder.old) }
+{
+    *slot = Some(read_component(decoder, tagging)?);
+    Ok(())
+}
+
+/// Reads a component that may be absent, or has a default.
+pub fn optional<T: Decode, D: Decoder>(
+    slot: &mut Option<T>,
+    decoder: &mut D,
+    tagging: Tagging,
+) -> Result<(), DecodeError>
+    ensures read { FillsOptional D.reader in_root (under tagging T.meaning) T.eq decoder.old
+        decoder.new slot.new result }
+    ensures same_depth { OnOk result (D.reader.depth_left decoder.new ≡
+        D.reader.depth_left decoder.old) }
+{
+    *slot = read_optional(decoder, tagging)?;
+    Ok(())
+}
+
+/// Reads an addition, which may be absent, or has a default.
+pub fn addition<T: Decode, D: Decoder>(
+    slot: &mut Option<T>,
+    decoder: &mut D,
+    tagging: Tagging,
+) -> Result<(), DecodeError>
+    ensures read { FillsOptional D.reader in_additions (under tagging T.meaning) T.eq decoder.old
+        decoder.new slot.new result }
+    ensures same_depth { OnOk result (D.reader.depth_left decoder.new ≡
+        D.reader.depth_left decoder.old) }
+{
+    *slot = read_addition(decoder, tagging)?;
+    Ok(())
+}
+
+/// Reads a group of additions, which may be absent.
+pub fn group<C: DecodeFields, D: Decoder>(
+    slot: &mut Option<C>,
+    decoder: &mut D,
+) -> Result<(), DecodeError>
+    ensures read { FillsGroup D.reader C.components C.eq decoder.old decoder.new slot.new result }
+    ensures same_depth { OnOk result (D.reader.depth_left decoder.new ≡
+        D.reader.depth_left decoder.old) }
+{
+    *slot = decoder.decode_extension_addition_group()?;
+    Ok(())
+}
+
+/// Reads a component of a SET. Where it was read before, the error is [`DecodeError::DuplicateField`], with the name.
+pub fn once<T: Decode, D: Decoder>(
+    slot: &mut Option<T>,
+    decoder: &mut D,
+    tagging: Tagging,
+    name: &'static str,
+) -> Result<(), DecodeError>
+    ensures read { FillsOnce D.reader name.now (under tagging T.meaning) T.eq decoder.old
+        decoder.new slot.old slot.new result }
+    ensures same_depth { OnOk result (D.reader.depth_left decoder.new ≡
+        D.reader.depth_left decoder.old) }
+{
+    if slot.is_some() {
+        return Err(DecodeError::DuplicateField(name));
+    }
+    *slot = Some(read_component(decoder, tagging)?);
+    Ok(())
+}

@@ -1,0 +1,64 @@
+//! The calls that read a component into its slot under constraints of its own.
+ghost use Rattle.asn1_model.specs.ConstraintSets.{constraint_set};
+ghost use Rattle.asn1_model.specs.Records.{in_additions, in_root};
+ghost use Rattle.asn1_slots.specs.Filling.{Fills, FillsOptional};
+ghost use Rattle.asn1_slots.specs.Taggings.{under_constraints};
+ghost use Rattle.std.specs.Prelude.{◌≡◌, OnOk};
+
+use asn1_bounds::Constraints;
+use asn1_codec::DecodeError;
+use asn1_dec::{Decode, Decoder};
+use asn1_tags::Tag;
+
+/// Reads a component that is always there under these constraints, and a tag, or the type's own where none is given.
+pub fn required_with_constraints<T: Decode, D: Decoder>(
+    slot: &mut Option<T>,
+    decoder: &mut D,
+    tag: Option<Tag>,
+    constraints: &Constraints<'_>,
+) -> Result<(), DecodeError>
+    ensures read { Fills D.reader (under_constraints tag (constraint_set constraints.now) T.meaning)
+        T.eq decoder.old decoder.new slot.new result }
+    ensures same_depth { OnOk result (D.reader.depth_left decoder.new ≡
+        D.reader.depth_left decoder.old) }
+{
+    let tag = tag.unwrap_or(T::tag());
+    *slot = Some(T::decode_with_tag_and_constraints(decoder, tag, constraints)?);
+    Ok(())
+}
+
+/// The same of a component that may be absent, or has a default.
+pub fn optional_with_constraints<T: Decode, D: Decoder>(
+    slot: &mut Option<T>,
+    decoder: &mut D,
+    tag: Option<Tag>,
+    constraints: &Constraints<'_>,
+) -> Result<(), DecodeError>
+    ensures read { FillsOptional D.reader in_root
+        (under_constraints tag (constraint_set constraints.now) T.meaning) T.eq decoder.old
+        decoder.new slot.new result }
+    ensures same_depth { OnOk result (D.reader.depth_left decoder.new ≡
+        D.reader.depth_left decoder.old) }
+{
+    let tag = tag.unwrap_or(T::tag());
+    *slot = decoder.decode_optional_with_tag_and_constraints(tag, constraints)?;
+    Ok(())
+}
+
+/// The same of an addition.
+pub fn addition_with_constraints<T: Decode, D: Decoder>(
+    slot: &mut Option<T>,
+    decoder: &mut D,
+    tag: Option<Tag>,
+    constraints: &Constraints<'_>,
+) -> Result<(), DecodeError>
+    ensures read { FillsOptional D.reader in_additions
+        (under_constraints tag (constraint_set constraints.now) T.meaning) T.eq decoder.old
+        decoder.new slot.new result }
+    ensures same_depth { OnOk result (D.reader.depth_left decoder.new ≡
+        D.reader.depth_left decoder.old) }
+{
+    let tag = tag.unwrap_or(T::tag());
+    *slot = decoder.decode_extension_addition_with_tag_and_constraints(tag, constraints)?;
+    Ok(())
+}

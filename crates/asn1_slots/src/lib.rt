@@ -1,0 +1,50 @@
+//! Reading by place: a type whose components are read into slots, with no proof of its own.
+//!
+//! A type of components has a slot for each of them, an option that is empty at first ([`Slotted`]). It states the list of its
+//! components once, each with its slot, and says in one line for each place how that component is read into the slot. The
+//! rest is here, and is proved once: the components are read one after another, what follows each is told apart by its tags,
+//! and of full slots the value is made.
+//!
+//! | Item | What it is |
+//! |---|---|
+//! | [`Slotted`], [`filled`], [`or_default`] | a type with a slot for each component, and what is in a slot |
+//! | [`DecodeByPlace`] | a SEQUENCE or a group of additions whose components are read into slots |
+//! | [`DecodeSetByPlace`], [`decode_set_by_place`] | a SET whose components are read into slots, in whatever order they come |
+//! | [`required`], [`optional`], [`addition`], [`group`], [`once`] | the calls that read a component into its slot |
+//! | [`required_with_constraints`], [`optional_with_constraints`], [`addition_with_constraints`] | the same under constraints of the component's own |
+//! | [`Tagging`] | how the type of a component is tagged: as its list of components says |
+//!
+//! What the contracts promise, and the words that they use:
+//!
+//! - A component and its slot are a `Slot` (`specs/Slots.antt`). Words for each kind of component make one: `required_slot`,
+//!   `optional_slot`, `default_slot`, `addition_slot`, `addition_with_default_slot` and `group_slot`. Of the list of these are
+//!   made the components of the type, by `sequence_of_slots`, `set_of_slots`, and with an extension marker by
+//!   `extensible_sequence_after` and `extensible_set_after`.
+//! - A call that reads a component into its slot reads what the component's records are: then the slot holds an equal value
+//!   (`Fills`, `FillsOptional`, `FillsGroup` of `specs/Filling.antt`). In a SET the slot was empty before, or the component has
+//!   come twice, and is refused by its name (`FillsOnce`).
+//! - At each place of a type its call has to promise that (`ReadsAt`, `ReadsOnceAt`), and to leave what other slots hold (`kept`).
+//! - Of slots that hold what a value has an equal value is made (`MakesValue`). Where a component is missing that is always
+//!   there, the error says which is the first (`RefusesMissing`).
+//! - So `decode_by_place` reads a SEQUENCE or a group as `decode_fields` of `asn1_dec` has to, and [`decode_set_by_place`] reads
+//!   a SET as `decode_set` of `Decoder` does.
+//!
+//! The other words are those of `asn1_codec` and of the crates below it. The calls take memory as the types of the components do.
+#![tactic(auto)]
+
+mod by_place;
+mod calls;
+mod constrained;
+mod set_by_place;
+mod slotted;
+mod tagged;
+mod tagging;
+
+pub use by_place::DecodeByPlace;
+pub use calls::{addition, group, once, optional, required};
+pub use constrained::{
+    addition_with_constraints, optional_with_constraints, required_with_constraints,
+};
+pub use set_by_place::{DecodeSetByPlace, decode_set_by_place};
+pub use slotted::{Slotted, filled, or_default};
+pub use tagging::Tagging;

@@ -1,0 +1,120 @@
+//! SET types that are read by place.
+ghost use Rattle.asn1_codec.specs.Reading.{Advances, KeepsDepth, NeedsDepth, Outside, ReadsBack, ReadsValue, records_in};
+ghost use Rattle.asn1_codec.specs.SetParts.{CanBeInSet};
+ghost use Rattle.asn1_components.specs.ComponentLists.{EachIsOfType, EachIsValid};
+ghost use Rattle.asn1_components.specs.Components.{all_components, component_records, is_set, lines};
+ghost use Rattle.asn1_model.specs.Composites.{set_records};
+ghost use Rattle.asn1_model.specs.ConstraintSets.{ConstraintSet};
+ghost use Rattle.asn1_model.specs.Records.{Name, Record, highest, set};
+ghost use Rattle.asn1_slots.specs.Slots.{AreEmpty, AreSlotsOf, HoldBefore, OthersAreKept, ReadsOnceAt, has_no_group};
+ghost use Rattle.std.specs.Prelude.{◌≡◌, ◌≤◌, IsPermutation, List, OnErr, OnOk, [], ◌∷◌, length, true};
+
+use crate::slotted::Slotted;
+use asn1_codec::DecodeError;
+use asn1_components::{ConstructedType, FieldTable};
+use asn1_dec::{Decoder, component_with_tag};
+use asn1_tags::Tag;
+
+/// A SET whose components are read in whatever order they come, each by its place in the definition, into slots.
+pub trait DecodeSetByPlace: FieldTable + Slotted + Drop {
+    /// Reads the component at a place of the definition into its slot, and leaves the other slots. Where it was read before, the
+    /// error is [`DecodeError::DuplicateField`], with its name.
+    fn decode_field<D: Decoder>(
+        place: usize,
+        slots: &mut Self::Slots,
+        decoder: &mut D,
+    ) -> Result<(), DecodeError>
+        ensures read { ReadsOnceAt D.reader Self.layout place decoder.old decoder.new slots.old
+            slots.new result }
+        ensures kept { (v : Self) → OthersAreKept Self.layout place slots.old slots.new v }
+        ensures same_depth { OnOk result (D.reader.depth_left decoder.new ≡
+            D.reader.depth_left decoder.old) };
+
+    // The laws: these are the slots of the components, none of which is a group; and they are empty at first.
+    ghost agrees: { AreSlotsOf (all_components Self.FieldTable.components) Self.Slotted.layout };
+
+    ghost no_group: { has_no_group Self.Slotted.layout ≡ true };
+
+    ghost empty_at_first: { (s : Self.Slots) → Self.Slots.Default.is_default s → AreEmpty Self.Slotted.layout s };
+}
+
+/// The slots of the components that are left in a SET, of which there are at most this many records.
+fn read_slots<S: DecodeSetByPlace, D: Decoder>(
+    decoder: &mut D,
+    bound: usize,
+) -> Result<S::Slots, DecodeError>
+    ensures read { (v : S) (tag : Tag) (n : Name) (items rest : List Record) (outer : Outside) →
+        CanBeInSet (all_components S.components) → EachIsOfType (all_components S.components) v →
+        EachIsValid (all_components S.components) D.reader.takes v →
+        IsPermutation items (component_records S.components v) → records_in items ≤ bound →
+        Advances D.reader decoder.old decoder.new (highest items)
+        (items, (set tag (lines S.components) n, rest) ∷ outer)
+        ([], (set tag (lines S.components) n, rest) ∷ outer)
+        (λ slots. HoldBefore S.layout (length S.layout) slots v) result }
+    ensures same_depth { OnOk result (D.reader.depth_left decoder.new ≡
+        D.reader.depth_left decoder.old) }
+    ensures has_failed { OnErr result (D.reader.failed decoder.new ≡ true) }
+{
+    let mut slots = S::Slots::default();
+    for count in 0..bound {
+        let tag = match decoder.next_component::<S>()? {
+            Some(tag) => tag,
+            None => return Ok(slots),
+        };
+        let place = match component_with_tag::<S>(tag) {
+            Some(place) => place,
+            None => return Err(decoder.refuse(DecodeError::UnknownField { index: count, tag })),
+        };
+        match S::decode_field(place, &mut slots, decoder) {
+            Ok(()) => {}
+            Err(error) => return Err(decoder.refuse(error)),
+        }
+    }
+    let _ = decoder.next_component::<S>()?;
+    Ok(slots)
+}
+
+/// A SET under a tag.
+fn read_components<S: DecodeSetByPlace, D: Decoder>(
+    decoder: &mut D,
+    tag: Tag,
+) -> Result<S, DecodeError>
+    ensures read { (v : S) (n : Name) (rest : List Record) (outer : Outside) →
+        CanBeInSet (all_components S.components) → EachIsOfType (all_components S.components) v →
+        EachIsValid (all_components S.components) D.reader.takes v →
+        ReadsBack D.reader decoder.old decoder.new
+        (set_records tag (lines S.components) n (component_records S.components v)) rest outer
+        (λ w. S.eq w v ≡ true) result }
+    ensures depth_first { NeedsDepth D.reader decoder.old result }
+    ensures keeps_depth { KeepsDepth D.reader decoder.old decoder.new result }
+{
+    let bound = decoder.open_set::<S>(tag)?;
+    let slots = read_slots::<S, D>(decoder, bound)?;
+    let value = match S::from_slots(decoder.global(), slots) {
+        Ok(value) => value,
+        Err(error) => return Err(decoder.refuse(error)),
+    };
+    decoder.close()?;
+    Ok(value)
+}
+
+/// Reads a SET, by its components, in whatever order they come. Of a type that is one it reads a value of the type, under
+/// whatever constraints. A record whose tag no component has is refused with [`DecodeError::UnknownField`], by its place among the
+/// records; a component that comes twice, or is missing, as the type refuses it.
+pub fn decode_set_by_place<S: DecodeSetByPlace + ConstructedType, D: Decoder>(
+    decoder: &mut D,
+    tag: Tag,
+) -> Result<S, DecodeError>
+    ensures components { (v : S) (n : Name) (rest : List Record) (outer : Outside) →
+        CanBeInSet (all_components S.components) → EachIsOfType (all_components S.components) v →
+        EachIsValid (all_components S.components) D.reader.takes v →
+        ReadsBack D.reader decoder.old decoder.new
+        (set_records tag (lines S.components) n (component_records S.components v)) rest outer
+        (λ w. S.eq w v ≡ true) result }
+    ensures as_meant { S.components.kind ≡ is_set → (c : ConstraintSet) →
+        ReadsValue D.reader S.meaning S.eq tag c decoder.old decoder.new result }
+    ensures depth_first { NeedsDepth D.reader decoder.old result }
+    ensures keeps_depth { KeepsDepth D.reader decoder.old decoder.new result }
+{
+    read_components(decoder, tag)
+}

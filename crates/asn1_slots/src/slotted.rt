@@ -1,0 +1,41 @@
+//! Types with a slot for each component.
+ghost use Rattle.asn1_slots.specs.Slots.{MakesValue, RefusesMissing, Slot, holds_or_default};
+ghost use Rattle.asn1_codec.specs.DecodeErrors.{missing_field, reason};
+ghost use Rattle.std.specs.Prelude.{◌≡◌, List, MatchOption, Ok, true};
+ghost use Rattle.std.specs.Result.{IsErrAnd};
+
+use asn1_codec::DecodeError;
+use std::alloc::Global;
+
+/// A type with a slot for each component, into which the component is read.
+pub trait Slotted: Eq + Sized {
+    /// The slots: an option for each component.
+    type Slots: Default + Drop;
+
+    // The components, each with its slot, in the order of the definition.
+    ghost layout: { List (Slot Self.Slots Self) };
+
+    /// The value of these slots. Where a component is missing that is always there, the error is
+    /// [`DecodeError::MissingField`], with the name of the first. Of the slots of a value it fails only if memory runs out.
+    fn from_slots(alloc: Global, slots: Self::Slots) -> Result<Self, DecodeError>
+        ensures made { MakesValue layout Self.eq slots result }
+        ensures missing { RefusesMissing layout slots result };
+}
+
+/// The component that is in a slot. Where there is none, the error is [`DecodeError::MissingField`], with the name.
+pub fn filled<T: Drop>(slot: Option<T>, name: &'static str) -> Result<T, DecodeError>
+    ensures { MatchOption slot (IsErrAnd result (λ error. reason error ≡ missing_field name.now))
+        (λ value. result ≡ Ok value) }
+{
+    match slot {
+        Some(value) => Ok(value),
+        None => Err(DecodeError::MissingField(name)),
+    }
+}
+
+/// The component that is in a slot, or the default where there is none.
+pub fn or_default<T: Eq + Drop>(slot: Option<T>, usual: T) -> T
+    ensures { (v : T) → holds_or_default T.eq usual slot v ≡ true → T.eq result v ≡ true }
+{
+    slot.unwrap_or(usual)
+}
