@@ -68,20 +68,16 @@ pub(super) fn notice(alloc: Global, urgent: Option<bool>) -> Result<Notice, Fail
     })
 }
 
-/// Whether pairs come back, of two types and of two others.
+/// Whether a pair comes back.
 ///
 /// # Errors
-/// Why one did not.
+/// Why it did not.
 pub fn pairs_come_back<R: Rules>(rules: &R) -> Result<(), Failure> {
-    let numbers = Pair {
-        first: 7u8,
+    let pair = Pair {
+        first: true,
         second: Some(8u16),
     };
-    let truths = Pair {
-        first: true,
-        second: None::<bool>,
-    };
-    comes_back(rules, &numbers).and(comes_back(rules, &truths))
+    comes_back(rules, &pair)
 }
 
 /// Whether a pair is refused by the error of the number in it that is outside its limits, by a codec that writes an INTEGER the
