@@ -1,11 +1,11 @@
 -- Whole numbers in two's complement.
-use Rattle.std.proofs.Common.{◌≡◌, ℕ, zero, suc, lit<, ◌+◌, ◌-◌, ◌*◌, ◌/◌, ◌%◌, ◌≤◌, ◌<◌, ◌^◌, Bool, true, false, List, [], ◌∷◌, ◌++◌, append_assoc, subst, Some, Result, Ok, Err, length, length-drop, get_or, set, drop, refl, sym, ap, ◌∙◌, arith}
+use Rattle.std.proofs.Common.{◌≡◌, ℕ, zero, suc, lit<, ◌+◌, ◌-◌, ◌*◌, ◌≤◌, ◌<◌, ◌^◌, true, false, List, [], ◌∷◌, ◌++◌, append_assoc, subst, Some, Result, Ok, Err, length, length-drop, get_or, set, drop, refl, sym, ap, ◌∙◌, arith}
 use Rattle.std.proofs.Math.Nat.{mul-le-mul_right, one-le-pow, pow-suc}
 use Rattle.std.proofs.Math.Seq.{drop-cons}
 use Rattle.std.proofs.lemmas.Bool.{lt-ltb, le-ltb}
 use Rattle.std.proofs.lemmas.List.{drop-set}
 use Rattle.std.specs.Int.Digits.{number_from_digits_after}
-use Rattle.std.specs.Prelude.{ℤ, pos, neg_ℤ, ◌<ℤ◌, ◌==◌, nat_lt, if◌then◌else◌, IfOk, MatchResult}
+use Rattle.std.specs.Prelude.{ℤ, pos, neg_ℤ, ◌<ℤ◌, ◌==◌, if◌then◌else◌, IfOk, MatchResult}
 use Rattle.asn1_values.specs.Numbers.{magnitude, signed, IsShortest as BeginsWithDigit}
 use Rattle.asn1_der_items.specs.Integers.{IsComplement, IsInteger, IsShortest, twos_complement}
 use borrow.Author.Tests.{eqb-true}

@@ -1,5 +1,5 @@
 -- The octets of an identifier, a length and an element are found in front of whatever follows.
-use Rattle.std.proofs.Common.{◌≡◌, ℕ, ◌+◌, ◌-◌, ◌*◌, ◌/◌, ◌%◌, ◌≤◌, ◌<◌, ◌^◌, Bool, true, false, List, [], ◌∷◌, ◌++◌, None, Some, append_assoc, length, length-append, take, drop, refl, sym, ap, ◌∙◌, arith, inl, inr}
+use Rattle.std.proofs.Common.{◌≡◌, ℕ, ◌+◌, ◌-◌, ◌*◌, ◌/◌, ◌%◌, ◌≤◌, ◌<◌, ◌^◌, Bool, true, false, List, [], ◌∷◌, ◌++◌, None, Some, append_assoc, length, length-append, take, drop, refl, ap, ◌∙◌, arith, inl, inr}
 use Rattle.std.proofs.Math.Seq.{take-append_seam, drop-append_seam}
 use Rattle.std.proofs.lemmas.Bool.{lt-ltb, le-ltb, le-leb, ltb-false}
 use borrow.Author.Tests.{eq-eqb}
@@ -11,9 +11,9 @@ use Rattle.asn1_tags.specs.declared.classes.Class.{Class}
 use Rattle.asn1_tags.specs.declared.classes.Class.TheVariants.{Universal, Application, Context, Private}
 use Rattle.asn1_tags.specs.declared.tags.Tag.{Tag}
 use Rattle.asn1_items.specs.Headers.{class_at}
-use Rattle.asn1_der_items.specs.Base128.{Front, base128_at}
-use Rattle.asn1_der_items.specs.Elements.{Element, IsElement, element_at, of_identifier, of_length}
-use Rattle.asn1_der_items.specs.Identifiers.{Identified, IsIdentifier, first_octet, form_bit, high_tag, identifier_at, of_class}
+use Rattle.asn1_der_items.specs.Base128.{base128_at}
+use Rattle.asn1_der_items.specs.Elements.{IsElement, element_at, of_identifier, of_length}
+use Rattle.asn1_der_items.specs.Identifiers.{IsIdentifier, first_octet, high_tag, identifier_at, of_class}
 use Rattle.asn1_der_items.specs.Lengths.{IsLength, begins_with_digit, length_at, long_length_at}
 use Rattle.asn1_der_items.proofs.Septets.{base128-found}
 

@@ -1,4 +1,4 @@
-use Rattle.std.proofs.Common.{◌≡◌, ◌-◌, ◌++◌, length, length-append, rules, refl, sym, ap, ◌∙◌, arith}
+use Rattle.std.proofs.Common.{◌≡◌, ◌-◌, ◌++◌, length, length-append, rules, ap, ◌∙◌, arith}
 use Rattle.asn1_der_items.proofs.Wrapping.{rotated, wrapped, written_behind}
 use Rattle.asn1_der_items.proofs.elements.wrap.Goals as goal
 

@@ -1,5 +1,5 @@
-use Rattle.std.proofs.Common.{◌≡◌, List, ℕ, length, true, false, ap, sym, subst, ◌∙◌}
-use Rattle.std.specs.Prelude.{ℤ, pos, neg_ℤ, IfOk, IsTrue}
+use Rattle.std.proofs.Common.{◌≡◌, List, ℕ, true, false, ap, sym, subst, ◌∙◌}
+use Rattle.std.specs.Prelude.{pos, IfOk}
 use Rattle.asn1_values.specs.Numbers.{IsShortest, magnitude, signed}
 use Rattle.asn1_items.specs.Numbers.{Appended}
 use Rattle.asn1_der_items.specs.Integers.{IsComplement, IsInteger}

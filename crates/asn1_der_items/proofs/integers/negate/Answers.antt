@@ -1,4 +1,4 @@
-use Rattle.std.proofs.Common.{◌≡◌, ◌≢◌, ℕ, ◌+◌, ◌-◌, ◌*◌, ◌<◌, ◌∙◌, length-set, get_or, sym, arith, rules}
+use Rattle.std.proofs.Common.{◌≢◌, ◌-◌, ◌∙◌, arith, rules}
 use Rattle.std.proofs.lemmas.List.{get_or-set_other}
 use Rattle.asn1_der_items.proofs.Complements.{all_negated, negated}
 use Rattle.asn1_der_items.proofs.integers.negate.Goals as goal
