@@ -1,5 +1,5 @@
 -- Fronts of packed bytes: bytes behind change nothing, and what was written is one.
-use Rattle.std.proofs.Common.{◌≡◌, ℕ, Bool, true, false, List, [], ◌∷◌, ◌++◌, Some, ap, sym, subst, refl, ◌∙◌, arith, append-nil, length, length-append, take}
+use Rattle.std.proofs.Common.{◌≡◌, ℕ, Bool, true, false, List, [], ◌∷◌, ◌++◌, Some, ap, sym, subst, refl, ◌∙◌, arith, append-nil, length, length-append}
 use Rattle.std.proofs.Math.Seq.{take-length}
 use Rattle.std.proofs.lemmas.List.{take-append-le}
 use Rattle.asn1_bench.specs.Fronts.{IsCut, IsFrontOf, cut_within, packed_fronts}

@@ -84,10 +84,16 @@ fn assert_read(rt: &impl Abort, alloc: Global, persons: &[Person], pieces: &[&[u
     assert!(rt; read.values.as_slice() == persons && read.last.is_none());
 }
 
+fn assert_read_cut(rt: &impl Abort, alloc: Global, persons: &[Person], bytes: &[u8], place: usize) {
+    if let Some((first, second)) = bytes.split_at_checked(place) {
+        assert_read(rt, alloc, persons, &[first, second]);
+    }
+}
+
 fn assert_read_wherever_cut(rt: &impl Abort, alloc: Global, persons: &[Person]) {
     let bytes = write_list(alloc, &BenchRules::new(alloc), persons, 1).expect(rt, "memory");
     for place in 0..=bytes.len() {
-        assert_read(rt, alloc, persons, &[&bytes[..place], &bytes[place..]]);
+        assert_read_cut(rt, alloc, persons, &bytes, place);
     }
 }
 
