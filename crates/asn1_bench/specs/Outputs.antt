@@ -1,10 +1,11 @@
--- What an output of the record codec is.
-use Rattle.std.specs.Prelude.{true, Vec}
-use Rattle.std.specs.declared.alloc.Global.{Global}
-use Rattle.asn1_schema.specs.Rules.{Format}
-use Rattle.asn1_records.specs.Carried.{Carries}
-use Rattle.asn1_records.specs.declared.record.Record.{Record}
+-- Which records have no output.
+use Rattle.std.specs.Prelude.{List}
+use Rattle.asn1_items.specs.Items.{SomeTooLong, packed_marks, written_with}
+use Rattle.asn1_model.specs.Orders.{SameRecords}
+use Rattle.asn1_model.specs.Records.{Record, held}
 
--- An output carries the records that it is without constraints and tables. Nothing is rejected, and any bytes are one value of an open type.
-abbrev pub record_format : Format (Vec Record Global)
-record_format = record { carries = λ output rs. Carries output.items rs; rejects = λ rs. ⊥; takes = λ bytes. true }
+-- Some item of the records, at whatever depth, has 2^32 bytes or more inside, with the elements of sets in some order.
+pub record AreTooLong (rs : List Record) : Type 0 where
+  pub exactly : List Record
+  pub too_long : SomeTooLong (written_with packed_marks) (held exactly)
+  pub same : SameRecords exactly rs

@@ -1,27 +1,43 @@
-//! Laws of what no other contract names: what is written by these rules, and what derives give.
-ghost use Rattle.asn1_codec.specs.declared.encode_error.EncodeError.{EncodeError};
-ghost use Rattle.asn1_codec.specs.declared.encode_error.EncodeError.TheVariants.{Depth, Memory};
-ghost use Rattle.asn1_model.specs.Records.{Record as Written};
-ghost use Rattle.asn1_records.specs.Carried.{Carries};
-ghost use Rattle.asn1_schema.specs.Rules.{IsNotWritten};
+//! Laws of what no other contract names: what the codec and its reader come to, and what derives give.
+ghost use Rattle.asn1_bench.specs.Outputs.{AreTooLong};
+ghost use Rattle.asn1_items.specs.Headers.{is_one_item};
+ghost use Rattle.asn1_model.specs.Meaning.{CanStandInside};
+ghost use Rattle.asn1_model.specs.Records.{Record};
+ghost use Rattle.asn1_packed.specs.Carried.{Carries};
+ghost use Rattle.asn1_streams.specs.Fronts.{BelongsTo, IsSteady};
 ghost use Rattle.asn1_tags.specs.Derives.{ClonesAll};
-ghost use Rattle.std.specs.Prelude.{◌≡◌, ◌↔◌, ◌⊎◌, List, ℕ, true};
+ghost use Rattle.std.specs.Prelude.{◌≡◌, ◌↔◌, List, ℕ};
 
+use crate::reader::BenchReader;
 use crate::rules::BenchRules;
-use asn1_records::Record;
+use asn1_dec::Decode;
 use asn1_schema::Rules;
+use asn1_streams::FrontReader;
 
-/// A law of the codec: an output carries records as `asn1_records` says, any bytes are one value of an open type, and the errors
-/// of writing are `Memory` and `Depth`.
-pub fn the_codec_rejects_nothing(output: &Vec<Record>)
-    ensures carries { (rs : List Written) →
+/// A law of the codec: an output carries the records whose bytes it is, up to the order inside sets; one value of an open type
+/// is one item; and the records that are too long are rejected, and no others.
+pub fn the_codec_rejects_what_is_too_long(output: &Vec<u8>)
+    ensures carries { (rs : List Record) →
         ⟦<BenchRules as Rules>⟧.format.carries output.now rs ↔ Carries output.now.items rs }
-    ensures takes { (bytes : List ℕ) → ⟦<BenchRules as Rules>⟧.format.takes bytes ≡ true }
-    ensures errors { (rs : List Written) (depth : ℕ) (e : EncodeError) →
-        IsNotWritten ⟦<BenchRules as Rules>⟧.format rs depth e → (e ≡ Memory) ⊎ (e ≡ Depth) }
+    ensures takes { (bytes : List ℕ) →
+        ⟦<BenchRules as Rules>⟧.format.takes bytes ≡ is_one_item bytes }
+    ensures rejects { (rs : List Record) → ⟦<BenchRules as Rules>⟧.format.rejects rs ↔ AreTooLong rs }
 {}
 
-/// A law of the derive: clones of the rules are their sources.
+/// A law of the reader: bytes behind change nothing, and an input has one front at most (`steady`); and for each type that can
+/// be inside others, what the rules write is a front of the value that was written (`belongs`).
+#[tactic(auto, using(crate::proofs::Fronts::steady, crate::proofs::Fronts::belongs))]
+pub fn the_reader_belongs_to_the_rules<T: Decode>(reader: &BenchReader)
+    ensures steady { IsSteady ⟦<BenchReader as FrontReader<T>>⟧.fronts reader.now }
+    ensures belongs { CanStandInside T.meaning →
+        BelongsTo ⟦<BenchReader as FrontReader<T>>⟧.fronts reader.now
+        ⟦<BenchRules as Rules>⟧.format T.meaning T.eq }
+{}
+
+/// A law of the derives: clones of the rules and of a reader are their sources.
 pub fn clones_are_their_sources()
-    ensures { ClonesAll ⟦<BenchRules as Clone>⟧.is_clone ⟦<BenchRules as Clone>⟧.is_infallible }
+    ensures rules { ClonesAll ⟦<BenchRules as Clone>⟧.is_clone
+        ⟦<BenchRules as Clone>⟧.is_infallible }
+    ensures readers { ClonesAll ⟦<BenchReader as Clone>⟧.is_clone
+        ⟦<BenchReader as Clone>⟧.is_infallible }
 {}

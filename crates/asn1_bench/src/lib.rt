@@ -1,27 +1,34 @@
-//! A codec for tests and examples: what it makes of a value are the records of the value themselves, without their
-//! constraints and tables but for the names of ENUMERATED items.
+//! A codec for tests and examples, over packed bytes: of each item there are its kind, its tag, the kind of its content, its
+//! length, and what is inside.
 //!
 //! | Item | What it is |
 //! |---|---|
-//! | [`BenchRules`] | the rules of the codec: values become records, and are read from them |
-//! | [`laws`] | what these rules come to |
+//! | [`BenchRules`] | the rules of the codec: values become bytes, and are read from them |
+//! | [`BenchReader`] | reads values one after another from the front of bytes |
+//! | [`laws`] | what the codec and its reader come to |
 //!
-//! `asn1_records` has the records and the encoder, and `asn1_record_decoder` the decoder. What holds of all codecs holds of this
-//! one: see `Rules` and `round_trip` of `asn1_schema`.
+//! `asn1_items` has the bytes of items, and `asn1_packed` the encoder and the decoder. What holds of all codecs holds of this
+//! one: see `Rules` and `round_trip` of `asn1_schema`, and `round_trip_in_pieces` of `asn1_streams`.
 //!
 //! What the contracts promise, and the words that they use:
 //!
-//! - An output carries records that are it without constraints and tables, up to the order inside sets (`Carries` of
-//!   `asn1_records`).
-//! - Nothing is rejected: a value that is not written is too high, or memory was short (`errors` of [`laws`]).
-//! - Any bytes are one value of an open type (`takes`).
+//! - An output carries the records whose bytes it is, up to the order inside sets (`Carries` of `asn1_packed`). One value of an
+//!   open type is one item (`is_one_item` of `asn1_items`).
+//! - The records that are rejected are those with 2^32 bytes or more inside an item (`rejects` of [`laws`]). So a value that is
+//!   not written is too deep or too long, or memory was short.
+//! - A reader finds the item with which an input begins, and reads that as a whole (`IsFrontOf` of `specs/Fronts.antt`). It is
+//!   steady (`steady` of [`laws`]) and, for each type that can be inside others, belongs to the rules (`belongs`): so values
+//!   that were written one after another come back in their order, however their bytes are cut.
 //!
-//! The tests of this crate are those of the whole codec, the types of the crates below, and the round trip.
+//! The tests of this crate are those of the whole codec: the bytes of worked values, the types of the crates below, the round
+//! trip, and what is refused of bytes that no value gave.
 #![tactic(auto)]
 
 pub mod laws;
+mod reader;
 mod rules;
 #[cfg(test)]
 mod tests;
 
+pub use reader::BenchReader;
 pub use rules::BenchRules;

@@ -1,20 +1,20 @@
-//! The record codec as a whole.
+//! The packed codec as a whole.
 use asn1_dec::{Decode, DecodeError};
 use asn1_enc::{Encode, EncodeError};
-use asn1_record_decoder::RecordDecoder;
-use asn1_records::{Record, RecordEncoder};
+use asn1_packed::{PackedDecoder, PresenceMarks, read_whole, write_whole};
 use asn1_schema::Rules;
 use std::alloc::Global;
 
-/// The rules of the record codec: a value becomes its records, without constraints and tables but for the names of ENUMERATED
-/// items.
+/// The rules of the packed codec: a value becomes the bytes of its records.
 ///
-/// They reject nothing, and take any bytes as one value of an open type. So `write_value` fails if memory runs out, or where the
-/// value's records are nested deeper than the depth, and for no other reason.
+/// They reject the records that are too long, with 2^32 bytes or more inside an item, and take one item as one value of an open
+/// type. So `write_value` fails if memory runs out, where the value's records are nested deeper than the depth, or where they
+/// are too long, by [`EncodeError::Custom`] with the text `item too long`; and for no other reason.
 ///
-/// Of records that are not those of the type, `read_value` answers an error or a value. [`DecodeError::Incomplete`] comes where
-/// no record is left outside all scopes, and [`DecodeError::Custom`], with the text `bad item`, where one is not what is asked
-/// for or some are left. An error of the type's own is answered as it is.
+/// Of bytes that are not those of a value of the type, `read_value` answers an error or a value. [`DecodeError::Incomplete`]
+/// comes where bytes are missing outside all scopes, with how many of the part that is read, and [`DecodeError::Custom`], with
+/// the text `bad item`, where the bytes are not what is asked for or some are left. An error of the type's own is answered as it
+/// is. No memory is taken by a length that the bytes tell, but by those that are there.
 #[derive(Clone, Copy, Debug)]
 pub struct BenchRules {
     alloc: Global,
@@ -23,7 +23,7 @@ pub struct BenchRules {
 impl BenchRules {
     ghost use Rattle.std.specs.Prelude.{◌≡◌};
 
-    /// The rules, with the allocator that records and values are made by.
+    /// The rules, with the allocator that bytes and values are made by.
     pub fn new(alloc: Global) -> BenchRules
         ensures { result.alloc ≡ alloc }
     {
@@ -32,49 +32,40 @@ impl BenchRules {
 }
 
 impl Rules for BenchRules {
-    ghost use Rattle.asn1_bench.specs.Outputs.{record_format};
+    ghost use Rattle.asn1_packed.specs.Format.{packed_format, packed_is_lawful};
     ghost use Rattle.asn1_model.specs.Meaning.{CanStandInside, own_records};
     ghost use Rattle.asn1_model.specs.Records as model;
     ghost use Rattle.asn1_model.specs.Records.{highest};
     ghost use Rattle.asn1_model.specs.WellFormed.{AreWellFormed};
-    ghost use Rattle.asn1_records.proofs.Carrying.{carries_in_any_order};
     ghost use Rattle.asn1_schema.specs.Rules.{ReadsWhole, RefusesWhole};
     ghost use Rattle.std.specs.Prelude.{◌≡◌, ◌∷◌, ◌++◌, IsErr, List, true};
 
-    type Output = Vec<Record>;
+    type Output = Vec<u8>;
 
-    ghost format = { record_format };
+    ghost format = { packed_format };
 
-    fn write_value<T: Encode>(&self, value: &T, depth: usize) -> Result<Vec<Record>, EncodeError> {
-        let mut encoder = RecordEncoder::new(self.alloc, depth);
-        value.encode(&mut encoder)?;
-        Ok(encoder.finish())
+    fn write_value<T: Encode>(&self, value: &T, depth: usize) -> Result<Vec<u8>, EncodeError> {
+        write_whole::<PresenceMarks, T>(self.alloc, value, depth)
     }
 
-    fn read_value<T: Decode>(&self, output: &Vec<Record>, depth: usize) -> Result<T, DecodeError>
+    fn read_value<T: Decode>(&self, output: &Vec<u8>, depth: usize) -> Result<T, DecodeError>
         ensures read { (v : T) → CanStandInside T.meaning → T.meaning.IsOfType v →
-            T.meaning.IsValid record_format.takes v →
-            record_format.carries output.now (own_records T.meaning v) →
+            T.meaning.IsValid packed_format.takes v →
+            packed_format.carries output.now (own_records T.meaning v) →
             ReadsWhole (highest (own_records T.meaning v)) depth (λ w. T.eq w v ≡ true) result }
         ensures refuses { (rs : List model.Record) (error : _) →
-            T.refusals record_format.takes T.meaning.tag T.meaning.constraints rs error →
-            AreWellFormed record_format.takes rs → record_format.carries output.now rs →
+            T.refusals packed_format.takes T.meaning.tag T.meaning.constraints rs error →
+            AreWellFormed packed_format.takes rs → packed_format.carries output.now rs →
             RefusesWhole (highest rs) depth error result }
         ensures none_left { (v : T) (r : model.Record) (rest : List model.Record) →
             CanStandInside T.meaning → T.meaning.IsOfType v →
-            T.meaning.IsValid record_format.takes v →
-            record_format.carries output.now (own_records T.meaning v ++ r ∷ rest) → IsErr result }
+            T.meaning.IsValid packed_format.takes v →
+            AreWellFormed packed_format.takes (r ∷ rest) →
+            packed_format.carries output.now (own_records T.meaning v ++ r ∷ rest) → IsErr result }
     {
-        let mut decoder = RecordDecoder::new(self.alloc, output.as_slice(), depth);
-        let value = T::decode(&mut decoder)?;
-        decoder.finish()?;
-        Ok(value)
+        let decoder = PackedDecoder::new(self.alloc, output.as_slice(), depth);
+        read_whole(decoder)
     }
 
-    ghost lawful = { record {
-      carries_in_any_order = λ output rs ss same carried. carries_in_any_order output.items rs ss same carried;
-      rejects_in_any_order = λ rs ss same no. no;
-      part = λ before rs after no. no;
-      inner = λ h rs no. no;
-    } };
+    ghost lawful = { packed_is_lawful };
 }

@@ -1,11 +1,13 @@
-//! The record codec as a whole: the cases of every codec, and what is its own.
+//! The packed codec as a whole: the cases of every codec, the bytes of worked values, and what is refused, byte by byte.
+mod bytes;
 mod calls;
 mod cases;
+mod depth;
 mod errors;
 mod failures;
-mod made;
 mod memory;
 mod no_memory;
 mod refusals;
 mod samples;
+mod streams;
 mod types;

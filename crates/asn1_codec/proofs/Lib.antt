@@ -12,7 +12,6 @@ pub mod ReadingHolders
 pub mod ReadingOnce
 pub mod ReadingOptionals
 pub mod ReadingParts
-pub mod ReadingScopes
 pub mod ReadingSets
 pub mod ReadingSetsOf
 pub mod ReadingSteps

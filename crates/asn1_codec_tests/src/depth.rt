@@ -8,7 +8,6 @@ use crate::round_trips::{is_not_read, is_same};
 use asn1_dec::{Decode, DecodeError};
 use asn1_enc::{Encode, EncodeError};
 use asn1_schema::Rules;
-use asn1_types::{Explicit, tag};
 use std::alloc::Global;
 
 /// Whether a value is written and read with this many nested scopes, at least one, and neither with one less.
@@ -47,8 +46,11 @@ fn is_too_high<R: Rules, T: Encode>(rules: &R, value: &T, depth: usize) -> Resul
     }
 }
 
-/// Whether the value is read of an output with this many nested scopes.
-fn is_read<R: Rules, T: Decode>(
+/// Whether the value is read of the output with this many nested scopes.
+///
+/// # Errors
+/// [`Failure::Another`] where another is read; else why none was.
+pub fn is_read<R: Rules, T: Decode>(
     rules: &R,
     output: &R::Output,
     depth: usize,
@@ -60,14 +62,12 @@ fn is_read<R: Rules, T: Decode>(
     }
 }
 
-/// Whether a list and what follows an explicit tag take a scope each to write and to read, and not less.
+/// Whether a list takes a scope to write and to read, a list of lists two, and neither less.
 ///
 /// # Errors
 /// How else it ended.
 pub fn nested_lists_need_their_depth<R: Rules>(rules: &R, alloc: Global) -> Result<(), Failure> {
-    needs_depth(rules, &Explicit::<tag::BOOL, u8>::new(7), 1)
-        .and(list(rules, alloc))
-        .and(list_of_lists(rules, alloc))
+    list(rules, alloc).and(list_of_lists(rules, alloc))
 }
 
 fn list<R: Rules>(rules: &R, alloc: Global) -> Result<(), Failure> {

@@ -11,6 +11,7 @@
 //! | [`nested_lists_need_their_depth`] | how deep scopes are nested |
 //! | [`Failure`] | why a case failed |
 //! | [`comes_back`], [`made_comes_back`], [`needs_depth`], [`is_refused`] | what is tried of a value of any type |
+//! | [`goes_there_and_back`], [`made_goes_there_and_back`], [`is_not_recoded`] | what is tried of two codecs |
 //! | [`CallRules`], [`Calls`], [`calls_come_back`] | what is tried of calls |
 //! | [`NumberedCalls`], [`numbered_calls_come_back`] | what is tried of several calls in a row |
 //! | [`made`] | values that cases make |
@@ -26,6 +27,7 @@ pub mod calls;
 mod depth;
 mod failure;
 pub mod made;
+mod recoding;
 pub mod refusals;
 mod round_trips;
 pub mod types;
@@ -34,8 +36,9 @@ pub use call_rules::{
     CallRules, Calls, FIRST, NAME, NumberedCalls, answers, answers_none, answers_some,
     calls_come_back, done, numbered_calls_come_back,
 };
-pub use depth::{needs_depth, nested_lists_need_their_depth};
+pub use depth::{is_read, needs_depth, nested_lists_need_their_depth};
 pub use failure::Failure;
+pub use recoding::{goes_there_and_back, is_not_recoded, made_goes_there_and_back};
 pub use round_trips::{
     comes_back, comes_back_as, is_not_read, is_refused, is_same, is_this, made_comes_back,
 };

@@ -11,11 +11,7 @@ use std::alloc::Global;
 /// # Errors
 /// How else it ended.
 pub fn numbers_outside_their_limits_are_refused<R: Rules>(rules: &R) -> Result<(), Failure> {
-    is_outside(rules, 11).and(is_outside(rules, 0))
-}
-
-fn is_outside<R: Rules>(rules: &R, number: u8) -> Result<(), Failure> {
-    is_refused::<ConstrainedInteger<1, 10>, R, u8>(rules, &number, DecodeError::OutOfRange)
+    is_refused::<ConstrainedInteger<1, 10>, R, u8>(rules, &11, DecodeError::OutOfRange)
 }
 
 /// Whether a list of another length than the array that is read is refused, by a codec that writes a list the same under all sizes.

@@ -178,8 +178,8 @@ pub trait Encoder: Sized {
         name: Identifier,
         count: usize,
     ) -> Result<(), EncodeError>
-        ensures { OpensScope writer self.old (set_of tag (constraint_set constraints.now) (name_of name))
-            self.new result };
+        ensures { OpensScope writer self.old
+            (set_of tag (constraint_set constraints.now) (name_of name)) self.new result };
 
     /// Opens what follows an explicit tag.
     fn open_explicit_prefix(&mut self, tag: Tag, name: Identifier) -> Result<(), EncodeError>
@@ -395,8 +395,8 @@ pub trait Encoder: Sized {
         value: &T,
         name: Identifier,
     ) -> Result<(), EncodeError>
-        ensures writes { WritesValue writer (after_tag tag T.meaning (name_of name)) value.now self.old
-            self.new result }
+        ensures writes { WritesValue writer (after_tag tag T.meaning (name_of name)) value.now
+            self.old self.new result }
         ensures depth_first { NeedsDepth writer self.old result }
     {
         self.open_explicit_prefix(tag, name)?;

@@ -54,6 +54,34 @@ scope_header_is kind (x0 ∷ x1 ∷ x2 ∷ x3 ∷ x4 ∷ x5 ∷ x6 ∷ x7 ∷ x8
     not_one false e high t rest f = f
 scope_header_is kind _ class h high long is e = absurd (omega arith)
 
+-- The header is found where there are enough bytes.
+with_number : (class : Class) (byte : ℕ) (f : Class → Option Header) → class_number class ≡ byte → option_and_then f (class_at byte) ≡ f class
+with_number class byte f is = ap (option_and_then f) (ap class_at (sym is) ∙ class_at-number class)
+
+abbrev pub tag_in : List ℕ → Class → Tag
+tag_in xs class = record { class = class; value = number_at (get_or xs 1 0) (get_or xs 2 0) (get_or xs 3 0) (get_or xs 4 0) }
+
+abbrev pub content_header_in : List ℕ → Class → Header
+content_header_in xs class = record { kind = 1; tag = tag_in xs class; content = get_or xs 5 0; size = number_at (get_or xs 6 0) (get_or xs 7 0) (get_or xs 8 0) (get_or xs 9 0); body = drop 10 xs }
+
+pub content_header_at : (xs : List ℕ) (class : Class) → 10 ≤ length xs → class_number class ≡ get_or xs 0 0 → from_class 1 xs ≡ Some (content_header_in xs class)
+content_header_at (x0 ∷ x1 ∷ x2 ∷ x3 ∷ x4 ∷ x5 ∷ x6 ∷ x7 ∷ x8 ∷ x9 ∷ xs) class long is =
+    with_number class x0 (λ k. of_kind 1 (record { class = k; value = number_at x1 x2 x3 x4 }) (x5 ∷ x6 ∷ x7 ∷ x8 ∷ x9 ∷ xs)) is
+content_header_at _ class long is = absurd (omega arith)
+
+abbrev pub scope_header_in : ℕ → List ℕ → Class → Header
+scope_header_in kind xs class = record { kind = kind; tag = tag_in xs class; content = 0; size = number_at (get_or xs 5 0) (get_or xs 6 0) (get_or xs 7 0) (get_or xs 8 0); body = drop 9 xs }
+
+pub scope_header_at : (kind : ℕ) (xs : List ℕ) (class : Class) → 2 ≤ kind → 9 ≤ length xs → class_number class ≡ get_or xs 0 0 → from_class kind xs ≡ Some (scope_header_in kind xs class)
+scope_header_at kind (x0 ∷ x1 ∷ x2 ∷ x3 ∷ x4 ∷ x5 ∷ x6 ∷ x7 ∷ x8 ∷ xs) class high long is =
+    with_number class x0 (λ k. of_kind kind (record { class = k; value = number_at x1 x2 x3 x4 }) (x5 ∷ x6 ∷ x7 ∷ x8 ∷ xs)) is
+    ∙ by (kind == 1) refl (record { class = class; value = number_at x1 x2 x3 x4 })
+  where
+    by : (b : Bool) → (kind == 1) ≡ b → (t : Tag) → (if b then from_content kind t (x5 ∷ x6 ∷ x7 ∷ x8 ∷ xs) else from_size kind t 0 (x5 ∷ x6 ∷ x7 ∷ x8 ∷ xs)) ≡ from_size kind t 0 (x5 ∷ x6 ∷ x7 ∷ x8 ∷ xs)
+    by true e t = absurd (omega (arith, eqb-true kind 1 e))
+    by false e t = refl
+scope_header_at kind _ class high long is = absurd (omega arith)
+
 -- There is none.
 nothing_after : (o : Option Class) (f : Class → Option Header) (h : Header) → ((class : Class) → f class ≡ None) → option_and_then f o ≡ Some h → ⊥
 nothing_after None f h none e = cc
@@ -102,3 +130,12 @@ after_kind (kind ∷ rest) h e = by (nat_le 1 kind) (nat_le kind 7) refl refl e
     by true false low high e = cc
     by false true low high e = cc
     by false false low high e = cc
+
+pub header_from : (xs : List ℕ) (h : Header) → 1 ≤ get_or xs 0 0 → get_or xs 0 0 ≤ 7 → from_class (get_or xs 0 0) (drop 1 xs) ≡ Some h → header_at xs ≡ Some h
+header_from [] h low high e = absurd (omega arith)
+header_from (kind ∷ rest) h low high e = by (nat_le 1 kind) (nat_le kind 7) refl refl
+  where
+    by : (a b : Bool) → nat_le 1 kind ≡ a → nat_le kind 7 ≡ b → (if a && b then from_class kind rest else None) ≡ Some h
+    by true true least most = e
+    by true false least most = absurd (grind (arith, nat_tests))
+    by false b least most = absurd (grind (arith, nat_tests))

@@ -85,6 +85,17 @@ pub record IsHeader (found : Found) (h : Header) : Type 0 where
   pub size : found.size ≡ h.size
   pub body : found.body.now ≡ h.body
 
+-- The header that the program found is that of these bytes, or of those after a kind.
+pub record IsHeaderOf (bytes : List ℕ) (found : Found) : Type 0 where
+  pub header : Header
+  pub at : header_at bytes ≡ Some header
+  pub is : IsHeader found header
+
+pub record IsHeaderAfter (kind : ℕ) (bytes : List ℕ) (found : Found) : Type 0 where
+  pub header : Header
+  pub at : from_class kind bytes ≡ Some header
+  pub is : IsHeader found header
+
 -- The header is what is wanted.
 abbrev pub Meets : Wanted → Header → Type 0
 Meets (wanted.Content t k) h = (h.kind ≡ 1) × (h.tag ≡ t) × (h.content ≡ k)

@@ -1,5 +1,5 @@
 //! The header of an item.
-ghost use Rattle.asn1_items.specs.Headers.{IsHeader, Meets, from_class, header_at, Header as Seen};
+ghost use Rattle.asn1_items.specs.Headers.{IsHeader, IsHeaderAfter, IsHeaderOf, Meets, from_class, header_at, Header as Seen};
 ghost use Rattle.std.specs.Bool.{Decides};
 ghost use Rattle.std.specs.Prelude.{◌≡◌, ◌≤◌, IfOk, IsOkAnd, Some, length, true};
 
@@ -60,6 +60,7 @@ impl Wanted {
 pub fn find_header(bytes: &[u8]) -> Result<Header<'_>, ItemError>
     ensures found { (h : Seen) → header_at bytes.now ≡ Some h →
         IsOkAnd result (λ found. IsHeader found h) }
+    ensures only { IfOk result (IsHeaderOf bytes.now) }
     ensures shorter { IfOk result (λ found. length found.body.now ≤ length bytes.now) }
 {
     let [kind, rest @ ..] = bytes else {
@@ -76,6 +77,7 @@ pub fn find_header(bytes: &[u8]) -> Result<Header<'_>, ItemError>
 fn content_header(bytes: &[u8]) -> Result<Header<'_>, ItemError>
     ensures found { (h : Seen) → from_class 1 bytes.now ≡ Some h →
         IsOkAnd result (λ found. IsHeader found h) }
+    ensures only { IfOk result (IsHeaderAfter 1 bytes.now) }
     ensures shorter { IfOk result (λ found. length found.body.now ≤ length bytes.now) }
 {
     let [class, a, b, c, d, content, e, f, g, h, body @ ..] = bytes else {
@@ -100,6 +102,7 @@ fn content_header(bytes: &[u8]) -> Result<Header<'_>, ItemError>
 fn scope_header(kind: u8, bytes: &[u8]) -> Result<Header<'_>, ItemError>
     ensures found { (h : Seen) → 2 ≤ kind → from_class kind bytes.now ≡ Some h →
         IsOkAnd result (λ found. IsHeader found h) }
+    ensures only { IfOk result (λ found. 2 ≤ kind → IsHeaderAfter kind bytes.now found) }
     ensures shorter { IfOk result (λ found. length found.body.now ≤ length bytes.now) }
 {
     let [class, a, b, c, d, e, f, g, h, body @ ..] = bytes else {

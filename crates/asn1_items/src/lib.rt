@@ -18,7 +18,7 @@
 //!   `specs/Bits.antt`). [`Content::append_to`] appends them (`appended`), and [`FromContent::from_content`] reads the value of
 //!   which they are (`read`).
 //! - The header of an item is a function of the bytes (`header_at` of `specs/Headers.antt`), which [`find_header`] finds
-//!   (`found`). More bytes behind change nothing (`header_at-append` of `proofs/Items`). [`Wanted::is_met_by`] tells if and only
+//!   (`found`, `only`). More bytes behind change nothing (`header_at-append` of `proofs/Items`). [`Wanted::is_met_by`] tells if and only
 //!   if the header is what is wanted (`met`).
 //! - A record has bytes by recursion on the record (`HasBytes` of `specs/Items.antt`), in a form that says the bytes of presence
 //!   marks and which bytes are the value of an open type (`ItemForm`). A record is too long where 2^32 bytes or more are inside

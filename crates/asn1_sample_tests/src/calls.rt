@@ -1,27 +1,34 @@
 //! Calls for groups of additions, items of an ENUMERATED, and a CHOICE under a tag.
 use crate::samples::contact;
 use asn1_codec_tests::calls::comes_back_under;
-use asn1_codec_tests::{CallRules, Calls, FIRST, Failure, NAME, answers, calls_come_back};
+use asn1_codec_tests::{
+    CallRules, Calls, FIRST, Failure, NAME, answers, answers_none, calls_come_back,
+};
 use asn1_dec::Decoder;
 use asn1_enc::{EncodeError, Encoder};
 use asn1_samples::{Color, Contact, Shape};
 use asn1_tags::Tag;
 use std::alloc::Global;
 
-/// A group that is written, and what is read of it.
+/// A group that is written, and is read as absent where it writes nothing.
 #[derive(Drop)]
 struct GroupCalls {
-    given: Option<Contact>,
-    back: Option<Contact>,
+    group: Option<Contact>,
+    writes_nothing: bool,
 }
 
 impl Calls for GroupCalls {
     fn write<E: Encoder>(&self, encoder: &mut E) -> Result<(), EncodeError> {
-        encoder.encode_extension_addition_group(self.given.as_ref(), NAME)
+        encoder.encode_extension_addition_group(self.group.as_ref(), NAME)
     }
 
     fn read<D: Decoder>(&self, decoder: &mut D) -> Result<(), Failure> {
-        answers(decoder.decode_extension_addition_group(), &self.back)
+        let answer = decoder.decode_extension_addition_group::<Contact>();
+        if self.writes_nothing {
+            answers_none(answer)
+        } else {
+            answers(answer, &self.group)
+        }
     }
 }
 
@@ -30,31 +37,33 @@ impl Calls for GroupCalls {
 /// # Errors
 /// Why it did not.
 pub fn groups_come_back<R: CallRules>(rules: &R, alloc: Global) -> Result<(), Failure> {
-    let none = GroupCalls {
-        given: None,
-        back: None,
+    let nothing = Contact {
+        phone: None,
+        mail: None,
     };
-    let nothing = GroupCalls {
-        given: Some(Contact {
-            phone: None,
-            mail: None,
-        }),
-        back: None,
-    };
-    calls_come_back(rules, none)
-        .and(calls_come_back(rules, nothing))
+    group_comes_back(rules, None, true)
+        .and(group_comes_back(rules, Some(nothing), true))
         .and(group_with_mail(rules, alloc))
 }
 
-/// A contact with an address of two letters.
-fn mail(alloc: Global) -> Result<Option<Contact>, Failure> {
-    contact(alloc, None, Some(b"a@")).map(Some)
+fn group_comes_back<R: CallRules>(
+    rules: &R,
+    group: Option<Contact>,
+    writes_nothing: bool,
+) -> Result<(), Failure> {
+    let calls = GroupCalls {
+        group,
+        writes_nothing,
+    };
+    calls_come_back(rules, calls)
 }
 
+/// The same of a group with an address of two letters.
 fn group_with_mail<R: CallRules>(rules: &R, alloc: Global) -> Result<(), Failure> {
-    let given = mail(alloc)?;
-    let back = mail(alloc)?;
-    calls_come_back(rules, GroupCalls { given, back })
+    match contact(alloc, None, Some(b"a@")) {
+        Ok(group) => group_comes_back(rules, Some(group), false),
+        Err(failure) => Err(failure),
+    }
 }
 
 /// An item, under a tag and a name.

@@ -1,6 +1,5 @@
 //! `[[ phone [3] NumericString OPTIONAL, mail [4] IA5String OPTIONAL ]]`: the group of additions of a `Profile`.
 ghost use Rattle.std.specs.Prelude.{[], ◌∷◌, codes};
-ghost use Rattle.asn1_components.specs.Components.{all_components};
 ghost use Rattle.asn1_slots.specs.Slots.{optional_slot, sequence_of_slots, slots_agree};
 ghost use Rattle.asn1_types.specs.Words.{context, tagged, sequence};
 
@@ -36,8 +35,10 @@ pub(crate) const CONTACT: &[TagTree<'static>] = &[TagTree::Leaf(PHONE), TagTree:
 impl Slotted for Contact {
     type Slots = (Option<NumericString>, Option<Ia5String>);
 
-    ghost layout = { optional_slot (codes "phone") (λ c. c.phone) (λ s. s.0) (tagged (context 3) ⟦<NumericString as AsnType>⟧.meaning) ⟦<NumericString as PartialEq>⟧.eq ∷
-        optional_slot (codes "mail") (λ c. c.mail) (λ s. s.1) (tagged (context 4) ⟦<Ia5String as AsnType>⟧.meaning) ⟦<Ia5String as PartialEq>⟧.eq ∷ [] };
+    ghost layout = { optional_slot (codes "phone") (λ c. c.phone) (λ s. s.0)
+        (tagged (context 3) ⟦<NumericString as AsnType>⟧.meaning) ⟦<NumericString as PartialEq>⟧.eq ∷
+        optional_slot (codes "mail") (λ c. c.mail) (λ s. s.1)
+        (tagged (context 4) ⟦<Ia5String as AsnType>⟧.meaning) ⟦<Ia5String as PartialEq>⟧.eq ∷ [] };
 
     fn from_slots(_alloc: Global, slots: Self::Slots) -> Result<Contact, DecodeError> {
         Ok(Contact {
@@ -96,5 +97,5 @@ impl DecodeByPlace for Contact {
         }
     }
 
-    ghost agrees = { slots_agree (all_components ⟦<Contact as FieldTable>⟧.components) };
+    ghost agrees = { slots_agree ⟦<Contact as FieldTable>⟧.components };
 }

@@ -4,7 +4,6 @@ ghost use Rattle.std.specs.Cmp.{nat_eq_equiv, on_equiv, on_per, partial_equiv_fr
 ghost use Rattle.std.specs.Hash as fed;
 ghost use Rattle.std.specs.Hash.{on_Alike, same_Alike};
 ghost use Rattle.std.specs.Ordering.{on};
-ghost use Rattle.asn1_components.specs.Components.{all_components};
 ghost use Rattle.asn1_slots.specs.Slots.{required_slot, sequence_of_slots, slots_agree};
 ghost use Rattle.asn1_types.specs.Words.{lines, context, universal, tagged, constructed_type, constructed_agrees, CanStandInside, own_records, holding, sequence_head, scalar, number, values_of, Range};
 
@@ -63,8 +62,10 @@ const NOTE: Tag = Tag {
 impl Slotted for Labelled {
     type Slots = (Option<u8>, Option<u8>);
 
-    ghost layout = { required_slot (codes "key") (λ l. l.key) (λ s. s.0) (tagged (context 0) ⟦<u8 as AsnType>⟧.meaning) ⟦<u8 as PartialEq>⟧.eq ∷
-        required_slot (codes "note") (λ l. l.note) (λ s. s.1) (tagged (context 1) ⟦<u8 as AsnType>⟧.meaning) ⟦<u8 as PartialEq>⟧.eq ∷ [] };
+    ghost layout = { required_slot (codes "key") (λ l. l.key) (λ s. s.0)
+        (tagged (context 0) ⟦<u8 as AsnType>⟧.meaning) ⟦<u8 as PartialEq>⟧.eq ∷
+        required_slot (codes "note") (λ l. l.note) (λ s. s.1)
+        (tagged (context 1) ⟦<u8 as AsnType>⟧.meaning) ⟦<u8 as PartialEq>⟧.eq ∷ [] };
 
     fn from_slots(_alloc: Global, slots: Self::Slots) -> Result<Labelled, DecodeError> {
         Ok(Labelled {
@@ -166,7 +167,7 @@ impl DecodeByPlace for Labelled {
         }
     }
 
-    ghost agrees = { slots_agree (all_components ⟦<Labelled as FieldTable>⟧.components) };
+    ghost agrees = { slots_agree ⟦<Labelled as FieldTable>⟧.components };
 }
 
 /// What `Labelled { key: 1, note: 9 }` is to every codec: the note is written too.

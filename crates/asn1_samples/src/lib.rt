@@ -8,6 +8,7 @@
 //! | [`Profile`], [`Contact`] | a SEQUENCE with an option, a default and a group of additions |
 //! | [`Visit`] | a SEQUENCE with an addition after such a group |
 //! | [`Badge`] | a SET |
+//! | [`Ticket`] | a SET with a default |
 //! | [`Shape`], [`Corner`] | a CHOICE, and one that is an alternative of it without a tag |
 //! | [`Color`] | an ENUMERATED with an extension marker |
 //! | [`Envelope`] | a SEQUENCE with an open type |
@@ -20,18 +21,19 @@
 //! - Each type states its components, alternatives or items once, and its tables, meaning and writer are proved to say the
 //!   same. The writer has a line for each component (`encode_field`) or alternative (`encode_alternative`), and no proof.
 //! - Each is read: from its records a codec gives an equal value (`Decode`), whatever the codec. The reader has a line
-//!   for each component (`decode_fields`) or alternative (`from_tag`). A component that may be absent is asked for under its own tag,
+//!   for each component (`decode_field`) or alternative (`from_tag`). Components are read by place, into slots (`asn1_slots`),
+//!   with no proof. Two types show the other forms, which have proofs: an `Envelope` reads its components one after another
+//!   (`decode_fields`), and a `Badge` as parts (`DecodeSet`). A component that may be absent is asked for under its own tag,
 //!   which what follows does not begin with; so it is in a group whose last components are absent, where what follows is after
-//!   the group, as the note of a `Visit` is. The proof too has a line for each component, by the steps of
-//!   `ReadingComponents` of `asn1_codec`. A tag that no alternative has is refused with the name of the CHOICE.
+//!   the group, as the note of a `Visit` is. A tag that no alternative has is refused with the name of the CHOICE.
 //! - Each can be inside other types: `person_can_stand_inside` and the like.
 //! - The records of some values are written out: `person_records` and the like.
 //! - [`laws`] says which values are valid, when two values are equal, which names the tables have, and which types have an
 //!   extension marker. `envelope_is_valid` and `pair_is_valid` say when an `Envelope` and a `Pair` are valid.
 //!
 //! A call takes memory only where a codec does, for what is read, and for the alphabet of a `Plate`. Types that hold themselves
-//! are in the crate `asn1_recursive`. `docs/USING.md` explains how such types are written, and quotes `Notice`, `Corner`, `Color`
-//! and `Pair`.
+//! are in the crate `asn1_recursive`. `docs/USING.md` explains how such types are written, and quotes `Notice`, `Corner`, `Color`,
+//! `Pair` and `Ticket`.
 #![tactic(auto, using(asn1_tags::proofs::Leaves::tree_shapes))]
 
 mod badge;

@@ -1,7 +1,6 @@
 //! `Notice ::= SEQUENCE { id [0] INTEGER (0..255), urgent [1] EXPLICIT BOOLEAN OPTIONAL, text [2] UTF8String }`
 ghost use Rattle.std.specs.Prelude.{◌≡◌, [], ◌∷◌, None, Some, true, pos, codes};
 ghost use Rattle.std.specs.String.{string_bytes};
-ghost use Rattle.asn1_components.specs.Components.{all_components};
 ghost use Rattle.asn1_slots.specs.Slots.{optional_slot, required_slot, sequence_of_slots, slots_agree};
 ghost use Rattle.asn1_types.specs.Words.{lines, in_root, context, universal, tagged, explicitly_tagged, constructed_type, constructed_agrees, CanStandInside, own_records, holding, sequence_head, prefix, scalar, mark, absent, present, number, truth, units, utf8, unconstrained, values_of, Range};
 
@@ -43,9 +42,12 @@ const TEXT: Tag = Tag {
 impl Slotted for Notice {
     type Slots = (Option<u8>, Option<bool>, Option<Utf8String>);
 
-    ghost layout = { required_slot (codes "id") (λ n. n.id) (λ s. s.0) (tagged (context 0) ⟦<u8 as AsnType>⟧.meaning) ⟦<u8 as PartialEq>⟧.eq ∷
-        optional_slot (codes "urgent") (λ n. n.urgent) (λ s. s.1) (explicitly_tagged (context 1) ⟦<bool as AsnType>⟧.meaning) ⟦<bool as PartialEq>⟧.eq ∷
-        required_slot (codes "text") (λ n. n.text) (λ s. s.2) (tagged (context 2) ⟦<Utf8String as AsnType>⟧.meaning) ⟦<Utf8String as PartialEq>⟧.eq ∷ [] };
+    ghost layout = { required_slot (codes "id") (λ n. n.id) (λ s. s.0)
+        (tagged (context 0) ⟦<u8 as AsnType>⟧.meaning) ⟦<u8 as PartialEq>⟧.eq ∷
+        optional_slot (codes "urgent") (λ n. n.urgent) (λ s. s.1)
+        (explicitly_tagged (context 1) ⟦<bool as AsnType>⟧.meaning) ⟦<bool as PartialEq>⟧.eq ∷
+        required_slot (codes "text") (λ n. n.text) (λ s. s.2)
+        (tagged (context 2) ⟦<Utf8String as AsnType>⟧.meaning) ⟦<Utf8String as PartialEq>⟧.eq ∷ [] };
 
     fn from_slots(_alloc: Global, slots: Self::Slots) -> Result<Notice, DecodeError> {
         Ok(Notice {
@@ -156,7 +158,7 @@ impl DecodeByPlace for Notice {
         }
     }
 
-    ghost agrees = { slots_agree (all_components ⟦<Notice as FieldTable>⟧.components) };
+    ghost agrees = { slots_agree ⟦<Notice as FieldTable>⟧.components };
 }
 
 /// What a notice is to every codec: `Notice { id: 7, urgent: Some(true), text: "Come" }` (`urgent`), and the same without

@@ -1,6 +1,5 @@
 //! `Pair{T, U} ::= SEQUENCE { first T, second [0] U OPTIONAL }`
 ghost use Rattle.std.specs.Prelude.{◌≡◌, ◌↔◌, ℕ, Bool, List, [], ◌∷◌, None, Some, IfSome, true, pos, codes};
-ghost use Rattle.asn1_components.specs.Components.{all_components};
 ghost use Rattle.asn1_slots.specs.Slots.{optional_slot, required_slot, slots_agree};
 ghost use Rattle.asn1_types.specs.Words.{lines, in_root, context, universal, tagged, untagged, required, optional, sequence, constructed_type, constructed_agrees, CanStandInside, CanStandInsideUnder, own_records, holding, sequence_head, scalar, mark, absent, present, number, truth, unconstrained, values_of, Range};
 
@@ -29,8 +28,10 @@ const SECOND: Tag = Tag {
 impl<T: Decode, U: Decode> Slotted for Pair<T, U> {
     type Slots = (Option<T>, Option<U>);
 
-    ghost layout = { required_slot (codes "first") (λ p. p.first) (λ s. s.0) (untagged T.meaning) T.eq ∷
-        optional_slot (codes "second") (λ p. p.second) (λ s. s.1) (tagged (context 0) U.meaning) U.eq ∷ [] };
+    ghost layout = { required_slot (codes "first") (λ p. p.first) (λ s. s.0)
+        (untagged T.meaning) T.eq ∷
+        optional_slot (codes "second") (λ p. p.second) (λ s. s.1)
+        (tagged (context 0) U.meaning) U.eq ∷ [] };
 
     fn from_slots(_alloc: Global, slots: Self::Slots) -> Result<Pair<T, U>, DecodeError> {
         Ok(Pair {
@@ -142,7 +143,7 @@ impl<T: Decode, U: Decode> DecodeByPlace for Pair<T, U> {
         }
     }
 
-    ghost agrees = { slots_agree (all_components ⟦<Pair<T, U> as FieldTable>⟧.components) };
+    ghost agrees = { slots_agree ⟦<Pair<T, U> as FieldTable>⟧.components };
 }
 
 /// What a pair of a number and a truth value is to every codec: `Pair { first: 7, second: Some(true) }` (`both`), and

@@ -1,7 +1,6 @@
 //! `Person ::= SEQUENCE { age INTEGER, name UTF8String }`
 ghost use Rattle.std.specs.Prelude.{◌≡◌, [], ◌∷◌, Some, pos, codes};
 ghost use Rattle.std.specs.String.{string_bytes};
-ghost use Rattle.asn1_components.specs.Components.{all_components};
 ghost use Rattle.asn1_slots.specs.Slots.{required_slot, sequence_of_slots, slots_agree};
 ghost use Rattle.asn1_types.specs.Words.{lines, universal, untagged, constructed_type, constructed_agrees, CanStandInside, own_records, holding, sequence_head, scalar, number, units, utf8, unconstrained};
 
@@ -27,8 +26,10 @@ pub struct Person {
 impl Slotted for Person {
     type Slots = (Option<Integer>, Option<Utf8String>);
 
-    ghost layout = { required_slot (codes "age") (λ p. p.age) (λ s. s.0) (untagged ⟦<Integer as AsnType>⟧.meaning) ⟦<Integer as PartialEq>⟧.eq ∷
-        required_slot (codes "name") (λ p. p.name) (λ s. s.1) (untagged ⟦<Utf8String as AsnType>⟧.meaning) ⟦<Utf8String as PartialEq>⟧.eq ∷ [] };
+    ghost layout = { required_slot (codes "age") (λ p. p.age) (λ s. s.0)
+        (untagged ⟦<Integer as AsnType>⟧.meaning) ⟦<Integer as PartialEq>⟧.eq ∷
+        required_slot (codes "name") (λ p. p.name) (λ s. s.1)
+        (untagged ⟦<Utf8String as AsnType>⟧.meaning) ⟦<Utf8String as PartialEq>⟧.eq ∷ [] };
 
     fn from_slots(_alloc: Global, slots: Self::Slots) -> Result<Person, DecodeError> {
         Ok(Person {
@@ -130,7 +131,7 @@ impl DecodeByPlace for Person {
         }
     }
 
-    ghost agrees = { slots_agree (all_components ⟦<Person as FieldTable>⟧.components) };
+    ghost agrees = { slots_agree ⟦<Person as FieldTable>⟧.components };
 }
 
 /// What `Person { age: 30, name: "Ann" }` is to every codec.

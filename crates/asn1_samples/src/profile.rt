@@ -11,7 +11,6 @@
 //! ```
 ghost use Rattle.std.specs.Prelude.{◌≡◌, [], ◌∷◌, None, Some, pos, codes};
 ghost use Rattle.std.specs.String.{string_bytes};
-ghost use Rattle.asn1_components.specs.Components.{all_components};
 ghost use Rattle.asn1_slots.specs.Slots.{default_slot, extensible_sequence_after, group_slot, optional_slot, required_slot, slots_agree};
 ghost use Rattle.asn1_types.specs.Words.{lines, labels_of, in_root, context, universal, tagged, constructed_type, constructed_agrees, CanStandInside, own_records, holding, sequence_head, scalar, mark, absent, present, group_start, group_end, group_absent, number, discriminant, units, utf8, ia5, unconstrained, values_of, Range};
 ghost use Rattle.asn1_samples.specs.declared.color.Color.TheVariants.{Red, Blue};
@@ -63,10 +62,14 @@ impl Slotted for Profile {
         Option<Contact>,
     );
 
-    ghost layout = { optional_slot (codes "nick") (λ p. p.nick) (λ s. s.0) (tagged (context 0) ⟦<Utf8String as AsnType>⟧.meaning) ⟦<Utf8String as PartialEq>⟧.eq ∷
-        required_slot (codes "level") (λ p. p.level) (λ s. s.1) (tagged (context 1) ⟦<u8 as AsnType>⟧.meaning) ⟦<u8 as PartialEq>⟧.eq ∷
-        default_slot (codes "color") (λ p. p.color) Red (λ s. s.2) (tagged (context 2) ⟦<Color as AsnType>⟧.meaning) ⟦<Color as PartialEq>⟧.eq ∷
-        group_slot (codes "contact") (λ p. p.contact) (λ s. s.3) ⟦<Contact as FieldTable>⟧.components ⟦<Contact as PartialEq>⟧.eq ∷ [] };
+    ghost layout = { optional_slot (codes "nick") (λ p. p.nick) (λ s. s.0)
+        (tagged (context 0) ⟦<Utf8String as AsnType>⟧.meaning) ⟦<Utf8String as PartialEq>⟧.eq ∷
+        required_slot (codes "level") (λ p. p.level) (λ s. s.1)
+        (tagged (context 1) ⟦<u8 as AsnType>⟧.meaning) ⟦<u8 as PartialEq>⟧.eq ∷
+        default_slot (codes "color") (λ p. p.color) Red (λ s. s.2)
+        (tagged (context 2) ⟦<Color as AsnType>⟧.meaning) ⟦<Color as PartialEq>⟧.eq ∷
+        group_slot (codes "contact") (λ p. p.contact) (λ s. s.3)
+        ⟦<Contact as FieldTable>⟧.components ⟦<Contact as PartialEq>⟧.eq ∷ [] };
 
     fn from_slots(_alloc: Global, slots: Self::Slots) -> Result<Profile, DecodeError> {
         Ok(Profile {
@@ -181,7 +184,7 @@ impl DecodeByPlace for Profile {
         }
     }
 
-    ghost agrees = { slots_agree (all_components ⟦<Profile as FieldTable>⟧.components) };
+    ghost agrees = { slots_agree ⟦<Profile as FieldTable>⟧.components };
 }
 
 /// What a profile is to every codec: `Profile { nick: None, level: 7, color: Red, contact: None }` (`empty`), the same with a

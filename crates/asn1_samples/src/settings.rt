@@ -1,6 +1,5 @@
 //! `Settings ::= SEQUENCE { entry [0] Labelled DEFAULT { key 1, note 0 } }`
 ghost use Rattle.std.specs.Prelude.{◌≡◌, [], ◌∷◌, Some, pos, codes};
-ghost use Rattle.asn1_components.specs.Components.{all_components};
 ghost use Rattle.asn1_slots.specs.Slots.{default_slot, sequence_of_slots, slots_agree};
 ghost use Rattle.asn1_types.specs.Words.{lines, in_root, context, universal, tagged, constructed_type, constructed_agrees, CanStandInside, own_records, holding, sequence_head, scalar, mark, absent, present, number, values_of, Range};
 
@@ -28,7 +27,8 @@ const ENTRY: Tag = Tag {
 impl Slotted for Settings {
     type Slots = (Option<Labelled>,);
 
-    ghost layout = { default_slot (codes "entry") (λ s. s.entry) (record { key = 1; note = 0 }) (λ s. s.0) (tagged (context 0) ⟦<Labelled as AsnType>⟧.meaning) ⟦<Labelled as PartialEq>⟧.eq ∷ [] };
+    ghost layout = { default_slot (codes "entry") (λ s. s.entry) (record { key = 1; note = 0 }) (λ s. s.0)
+        (tagged (context 0) ⟦<Labelled as AsnType>⟧.meaning) ⟦<Labelled as PartialEq>⟧.eq ∷ [] };
 
     fn from_slots(_alloc: Global, slots: Self::Slots) -> Result<Settings, DecodeError> {
         Ok(Settings {
@@ -131,7 +131,7 @@ impl DecodeByPlace for Settings {
         }
     }
 
-    ghost agrees = { slots_agree (all_components ⟦<Settings as FieldTable>⟧.components) };
+    ghost agrees = { slots_agree ⟦<Settings as FieldTable>⟧.components };
 }
 
 /// What settings are to every codec: an entry with the key 1 and the note 9, which equals the default (`default`), and one

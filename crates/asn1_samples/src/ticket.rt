@@ -1,6 +1,5 @@
 //! `Ticket ::= SET { seat [0] INTEGER (0..65535), name [1] UTF8String OPTIONAL, paid [2] BOOLEAN DEFAULT FALSE }`
 ghost use Rattle.std.specs.Prelude.{◌≡◌, [], ◌∷◌, None, Some, false, pos, codes, refl};
-ghost use Rattle.asn1_components.specs.Components.{all_components};
 ghost use Rattle.asn1_slots.specs.Slots.{default_slot, optional_slot, required_slot, set_of_slots, slots_agree};
 ghost use Rattle.asn1_types.specs.Words.{lines, in_root, context, universal, tagged, constructed_type, constructed_agrees, CanStandInside, own_records, holding, set_head, scalar, mark, absent, number, values_of, Range};
 
@@ -44,9 +43,12 @@ const PAID: Tag = Tag {
 impl Slotted for Ticket {
     type Slots = (Option<u16>, Option<Utf8String>, Option<bool>);
 
-    ghost layout = { required_slot (codes "seat") (λ t. t.seat) (λ s. s.0) (tagged (context 0) ⟦<u16 as AsnType>⟧.meaning) ⟦<u16 as PartialEq>⟧.eq ∷
-        optional_slot (codes "name") (λ t. t.name) (λ s. s.1) (tagged (context 1) ⟦<Utf8String as AsnType>⟧.meaning) ⟦<Utf8String as PartialEq>⟧.eq ∷
-        default_slot (codes "paid") (λ t. t.paid) false (λ s. s.2) (tagged (context 2) ⟦<bool as AsnType>⟧.meaning) ⟦<bool as PartialEq>⟧.eq ∷ [] };
+    ghost layout = { required_slot (codes "seat") (λ t. t.seat) (λ s. s.0)
+        (tagged (context 0) ⟦<u16 as AsnType>⟧.meaning) ⟦<u16 as PartialEq>⟧.eq ∷
+        optional_slot (codes "name") (λ t. t.name) (λ s. s.1)
+        (tagged (context 1) ⟦<Utf8String as AsnType>⟧.meaning) ⟦<Utf8String as PartialEq>⟧.eq ∷
+        default_slot (codes "paid") (λ t. t.paid) false (λ s. s.2)
+        (tagged (context 2) ⟦<bool as AsnType>⟧.meaning) ⟦<bool as PartialEq>⟧.eq ∷ [] };
 
     fn from_slots(_alloc: Global, slots: Self::Slots) -> Result<Ticket, DecodeError> {
         Ok(Ticket {
@@ -151,7 +153,7 @@ impl DecodeSetByPlace for Ticket {
         }
     }
 
-    ghost agrees = { slots_agree (all_components ⟦<Ticket as FieldTable>⟧.components) };
+    ghost agrees = { slots_agree ⟦<Ticket as FieldTable>⟧.components };
 
     ghost no_group = { refl };
 

@@ -10,7 +10,6 @@
 //! ```
 ghost use Rattle.std.specs.Prelude.{◌≡◌, [], ◌∷◌, None, Some, pos, codes};
 ghost use Rattle.std.specs.String.{string_bytes};
-ghost use Rattle.asn1_components.specs.Components.{all_components};
 ghost use Rattle.asn1_slots.specs.Slots.{addition_slot, extensible_sequence_after, group_slot, required_slot, slots_agree};
 ghost use Rattle.asn1_types.specs.Words.{lines, in_root, in_additions, context, universal, tagged, constructed_type, constructed_agrees, CanStandInside, own_records, holding, sequence_head, scalar, mark, absent, present, group_start, group_end, number, units, utf8, numeric, unconstrained, values_of, Range};
 
@@ -48,9 +47,12 @@ const NOTE: Tag = Tag {
 impl Slotted for Visit {
     type Slots = (Option<u16>, Option<Contact>, Option<Utf8String>);
 
-    ghost layout = { required_slot (codes "day") (λ v. v.day) (λ s. s.0) (tagged (context 0) ⟦<u16 as AsnType>⟧.meaning) ⟦<u16 as PartialEq>⟧.eq ∷
-        group_slot (codes "contact") (λ v. v.contact) (λ s. s.1) ⟦<Contact as FieldTable>⟧.components ⟦<Contact as PartialEq>⟧.eq ∷
-        addition_slot (codes "note") (λ v. v.note) (λ s. s.2) (tagged (context 5) ⟦<Utf8String as AsnType>⟧.meaning) ⟦<Utf8String as PartialEq>⟧.eq ∷ [] };
+    ghost layout = { required_slot (codes "day") (λ v. v.day) (λ s. s.0)
+        (tagged (context 0) ⟦<u16 as AsnType>⟧.meaning) ⟦<u16 as PartialEq>⟧.eq ∷
+        group_slot (codes "contact") (λ v. v.contact) (λ s. s.1)
+        ⟦<Contact as FieldTable>⟧.components ⟦<Contact as PartialEq>⟧.eq ∷
+        addition_slot (codes "note") (λ v. v.note) (λ s. s.2)
+        (tagged (context 5) ⟦<Utf8String as AsnType>⟧.meaning) ⟦<Utf8String as PartialEq>⟧.eq ∷ [] };
 
     fn from_slots(_alloc: Global, slots: Self::Slots) -> Result<Visit, DecodeError> {
         Ok(Visit {
@@ -160,7 +162,7 @@ impl DecodeByPlace for Visit {
         }
     }
 
-    ghost agrees = { slots_agree (all_components ⟦<Visit as FieldTable>⟧.components) };
+    ghost agrees = { slots_agree ⟦<Visit as FieldTable>⟧.components };
 }
 
 /// What a visit is to every codec: `Visit { day: 7, contact: Some(Contact { phone: Some("12"), mail: None }), note }`, of which the

@@ -14,6 +14,7 @@ pub use Rattle.asn1_fields.specs as fields
 pub use Rattle.asn1_model.specs as model
 pub use Rattle.asn1_open.specs as open_values
 pub use Rattle.asn1_ranges.specs as ranges
+pub use Rattle.asn1_slots.specs as slots
 pub use Rattle.asn1_strings.specs as strings
 pub use Rattle.asn1_tags.specs as tags
 pub use Rattle.asn1_types.specs as types

@@ -9,8 +9,8 @@
 //! | [`UniversalString`], [`UtcTime`], [`GeneralizedTime`], [`ObjectDescriptor`] | the kinds of string that are another kind under a tag |
 //! | [`laws`] | what the derives of the errors give, and which kind of string each name is |
 //!
-//! It is the one crate that an author of types or of a codec names in crates.txt. Each public name of the crates below is
-//! re-exported, but for the macro `item!`, which is of `asn1_enumerations`. The crates stand here under the names of their subjects
+//! It is the one crate that an author of types or of a codec names in crates.txt, but that theorems about a CHOICE want `asn1_tags`
+//! there too. Each public name of the crates below is re-exported, but for the macro `item!`, which is of `asn1_enumerations`. The crates stand here under the names of their subjects
 //! too (`types`, `strings`, `codec` and so on), in code, and so do their definitions and their lemmas: `specs/Lib.antt` and
 //! `proofs/Lib.antt` pass them on. The words with which an author says what a type means are `Rattle.asn1_schema.specs.Words`.
 //!
@@ -76,6 +76,22 @@ pub use asn1_open::an_instance_is_three_deeper_than_its_value;
 pub use asn1_open::each_open_is_valid;
 pub use asn1_open::open_can_stand_inside;
 pub use asn1_ranges as ranges;
+pub use asn1_slots as slots;
+pub use asn1_slots::DecodeByPlace;
+pub use asn1_slots::DecodeSetByPlace;
+pub use asn1_slots::Slotted;
+pub use asn1_slots::Tagging;
+pub use asn1_slots::addition;
+pub use asn1_slots::addition_with_constraints;
+pub use asn1_slots::decode_set_by_place;
+pub use asn1_slots::filled;
+pub use asn1_slots::group;
+pub use asn1_slots::once;
+pub use asn1_slots::optional;
+pub use asn1_slots::optional_with_constraints;
+pub use asn1_slots::or_default;
+pub use asn1_slots::required;
+pub use asn1_slots::required_with_constraints;
 pub use asn1_strings as strings;
 pub use asn1_strings::Alphabet;
 pub use asn1_strings::AlphabetError;

@@ -9,7 +9,7 @@ use Rattle.asn1_codec.specs.declared.decode_error.DecodeError.TheVariants.{Memor
 use Rattle.asn1_model.specs.Records.{Record, highest}
 use Rattle.asn1_codec.specs.declared.decode_error.DecodeError.{DecodeError}
 use Rattle.asn1_codec.specs.Reading.{HasAdvanced, MayFail, Outside, Reader, ReadsBack}
-use Rattle.asn1_codec.proofs.ReadingComponents.{PartWay, Stepped, begin, step, stops, through}
+use Rattle.asn1_codec.proofs.ReadingComponents.{PartWay, begin, step, stops, through}
 
 reads_as : {D V : Type 0} (A : Type 0) (R : Reader D) (c d : ComponentType V) (holds : V → Bool) (old new : D) (result : Result A DecodeError) → SameComponent c d →
     ReadsInto R d holds old new result → ReadsInto R c holds old new result

@@ -14,40 +14,53 @@ use Rattle.asn1_model.specs.TaggedTypes.{TaggedType}
 use Rattle.asn1_tags.specs.Trees.{choice}
 
 module _ {D W A : Type 0} (R : Reader D) where
-  -- A call that reads a component that is always there: of each value that is of the type and valid, it answers what `Is`
-  -- holds of.
-  abbrev pub ReadsComponent : TaggedType W → (W → A → Type 0) → D → D → Result A DecodeError → Type 0
+  -- A call that reads a component that is always there: of each value that is of the type and
+  -- valid, it answers what `Is` holds of.
+  abbrev pub ReadsComponent : TaggedType W → (W → A → Type 0) → D → D →
+      Result A DecodeError → Type 0
   ReadsComponent type Is old new result =
       (v : W) (rest : List Record) (outer : Outside) → type.CanStandInside → type.IsOfType v →
       type.IsValid R.takes v → ReadsBack R old new (type.records v) rest outer (Is v) result
 
-  -- A call that reads a component that may be absent, on this side: what follows it begins with none of its tags.
-  abbrev pub ReadsOptional : Side → TaggedType W → (Option W → A → Type 0) → D → D → Result A DecodeError → Type 0
+  -- A call that reads a component that may be absent, on this side: what follows it begins with
+  -- none of its tags.
+  abbrev pub ReadsOptional : Side → TaggedType W → (Option W → A → Type 0) → D → D →
+      Result A DecodeError → Type 0
   ReadsOptional side type Is old new result =
       (v : Option W) (rest : List Record) (outer : Outside) → type.CanStandInside →
       IfSome v type.IsOfType → IfSome v (type.IsValid R.takes) → BeginsApart type.tree rest →
-      ReadsBack R old new (option_records side type.tag (option_map type.records v)) rest outer (Is v) result
+      ReadsBack R old new (option_records side type.tag (option_map type.records v)) rest outer
+      (Is v) result
 
-  -- A call that reads a component that is always there into this slot: then the slot holds an equal value.
-  pub record Fills (type : TaggedType W) (eq : W → W → Bool) (old new : D) (slot : Option W) (result : Result A DecodeError) : Type 0 where
+  -- A call that reads a component that is always there into this slot: then the slot holds an
+  -- equal value.
+  pub record Fills (type : TaggedType W) (eq : W → W → Bool) (old new : D)
+      (slot : Option W) (result : Result A DecodeError) : Type 0 where
     pub reads : ReadsComponent type (λ v _. option_eq eq slot (Some v) ≡ true) old new result
 
   -- one that may be absent, on this side: then the slot holds an equal value, or nothing
-  pub record FillsOptional (side : Side) (type : TaggedType W) (eq : W → W → Bool) (old new : D) (slot : Option W) (result : Result A DecodeError) : Type 0 where
+  pub record FillsOptional (side : Side) (type : TaggedType W) (eq : W → W → Bool) (old new : D)
+      (slot : Option W) (result : Result A DecodeError) : Type 0 where
     pub reads : ReadsOptional side type (λ v _. option_eq eq slot v ≡ true) old new result
 
-  -- A call that reads a component of a SET, of this name, into this slot. Where the slot was empty it reads as before; where
-  -- it was not, the component has come before, and is refused.
-  pub record FillsOnce (name : List ℕ) (type : TaggedType W) (eq : W → W → Bool) (old new : D) (before after : Option W) (result : Result A DecodeError) : Type 0 where
-    pub reads : before ≡ None → ReadsComponent type (λ v _. option_eq eq after (Some v) ≡ true) old new result
+  -- A call that reads a component of a SET, of this name, into this slot. Where the slot was empty
+  -- it reads as one that is always there; where it was not, the component has come before, and is
+  -- refused.
+  pub record FillsOnce (name : List ℕ) (type : TaggedType W) (eq : W → W → Bool)
+      (old new : D) (before after : Option W) (result : Result A DecodeError) : Type 0 where
+    pub reads : before ≡ None →
+        ReadsComponent type (λ v _. option_eq eq after (Some v) ≡ true) old new result
     pub twice : IsSome before → IsErrAnd result (λ e. reason e ≡ duplicate_field name)
 
   -- a group of additions (X.680, 25.1), which may be absent too
-  pub record FillsGroup (components : Components W) (eq : W → W → Bool) (old new : D) (slot : Option W) (result : Result A DecodeError) : Type 0 where
+  pub record FillsGroup (components : Components W) (eq : W → W → Bool) (old new : D)
+      (slot : Option W) (result : Result A DecodeError) : Type 0 where
     pub reads : (v : Option W) (rest : List Record) (outer : Outside) →
         CanBeInSequence (all_components components) →
         IfSome v (EachIsOfType (all_components components)) →
         IfSome v (λ w. EachIsValid (all_components components) R.takes w ×
         (marks_alone (component_records components w) ≡ false)) →
         BeginsApart (choice (trees_of (all_components components))) rest →
-        ReadsBack R old new (group_records (lines components) (option_map (component_records components) v)) rest outer (λ _. option_eq eq slot v ≡ true) result
+        ReadsBack R old new
+        (group_records (lines components) (option_map (component_records components) v)) rest outer
+        (λ _. option_eq eq slot v ≡ true) result

@@ -1,25 +1,28 @@
 -- The components of a SEQUENCE or a group, each read into a slot of its own.
-use Rattle.std.specs.Prelude.{◌≡◌, ◌≢◌, ◌≤◌, ◌&&◌, ℕ, zero, suc, ⊤, Bool, true, false, List, [], ◌∷◌, drop, length, take, Option, None, Some, IfSome, Result, MatchResult, is_some, if◌then◌else◌, refl}
+use Rattle.std.specs.Prelude.{◌≡◌, ◌≢◌, ◌≤◌, ◌&&◌, ℕ, zero, suc, ⊤, Bool, true, false, List, [], ◌∷◌, drop, length, take, IsPermutation, Option, None, Some, IfSome, Result, MatchResult, is_some, if◌then◌else◌, refl}
 use Rattle.std.specs.Option.{option_eq}
 use Rattle.std.specs.Result.{IsErrAnd}
-use Rattle.asn1_components.specs.Components.{Components, all_components, extensible_sequence, extensible_set, group, sequence, set}
+use Rattle.asn1_components.specs.ComponentLists.{EachIsOfType, EachIsValid}
+use Rattle.asn1_components.specs.Components.{Components, all_components, component_records, lines, extensible_sequence, extensible_set, group, sequence, set}
 use Rattle.asn1_components.specs.ComponentTypes.{ComponentType, default_in, optional_in, required}
 use Rattle.asn1_components.specs.Following.{BeginsApart, Where}
 use Rattle.asn1_codec.specs.DecodeErrors.{missing_field, reason}
-use Rattle.asn1_codec.specs.Reading.{Outside, Reader, ReadsBack, records_in}
-use Rattle.asn1_codec.specs.SetParts.{unmarked}
+use Rattle.asn1_codec.specs.Reading.{Advances, Outside, Reader, ReadsBack, records_in}
+use Rattle.asn1_codec.specs.SetParts.{CanBeInSet, unmarked}
 use Rattle.asn1_codec.proofs.ReadingSteps.{in_other_words}
 use Rattle.asn1_codec.specs.declared.decode_error.DecodeError.{DecodeError}
 use Rattle.asn1_codec.specs.declared.decode_error.DecodeError.TheVariants.{Memory}
 use Rattle.asn1_fields.specs.Entries.{may_be_absent}
-use Rattle.asn1_model.specs.Composites.{default_records, option_records}
-use Rattle.asn1_model.specs.Records.{Record, Side, in_additions, in_root}
+use Rattle.asn1_model.specs.Composites.{default_records}
+use Rattle.asn1_model.specs.Records.{Name, Record, Side, highest, in_additions, in_root, set as set_head}
 use Rattle.asn1_model.specs.TaggedTypes.{TaggedType}
+use Rattle.asn1_tags.specs.declared.tags.Tag.{Tag}
 use Rattle.asn1_slots.specs.Filling.{Fills, FillsGroup, FillsOnce, FillsOptional}
 use Rattle.asn1_slots.specs.InSets.{one_default, one_optional, one_required, slot_of_absent, slot_of_present, unless_default, written_default, written_optional, written_required}
 
 -- A call that reads this component: then the answer to the question is yes.
-abbrev pub ReadsInto : {D V A : Type 0} → Reader D → ComponentType V → (V → Bool) → D → D → Result A DecodeError → Type 0
+abbrev pub ReadsInto : {D V A : Type 0} → Reader D → ComponentType V → (V → Bool) → D → D →
+    Result A DecodeError → Type 0
 ReadsInto {V = V} R c holds old new result =
     (v : V) (rest : List Record) (outer : Outside) → c.CanStandInside → c.IsOfType v →
     c.IsValid R.takes v → Where (may_be_absent c.presence) (BeginsApart c.tree rest) →
@@ -43,18 +46,21 @@ pub record Slot (S V : Type 0) : Type 1 where
   -- what a call promises that reads it in a SET, by the slots before and after
   pub ReadsOnce : {D A : Type 0} → Reader D → D → D → S → S → Result A DecodeError → Type 0
   -- Where it is no group, it is one record in a SET, or absent.
-  pub is_one : is_single ≡ true → component.CanStandInside → (v : V) → records_in (component.records v) ≤ 1
+  pub is_one : is_single ≡ true → component.CanStandInside → (v : V) →
+      records_in (component.records v) ≤ 1
   -- what is there is read into an empty slot, without its presence mark
-  pub reads_once : {D A : Type 0} (R : Reader D) (old new : D) (before after : S) (result : Result A DecodeError) →
-      is_single ≡ true → ReadsOnce R old new before after result → IsEmpty before →
+  pub reads_once : {D A : Type 0} (R : Reader D) (old new : D) (before after : S)
+      (result : Result A DecodeError) → is_single ≡ true → ReadsOnce R old new before after result → IsEmpty before →
       (v : V) (rest : List Record) (outer : Outside) → component.CanStandInside → component.IsOfType v →
       component.IsValid R.takes v → unmarked (component.records v) ≢ [] →
-      ReadsBack R old new (unmarked (component.records v)) rest outer (λ _. holds after v ≡ true) result
+      ReadsBack R old new (unmarked (component.records v)) rest outer (λ _. holds after v ≡ true)
+      result
   -- what is absent has an empty slot
   pub is_absent : is_single ≡ true → (s : S) (v : V) → component.CanStandInside → IsEmpty s →
       unmarked (component.records v) ≡ [] → holds s v ≡ true
 
--- The slot of a component with a default: it has what the value has, or it is empty, and the value has the default.
+-- The slot of a component with a default: it has what the value has, or it is empty, and the value
+-- has the default.
 abbrev pub holds_or_default : {W : Type 0} → (W → W → Bool) → W → Option W → W → Bool
 holds_or_default eq usual None w = eq w usual
 holds_or_default eq usual (Some x) w = eq x w
@@ -70,10 +76,12 @@ holds_default eq usual w (Some x) false is same = same
 -- the slot of a component with a default is filled as that of one that may be absent
 pub reads_default : {D A W : Type 0} (R : Reader D) (side : Side) (type : TaggedType W) (eq : W → W → Bool)
     (usual : W) (old new : D) (slot : Option W) (result : Result A DecodeError) →
-    FillsOptional R side type eq old new slot result → (w : W) (rest : List Record) (outer : Outside) (is_default : Bool) →
+    FillsOptional R side type eq old new slot result → (w : W) (rest : List Record)
+    (outer : Outside) (is_default : Bool) →
     eq w usual ≡ is_default → type.CanStandInside → (is_default ≡ false → type.IsOfType w) →
     (is_default ≡ false → type.IsValid R.takes w) → BeginsApart type.tree rest →
-    ReadsBack R old new (default_records side is_default type.tag (type.records w)) rest outer (λ _. holds_or_default eq usual slot w ≡ true) result
+    ReadsBack R old new (default_records side is_default type.tag (type.records w)) rest outer
+    (λ _. holds_or_default eq usual slot w ≡ true) result
 reads_default R side type eq usual old new slot result fills w rest outer true is can of_type valid apart =
     in_other_words R old new _ _ _ result (λ _ same. holds_default eq usual w slot true is same)
     (fills.reads None rest outer can tt tt apart)
@@ -208,14 +216,16 @@ module _ {S V : Type 0} where
 
   -- one whose root has this many of them, and then an extension marker
   abbrev pub extensible_sequence_after : ℕ → List (Slot S V) → Components V
-  extensible_sequence_after k slots = extensible_sequence (components_of (take k slots)) (components_of (drop k slots))
+  extensible_sequence_after k slots =
+      extensible_sequence (components_of (take k slots)) (components_of (drop k slots))
 
   -- a SET of them, without an extension marker, and with one
   abbrev pub set_of_slots : List (Slot S V) → Components V
   set_of_slots slots = set (components_of slots)
 
   abbrev pub extensible_set_after : ℕ → List (Slot S V) → Components V
-  extensible_set_after k slots = extensible_set (components_of (take k slots)) (components_of (drop k slots))
+  extensible_set_after k slots =
+      extensible_set (components_of (take k slots)) (components_of (drop k slots))
 
   -- each slot before this place has what the value has
   abbrev pub HoldBefore : List (Slot S V) → ℕ → S → V → Type 0
@@ -251,13 +261,17 @@ module _ {S V : Type 0} where
       IsKept h before after v × OthersAreKept hs index before after v
 
   -- the call reads the component of this index in a SET, into its slot
-  abbrev pub ReadsOnceAt : {D A : Type 0} → Reader D → List (Slot S V) → ℕ → D → D → S → S → Result A DecodeError → Type 0
+  abbrev pub ReadsOnceAt : {D A : Type 0} → Reader D → List (Slot S V) → ℕ → D → D → S → S →
+      Result A DecodeError → Type 0
   ReadsOnceAt R [] index old new before after result = ⊤
-  ReadsOnceAt R (h ∷ hs) zero old new before after result = h.ReadsOnce R old new before after result
-  ReadsOnceAt R (h ∷ hs) (suc index) old new before after result = ReadsOnceAt R hs index old new before after result
+  ReadsOnceAt R (h ∷ hs) zero old new before after result =
+      h.ReadsOnce R old new before after result
+  ReadsOnceAt R (h ∷ hs) (suc index) old new before after result =
+      ReadsOnceAt R hs index old new before after result
 
   -- the call reads the component at this place into its slot
-  abbrev pub ReadsAt : {D A : Type 0} → Reader D → List (Slot S V) → ℕ → D → D → S → Result A DecodeError → Type 0
+  abbrev pub ReadsAt : {D A : Type 0} → Reader D → List (Slot S V) → ℕ → D → D → S →
+      Result A DecodeError → Type 0
   ReadsAt R [] place old new s result = ⊤
   ReadsAt R (h ∷ hs) zero old new s result = h.Reads R old new s result
   ReadsAt R (h ∷ hs) (suc place) old new s result = ReadsAt R hs place old new s result
@@ -281,8 +295,10 @@ module _ {S V : Type 0} where
 -- Two components are the same to a reader.
 abbrev pub SameComponent : {V : Type 0} → ComponentType V → ComponentType V → Type 0
 SameComponent {V = V} c d = (v : V) →
-    (c.CanStandInside → d.CanStandInside) × (c.IsOfType v → d.IsOfType v) × ((takes : List ℕ → Bool) → c.IsValid takes v → d.IsValid takes v)
-    × ((rest : List Record) → Where (may_be_absent c.presence) (BeginsApart c.tree rest) → Where (may_be_absent d.presence) (BeginsApart d.tree rest))
+    (c.CanStandInside → d.CanStandInside) × (c.IsOfType v → d.IsOfType v)
+    × ((takes : List ℕ → Bool) → c.IsValid takes v → d.IsValid takes v)
+    × ((rest : List Record) → Where (may_be_absent c.presence) (BeginsApart c.tree rest) →
+    Where (may_be_absent d.presence) (BeginsApart d.tree rest))
     × (c.records v ≡ d.records v)
 
 -- The slots are those of these components.
@@ -303,3 +319,16 @@ same_all (c ∷ cs) = (λ v. ((λ h. h), (λ h. h), (λ takes h. h), (λ rest h.
 -- so it is for each type whose components are stated by its slots
 pub slots_agree : {V : Type 0} (components : Components V) → SameAll (all_components components)
 slots_agree components = same_all (all_components components)
+
+-- A call that reads the components that are left in a SET, of which there are at most this many
+-- records: in any order, and into slots.
+abbrev pub ReadsSlotsLeft : {D S V : Type 0} → Reader D → ℕ → Components V → List (Slot S V) → D → D →
+    Result S DecodeError → Type 0
+ReadsSlotsLeft {V = V} R bound components slots old new result =
+    (v : V) (t : Tag) (n : Name) (items rest : List Record) (outer : Outside) →
+    CanBeInSet (all_components components) → EachIsOfType (all_components components) v →
+    EachIsValid (all_components components) R.takes v →
+    IsPermutation items (component_records components v) → records_in items ≤ bound →
+    Advances R old new (highest items) (items, (set_head t (lines components) n, rest) ∷ outer)
+    ([], (set_head t (lines components) n, rest) ∷ outer)
+    (λ s. HoldBefore slots (length slots) s v) result

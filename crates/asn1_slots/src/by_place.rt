@@ -1,11 +1,8 @@
 //! Types that are read by place.
-ghost use Rattle.asn1_codec.specs.Reading.{Outside, ReadsBack};
-ghost use Rattle.asn1_components.specs.ComponentLists.{CanBeInSequence, EachIsOfType, EachIsValid};
-ghost use Rattle.asn1_components.specs.Components.{all_components, component_records};
-ghost use Rattle.asn1_components.specs.Following.{EndsApart};
-ghost use Rattle.asn1_model.specs.Records.{Record};
+ghost use Rattle.asn1_codec.specs.ReadingTypes.{ReadsFields};
+ghost use Rattle.asn1_components.specs.Components.{all_components};
 ghost use Rattle.asn1_slots.specs.Slots.{AreSlotsOf, HoldBefore, ReadsAt};
-ghost use Rattle.std.specs.Prelude.{◌≡◌, List, OnOk, true};
+ghost use Rattle.std.specs.Prelude.{◌≡◌, OnOk};
 
 use crate::slotted::Slotted;
 use asn1_codec::DecodeError;
@@ -33,13 +30,7 @@ pub trait DecodeByPlace: FieldTable + Slotted + Drop {
 
     /// Reads all components: what [`asn1_dec::DecodeFields::decode_fields`] of the type calls.
     final fn decode_by_place<D: Decoder>(decoder: &mut D) -> Result<Self, DecodeError>
-        ensures read { (v : Self) (rest : List Record) (outer : Outside) →
-            CanBeInSequence (all_components Self.components) →
-            EachIsOfType (all_components Self.components) v →
-            EachIsValid (all_components Self.components) D.reader.takes v →
-            EndsApart (all_components Self.components) rest →
-            ReadsBack D.reader decoder.old decoder.new (component_records Self.components v) rest
-            outer (λ w. Self.eq w v ≡ true) result }
+        ensures read { ReadsFields D.reader Self.components Self.eq decoder.old decoder.new result }
         ensures same_depth { OnOk result (D.reader.depth_left decoder.new ≡
             D.reader.depth_left decoder.old) }
     {

@@ -1,13 +1,10 @@
 //! SET types that are read by place.
-ghost use Rattle.asn1_codec.specs.Reading.{Advances, KeepsDepth, NeedsDepth, Outside, ReadsBack, ReadsValue, records_in};
-ghost use Rattle.asn1_codec.specs.SetParts.{CanBeInSet};
-ghost use Rattle.asn1_components.specs.ComponentLists.{EachIsOfType, EachIsValid};
-ghost use Rattle.asn1_components.specs.Components.{all_components, component_records, is_set, lines};
-ghost use Rattle.asn1_model.specs.Composites.{set_records};
+ghost use Rattle.asn1_codec.specs.Reading.{KeepsDepth, NeedsDepth, ReadsValue};
+ghost use Rattle.asn1_codec.specs.ReadingTypes.{ReadsComponents};
+ghost use Rattle.asn1_components.specs.Components.{all_components, is_set};
 ghost use Rattle.asn1_model.specs.ConstraintSets.{ConstraintSet};
-ghost use Rattle.asn1_model.specs.Records.{Name, Record, highest, set};
-ghost use Rattle.asn1_slots.specs.Slots.{AreEmpty, AreSlotsOf, HoldBefore, OthersAreKept, ReadsOnceAt, has_no_group};
-ghost use Rattle.std.specs.Prelude.{◌≡◌, ◌≤◌, IsPermutation, List, OnErr, OnOk, [], ◌∷◌, length, true};
+ghost use Rattle.asn1_slots.specs.Slots.{AreEmpty, AreSlotsOf, OthersAreKept, ReadsOnceAt, ReadsSlotsLeft, has_no_group};
+ghost use Rattle.std.specs.Prelude.{◌≡◌, OnErr, OnOk, true};
 
 use crate::slotted::Slotted;
 use asn1_codec::DecodeError;
@@ -43,14 +40,8 @@ fn read_slots<S: DecodeSetByPlace, D: Decoder>(
     decoder: &mut D,
     bound: usize,
 ) -> Result<S::Slots, DecodeError>
-    ensures read { (v : S) (tag : Tag) (n : Name) (items rest : List Record) (outer : Outside) →
-        CanBeInSet (all_components S.components) → EachIsOfType (all_components S.components) v →
-        EachIsValid (all_components S.components) D.reader.takes v →
-        IsPermutation items (component_records S.components v) → records_in items ≤ bound →
-        Advances D.reader decoder.old decoder.new (highest items)
-        (items, (set tag (lines S.components) n, rest) ∷ outer)
-        ([], (set tag (lines S.components) n, rest) ∷ outer)
-        (λ slots. HoldBefore S.layout (length S.layout) slots v) result }
+    ensures read { ReadsSlotsLeft D.reader bound S.components S.layout decoder.old decoder.new
+        result }
     ensures same_depth { OnOk result (D.reader.depth_left decoder.new ≡
         D.reader.depth_left decoder.old) }
     ensures has_failed { OnErr result (D.reader.failed decoder.new ≡ true) }
@@ -79,12 +70,8 @@ fn read_components<S: DecodeSetByPlace, D: Decoder>(
     decoder: &mut D,
     tag: Tag,
 ) -> Result<S, DecodeError>
-    ensures read { (v : S) (n : Name) (rest : List Record) (outer : Outside) →
-        CanBeInSet (all_components S.components) → EachIsOfType (all_components S.components) v →
-        EachIsValid (all_components S.components) D.reader.takes v →
-        ReadsBack D.reader decoder.old decoder.new
-        (set_records tag (lines S.components) n (component_records S.components v)) rest outer
-        (λ w. S.eq w v ≡ true) result }
+    ensures read { ReadsComponents D.reader is_set tag S.components S.eq decoder.old decoder.new
+        result }
     ensures depth_first { NeedsDepth D.reader decoder.old result }
     ensures keeps_depth { KeepsDepth D.reader decoder.old decoder.new result }
 {
@@ -105,12 +92,8 @@ pub fn decode_set_by_place<S: DecodeSetByPlace + ConstructedType, D: Decoder>(
     decoder: &mut D,
     tag: Tag,
 ) -> Result<S, DecodeError>
-    ensures components { (v : S) (n : Name) (rest : List Record) (outer : Outside) →
-        CanBeInSet (all_components S.components) → EachIsOfType (all_components S.components) v →
-        EachIsValid (all_components S.components) D.reader.takes v →
-        ReadsBack D.reader decoder.old decoder.new
-        (set_records tag (lines S.components) n (component_records S.components v)) rest outer
-        (λ w. S.eq w v ≡ true) result }
+    ensures components { ReadsComponents D.reader is_set tag S.components S.eq decoder.old decoder.new
+        result }
     ensures as_meant { S.components.kind ≡ is_set → (c : ConstraintSet) →
         ReadsValue D.reader S.meaning S.eq tag c decoder.old decoder.new result }
     ensures depth_first { NeedsDepth D.reader decoder.old result }

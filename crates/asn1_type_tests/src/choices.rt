@@ -1,4 +1,4 @@
-//! What the definitions give for a few CHOICE types, written out by hand, and their tables.
+//! What the definitions give for a few CHOICE types, written out by hand.
 //!
 //! The clauses of the functions without a body are worked examples: the prover computes the definitions on them.
 ghost use Rattle.std.specs.Prelude.{◌≡◌, ℕ, Bool, List, pos, true, false, [], ◌∷◌, Some, codes};
@@ -8,24 +8,20 @@ ghost use Rattle.asn1_model.specs.ConstraintSets.{unconstrained, values_of};
 ghost use Rattle.asn1_model.specs.Meaning.{CanStandInside, own_records};
 ghost use Rattle.asn1_model.specs.Records.{scalar, holding, prefix, alternative as chosen, number, truth};
 ghost use Rattle.asn1_model.specs.TaggedTypes.{tagged, untagged};
-ghost use Rattle.asn1_model.specs.Tags.{universal, context, only, first_tags};
+ghost use Rattle.asn1_model.specs.Tags.{universal, context};
 ghost use Rattle.asn1_choices.specs.Alternatives.{alternative, closed, extensible, table_of, variance_of};
 ghost use Rattle.asn1_choices.specs.ChoiceTypes.{choice_of};
 ghost use Rattle.asn1_recursive.specs.declared.nested.Nested.TheVariants.{Flag, Inner};
 ghost use Rattle.asn1_type_tests.specs.declared.choices.reply.Reply.TheVariants as reply;
-ghost use Rattle.asn1_samples.specs.declared.corner.Corner.TheVariants as corner;
 ghost use Rattle.asn1_samples.specs.declared.shape.Shape.TheVariants as shape;
 
 mod reply;
 
-use asn1_bounds::Bounded;
 use asn1_choices::Choice;
 use asn1_model::AsnType;
 use asn1_recursive::Nested;
 use asn1_samples::{Corner, Shape};
-use asn1_tags::{Tag, TagTree};
 use reply::Reply;
-use std::process::Abort;
 
 /// A CHOICE cannot be inside others with the same tag twice: in the root, on both sides of the extension marker, or in an
 /// untagged CHOICE and beside it.
@@ -41,25 +37,9 @@ fn same_tag_twice()
         alternative (codes "flag") (untagged ⟦<bool as AsnType>⟧.meaning) ∷ [])) (λ x. x)) }
 {}
 
-/// The records of a value of each.
+/// `later : 9`, of an alternative after the extension marker.
 fn records()
-    ensures corner { own_records ⟦<Corner as AsnType>⟧.meaning (corner.Left true) ≡
-        holding (chosen (universal 1) unconstrained (table_of
-        ⟦<Corner as asn1_choices::Choice>⟧.alternatives) (Some
-        (codes "Corner"))) (scalar (universal 1) unconstrained (Some (codes "BOOLEAN")) (truth
-        true) ∷ []) ∷ [] }
-    ensures ring { own_records ⟦<Shape as AsnType>⟧.meaning (shape.Ring 7) ≡
-        holding (chosen (context 0) unconstrained (table_of
-        ⟦<Shape as asn1_choices::Choice>⟧.alternatives) (Some (codes "Shape"))) (scalar (context
-        0) (values_of (Range (Some (pos 0)) (Some (pos 65535)))) (Some (codes "INTEGER")) (number
-        (pos 7)) ∷ []) ∷ [] }
-    ensures inner { own_records ⟦<Shape as AsnType>⟧.meaning (shape.Inner (corner.Left true)) ≡
-        holding (chosen (universal 1) unconstrained (table_of
-        ⟦<Shape as asn1_choices::Choice>⟧.alternatives) (Some (codes "Shape"))) (holding (chosen
-        (universal 1) unconstrained (table_of ⟦<Corner as asn1_choices::Choice>⟧.alternatives)
-        (Some (codes "Corner"))) (scalar (universal 1) unconstrained (Some (codes "BOOLEAN"))
-        (truth true) ∷ []) ∷ []) ∷ [] }
-    ensures later { own_records ⟦<Reply as AsnType>⟧.meaning (reply.Later 9) ≡
+    ensures { own_records ⟦<Reply as AsnType>⟧.meaning (reply.Later 9) ≡
         holding (chosen (context 0) unconstrained (table_of
         ⟦<Reply as asn1_choices::Choice>⟧.alternatives) (Some (codes "Reply"))) (scalar (context
         0) (values_of (Range (Some (pos 0)) (Some (pos 255)))) (Some (codes "INTEGER")) (number
@@ -116,31 +96,3 @@ fn values_of_types()
     ensures within { ⟦<Shape as AsnType>⟧.meaning.IsOfType (shape.Ring 65535) }
     ensures above { ¬ ⟦<Shape as AsnType>⟧.meaning.IsOfType (shape.Ring 65536) }
 {}
-
-/// Asserts what the tables of a CHOICE say: its tree, the number of its alternatives, and the constraint of their places.
-fn assert_tables<T: AsnType + Choice>(
-    rt: &(impl Abort + AllocGlobal),
-    tree: TagTree<'static>,
-    names: usize,
-    places: (i128, i128),
-    extensible: bool,
-) {
-    assert!(rt; T::tag_tree() == tree && T::is_choice() && T::tag() == Tag::CHOICE);
-    assert!(rt; T::identifiers().len() == names && T::complete_variance() == names);
-    let constraint = T::variance_constraint(rt.alloc()).expect(rt, "memory");
-    let bound = constraint.value().map(|part| part.constraint.bound);
-    assert!(rt; bound == Some(Bounded::const_new(places.0, places.1)));
-    assert!(rt; constraint.extensible() == extensible);
-}
-
-#[test]
-fn tables(rt: HostRuntime) {
-    assert_tables::<Corner>(&rt, TagTree::Choice(Corner::variants()), 2, (0, 1), false);
-    assert_tables::<Shape>(&rt, TagTree::Choice(Shape::variants()), 3, (0, 2), false);
-    assert_tables::<Nested>(&rt, TagTree::Choice(Nested::variants()), 3, (0, 2), false);
-    assert!(rt; Corner::tag_tree_under(Tag::new_context(1)) == TagTree::Leaf(Tag::new_context(1)));
-    assert!(rt; Reply::variance() == 2 && Reply::complete_variance() == 3);
-    let constraint = Reply::variance_constraint(rt.alloc());
-    assert!(rt; constraint.expect(&rt, "memory").extensible());
-    assert!(rt; Reply::extended_variants().is_some() && Nested::extended_variants().is_none());
-}

@@ -63,7 +63,6 @@ fn assert_clashes(
 #[test]
 fn clashes_are_the_least(rt: HostRuntime) {
     let alloc = rt.alloc();
-    assert_clashes(&rt, alloc, &[], None, None);
     let apart = [required(0), required(1), required(0)];
     assert_clashes(&rt, alloc, &apart, None, Some((0, 2)));
     let run = [optional(1), optional(2), required(1), required(2)];
@@ -76,9 +75,6 @@ fn clashes_are_the_least(rt: HostRuntime) {
         Some((0, 1)),
         Some((0, 1)),
     );
-    let open = field(FieldPresence::Required, TagTree::Choice(&[]));
-    let before_open = [optional(5), required(6), open];
-    assert_clashes(&rt, alloc, &before_open, None, Some((0, 2)));
 }
 
 fn assert_summary_of(rt: &impl Abort, tags: &mut [Tag], is_unique: bool) {
@@ -90,37 +86,18 @@ fn assert_summary_of(rt: &impl Abort, tags: &mut [Tag], is_unique: bool) {
     );
 }
 
-fn flat_tree(rt: &impl Abort, alloc: Global, nodes: &'static [TagTree<'static>]) -> FlatTree {
-    FlatTree::of(alloc, &TagTree::Choice(nodes)).expect(rt, "memory")
-}
-
 fn assert_summary(
     rt: &impl Abort,
     alloc: Global,
     nodes: &'static [TagTree<'static>],
     is_unique: bool,
 ) {
-    let mut tree = flat_tree(rt, alloc, nodes);
+    let mut tree = FlatTree::of(alloc, &TagTree::Choice(nodes)).expect(rt, "memory");
     tree.push(Tag::new_context(9)).expect(rt, "memory");
     assert_summary_of(rt, &mut tree.tags, is_unique);
 }
 
-const C3_OR_NOTHING: &[TagTree<'static>] = &[leaf!(3), TagTree::Choice(&[])];
-
-const TWICE: &[TagTree<'static>] = &[TagTree::Choice(C3_OR_NOTHING), leaf!(3)];
-
 #[test]
 fn summaries(rt: HostRuntime) {
     assert_summary(&rt, rt.alloc(), C3_OR_C4, true);
-    assert_summary(&rt, rt.alloc(), TWICE, false);
-}
-
-fn assert_open(rt: &impl Abort, tree: &FlatTree, smallest: Tag) {
-    assert!(rt; tree.is_open() && tree.smallest_tag() == smallest);
-}
-
-#[test]
-fn an_empty_choice_makes_a_tree_open(rt: HostRuntime) {
-    let open = flat_tree(&rt, rt.alloc(), C3_OR_NOTHING);
-    assert_open(&rt, &open, Tag::new_context(3));
 }

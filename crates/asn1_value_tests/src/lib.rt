@@ -2,9 +2,8 @@
 //! `asn1_bounds`.
 //!
 //! A crate that has tests is proved twice, so those that need no private item are together here, and the crates below are
-//! proved once. They try what no contract says: values from outside (worked examples, a standard's tables, the ends of each
-//! built-in integer), printed texts, and that each call which allocates succeeds where there is memory. Tests whose names
-//! begin with `a_refused_` hold where an allocation fails too.
+//! proved once. They try what no contract says: values from outside (worked examples, a standard's tables), printed texts, and
+//! that each call which allocates succeeds where there is memory.
 //!
 //! | Module | What it tries |
 //! |---|---|

@@ -1,3 +1,2 @@
 //! Bounds of whole numbers.
 mod bounded;
-mod integers;

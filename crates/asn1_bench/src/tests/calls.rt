@@ -4,22 +4,21 @@ use asn1_bounds::Codec;
 use asn1_codec_tests::{CallRules, Calls, Failure, calls};
 use asn1_dec::{DecodeError, Decoder};
 use asn1_enc::{EncodeError, Encoder};
-use asn1_record_decoder::RecordDecoder;
-use asn1_records::{Record, RecordEncoder};
+use asn1_packed::{PackedDecoder, PackedEncoder};
 use asn1_sample_tests::{calls as sample_calls, sets};
 use std::alloc::Global;
 
-/// The encoder and the decoder of the record codec.
+/// The encoder and the decoder of the packed codec.
 #[derive(Drop)]
 struct BenchCalls {
     alloc: Global,
 }
 
 impl CallRules for BenchCalls {
-    type Output = Vec<Record>;
+    type Output = Vec<u8>;
 
-    fn write_calls<C: Calls>(&self, calls: &C, depth: usize) -> Result<Vec<Record>, EncodeError> {
-        let mut encoder = RecordEncoder::new(self.alloc, depth);
+    fn write_calls<C: Calls>(&self, calls: &C, depth: usize) -> Result<Vec<u8>, EncodeError> {
+        let mut encoder = PackedEncoder::new(self.alloc, depth);
         calls.write(&mut encoder)?;
         Ok(encoder.finish())
     }
@@ -27,10 +26,10 @@ impl CallRules for BenchCalls {
     fn read_calls<C: Calls>(
         &self,
         calls: &C,
-        output: &Vec<Record>,
+        output: &Vec<u8>,
         depth: usize,
     ) -> Result<(), Failure> {
-        let mut decoder = RecordDecoder::new(self.alloc, output.as_slice(), depth);
+        let mut decoder = PackedDecoder::new(self.alloc, output.as_slice(), depth);
         calls.read(&mut decoder)?;
         decoder.finish().map_err(Failure::of_reading)
     }
@@ -132,15 +131,15 @@ fn sets_come_back_in_any_order(rt: HostRuntime) {
 
 #[test]
 fn the_encoder_and_the_decoder_say_what_they_are(rt: HostRuntime) {
-    let encoder = RecordEncoder::new(rt.alloc(), 4);
+    let encoder = PackedEncoder::new(rt.alloc(), 4);
     assert!(&rt; encoder.codec() == Codec::Other(0) && encoder.depth() == 4);
-    let decoder = RecordDecoder::new(rt.alloc(), &[], 3);
+    let decoder = PackedDecoder::new(rt.alloc(), &[], 3);
     assert!(&rt; decoder.codec() == Codec::Other(0) && decoder.depth() == 3);
 }
 
 #[test]
 fn a_decoder_that_refuses_has_failed(rt: HostRuntime) {
-    let mut decoder = RecordDecoder::new(rt.alloc(), &[], 0);
+    let mut decoder = PackedDecoder::new(rt.alloc(), &[], 0);
     assert!(&rt; decoder.refuse(DecodeError::OutOfRange) == DecodeError::OutOfRange);
     assert!(&rt; decoder.finish() == Err(DecodeError::Failed));
 }

@@ -4,7 +4,7 @@ use asn1_bounds::Constraints;
 use asn1_codec_tests::NAME;
 use asn1_codec_tests::made::letters;
 use asn1_enc::{Encode, EncodeError, Encoder};
-use asn1_records::RecordEncoder;
+use asn1_packed::PackedEncoder;
 use asn1_sample_tests::samples::person;
 use asn1_samples::{Contact, Person, Plate};
 use asn1_schema::Rules;
@@ -37,7 +37,7 @@ fn assert_too_high<T: Encode, E: Encoder>(rt: &impl Abort, encoder: &mut E, valu
 
 #[test]
 fn a_person_is_too_high(rt: HostRuntime) {
-    let mut encoder = RecordEncoder::new(rt.alloc(), 0);
+    let mut encoder = PackedEncoder::new(rt.alloc(), 0);
     assert_too_high(&rt, &mut encoder, &ann(&rt, rt.alloc()));
 }
 
@@ -59,32 +59,32 @@ fn assert_memory_is_refused<E: Encoder>(rt: &impl Abort, encoder: &mut E) {
 
 #[test]
 fn memory_is_refused(rt: HostRuntime) {
-    let mut encoder = RecordEncoder::new(rt.alloc(), 0);
+    let mut encoder = PackedEncoder::new(rt.alloc(), 0);
     assert_memory_is_refused(&rt, &mut encoder);
 }
 
 fn close_nothing<E: Encoder>(rt: &impl Abort, encoder: &mut E) {
     let answer = encoder.close();
-    let error = EncodeError::Custom("no scope is open");
+    let error = EncodeError::Custom("nothing is open");
     assert_error(rt, encoder, answer, error);
 }
 
 fn close_no_group<E: Encoder>(rt: &impl Abort, encoder: &mut E) {
     let answer = encoder.close_group();
-    let error = EncodeError::Custom("no group is open");
+    let error = EncodeError::Custom("nothing is open");
     assert_error(rt, encoder, answer, error);
 }
 
 #[test]
 fn nothing_is_open(rt: HostRuntime) {
-    close_nothing(&rt, &mut RecordEncoder::new(rt.alloc(), 0));
-    close_no_group(&rt, &mut RecordEncoder::new(rt.alloc(), 0));
+    close_nothing(&rt, &mut PackedEncoder::new(rt.alloc(), 0));
+    close_no_group(&rt, &mut PackedEncoder::new(rt.alloc(), 0));
 }
 
 fn close_a_group_as_a_scope<E: Encoder>(rt: &impl Abort, encoder: &mut E) {
     encoder.open_group::<Contact>().expect(rt, "memory");
     let answer = encoder.close();
-    let error = EncodeError::Custom("a group is open");
+    let error = EncodeError::Custom("nothing is open");
     assert_error(rt, encoder, answer, error);
 }
 
@@ -93,14 +93,14 @@ fn close_a_scope_as_a_group<E: Encoder>(rt: &impl Abort, encoder: &mut E) {
         .open_explicit_prefix(Tag::NULL, Identifier::NULL)
         .expect(rt, "memory");
     let answer = encoder.close_group();
-    let error = EncodeError::Custom("a scope is open");
+    let error = EncodeError::Custom("nothing is open");
     assert_error(rt, encoder, answer, error);
 }
 
 #[test]
 fn something_else_is_open(rt: HostRuntime) {
-    close_a_group_as_a_scope(&rt, &mut RecordEncoder::new(rt.alloc(), 1));
-    close_a_scope_as_a_group(&rt, &mut RecordEncoder::new(rt.alloc(), 1));
+    close_a_group_as_a_scope(&rt, &mut PackedEncoder::new(rt.alloc(), 1));
+    close_a_scope_as_a_group(&rt, &mut PackedEncoder::new(rt.alloc(), 1));
 }
 
 fn no_memory(_alloc: Global) -> Result<bool, AllocError> {
@@ -114,7 +114,7 @@ fn write_no_default<E: Encoder>(rt: &impl Abort, encoder: &mut E) {
 
 #[test]
 fn a_refused_default_is_an_error_of_memory(rt: HostRuntime) {
-    write_no_default(&rt, &mut RecordEncoder::new(rt.alloc(), 0));
+    write_no_default(&rt, &mut PackedEncoder::new(rt.alloc(), 0));
 }
 
 /// A call of each kind that takes memory.
@@ -146,7 +146,7 @@ fn write_all_or_no_memory<E: Encoder>(rt: &impl Abort, encoder: &mut E) {
 /// Each allocation may be refused: the first error then says that memory ran out.
 #[test]
 fn memory_runs_out(rt: HostRuntime) {
-    write_all_or_no_memory(&rt, &mut RecordEncoder::new(rt.alloc(), 1));
+    write_all_or_no_memory(&rt, &mut PackedEncoder::new(rt.alloc(), 1));
 }
 
 /// The same of a type whose own constraints want memory.
@@ -158,5 +158,5 @@ fn write_or_no_memory<T: Encode, E: Encoder>(rt: &impl Abort, encoder: &mut E, v
 #[test]
 fn memory_for_an_alphabet_runs_out(rt: HostRuntime) {
     let plate = Plate(letters(rt.alloc(), b"AB").expect(&rt, "memory"));
-    write_or_no_memory(&rt, &mut RecordEncoder::new(rt.alloc(), 0), &plate);
+    write_or_no_memory(&rt, &mut PackedEncoder::new(rt.alloc(), 0), &plate);
 }

@@ -1,17 +1,16 @@
 //! Memory that a type wants for itself, beside the decoder. Each allocation of a run may be refused, which is tried by hand: what
 //! is read is then read twice, so that one reading has all its memory.
-use crate::tests::made::written;
+use crate::tests::bytes::written;
 use asn1_codec_tests::made::letters;
 use asn1_dec::{Decode, DecodeError, Decoder};
-use asn1_record_decoder::RecordDecoder;
-use asn1_records::Record;
+use asn1_packed::PackedDecoder;
 use asn1_samples::Plate;
 use std::alloc::Global;
 use std::process::Abort;
 
 /// Whether a value is read; else memory was short for what the type makes of what was read. The decoder is then after it.
-fn reads_or_passes<T: Decode>(rt: &impl Abort, alloc: Global, records: &[Record]) -> bool {
-    let mut decoder = RecordDecoder::new(alloc, records, 0);
+fn reads_or_passes<T: Decode>(rt: &impl Abort, alloc: Global, records: &[u8]) -> bool {
+    let mut decoder = PackedDecoder::new(alloc, records, 0);
     let error = T::decode(&mut decoder).err();
     assert!(rt; error == None || error == Some(DecodeError::Memory));
     assert!(rt; decoder.finish().is_ok());
@@ -45,8 +44,8 @@ fn reads_or_stays<T: Decode, D: Decoder>(rt: &impl Abort, decoder: &mut D) -> bo
     false
 }
 
-fn reads_plate(rt: &impl Abort, alloc: Global, records: &[Record]) -> bool {
-    reads_or_stays::<Plate, _>(rt, &mut RecordDecoder::new(alloc, records, 0))
+fn reads_plate(rt: &impl Abort, alloc: Global, records: &[u8]) -> bool {
+    reads_or_stays::<Plate, _>(rt, &mut PackedDecoder::new(alloc, records, 0))
 }
 
 #[test]

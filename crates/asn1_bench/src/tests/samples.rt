@@ -1,5 +1,6 @@
 //! The sample types.
 use crate::rules::BenchRules;
+use crate::tests::bytes::NULL;
 use crate::tests::cases::passes;
 use asn1_sample_tests::{depth, samples};
 
@@ -14,7 +15,7 @@ fn samples_come_back(rt: HostRuntime) {
     passes(
         &rt,
         "envelopes",
-        samples::envelopes_come_back(&rules, alloc, &[1, 2]),
+        samples::envelopes_come_back(&rules, alloc, NULL),
     );
     passes(&rt, "plates", samples::plates_come_back(&rules, alloc));
     passes(&rt, "notices", samples::notices_come_back(&rules, alloc));

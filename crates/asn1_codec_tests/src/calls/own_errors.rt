@@ -91,10 +91,10 @@ fn is_outside<R: CallRules>(rules: &R, around: Around) -> Result<(), Failure> {
 /// # Errors
 /// How else a call ended.
 pub fn own_errors_are_answered_as_they_are<R: CallRules>(rules: &R) -> Result<(), Failure> {
-    is_outside(rules, Around::ExplicitTag)?;
-    is_outside(rules, Around::ExplicitTagWithConstraints)?;
-    is_outside(rules, Around::Component)?;
-    is_outside(rules, Around::ComponentAfterATag)?;
-    is_outside(rules, Around::Addition)?;
-    is_outside(rules, Around::AdditionAfterATag)
+    is_outside(rules, Around::ExplicitTag)
+        .and(is_outside(rules, Around::ExplicitTagWithConstraints))
+        .and(is_outside(rules, Around::Component))
+        .and(is_outside(rules, Around::ComponentAfterATag))
+        .and(is_outside(rules, Around::Addition))
+        .and(is_outside(rules, Around::AdditionAfterATag))
 }

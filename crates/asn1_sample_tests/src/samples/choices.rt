@@ -36,7 +36,7 @@ fn bare() -> Badge {
     }
 }
 
-fn labelled(alloc: Global) -> Result<Badge, Failure> {
+pub(super) fn labelled(alloc: Global) -> Result<Badge, Failure> {
     let label = letters(alloc, b"x")?;
     Ok(Badge {
         id: 7,

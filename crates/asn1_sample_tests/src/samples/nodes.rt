@@ -32,14 +32,10 @@ fn parent(alloc: Global, child: Node) -> Result<Node, AllocError> {
     }
 }
 
-/// Whether nodes come back, with a child and without.
+/// Whether a node with a child comes back.
 ///
 /// # Errors
-/// Why one did not.
+/// Why it did not.
 pub fn nodes_come_back<R: Rules>(rules: &R, alloc: Global) -> Result<(), Failure> {
-    chain(rules, alloc, 0).and(chain(rules, alloc, 1))
-}
-
-fn chain<R: Rules>(rules: &R, alloc: Global, around: usize) -> Result<(), Failure> {
-    made_comes_back(rules, node_chain(alloc, around).map_err(Failure::from))
+    made_comes_back(rules, node_chain(alloc, 1).map_err(Failure::from))
 }

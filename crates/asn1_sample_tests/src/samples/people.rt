@@ -59,7 +59,7 @@ fn bare(contact: Option<Contact>) -> Profile {
     }
 }
 
-fn with_contact(
+pub(super) fn with_contact(
     alloc: Global,
     phone: Option<&[u8]>,
     mail: Option<&[u8]>,
@@ -68,7 +68,7 @@ fn with_contact(
     Ok(bare(Some(contact)))
 }
 
-fn full(alloc: Global) -> Result<Profile, Failure> {
+pub(super) fn full(alloc: Global) -> Result<Profile, Failure> {
     let contact = contact(alloc, Some(b"12"), Some(b"a@b"))?;
     let nick = text(alloc, "Al")?;
     Ok(Profile {
@@ -79,16 +79,13 @@ fn full(alloc: Global) -> Result<Profile, Failure> {
     })
 }
 
-/// Whether profiles come back: bare, with one component of the group, with the other, and full. One whose group writes nothing
-/// comes back without it.
+/// Whether profiles come back, bare and full. One whose group writes nothing comes back without it.
 ///
 /// # Errors
 /// Why one did not.
 pub fn profiles_come_back<R: Rules>(rules: &R, alloc: Global) -> Result<(), Failure> {
     made_comes_back(rules, Ok(bare(None)))
         .and(without_contact(rules))
-        .and(made_comes_back(rules, with_contact(alloc, Some(b"12"), None)))
-        .and(made_comes_back(rules, with_contact(alloc, None, Some(b"a@b"))))
         .and(made_comes_back(rules, full(alloc)))
 }
 

@@ -35,7 +35,7 @@ pub fn envelopes_come_back<R: Rules>(
     made_comes_back(rules, envelope(alloc, value))
 }
 
-fn envelope(alloc: Global, value: &[u8]) -> Result<Envelope, Failure> {
+pub(super) fn envelope(alloc: Global, value: &[u8]) -> Result<Envelope, Failure> {
     let body = Any::new(list(alloc, value)?);
     Ok(Envelope { kind: 1, body })
 }
@@ -59,7 +59,7 @@ pub fn notices_come_back<R: Rules>(rules: &R, alloc: Global) -> Result<(), Failu
     ))
 }
 
-fn notice(alloc: Global, urgent: Option<bool>) -> Result<Notice, Failure> {
+pub(super) fn notice(alloc: Global, urgent: Option<bool>) -> Result<Notice, Failure> {
     let text = text(alloc, "Fire")?;
     Ok(Notice {
         id: 7,
@@ -68,20 +68,16 @@ fn notice(alloc: Global, urgent: Option<bool>) -> Result<Notice, Failure> {
     })
 }
 
-/// Whether pairs come back, of two types and of two others.
+/// Whether a pair comes back.
 ///
 /// # Errors
-/// Why one did not.
+/// Why it did not.
 pub fn pairs_come_back<R: Rules>(rules: &R) -> Result<(), Failure> {
-    let numbers = Pair {
-        first: 7u8,
+    let pair = Pair {
+        first: true,
         second: Some(8u16),
     };
-    let truths = Pair {
-        first: true,
-        second: None::<bool>,
-    };
-    comes_back(rules, &numbers).and(comes_back(rules, &truths))
+    comes_back(rules, &pair)
 }
 
 /// Whether a pair is refused by the error of the number in it that is outside its limits, by a codec that writes an INTEGER the

@@ -6,16 +6,12 @@ use asn1_samples::{Contact, Visit};
 use asn1_schema::Rules;
 use std::alloc::Global;
 
-/// Whether visits come back: where the last component of the group is absent, with the addition after it and without; with
-/// that addition alone, and without any.
+/// Whether visits come back: without any addition, and with a group whose last component is absent and the addition after it.
 ///
 /// # Errors
 /// Why one did not.
 pub fn visits_come_back<R: Rules>(rules: &R, alloc: Global) -> Result<(), Failure> {
-    made_comes_back(rules, Ok(visit(None, None)))
-        .and(made_comes_back(rules, with_phone(alloc)))
-        .and(made_comes_back(rules, with_note(alloc)))
-        .and(made_comes_back(rules, with_both(alloc)))
+    made_comes_back(rules, Ok(visit(None, None))).and(made_comes_back(rules, with_both(alloc)))
 }
 
 fn visit(contact: Option<Contact>, note: Option<String>) -> Visit {
@@ -26,17 +22,7 @@ fn visit(contact: Option<Contact>, note: Option<String>) -> Visit {
     }
 }
 
-fn with_phone(alloc: Global) -> Result<Visit, Failure> {
-    let contact = contact(alloc, Some(b"12"), None)?;
-    Ok(visit(Some(contact), None))
-}
-
-fn with_note(alloc: Global) -> Result<Visit, Failure> {
-    let note = text(alloc, "ok")?;
-    Ok(visit(None, Some(note)))
-}
-
-fn with_both(alloc: Global) -> Result<Visit, Failure> {
+pub(super) fn with_both(alloc: Global) -> Result<Visit, Failure> {
     let contact = contact(alloc, Some(b"12"), None)?;
     let note = text(alloc, "ok")?;
     Ok(visit(Some(contact), Some(note)))

@@ -21,9 +21,5 @@ fn says_what_is_wrong(rt: HostRuntime) {
     for (error, text) in ERRORS {
         assert_written(&rt, rt.alloc(), error, text);
     }
-}
-
-#[test]
-fn says_that_a_bound_does_not_fit(rt: HostRuntime) {
     assert_written(&rt, rt.alloc(), &TooWide, "bound does not fit");
 }

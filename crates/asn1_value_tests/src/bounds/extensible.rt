@@ -1,33 +1,9 @@
 //! Constraints with an extension marker.
 use super::{LETTERS, permitted};
 use crate::assertions::assert_that;
-use asn1_bounds::{Bounded, Extensible, PermittedAlphabet, Value};
+use asn1_bounds::{Extensible, PermittedAlphabet};
 use std::alloc::Global;
 use std::process::Abort;
-
-/// Asserts that both parts are the same.
-fn assert_same(rt: &impl Abort, part: Extensible<Value>, other: Extensible<Value>) {
-    assert_that(rt, part == other, "the same part");
-}
-
-#[test]
-fn keeps_extensibility_of_both(rt: HostRuntime) {
-    let narrow = Value::new(Bounded::const_new(1, 10));
-    let more = [Value::new(Bounded::const_new(0, 20))];
-    let extensible = Extensible::new_extensible(narrow, &more);
-    let fixed = Extensible::from(narrow);
-    let empty = Extensible::new(narrow).set_extensible(true);
-    assert_same(&rt, extensible.intersect(&fixed), fixed);
-    assert_same(&rt, fixed.intersect(&extensible), fixed);
-    assert_same(&rt, extensible.intersect(&empty), extensible);
-    assert_same(&rt, empty.intersect(&extensible), empty);
-    assert_same(&rt, extensible.set_extensible(false), fixed);
-    assert_same(
-        &rt,
-        empty.extensible_with_constraints(Some(&more)),
-        extensible,
-    );
-}
 
 /// Asserts that both parts have these characters in common, without a marker.
 fn assert_common(

@@ -4,17 +4,8 @@ use asn1_strings::{AlphabetError, ArcError, ObjectIdentifierError, StringError};
 use asn1_values::OutOfRangeError;
 
 #[test]
-fn says_which_unit(rt: HostRuntime) {
-    assert_written(&rt, rt.alloc(), &AlphabetError(7), "unit 7 is not allowed");
-}
-
-#[test]
-fn says_out_of_range(rt: HostRuntime) {
+fn says_what_is_wrong(rt: HostRuntime) {
     assert_written(&rt, rt.alloc(), &OutOfRangeError, "number out of range");
-}
-
-#[test]
-fn says_why_a_text_is_no_string(rt: HostRuntime) {
     let not_allowed = StringError::NotAllowed(AlphabetError(3));
     assert_written(&rt, rt.alloc(), &not_allowed, "unit 3 is not allowed");
     assert_written(&rt, rt.alloc(), &StringError::Memory, "no memory");

@@ -8,17 +8,13 @@ use std::process::Abort;
 fn assert_read(rt: &impl Abort, alloc: Global, text: &str, arcs: &[u32]) {
     let name = ObjectIdentifier::try_from_str(alloc, text).expect(rt, "a dotted text");
     assert_that(rt, name.has_arcs(arcs), "the arcs");
-    assert_that(rt, name.len() == arcs.len(), "the number of arcs");
-    assert_that(rt, !name.is_empty(), "an object identifier with arcs");
     assert_written(rt, alloc, &name, text);
 }
 
 #[test]
 fn dotted_texts_are_read_and_written(rt: HostRuntime) {
     assert_read(&rt, rt.alloc(), "1.2.840.113549", &[1, 2, 840, 113549]);
-    assert_read(&rt, rt.alloc(), "2.999", &[2, 999]);
-    assert_read(&rt, rt.alloc(), "0.0", &[0, 0]);
-    assert_read(&rt, rt.alloc(), "4294967295", &[u32::MAX]);
+    assert_read(&rt, rt.alloc(), "0.4294967295", &[0, u32::MAX]);
 }
 
 /// Whether the text is refused for the arc with this index.
@@ -42,11 +38,4 @@ fn other_texts_are_refused(rt: HostRuntime) {
     for (text, index, why) in REFUSED {
         assert_that(&rt, is_refused(rt.alloc(), text, *index, *why), text);
     }
-}
-
-#[test]
-fn no_arcs_are_written_as_nothing(rt: HostRuntime) {
-    let name = ObjectIdentifier::new(Vec::new(rt.alloc()));
-    assert_that(&rt, name.is_empty(), "no arcs");
-    assert_written(&rt, rt.alloc(), &name, "");
 }

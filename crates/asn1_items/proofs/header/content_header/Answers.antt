@@ -1,6 +1,6 @@
-use Rattle.std.proofs.Common.{ap, ◌∙◌}
+use Rattle.std.proofs.Common.{ap, ◌∙◌, refl}
 use Rattle.asn1_items.specs.Headers.{Header}
-use Rattle.asn1_items.proofs.Headers.{content_header_is}
+use Rattle.asn1_items.proofs.Headers.{content_header_at, content_header_in, content_header_is}
 use Rattle.asn1_items.proofs.Octets.{rest_is}
 use Rattle.asn1_items.proofs.header.content_header.Goals as goal
 
@@ -15,4 +15,14 @@ returns-clause-found c = λ h e.
       content = ap (λ (g : Header). g.content) found;
       size = q ∙ ap (λ (g : Header). g.size) found;
       body = rest_is 10 c.args.bytes.now c.in-len10-up.len_at_least ∙ ap (λ (g : Header). g.body) found;
+    }
+
+pub returns-clause-only : goal.returns-clause-only
+returns-clause-only c =
+    let xs = c.args.bytes.now in
+    let p = c.from_be_bytes.ensures in
+    record {
+      header = content_header_in xs c.in-Some.class;
+      at = content_header_at xs c.in-Some.class c.in-len10-up.len_at_least c.in-Some.ensures.number;
+      is = record { kind = refl; tag = cc; content = refl; size = c.from_be_bytes-2.ensures; body = rest_is 10 xs c.in-len10-up.len_at_least };
     }

@@ -1,6 +1,6 @@
-use Rattle.std.proofs.Common.{ap, ◌∙◌}
+use Rattle.std.proofs.Common.{ap, ◌∙◌, refl}
 use Rattle.asn1_items.specs.Headers.{Header}
-use Rattle.asn1_items.proofs.Headers.{scope_header_is}
+use Rattle.asn1_items.proofs.Headers.{scope_header_at, scope_header_in, scope_header_is}
 use Rattle.asn1_items.proofs.Octets.{rest_is}
 use Rattle.asn1_items.proofs.header.scope_header.Goals as goal
 
@@ -15,4 +15,14 @@ returns-clause-found c = λ h high e.
       content = ap (λ (g : Header). g.content) found;
       size = q ∙ ap (λ (g : Header). g.size) found;
       body = rest_is 9 c.args.bytes.now c.in-len9-up.len_at_least ∙ ap (λ (g : Header). g.body) found;
+    }
+
+pub returns-clause-only : goal.returns-clause-only
+returns-clause-only c = λ high.
+    let xs = c.args.bytes.now in
+    let p = c.from_be_bytes.ensures in
+    record {
+      header = scope_header_in c.args.kind xs c.in-Some.class;
+      at = scope_header_at c.args.kind xs c.in-Some.class high c.in-len9-up.len_at_least c.in-Some.ensures.number;
+      is = record { kind = refl; tag = cc; content = refl; size = c.from_be_bytes-2.ensures; body = rest_is 9 xs c.in-len9-up.len_at_least };
     }

@@ -1,0 +1,88 @@
+//! Values at the front of packed bytes.
+ghost use Rattle.asn1_bench.specs.Fronts.{IsCut};
+ghost use Rattle.std.specs.Prelude.{MatchOption, ℕ};
+
+use asn1_dec::{Decode, DecodeError};
+use asn1_items::find_header;
+use asn1_packed::{PackedDecoder, read_whole};
+use asn1_streams::FrontReader;
+use std::alloc::Global;
+
+/// Reads values from the front of packed bytes, each with at most so many nested scopes.
+///
+/// The item with which an input begins is found by its header, and is read as a whole. Where not all of it is there, or the
+/// input does not begin with an item, the bytes are read as they are, and the error is that of `read_value` of
+/// [`BenchRules`](crate::BenchRules); or [`DecodeError::Custom`] with the text `bad item`, where they are a value of a type that
+/// is no item, as an `Option` that is absent.
+#[derive(Clone, Copy, Debug, Drop)]
+pub struct BenchReader {
+    alloc: Global,
+    depth: usize,
+}
+
+impl BenchReader {
+    ghost use Rattle.asn1_items.specs.Headers.{is_one_item};
+    ghost use Rattle.asn1_model.specs.Meaning.{CanStandInside, own_records};
+    ghost use Rattle.asn1_model.specs.Records.{highest};
+    ghost use Rattle.asn1_packed.specs.Carried.{Carries};
+    ghost use Rattle.asn1_schema.specs.Rules.{ReadsWhole};
+    ghost use Rattle.std.specs.Prelude.{◌≡◌, true};
+
+    /// A reader that may open this many nested scopes, with the allocator that values are made by.
+    pub fn new(alloc: Global, depth: usize) -> BenchReader
+        ensures alloc { result.alloc ≡ alloc }
+        ensures depth { result.depth ≡ depth }
+    {
+        BenchReader { alloc, depth }
+    }
+
+    /// Reads the value whose bytes these are.
+    fn read<D: Decode>(&self, bytes: &[u8]) -> Result<D, DecodeError>
+        ensures { (v : D) → CanStandInside D.meaning → D.meaning.IsOfType v →
+            D.meaning.IsValid (λ own. is_one_item own) v →
+            Carries bytes.now (own_records D.meaning v) →
+            ReadsWhole (highest (own_records D.meaning v)) self.now.depth
+            (λ w. D.eq w v ≡ true) result }
+    {
+        let decoder = PackedDecoder::new(self.alloc, bytes, self.depth);
+        read_whole(decoder)
+    }
+
+    /// Why bytes are not read that begin with no whole item.
+    fn fault<D: Decode>(&self, input: &[u8]) -> DecodeError {
+        match self.read::<D>(input) {
+            Ok(_no_item) => DecodeError::Custom("bad item"),
+            Err(error) => error,
+        }
+    }
+}
+
+impl<D: Decode> FrontReader<D> for BenchReader {
+    ghost use Rattle.asn1_bench.specs.Fronts.{cut_within, packed_fronts};
+
+    ghost fronts = { packed_fronts D.meaning D.eq };
+
+    fn read_front(&self, input: &[u8]) -> Result<(D, usize), DecodeError> {
+        let Some(length) = item_length(input) else {
+            return Err(self.fault::<D>(input));
+        };
+        let value = self.read(&input[..length])?;
+        Ok((value, length))
+    }
+
+    ghost lawful = { record {
+      is_cut = λ reader bytes v n front. front.cut;
+      within = λ reader bytes n cut. cut_within bytes n cut;
+    } };
+}
+
+/// How long the item is with which the bytes begin, where all of it is there.
+fn item_length(bytes: &[u8]) -> Option<usize>
+    ensures { MatchOption result ((n : ℕ) → ¬ IsCut bytes.now n) (IsCut bytes.now) }
+{
+    let Ok(header) = find_header(bytes) else {
+        return None;
+    };
+    let (_inside, rest) = header.body.split_at_checked(header.size as usize)?;
+    Some(bytes.len() - rest.len())
+}

@@ -1,0 +1,4 @@
+mod Complements
+mod Found
+mod Septets
+mod Wrapping

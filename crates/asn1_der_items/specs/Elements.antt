@@ -1,0 +1,36 @@
+-- An element (X.690, 8.1.1): identifier octets, length octets and contents octets.
+use Rattle.std.specs.Prelude.{◌≡◌, ℕ, Bool, Option, None, Some, List, ◌++◌, length, nat_le, take, drop, if◌then◌else◌}
+use Rattle.std.specs.Option.{option_and_then}
+use Rattle.asn1_tags.specs.declared.tags.Tag.{Tag}
+use Rattle.asn1_der_items.specs.Base128.{Front}
+use Rattle.asn1_der_items.specs.Identifiers.{Identified, IsIdentifier, identifier_at}
+use Rattle.asn1_der_items.specs.Lengths.{IsLength, length_at}
+
+-- The bytes are one element of this tag and form, with these contents octets.
+pub record IsElement (t : Tag) (constructed : Bool) (contents bytes : List ℕ) : Type 0 where
+  pub identifier : List ℕ
+  pub size : List ℕ
+  pub is_identifier : IsIdentifier t constructed identifier
+  pub is_size : IsLength (length contents) size
+  pub are : bytes ≡ identifier ++ (size ++ contents)
+
+-- an element that was read in front of some bytes, and the bytes after it
+pub record Element : Type 0 where
+  pub tag : Tag
+  pub constructed : Bool
+  pub contents : List ℕ
+  pub rest : List ℕ
+
+-- the element of this identifier, after its length
+abbrev pub of_length : Identified → Front → Option Element
+of_length i f = if nat_le f.number (length f.rest)
+    then Some (record { tag = i.tag; constructed = i.constructed; contents = take f.number f.rest; rest = drop f.number f.rest })
+    else None
+
+-- the element of this identifier
+abbrev pub of_identifier : Identified → Option Element
+of_identifier i = option_and_then (of_length i) (length_at i.rest)
+
+-- the element with which the bytes begin
+abbrev pub element_at : List ℕ → Option Element
+element_at bytes = option_and_then of_identifier (identifier_at bytes)

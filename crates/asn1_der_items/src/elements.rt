@@ -1,0 +1,79 @@
+//! An element: identifier octets, length octets and contents octets.
+ghost use Rattle.asn1_items.specs.Numbers.{Appended};
+ghost use Rattle.asn1_der_items.specs.Elements.{Element as Seen, IsElement, element_at};
+ghost use Rattle.asn1_items.specs.declared.error.BufferError.TheVariants.{Memory};
+ghost use Rattle.std.specs.Prelude.{◌≡◌, ◌++◌, IfOk, IsOk, List, MatchResult, Some, ℕ, length};
+
+use crate::identifiers::{append_identifier, read_identifier};
+use crate::lengths::{append_length, read_length};
+use asn1_items::{BufferError, ItemError};
+use asn1_tags::Tag;
+
+/// An element that was read.
+#[derive(Clone, Copy, Debug)]
+pub struct Element<'a> {
+    /// The tag.
+    pub tag: Tag,
+    /// Whether it holds other elements, and no primitive contents.
+    pub constructed: bool,
+    /// The contents octets.
+    pub contents: &'a [u8],
+    /// The bytes after the element.
+    pub rest: &'a [u8],
+}
+
+/// The element with which the bytes begin. Nothing is copied or reserved by the length that it tells.
+///
+/// # Errors
+/// [`ItemError::Missing`] where the bytes end before the element does, with the number of bytes that are missing of the part
+/// that is read; and [`ItemError::Malformed`] where the number of the tag is 2^32 or more or not the shortest, and where the
+/// length is indefinite, 2^64 or more, or not the shortest.
+pub fn find_element(bytes: &[u8]) -> Result<Element<'_>, ItemError>
+    ensures only { IfOk result (λ e. element_at bytes.now ≡ Some (record {
+      tag = e.tag;
+      constructed = e.constructed;
+      contents = e.contents.now;
+      rest = e.rest.now;
+    })) }
+    ensures found { (e : Seen) → element_at bytes.now ≡ Some e → IsOk result }
+{
+    let identifier = read_identifier(bytes)?;
+    let length = read_length(identifier.rest)?;
+    let size = length.number as usize;
+    let Some((contents, rest)) = length.rest.split_at_checked(size) else {
+        return Err(ItemError::Missing(size - length.rest.len()));
+    };
+    Ok(Element {
+        tag: identifier.tag,
+        constructed: identifier.constructed,
+        contents,
+        rest,
+    })
+}
+
+/// Makes an element of the bytes from a place on, which become its contents octets. They are moved once.
+///
+/// # Errors
+/// [`BufferError::Memory`], and [`BufferError::NotOpen`] where there are fewer bytes. After an error nothing is promised about the
+/// bytes.
+pub fn wrap(
+    bytes: &mut Vec<u8>,
+    start: usize,
+    tag: Tag,
+    constructed: bool,
+) -> Result<(), BufferError>
+    ensures { (before contents : List ℕ) → bytes.old.items ≡ before ++ contents →
+        start ≡ length before →
+        MatchResult result
+        (λ _. Appended (IsElement tag constructed contents) before bytes.new.items)
+        (λ e. e ≡ Memory) }
+{
+    if bytes.len() < start {
+        return Err(BufferError::NotOpen);
+    }
+    let size = bytes.len() - start;
+    append_identifier(bytes, tag, constructed)?;
+    append_length(bytes, size)?;
+    bytes[start..].rotate_left(size);
+    Ok(())
+}

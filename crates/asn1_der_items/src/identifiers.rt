@@ -1,0 +1,80 @@
+//! The identifier octets of an element.
+ghost use Rattle.asn1_items.specs.Numbers.{Appended};
+ghost use Rattle.asn1_der_items.specs.Identifiers.{Identified as Seen, IsIdentifier, form_bit, identifier_at};
+ghost use Rattle.asn1_tags.specs.Tags.{class_number};
+ghost use Rattle.std.specs.Prelude.{◌≡◌, ◌+◌, ◌*◌, IfOk, IsOk, Some};
+
+use crate::base128::{append_base128, read_base128};
+use asn1_items::ItemError;
+use asn1_tags::{Class, Tag};
+use std::alloc::AllocError;
+
+/// A tag that was read with its form, and the bytes after it.
+#[derive(Clone, Copy)]
+pub(crate) struct Identified<'a> {
+    pub(crate) tag: Tag,
+    pub(crate) constructed: bool,
+    pub(crate) rest: &'a [u8],
+}
+
+/// Appends a tag, of a primitive or a constructed element.
+pub(crate) fn append_identifier(
+    bytes: &mut Vec<u8>,
+    tag: Tag,
+    constructed: bool,
+) -> Result<(), AllocError>
+    ensures { IfOk result (λ _.
+        Appended (IsIdentifier tag constructed) bytes.old.items bytes.new.items) }
+{
+    let first = first_octet(tag.class, constructed);
+    if tag.value < 31 {
+        bytes.push(first + tag.value as u8)?;
+        return Ok(());
+    }
+    bytes.push(first + 31)?;
+    append_base128(bytes, u64::from(tag.value))
+}
+
+/// The first octet without a number in bits 5 to 1.
+fn first_octet(class: Class, constructed: bool) -> u8
+    ensures { result ≡ class_number class * 64 + form_bit constructed }
+{
+    if constructed {
+        class as u8 * 64 + 32
+    } else {
+        class as u8 * 64
+    }
+}
+
+/// Reads a tag and its form.
+pub(crate) fn read_identifier(bytes: &[u8]) -> Result<Identified<'_>, ItemError>
+    ensures only { IfOk result (λ i. identifier_at bytes.now ≡
+        Some (record { tag = i.tag; constructed = i.constructed; rest = i.rest.now })) }
+    ensures found { (i : Seen) → identifier_at bytes.now ≡ Some i → IsOk result }
+{
+    let [first, rest @ ..] = bytes else {
+        return Err(ItemError::Missing(1));
+    };
+    let Some(class) = Class::from_u8(*first / 64) else {
+        return Err(ItemError::Malformed);
+    };
+    let constructed = *first / 32 % 2 == 1;
+    let low = *first % 32;
+    if low < 31 {
+        let value = u32::from(low);
+        return Ok(Identified {
+            tag: Tag { class, value },
+            constructed,
+            rest,
+        });
+    }
+    let front = read_base128(rest)?;
+    match u32::try_from(front.number) {
+        Ok(value) if value >= 31 => Ok(Identified {
+            tag: Tag { class, value },
+            constructed,
+            rest: front.rest,
+        }),
+        _ => Err(ItemError::Malformed),
+    }
+}

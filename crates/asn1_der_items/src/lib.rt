@@ -1,0 +1,38 @@
+//! Elements, the bytes of DER (X.690): identifier octets, length octets and contents octets.
+//!
+//! | Item | What it is |
+//! |---|---|
+//! | [`find_element`], [`Element`] | the element with which some bytes begin |
+//! | [`wrap`] | makes an element of the bytes from a place on |
+//! | [`append_integer`], [`read_integer`] | the contents octets of an INTEGER and an ENUMERATED |
+//! | [`laws`] | what no other contract names |
+//!
+//! The errors are those of `asn1_items`.
+//!
+//! What the contracts promise, and the words that they use:
+//!
+//! - The bytes of an element are a tag, whether it is constructed, a length and the contents octets (`IsElement` of
+//!   `specs/Elements.antt`). A tag has the shortest identifier octets (`IsIdentifier` of `specs/Identifiers.antt`, with the numbers to
+//!   the base 128 of `specs/Base128.antt`), and a length is definite and has the fewest octets (`IsLength` of `specs/Lengths.antt`).
+//!   [`wrap`] makes these bytes of contents that were written first.
+//! - Which element bytes begin with is a function of the bytes (`element_at`). [`find_element`] answers it where there is one
+//!   (`found`), and nothing else (`only`). The bytes of an element are found as that element, whatever follows
+//!   ([`laws::elements_are_found`]).
+//! - An integer is in two's complement with the fewest octets (`IsInteger` of `specs/Integers.antt`). It is read from these octets
+//!   alone (`only`).
+//!
+//! A length that bytes tell reserves no memory, and nothing is copied.
+#![tactic(auto)]
+
+mod base128;
+mod elements;
+mod identifiers;
+mod integers;
+pub mod laws;
+mod lengths;
+
+pub use elements::{Element, find_element, wrap};
+pub use integers::{append_integer, read_integer};
+
+#[cfg(test)]
+mod tests;

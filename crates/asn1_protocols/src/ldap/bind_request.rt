@@ -1,0 +1,118 @@
+//! `BindRequest ::= [APPLICATION 0] SEQUENCE { version INTEGER (1..127), name LDAPDN, simple [0] OCTET STRING }` (RFC 4511, 4.2),
+//! of whose kinds of authentication only one is here.
+ghost use Rattle.std.specs.Prelude.{Some, [], codes, pos, ◌∷◌, ◌≡◌};
+ghost use Rattle.asn1_schema.specs.Words.{CanStandInside, Range, application, constructed_agrees, constructed_type_under, context, holding, lines, number, octet, own_records, required, scalar, sequence, sequence_head, tagged, unconstrained, units, universal, untagged, values_of};
+
+use asn1_schema::{
+    AsnType, Class, ConstrainedInteger, Constraints, ConstructedType, Encode, EncodeError,
+    EncodeFields, Encoder, Field, FieldTable, Identifier, OctetString, Tag, TypeTable,
+};
+
+/// `INTEGER (1..127)`
+pub type Version = ConstrainedInteger<1, 127>;
+
+/// Who asks. The type has a tag of its own in place of that of a SEQUENCE.
+#[derive(PartialEq, Eq, Debug, Drop)]
+pub struct BindRequest {
+    /// `version INTEGER (1..127)`
+    pub version: Version,
+    /// `name LDAPDN`
+    pub name: OctetString,
+    /// `simple [0] OCTET STRING`
+    pub simple: OctetString,
+}
+
+/// `[APPLICATION 0]`
+pub(crate) const BIND_REQUEST: Tag = Tag {
+    class: Class::Application,
+    value: 0,
+};
+
+const SIMPLE: Tag = Tag {
+    class: Class::Context,
+    value: 0,
+};
+
+impl FieldTable for BindRequest {
+    ghost components = { sequence (
+        required (codes "version") (λ v. v.version)
+        (untagged ⟦<Version as AsnType>⟧.meaning) ∷
+        required (codes "name") (λ v. v.name)
+        (untagged ⟦<OctetString as AsnType>⟧.meaning) ∷
+        required (codes "simple") (λ v. v.simple)
+        (tagged (context 0) ⟦<OctetString as AsnType>⟧.meaning) ∷ []) };
+
+    fn field_count() -> usize {
+        3
+    }
+
+    fn field_at(place: usize) -> Option<Field<'static>> {
+        match place {
+            0 => Some(Field::new_required_type::<Version>(0, "version")),
+            1 => Some(Field::new_required_type::<OctetString>(1, "name")),
+            2 => Some(Field::new_required_type_with_tag::<OctetString>(2, SIMPLE, "simple")),
+            _ => None,
+        }
+    }
+
+    fn marker_place() -> Option<usize> {
+        None
+    }
+}
+
+impl AsnType for BindRequest {
+    ghost meaning = { constructed_type_under ⟦<BindRequest as FieldTable>⟧.components (application 0) (codes "BindRequest") };
+
+    fn table() -> TypeTable {
+        TypeTable::new(BIND_REQUEST, Identifier(Some("BindRequest")))
+    }
+
+    fn is_present(&self) -> bool {
+        true
+    }
+}
+
+impl ConstructedType for BindRequest {
+    ghost agrees = { constructed_agrees };
+}
+
+/// A `BindRequest` can be inside other types.
+pub fn bind_request_can_stand_inside()
+    ensures { CanStandInside ⟦<BindRequest as AsnType>⟧.meaning }
+{}
+
+impl Encode for BindRequest {
+    fn encode_with_tag_and_constraints<E: Encoder>(
+        &self,
+        encoder: &mut E,
+        tag: Tag,
+        _constraints: &Constraints<'_>,
+        name: Identifier,
+    ) -> Result<(), EncodeError> {
+        encoder.encode_sequence(tag, self, name)
+    }
+}
+
+impl EncodeFields for BindRequest {
+    fn encode_field<E: Encoder>(&self, place: usize, encoder: &mut E) -> Result<(), EncodeError> {
+        match place {
+            0 => self.version.encode(encoder),
+            1 => self.name.encode(encoder),
+            2 => self.simple.encode_with_tag(encoder, SIMPLE),
+            _ => Ok(()),
+        }
+    }
+}
+
+/// What a request is to every codec: a SEQUENCE under the type's own tag.
+pub fn bind_request_records(request: &BindRequest)
+    ensures { request.now.version ≡ pos 3 → request.now.name ≡ [] →
+        request.now.simple ≡ codes "x" →
+        own_records ⟦<BindRequest as AsnType>⟧.meaning request.now ≡
+        holding (sequence_head (application 0) (lines ⟦<BindRequest as FieldTable>⟧.components)
+        (Some (codes "BindRequest"))) (scalar (universal 2)
+        (values_of (Range (Some (pos 1)) (Some (pos 127)))) (Some (codes "INTEGER"))
+        (number (pos 3)) ∷ scalar (universal 4) unconstrained (Some (codes "OCTET_STRING"))
+        (units octet []) ∷ scalar (context 0) unconstrained (Some (codes "OCTET_STRING"))
+        (units octet (codes "x")) ∷ []) ∷ [] }
+{}

@@ -1,0 +1,58 @@
+//! `Date ::= [APPLICATION 3] IMPLICIT VisibleString -- YYYYMMDD`
+ghost use Rattle.std.specs.Prelude.{◌≡◌, [], ◌∷◌, All, IsTrue, Some, codes};
+ghost use Rattle.asn1_schema.specs.Words.{CanStandInside, application, own_records, scalar, unconstrained, units, visible};
+ghost use Rattle.asn1_schema.specs.model.Kinds.{scalar_type, under_own_name};
+ghost use Rattle.asn1_schema.specs.strings.Alphabets.{is_visible};
+
+use asn1_schema::{
+    AsnType, Class, Constraints, Encode, EncodeError, Encoder, Identifier, Tag, TypeTable,
+    VisibleString,
+};
+
+/// A day. That its text is one is left to whoever makes it.
+#[derive(PartialEq, Eq, Debug, Drop)]
+pub struct Date(pub VisibleString);
+
+const DATE: Tag = Tag {
+    class: Class::Application,
+    value: 3,
+};
+
+impl AsnType for Date {
+    ghost meaning = { under_own_name (record (scalar_type (application 3) unconstrained (Some (codes "Date")) (λ date. units visible date.0)) {
+      IsOfType = λ date. All (λ unit. IsTrue (is_visible unit)) date.0;
+    }) };
+
+    fn table() -> TypeTable {
+        TypeTable::new(DATE, Identifier(Some("Date")))
+    }
+
+    fn is_present(&self) -> bool {
+        true
+    }
+}
+
+/// A `Date` can be inside other types.
+pub fn date_can_stand_inside()
+    ensures { CanStandInside ⟦<Date as AsnType>⟧.meaning }
+{}
+
+impl Encode for Date {
+    fn encode_with_tag_and_constraints<E: Encoder>(
+        &self,
+        encoder: &mut E,
+        tag: Tag,
+        constraints: &Constraints<'_>,
+        name: Identifier,
+    ) -> Result<(), EncodeError> {
+        encoder.encode_visible_string(tag, constraints, &self.0, name.or(Self::identifier()))
+    }
+}
+
+/// What a day is to every codec.
+pub fn date_records(date: &Date)
+    ensures { date.now.0 ≡ codes "19710917" →
+        own_records ⟦<Date as AsnType>⟧.meaning date.now ≡
+        scalar (application 3) unconstrained (Some (codes "Date"))
+        (units visible (codes "19710917")) ∷ [] }
+{}

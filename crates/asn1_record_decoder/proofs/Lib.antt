@@ -1,4 +1,0 @@
-mod InRecords
-mod Names
-mod Numbers
-mod Standing

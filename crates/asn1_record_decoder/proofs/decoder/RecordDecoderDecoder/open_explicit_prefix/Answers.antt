@@ -1,6 +1,0 @@
-use Rattle.std.proofs.Common.{refl}
-use Rattle.asn1_model.specs.Records.{prefix}
-use Rattle.asn1_record_decoder.proofs.decoder.RecordDecoderDecoder.open_explicit_prefix.Goals as goal
-
-pub returns-clause-read : goal.returns-clause-read
-returns-clause-read c = c.open_in_order.ensures.read (prefix c.args.tag) (λ n. refl) (λ n. refl)

@@ -1,5 +1,0 @@
-pub mod Carrying
-mod Groups
-pub mod Records
-pub mod WithoutConstraints
-mod Writing

@@ -1,0 +1,68 @@
+//! `Open`.
+use asn1_codec_tests::made::{letters, text, units};
+use asn1_codec_tests::{Failure, comes_back, made_comes_back, needs_depth};
+use asn1_open::Open;
+use asn1_schema::{Implicit, InstanceOf, Integer, Rules};
+use std::alloc::Global;
+
+/// A NULL with this many INSTANCE OF around it, one in another, each of the identifier 1, 3.
+///
+/// # Errors
+/// [`Failure::Memory`].
+pub fn null_inside_instances(alloc: Global, around: usize) -> Result<Open, Failure> {
+    let mut value = Open::Null;
+    for _index in 0..around {
+        value = instance(alloc, value)?;
+    }
+    Ok(value)
+}
+
+fn instance(alloc: Global, value: Open) -> Result<Open, Failure> {
+    let type_id = units(alloc, &[1, 3])?;
+    match Box::new(alloc, InstanceOf { type_id, value }) {
+        Ok(instance) => Ok(Open::InstanceOf(instance)),
+        Err(_) => Err(Failure::Memory),
+    }
+}
+
+/// Whether each alternative of an `Open` comes back, an INSTANCE OF around a NULL among them.
+///
+/// # Errors
+/// Why one did not.
+pub fn opens_come_back<R: Rules>(rules: &R, alloc: Global) -> Result<(), Failure> {
+    comes_back(rules, &Open::Null)
+        .and(comes_back(rules, &Open::Bool(true)))
+        .and(comes_back(rules, &Open::Integer(Integer::from_i128(-300))))
+        .and(made_comes_back(rules, units(alloc, &[true, false]).map(Open::BitString)))
+        .and(made_comes_back(rules, units(alloc, &[1, 3]).map(Open::ObjectIdentifier)))
+        .and(made_comes_back(rules, units(alloc, &[7u8]).map(Open::OctetString)))
+        .and(made_comes_back(rules, text(alloc, "Ann").map(universal)))
+        .and(made_comes_back(rules, letters(alloc, b"Ann").map(Open::VisibleString)))
+        .and(made_comes_back(rules, null_inside_instances(alloc, 1)))
+}
+
+fn universal(text: String) -> Open {
+    Open::UniversalString(Implicit::new(text))
+}
+
+/// Whether an INSTANCE OF around a NULL takes four scopes, and each further one three more: a hundred 301. None is written or
+/// read with one less.
+///
+/// # Errors
+/// Why one was not.
+pub fn opens_need_their_depth<R: Rules>(rules: &R, alloc: Global) -> Result<(), Failure> {
+    needs_depth(rules, &Open::Null, 1)
+        .and(instances(rules, alloc, 1, 4))
+        .and(instances(rules, alloc, 2, 7))
+        .and(instances(rules, alloc, 100, 301))
+}
+
+fn instances<R: Rules>(
+    rules: &R,
+    alloc: Global,
+    around: usize,
+    depth: usize,
+) -> Result<(), Failure> {
+    let value = null_inside_instances(alloc, around)?;
+    needs_depth(rules, &value, depth)
+}
