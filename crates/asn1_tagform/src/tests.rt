@@ -30,9 +30,7 @@ const TWICE: &[u8] = &[
 const LEVEL: &[u8] = &[1, 2, 0, 0, 0, 1, 2, 0, 0, 0, 2, 0, 1];
 
 /// A `Profile` of which three bytes are missing inside.
-const CUT: &[u8] = &[
-    2, 0, 0, 0, 0, 16, 0, 0, 0, 13, 1, 2, 0, 0, 0, 1, 2, 0, 0, 0,
-];
+const CUT: &[u8] = &[2, 0, 0, 0, 0, 16, 0, 0, 0, 13, 1, 2, 0, 0, 0, 1, 2, 0, 0, 0];
 
 /// A profile of level 1 with this contact.
 fn profile(contact: Option<Contact>) -> Profile {
