@@ -26,6 +26,12 @@ const TWICE: &[u8] = &[
     0, 0, 2, 0, 1,
 ];
 
+/// The level alone.
+const LEVEL: &[u8] = &[1, 2, 0, 0, 0, 1, 2, 0, 0, 0, 2, 0, 1];
+
+/// A `Profile` of which three bytes are missing inside.
+const CUT: &[u8] = &[2, 0, 0, 0, 0, 16, 0, 0, 0, 13, 1, 2, 0, 0, 0, 1, 2, 0, 0, 0];
+
 /// A profile of level 1 with this contact.
 fn profile(contact: Option<Contact>) -> Profile {
     Profile {
@@ -87,7 +93,7 @@ fn other_bytes_are_refused(rt: HostRuntime) {
     let alloc = rt.alloc();
     let bad_item = DecodeError::Custom("bad item");
     assert_refused(&rt, alloc, TWICE, bad_item);
-    assert_refused(&rt, alloc, &BARE[10..], bad_item);
+    assert_refused(&rt, alloc, LEVEL, bad_item);
     let missing = DecodeError::Incomplete(Needed::Size(3));
-    assert_refused(&rt, alloc, &BARE[..20], missing);
+    assert_refused(&rt, alloc, CUT, missing);
 }
