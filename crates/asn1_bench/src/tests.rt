@@ -9,5 +9,6 @@ mod memory;
 mod no_memory;
 mod refusals;
 mod samples;
+mod sets;
 mod streams;
 mod types;

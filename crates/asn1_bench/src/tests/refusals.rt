@@ -21,7 +21,7 @@ use std::process::Abort;
 const BAD_ITEM: DecodeError = DecodeError::Custom("bad item");
 
 /// Asserts why bytes are no value of the type.
-fn refused<T: Decode>(
+pub(super) fn refused<T: Decode>(
     rt: &impl Abort,
     alloc: Global,
     case: &str,
