@@ -1,42 +1,78 @@
-//! The sample types.
+//! The sample types, over the packed codec and over the tag form, and from each to the other.
 use crate::rules::BenchRules;
 use crate::tests::bytes::NULL;
 use crate::tests::cases::passes;
 use asn1_sample_tests::{depth, samples};
+use asn1_schema::Rules;
+use asn1_tagform::TagRules;
+use std::alloc::Global;
+use std::process::Abort;
 
-#[test]
-fn samples_come_back(rt: HostRuntime) {
-    let alloc = rt.alloc();
-    let rules = BenchRules::new(alloc);
-    passes(&rt, "persons", samples::persons_come_back(&rules, alloc));
-    passes(&rt, "profiles", samples::profiles_come_back(&rules, alloc));
-    passes(&rt, "visits", samples::visits_come_back(&rules, alloc));
-    passes(&rt, "settings", samples::settings_come_back(&rules));
+fn sequences_come_back<R: Rules>(rt: &impl Abort, alloc: Global, rules: &R) {
+    passes(rt, "persons", samples::persons_come_back(rules, alloc));
+    passes(rt, "profiles", samples::profiles_come_back(rules, alloc));
+    passes(rt, "visits", samples::visits_come_back(rules, alloc));
+    passes(rt, "settings", samples::settings_come_back(rules));
     passes(
-        &rt,
-        "envelopes",
-        samples::envelopes_come_back(&rules, alloc, NULL),
+        rt,
+        "bodies",
+        samples::envelopes_come_back(rules, alloc, NULL),
     );
-    passes(&rt, "plates", samples::plates_come_back(&rules, alloc));
-    passes(&rt, "notices", samples::notices_come_back(&rules, alloc));
-    passes(&rt, "pairs", samples::pairs_come_back(&rules));
+    passes(rt, "plates", samples::plates_come_back(rules, alloc));
+    passes(rt, "notices", samples::notices_come_back(rules, alloc));
+    passes(rt, "pairs", samples::pairs_come_back(rules));
     passes(
-        &rt,
+        rt,
         "elevens",
-        samples::pairs_outside_limits_are_refused(&rules),
+        samples::pairs_outside_limits_are_refused(rules),
     );
 }
 
+fn choices_and_sets_come_back<R: Rules>(rt: &impl Abort, alloc: Global, rules: &R) {
+    passes(
+        rt,
+        "alternatives",
+        samples::alternatives_come_back(rules, alloc),
+    );
+    passes(rt, "badges", samples::badges_come_back(rules, alloc));
+}
+
+fn values_that_hold_themselves_come_back<R: Rules>(rt: &impl Abort, alloc: Global, rules: &R) {
+    passes(rt, "nodes", samples::nodes_come_back(rules, alloc));
+    passes(rt, "opens", samples::opens_come_back(rules, alloc));
+    passes(
+        rt,
+        "instances",
+        samples::opens_need_their_depth(rules, alloc),
+    );
+    passes(rt, "filters", samples::filters_come_back(rules, alloc));
+    passes(rt, "nested", samples::nested_values_come_back(rules, alloc));
+    passes(rt, "depth", depth::samples_need_their_depth(rules, alloc));
+}
+
 #[test]
-fn choices_sets_and_nodes_come_back(rt: HostRuntime) {
-    let alloc = rt.alloc();
-    let rules = BenchRules::new(alloc);
+fn samples_come_back(rt: HostRuntime) {
+    let rules = BenchRules::new(rt.alloc());
+    sequences_come_back(&rt, rt.alloc(), &rules);
+    choices_and_sets_come_back(&rt, rt.alloc(), &rules);
+    values_that_hold_themselves_come_back(&rt, rt.alloc(), &rules);
+}
+
+#[test]
+fn samples_come_back_without_presence_marks(rt: HostRuntime) {
+    let rules = TagRules::new(rt.alloc());
+    sequences_come_back(&rt, rt.alloc(), &rules);
+    choices_and_sets_come_back(&rt, rt.alloc(), &rules);
+    values_that_hold_themselves_come_back(&rt, rt.alloc(), &rules);
+}
+
+#[test]
+fn samples_go_to_the_other_codec_and_back(rt: HostRuntime) {
+    let packed = BenchRules::new(rt.alloc());
+    let tagged = TagRules::new(rt.alloc());
     passes(
         &rt,
-        "alternatives",
-        samples::alternatives_come_back(&rules, alloc),
+        "there and back",
+        samples::samples_go_there_and_back(&packed, &tagged, rt.alloc(), NULL),
     );
-    passes(&rt, "badges", samples::badges_come_back(&rules, alloc));
-    passes(&rt, "nodes", samples::nodes_come_back(&rules, alloc));
-    passes(&rt, "depth", depth::samples_need_their_depth(&rules, alloc));
 }
