@@ -10,9 +10,9 @@ use Rattle.asn1_items.specs.Headers.{Header, header_at, is_one_item, kind_of}
 use Rattle.asn1_items.specs.Items.{HasBytes, HaveBytes, packed_marks, written_with}
 use Rattle.asn1_model.proofs.SameRecords.{same-mark}
 use Rattle.asn1_model.proofs.SameUpToOrder.{same_as_cons, same_as_none}
-use Rattle.asn1_model.specs.Meaning.{Meaning, CanStandInside, own_records}
+use Rattle.asn1_model.specs.Meaning.{Meaning, IsWellTagged, own_records}
 use Rattle.asn1_model.specs.Orders.{Same, SameRecords, equal}
-use Rattle.asn1_model.specs.Records.{Name, Record, held, is_mark, mark, more, none, raw, scalar, scope}
+use Rattle.asn1_model.specs.Records.{Name, Record, held, is_presence_mark, presence_mark, more, none, open_type, scalar, scope}
 use Rattle.asn1_model.specs.Tags.{IsOneRecord, Tags, head_tag}
 use Rattle.asn1_model.specs.WellFormed.{AreWellFormed, IsWellFormed}
 use Rattle.asn1_packed.specs.Carried.{Carries, TakesBytes}
@@ -31,7 +31,7 @@ cut_remains bytes behind n cut = record {
 front_remains : {V : Type 0} (m : Meaning V) (bytes behind : List ℕ) (v : V) (n : ℕ) → IsFrontOf m bytes v n → IsFrontOf m (bytes ++ behind) v n
 front_remains m bytes behind v n front = record {
   cut = cut_remains bytes behind n front.cut;
-  can_stand_inside = front.can_stand_inside;
+  is_well_tagged = front.is_well_tagged;
   of_type = front.of_type;
   valid = front.valid;
   carried = subst (λ l. Carries l (own_records m v)) (sym (take-append-le n bytes behind (cut_within bytes n front.cut))) front.carried;
@@ -52,11 +52,11 @@ steady m eq reader = record {
 }
 
 -- the bytes of an open type in a well-formed record are one item
-taken : (n : Name) (own : List ℕ) (s : Record) → Same (raw n own) s → IsWellFormed (λ own. is_one_item own) s → is_one_item own ≡ true
+taken : (n : Name) (own : List ℕ) (s : Record) → Same (open_type n own) s → IsWellFormed (λ own. is_one_item own) s → is_one_item own ≡ true
 taken n own _ (equal _) well_formed = well_formed
 
 -- a record that is no presence mark is one item
-item_of : (r s : Record) (bytes : List ℕ) → Same r s → is_mark s ≡ false → IsWellFormed (λ own. is_one_item own) s → HasBytes (written_with packed_marks) r bytes → IsOneItem bytes []
+item_of : (r s : Record) (bytes : List ℕ) → Same r s → is_presence_mark s ≡ false → IsWellFormed (λ own. is_one_item own) s → HasBytes (written_with packed_marks) r bytes → IsOneItem bytes []
 item_of (scalar t c n x) s bytes same no_mark well_formed p = record {
   header = record { kind = 1; tag = t; content = content_kind x; size = length p.inside; body = p.inside ++ [] };
   at = content_item t (content_kind x) p.inside bytes [] p.item;
@@ -71,8 +71,8 @@ item_of (scope h rs) s bytes same no_mark well_formed p = record {
   body = refl;
   size = refl;
 }
-item_of (raw n own) s bytes same no_mark well_formed p = subst (λ l. IsOneItem l []) (sym p.0) (one_item own [] (taken n own s same well_formed))
-item_of (mark m) s bytes same no_mark well_formed p = let no : true ≡ false = same-mark same ∙ no_mark in cc
+item_of (open_type n own) s bytes same no_mark well_formed p = subst (λ l. IsOneItem l []) (sym p.0) (one_item own [] (taken n own s same well_formed))
+item_of (presence_mark m) s bytes same no_mark well_formed p = let no : true ≡ false = same-mark same ∙ no_mark in cc
 
 -- and a cut of all of its bytes
 cut_of_item : (bytes : List ℕ) → IsOneItem bytes [] → IsCut bytes (length bytes)
@@ -85,7 +85,7 @@ cut_of_item bytes item =
       long = omega (arith, long);
     }
 
-cut_alone : (r s : Record) (bytes : List ℕ) → Same r s → is_mark s ≡ false → IsWellFormed (λ own. is_one_item own) s → HaveBytes (written_with packed_marks) (more r none) bytes → IsCut bytes (length bytes)
+cut_alone : (r s : Record) (bytes : List ℕ) → Same r s → is_presence_mark s ≡ false → IsWellFormed (λ own. is_one_item own) s → HaveBytes (written_with packed_marks) (more r none) bytes → IsCut bytes (length bytes)
 cut_alone r s bytes same no_mark well_formed p =
     let is : bytes ≡ p.first = p.are ∙ ap (λ l. p.first ++ l) p.are_others ∙ append-nil p.first in
     subst (λ l. IsCut l (length l)) (sym is) (cut_of_item p.first (item_of r s p.first same no_mark well_formed p.is_first))
@@ -99,11 +99,11 @@ cut_of_one bytes rs tags one well_formed carried =
     let alone : carried.exactly ≡ begins.first ∷ [] = begins.is ∙ ap (λ l. begins.first ∷ l) (same_as_none begins.others begins.same_others) in
     cut_alone begins.first one.item bytes begins.same_first one.no_mark well.0 (subst (λ l. HaveBytes (written_with packed_marks) (held l) bytes) alone carried.have_bytes)
 
-pub belongs : {V : Type 0} (m : Meaning V) (eq : V → V → Bool) (reader : BenchReader) → CanStandInside m → BelongsTo (packed_fronts m eq) reader packed_format m eq
+pub belongs : {V : Type 0} (m : Meaning V) (eq : V → V → Bool) (reader : BenchReader) → IsWellTagged m → BelongsTo (packed_fronts m eq) reader packed_format m eq
 belongs m eq reader can = record {
   whole = λ output v of_type valid carried. record {
     cut = cut_of_one output.items (own_records m v) _ (m.one_record v m.tag m.constraints m.name can.0 can.1) (m.well_formed (λ own. is_one_item own) v m.tag m.constraints m.name valid) carried;
-    can_stand_inside = can;
+    is_well_tagged = can;
     of_type = of_type;
     valid = valid;
     carried = subst (λ l. Carries l (own_records m v)) (sym (take-length output.items)) carried;
@@ -114,7 +114,7 @@ belongs m eq reader can = record {
 
 -- in the packed form each presence mark has a byte
 pub takes_bytes : (r : Record) → TakesBytes packed_marks r
-takes_bytes (mark m) = λ none. cc
+takes_bytes (presence_mark m) = λ none. cc
 takes_bytes (scalar t c n x) = tt
 takes_bytes (scope h rs) = tt
-takes_bytes (raw n own) = tt
+takes_bytes (open_type n own) = tt

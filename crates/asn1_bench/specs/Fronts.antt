@@ -3,7 +3,7 @@ use Rattle.std.specs.Prelude.{◌≡◌, ◌≤◌, ◌+◌, ℕ, Bool, List, So
 use Rattle.std.proofs.Common.{arith}
 use Rattle.asn1_bench.specs.declared.reader.BenchReader.{BenchReader}
 use Rattle.asn1_items.specs.Headers.{Header, header_at, is_one_item}
-use Rattle.asn1_model.specs.Meaning.{Meaning, CanStandInside, own_records}
+use Rattle.asn1_model.specs.Meaning.{Meaning, IsWellTagged, own_records}
 use Rattle.asn1_model.specs.Records.{highest}
 use Rattle.asn1_packed.specs.Carried.{Carries}
 use Rattle.asn1_streams.specs.Fronts.{Fronts}
@@ -21,7 +21,7 @@ cut_within bytes n cut = omega (arith, cut.all_there, cut.long)
 -- The item is that of a valid value, of a type that can be inside others.
 pub record IsFrontOf {V : Type 0} (m : Meaning V) (bytes : List ℕ) (v : V) (n : ℕ) : Type 0 where
   pub cut : IsCut bytes n
-  pub can_stand_inside : CanStandInside m
+  pub is_well_tagged : IsWellTagged m
   pub of_type : m.IsOfType v
   pub valid : m.IsValid (λ own. is_one_item own) v
   pub carried : Carries (take n bytes) (own_records m v)

@@ -1,7 +1,7 @@
 //! Laws of what no other contract names: what the codec and its reader come to, and what derives give.
 ghost use Rattle.asn1_bench.specs.Outputs.{AreTooLong};
 ghost use Rattle.asn1_items.specs.Headers.{is_one_item};
-ghost use Rattle.asn1_model.specs.Meaning.{CanStandInside};
+ghost use Rattle.asn1_model.specs.Meaning.{IsWellTagged};
 ghost use Rattle.asn1_model.specs.Records.{Record};
 ghost use Rattle.asn1_packed.specs.Carried.{Carries};
 ghost use Rattle.asn1_streams.specs.Fronts.{BelongsTo, IsSteady};
@@ -19,9 +19,10 @@ use asn1_streams::FrontReader;
 pub fn the_codec_rejects_what_is_too_long(output: &Vec<u8>)
     ensures carries { (rs : List Record) →
         ⟦<BenchRules as Rules>⟧.format.carries output.now rs ↔ Carries output.now.items rs }
-    ensures takes { (bytes : List ℕ) →
-        ⟦<BenchRules as Rules>⟧.format.takes bytes ≡ is_one_item bytes }
-    ensures rejects { (rs : List Record) → ⟦<BenchRules as Rules>⟧.format.rejects rs ↔ AreTooLong rs }
+    ensures accepts { (bytes : List ℕ) →
+        ⟦<BenchRules as Rules>⟧.format.accepts bytes ≡ is_one_item bytes }
+    ensures rejects { (rs : List Record) → ⟦<BenchRules as Rules>⟧.format.rejects rs ↔
+        AreTooLong rs }
 {}
 
 /// A law of the reader: bytes behind change nothing, and an input has one front at most (`steady`); and for each type that can
@@ -29,7 +30,7 @@ pub fn the_codec_rejects_what_is_too_long(output: &Vec<u8>)
 #[tactic(auto, using(crate::proofs::Fronts::steady, crate::proofs::Fronts::belongs))]
 pub fn the_reader_belongs_to_the_rules<T: Decode>(reader: &BenchReader)
     ensures steady { IsSteady ⟦<BenchReader as FrontReader<T>>⟧.fronts reader.now }
-    ensures belongs { CanStandInside T.meaning →
+    ensures belongs { IsWellTagged T.meaning →
         BelongsTo ⟦<BenchReader as FrontReader<T>>⟧.fronts reader.now
         ⟦<BenchRules as Rules>⟧.format T.meaning T.eq }
 {}

@@ -22,7 +22,7 @@ pub struct BenchReader {
 
 impl BenchReader {
     ghost use Rattle.asn1_items.specs.Headers.{is_one_item};
-    ghost use Rattle.asn1_model.specs.Meaning.{CanStandInside, own_records};
+    ghost use Rattle.asn1_model.specs.Meaning.{IsWellTagged, own_records};
     ghost use Rattle.asn1_model.specs.Records.{highest};
     ghost use Rattle.asn1_packed.specs.Carried.{Carries};
     ghost use Rattle.asn1_schema.specs.Rules.{ReadsWhole};
@@ -38,7 +38,7 @@ impl BenchReader {
 
     /// Reads the value whose bytes these are.
     fn read<D: Decode>(&self, bytes: &[u8]) -> Result<D, DecodeError>
-        ensures { (v : D) → CanStandInside D.meaning → D.meaning.IsOfType v →
+        ensures { (v : D) → IsWellTagged D.meaning → D.meaning.IsOfType v →
             D.meaning.IsValid (λ own. is_one_item own) v →
             Carries bytes.now (own_records D.meaning v) →
             ReadsWhole (highest (own_records D.meaning v)) self.now.depth

@@ -33,7 +33,7 @@ impl BenchRules {
 
 impl Rules for BenchRules {
     ghost use Rattle.asn1_packed.specs.Format.{packed_format, packed_is_lawful};
-    ghost use Rattle.asn1_model.specs.Meaning.{CanStandInside, own_records};
+    ghost use Rattle.asn1_model.specs.Meaning.{IsWellTagged, own_records};
     ghost use Rattle.asn1_model.specs.Records as model;
     ghost use Rattle.asn1_model.specs.Records.{highest};
     ghost use Rattle.asn1_model.specs.WellFormed.{AreWellFormed};
@@ -49,18 +49,18 @@ impl Rules for BenchRules {
     }
 
     fn read_value<T: Decode>(&self, output: &Vec<u8>, depth: usize) -> Result<T, DecodeError>
-        ensures read { (v : T) → CanStandInside T.meaning → T.meaning.IsOfType v →
-            T.meaning.IsValid packed_format.takes v →
+        ensures read { (v : T) → IsWellTagged T.meaning → T.meaning.IsOfType v →
+            T.meaning.IsValid packed_format.accepts v →
             packed_format.carries output.now (own_records T.meaning v) →
             ReadsWhole (highest (own_records T.meaning v)) depth (λ w. T.eq w v ≡ true) result }
         ensures refuses { (rs : List model.Record) (error : _) →
-            T.refusals packed_format.takes T.meaning.tag T.meaning.constraints rs error →
-            AreWellFormed packed_format.takes rs → packed_format.carries output.now rs →
+            T.refusals packed_format.accepts T.meaning.tag T.meaning.constraints rs error →
+            AreWellFormed packed_format.accepts rs → packed_format.carries output.now rs →
             RefusesWhole (highest rs) depth error result }
         ensures none_left { (v : T) (r : model.Record) (rest : List model.Record) →
-            CanStandInside T.meaning → T.meaning.IsOfType v →
-            T.meaning.IsValid packed_format.takes v →
-            AreWellFormed packed_format.takes (r ∷ rest) →
+            IsWellTagged T.meaning → T.meaning.IsOfType v →
+            T.meaning.IsValid packed_format.accepts v →
+            AreWellFormed packed_format.accepts (r ∷ rest) →
             packed_format.carries output.now (own_records T.meaning v ++ r ∷ rest) → IsErr result }
     {
         let decoder = PackedDecoder::new(self.alloc, output.as_slice(), depth);

@@ -84,7 +84,8 @@ pub(crate) fn run<R: Read, W: Write + Drop>(
     reader: &mut R,
     writer: W,
 ) -> Result<bool, CheckError>
-    ensures understood { IfOk result (λ answer. IfSome (R.remaining reader.old) (λ input. answer ≡ all_understood input)) }
+    ensures understood { IfOk result (λ answer. IfSome (R.remaining reader.old) (λ input. answer
+        ≡ all_understood input)) }
     ensures read { OnOk result (IsAtEnd (R.remaining reader.new)) }
 
     // After an error that is not of the writer, bytes were taken from the front of what was left to read.
@@ -101,8 +102,10 @@ pub(crate) fn run<R: Read, W: Write + Drop>(
 
 /// Checks what the reader gives, as `run` does, and answers how the program then ends.
 pub(crate) fn checked<R: Read, W: Write + Drop>(alloc: Global, reader: &mut R, writer: W) -> Outcome
-    ensures understood { result.status ≡ 0 → IfSome (R.remaining reader.old) (λ input. all_understood input ≡ true) }
-    ensures not_understood { result.status ≡ 1 → IfSome (R.remaining reader.old) (λ input. all_understood input ≡ false) }
+    ensures understood { result.status ≡ 0 →
+        IfSome (R.remaining reader.old) (λ input. all_understood input ≡ true) }
+    ensures not_understood { result.status ≡ 1 →
+        IfSome (R.remaining reader.old) (λ input. all_understood input ≡ false) }
     ensures read { result.status ≢ 2 → IsAtEnd (R.remaining reader.new) }
 {
     Outcome::of(run(alloc, reader, writer))

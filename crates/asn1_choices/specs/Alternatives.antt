@@ -84,7 +84,7 @@ Each Property (a ∷ alts) = Property a × Each Property alts
 
 -- the type of the alternative can be there; an open type is no alternative
 abbrev pub CanBeChosen : Alternative → Type 0
-CanBeChosen a = a.type.CanStandInside × (is_open a.type.tree ≡ false)
+CanBeChosen a = a.type.IsWellTagged × (is_open a.type.tree ≡ false)
 
 -- No tag is twice among the alternatives (X.680, 29.3), those after the extension marker too.
 abbrev pub HaveDistinctTags : List Alternative → Type 0
@@ -96,14 +96,14 @@ pub record ValueMeaning : Type 1 where
   pub records : List Record
   pub IsOfType : Type 0
   pub IsValid : (List ℕ → Bool) → Type 0
-  pub well_formed : (takes : List ℕ → Bool) → IsValid takes → AreWellFormed takes records
+  pub well_formed : (accepts : List ℕ → Bool) → IsValid accepts → AreWellFormed accepts records
 
 abbrev pub value_meaning : {W : Type 0} → TaggedType W → W → ValueMeaning
 value_meaning type w = record {
   records = type.records w;
   IsOfType = type.IsOfType w;
-  IsValid = λ takes. type.IsValid takes w;
-  well_formed = λ takes. type.well_formed takes w;
+  IsValid = λ accepts. type.IsValid accepts w;
+  well_formed = λ accepts. type.well_formed accepts w;
 }
 
 -- what nothing says
@@ -114,7 +114,7 @@ none_say = record { records = []; IsOfType = ⊤; IsValid = λ _. ⊤; well_form
 pub record SaysTheSame (one other : ValueMeaning) : Type 0 where
   pub records : one.records ≡ other.records
   pub of_type : one.IsOfType ↔ other.IsOfType
-  pub valid : (takes : List ℕ → Bool) → one.IsValid takes ↔ other.IsValid takes
+  pub valid : (accepts : List ℕ → Bool) → one.IsValid accepts ↔ other.IsValid accepts
 
 pub says_itself : {meaning : ValueMeaning} → SaysTheSame meaning meaning
 says_itself = record { records = refl; of_type = (λ h. h, λ h. h); valid = λ _. (λ h. h, λ h. h) }

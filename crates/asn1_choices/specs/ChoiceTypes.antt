@@ -22,10 +22,10 @@ abbrev pub choice_by : {V : Type 0} → List ℕ → Table Line → (alternative
 choice_by name table alternatives CanChoose means is_among = choice_type (Some name) unconstrained
     (record {
       records = λ v. (means v).records;
-      CanStandInside = CanChoose;
+      IsWellTagged = CanChoose;
       AreOfType = λ v. (means v).IsOfType;
-      AreValid = λ takes v. (means v).IsValid takes;
-      well_formed = λ takes v. (means v).well_formed takes;
+      AreValid = λ accepts v. (means v).IsValid accepts;
+      well_formed = λ accepts v. (means v).well_formed accepts;
     })
     (record { table = table; alternatives = alternatives; among = is_among })
 
@@ -72,8 +72,8 @@ abbrev pub itself_under : List ℕ → Table Line → Tag → ValueMeaning → V
 itself_under name table t meaning = record meaning {
   records = choice_records (first_tag meaning.records) table meaning.records unconstrained (Some name) t
       unconstrained (Some name);
-  well_formed = λ takes valid. well_formed_choice takes table meaning.records unconstrained (Some name) t
-      unconstrained (Some name) (meaning.well_formed takes valid);
+  well_formed = λ accepts valid. well_formed_choice accepts table meaning.records unconstrained (Some name) t
+      unconstrained (Some name) (meaning.well_formed accepts valid);
 }
 
 -- The law of a CHOICE type: its meaning is that of its alternatives. Its tags are theirs, and each value is there, and is
@@ -86,9 +86,9 @@ pub record AgreesWithChoice {V : Type 0} (alts : Alternatives) (pick : V → One
       m.records v t c n ≡ choice_records (chosen_tag (all_of alts) (pick v)) (table_of alts) (chosen_meaning (all_of alts) (pick v)).records m.constraints m.name t c n
   pub single : m.IsSingleRecord
   pub present : (v : V) → m.is_present v ≡ true
-  pub well_tagged : (t : Tag) → m.IsWellTagged t ↔ (HaveDistinctTags (all_of alts) × Each CanBeChosen (all_of alts))
+  pub distinct_tags : (t : Tag) → m.HasDistinctTags t ↔ (HaveDistinctTags (all_of alts) × Each CanBeChosen (all_of alts))
   pub of_type : (v : V) → m.IsOfType v ↔ (chosen_meaning (all_of alts) (pick v)).IsOfType
-  pub valid : (takes : List ℕ → Bool) (v : V) → m.IsValid takes v ↔ (chosen_meaning (all_of alts) (pick v)).IsValid takes
+  pub valid : (accepts : List ℕ → Bool) (v : V) → m.IsValid accepts v ↔ (chosen_meaning (all_of alts) (pick v)).IsValid accepts
 
 -- so for a CHOICE that holds itself
 pub itself_agrees : {V : Type 0} {name : List ℕ} {alts : Alternatives} {pick : V → OneOf (all_of alts)} {means : V → ValueMeaning} →
@@ -102,9 +102,9 @@ itself_agrees {name = name} {alts = alts} agree = record {
       (agree v).records;
   single = tt;
   present = λ _. refl;
-  well_tagged = λ _. (λ h. h, λ h. h);
+  distinct_tags = λ _. (λ h. h, λ h. h);
   of_type = λ v. (agree v).of_type;
-  valid = λ takes v. (agree v).valid takes;
+  valid = λ accepts v. (agree v).valid accepts;
 }
 
 -- and for every other

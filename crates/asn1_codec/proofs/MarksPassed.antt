@@ -5,7 +5,7 @@ use Rattle.asn1_components.specs.ComponentTypes.{ComponentType}
 use Rattle.asn1_codec.specs.Reading.{IsNextTag, TellsComponent, marks_passed}
 use Rattle.asn1_codec.proofs.TellingTags.{tells_itself}
 use Rattle.asn1_model.specs.Orders.{SameRecords}
-use Rattle.asn1_model.specs.Records.{Record, scalar, scope, raw, mark, is_mark, marks_alone}
+use Rattle.asn1_model.specs.Records.{Record, scalar, scope, open_type, presence_mark, is_presence_mark, presence_marks_alone}
 use Rattle.asn1_model.specs.Tags.{Has, first_tags, record_tags}
 use Rattle.asn1_model.proofs.SameRecords.{same-mark}
 use Rattle.asn1_model.proofs.SameUpToOrder.{SameAll-cons, same-first_tags, same-marks_alone}
@@ -18,7 +18,7 @@ same-marks_passed [] (s ∷ ss) all = elim all [ ]
 same-marks_passed (r ∷ rs) [] all = elim all [ ]
 same-marks_passed (r ∷ rs) (s ∷ ss) all =
     let both = SameAll-cons all in
-    by_marks (is_mark r) (is_mark s) (same-mark both.0) (same-marks_passed rs ss both.1)
+    by_marks (is_presence_mark r) (is_presence_mark s) (same-mark both.0) (same-marks_passed rs ss both.1)
   where
     by_marks : (b c : Bool) → b ≡ c → SameRecords (marks_passed rs) (marks_passed ss) →
         SameRecords (if b then marks_passed rs else r ∷ rs) (if c then marks_passed ss else s ∷ ss)
@@ -28,29 +28,29 @@ same-marks_passed (r ∷ rs) (s ∷ ss) all =
     by_marks false false e passed = all
 
 -- where nothing is left, the records are marks alone
-pub none_left : (rs : List Record) → marks_passed rs ≡ [] → marks_alone rs ≡ true
+pub none_left : (rs : List Record) → marks_passed rs ≡ [] → presence_marks_alone rs ≡ true
 none_left [] e = refl
 none_left (scalar t c n x ∷ rs) e = cc
 none_left (scope h inner ∷ rs) e = cc
-none_left (raw n bytes ∷ rs) e = cc
-none_left (mark m ∷ rs) e = none_left rs e
+none_left (open_type n bytes ∷ rs) e = cc
+none_left (presence_mark m ∷ rs) e = none_left rs e
 
 -- What is left first is no mark, and the list begins with its tags.
 pub record IsFirst (rs : List Record) (first : Record) : Type 0 where
-  pub no_mark : is_mark first ≡ false
+  pub no_mark : is_presence_mark first ≡ false
   pub tags : first_tags rs ≡ record_tags first
 
-at_front : (r first : Record) (rs others : List Record) → is_mark r ≡ false → r ∷ rs ≡ first ∷ others → record_tags r ≡ first_tags (r ∷ rs) → IsFirst (r ∷ rs) first
+at_front : (r first : Record) (rs others : List Record) → is_presence_mark r ≡ false → r ∷ rs ≡ first ∷ others → record_tags r ≡ first_tags (r ∷ rs) → IsFirst (r ∷ rs) first
 at_front r first rs others no_mark e tags =
     let same : r ≡ first = cc in
-    record { no_mark = ap is_mark (sym same) ∙ no_mark; tags = sym tags ∙ ap record_tags same }
+    record { no_mark = ap is_presence_mark (sym same) ∙ no_mark; tags = sym tags ∙ ap record_tags same }
 
 pub first_left : (rs : List Record) (first : Record) (others : List Record) → marks_passed rs ≡ first ∷ others → IsFirst rs first
 first_left [] first others e = cc
 first_left (scalar t c n x ∷ rs) first others e = at_front (scalar t c n x) first rs others refl e refl
 first_left (scope h inner ∷ rs) first others e = at_front (scope h inner) first rs others refl e refl
-first_left (raw n bytes ∷ rs) first others e = at_front (raw n bytes) first rs others refl e refl
-first_left (mark m ∷ rs) first others e = let later = first_left rs first others e in record { no_mark = later.no_mark; tags = later.tags }
+first_left (open_type n bytes ∷ rs) first others e = at_front (open_type n bytes) first rs others refl e refl
+first_left (presence_mark m ∷ rs) first others e = let later = first_left rs first others e in record { no_mark = later.no_mark; tags = later.tags }
 
 -- no record is next
 pub no_next_tag : {V : Type 0} (cs : List (ComponentType V)) (items : List Record) → marks_passed items ≡ [] → IsNextTag cs items None

@@ -2,7 +2,7 @@
 -- first, a `step` after each that was read, `stops` where one was not, and `through` after the last.
 use Rattle.std.proofs.Common.{◌≡◌, ℕ, max, ◌≤◌, List, [], ◌∷◌, ◌++◌, refl, arith, subst, ◌∙◌}
 use Rattle.asn1_components.proofs.Apart.{all_then, sequence_apart}
-use Rattle.asn1_components.specs.ComponentLists.{CanBeInSequence, EachCanStandInside, EachIsOfType, EachIsValid, all_records}
+use Rattle.asn1_components.specs.ComponentLists.{CanBeInSequence, EachIsWellTagged, EachIsOfType, EachIsValid, all_records}
 use Rattle.asn1_components.specs.ComponentTypes.{ComponentType}
 use Rattle.asn1_components.specs.Following.{BeginsApart, EachApart, EndsApart, Where, records_then}
 use Rattle.asn1_fields.specs.Entries.{may_be_absent}
@@ -14,9 +14,9 @@ use Rattle.asn1_codec.proofs.ReadingSteps.{fails_below, highest-append}
 module _ {D V : Type 0} (R : Reader D) where
   -- Some components of a value were read, and these are left. The height is that of all.
   pub record PartWay (began now : D) (left : List (ComponentType V)) (v : V) (height : ℕ) (rest : List Record) (outer : Outside) : Type 0 where
-    pub can : EachCanStandInside left
+    pub can : EachIsWellTagged left
     pub of_type : EachIsOfType left v
-    pub valid : EachIsValid left R.takes v
+    pub valid : EachIsValid left R.accepts v
     pub apart : EachApart left v rest
     -- how high those are that were read
     pub read : ℕ
@@ -28,7 +28,7 @@ module _ {D V : Type 0} (R : Reader D) where
 
   -- before the first
   pub begin : (d : D) (cs : List (ComponentType V)) (v : V) (rest : List Record) (outer : Outside) →
-      CanBeInSequence cs → EachIsOfType cs v → EachIsValid cs R.takes v → EndsApart cs rest → R.remains d (all_records cs v ++ rest, outer) →
+      CanBeInSequence cs → EachIsOfType cs v → EachIsValid cs R.accepts v → EndsApart cs rest → R.remains d (all_records cs v ++ rest, outer) →
       PartWay d d cs v (highest (all_records cs v)) rest outer
   begin d cs v rest outer can of_type valid ends at = record {
     can = can.0;
@@ -51,7 +51,7 @@ module _ {D V : Type 0} (R : Reader D) where
 module _ {D V : Type 0} {R : Reader D} {began now : D} {c : ComponentType V} {cs : List (ComponentType V)} {v : V} {height : ℕ} {rest : List Record} {outer : Outside} where
   -- where the call that reads it succeeded
   pub step : {then : D} {Answer : Type 0} → PartWay R began now (c ∷ cs) v height rest outer → R.depth_left then ≡ R.depth_left now →
-      (c.CanStandInside → c.IsOfType v → c.IsValid R.takes v → Where (may_be_absent c.presence) (BeginsApart c.tree (records_then cs v rest)) →
+      (c.IsWellTagged → c.IsOfType v → c.IsValid R.accepts v → Where (may_be_absent c.presence) (BeginsApart c.tree (records_then cs v rest)) →
       R.remains now (c.records v ++ records_then cs v rest, outer) → HasAdvanced R now then (highest (c.records v)) (records_then cs v rest, outer) Answer) →
       Stepped R began then cs v height rest outer Answer
   step part same reads =
@@ -73,7 +73,7 @@ module _ {D V : Type 0} {R : Reader D} {began now : D} {c : ComponentType V} {cs
 
   -- where it failed
   pub stops : {e : DecodeError} → PartWay R began now (c ∷ cs) v height rest outer →
-      (c.CanStandInside → c.IsOfType v → c.IsValid R.takes v → Where (may_be_absent c.presence) (BeginsApart c.tree (records_then cs v rest)) →
+      (c.IsWellTagged → c.IsOfType v → c.IsValid R.accepts v → Where (may_be_absent c.presence) (BeginsApart c.tree (records_then cs v rest)) →
       R.remains now (c.records v ++ records_then cs v rest, outer) → MayFail (R.depth_left now) (highest (c.records v)) e) →
       MayFail (R.depth_left began) height e
   stops part reads =

@@ -1,7 +1,7 @@
 -- A SEQUENCE or SET type, whose meaning is that of its components.
 use Rattle.std.proofs.Common.{◌≡◌, Bool, true, List, [], ◌∷◌, Result, ap, sym, ◌∙◌, subst}
 use Rattle.asn1_tags.specs.declared.tags.Tag.{Tag}
-use Rattle.asn1_components.specs.ComponentLists.{EachCanStandInside, EachIsOfType, EachIsValid}
+use Rattle.asn1_components.specs.ComponentLists.{EachIsWellTagged, EachIsOfType, EachIsValid}
 use Rattle.asn1_components.specs.Components.{AgreesWithComponents, AreDistinctIn, Components, Kind, all_components, component_records, head_in, lines}
 use Rattle.asn1_model.specs.ConstraintSets.{ConstraintSet}
 use Rattle.asn1_model.specs.Meaning.{Meaning}
@@ -12,12 +12,12 @@ use Rattle.asn1_codec.specs.Reading.{Reader, ReadsBack, ReadsValue, Outside}
 -- what reads the components reads a value of the type
 pub as_constructed : {D V : Type 0} (k : Kind) (R : Reader D) (m : Meaning V) (components : Components V) (eq : V → V → Bool) (t : Tag) (c : ConstraintSet) (old new : D) (result : Result V DecodeError) →
     AgreesWithComponents components m → components.kind ≡ k →
-    ((v : V) (n : Name) (rest : List Record) (outer : Outside) → (EachCanStandInside (all_components components) × AreDistinctIn k (all_components components)) → EachIsOfType (all_components components) v →
-    EachIsValid (all_components components) R.takes v → ReadsBack R old new (holding (head_in k t (lines components) n) (component_records components v) ∷ []) rest outer (λ w. eq w v ≡ true) result) →
+    ((v : V) (n : Name) (rest : List Record) (outer : Outside) → (EachIsWellTagged (all_components components) × AreDistinctIn k (all_components components)) → EachIsOfType (all_components components) v →
+    EachIsValid (all_components components) R.accepts v → ReadsBack R old new (holding (head_in k t (lines components) n) (component_records components v) ∷ []) rest outer (λ w. eq w v ≡ true) result) →
     ReadsValue R m eq t c old new result
 as_constructed k R m components eq t c old new result agrees kind reads v n rest outer tagged of_type valid follow =
-    let together = ((agrees.well_tagged t).0 tagged).1 in
+    let together = ((agrees.distinct_tags t).0 tagged).1 in
     let distinct = subst (λ j. AreDistinctIn j (all_components components)) kind together.2 in
     subst (λ rs. ReadsBack R old new rs rest outer (λ w. eq w v ≡ true) result)
     (sym (agrees.records v t c n ∙ ap (λ j. holding (head_in j t (lines components) n) (component_records components v) ∷ []) kind))
-    (reads v n rest outer (together.0, distinct) ((agrees.of_type v).0 of_type) ((agrees.valid R.takes v).0 valid))
+    (reads v n rest outer (together.0, distinct) ((agrees.of_type v).0 of_type) ((agrees.valid R.accepts v).0 valid))

@@ -5,8 +5,8 @@ use Rattle.std.specs.List.{flat_map, All}
 use Rattle.std.proofs.lemmas.Bool.{and_parts, and_from}
 use Rattle.std.proofs.lemmas.Grind.{flat_map-append}
 use Rattle.std.proofs.lemmas.List.Elements.{All-head, All-tail}
-use Rattle.asn1_model.specs.Meaning.{Meaning, CanStandInside, own_records, tags}
-use Rattle.asn1_model.specs.Records.{Head, Record, highest, is_mark}
+use Rattle.asn1_model.specs.Meaning.{Meaning, IsWellTagged, own_records, tags}
+use Rattle.asn1_model.specs.Records.{Head, Record, highest, is_presence_mark}
 use Rattle.asn1_model.specs.Tags.{IsOneRecord}
 use Rattle.asn1_codec.specs.declared.decode_error.DecodeError.{DecodeError}
 use Rattle.asn1_codec.specs.Reading.{Reader, MayFail, TellsMore, records_in, Outside}
@@ -38,7 +38,7 @@ one_more : (b : Bool) (n : ℕ) → b ≡ false → (if b then n else suc n) ≡
 one_more true n h = cc
 one_more false n h = refl
 
-module _ {V : Type 0} (m : Meaning V) (can : CanStandInside m) where
+module _ {V : Type 0} (m : Meaning V) (can : IsWellTagged m) where
   one : (x : V) → IsOneRecord (tags m m.tag) (own_records m x)
   one x = m.one_record x m.tag m.constraints m.name can.0 can.1
 
@@ -47,7 +47,7 @@ module _ {V : Type 0} (m : Meaning V) (can : CanStandInside m) where
   as_many [] = refl
   as_many (v ∷ vs) =
       ap (λ l. records_in (l ++ flat_map (own_records m) vs)) (one v).alone
-      ∙ one_more (is_mark (one v).item) (records_in (flat_map (own_records m) vs)) (one v).no_mark
+      ∙ one_more (is_presence_mark (one v).item) (records_in (flat_map (own_records m) vs)) (one v).no_mark
       ∙ ap suc (as_many vs)
 
 module _ {D V : Type 0} (R : Reader D) (m : Meaning V) (eq : V → V → Bool) where
@@ -59,7 +59,7 @@ module _ {D V : Type 0} (R : Reader D) (m : Meaning V) (eq : V → V → Bool) w
     pub same : pointwise eq read done ≡ true
     pub low : highest (flat_map (own_records m) done) ≤ R.depth_left d
     pub of_type : All m.IsOfType todo
-    pub valid : All (m.IsValid R.takes) todo
+    pub valid : All (m.IsValid R.accepts) todo
     pub at : R.remains d (flat_map (own_records m) todo, outer)
 
   -- The same, where another element comes.
@@ -71,9 +71,9 @@ module _ {D V : Type 0} (R : Reader D) (m : Meaning V) (eq : V → V → Bool) w
     pub same : pointwise eq read done ≡ true
     pub low : highest (flat_map (own_records m) done) ≤ R.depth_left d
     pub next_of_type : m.IsOfType next
-    pub next_valid : m.IsValid R.takes next
+    pub next_valid : m.IsValid R.accepts next
     pub of_type : All m.IsOfType todo
-    pub valid : All (m.IsValid R.takes) todo
+    pub valid : All (m.IsValid R.accepts) todo
     pub at : R.remains d (own_records m next ++ flat_map (own_records m) todo, outer)
 
   -- The same, where none is left.
@@ -82,18 +82,18 @@ module _ {D V : Type 0} (R : Reader D) (m : Meaning V) (eq : V → V → Bool) w
     pub low : highest (flat_map (own_records m) vs) ≤ R.depth_left d
     pub at : R.remains d ([], outer)
 
-  pub start : (d : D) (vs : List V) (outer : Outside) → All m.IsOfType vs → All (m.IsValid R.takes) vs →
+  pub start : (d : D) (vs : List V) (outer : Outside) → All m.IsOfType vs → All (m.IsValid R.accepts) vs →
       R.remains d (flat_map (own_records m) vs, outer) → Midway d [] vs outer
   start d vs outer of_type valid at =
       record { done = []; todo = vs; split = refl; same = refl; low = omega arith; of_type = of_type; valid = valid; at = at }
 
   -- the record of the next element
-  comes : (can : CanStandInside m) (d : D) (x : V) (xs : List V) (outer : Outside) → R.remains d (own_records m x ++ flat_map (own_records m) xs, outer) →
+  comes : (can : IsWellTagged m) (d : D) (x : V) (xs : List V) (outer : Outside) → R.remains d (own_records m x ++ flat_map (own_records m) xs, outer) →
       R.remains d ((one m can x).item ∷ flat_map (own_records m) xs, outer)
   comes can d x xs outer at = subst (λ l. R.remains d (l ++ flat_map (own_records m) xs, outer)) (one m can x).alone at
 
   -- where whether an element comes could not be told
-  pub not_told : (can : CanStandInside m) {d e : D} {read vs : List V} {scope : Head × List Record} {outer : Outside} {error : DecodeError} (b h : ℕ) → Midway d read vs (scope ∷ outer) →
+  pub not_told : (can : IsWellTagged m) {d e : D} {read vs : List V} {scope : Head × List Record} {outer : Outside} {error : DecodeError} (b h : ℕ) → Midway d read vs (scope ∷ outer) →
       TellsMore R d e (Err error) → MayFail b h error
   not_told can {d} {e} {read} {vs} {scope} {outer} {error} b h mid tells =
       elim mid.todo as (λ todo. R.remains d (flat_map (own_records m) todo, scope ∷ outer) → MayFail b h error) [
@@ -102,10 +102,10 @@ module _ {D V : Type 0} (R : Reader D) (m : Meaning V) (eq : V → V → Bool) w
       ]
       mid.at
 
-  pub another : (can : CanStandInside m) {d e : D} {read vs : List V} {scope : Head × List Record} {outer : Outside} (b : Bool) → Midway d read vs (scope ∷ outer) → TellsMore R d e (Ok b) → b ≡ true →
+  pub another : (can : IsWellTagged m) {d e : D} {read vs : List V} {scope : Head × List Record} {outer : Outside} (b : Bool) → Midway d read vs (scope ∷ outer) → TellsMore R d e (Ok b) → b ≡ true →
       R.depth_left e ≡ R.depth_left d → AnotherComes e read vs (scope ∷ outer)
   another can {d} {e} {read} {vs} {scope} {outer} b mid tells hit kept =
-      elim mid.todo as (λ todo. vs ≡ mid.done ++ todo → All m.IsOfType todo → All (m.IsValid R.takes) todo → R.remains d (flat_map (own_records m) todo, scope ∷ outer) → AnotherComes e read vs (scope ∷ outer)) [
+      elim mid.todo as (λ todo. vs ≡ mid.done ++ todo → All m.IsOfType todo → All (m.IsValid R.accepts) todo → R.remains d (flat_map (own_records m) todo, scope ∷ outer) → AnotherComes e read vs (scope ∷ outer)) [
         | [] ↦ λ _ _ _ at. let wrong = (tells.none scope outer at).answer in cc
         | x ∷ xs ↦ λ split of_type valid at. record {
           done = mid.done;
@@ -115,16 +115,16 @@ module _ {D V : Type 0} (R : Reader D) (m : Meaning V) (eq : V → V → Bool) w
           same = mid.same;
           low = omega (arith, mid.low, kept);
           next_of_type = All-head m.IsOfType x xs of_type;
-          next_valid = All-head (m.IsValid R.takes) x xs valid;
+          next_valid = All-head (m.IsValid R.accepts) x xs valid;
           of_type = All-tail m.IsOfType x xs of_type;
-          valid = All-tail (m.IsValid R.takes) x xs valid;
+          valid = All-tail (m.IsValid R.accepts) x xs valid;
           at = subst (λ l. R.remains e (l ++ flat_map (own_records m) xs, scope ∷ outer)) (sym (one m can x).alone)
               (tells.some (one m can x).item (flat_map (own_records m) xs) scope outer (one m can x).no_mark (comes can d x xs (scope ∷ outer) at)).at;
         }
       ]
       mid.split mid.of_type mid.valid mid.at
 
-  pub through : (can : CanStandInside m) {d e : D} {read vs : List V} {scope : Head × List Record} {outer : Outside} (b : Bool) → Midway d read vs (scope ∷ outer) → TellsMore R d e (Ok b) → b ≡ false →
+  pub through : (can : IsWellTagged m) {d e : D} {read vs : List V} {scope : Head × List Record} {outer : Outside} (b : Bool) → Midway d read vs (scope ∷ outer) → TellsMore R d e (Ok b) → b ≡ false →
       R.depth_left e ≡ R.depth_left d → Through e read vs (scope ∷ outer)
   through can {d} {e} {read} {vs} {scope} {outer} b mid tells miss kept =
       elim mid.todo as (λ todo. vs ≡ mid.done ++ todo → R.remains d (flat_map (own_records m) todo, scope ∷ outer) → Through e read vs (scope ∷ outer)) [

@@ -93,8 +93,8 @@ module _ {P X : Type 0} (index_of : P → ℕ) (k : ℕ) (make : X → P) where
     optional_slot side (Some x) o type eq slot written one is = is x (is_component x slot)
 
     -- a component with a default
-    pub default_slot : (side : Side) (slot : Option X) (x usual : X) (is_default : Bool) (type : TaggedType X) (eq : X → X → Bool) → Slot slot parts → written_of cs v k ≡ unmarked (default_records side is_default type.tag (type.records x)) →
-        length (unmarked (type.records x)) ≡ 1 → (is_default ≡ true → eq usual x ≡ true) → ((y : X) → IsPart (make y) → eq y x ≡ true) → eq (unwrap_or slot usual) x ≡ true
-    default_slot side None x usual true type eq slot written one same is = same refl
-    default_slot side None x usual false type eq slot written one same is = absurd (is_absent slot (ap length written ∙ one))
-    default_slot side (Some y) x usual is_default type eq slot written one same is = is y (is_component y slot)
+    pub default_slot : (side : Side) (slot : Option X) (x default_value : X) (is_default : Bool) (type : TaggedType X) (eq : X → X → Bool) → Slot slot parts → written_of cs v k ≡ unmarked (default_records side is_default type.tag (type.records x)) →
+        length (unmarked (type.records x)) ≡ 1 → (is_default ≡ true → eq default_value x ≡ true) → ((y : X) → IsPart (make y) → eq y x ≡ true) → eq (unwrap_or slot default_value) x ≡ true
+    default_slot side None x default_value true type eq slot written one same is = same refl
+    default_slot side None x default_value false type eq slot written one same is = absurd (is_absent slot (ap length written ∙ one))
+    default_slot side (Some y) x default_value is_default type eq slot written one same is = is y (is_component y slot)

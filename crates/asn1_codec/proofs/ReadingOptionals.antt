@@ -4,10 +4,10 @@ use Rattle.std.specs.Cmp.{IsEquivalence}
 use Rattle.std.specs.Option.{IfSome, IfNone, option_eq, option_map}
 use Rattle.std.specs.Result.{MatchResult}
 use Rattle.asn1_tags.specs.declared.tags.Tag.{Tag}
-use Rattle.asn1_model.specs.Composites.{option_records, prefix_records}
+use Rattle.asn1_model.specs.Composites.{option_records, explicit_tag_records}
 use Rattle.asn1_model.specs.ConstraintSets.{ConstraintSet}
 use Rattle.asn1_model.specs.Kinds.{option_type}
-use Rattle.asn1_model.specs.Meaning.{Meaning, CanStandInsideUnder, tags}
+use Rattle.asn1_model.specs.Meaning.{Meaning, IsWellTaggedUnder, tags}
 use Rattle.asn1_model.specs.Records.{Name, Record, Side, absent, in_root, present}
 use Rattle.asn1_model.specs.Tags.{Tags, BeginsWithin, ShareNone, first_tags, only}
 use Rattle.asn1_model.specs.OneRecord.{only_in}
@@ -27,10 +27,10 @@ after_option m t c n None rest (inr apart) none = apart refl
 after_option m t c n (Some w) rest follow none = cc
 
 -- what a value under a tag begins with, and what it begins with after an explicit tag
-pub under_tag : {V : Type 0} (m : Meaning V) (t : Tag) (c : ConstraintSet) (x : V) (n : Name) (rest : List Record) → CanStandInsideUnder m t → BeginsWithin (tags m t) (m.records x t c n ++ rest)
+pub under_tag : {V : Type 0} (m : Meaning V) (t : Tag) (c : ConstraintSet) (x : V) (n : Name) (rest : List Record) → IsWellTaggedUnder m t → BeginsWithin (tags m t) (m.records x t c n ++ rest)
 under_tag m t c x n rest can = begins_before (tags m t) (m.records x t c n) rest (one_begins (tags m t) (m.records x t c n) (m.one_record x t c n can.0 can.1))
 
-pub begins_after_tag : {V : Type 0} (m : Meaning V) (t : Tag) (c : ConstraintSet) (x : V) (n : Name) (rest : List Record) → BeginsWithin (only t) (prefix_records t n (m.records x m.tag c m.name) ++ rest)
+pub begins_after_tag : {V : Type 0} (m : Meaning V) (t : Tag) (c : ConstraintSet) (x : V) (n : Name) (rest : List Record) → BeginsWithin (only t) (explicit_tag_records t n (m.records x m.tag c m.name) ++ rest)
 begins_after_tag m t c x n rest = record { some = refl; within = only_in (only t) t (only_has t) }
 
 -- A component that may be absent, which has these tags, and is the records of a value under any name.
@@ -100,24 +100,24 @@ module _ {D V : Type 0} (R : Reader D) (side : Side) (m : Meaning V) (eq : V →
   module _ (old mid : D) (asked : Tags) (is : asked ≡ tags m t) where
     -- whether a component under a tag is there could not be told
     pub option_not_told : {e : DecodeError} → TellsPresence R old mid (present side t) (absent side t) asked (Err e) → ReadsOption R side m eq t c old mid (Err e)
-    option_not_told tells = not_told R side t (tags m t) (λ n v. m.records v t c n) (CanStandInsideUnder m t) m.IsOfType (m.IsValid R.takes) eq (under_tag m t c) old mid asked is tells
+    option_not_told tells = not_told R side t (tags m t) (λ n v. m.records v t c n) (IsWellTaggedUnder m t) m.IsOfType (m.IsValid R.accepts) eq (under_tag m t c) old mid asked is tells
 
     -- it is not there
     pub option_is_absent : {b : Bool} → TellsPresence R old mid (present side t) (absent side t) asked (Ok b) → b ≡ false → ReadsOption R side m eq t c old mid (Ok None)
-    option_is_absent tells miss = is_absent R side t (tags m t) (λ n v. m.records v t c n) (CanStandInsideUnder m t) m.IsOfType (m.IsValid R.takes) eq (under_tag m t c) old mid asked is tells miss
+    option_is_absent tells miss = is_absent R side t (tags m t) (λ n v. m.records v t c n) (IsWellTaggedUnder m t) m.IsOfType (m.IsValid R.accepts) eq (under_tag m t c) old mid asked is tells miss
 
     -- it is there, and what follows reads it
     pub option_is_read : {b : Bool} → TellsPresence R old mid (present side t) (absent side t) asked (Ok b) → b ≡ true → R.depth_left mid ≡ R.depth_left old → (new : D) (result : Result (Option V) DecodeError) →
-        ((x : V) (n : Name) (rest : List Record) (outer : Outside) → CanStandInsideUnder m t → m.IsOfType x → m.IsValid R.takes x → ReadsBack R mid new (m.records x t c n) rest outer (λ w. option_eq eq w (Some x) ≡ true) result) →
+        ((x : V) (n : Name) (rest : List Record) (outer : Outside) → IsWellTaggedUnder m t → m.IsOfType x → m.IsValid R.accepts x → ReadsBack R mid new (m.records x t c n) rest outer (λ w. option_eq eq w (Some x) ≡ true) result) →
         ReadsOption R side m eq t c old new result
-    option_is_read tells hit same new result reads = is_read R side t (tags m t) (λ n v. m.records v t c n) (CanStandInsideUnder m t) m.IsOfType (m.IsValid R.takes) eq (under_tag m t c) old mid asked is tells hit same new result reads
+    option_is_read tells hit same new result reads = is_read R side t (tags m t) (λ n v. m.records v t c n) (IsWellTaggedUnder m t) m.IsOfType (m.IsValid R.accepts) eq (under_tag m t c) old mid asked is tells hit same new result reads
 
   -- a component with a default is one that may be absent
-  pub default_fails : (IsUsual : V → Type 0) (old new : D) (e : DecodeError) → ReadsOption R side m eq t c old new (Err e) → ReadsDefault R side IsUsual m eq t c old new (Err e)
-  default_fails IsUsual = defaults.default_fails R side (given t c m) eq IsUsual
+  pub default_fails : (IsDefault : V → Type 0) (old new : D) (e : DecodeError) → ReadsOption R side m eq t c old new (Err e) → ReadsDefault R side IsDefault m eq t c old new (Err e)
+  default_fails IsDefault = defaults.default_fails R side (given t c m) eq IsDefault
 
-  pub default_reads : (law : IsEquivalence eq) (IsUsual : V → Type 0) (old mid new : D) (value : Option V) (result : Result V DecodeError) → ReadsOption R side m eq t c old mid (Ok value) →
+  pub default_reads : (law : IsEquivalence eq) (IsDefault : V → Type 0) (old mid new : D) (value : Option V) (result : Result V DecodeError) → ReadsOption R side m eq t c old mid (Ok value) →
       IfSome value (λ v. (result ≡ Ok v) × (new ≡ mid)) →
-      IfNone value (MatchResult result (λ usual. IsUsual usual × (new ≡ mid)) (λ e. (e ≡ Memory) × (R.failed new ≡ true))) →
-      ReadsDefault R side IsUsual m eq t c old new result
-  default_reads law IsUsual = defaults.default_reads R side (given t c m) eq IsUsual law
+      IfNone value (MatchResult result (λ default_value. IsDefault default_value × (new ≡ mid)) (λ e. (e ≡ Memory) × (R.failed new ≡ true))) →
+      ReadsDefault R side IsDefault m eq t c old new result
+  default_reads law IsDefault = defaults.default_reads R side (given t c m) eq IsDefault law

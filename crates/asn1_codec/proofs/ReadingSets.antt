@@ -5,13 +5,13 @@ use Rattle.std.specs.List.{All}
 use Rattle.std.proofs.lemmas.List.Elements.{All-head, All-nil, All-push, All-tail}
 use Rattle.std.proofs.lemmas.List.Sorted.{All-permutation, IsPermutation-sym}
 use Rattle.std.proofs.lemmas.List.Sums.{sum_by-append, sum_by-cons}
-use Rattle.asn1_components.specs.ComponentLists.{EachCanStandInside, all_records}
+use Rattle.asn1_components.specs.ComponentLists.{EachIsWellTagged, all_records}
 use Rattle.asn1_components.specs.ComponentTypes.{ComponentType, Fits}
 use Rattle.asn1_components.specs.Following.{AllApart, ApartFromEach}
 use Rattle.asn1_codec.specs.Reading.{IsNextTag, MayFail, Advances, Reader, TellsComponent, marks_passed, records_in, Outside}
 use Rattle.asn1_codec.specs.declared.decode_error.DecodeError.{DecodeError}
 use Rattle.asn1_codec.proofs.ReadingSteps.{flat_failure}
-use Rattle.asn1_model.specs.Records.{Record, scalar, scope, raw, mark, highest, is_mark, marks_alone}
+use Rattle.asn1_model.specs.Records.{Record, scalar, scope, open_type, presence_mark, highest, is_presence_mark, presence_marks_alone}
 use Rattle.asn1_model.specs.Tags.{Has, LiesIn, among, first_tags, record_tags, tree_tags}
 use Rattle.asn1_tags.specs.Trees.{Tree}
 use Rattle.asn1_tags.specs.declared.tags.Tag.{Tag}
@@ -24,32 +24,32 @@ first-unmarked : (rs : List Record) → first_tags rs ≡ first_tags (unmarked r
 first-unmarked [] = refl
 first-unmarked (scalar t c n x ∷ rs) = refl
 first-unmarked (scope h inner ∷ rs) = refl
-first-unmarked (raw n bytes ∷ rs) = refl
-first-unmarked (mark m ∷ rs) = first-unmarked rs
+first-unmarked (open_type n bytes ∷ rs) = refl
+first-unmarked (presence_mark m ∷ rs) = first-unmarked rs
 
-unmarked-marks : (rs : List Record) → marks_alone rs ≡ true → unmarked rs ≡ []
+unmarked-marks : (rs : List Record) → presence_marks_alone rs ≡ true → unmarked rs ≡ []
 unmarked-marks [] alone = refl
 unmarked-marks (scalar t c n x ∷ rs) alone = cc
 unmarked-marks (scope h inner ∷ rs) alone = cc
-unmarked-marks (raw n bytes ∷ rs) alone = cc
-unmarked-marks (mark m ∷ rs) alone = unmarked-marks rs alone
+unmarked-marks (open_type n bytes ∷ rs) alone = cc
+unmarked-marks (presence_mark m ∷ rs) alone = unmarked-marks rs alone
 
-no_records : (rs : List Record) → marks_alone rs ≡ true → records_in rs ≡ 0
+no_records : (rs : List Record) → presence_marks_alone rs ≡ true → records_in rs ≡ 0
 no_records [] alone = refl
 no_records (scalar t c n x ∷ rs) alone = cc
 no_records (scope h inner ∷ rs) alone = cc
-no_records (raw n bytes ∷ rs) alone = cc
-no_records (mark m ∷ rs) alone = no_records rs alone
+no_records (open_type n bytes ∷ rs) alone = cc
+no_records (presence_mark m ∷ rs) alone = no_records rs alone
 
-first_of_one : (r : Record) (rs : List Record) → is_mark r ≡ false → first_tags (r ∷ rs) ≡ record_tags r
+first_of_one : (r : Record) (rs : List Record) → is_presence_mark r ≡ false → first_tags (r ∷ rs) ≡ record_tags r
 first_of_one r rs no_mark = ap (λ b. cond b (first_tags rs) (record_tags r)) no_mark
 
-in_tree : {V : Type 0} (c : ComponentType V) (v : V) (r : Record) → Fits c.presence c.tree (c.records v) → is_mark r ≡ false → unmarked (c.records v) ≡ r ∷ [] → LiesIn (record_tags r) (tree_tags c.tree)
+in_tree : {V : Type 0} (c : ComponentType V) (v : V) (r : Record) → Fits c.presence c.tree (c.records v) → is_presence_mark r ≡ false → unmarked (c.records v) ≡ r ∷ [] → LiesIn (record_tags r) (tree_tags c.tree)
 in_tree c v r (inl begins) no_mark is =
     subst (λ a. LiesIn a (tree_tags c.tree)) (first-unmarked (c.records v) ∙ ap first_tags is ∙ first_of_one r [] no_mark) begins.within
 in_tree c v r (inr absent) no_mark is = let none : unmarked (c.records v) ≡ [] = unmarked-marks (c.records v) absent.1 in cc
 
-can_begin : {V : Type 0} (cs : List (ComponentType V)) (v : V) (k : ℕ) (r : Record) (t : Tag) → EachCanStandInside cs → is_mark r ≡ false → written_of cs v k ≡ r ∷ [] → TellsComponent cs (record_tags r) t → CanBeginWith cs k t
+can_begin : {V : Type 0} (cs : List (ComponentType V)) (v : V) (k : ℕ) (r : Record) (t : Tag) → EachIsWellTagged cs → is_presence_mark r ≡ false → written_of cs v k ≡ r ∷ [] → TellsComponent cs (record_tags r) t → CanBeginWith cs k t
 can_begin [] v k r t can no_mark is tells = cc
 can_begin (c ∷ cs) v zero r t can no_mark is tells = tells.0 (in_tree c v r (c.fits can.0 v) no_mark is)
 can_begin (c ∷ cs) v (suc k) r t can no_mark is tells = can_begin cs v k r t can.1 no_mark is tells.1
@@ -149,14 +149,14 @@ module _ {D V P : Type 0} (R : Reader D) (cs : List (ComponentType V)) (v : V) (
       }
 
   -- the next record, after the marks
-  first_tells : (j : Item) (js : List Item) (t : Tag) → is_mark j.1 ≡ false → TellsComponent cs (first_tags (records (j ∷ js))) t → TellsComponent cs (record_tags j.1) t
+  first_tells : (j : Item) (js : List Item) (t : Tag) → is_presence_mark j.1 ≡ false → TellsComponent cs (first_tags (records (j ∷ js))) t → TellsComponent cs (record_tags j.1) t
   first_tells j js t no_mark tells = subst (λ a. TellsComponent cs a t) (first_of_one j.1 (records js) no_mark) tells
 
   none_has : (t : Tag) → Has (among []) t → ⊥
   none_has t (k, below, same) = omega (arith, below)
 
   -- where a component comes
-  comes_first : {d : D} {parts : List P} {height : ℕ} {outer : Outside} {place bound : ℕ} (t : Tag) → EachCanStandInside cs → (m : Midway d parts height outer place bound) →
+  comes_first : {d : D} {parts : List P} {height : ℕ} {outer : Outside} {place bound : ℕ} (t : Tag) → EachIsWellTagged cs → (m : Midway d parts height outer place bound) →
       BeginsWithRecord m.todo → (u : Tag) → Has (first_tags (records m.todo)) u → TellsComponent cs (first_tags (records m.todo)) t → AnotherComes d parts height outer place bound t
   comes_first {d} {parts} {height} {outer} {place} {bound} t can m begins u has tells =
       elim m.todo as (λ todo. BeginsWithRecord todo → Has (first_tags (records todo)) u → TellsComponent cs (first_tags (records todo)) t → All (IsAll cs v) todo → ((k : ℕ) → parts_at index_of k parts + items_at k todo ≡ length (written_of cs v k)) →
@@ -183,7 +183,7 @@ module _ {D V P : Type 0} (R : Reader D) (cs : List (ComponentType V)) (v : V) (
       ]
       begins has tells m.are m.counted m.few m.low m.no_higher m.at
 
-  pub comes : {d : D} {parts : List P} {height : ℕ} {outer : Outside} {place bound : ℕ} (e : D) (t : Tag) → EachCanStandInside cs → (m : Midway d parts height outer place bound) →
+  pub comes : {d : D} {parts : List P} {height : ℕ} {outer : Outside} {place bound : ℕ} (e : D) (t : Tag) → EachIsWellTagged cs → (m : Midway d parts height outer place bound) →
       Advances R d e 0 (records m.todo, outer) (marks_passed (records m.todo), outer) (IsNextTag cs (records m.todo)) (Ok (Some t)) → R.depth_left e ≡ R.depth_left d → AnotherComes e parts height outer place bound t
   unfolding ahead
   comes e t can m moves kept =

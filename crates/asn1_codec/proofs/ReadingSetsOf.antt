@@ -5,7 +5,7 @@ use Rattle.std.specs.Prelude.{IsPermutation}
 use Rattle.std.proofs.lemmas.List.Sorted.{All-permutation, IsPermutation-sym, length_permutation}
 use Rattle.asn1_codec.specs.Reading.{Reader, records_in, Outside}
 use Rattle.asn1_codec.proofs.ReadingElements.{as_many}
-use Rattle.asn1_model.specs.Meaning.{Meaning, CanStandInside, own_records}
+use Rattle.asn1_model.specs.Meaning.{Meaning, IsWellTagged, own_records}
 use Rattle.asn1_model.specs.Records.{Record, highest}
 use Rattle.asn1_model.proofs.SameRecords.{highest-permutation}
 use Rattle.asn1_codec.proofs.Rearrangements.{made_of, each_alone}
@@ -16,13 +16,13 @@ module _ {D V : Type 0} (R : Reader D) (m : Meaning V) where
     pub order : List V
     pub rearranged : IsPermutation order vs
     pub of_type : All m.IsOfType order
-    pub valid : All (m.IsValid R.takes) order
+    pub valid : All (m.IsValid R.accepts) order
     pub few : length order ≤ bound
     pub same_height : highest (flat_map (own_records m) order) ≡ highest (flat_map (own_records m) vs)
     pub at : R.remains d (flat_map (own_records m) order, outer)
 
-  pub before_elements : (can : CanStandInside m) (d : D) (vs : List V) (records : List Record) (bound : ℕ) (outer : Outside) →
-      All m.IsOfType vs → All (m.IsValid R.takes) vs → records_in (flat_map (own_records m) vs) ≤ bound → IsPermutation records (flat_map (own_records m) vs) →
+  pub before_elements : (can : IsWellTagged m) (d : D) (vs : List V) (records : List Record) (bound : ℕ) (outer : Outside) →
+      All m.IsOfType vs → All (m.IsValid R.accepts) vs → records_in (flat_map (own_records m) vs) ≤ bound → IsPermutation records (flat_map (own_records m) vs) →
       R.remains d (records, outer) → BeforeElements d vs bound outer
   before_elements can d vs records bound outer of_type valid few moved at =
       let one : V → Record = λ v. (m.one_record v m.tag m.constraints m.name can.0 can.1).item in
@@ -34,7 +34,7 @@ module _ {D V : Type 0} (R : Reader D) (m : Meaning V) where
         order = made.order;
         rearranged = made.rearranged;
         of_type = All-permutation m.IsOfType vs made.order back of_type;
-        valid = All-permutation (m.IsValid R.takes) vs made.order back valid;
+        valid = All-permutation (m.IsValid R.accepts) vs made.order back valid;
         few = omega (arith, few, as_many m can vs, length_permutation vs made.order back);
         same_height = ap highest (sym is) ∙ highest-permutation records (flat_map (own_records m) vs) moved;
         at = subst (λ l. R.remains d (l, outer)) is at;

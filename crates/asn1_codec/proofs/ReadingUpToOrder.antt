@@ -11,7 +11,7 @@ use Rattle.asn1_codec.proofs.MarksPassed.{same-marks_passed, same-next_tag}
 use Rattle.asn1_codec.proofs.RecordsIn.{records_in-permutation, same-records_in}
 use Rattle.asn1_model.specs.ConstraintSets.{ConstraintSet}
 use Rattle.asn1_model.specs.Orders.{Same, SameRecords, is_unordered}
-use Rattle.asn1_model.specs.Records.{Name, Record, Head, Mark, Content, scalar, raw, mark, holding, highest}
+use Rattle.asn1_model.specs.Records.{Name, Record, Head, PresenceMark, Content, scalar, open_type, presence_mark, holding, highest}
 use Rattle.asn1_model.specs.Tags.{Tags, BeginsWithin, LiesIn, ShareNone}
 use Rattle.asn1_model.proofs.SameRecords.{same-mark}
 use Rattle.asn1_model.proofs.SameUpToOrder.{same-first_tags, same-marks_alone, same_as_cons, same_as_holding, same_as_mark, same_as_none, same_as_raw, same_as_scalar}
@@ -119,22 +119,22 @@ module _ {D : Type 0} (R : Reader D) where
 
   pub reads_open_type : {V : Type 0} (old new : D) (Is : V → List ℕ → Type 0) (result : Result V DecodeError) →
       ReadsOpenType R old new Is result → ReadsOpenType (up_to_order R) old new Is result
-  reads_open_type old new Is result reads bytes n rest outer takes =
-      past_record old new (raw n bytes) rest outer (highest (raw n bytes ∷ [])) (λ w. Is w bytes) result (λ q same. same_as_raw same)
-      (λ others outside same. reads bytes n others outside takes)
+  reads_open_type old new Is result reads bytes n rest outer accepts =
+      past_record old new (open_type n bytes) rest outer (highest (open_type n bytes ∷ [])) (λ w. Is w bytes) result (λ q same. same_as_raw same)
+      (λ others outside same. reads bytes n others outside accepts)
 
-  pub reads_mark : {V : Type 0} (old new : D) (m : Mark) (result : Result V DecodeError) → ReadsMark R old new m result → ReadsMark (up_to_order R) old new m result
+  pub reads_mark : {V : Type 0} (old new : D) (m : PresenceMark) (result : Result V DecodeError) → ReadsMark R old new m result → ReadsMark (up_to_order R) old new m result
   reads_mark old new m result reads rest outer =
-      past_record old new (mark m) rest outer 0 (λ _. ⊤) result (λ q same. same_as_mark same) (λ others outside same. reads others outside)
+      past_record old new (presence_mark m) rest outer 0 (λ _. ⊤) result (λ q same. same_as_mark same) (λ others outside same. reads others outside)
 
-  pub tells_presence : (old new : D) (there away : Mark) (own : Tags) (result : Result Bool DecodeError) →
+  pub tells_presence : (old new : D) (there away : PresenceMark) (own : Tags) (result : Result Bool DecodeError) →
       TellsPresence R old new there away own result → TellsPresence (up_to_order R) old new there away own result
   tells_presence old new there away own result tells = record {
     there = λ rest outer begins.
-        past_record old new (mark there) rest outer 0 (λ b. b ≡ true) result (λ q same. same_as_mark same)
+        past_record old new (presence_mark there) rest outer 0 (λ b. b ≡ true) result (λ q same. same_as_mark same)
         (λ others outside same. tells.there others outside (begins_the_same own others rest same begins));
     away = λ rest outer apart.
-        past_record old new (mark away) rest outer 0 (λ b. b ≡ false) result (λ q same. same_as_mark same)
+        past_record old new (presence_mark away) rest outer 0 (λ b. b ≡ false) result (λ q same. same_as_mark same)
         (λ others outside same. tells.away others outside (subst (λ ts. ShareNone own ts) (sym (same-first_tags others rest same)) apart));
   }
 

@@ -9,7 +9,7 @@ use Rattle.std.proofs.lemmas.List.Sums.{sum_by-cons}
 use Rattle.asn1_components.specs.ComponentLists.{all_records}
 use Rattle.asn1_components.specs.ComponentTypes.{ComponentType}
 use Rattle.asn1_codec.specs.Reading.{marks_passed, records_in}
-use Rattle.asn1_model.specs.Records.{Record, scalar, scope, raw, mark, highest, is_mark}
+use Rattle.asn1_model.specs.Records.{Record, scalar, scope, open_type, presence_mark, highest, is_presence_mark}
 use Rattle.asn1_model.specs.Tags.{first_tags}
 use Rattle.asn1_codec.specs.SetParts.{EachIsOneRecord, unmarked, written_of}
 
@@ -31,7 +31,7 @@ items_from k (c ∷ cs) v = labelled k (c.records v) ++ items_from (k + 1) cs v
 
 -- how many records of the component of this index are among them
 abbrev is_of : ℕ → Item → Bool
-is_of k i = if is_mark i.1 then false else (i.0 == k)
+is_of k i = if is_presence_mark i.1 then false else (i.0 == k)
 
 abbrev pub items_at : ℕ → List Item → ℕ
 items_at k [] = 0
@@ -57,8 +57,8 @@ pub length-unmarked : (rs : List Record) → length (unmarked rs) ≡ records_in
 length-unmarked [] = refl
 length-unmarked (scalar t c n x ∷ rs) = ap suc (length-unmarked rs)
 length-unmarked (scope h inner ∷ rs) = ap suc (length-unmarked rs)
-length-unmarked (raw n bytes ∷ rs) = ap suc (length-unmarked rs)
-length-unmarked (mark m ∷ rs) = length-unmarked rs
+length-unmarked (open_type n bytes ∷ rs) = ap suc (length-unmarked rs)
+length-unmarked (presence_mark m ∷ rs) = length-unmarked rs
 
 pub at_most_one : {V : Type 0} (cs : List (ComponentType V)) (v : V) (k : ℕ) → EachIsOneRecord cs v → length (written_of cs v k) ≤ 1
 at_most_one [] v k one = omega arith
@@ -67,11 +67,11 @@ at_most_one (c ∷ cs) v (suc k) one = at_most_one cs v k one.1
 
 -- The record is all that is written of its component.
 abbrev pub IsAll : {V : Type 0} → List (ComponentType V) → V → Item → Type 0
-IsAll cs v i = is_mark i.1 ≡ false → written_of cs v i.0 ≡ i.1 ∷ []
+IsAll cs v i = is_presence_mark i.1 ≡ false → written_of cs v i.0 ≡ i.1 ∷ []
 
 -- the record is a mark, or all of these
 abbrev AllOf : List Record → Record → Type 0
-AllOf rs r = is_mark r ≡ false → rs ≡ r ∷ []
+AllOf rs r = is_presence_mark r ≡ false → rs ≡ r ∷ []
 
 pub nothing : {X : Type 0} (rs : List X) → length rs ≡ 0 → rs ≡ []
 nothing [] h = refl
@@ -81,8 +81,8 @@ marks_only : (qs rs : List Record) → records_in rs ≡ 0 → All (AllOf qs) rs
 marks_only qs [] few = All-nil (AllOf qs)
 marks_only qs (scalar t c n x ∷ rs) few = absurd (omega (arith, few))
 marks_only qs (scope h inner ∷ rs) few = absurd (omega (arith, few))
-marks_only qs (raw n bytes ∷ rs) few = absurd (omega (arith, few))
-marks_only qs (mark m ∷ rs) few = All-cons (AllOf qs) (mark m) rs (λ e. cc) (marks_only qs rs few)
+marks_only qs (open_type n bytes ∷ rs) few = absurd (omega (arith, few))
+marks_only qs (presence_mark m ∷ rs) few = All-cons (AllOf qs) (presence_mark m) rs (λ e. cc) (marks_only qs rs few)
 
 then_marks : (r : Record) (rs : List Record) → records_in rs ≡ 0 → All (AllOf (r ∷ unmarked rs)) (r ∷ rs)
 then_marks r rs few =
@@ -92,8 +92,8 @@ one_at_most : (rs : List Record) → records_in rs ≤ 1 → All (AllOf (unmarke
 one_at_most [] few = All-nil (AllOf [])
 one_at_most (scalar t c n x ∷ rs) few = then_marks (scalar t c n x) rs (omega (arith, few))
 one_at_most (scope h inner ∷ rs) few = then_marks (scope h inner) rs (omega (arith, few))
-one_at_most (raw n bytes ∷ rs) few = then_marks (raw n bytes) rs (omega (arith, few))
-one_at_most (mark m ∷ rs) few = All-cons (AllOf (unmarked rs)) (mark m) rs (λ e. cc) (one_at_most rs few)
+one_at_most (open_type n bytes ∷ rs) few = then_marks (open_type n bytes) rs (omega (arith, few))
+one_at_most (presence_mark m ∷ rs) few = All-cons (AllOf (unmarked rs)) (presence_mark m) rs (λ e. cc) (one_at_most rs few)
 
 -- so it is for each item
 pub all_are : {V : Type 0} (all cs : List (ComponentType V)) (k : ℕ) (v : V) → ((i : ℕ) → written_of all v (k + i) ≡ written_of cs v i) → EachIsOneRecord cs v → All (IsAll all v) (items_from k cs v)
@@ -119,15 +119,15 @@ items_at-others : (k j : ℕ) (rs : List Record) → (j == k) ≡ false → item
 items_at-others k j [] other = refl
 items_at-others k j (scalar t c n x ∷ rs) other = none_more (j == k) (items_at k (labelled j rs)) other (items_at-others k j rs other)
 items_at-others k j (scope h inner ∷ rs) other = none_more (j == k) (items_at k (labelled j rs)) other (items_at-others k j rs other)
-items_at-others k j (raw n bytes ∷ rs) other = none_more (j == k) (items_at k (labelled j rs)) other (items_at-others k j rs other)
-items_at-others k j (mark m ∷ rs) other = none_more false (items_at k (labelled j rs)) refl (items_at-others k j rs other)
+items_at-others k j (open_type n bytes ∷ rs) other = none_more (j == k) (items_at k (labelled j rs)) other (items_at-others k j rs other)
+items_at-others k j (presence_mark m ∷ rs) other = none_more false (items_at k (labelled j rs)) refl (items_at-others k j rs other)
 
 items_at-own : (k j : ℕ) (rs : List Record) → (j == k) ≡ true → items_at k (labelled j rs) ≡ length (unmarked rs)
 items_at-own k j [] own = refl
 items_at-own k j (scalar t c n x ∷ rs) own = one_more (j == k) (items_at k (labelled j rs)) (length (unmarked rs)) own (items_at-own k j rs own)
 items_at-own k j (scope h inner ∷ rs) own = one_more (j == k) (items_at k (labelled j rs)) (length (unmarked rs)) own (items_at-own k j rs own)
-items_at-own k j (raw n bytes ∷ rs) own = one_more (j == k) (items_at k (labelled j rs)) (length (unmarked rs)) own (items_at-own k j rs own)
-items_at-own k j (mark m ∷ rs) own = omega (arith, items_at-own k j rs own)
+items_at-own k j (open_type n bytes ∷ rs) own = one_more (j == k) (items_at k (labelled j rs)) (length (unmarked rs)) own (items_at-own k j rs own)
+items_at-own k j (presence_mark m ∷ rs) own = omega (arith, items_at-own k j rs own)
 
 items_at-append : (k : ℕ) (items others : List Item) → items_at k (items ++ others) ≡ items_at k items + items_at k others
 items_at-append k [] others = omega arith
@@ -165,12 +165,12 @@ items_at-permutation k items others moved =
 -- The items without the marks in front.
 abbrev pub front : List Item → List Item
 front [] = []
-front (i ∷ items) = if is_mark i.1 then front items else i ∷ items
+front (i ∷ items) = if is_presence_mark i.1 then front items else i ∷ items
 
 -- the first of them is no mark
 abbrev pub BeginsWithRecord : List Item → Type 0
 BeginsWithRecord [] = ⊤
-BeginsWithRecord (i ∷ items) = is_mark i.1 ≡ false
+BeginsWithRecord (i ∷ items) = is_presence_mark i.1 ≡ false
 
 -- What is the same of a list without the marks in front.
 pub record IsFront (items others : List Item) : Type 0 where
@@ -185,15 +185,15 @@ pub all_in_front : (P : Item → Type 0) (items : List Item) → All P items →
 all_in_front P [] all = all
 all_in_front P ((k, scalar t c n x) ∷ items) all = all
 all_in_front P ((k, scope h inner) ∷ items) all = all
-all_in_front P ((k, raw n bytes) ∷ items) all = all
-all_in_front P ((k, mark m) ∷ items) all = all_in_front P items (All-tail P (k, mark m) items all)
+all_in_front P ((k, open_type n bytes) ∷ items) all = all
+all_in_front P ((k, presence_mark m) ∷ items) all = all_in_front P items (All-tail P (k, presence_mark m) items all)
 
 pub is_front : (items : List Item) → IsFront items (front items)
 is_front [] = record { passed = refl; begins = tt; tags = refl; as_many = refl; as_high = refl; counts = λ k. refl }
 is_front ((k, scalar t c n x) ∷ items) = record { passed = refl; begins = refl; tags = refl; as_many = refl; as_high = refl; counts = λ j. refl }
 is_front ((k, scope h inner) ∷ items) = record { passed = refl; begins = refl; tags = refl; as_many = refl; as_high = refl; counts = λ j. refl }
-is_front ((k, raw n bytes) ∷ items) = record { passed = refl; begins = refl; tags = refl; as_many = refl; as_high = refl; counts = λ j. refl }
-is_front ((k, mark m) ∷ items) =
+is_front ((k, open_type n bytes) ∷ items) = record { passed = refl; begins = refl; tags = refl; as_many = refl; as_high = refl; counts = λ j. refl }
+is_front ((k, presence_mark m) ∷ items) =
     let f = is_front items in
     record {
       passed = f.passed;

@@ -3,7 +3,7 @@ use Rattle.std.proofs.Common.{◌≡◌, true, false, if◌then◌else◌, sym, 
 use Rattle.asn1_choices.specs.Alternatives.{Alternatives, OneOf, all_of, chosen_meaning, table_of}
 use Rattle.asn1_choices.specs.ChoiceTypes.{AgreesWithChoice}
 use Rattle.asn1_choices.specs.ChosenTags.{chosen_tag}
-use Rattle.asn1_model.specs.Composites.{alternative_records, prefix_records}
+use Rattle.asn1_model.specs.Composites.{alternative_records, explicit_tag_records}
 use Rattle.asn1_model.specs.ConstraintSets.{ConstraintSet}
 use Rattle.asn1_model.specs.Meaning.{Meaning}
 use Rattle.asn1_model.specs.Records.{Name, name_or}
@@ -18,16 +18,16 @@ module _ {E : Type 0} (W : Writer E) {V : Type 0} (m : Meaning V) (alts : Altern
   -- under a tag other than the CHOICE marker tag; the name is the one given, or the type's own
   pub as_tagged : (v : V) (t : Tag) (c : ConstraintSet) (n k : Name) (a b : E) {A : Type 0} (result : Result A EncodeError) →
       AgreesWithChoice alts pick m → tag_eq t CHOICE ≡ false → k ≡ name_or n m.name →
-      Writes W a (prefix_records t k (alternative_records (chosen_tag (all_of alts) (pick v)) m.constraints (table_of alts) m.name (chosen_meaning (all_of alts) (pick v)).records)) (chosen_meaning (all_of alts) (pick v)).IsOfType b result →
+      Writes W a (explicit_tag_records t k (alternative_records (chosen_tag (all_of alts) (pick v)) m.constraints (table_of alts) m.name (chosen_meaning (all_of alts) (pick v)).records)) (chosen_meaning (all_of alts) (pick v)).IsOfType b result →
       Writes W a (m.records v t c n) (m.IsOfType v) b result
   as_tagged v t c n k a b result law tagged named q =
       let rs = (chosen_meaning (all_of alts) (pick v)).records in
       let chosen = chosen_tag (all_of alts) (pick v) in
       let inner = alternative_records chosen m.constraints (table_of alts) m.name rs in
       subst (λ l. Writes W a l (m.IsOfType v) b result)
-      (ap (λ x. prefix_records t x inner) named
-      ∙ sym (law.records v t c n ∙ ap (λ x. if x then alternative_records chosen c (table_of alts) (name_or n m.name) rs else prefix_records t (name_or n m.name) inner) tagged))
-      (in_other_words W a b (prefix_records t k inner) result ((law.of_type v).1) q)
+      (ap (λ x. explicit_tag_records t x inner) named
+      ∙ sym (law.records v t c n ∙ ap (λ x. if x then alternative_records chosen c (table_of alts) (name_or n m.name) rs else explicit_tag_records t (name_or n m.name) inner) tagged))
+      (in_other_words W a b (explicit_tag_records t k inner) result ((law.of_type v).1) q)
 
   -- under the CHOICE marker tag
   pub as_untagged : (v : V) (t : Tag) (c : ConstraintSet) (n k : Name) (a b : E) {A : Type 0} (result : Result A EncodeError) →
@@ -40,5 +40,5 @@ module _ {E : Type 0} (W : Writer E) {V : Type 0} (m : Meaning V) (alts : Altern
       let inner = alternative_records chosen m.constraints (table_of alts) m.name rs in
       subst (λ l. Writes W a l (m.IsOfType v) b result)
       (ap (λ x. alternative_records chosen c (table_of alts) x rs) named
-      ∙ sym (law.records v t c n ∙ ap (λ x. if x then alternative_records chosen c (table_of alts) (name_or n m.name) rs else prefix_records t (name_or n m.name) inner) untagged))
+      ∙ sym (law.records v t c n ∙ ap (λ x. if x then alternative_records chosen c (table_of alts) (name_or n m.name) rs else explicit_tag_records t (name_or n m.name) inner) untagged))
       (in_other_words W a b (alternative_records chosen c (table_of alts) k rs) result ((law.of_type v).1) q)

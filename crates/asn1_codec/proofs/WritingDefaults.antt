@@ -22,13 +22,13 @@ module _ {E V : Type 0} (W : Writer E) (type : TaggedType V) (IsDefault : V → 
       subst (λ x. Writes W a (default_records in_root x type.tag (type.records v)) (x ≡ false → type.IsOfType v) b result) same wrote
 
   -- it equals the default
-  pub default_absent : (found : Bool) → (usual : V) × IsDefault usual × (eq v usual ≡ found) → found ≡ true →
+  pub default_absent : (found : Bool) → (default_value : V) × IsDefault default_value × (eq v default_value ≡ found) → found ≡ true →
       Writes W a (option_records in_root type.tag None) ⊤ b result → WritesDefault W type IsDefault eq v a b result
   default_absent found known is wrote equal told =
       default_is true equal (sym is ∙ sym known.2 ∙ told known.0 known.1) (in_other_words W a b _ result (λ _ wrong. cc) wrote)
 
   -- it does not
-  pub default_there : (found : Bool) → (usual : V) × IsDefault usual × (eq v usual ≡ found) → found ≡ false →
+  pub default_there : (found : Bool) → (default_value : V) × IsDefault default_value × (eq v default_value ≡ found) → found ≡ false →
       Writes W a (option_records in_root type.tag (Some (type.records v))) (type.IsOfType v) b result → WritesDefault W type IsDefault eq v a b result
   default_there found known is wrote equal told =
       default_is false equal (sym is ∙ sym known.2 ∙ told known.0 known.1) (in_other_words W a b _ result (λ of_type _. of_type) wrote)

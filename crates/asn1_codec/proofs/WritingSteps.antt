@@ -7,7 +7,7 @@ use Rattle.asn1_components.specs.Components.{Components, Kind, AgreesWithCompone
 use Rattle.asn1_model.specs.Composites.{group_records}
 use Rattle.asn1_model.specs.ConstraintSets.{ConstraintSet}
 use Rattle.asn1_model.specs.Meaning.{Meaning}
-use Rattle.asn1_model.specs.Records.{Record, Head, Name, scalar, scope, raw, mark, group_start, group_absent, group_end, holding, height, highest, is_mark, marks_alone}
+use Rattle.asn1_model.specs.Records.{Record, Head, Name, scalar, scope, open_type, presence_mark, group_start, group_absent, group_end, holding, height, highest, is_presence_mark, presence_marks_alone}
 use Rattle.asn1_model.specs.Tables.{Line, Table}
 use Rattle.asn1_tags.specs.declared.tags.Tag.{Tag}
 use Rattle.asn1_codec.specs.declared.encode_error.EncodeError.{EncodeError}
@@ -24,35 +24,35 @@ followed_by_none (outermost done) = ap outermost (sym (append-nil done))
 followed_by_none (in_scope h done outer) = ap (λ l. in_scope h l outer) (sym (append-nil done))
 followed_by_none (in_group table done outer) = ap (λ l. in_group table l outer) (sym (append-nil done))
 
-mark-height : (r : Record) → is_mark r ≡ true → height r ≡ 0
+mark-height : (r : Record) → is_presence_mark r ≡ true → height r ≡ 0
 mark-height (scalar t c n x) is = refl
 mark-height (scope h rs) is = cc
-mark-height (raw n bytes) is = refl
-mark-height (mark m) is = refl
+mark-height (open_type n bytes) is = refl
+mark-height (presence_mark m) is = refl
 
 both_true : (a b : Bool) → (a && b) ≡ true → (a ≡ true) × (b ≡ true)
 both_true true b h = (refl, h)
 both_true false b h = cc
 
-marks-height : (rs : List Record) → marks_alone rs ≡ true → highest rs ≡ 0
+marks-height : (rs : List Record) → presence_marks_alone rs ≡ true → highest rs ≡ 0
 marks-height [] alone = refl
 marks-height (r ∷ rs) alone =
-    let both = both_true (is_mark r) (marks_alone rs) alone in
+    let both = both_true (is_presence_mark r) (presence_marks_alone rs) alone in
     omega (arith, mark-height r both.0, marks-height rs both.1)
 
 -- a group is nested as deep as its components
-group-height : (table : Table Line) (b : Bool) (rs : List Record) → (b ≡ true → highest rs ≡ 0) → highest (if b then mark group_absent ∷ [] else mark (group_start table) ∷ rs ++ mark group_end ∷ []) ≡ highest rs
+group-height : (table : Table Line) (b : Bool) (rs : List Record) → (b ≡ true → highest rs ≡ 0) → highest (if b then presence_mark group_absent ∷ [] else presence_mark (group_start table) ∷ rs ++ presence_mark group_end ∷ []) ≡ highest rs
 group-height table true rs flat = sym (flat refl)
-group-height table false rs flat = omega (arith, highest-append rs (mark group_end ∷ []))
+group-height table false rs flat = omega (arith, highest-append rs (presence_mark group_end ∷ []))
 
 highest-group : (table : Table Line) (rs : List Record) → highest (group_records table (Some rs)) ≡ highest rs
-highest-group table rs = group-height table (marks_alone rs) rs (marks-height rs)
+highest-group table rs = group-height table (presence_marks_alone rs) rs (marks-height rs)
 
 -- a group is rejected where its components are
 group_rejected : (table : Table Line) (rejects : List Record → Type 0) (b : Bool) (rs : List Record) → ((before rs after : List Record) → rejects rs → rejects (before ++ (rs ++ after))) → (b ≡ true → ¬ rejects rs) →
-    rejects rs → rejects (if b then mark group_absent ∷ [] else mark (group_start table) ∷ rs ++ mark group_end ∷ [])
+    rejects rs → rejects (if b then presence_mark group_absent ∷ [] else presence_mark (group_start table) ∷ rs ++ presence_mark group_end ∷ [])
 group_rejected table rejects true rs part marks is = absurd (marks refl is)
-group_rejected table rejects false rs part marks is = part (mark (group_start table) ∷ []) rs (mark group_end ∷ []) is
+group_rejected table rejects false rs part marks is = part (presence_mark (group_start table) ∷ []) rs (presence_mark group_end ∷ []) is
 
 -- a refusal because memory ran out is no error of depth
 refusal_is_not_deep : (b : Bool) (e : EncodeError) → (b ≡ false → e ≡ Memory) → (b ≡ true → e ≡ Failed) → ¬ (e ≡ Depth)
@@ -169,7 +169,7 @@ module _ {E : Type 0} (W : Writer E) where
   group_fails {table = table} {rs} law p q = record {
     error = later_error (p.no_failure ∙ sym p.had_not_failed) q.error;
     too_deep = λ is. let high = q.too_deep is in omega (arith, highest-group table rs, high, p.same_depth);
-    rejected = λ is w wrote. group_rejected table W.rejects (marks_alone rs) rs law.part (law.marks rs) (q.rejected is _ (p.opened w wrote));
+    rejected = λ is w wrote. group_rejected table W.rejects (presence_marks_alone rs) rs law.part (law.marks rs) (q.rejected is _ (p.opened w wrote));
   }
 
   pub writes_group : {a b c : E} {table : Table Line} {rs : List Record} {T : Type 0} (d : E) {A : Type 0} (result : Result A EncodeError) →

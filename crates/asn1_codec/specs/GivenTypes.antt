@@ -2,11 +2,11 @@
 use Rattle.std.specs.Prelude.{refl}
 use Rattle.asn1_tags.specs.Trees.{leaf}
 use Rattle.asn1_tags.specs.declared.tags.Tag.{Tag}
-use Rattle.asn1_model.specs.Composites.{prefix_records}
+use Rattle.asn1_model.specs.Composites.{explicit_tag_records}
 use Rattle.asn1_model.specs.ConstraintSets.{ConstraintSet}
-use Rattle.asn1_model.specs.Meaning.{Meaning, CanStandInside, CanStandInsideUnder}
+use Rattle.asn1_model.specs.Meaning.{Meaning, IsWellTagged, IsWellTaggedUnder}
 use Rattle.asn1_model.specs.OneRecord.{scope_is_one}
-use Rattle.asn1_model.specs.Records.{Name, prefix}
+use Rattle.asn1_model.specs.Records.{Name, explicit_tag}
 use Rattle.asn1_model.specs.TaggedTypes.{TaggedType, explicitly_tagged_as}
 
 -- A type under whatever name: a call that writes is given one, and one that reads takes any.
@@ -19,11 +19,11 @@ given t c m n = record {
   tag = t;
   tree = m.tree t;
   records = λ v. m.records v t c n;
-  CanStandInside = CanStandInsideUnder m t;
+  IsWellTagged = IsWellTaggedUnder m t;
   IsOfType = m.IsOfType;
   IsValid = m.IsValid;
   one_record = λ can v. m.one_record v t c n can.0 can.1;
-  well_formed = λ takes v. m.well_formed takes v t c n;
+  well_formed = λ accepts v. m.well_formed accepts v t c n;
 }
 
 -- under a tag, with its own constraints
@@ -47,10 +47,10 @@ abbrev pub given_after_tag : {V : Type 0} → Tag → ConstraintSet → Meaning 
 given_after_tag t c m n = record {
   tag = t;
   tree = leaf t;
-  records = λ v. prefix_records t n (m.records v m.tag c m.name);
-  CanStandInside = CanStandInside m;
+  records = λ v. explicit_tag_records t n (m.records v m.tag c m.name);
+  IsWellTagged = IsWellTagged m;
   IsOfType = m.IsOfType;
   IsValid = m.IsValid;
-  one_record = λ _ v. scope_is_one t (prefix t n) (m.records v m.tag c m.name) refl;
-  well_formed = λ takes v valid. ((tt, m.well_formed takes v m.tag c m.name valid), tt);
+  one_record = λ _ v. scope_is_one t (explicit_tag t n) (m.records v m.tag c m.name) refl;
+  well_formed = λ accepts v valid. ((tt, m.well_formed accepts v m.tag c m.name valid), tt);
 }

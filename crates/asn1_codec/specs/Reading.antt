@@ -3,11 +3,11 @@ use Rattle.std.specs.Prelude.{◌≡◌, ◌≢◌, ◌⊎◌, ℕ, suc, ◌≤�
 use Rattle.std.specs.Option.{option_eq, option_map}
 use Rattle.asn1_tags.specs.declared.tags.Tag.{Tag}
 use Rattle.asn1_components.specs.ComponentTypes.{ComponentType}
-use Rattle.asn1_model.specs.Composites.{default_records, option_records, prefix_records}
+use Rattle.asn1_model.specs.Composites.{default_records, option_records, explicit_tag_records}
 use Rattle.asn1_model.specs.ConstraintSets.{ConstraintSet}
-use Rattle.asn1_model.specs.Meaning.{Meaning, CanStandInside, CanStandInsideUnder, tags}
+use Rattle.asn1_model.specs.Meaning.{Meaning, IsWellTagged, IsWellTaggedUnder, tags}
 use Rattle.asn1_model.specs.Orders.{SameRecords}
-use Rattle.asn1_model.specs.Records.{Name, Record, Head, Mark, Side, Content, scalar, raw, mark, holding, highest, is_mark, marks_alone}
+use Rattle.asn1_model.specs.Records.{Name, Record, Head, PresenceMark, Side, Content, scalar, open_type, presence_mark, holding, highest, is_presence_mark, presence_marks_alone}
 use Rattle.asn1_model.specs.Tags.{Tags, only, BeginsWithin, Has, LiesIn, ShareNone, first_tags, tree_tags}
 use Rattle.asn1_codec.specs.Refusals.{Refusals}
 use Rattle.asn1_codec.specs.declared.decode_error.DecodeError.{DecodeError}
@@ -35,12 +35,12 @@ pub record SameRemaining (one other : Remaining) : Type 0 where
 -- how many records there are, presence marks apart
 abbrev pub records_in : List Record → ℕ
 records_in [] = 0
-records_in (r ∷ rs) = if is_mark r then records_in rs else suc (records_in rs)
+records_in (r ∷ rs) = if is_presence_mark r then records_in rs else suc (records_in rs)
 
 -- what is left where the presence marks in front are passed over
 abbrev pub marks_passed : List Record → List Record
 marks_passed [] = []
-marks_passed (r ∷ rs) = if is_mark r then marks_passed rs else r ∷ rs
+marks_passed (r ∷ rs) = if is_presence_mark r then marks_passed rs else r ∷ rs
 
 -- Why a call may fail before records of this height: there is no memory, or they are nested deeper than the depth left.
 abbrev pub MayFail : ℕ → ℕ → DecodeError → Type 0
@@ -49,7 +49,7 @@ MayFail depth_left height e = (e ≡ Memory) ⊎ ((e ≡ Depth) × (depth_left <
 -- What may follow the records of a value under a tag: anything where each value of the type is a single record; and else,
 -- where they are presence marks alone, nothing that begins with a tag of the type.
 abbrev pub MayFollow : {V : Type 0} → Meaning V → Tag → List Record → List Record → Type 0
-MayFollow m t rs rest = m.IsSingleRecord ⊎ (marks_alone rs ≡ true → ShareNone (tags m t) (first_tags rest))
+MayFollow m t rs rest = m.IsSingleRecord ⊎ (presence_marks_alone rs ≡ true → ShareNone (tags m t) (first_tags rest))
 
 -- What a decoder says of itself: what remains to be read, whether it has failed, how many scopes may still be opened in one
 -- another, and which byte strings it takes as one value of an open type.
@@ -57,7 +57,7 @@ pub record Reader (D : Type 0) : Type 1 where
   pub remains : D → Remaining → Type 0
   pub failed : D → Bool
   pub depth_left : D → ℕ
-  pub takes : List ℕ → Bool
+  pub accepts : List ℕ → Bool
 
 -- Each component in which these tags lie can begin with the tag.
 abbrev pub TellsComponent : {V : Type 0} → List (ComponentType V) → Tags → Tag → Type 0
@@ -69,7 +69,7 @@ TellsComponent (c ∷ cs) own t = (LiesIn own (tree_tags c.tree) → Has (tree_t
 -- that of the record, which a codec without tags does not know of a CHOICE.
 pub record IsNextTag {V : Type 0} (cs : List (ComponentType V)) (items : List Record)
     (next : Option Tag) : Type 0 where
-  pub none : next ≡ None → marks_alone items ≡ true
+  pub none : next ≡ None → presence_marks_alone items ≡ true
   pub some : (t : Tag) → next ≡ Some t →
       (u : Tag) × (Has (first_tags items) u × TellsComponent cs (first_tags items) t)
 
@@ -104,20 +104,20 @@ module _ {D : Type 0} (R : Reader D) where
   -- holds of.
   abbrev pub ReadsOpenType : {V : Type 0} → D → D → (V → List ℕ → Type 0) → Result V DecodeError → Type 0
   ReadsOpenType old new Is result =
-      (bytes : List ℕ) (n : Name) (rest : List Record) (outer : Outside) → IsTrue (R.takes bytes) →
-      ReadsBack old new (raw n bytes ∷ []) rest outer (λ w. Is w bytes) result
+      (bytes : List ℕ) (n : Name) (rest : List Record) (outer : Outside) → IsTrue (R.accepts bytes) →
+      ReadsBack old new (open_type n bytes ∷ []) rest outer (λ w. Is w bytes) result
 
   -- a call that goes past this presence mark
-  abbrev pub ReadsMark : {V : Type 0} → D → D → Mark → Result V DecodeError → Type 0
+  abbrev pub ReadsMark : {V : Type 0} → D → D → PresenceMark → Result V DecodeError → Type 0
   ReadsMark old new m result =
-      (rest : List Record) (outer : Outside) → Advances old new 0 (mark m ∷ rest, outer) (rest, outer) (λ _. ⊤) result
+      (rest : List Record) (outer : Outside) → Advances old new 0 (presence_mark m ∷ rest, outer) (rest, outer) (λ _. ⊤) result
 
   -- A call that reads a value of a well-tagged type, under this tag, these constraints and any name: of each that is of the
   -- type and valid, it answers one that is equal.
   abbrev pub ReadsValue : {V : Type 0} → Meaning V → (V → V → Bool) → Tag → ConstraintSet → D → D → Result V DecodeError → Type 0
   ReadsValue {V = V} m eq t c old new result =
       (v : V) (n : Name) (rest : List Record) (outer : Outside) →
-      m.IsWellTagged t → m.IsOfType v → m.IsValid R.takes v → MayFollow m t (m.records v t c n) rest →
+      m.HasDistinctTags t → m.IsOfType v → m.IsValid R.accepts v → MayFollow m t (m.records v t c n) rest →
       ReadsBack old new (m.records v t c n) rest outer (λ w. eq w v ≡ true) result
 
   -- A type's own error, which is not one of depth, nor that of a failed decoder; and the decoder has not failed. It has read
@@ -125,7 +125,7 @@ module _ {D : Type 0} (R : Reader D) where
   pub record HasReadPast {V : Type 0} (m : Meaning V) (t : Tag) (c : ConstraintSet) (old new : D) (result : Result V DecodeError) : Type 0 where
     pub same_depth : R.depth_left new ≡ R.depth_left old
     pub at : (v : V) (n : Name) (rest : List Record) (outer : Outside) →
-        m.IsWellTagged t → m.IsOfType v → m.IsValid R.takes v → MayFollow m t (m.records v t c n) rest →
+        m.HasDistinctTags t → m.IsOfType v → m.IsValid R.accepts v → MayFollow m t (m.records v t c n) rest →
         R.remains old (m.records v t c n ++ rest, outer) → R.remains new (rest, outer)
     pub not_too_deep : IfErr result (λ e. e ≢ Depth)
     pub not_failed : IfErr result (λ e. e ≢ Failed)
@@ -156,33 +156,33 @@ module _ {D : Type 0} (R : Reader D) where
   -- A call that reads a component that may be absent, on this side, which is written under this tag and begins with one of
   -- these tags, by the records of a value under any name. What follows one that is absent begins with none of its tags.
   abbrev pub ReadsOptional : {V : Type 0} → Side → Tag → Tags → (Name → V → List Record) →
-      (CanStandInside : Type 0) → (V → Type 0) → (V → Type 0) → (V → V → Bool) → D → D →
+      (IsWellTagged : Type 0) → (V → Type 0) → (V → Type 0) → (V → V → Bool) → D → D →
       Result (Option V) DecodeError → Type 0
-  ReadsOptional {V = V} side t own records CanStandInside IsOfType IsValid eq old new result =
+  ReadsOptional {V = V} side t own records IsWellTagged IsOfType IsValid eq old new result =
       (v : Option V) (n : Name) (rest : List Record) (outer : Outside) →
-      CanStandInside → IfSome v IsOfType → IfSome v IsValid → (v ≡ None → ShareNone own (first_tags rest)) →
+      IsWellTagged → IfSome v IsOfType → IfSome v IsValid → (v ≡ None → ShareNone own (first_tags rest)) →
       ReadsBack old new (option_records side t (option_map (records n) v)) rest outer (λ w. option_eq eq w v ≡ true) result
 
   -- the same of a value of this type, under these constraints
   abbrev pub ReadsOption : {V : Type 0} → Side → Meaning V → (V → V → Bool) → Tag → ConstraintSet →
       D → D → Result (Option V) DecodeError → Type 0
   ReadsOption side m eq t c old new result =
-      ReadsOptional side t (tags m t) (λ n v. m.records v t c n) (CanStandInsideUnder m t) m.IsOfType (m.IsValid R.takes) eq old new result
+      ReadsOptional side t (tags m t) (λ n v. m.records v t c n) (IsWellTaggedUnder m t) m.IsOfType (m.IsValid R.accepts) eq old new result
 
   -- the same after an explicit tag, with the type's own constraints and name
   abbrev pub ReadsOptionAfterTag : {V : Type 0} → Side → Meaning V → (V → V → Bool) → Tag →
       ConstraintSet → D → D → Result (Option V) DecodeError → Type 0
   ReadsOptionAfterTag side m eq t c old new result =
-      ReadsOptional side t (only t) (λ n v. prefix_records t n (m.records v m.tag c m.name)) (CanStandInside m) m.IsOfType (m.IsValid R.takes) eq old new result
+      ReadsOptional side t (only t) (λ n v. explicit_tag_records t n (m.records v m.tag c m.name)) (IsWellTagged m) m.IsOfType (m.IsValid R.accepts) eq old new result
 
-  -- A call that reads a component with a default, which `IsUsual` holds of: it is absent where it equals that. Of an absent
+  -- A call that reads a component with a default, which `IsDefault` holds of: it is absent where it equals that. Of an absent
   -- one nothing is asked, but that what follows begins with none of its tags.
   abbrev pub ReadsDefault : {V : Type 0} → Side → (V → Type 0) → Meaning V → (V → V → Bool) → Tag →
       ConstraintSet → D → D → Result V DecodeError → Type 0
-  ReadsDefault {V = V} side IsUsual m eq t c old new result =
+  ReadsDefault {V = V} side IsDefault m eq t c old new result =
       (v : V) (equal : Bool) (n : Name) (rest : List Record) (outer : Outside) →
-      ((usual : V) → IsUsual usual → eq v usual ≡ equal) →
-      CanStandInsideUnder m t → (equal ≡ false → m.IsOfType v) → (equal ≡ false → m.IsValid R.takes v) →
+      ((default_value : V) → IsDefault default_value → eq v default_value ≡ equal) →
+      IsWellTaggedUnder m t → (equal ≡ false → m.IsOfType v) → (equal ≡ false → m.IsValid R.accepts v) →
       (equal ≡ true → ShareNone (tags m t) (first_tags rest)) →
       ReadsBack old new (default_records side equal t (m.records v t c n)) rest outer (λ w. eq w v ≡ true) result
 
@@ -204,21 +204,21 @@ module _ {D : Type 0} (R : Reader D) where
   -- the type.
   abbrev pub Refuses : {V : Type 0} → Refusals → Tag → ConstraintSet → D → D → Result V DecodeError → Type 0
   Refuses refusals t c old new result =
-      (rs rest : List Record) (outer : Outside) (e : DecodeError) → refusals R.takes t c rs e →
+      (rs rest : List Record) (outer : Outside) (e : DecodeError) → refusals R.accepts t c rs e →
       ReadsAndRefuses old new rs rest outer e result
 
   -- A call that tells whether a component is there, which has these tags, and goes past the presence mark that says so. A
   -- component that is there begins with one of its tags; what follows one that is absent begins with none.
-  pub record TellsPresence (old new : D) (present absent : Mark) (own : Tags) (result : Result Bool DecodeError) : Type 0 where
+  pub record TellsPresence (old new : D) (present absent : PresenceMark) (own : Tags) (result : Result Bool DecodeError) : Type 0 where
     pub there : (rest : List Record) (outer : Outside) → BeginsWithin own rest →
-        Advances old new 0 (mark present ∷ rest, outer) (rest, outer) (λ b. b ≡ true) result
+        Advances old new 0 (presence_mark present ∷ rest, outer) (rest, outer) (λ b. b ≡ true) result
     pub away : (rest : List Record) (outer : Outside) → ShareNone own (first_tags rest) →
-        Advances old new 0 (mark absent ∷ rest, outer) (rest, outer) (λ b. b ≡ false) result
+        Advances old new 0 (presence_mark absent ∷ rest, outer) (rest, outer) (λ b. b ≡ false) result
 
   -- A call that tells whether a record is left in the innermost scope, and stays before it. Inside no scope it tells nothing.
   pub record TellsMore (old new : D) (result : Result Bool DecodeError) : Type 0 where
     pub some : (r : Record) (items : List Record) (scope : Head × List Record) (outer : Outside) →
-        is_mark r ≡ false →
+        is_presence_mark r ≡ false →
         Advances old new 0 (r ∷ items, scope ∷ outer) (r ∷ items, scope ∷ outer) (λ b. b ≡ true) result
     pub none : (scope : Head × List Record) (outer : Outside) →
         Advances old new 0 ([], scope ∷ outer) ([], scope ∷ outer) (λ b. b ≡ false) result

@@ -6,13 +6,13 @@ use Rattle.asn1_tags.specs.Trees.{choice}
 use Rattle.asn1_tags.specs.declared.tags.Tag.{Tag}
 use Rattle.asn1_choices.specs.Alternatives.{Alternatives, CanBeChosen, Each, HaveDistinctTags, OneOf, all_of, chosen, chosen_meaning, table_of}
 use Rattle.asn1_choices.specs.ChosenTags.{TellsAlternative, chosen_tag}
-use Rattle.asn1_components.specs.ComponentLists.{CanBeInSequence, EachCanStandInside, EachIsOfType, EachIsValid, trees_of}
+use Rattle.asn1_components.specs.ComponentLists.{CanBeInSequence, EachIsWellTagged, EachIsOfType, EachIsValid, trees_of}
 use Rattle.asn1_components.specs.Components.{AreDistinctIn, Components, Kind, all_components, component_records, head_in, lines}
 use Rattle.asn1_components.specs.Following.{EndsApart}
 use Rattle.asn1_model.specs.Composites.{alternative_records, default_records, group_records, option_records}
 use Rattle.asn1_model.specs.ConstraintSets.{ConstraintSet}
-use Rattle.asn1_model.specs.Meaning.{Meaning, CanStandInside, own_records}
-use Rattle.asn1_model.specs.Records.{Content, alternative, Head, Name, Record, Side, highest, holding, marks_alone, set}
+use Rattle.asn1_model.specs.Meaning.{Meaning, IsWellTagged, own_records}
+use Rattle.asn1_model.specs.Records.{Content, alternative, Head, Name, Record, Side, highest, holding, presence_marks_alone, set}
 use Rattle.asn1_model.specs.Tags.{Has, ShareNone, first_tags, tree_tags}
 use Rattle.asn1_codec.specs.GivenTypes.{Named}
 use Rattle.asn1_codec.specs.Reading as reading
@@ -45,7 +45,7 @@ module _ {D : Type 0} (R : Reader D) {V : Type 0} where
   abbrev pub Reads : {W : Type 0} → Named V → (W → V → Bool) → D → D → Result W DecodeError → Type 0
   Reads type eq old new result =
       (v : V) (n : Name) (rest : List Record) (outer : Outside) →
-      (type n).CanStandInside → (type n).IsOfType v → (type n).IsValid R.takes v →
+      (type n).IsWellTagged → (type n).IsOfType v → (type n).IsValid R.accepts v →
       ReadsBack R old new ((type n).records v) rest outer (λ w. eq w v ≡ true) result
 
   -- A call that reads a component that may be absent, on this side of the extension marker (X.680, 25.1). What follows one that
@@ -53,7 +53,7 @@ module _ {D : Type 0} (R : Reader D) {V : Type 0} where
   abbrev pub ReadsOptional : Side → Named V → (V → V → Bool) → D → D → Result (Option V) DecodeError → Type 0
   ReadsOptional side type eq old new result =
       (v : Option V) (n : Name) (rest : List Record) (outer : Outside) →
-      (type n).CanStandInside → IfSome v (type n).IsOfType → IfSome v ((type n).IsValid R.takes) →
+      (type n).IsWellTagged → IfSome v (type n).IsOfType → IfSome v ((type n).IsValid R.accepts) →
       (v ≡ None → ShareNone (tree_tags (type n).tree) (first_tags rest)) →
       ReadsBack R old new (option_records side (type n).tag (option_map (type n).records v)) rest outer (λ w. option_eq eq w v ≡ true) result
 
@@ -63,8 +63,8 @@ module _ {D : Type 0} (R : Reader D) {V : Type 0} where
   abbrev pub ReadsDefault : Side → Named V → (IsDefault : V → Type 0) → (V → V → Bool) → D → D → Result V DecodeError → Type 0
   ReadsDefault side type IsDefault eq old new result =
       (v : V) (equal : Bool) (n : Name) (rest : List Record) (outer : Outside) →
-      ((usual : V) → IsDefault usual → eq v usual ≡ equal) →
-      (type n).CanStandInside → (equal ≡ false → (type n).IsOfType v) → (equal ≡ false → (type n).IsValid R.takes v) →
+      ((default_value : V) → IsDefault default_value → eq v default_value ≡ equal) →
+      (type n).IsWellTagged → (equal ≡ false → (type n).IsOfType v) → (equal ≡ false → (type n).IsValid R.accepts v) →
       (equal ≡ true → ShareNone (tree_tags (type n).tree) (first_tags rest)) →
       ReadsBack R old new (default_records side equal (type n).tag ((type n).records v)) rest outer (λ w. eq w v ≡ true) result
 
@@ -72,8 +72,8 @@ module _ {D : Type 0} (R : Reader D) {V : Type 0} where
   abbrev pub ReadsComponents : Kind → Tag → Components V → (V → V → Bool) → D → D → Result V DecodeError → Type 0
   ReadsComponents kind t components eq old new result =
       (v : V) (n : Name) (rest : List Record) (outer : Outside) →
-      EachCanStandInside (all_components components) × AreDistinctIn kind (all_components components) →
-      EachIsOfType (all_components components) v → EachIsValid (all_components components) R.takes v →
+      EachIsWellTagged (all_components components) × AreDistinctIn kind (all_components components) →
+      EachIsOfType (all_components components) v → EachIsValid (all_components components) R.accepts v →
       ReadsBack R old new (holding (head_in kind t (lines components) n) (component_records components v) ∷ []) rest outer (λ w. eq w v ≡ true) result
 
   -- A call that reads what a SEQUENCE or a group holds: its components, in the order of their definition. What follows them begins
@@ -82,7 +82,7 @@ module _ {D : Type 0} (R : Reader D) {V : Type 0} where
   ReadsFields components eq old new result =
       (v : V) (rest : List Record) (outer : Outside) →
       CanBeInSequence (all_components components) → EachIsOfType (all_components components) v →
-      EachIsValid (all_components components) R.takes v → EndsApart (all_components components) rest →
+      EachIsValid (all_components components) R.accepts v → EndsApart (all_components components) rest →
       ReadsBack R old new (component_records components v) rest outer (λ w. eq w v ≡ true) result
 
   -- A call that reads a group of additions (25.1), which may be absent. One that is there writes a component. What follows it
@@ -91,7 +91,7 @@ module _ {D : Type 0} (R : Reader D) {V : Type 0} where
   ReadsGroup components eq old new result =
       (v : Option V) (rest : List Record) (outer : Outside) →
       CanBeInSequence (all_components components) → IfSome v (EachIsOfType (all_components components)) →
-      IfSome v (λ w. EachIsValid (all_components components) R.takes w × (marks_alone (component_records components w) ≡ false)) →
+      IfSome v (λ w. EachIsValid (all_components components) R.accepts w × (presence_marks_alone (component_records components w) ≡ false)) →
       ShareNone (tree_tags (choice (trees_of (all_components components)))) (first_tags rest) →
       ReadsBack R old new (group_records (lines components) (option_map (component_records components) v)) rest outer
       (λ w. option_eq eq w v ≡ true) result
@@ -103,7 +103,7 @@ module _ {D : Type 0} (R : Reader D) {V : Type 0} where
   ReadsAlternative c alternatives pick eq old new result =
       (v : V) (n : Name) (rest : List Record) (outer : Outside) →
       HaveDistinctTags (all_of alternatives) → Each CanBeChosen (all_of alternatives) →
-      (chosen_meaning (all_of alternatives) (pick v)).IsOfType → (chosen_meaning (all_of alternatives) (pick v)).IsValid R.takes →
+      (chosen_meaning (all_of alternatives) (pick v)).IsOfType → (chosen_meaning (all_of alternatives) (pick v)).IsValid R.accepts →
       ReadsBack R old new
       (alternative_records (chosen_tag (all_of alternatives) (pick v)) c (table_of alternatives) n
       (chosen_meaning (all_of alternatives) (pick v)).records)
@@ -115,7 +115,7 @@ module _ {D : Type 0} (R : Reader D) {V : Type 0} where
   ReadsChosen t alternatives pick eq old new result =
       (v : V) (rest : List Record) (outer : Outside) →
       HaveDistinctTags (all_of alternatives) → Each CanBeChosen (all_of alternatives) →
-      (chosen_meaning (all_of alternatives) (pick v)).IsOfType → (chosen_meaning (all_of alternatives) (pick v)).IsValid R.takes →
+      (chosen_meaning (all_of alternatives) (pick v)).IsOfType → (chosen_meaning (all_of alternatives) (pick v)).IsValid R.accepts →
       Has (tree_tags (chosen (all_of alternatives) (pick v)).type.tree) t →
       ReadsBack R old new (chosen_meaning (all_of alternatives) (pick v)).records rest outer (λ w. eq w v ≡ true) result
 
@@ -123,14 +123,14 @@ module _ {D : Type 0} (R : Reader D) {V : Type 0} where
   abbrev pub ReadsElements : {W : Type 0} → (Name → Head) → Meaning V → (W → List V → Bool) → D → D → Result W DecodeError → Type 0
   ReadsElements head m eq old new result =
       (vs : List V) (n : Name) (rest : List Record) (outer : Outside) →
-      CanStandInside m → All m.IsOfType vs → All (m.IsValid R.takes) vs →
+      IsWellTagged m → All m.IsOfType vs → All (m.IsValid R.accepts) vs →
       ReadsBack R old new (holding (head n) (flat_map (own_records m) vs) ∷ []) rest outer (λ w. eq w vs ≡ true) result
 
   -- A call that reads the elements that are left in the innermost scope, of which there are at most this many.
   abbrev pub ReadsElementsLeft : {W : Type 0} → ℕ → Meaning V → (W → List V → Bool) → D → D → Result W DecodeError → Type 0
   ReadsElementsLeft bound m eq old new result =
       (vs : List V) (scope : Head × List Record) (outer : Outside) →
-      CanStandInside m → All m.IsOfType vs → All (m.IsValid R.takes) vs → length vs ≤ bound →
+      IsWellTagged m → All m.IsOfType vs → All (m.IsValid R.accepts) vs → length vs ≤ bound →
       Advances R old new (highest (flat_map (own_records m) vs)) (flat_map (own_records m) vs, scope ∷ outer) ([], scope ∷ outer)
       (λ w. eq w vs ≡ true) result
 
@@ -141,7 +141,7 @@ module _ {D : Type 0} (R : Reader D) {V : Type 0} where
   ReadsPartsLeft bound components index_of IsPartOf parts_in old new result =
       (v : V) (t : Tag) (n : Name) (items rest : List Record) (outer : Outside) →
       CanBeInSet (all_components components) → EachIsOfType (all_components components) v →
-      EachIsValid (all_components components) R.takes v →
+      EachIsValid (all_components components) R.accepts v →
       IsPermutation items (component_records components v) → records_in items ≤ bound →
       Advances R old new (highest items) (items, (set t (lines components) n, rest) ∷ outer) ([], (set t (lines components) n, rest) ∷ outer)
       (λ w. ArePartsOf (all_components components) v index_of (IsPartOf v) (parts_in w)) result

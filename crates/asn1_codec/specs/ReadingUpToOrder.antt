@@ -14,5 +14,5 @@ module _ {D : Type 0} (R : Reader D) where
     remains = λ d ahead. RemainsUpToOrder d ahead;
     failed = λ d. R.failed d;
     depth_left = λ d. R.depth_left d;
-    takes = λ bytes. R.takes bytes;
+    accepts = λ bytes. R.accepts bytes;
   }

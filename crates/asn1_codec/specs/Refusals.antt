@@ -4,7 +4,7 @@ use Rattle.std.specs.List.{flat_map}
 use Rattle.asn1_tags.specs.declared.tags.Tag.{Tag}
 use Rattle.asn1_model.specs.Composites.{list_records}
 use Rattle.asn1_model.specs.ConstraintSets.{ConstraintSet}
-use Rattle.asn1_model.specs.Meaning.{Meaning, CanStandInside, own_records}
+use Rattle.asn1_model.specs.Meaning.{Meaning, IsWellTagged, own_records}
 use Rattle.asn1_model.specs.Records.{Name, Record, number, scalar}
 use Rattle.asn1_codec.specs.declared.decode_error.DecodeError.{DecodeError}
 use Rattle.asn1_codec.specs.declared.decode_error.DecodeError.TheVariants.{IncorrectItemNumber, OutOfRange}
@@ -16,12 +16,12 @@ Refusals = (List ℕ → Bool) → Tag → ConstraintSet → List Record → Dec
 
 -- Two types refuse the same.
 abbrev pub RefuseTheSame : Refusals → Refusals → Type 0
-RefuseTheSame one other = (takes : List ℕ → Bool) (t : Tag) (c : ConstraintSet) (rs : List Record) (e : DecodeError) →
-    one takes t c rs e ↔ other takes t c rs e
+RefuseTheSame one other = (accepts : List ℕ → Bool) (t : Tag) (c : ConstraintSet) (rs : List Record) (e : DecodeError) →
+    one accepts t c rs e ↔ other accepts t c rs e
 
 -- none
 abbrev pub no_refusals : Refusals
-no_refusals takes t c rs e = ⊥
+no_refusals accepts t c rs e = ⊥
 
 -- An INTEGER of a number that is not from the start to the end (X.680, 51.4).
 pub record IsOutside (start end : ℤ) (t : Tag) (c : ConstraintSet) (rs : List Record) (e : DecodeError) : Type 0 where
@@ -32,13 +32,13 @@ pub record IsOutside (start end : ℤ) (t : Tag) (c : ConstraintSet) (rs : List 
   pub error : e ≡ OutOfRange
 
 -- A SEQUENCE OF another number of valid elements of this type (X.680, 51.5).
-pub record HasOtherLength {V : Type 0} (m : Meaning V) (expected : ℕ) (takes : List ℕ → Bool) (t : Tag) (c : ConstraintSet)
+pub record HasOtherLength {V : Type 0} (m : Meaning V) (expected : ℕ) (accepts : List ℕ → Bool) (t : Tag) (c : ConstraintSet)
     (rs : List Record) (e : DecodeError) : Type 0 where
   pub elements : List V
   pub name : Name
-  pub can_stand_inside : CanStandInside m
+  pub is_well_tagged : IsWellTagged m
   pub of_type : All m.IsOfType elements
-  pub valid : All (m.IsValid takes) elements
+  pub valid : All (m.IsValid accepts) elements
   pub other_length : length elements ≢ expected
   pub records : rs ≡ list_records t c name (flat_map (own_records m) elements)
   pub error : e ≡ IncorrectItemNumber expected (length elements)

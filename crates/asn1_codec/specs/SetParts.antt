@@ -1,25 +1,25 @@
 -- The components of a SET, as they are read: one by one, in whatever order.
 use Rattle.std.specs.Prelude.{◌≡◌, ◌≢◌, ℕ, zero, suc, ◌≤◌, ◌==◌, ⊤, Bool, true, List, [], ◌∷◌, All, Result, MatchResult, if◌then◌else◌}
 use Rattle.std.specs.List.{count_by}
-use Rattle.asn1_components.specs.ComponentLists.{AreDistinctInSet, EachCanStandInside, EachIsOfType, EachIsValid}
+use Rattle.asn1_components.specs.ComponentLists.{AreDistinctInSet, EachIsWellTagged, EachIsOfType, EachIsValid}
 use Rattle.asn1_components.specs.ComponentTypes.{ComponentType}
 use Rattle.asn1_fields.specs.declared.presence.FieldPresence.{FieldPresence}
 use Rattle.asn1_fields.specs.declared.presence.FieldPresence.TheVariants.{Required, Optional, Default}
 use Rattle.asn1_codec.specs.Reading.{Outside, Reader, ReadsBack, records_in}
 use Rattle.asn1_codec.specs.declared.decode_error.DecodeError.{DecodeError}
 use Rattle.asn1_codec.specs.declared.decode_error.DecodeError.TheVariants.{Memory}
-use Rattle.asn1_model.specs.Records.{Record, is_mark}
+use Rattle.asn1_model.specs.Records.{Record, is_presence_mark}
 use Rattle.asn1_model.specs.Tags.{Has, tree_tags}
 use Rattle.asn1_tags.specs.declared.tags.Tag.{Tag}
 
 -- the records without the presence marks among them
 abbrev pub unmarked : List Record → List Record
 unmarked [] = []
-unmarked (r ∷ rs) = if is_mark r then unmarked rs else r ∷ unmarked rs
+unmarked (r ∷ rs) = if is_presence_mark r then unmarked rs else r ∷ unmarked rs
 
 -- the components can be those of a SET
 abbrev pub CanBeInSet : {V : Type 0} → List (ComponentType V) → Type 0
-CanBeInSet cs = EachCanStandInside cs × AreDistinctInSet cs
+CanBeInSet cs = EachIsWellTagged cs × AreDistinctInSet cs
 
 -- what is written of a value's component of this index, without presence marks: nothing where it is absent, and where
 -- there is no such component
@@ -66,7 +66,7 @@ module _ {V P : Type 0} (cs : List (ComponentType V)) (index_of : P → ℕ) (Is
   -- that component.
   abbrev pub ReadsPart : {D : Type 0} → Reader D → ℕ → D → D → Result P DecodeError → Type 0
   ReadsPart R index old new result =
-      (v : V) (rest : List Record) (outer : Outside) → EachCanStandInside cs → EachIsOfType cs v → EachIsValid cs R.takes v → written_of cs v index ≢ [] →
+      (v : V) (rest : List Record) (outer : Outside) → EachIsWellTagged cs → EachIsOfType cs v → EachIsValid cs R.accepts v → written_of cs v index ≢ [] →
       ReadsBack R old new (written_of cs v index) rest outer (λ part. (index_of part ≡ index) × IsPartOf v part) result
 
   -- A call that makes a value of parts: of those of a value it makes one that is equal, and fails only if memory runs out.

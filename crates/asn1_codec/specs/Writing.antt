@@ -2,7 +2,7 @@
 use Rattle.std.specs.Prelude.{◌≡◌, ◌≢◌, ◌↔◌, ℕ, suc, ◌≤◌, ◌<◌, ⊤, Bool, true, false, List, [], ◌∷◌, ◌++◌, Err, MatchResult, Result, Some}
 use Rattle.asn1_model.specs.Composites.{group_records}
 use Rattle.asn1_model.specs.Orders.{SameRecords}
-use Rattle.asn1_model.specs.Records.{Record, Head, holding, highest, marks_alone}
+use Rattle.asn1_model.specs.Records.{Record, Head, holding, highest, presence_marks_alone}
 use Rattle.asn1_model.specs.Tables.{Line, Table}
 use Rattle.asn1_codec.specs.declared.encode_error.EncodeError.{EncodeError}
 use Rattle.asn1_codec.specs.declared.encode_error.EncodeError.TheVariants.{Memory, Depth, Failed, Custom}
@@ -48,7 +48,7 @@ module _ {E : Type 0} (W : Writer E) where
   pub record IsLawful : Type 0 where
     pub part : (before rs after : List Record) → W.rejects rs → W.rejects (before ++ (rs ++ after))
     pub inner : (h : Head) (rs : List Record) → W.rejects rs → W.rejects (holding h rs ∷ [])
-    pub marks : (rs : List Record) → marks_alone rs ≡ true → ¬ W.rejects rs
+    pub marks : (rs : List Record) → presence_marks_alone rs ≡ true → ¬ W.rejects rs
     pub wrote_in_any_order : (e : E) (w x : Written) → SameWritten w x → W.wrote e w → W.wrote e x
     pub rejects_in_any_order : (rs ss : List Record) → SameRecords rs ss → W.rejects rs → W.rejects ss
 

@@ -73,5 +73,5 @@ module _ {E : Type 0} (W : Writer E) {V : Type 0} where
   -- value alone that it is of the type.
   abbrev pub WritesDefault : {A : Type 0} → TaggedType V → (V → Type 0) → (V → V → Bool) → V → E → E → Result A EncodeError → Type 0
   WritesDefault type IsDefault eq v old new result =
-      (equal : Bool) → ((usual : V) → IsDefault usual → eq v usual ≡ equal) →
+      (equal : Bool) → ((default_value : V) → IsDefault default_value → eq v default_value ≡ equal) →
       Writes W old (default_records in_root equal type.tag (type.records v)) (equal ≡ false → type.IsOfType v) new result

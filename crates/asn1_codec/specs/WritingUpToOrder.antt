@@ -1,7 +1,7 @@
 -- What a codec says of itself where the order inside sets means nothing, by what it says of the very records that it wrote.
 use Rattle.std.specs.Prelude.{◌≡◌, true, List, [], ◌∷◌, ◌++◌}
 use Rattle.asn1_model.specs.Orders.{SameRecords}
-use Rattle.asn1_model.specs.Records.{Record, Head, holding, marks_alone}
+use Rattle.asn1_model.specs.Records.{Record, Head, holding, presence_marks_alone}
 use Rattle.asn1_codec.specs.Writing.{Writer, Written, SameWritten}
 
 module _ {E : Type 0} (W : Writer E) where
@@ -10,7 +10,7 @@ module _ {E : Type 0} (W : Writer E) where
   pub record RejectsByParts : Type 0 where
     pub part : (before rs after : List Record) → W.rejects rs → W.rejects (before ++ (rs ++ after))
     pub inner : (h : Head) (rs : List Record) → W.rejects rs → W.rejects (holding h rs ∷ [])
-    pub marks : (rs : List Record) → marks_alone rs ≡ true → ¬ W.rejects rs
+    pub marks : (rs : List Record) → presence_marks_alone rs ≡ true → ¬ W.rejects rs
 
   -- Something has been written that is the same up to the order inside sets (X.680, 27 and 28).
   pub record WroteUpToOrder (e : E) (w : Written) : Type 0 where

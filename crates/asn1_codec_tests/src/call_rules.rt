@@ -176,7 +176,8 @@ pub fn answers_some<T: PartialEq + Drop>(
     answer: Result<Option<T>, DecodeError>,
     expected: &T,
 ) -> Result<(), Failure>
-    ensures expected { OnOk result ((v : T) × ((answer ≡ Ok (Some v)) × (T.eq v expected.now ≡ true))) }
+    ensures expected { OnOk result ((v : T) × ((answer ≡ Ok (Some v)) × (T.eq v expected.now ≡
+        true))) }
 {
     match answer {
         Ok(Some(value)) => is_same(&value, expected),

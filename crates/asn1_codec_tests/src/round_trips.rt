@@ -1,6 +1,6 @@
 //! A value that is written and read back.
 ghost use Rattle.asn1_codec_tests.specs.declared.failure.Failure.TheVariants.{Another};
-ghost use Rattle.asn1_model.specs.Meaning.{CanStandInside, own_records};
+ghost use Rattle.asn1_model.specs.Meaning.{IsWellTagged, own_records};
 ghost use Rattle.asn1_model.specs.Records.{highest};
 ghost use Rattle.std.specs.Prelude.{◌≡◌, ◌≢◌, ◌≤◌, Err, IsOk, OnErr, OnOk, false, true};
 
@@ -20,7 +20,7 @@ pub const DEPTH: usize = 4;
 /// # Errors
 /// [`Failure::Another`] where what is read is not equal to the value; else why it was not written or not read.
 pub fn comes_back<R: Rules, T: Encode + Decode>(rules: &R, value: &T) -> Result<(), Failure>
-    ensures never_another { CanStandInside T.meaning → T.meaning.IsValid R.format.takes value.now →
+    ensures never_another { IsWellTagged T.meaning → T.meaning.IsValid R.format.accepts value.now →
         result ≢ Err Another }
     ensures written { OnOk result (highest (own_records T.meaning value.now) ≤ 4) }
 {
@@ -36,7 +36,7 @@ pub fn comes_back_as<R: Rules, T: Encode + Decode>(
     value: &T,
     expected: &T,
 ) -> Result<(), Failure>
-    ensures never_another { CanStandInside T.meaning → T.meaning.IsValid R.format.takes value.now →
+    ensures never_another { IsWellTagged T.meaning → T.meaning.IsValid R.format.accepts value.now →
         ((w : T) → T.eq w value.now ≡ true → T.eq w expected.now ≡ true) → result ≢ Err Another }
     ensures written { OnOk result (highest (own_records T.meaning value.now) ≤ 4) }
 {

@@ -14,7 +14,7 @@ use Rattle.asn1_tags.proofs.PlacesInLists.{position-missing}
 use Rattle.asn1_fields.proofs.SharedTags.{test-from_ShareTag}
 use Rattle.asn1_model.proofs.FirstTags.{first_passes, first_stays}
 use Rattle.asn1_model.proofs.TagSets.{apart_within, lies_has, lies_itself, in_first_tree, in_later_trees}
-use Rattle.asn1_components.specs.ComponentLists.{all_records, seen_by_tags, trees_of, CanBeInSequence, EachCanStandInside}
+use Rattle.asn1_components.specs.ComponentLists.{all_records, seen_by_tags, trees_of, CanBeInSequence, EachIsWellTagged}
 use Rattle.asn1_components.specs.ComponentTypes.{ComponentType, Fits}
 use Rattle.asn1_components.specs.Following.{BeginsApart, Where, records_then, all_may_be_absent, EndsApart, EachApart, ApartFromEach, AllApart}
 
@@ -101,7 +101,7 @@ where_both true P Q R f p q = f p q
 where_both false P Q R f p q = tt
 
 -- over the components after one that may be absent
-over_all : {V : Type 0} (tree : Tree) (cs : List (ComponentType V)) (v : V) (rest : List Record) → ApartFrom tree cs → EachCanStandInside cs →
+over_all : {V : Type 0} (tree : Tree) (cs : List (ComponentType V)) (v : V) (rest : List Record) → ApartFrom tree cs → EachIsWellTagged cs →
     Where (all_may_be_absent cs) (BeginsApart tree rest) → BeginsApart tree (records_then cs v rest)
 over_all tree [] v rest apart can later = later
 over_all tree (c ∷ cs) v rest apart can later =
@@ -109,7 +109,7 @@ over_all tree (c ∷ cs) v rest apart can later =
     (where_both (may_be_absent c.presence) (ApartFrom tree cs) (Where (all_may_be_absent cs) (BeginsApart tree rest)) (BeginsApart tree (records_then cs v rest))
     (λ a l. over_all tree cs v rest a can.1 l) apart.1 (where_and (may_be_absent c.presence) (all_may_be_absent cs) (BeginsApart tree rest) later))
 
-each_apart : {V : Type 0} (cs : List (ComponentType V)) (v : V) (rest : List Record) → Distinct cs → EachCanStandInside cs → EndsApart cs rest → EachApart cs v rest
+each_apart : {V : Type 0} (cs : List (ComponentType V)) (v : V) (rest : List Record) → Distinct cs → EachIsWellTagged cs → EndsApart cs rest → EachApart cs v rest
 each_apart [] v rest distinct can ends = tt
 each_apart (c ∷ cs) v rest distinct can ends = (
   where_both (may_be_absent c.presence) (ApartFrom c.tree cs) (Where (all_may_be_absent cs) (BeginsApart c.tree rest)) (BeginsApart c.tree (records_then cs v rest))

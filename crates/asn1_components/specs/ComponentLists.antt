@@ -5,7 +5,7 @@ use Rattle.std.specs.Option.{option_map}
 use Rattle.asn1_tags.specs.Tags.{distinct}
 use Rattle.asn1_tags.specs.Trees.{Tree, Trees, choice, leaves, none, more}
 use Rattle.asn1_model.specs.Composites.{group_records}
-use Rattle.asn1_model.specs.Records.{Record, Side, mark, group_start, group_end, group_absent, marks_alone}
+use Rattle.asn1_model.specs.Records.{Record, Side, presence_mark, group_start, group_end, group_absent, presence_marks_alone}
 use Rattle.asn1_model.specs.WellFormed.{AreWellFormed, well_formed_append}
 use Rattle.asn1_model.specs.Tables.{Line, Table}
 use Rattle.asn1_model.specs.Tags.{CHOICE, BeginsWithin, LiesIn, tree_tags, first_tags}
@@ -41,9 +41,9 @@ trees_of [] = none
 trees_of (c ∷ cs) = more c.tree (trees_of cs)
 
 -- the type of each can be there
-abbrev pub EachCanStandInside : {V : Type 0} → List (ComponentType V) → Type 0
-EachCanStandInside [] = ⊤
-EachCanStandInside (c ∷ cs) = c.CanStandInside × EachCanStandInside cs
+abbrev pub EachIsWellTagged : {V : Type 0} → List (ComponentType V) → Type 0
+EachIsWellTagged [] = ⊤
+EachIsWellTagged (c ∷ cs) = c.IsWellTagged × EachIsWellTagged cs
 
 -- each may be absent, as additions may (X.680, 25.6)
 abbrev pub EachMayBeAbsent : {V : Type 0} → List (ComponentType V) → Type 0
@@ -67,31 +67,31 @@ EachIsOfType (c ∷ cs) v = c.IsOfType v × EachIsOfType cs v
 
 -- each is valid
 abbrev pub EachIsValid : {V : Type 0} → List (ComponentType V) → (List ℕ → Bool) → V → Type 0
-EachIsValid [] takes v = ⊤
-EachIsValid (c ∷ cs) takes v = c.IsValid takes v × EachIsValid cs takes v
+EachIsValid [] accepts v = ⊤
+EachIsValid (c ∷ cs) accepts v = c.IsValid accepts v × EachIsValid cs accepts v
 
 -- then their records are well formed
-pub all_well_formed : {V : Type 0} (cs : List (ComponentType V)) (takes : List ℕ → Bool) (v : V) →
-    EachIsValid cs takes v → AreWellFormed takes (all_records cs v)
-all_well_formed [] takes v valid = tt
-all_well_formed (c ∷ cs) takes v valid = well_formed_append takes (c.records v) (all_records cs v)
-    (c.well_formed takes v valid.0) (all_well_formed cs takes v valid.1)
+pub all_well_formed : {V : Type 0} (cs : List (ComponentType V)) (accepts : List ℕ → Bool) (v : V) →
+    EachIsValid cs accepts v → AreWellFormed accepts (all_records cs v)
+all_well_formed [] accepts v valid = tt
+all_well_formed (c ∷ cs) accepts v valid = well_formed_append accepts (c.records v) (all_records cs v)
+    (c.well_formed accepts v valid.0) (all_well_formed cs accepts v valid.1)
 
 -- and so are those of a group of them
-well_formed_between : (table : Table Line) (takes : List ℕ → Bool) (rs : List Record) (b : Bool) →
-    AreWellFormed takes rs →
-    AreWellFormed takes (if b then mark group_absent ∷ [] else mark (group_start table) ∷ rs ++ mark group_end ∷ [])
-well_formed_between table takes rs true are = (tt, tt)
-well_formed_between table takes rs false are =
-    (tt, well_formed_append takes rs (mark group_end ∷ []) are (tt, tt))
+well_formed_between : (table : Table Line) (accepts : List ℕ → Bool) (rs : List Record) (b : Bool) →
+    AreWellFormed accepts rs →
+    AreWellFormed accepts (if b then presence_mark group_absent ∷ [] else presence_mark (group_start table) ∷ rs ++ presence_mark group_end ∷ [])
+well_formed_between table accepts rs true are = (tt, tt)
+well_formed_between table accepts rs false are =
+    (tt, well_formed_append accepts rs (presence_mark group_end ∷ []) are (tt, tt))
 
 pub group_well_formed : {W : Type 0} (table : Table Line) (cs : List (ComponentType W))
-    (takes : List ℕ → Bool) (o : Option W) →
-    IfSome o (λ w. EachIsValid cs takes w × (marks_alone (all_records cs w) ≡ false)) →
-    AreWellFormed takes (group_records table (option_map (all_records cs) o))
-group_well_formed table cs takes None valid = (tt, tt)
-group_well_formed table cs takes (Some w) valid = well_formed_between table takes (all_records cs w)
-    (marks_alone (all_records cs w)) (all_well_formed cs takes w valid.0)
+    (accepts : List ℕ → Bool) (o : Option W) →
+    IfSome o (λ w. EachIsValid cs accepts w × (presence_marks_alone (all_records cs w) ≡ false)) →
+    AreWellFormed accepts (group_records table (option_map (all_records cs) o))
+group_well_formed table cs accepts None valid = (tt, tt)
+group_well_formed table cs accepts (Some w) valid = well_formed_between table accepts (all_records cs w)
+    (presence_marks_alone (all_records cs w)) (all_well_formed cs accepts w valid.0)
 
 -- In a SEQUENCE and in a group a component that may be absent shares no tag with those after it, up to and including the
 -- next that is always there (X.680, 25.6).
@@ -100,16 +100,16 @@ AreDistinctInSequence cs = sequence_clash (seen_by_tags cs) ≡ None
 
 -- the components can be those of a SEQUENCE or a group
 abbrev pub CanBeInSequence : {V : Type 0} → List (ComponentType V) → Type 0
-CanBeInSequence cs = EachCanStandInside cs × AreDistinctInSequence cs
+CanBeInSequence cs = EachIsWellTagged cs × AreDistinctInSequence cs
 
 -- In a SET no two components share a tag (X.680, 27.3), those of a group among them.
 abbrev pub AreDistinctInSet : {V : Type 0} → List (ComponentType V) → Type 0
 AreDistinctInSet cs = (set_clash (seen_by_tags cs) ≡ None) × EachTreeIsDistinct cs
 
 -- What is written of components that are not all absent begins with a tag of one of them.
-first_or_later : {V : Type 0} (c : ComponentType V) (cs : List (ComponentType V)) (v : V) → marks_alone (all_records (c ∷ cs) v) ≡ false →
+first_or_later : {V : Type 0} (c : ComponentType V) (cs : List (ComponentType V)) (v : V) → presence_marks_alone (all_records (c ∷ cs) v) ≡ false →
     Fits c.presence c.tree (c.records v) →
-    (marks_alone (all_records cs v) ≡ false → LiesIn (first_tags (all_records cs v)) (tree_tags (choice (trees_of cs)))) →
+    (presence_marks_alone (all_records cs v) ≡ false → LiesIn (first_tags (all_records cs v)) (tree_tags (choice (trees_of cs)))) →
     LiesIn (first_tags (all_records (c ∷ cs) v)) (tree_tags (choice (trees_of (c ∷ cs))))
 first_or_later c cs v some (inl begins) later =
     subst (λ a. LiesIn a (tree_tags (choice (trees_of (c ∷ cs))))) (sym (first_stays (c.records v) (all_records cs v) begins.some))
@@ -119,27 +119,27 @@ first_or_later c [] v some (inr absent) later =
 first_or_later c (d ∷ ds) v some (inr absent) later =
     subst (λ a. LiesIn a (tree_tags (choice (trees_of (c ∷ d ∷ ds))))) (sym (first_passes (c.records v) (all_records (d ∷ ds) v) absent.1))
     (in_later_trees (first_tags (all_records (d ∷ ds) v)) c.tree d.tree (trees_of ds)
-    (later (sym (alone_append (c.records v) (all_records (d ∷ ds) v) ∙ ap (λ b. b && marks_alone (all_records (d ∷ ds) v)) absent.1) ∙ some)))
+    (later (sym (alone_append (c.records v) (all_records (d ∷ ds) v) ∙ ap (λ b. b && presence_marks_alone (all_records (d ∷ ds) v)) absent.1) ∙ some)))
 
-begins_with_one : {V : Type 0} (cs : List (ComponentType V)) → EachCanStandInside cs → (v : V) → marks_alone (all_records cs v) ≡ false →
+begins_with_one : {V : Type 0} (cs : List (ComponentType V)) → EachIsWellTagged cs → (v : V) → presence_marks_alone (all_records cs v) ≡ false →
     LiesIn (first_tags (all_records cs v)) (tree_tags (choice (trees_of cs)))
 begins_with_one [] can v some = cc
 begins_with_one (c ∷ cs) can v some = first_or_later c cs v some (c.fits can.0 v) (begins_with_one cs can.1 v)
 
 between_marks : (table : Table Line) (tree : Tree) (rs : List Record) (b : Bool) →
-    marks_alone rs ≡ b → (marks_alone rs ≡ false → BeginsWithin (tree_tags tree) rs) →
-    Fits Optional tree (if b then mark group_absent ∷ [] else mark (group_start table) ∷ rs ++ mark group_end ∷ [])
+    presence_marks_alone rs ≡ b → (presence_marks_alone rs ≡ false → BeginsWithin (tree_tags tree) rs) →
+    Fits Optional tree (if b then presence_mark group_absent ∷ [] else presence_mark (group_start table) ∷ rs ++ presence_mark group_end ∷ [])
 between_marks table tree rs true e f = inr (refl, refl)
 between_marks table tree rs false e f =
-    let h = begins_before (tree_tags tree) rs (mark group_end ∷ []) (f e) in
+    let h = begins_before (tree_tags tree) rs (presence_mark group_end ∷ []) (f e) in
     inl (record { some = h.some; within = h.within })
 
 pub group_fits : {W : Type 0} (table : Table Line) (cs : List (ComponentType W)) →
-    EachCanStandInside cs → (o : Option W) →
+    EachIsWellTagged cs → (o : Option W) →
     Fits Optional (choice (trees_of cs)) (group_records table (option_map (all_records cs) o))
 group_fits table cs can None = inr (refl, refl)
 group_fits table cs can (Some w) =
-    between_marks table (choice (trees_of cs)) (all_records cs w) (marks_alone (all_records cs w)) refl (λ some.
+    between_marks table (choice (trees_of cs)) (all_records cs w) (presence_marks_alone (all_records cs w)) refl (λ some.
     record { some = some; within = begins_with_one cs can w some })
 
 -- A group of additions (X.680, 25.1, "ExtensionAdditionGroup"): it has the tags of all of its components, and one that is
@@ -153,9 +153,9 @@ group_of name get table cs = record {
   tag = CHOICE;
   tree = choice (trees_of cs);
   records = λ v. group_records table (option_map (all_records cs) (get v));
-  CanStandInside = CanBeInSequence cs;
+  IsWellTagged = CanBeInSequence cs;
   IsOfType = λ v. IfSome (get v) (EachIsOfType cs);
-  IsValid = λ takes v. IfSome (get v) (λ w. EachIsValid cs takes w × (marks_alone (all_records cs w) ≡ false));
+  IsValid = λ accepts v. IfSome (get v) (λ w. EachIsValid cs accepts w × (presence_marks_alone (all_records cs w) ≡ false));
   fits = λ can v. group_fits table cs can.0 (get v);
-  well_formed = λ takes v. group_well_formed table cs takes (get v);
+  well_formed = λ accepts v. group_well_formed table cs accepts (get v);
 }

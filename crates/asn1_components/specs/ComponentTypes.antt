@@ -5,7 +5,7 @@ use Rattle.std.specs.Option.{option_map}
 use Rattle.asn1_tags.specs.declared.tags.Tag.{Tag}
 use Rattle.asn1_tags.specs.Trees.{Tree}
 use Rattle.asn1_model.specs.Composites.{option_records, default_records}
-use Rattle.asn1_model.specs.Records.{Record, Side, in_additions, in_root, marks_alone}
+use Rattle.asn1_model.specs.Records.{Record, Side, in_additions, in_root, presence_marks_alone}
 use Rattle.asn1_model.specs.WellFormed.{AreWellFormed, well_formed_option}
 use Rattle.asn1_model.specs.TaggedTypes.{TaggedType}
 use Rattle.asn1_model.specs.Tags.{BeginsWithin, tree_tags}
@@ -17,7 +17,7 @@ use Rattle.asn1_fields.specs.declared.presence.FieldPresence.TheVariants.{Requir
 -- The records can be those of a component: they begin with one of its tags, or they are presence marks alone and the
 -- component may be absent.
 abbrev pub Fits : FieldPresence → Tree → List Record → Type 0
-Fits presence tree rs = BeginsWithin (tree_tags tree) rs ⊎ (IsTrue (may_be_absent presence) × (marks_alone rs ≡ true))
+Fits presence tree rs = BeginsWithin (tree_tags tree) rs ⊎ (IsTrue (may_be_absent presence) × (presence_marks_alone rs ≡ true))
 
 -- A component of the values V.
 pub record ComponentType (V : Type 0) : Type 1 where
@@ -31,14 +31,14 @@ pub record ComponentType (V : Type 0) : Type 1 where
   -- what is written of it
   pub records : V → List Record
   -- its type can be there, under this tag
-  pub CanStandInside : Type 0
+  pub IsWellTagged : Type 0
   -- what it has by its type, and whether it is valid
   pub IsOfType : V → Type 0
   pub IsValid : (List ℕ → Bool) → V → Type 0
   -- what is written of it begins with one of its tags, or it is absent
-  pub fits : CanStandInside → (v : V) → Fits presence tree (records v)
+  pub fits : IsWellTagged → (v : V) → Fits presence tree (records v)
   -- and what is written of it in a valid value is well formed
-  pub well_formed : (takes : List ℕ → Bool) (v : V) → IsValid takes v → AreWellFormed takes (records v)
+  pub well_formed : (accepts : List ℕ → Bool) (v : V) → IsValid accepts v → AreWellFormed accepts (records v)
 
 -- one that is always there
 abbrev pub required : {V W : Type 0} → List ℕ → (V → W) → TaggedType W → ComponentType V
@@ -49,16 +49,16 @@ required name get type = record {
   tag = type.tag;
   tree = type.tree;
   records = λ v. type.records (get v);
-  CanStandInside = type.CanStandInside;
+  IsWellTagged = type.IsWellTagged;
   IsOfType = λ v. type.IsOfType (get v);
-  IsValid = λ takes v. type.IsValid takes (get v);
+  IsValid = λ accepts v. type.IsValid accepts (get v);
   fits = λ can v. inl (one_begins (tree_tags type.tree) (type.records (get v)) (type.one_record can (get v)));
-  well_formed = λ takes v. type.well_formed takes (get v);
+  well_formed = λ accepts v. type.well_formed accepts (get v);
 }
 
 pub present_or_absent : {W : Type 0} (side : Side) (type : TaggedType W)
     (presence : FieldPresence) → Fits presence type.tree (option_records side type.tag None) →
-    type.CanStandInside → (o : Option W) → Fits presence type.tree (option_records side type.tag
+    type.IsWellTagged → (o : Option W) → Fits presence type.tree (option_records side type.tag
     (option_map type.records o))
 present_or_absent side type presence absent can None = absent
 present_or_absent side type presence absent can (Some w) = inl
@@ -74,12 +74,12 @@ optional_in side name get type = record {
   tag = type.tag;
   tree = type.tree;
   records = λ v. option_records side type.tag (option_map type.records (get v));
-  CanStandInside = type.CanStandInside;
+  IsWellTagged = type.IsWellTagged;
   IsOfType = λ v. IfSome (get v) type.IsOfType;
-  IsValid = λ takes v. IfSome (get v) (type.IsValid takes);
+  IsValid = λ accepts v. IfSome (get v) (type.IsValid accepts);
   fits = λ can v. present_or_absent side type Optional (inr (refl, refl)) can (get v);
-  well_formed = λ takes v. well_formed_option takes side type.tag (type.IsValid takes) type.records
-      (type.well_formed takes) (get v);
+  well_formed = λ accepts v. well_formed_option accepts side type.tag (type.IsValid accepts) type.records
+      (type.well_formed accepts) (get v);
 }
 
 -- one of the root
@@ -90,7 +90,7 @@ optional = optional_in in_root
 abbrev pub addition : {V W : Type 0} → List ℕ → (V → Option W) → TaggedType W → ComponentType V
 addition = optional_in in_additions
 
-pub other_than_default : {W : Type 0} (side : Side) (type : TaggedType W) → type.CanStandInside →
+pub other_than_default : {W : Type 0} (side : Side) (type : TaggedType W) → type.IsWellTagged →
     (w : W) (is_default : Bool) →
     Fits Default type.tree (default_records side is_default type.tag (type.records w))
 other_than_default side type can w true = inr (refl, refl)
@@ -98,11 +98,11 @@ other_than_default side type can w false = present_or_absent side type Default (
     can (Some w)
 
 -- its records are well formed where what is written is valid
-pub well_formed_default : {W : Type 0} (side : Side) (type : TaggedType W) (takes : List ℕ → Bool) (w : W)
-    (is_default : Bool) → (is_default ≡ false → type.IsValid takes w) →
-    AreWellFormed takes (default_records side is_default type.tag (type.records w))
-well_formed_default side type takes w true valid = (tt, tt)
-well_formed_default side type takes w false valid = (tt, type.well_formed takes w (valid refl))
+pub well_formed_default : {W : Type 0} (side : Side) (type : TaggedType W) (accepts : List ℕ → Bool) (w : W)
+    (is_default : Bool) → (is_default ≡ false → type.IsValid accepts w) →
+    AreWellFormed accepts (default_records side is_default type.tag (type.records w))
+well_formed_default side type accepts w true valid = (tt, tt)
+well_formed_default side type accepts w false valid = (tt, type.well_formed accepts w (valid refl))
 
 -- one with a DEFAULT, on this side: whether the value's is that. A default is not written, so nothing is told of it
 -- and nothing is asked.
@@ -115,11 +115,11 @@ default_in side name get is_default type = record {
   tag = type.tag;
   tree = type.tree;
   records = λ v. default_records side (is_default v) type.tag (type.records (get v));
-  CanStandInside = type.CanStandInside;
+  IsWellTagged = type.IsWellTagged;
   IsOfType = λ v. is_default v ≡ false → type.IsOfType (get v);
-  IsValid = λ takes v. is_default v ≡ false → type.IsValid takes (get v);
+  IsValid = λ accepts v. is_default v ≡ false → type.IsValid accepts (get v);
   fits = λ can v. other_than_default side type can (get v) (is_default v);
-  well_formed = λ takes v. well_formed_default side type takes (get v) (is_default v);
+  well_formed = λ accepts v. well_formed_default side type accepts (get v) (is_default v);
 }
 
 -- one of the root, and an addition

@@ -11,7 +11,7 @@ use Rattle.asn1_model.specs.Tables.{Line, Table, no_table}
 use Rattle.asn1_model.specs.Tags.{IsATag, HasOwnTag, universal}
 use Rattle.asn1_fields.specs.CanonicalOrder.{in_order}
 use Rattle.asn1_fields.specs.Entries.{Entry, component_of, line_of}
-use Rattle.asn1_components.specs.ComponentLists.{all_records, entries_from, EachCanStandInside, EachCanBeOn, EachMayBeAbsent, EachIsOfType, EachIsValid, all_well_formed, AreDistinctInSequence, AreDistinctInSet, CanBeInSequence, group_fits, group_of}
+use Rattle.asn1_components.specs.ComponentLists.{all_records, entries_from, EachIsWellTagged, EachCanBeOn, EachMayBeAbsent, EachIsOfType, EachIsValid, all_well_formed, AreDistinctInSequence, AreDistinctInSet, CanBeInSequence, group_fits, group_of}
 use Rattle.asn1_components.specs.ComponentTypes.{ComponentType}
 
 -- A SEQUENCE (X.680, 25) or a SET (27); a group is a SEQUENCE here.
@@ -142,15 +142,15 @@ module _ {V : Type 0} (components : Components V) where
       EachMayBeAbsent added
 
   -- The type of each component can be there, each is in its place, and tags are distinct.
-  abbrev pub CanStandTogether : Type 0
-  CanStandTogether = EachCanStandInside all_components × AreInPlace ×
+  abbrev pub AreWellTagged : Type 0
+  AreWellTagged = EachIsWellTagged all_components × AreInPlace ×
       AreDistinctIn components.kind all_components
 
   -- what a value has inside
   abbrev pub inside : Inside V
   inside = record {
     records = component_records;
-    CanStandInside = CanStandTogether;
+    IsWellTagged = AreWellTagged;
     AreOfType = EachIsOfType all_components;
     AreValid = EachIsValid all_components;
     well_formed = all_well_formed all_components;
@@ -168,7 +168,7 @@ constructed_type name components = constructed_type_under components (tag_of com
 -- A group of additions (X.680, 25.1), by its components: those of a SEQUENCE, without an extension marker of its own.
 abbrev pub group : {V W : Type 0} → List ℕ → (V → Option W) → Components W → ComponentType V
 group name get components = record (group_of name get (lines components) (all_components components)) {
-  CanStandInside = CanBeInSequence (all_components components) × (components.kind ≡ is_sequence) ×
+  IsWellTagged = CanBeInSequence (all_components components) × (components.kind ≡ is_sequence) ×
       (has_marker components.extension ≡ false) × EachCanBeOn in_root components.root;
   fits = λ can v. group_fits (lines components) (all_components components) can.0.0 (get v);
 }
@@ -182,9 +182,9 @@ pub record AgreesWithComponents {V : Type 0} (components : Components V) (m : Me
       m.records v t c n ≡ holding (head_in components.kind t (lines components) n) (component_records components v) ∷ []
   pub single : m.IsSingleRecord
   pub present : (v : V) → m.is_present v ≡ true
-  pub well_tagged : (t : Tag) → m.IsWellTagged t ↔ (IsATag t × CanStandTogether components)
+  pub distinct_tags : (t : Tag) → m.HasDistinctTags t ↔ (IsATag t × AreWellTagged components)
   pub of_type : (v : V) → m.IsOfType v ↔ EachIsOfType (all_components components) v
-  pub valid : (takes : List ℕ → Bool) (v : V) → m.IsValid takes v ↔ EachIsValid (all_components components) takes v
+  pub valid : (accepts : List ℕ → Bool) (v : V) → m.IsValid accepts v ↔ EachIsValid (all_components components) accepts v
 
 -- so it is for each type that is made of them
 pub constructed_agrees : {V : Type 0} {tag : Tag} {name : List ℕ} {components : Components V} →
@@ -194,9 +194,9 @@ constructed_agrees = record {
   records = λ v t c n. refl;
   single = tt;
   present = λ _. refl;
-  well_tagged = λ t. (λ h. h, λ h. h);
+  distinct_tags = λ t. (λ h. h, λ h. h);
   of_type = λ v. (λ h. h, λ h. h);
-  valid = λ takes v. (λ h. h, λ h. h);
+  valid = λ accepts v. (λ h. h, λ h. h);
 }
 
 -- A type of this name and kind whose values are one record each, by its table and what is inside.
@@ -209,13 +209,13 @@ holding_type name kind table inside =
 -- these. This is what it means to its own components, where nothing is asked of it.
 abbrev pub inside_itself : {V : Type 0} → List ℕ → Kind → Table Line → Inside V → Meaning V
 inside_itself name kind table inside =
-    holding_type name kind table (record inside { CanStandInside = ⊤ })
+    holding_type name kind table (record inside { IsWellTagged = ⊤ })
 
 -- nothing inside
 abbrev nothing : {V : Type 0} → Inside V
 nothing = record {
   records = λ _. [];
-  CanStandInside = ⊤;
+  IsWellTagged = ⊤;
   AreOfType = λ _. ⊤;
   AreValid = λ _ _. ⊤;
   well_formed = λ _ _ _. tt;
@@ -237,4 +237,4 @@ components_with_itself name kind components_with inside =
 abbrev pub holding_itself : {V : Type 0} → List ℕ → Inside V → Components V → Meaning V
 holding_itself name inside components =
     holding_type name components.kind (lines components)
-    (record inside { CanStandInside = CanStandTogether components })
+    (record inside { IsWellTagged = AreWellTagged components })

@@ -3,7 +3,7 @@ ghost use Rattle.std.specs.Prelude.{◌≡◌, List, []};
 ghost use Rattle.asn1_model.specs.Records.{Record};
 ghost use Rattle.asn1_tags.specs.Trees.{choice};
 ghost use Rattle.asn1_components.specs.ComponentLists.{CanBeInSequence, trees_of};
-ghost use Rattle.asn1_components.specs.Components.{CanStandTogether, all_components, is_sequence, is_set};
+ghost use Rattle.asn1_components.specs.Components.{AreWellTagged, all_components, is_sequence, is_set};
 ghost use Rattle.asn1_components.specs.Following.{AllApart, BeginsApart, EachApart, EndsApart};
 
 use crate::field_table::FieldTable;
@@ -15,13 +15,13 @@ use crate::field_table::FieldTable;
 /// does in a SEQUENCE (`sequence`), and what follows a group has to begin with none of the group's tags (`group`). In a
 /// SET no two components share a tag (`set`).
 pub fn components_are_told_apart<T: FieldTable>(_value: &T)
-    ensures sequence { T.components.kind ≡ is_sequence → CanStandTogether T.components →
+    ensures sequence { T.components.kind ≡ is_sequence → AreWellTagged T.components →
         EachApart (all_components T.components) _value.now [] }
     ensures group { (rest : List Record) → CanBeInSequence (all_components T.components) →
         BeginsApart (choice (trees_of (all_components T.components))) rest →
         EachApart (all_components T.components) _value.now rest }
     ensures past_the_end { (rest : List Record) → CanBeInSequence (all_components T.components) →
         EndsApart (all_components T.components) rest → EachApart (all_components T.components) _value.now rest }
-    ensures set { T.components.kind ≡ is_set → CanStandTogether T.components →
+    ensures set { T.components.kind ≡ is_set → AreWellTagged T.components →
         AllApart (all_components T.components) }
 {}

@@ -1,5 +1,5 @@
 //! SET types that are read.
-ghost use Rattle.asn1_components.specs.ComponentLists.{EachCanStandInside};
+ghost use Rattle.asn1_components.specs.ComponentLists.{EachIsWellTagged};
 ghost use Rattle.asn1_components.specs.Components.{all_components};
 ghost use Rattle.asn1_codec.specs.declared.decode_error.DecodeError.TheVariants.{UnknownField};
 ghost use Rattle.asn1_codec.specs.SetParts.{EachFits, EachIsOneRecord, MakesValue, ReadsPart};
@@ -51,6 +51,6 @@ pub trait DecodeSet: FieldTable + Eq + Sized + Drop {
             parts.items) };
 
     // The law: no component is a group.
-    ghost one_record_each: { (v : Self) → EachCanStandInside (all_components Self.components) →
+    ghost one_record_each: { (v : Self) → EachIsWellTagged (all_components Self.components) →
         EachIsOneRecord (all_components Self.components) v };
 }

@@ -9,7 +9,7 @@ ghost use Rattle.asn1_codec.specs.SetParts.{CanBeInSet};
 ghost use Rattle.asn1_enumerations.specs.Enumerations.{number_of};
 ghost use Rattle.asn1_enumerations.specs.Labels.{HasNumber, labels_of};
 ghost use Rattle.asn1_model.specs.ConstraintSets.{ConstraintSet, constraint_set, unconstrained};
-ghost use Rattle.asn1_model.specs.Records.{Name, absent, arcs, bits, bmp, discriminant, general, graphic, group_absent, group_end, group_start, ia5, in_additions, in_root, null, number, numeric, octet, prefix, present, printable, sequence, sequence_of, set, set_of, teletex, truth, units, utf8, visible};
+ghost use Rattle.asn1_model.specs.Records.{Name, absent, arcs, bits, bmp, discriminant, general, graphic, group_absent, group_end, group_start, ia5, in_additions, in_root, null, number, numeric, octet, explicit_tag, present, printable, sequence, sequence_of, set, set_of, teletex, truth, units, utf8, visible};
 ghost use Rattle.asn1_model.specs.Tags.{tree_tags};
 ghost use Rattle.asn1_tags.specs.Trees.{choice, shape};
 ghost use Rattle.asn1_tags.specs.declared.tags.Tag.{Tag};
@@ -195,7 +195,7 @@ pub trait Decoder: Sized {
 
     /// Opens what follows an explicit tag.
     fn open_explicit_prefix(&mut self, tag: Tag) -> Result<(), DecodeError>
-        ensures read { ReadsHead reader self.old self.new (prefix tag) (λ _ _. ⊤) result }
+        ensures read { ReadsHead reader self.old self.new (explicit_tag tag) (λ _ _. ⊤) result }
         ensures opens_scope { OpensScope reader self.old self.new result };
 
     /// Opens a CHOICE, whose alternatives are those of `T`, which can be told apart, and answers a tag of the chosen one.

@@ -26,7 +26,7 @@ pub(crate) fn or_default<T: Drop, D: Decoder, F: FnOnce(Global) -> Result<T, All
     requires { F.IsAlwaysCallable default }
     ensures there { IfSome value (λ v. (result ≡ Ok v) × (decoder.new ≡ decoder.old)) }
     ensures absent { IfNone value (MatchResult result
-        (λ usual. MayAnswer F.FnOnce default usual × (decoder.new ≡ decoder.old))
+        (λ default_value. MayAnswer F.FnOnce default default_value × (decoder.new ≡ decoder.old))
         (λ e. (e ≡ Memory) × (D.reader.failed decoder.new ≡ true))) }
 {
     match value {

@@ -11,7 +11,7 @@ use std::borrow::Cow;
 /// (`length`), and what holds a value and means the same what that refuses (`boxed`, `cow`, `implicit`).
 pub fn types_refuse_what_they_say<'a, T: Decode + 'a, G: AsnType, L: Limits, const N: usize>()
     ensures limits { RefuseTheSame ⟦<LimitedInteger<L> as Decode>⟧.refusals
-        (λ takes. IsOutside L.start L.end) }
+        (λ accepts. IsOutside L.start L.end) }
     ensures length { RefuseTheSame ⟦<Array<T, N> as Decode>⟧.refusals (HasOtherLength T.meaning N) }
     ensures boxed { RefuseTheSame ⟦<Box<T> as Decode>⟧.refusals T.refusals }
     ensures cow { RefuseTheSame ⟦<Cow<'a, T> as Decode>⟧.refusals T.refusals }

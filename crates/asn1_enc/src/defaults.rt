@@ -14,13 +14,13 @@ pub(crate) fn equals_default<
     F: FnOnce(Global) -> Result<T, AllocError>,
 >(encoder: &mut E, value: &T, default: F) -> Result<bool, EncodeError>
     requires { F.IsAlwaysCallable default }
-    ensures told { IfOk result (λ equal. (usual : T) ×
-        MayAnswer F.FnOnce default usual × (T.eq value.now usual ≡ equal)) }
+    ensures told { IfOk result (λ equal. (default_value : T) ×
+        MayAnswer F.FnOnce default default_value × (T.eq value.now default_value ≡ equal)) }
     ensures same { OnOk result (encoder.new ≡ encoder.old) }
     ensures refused { IfErr result (IsOutOfMemory E.writer encoder.old encoder.new) }
 {
     match default(encoder.global()) {
-        Ok(usual) => Ok(*value == usual),
+        Ok(default_value) => Ok(*value == default_value),
         Err(_) => Err(encoder.refuse_memory()),
     }
 }

@@ -7,9 +7,9 @@ ghost use Rattle.asn1_codec.specs.Writing.{ClosesScope, ClosesGroup, IsLawful, N
 ghost use Rattle.asn1_codec.specs.WritingTypes.{WritesAlternative, WritesComponents, WritesContent, WritesDefault, WritesElements, WritesGroup, WritesOptional, WritesValue};
 ghost use Rattle.asn1_enumerations.specs.Enumerations.{number_of};
 ghost use Rattle.asn1_enumerations.specs.Labels.{labels_of};
-ghost use Rattle.asn1_model.specs.Composites.{option_records, raw_records};
+ghost use Rattle.asn1_model.specs.Composites.{option_records, open_type_records, marked};
 ghost use Rattle.asn1_model.specs.ConstraintSets.{constraint_set, unconstrained};
-ghost use Rattle.asn1_model.specs.Records.{absent, alternative, arcs, bits, bmp, discriminant, general, graphic, group_absent, ia5, in_additions, in_root, mark, null, number, numeric, octet, prefix, present, printable, sequence, sequence_of, set, set_of, teletex, truth, units, utf8, visible};
+ghost use Rattle.asn1_model.specs.Records.{absent, alternative, arcs, bits, bmp, discriminant, general, graphic, group_absent, ia5, in_additions, in_root, null, number, numeric, octet, explicit_tag, present, printable, sequence, sequence_of, set, set_of, teletex, truth, units, utf8, visible};
 ghost use Rattle.asn1_tags.specs.Names.{name_of};
 ghost use Rattle.asn1_strings.specs.Alphabets.{is_ia5, is_numeric, is_printable, is_visible};
 ghost use Rattle.std.specs.Option.{option_copied};
@@ -123,27 +123,28 @@ pub trait Encoder: Sized {
 
     /// A value of an open type, by its bytes, under whatever tag.
     fn encode_any(&mut self, tag: Tag, value: &Any, name: Identifier) -> Result<(), EncodeError>
-        ensures { Writes writer self.old (raw_records (name_of name) value.now) ⊤ self.new result };
+        ensures { Writes writer self.old (open_type_records (name_of name) value.now)
+            ⊤ self.new result };
 
     /// The mark of a component of the root that is there.
     fn mark_present(&mut self, tag: Tag) -> Result<(), EncodeError>
-        ensures { Writes writer self.old (mark (present in_root tag) ∷ []) ⊤ self.new result };
+        ensures { Writes writer self.old (marked (present in_root tag)) ⊤ self.new result };
 
     /// The mark of a component of the root that is absent.
     fn mark_absent(&mut self, tag: Tag) -> Result<(), EncodeError>
-        ensures { Writes writer self.old (mark (absent in_root tag) ∷ []) ⊤ self.new result };
+        ensures { Writes writer self.old (marked (absent in_root tag)) ⊤ self.new result };
 
     /// The mark of an addition that is there.
     fn mark_addition_present(&mut self, tag: Tag) -> Result<(), EncodeError>
-        ensures { Writes writer self.old (mark (present in_additions tag) ∷ []) ⊤ self.new result };
+        ensures { Writes writer self.old (marked (present in_additions tag)) ⊤ self.new result };
 
     /// The mark of an addition that is absent.
     fn mark_addition_absent(&mut self, tag: Tag) -> Result<(), EncodeError>
-        ensures { Writes writer self.old (mark (absent in_additions tag) ∷ []) ⊤ self.new result };
+        ensures { Writes writer self.old (marked (absent in_additions tag)) ⊤ self.new result };
 
     /// The mark of a group of additions that is absent.
     fn mark_group_absent(&mut self) -> Result<(), EncodeError>
-        ensures { Writes writer self.old (mark group_absent ∷ []) ⊤ self.new result };
+        ensures { Writes writer self.old (marked group_absent) ⊤ self.new result };
 
     /// Opens a SEQUENCE, whose components are those of the table of `C`.
     fn open_sequence<C: FieldTable>(
@@ -183,7 +184,7 @@ pub trait Encoder: Sized {
 
     /// Opens what follows an explicit tag.
     fn open_explicit_prefix(&mut self, tag: Tag, name: Identifier) -> Result<(), EncodeError>
-        ensures { OpensScope writer self.old (prefix tag (name_of name)) self.new result };
+        ensures { OpensScope writer self.old (explicit_tag tag (name_of name)) self.new result };
 
     /// Opens a CHOICE, whose alternatives are those of `T`, by the tag of the chosen one.
     fn open_choice<T: Choice>(

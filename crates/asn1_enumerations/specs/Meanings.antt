@@ -25,9 +25,9 @@ pub record AgreesWithEnumeration {V : Type 0} (eq : V → V → Bool) (enumerati
       m.records v t c n ≡ scalar t unconstrained n (discriminant (labels_of enumeration) (number_of eq enumeration v)) ∷ []
   pub single : m.IsSingleRecord
   pub present : (v : V) → m.is_present v ≡ true
-  pub well_tagged : (t : Tag) → m.IsWellTagged t ↔ IsATag t
+  pub distinct_tags : (t : Tag) → m.HasDistinctTags t ↔ IsATag t
   pub of_type : (v : V) → m.IsOfType v
-  pub valid : (takes : List ℕ → Bool) (v : V) → m.IsValid takes v
+  pub valid : (accepts : List ℕ → Bool) (v : V) → m.IsValid accepts v
 
 -- so it is for each `enumeration_type`
 pub enumeration_agrees : {V : Type 0} {name : List ℕ} {enumeration : Enumeration V} {eq : V → V → Bool} →
@@ -37,7 +37,7 @@ enumeration_agrees = record {
   records = λ v t c n. refl;
   single = tt;
   present = λ _. refl;
-  well_tagged = λ _. (λ h. h, λ h. h);
+  distinct_tags = λ _. (λ h. h, λ h. h);
   of_type = λ _. tt;
   valid = λ _ _. tt;
 }

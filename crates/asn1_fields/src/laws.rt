@@ -57,9 +57,11 @@ pub fn tables_are_cloned_as_they_are<'a, const N: usize>()
 
 /// A law of loops: `for` over a table, or over a reference to it, gives its fields in order, each once.
 pub fn loops_give_every_field<'a, const N: usize>(_table: &'a Fields<'a, N>)
-    ensures by_value { (fields : FieldIter) → ⟦<Fields<'a, N> as IntoIterator>⟧.into_iter_gives _table.entry.now fields →
+    ensures by_value { (fields : FieldIter) →
+        ⟦<Fields<'a, N> as IntoIterator>⟧.into_iter_gives _table.entry.now fields →
         fields_left fields ≡ fields_of _table.entry.now }
-    ensures by_reference { (fields : FieldIter) → ⟦<&'a Fields<'a, N> as IntoIterator>⟧.into_iter_gives _table.entry fields →
+    ensures by_reference { (fields : FieldIter) →
+        ⟦<&'a Fields<'a, N> as IntoIterator>⟧.into_iter_gives _table.entry fields →
         fields_left fields ≡ fields_of _table.entry.now }
 {}
 

@@ -10,7 +10,7 @@ use Rattle.asn1_tags.specs.Tags.{class_number}
 use Rattle.asn1_tags.specs.declared.classes.Class.{Class}
 use Rattle.asn1_tags.specs.declared.tags.Tag.{Tag}
 use Rattle.asn1_model.specs.Records as model
-use Rattle.asn1_model.specs.Records.{sequence, set, sequence_of, set_of, prefix, alternative}
+use Rattle.asn1_model.specs.Records.{sequence, set, sequence_of, set_of, explicit_tag, alternative}
 use Rattle.asn1_model.specs.Tags.{head_tag}
 use Rattle.asn1_items.specs.Headers.{Header, class_at, number_at, from_size, from_content, of_kind, from_class, header_at, is_one, is_one_item, kind_of}
 use Rattle.asn1_items.specs.Numbers.{four_bytes}
@@ -107,7 +107,7 @@ scope_item (sequence t table n) inside bytes back item = scope_item_of 2 t insid
 scope_item (set t table n) inside bytes back item = scope_item_of 3 t inside bytes back refl refl item
 scope_item (sequence_of t c n) inside bytes back item = scope_item_of 4 t inside bytes back refl refl item
 scope_item (set_of t c n) inside bytes back item = scope_item_of 5 t inside bytes back refl refl item
-scope_item (prefix t n) inside bytes back item = scope_item_of 6 t inside bytes back refl refl item
+scope_item (explicit_tag t n) inside bytes back item = scope_item_of 6 t inside bytes back refl refl item
 scope_item (alternative t c table n) inside bytes back item = scope_item_of 7 t inside bytes back refl refl item
 
 -- What stands before the body is the rest of the bytes.

@@ -12,16 +12,16 @@ use Rattle.asn1_items.specs.declared.frame.Frame.{Frame}
 use Rattle.asn1_model.specs.Composites.{group_records}
 use Rattle.asn1_model.specs.ConstraintSets.{ConstraintSet}
 use Rattle.asn1_model.specs.Records as model
-use Rattle.asn1_model.specs.Records.{Name, held, holding, is_mark, marks_alone, scalar}
+use Rattle.asn1_model.specs.Records.{Name, held, holding, is_presence_mark, presence_marks_alone, scalar}
 use Rattle.asn1_model.specs.Tables.{Line, Table}
 use Rattle.asn1_model.specs.Tags.{head_tag}
 use Rattle.asn1_tags.specs.declared.tags.Tag.{Tag}
 
-alone-append : (rs ss : List model.Record) → not (marks_alone (rs ++ ss)) ≡ (not (marks_alone rs) || not (marks_alone ss))
+alone-append : (rs ss : List model.Record) → not (presence_marks_alone (rs ++ ss)) ≡ (not (presence_marks_alone rs) || not (presence_marks_alone ss))
 alone-append [] ss = refl
-alone-append (r ∷ rs) ss = by (is_mark r) (alone-append rs ss)
+alone-append (r ∷ rs) ss = by (is_presence_mark r) (alone-append rs ss)
   where
-    by : (b : Bool) → not (marks_alone (rs ++ ss)) ≡ (not (marks_alone rs) || not (marks_alone ss)) → not (b && marks_alone (rs ++ ss)) ≡ (not (b && marks_alone rs) || not (marks_alone ss))
+    by : (b : Bool) → not (presence_marks_alone (rs ++ ss)) ≡ (not (presence_marks_alone rs) || not (presence_marks_alone ss)) → not (b && presence_marks_alone (rs ++ ss)) ≡ (not (b && presence_marks_alone rs) || not (presence_marks_alone ss))
     by true h = h
     by false h = refl
 
@@ -98,8 +98,8 @@ HasLongInside old start = (before place inside : List ℕ) → old ≡ before ++
 pub not_both : (b : Bool) → b ≡ false → b ≡ true → ⊥
 not_both b f t = let x : false ≡ true = sym f ∙ t in cc
 
-group_alone : (table : Table Line) (rs : List model.Record) (b : Bool) → marks_alone rs ≡ b → group_records table (Some rs) ≡ (if b then model.mark model.group_absent ∷ [] else model.mark (model.group_start table) ∷ rs ++ model.mark model.group_end ∷ [])
-group_alone table rs b is = ap (λ a. if a then model.mark model.group_absent ∷ [] else model.mark (model.group_start table) ∷ rs ++ model.mark model.group_end ∷ []) is
+group_alone : (table : Table Line) (rs : List model.Record) (b : Bool) → presence_marks_alone rs ≡ b → group_records table (Some rs) ≡ (if b then model.presence_mark model.group_absent ∷ [] else model.presence_mark (model.group_start table) ∷ rs ++ model.presence_mark model.group_end ∷ [])
+group_alone table rs b is = ap (λ a. if a then model.presence_mark model.group_absent ∷ [] else model.presence_mark (model.group_start table) ∷ rs ++ model.presence_mark model.group_end ∷ []) is
 
 not_alone : (b : Bool) → true ≡ not b → b ≡ false
 not_alone true e = cc
@@ -127,15 +127,15 @@ module _ (marks : MarkBytes) where
   one_record : (r : model.Record) (bytes : List ℕ) → HasBytes (written_with marks) r bytes → HaveBytes (written_with marks) (held (r ∷ [])) bytes
   one_record r bytes p = record { first = bytes; others = []; is_first = p; are_others = refl; are = sym (append-nil bytes) }
 
-  list-append : (rs ss : List model.Record) (a b : List ℕ) (some : Bool) → IsList marks rs a some → HaveBytes (written_with marks) (held ss) b → IsList marks (rs ++ ss) (a ++ b) (some || not (marks_alone ss))
+  list-append : (rs ss : List model.Record) (a b : List ℕ) (some : Bool) → IsList marks rs a some → HaveBytes (written_with marks) (held ss) b → IsList marks (rs ++ ss) (a ++ b) (some || not (presence_marks_alone ss))
   list-append rs ss a b some p q = record {
     have_bytes = bytes-append rs ss a b p.have_bytes q;
-    flag = ap (λ s. s || not (marks_alone ss)) p.flag ∙ sym (alone-append rs ss);
+    flag = ap (λ s. s || not (presence_marks_alone ss)) p.flag ∙ sym (alone-append rs ss);
   }
 
   -- more records in the innermost list
   followed : (w : Written) (fs : List Frame) (bytes more : List ℕ) (some : Bool) (ss : List model.Record) → IsWritten marks w fs bytes some → HaveBytes (written_with marks) (held ss) more →
-      IsWritten marks (followed_by w ss) fs (bytes ++ more) (some || not (marks_alone ss))
+      IsWritten marks (followed_by w ss) fs (bytes ++ more) (some || not (presence_marks_alone ss))
   followed (outermost rs) [] bytes more some ss p q = list-append rs ss bytes more some p q
   followed (outermost rs) (f ∷ fs) bytes more some ss p q = absurd p
   followed (in_scope h rs w) [] bytes more some ss p q = absurd p
@@ -169,18 +169,18 @@ module _ (marks : MarkBytes) where
       )
 
   -- a record was appended that is no presence mark, or a mark
-  pub appended : (fs : List Frame) (bytes more new : List ℕ) (some : Bool) (r : model.Record) → is_mark r ≡ false → HasBytes (written_with marks) r more → new ≡ bytes ++ more →
+  pub appended : (fs : List Frame) (bytes more new : List ℕ) (some : Bool) (r : model.Record) → is_presence_mark r ≡ false → HasBytes (written_with marks) r more → new ≡ bytes ++ more →
       (w : Written) → IsWritten marks w (inward [] fs) bytes some → IsWritten marks (followed_by w (r ∷ [])) (inward [] fs) new true
   appended fs bytes more new some r unmarked has is w wrote =
-      let flag : true ≡ (some || not (is_mark r && true)) = or_true some ∙ ap (λ b. some || not (b && true)) (sym unmarked) in
+      let flag : true ≡ (some || not (is_presence_mark r && true)) = or_true some ∙ ap (λ b. some || not (b && true)) (sym unmarked) in
       subst (λ b. IsWritten marks (followed_by w (r ∷ [])) (inward [] fs) b true) (sym is)
       (subst (λ s. IsWritten marks (followed_by w (r ∷ [])) (inward [] fs) (bytes ++ more) s) (sym flag) (followed w (inward [] fs) bytes more some (r ∷ []) wrote (one_record r more has)))
 
-  pub mark_appended : (fs : List Frame) (bytes more new : List ℕ) (some : Bool) (m : model.Mark) → HasBytes (written_with marks) (model.mark m) more → new ≡ bytes ++ more →
-      (w : Written) → IsWritten marks w (inward [] fs) bytes some → IsWritten marks (followed_by w (model.mark m ∷ [])) (inward [] fs) new some
+  pub mark_appended : (fs : List Frame) (bytes more new : List ℕ) (some : Bool) (m : model.PresenceMark) → HasBytes (written_with marks) (model.presence_mark m) more → new ≡ bytes ++ more →
+      (w : Written) → IsWritten marks w (inward [] fs) bytes some → IsWritten marks (followed_by w (model.presence_mark m ∷ [])) (inward [] fs) new some
   mark_appended fs bytes more new some m has is w wrote =
-      subst (λ b. IsWritten marks (followed_by w (model.mark m ∷ [])) (inward [] fs) b some) (sym is)
-      (subst (λ s. IsWritten marks (followed_by w (model.mark m ∷ [])) (inward [] fs) (bytes ++ more) s) (sym (or_false some)) (followed w (inward [] fs) bytes more some (model.mark m ∷ []) wrote (one_record (model.mark m) more has)))
+      subst (λ b. IsWritten marks (followed_by w (model.presence_mark m ∷ [])) (inward [] fs) b some) (sym is)
+      (subst (λ s. IsWritten marks (followed_by w (model.presence_mark m ∷ [])) (inward [] fs) (bytes ++ more) s) (sym (or_false some)) (followed w (inward [] fs) bytes more some (model.presence_mark m ∷ []) wrote (one_record (model.presence_mark m) more has)))
 
   -- what was written is the content
   pub scalar_written : (y x : model.Content) (t : Tag) (c : ConstraintSet) (n : Name) (bytes filled new : List ℕ) (start : ℕ) → LooksLike y x → (p : ScalarPlaced y t bytes filled start) → t.value < 2 ^ 32 →
@@ -279,14 +279,14 @@ module _ (marks : MarkBytes) where
       (table : Table Line) (rs : List model.Record) (w : Written) → IsWritten marks (in_group table rs w) (inward [] fs) bytes some → IsWritten marks (followed_by w (group_records table (Some rs))) (inward [] gs) new some
   group_closed fs gs f bytes new end some outer there is ends table rs w wrote =
       let s = (group_of fs gs f bytes some table rs w outer wrote).1 in
-      let firm : marks_alone rs ≡ false = not_alone (marks_alone rs) (sym there ∙ s.list.flag) in
+      let firm : presence_marks_alone rs ≡ false = not_alone (presence_marks_alone rs) (sym there ∙ s.list.flag) in
       let start = marks (model.group_start table) in
-      let group = model.mark (model.group_start table) ∷ (rs ++ model.mark model.group_end ∷ []) in
+      let group = model.presence_mark (model.group_start table) ∷ (rs ++ model.presence_mark model.group_end ∷ []) in
       let more = start ++ (s.inside ++ end) in
-      let have : HaveBytes (written_with marks) (held group) more = bytes-append (model.mark (model.group_start table) ∷ []) (rs ++ model.mark model.group_end ∷ []) start (s.inside ++ end) (one_record (model.mark (model.group_start table)) start refl)
-      (bytes-append rs (model.mark model.group_end ∷ []) s.inside end s.list.have_bytes (one_record (model.mark model.group_end) end (sym ends))) in
+      let have : HaveBytes (written_with marks) (held group) more = bytes-append (model.presence_mark (model.group_start table) ∷ []) (rs ++ model.presence_mark model.group_end ∷ []) start (s.inside ++ end) (one_record (model.presence_mark (model.group_start table)) start refl)
+      (bytes-append rs (model.presence_mark model.group_end ∷ []) s.inside end s.list.have_bytes (one_record (model.presence_mark model.group_end) end (sym ends))) in
       let whole : new ≡ s.before ++ more = is ∙ ap (λ l. l ++ end) s.are ∙ append_assoc s.before (start ++ s.inside) end ∙ ap (λ l. s.before ++ l) (append_assoc start s.inside end) in
-      let flag : some ≡ (f.has_records || not (marks_alone group)) = there ∙ or_true f.has_records ∙ ap (λ b. f.has_records || b) (sym (alone-append rs (model.mark model.group_end ∷ []) ∙ ap (λ b. not b || false) firm)) in
+      let flag : some ≡ (f.has_records || not (presence_marks_alone group)) = there ∙ or_true f.has_records ∙ ap (λ b. f.has_records || b) (sym (alone-append rs (model.presence_mark model.group_end ∷ []) ∙ ap (λ b. not b || false) firm)) in
       subst (λ g. IsWritten marks (followed_by w g) (inward [] gs) new some) (sym (group_alone table rs false firm))
       (subst (λ b. IsWritten marks (followed_by w group) (inward [] gs) b some) (sym whole)
       (subst (λ b. IsWritten marks (followed_by w group) (inward [] gs) (s.before ++ more) b) (sym flag) (followed w (inward [] gs) s.before more f.has_records group s.outside have)))
@@ -296,7 +296,7 @@ module _ (marks : MarkBytes) where
       (table : Table Line) (rs : List model.Record) (w : Written) → IsWritten marks (in_group table rs w) (inward [] fs) bytes some → IsWritten marks (followed_by w (group_records table (Some rs))) (inward [] gs) new f.has_records
   absent_group_closed fs gs f bytes cut new away some outer none cut_is is absent table rs w wrote =
       let s = (group_of fs gs f bytes some table rs w outer wrote).1 in
-      let alone : marks_alone rs ≡ true = is_alone (marks_alone rs) (sym none ∙ s.list.flag) in
+      let alone : presence_marks_alone rs ≡ true = is_alone (presence_marks_alone rs) (sym none ∙ s.list.flag) in
       let kept : take f.start bytes ≡ s.before = ap (λ n. take n bytes) s.starts ∙ ap (take (length s.before)) s.are ∙ take-append_seam s.before (marks (model.group_start table) ++ s.inside) in
       let whole : new ≡ s.before ++ away = is ∙ ap (λ l. l ++ away) (cut_is ∙ kept) in
       subst (λ g. IsWritten marks (followed_by w g) (inward [] gs) new f.has_records) (sym (group_alone table rs true alone))

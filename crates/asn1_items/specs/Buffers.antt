@@ -5,7 +5,7 @@ use Rattle.asn1_items.specs.Headers.{kind_of, tag_bytes}
 use Rattle.asn1_items.specs.Items.{HaveBytes, MarkBytes, written_with}
 use Rattle.asn1_items.specs.declared.buffer.Buffer.{Buffer}
 use Rattle.asn1_items.specs.declared.frame.Frame.{Frame}
-use Rattle.asn1_model.specs.Records.{Record, Head, group_start, held, marks_alone}
+use Rattle.asn1_model.specs.Records.{Record, Head, group_start, held, presence_marks_alone}
 use Rattle.asn1_model.specs.Tables.{Line, Table}
 use Rattle.asn1_model.specs.Tags.{head_tag}
 
@@ -13,7 +13,7 @@ module _ (marks : MarkBytes) where
   -- The innermost list: its bytes, and whether there is a record in it that is no presence mark.
   pub record IsList (rs : List Record) (bytes : List ℕ) (has_records : Bool) : Type 0 where
     pub have_bytes : HaveBytes (written_with marks) (held rs) bytes
-    pub flag : has_records ≡ not (marks_alone rs)
+    pub flag : has_records ≡ not (presence_marks_alone rs)
 
   -- A scope that is open: what is outside, the header, whose length is not known yet, and what is inside.
   pub record IsOpenScope (IsOutside : List ℕ → Type 0) (h : Head) (rs : List Record) (start : ℕ) (bytes : List ℕ) (has_records : Bool) : Type 0 where

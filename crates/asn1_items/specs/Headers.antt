@@ -6,7 +6,7 @@ use Rattle.asn1_items.specs.Numbers.{four_bytes}
 use Rattle.asn1_items.specs.declared.header.Wanted.{Wanted}
 use Rattle.asn1_items.specs.declared.header.Wanted.TheVariants as wanted
 use Rattle.asn1_items.specs.declared.header.Header.{Header as Found}
-use Rattle.asn1_model.specs.Records.{Head, sequence, set, sequence_of, set_of, prefix, alternative}
+use Rattle.asn1_model.specs.Records.{Head, sequence, set, sequence_of, set_of, explicit_tag, alternative}
 use Rattle.asn1_tags.specs.Tags.{class_number}
 use Rattle.asn1_tags.specs.declared.classes.Class.{Class}
 use Rattle.asn1_tags.specs.declared.classes.Class.TheVariants.{Universal, Application, Context, Private}
@@ -18,7 +18,7 @@ kind_of (sequence t table n) = 2
 kind_of (set t table n) = 3
 kind_of (sequence_of t c n) = 4
 kind_of (set_of t c n) = 5
-kind_of (prefix t n) = 6
+kind_of (explicit_tag t n) = 6
 kind_of (alternative t c table n) = 7
 
 -- a tag: its class, and its number in four bytes

@@ -3,13 +3,13 @@ use Rattle.std.specs.Prelude.{◌≡◌, ◌⊎◌, ℕ, ◌<◌, ◌≤◌, ◌
 use Rattle.asn1_items.specs.Contents.{IsContent, content_kind}
 use Rattle.asn1_items.specs.Headers.{is_one_item, kind_of, tag_bytes}
 use Rattle.asn1_items.specs.Numbers.{four_bytes}
-use Rattle.asn1_model.specs.Records.{Record, Records, Mark, scalar, scope, raw, mark, none, more, present, absent, group_start, group_absent, group_end}
+use Rattle.asn1_model.specs.Records.{Record, Records, PresenceMark, scalar, scope, open_type, presence_mark, none, more, present, absent, group_start, group_absent, group_end}
 use Rattle.asn1_model.specs.Tags.{head_tag}
 use Rattle.asn1_tags.specs.declared.tags.Tag.{Tag}
 
 -- the bytes of each presence mark
 abbrev pub MarkBytes : Type 0
-MarkBytes = Mark → List ℕ
+MarkBytes = PresenceMark → List ℕ
 
 -- A form of items: the bytes of each presence mark, and which bytes are the value of an open type.
 pub record ItemForm : Type 1 where
@@ -42,8 +42,8 @@ abbrev mutual
   pub HasBytes : ItemForm → Record → List ℕ → Type 0
   HasBytes F (scalar t c n x) bytes = Holds (IsContent x) 1 t (content_kind x ∷ []) bytes
   HasBytes F (scope h rs) bytes = Holds (HaveBytes F rs) (kind_of h) (head_tag h) [] bytes
-  HasBytes F (raw n own) bytes = (bytes ≡ own) × F.IsOpenType own
-  HasBytes F (mark m) bytes = bytes ≡ F.mark_bytes m
+  HasBytes F (open_type n own) bytes = (bytes ≡ own) × F.IsOpenType own
+  HasBytes F (presence_mark m) bytes = bytes ≡ F.mark_bytes m
 
   pub HaveBytes : ItemForm → Records → List ℕ → Type 0
   HaveBytes F none bytes = bytes ≡ []
@@ -54,15 +54,15 @@ abbrev mutual
   pub IsTooLong : ItemForm → Record → Type 0
   IsTooLong F (scalar t c n x) = (content : List ℕ) × IsContent x content × (2 ^ 32 ≤ length content)
   IsTooLong F (scope h rs) = SomeTooLong F rs ⊎ ((inside : List ℕ) × HaveBytes F rs inside × (2 ^ 32 ≤ length inside))
-  IsTooLong F (raw n own) = ⊥
-  IsTooLong F (mark m) = ⊥
+  IsTooLong F (open_type n own) = ⊥
+  IsTooLong F (presence_mark m) = ⊥
 
   pub SomeTooLong : ItemForm → Records → Type 0
   SomeTooLong F none = ⊥
   SomeTooLong F (more r rs) = IsTooLong F r ⊎ SomeTooLong F rs
 
 -- the byte of a presence mark in the packed form
-abbrev pub mark_byte : Mark → ℕ
+abbrev pub mark_byte : PresenceMark → ℕ
 mark_byte (present side t) = 16
 mark_byte (absent side t) = 17
 mark_byte (group_start table) = 18

@@ -8,7 +8,7 @@ ghost use Rattle.asn1_items.specs.declared.error.BufferError.TheVariants.{Memory
 ghost use Rattle.asn1_model.specs.Composites.{group_records};
 ghost use Rattle.asn1_model.specs.ConstraintSets.{ConstraintSet};
 ghost use Rattle.asn1_model.specs.Records as model;
-ghost use Rattle.asn1_model.specs.Records.{Name, group_absent, group_end, group_start, held, holding, mark, raw, scalar};
+ghost use Rattle.asn1_model.specs.Records.{Name, group_absent, group_end, group_start, held, holding, presence_mark, open_type, scalar};
 ghost use Rattle.asn1_model.specs.Tables.{Line, Table};
 ghost use Rattle.asn1_model.specs.Tags.{head_tag};
 ghost use Rattle.std.specs.Prelude.{◌≡◌, ◌≢◌, ◌≤◌, ◌∷◌, [], IfErr, IfOk, List, MatchResult, OnOk, Some, suc};
@@ -85,7 +85,7 @@ impl Buffer {
     pub fn append_open_type(&mut self, bytes: &[u8]) -> Result<(), BufferError>
         ensures written { (marks : MarkBytes) (n : Name) (w : Written) →
             HasWritten marks w self.old →
-            IfOk result (λ _. HasWritten marks (followed_by w (raw n bytes.now ∷ [])) self.new) }
+            IfOk result (λ _. HasWritten marks (followed_by w (open_type n bytes.now ∷ [])) self.new) }
         ensures memory { IfErr result (λ e. e ≡ Memory) }
         ensures same_scopes { open_scopes self.new ≡ open_scopes self.old }
     {
@@ -99,9 +99,9 @@ impl Buffer {
     /// # Errors
     /// [`BufferError::Memory`].
     pub fn append_mark(&mut self, bytes: &[u8]) -> Result<(), BufferError>
-        ensures written { (marks : MarkBytes) (m : model.Mark) (w : Written) →
+        ensures written { (marks : MarkBytes) (m : model.PresenceMark) (w : Written) →
             marks m ≡ bytes.now → HasWritten marks w self.old →
-            IfOk result (λ _. HasWritten marks (followed_by w (mark m ∷ [])) self.new) }
+            IfOk result (λ _. HasWritten marks (followed_by w (presence_mark m ∷ [])) self.new) }
         ensures memory { IfErr result (λ e. e ≡ Memory) }
         ensures same_scopes { open_scopes self.new ≡ open_scopes self.old }
     {

@@ -9,7 +9,8 @@ use std::alloc::AllocError;
 
 /// Appends a kind and a tag.
 pub(crate) fn push_tag(bytes: &mut Vec<u8>, kind: u8, tag: Tag) -> Result<(), AllocError>
-    ensures appended { IfOk result (λ _. bytes.new.items ≡ bytes.old.items ++ kind ∷ tag_bytes tag) }
+    ensures appended { IfOk result (λ _. bytes.new.items ≡ bytes.old.items ++ kind ∷
+        tag_bytes tag) }
     ensures fits { OnOk result (tag.value < 2 ^ 32) }
 {
     bytes.push(kind)?;

@@ -4,7 +4,7 @@ use Rattle.std.proofs.Common.{ap, sym, zero-le, ◌∙◌}
 use Rattle.std.proofs.Math.Nat.{le_antisymm, le_refl, le_trans, le-max_left, le-max_right, max-le}
 use Rattle.std.proofs.lemmas.List.Elements.{All-nil, All-cons, All-head, All-tail}
 use Rattle.std.proofs.lemmas.List.Sorted.{All-permutation, IsPermutation-sym}
-use Rattle.asn1_model.specs.Records.{Record, Records, none, more, listed, height, inner_height, highest, is_mark}
+use Rattle.asn1_model.specs.Records.{Record, Records, none, more, listed, height, inner_height, highest, is_presence_mark}
 use Rattle.asn1_model.specs.Orders.{Same, SameAll, equal, in_place, in_any_order, at_end, next}
 use Rattle.asn1_model.specs.Tags.{record_tags}
 
@@ -15,7 +15,7 @@ same-tags (in_place h all) = refl
 same-tags (in_any_order h unordered all moved) = refl
 
 -- one is a mark where the other is
-pub same-mark : {r s : Record} → Same r s → is_mark r ≡ is_mark s
+pub same-mark : {r s : Record} → Same r s → is_presence_mark r ≡ is_presence_mark s
 same-mark (equal r) = refl
 same-mark (in_place h all) = refl
 same-mark (in_any_order h unordered all moved) = refl

@@ -8,7 +8,7 @@ use Rattle.asn1_tags.specs.declared.tags.Tag.{Tag}
 use Rattle.asn1_model.specs.Composites.{group_records}
 use Rattle.asn1_model.specs.ConstraintSets.{ConstraintSet}
 use Rattle.asn1_model.specs.Orders.{is_unordered, Same, SameAll, SameRecords, equal, in_place, in_any_order, at_end, next}
-use Rattle.asn1_model.specs.Records.{Name, Content, Mark, Head, Record, Records, scalar, scope, raw, mark, none, more, held, listed, holding, highest, marks_alone, is_mark, group_start, group_absent, group_end, listed-held}
+use Rattle.asn1_model.specs.Records.{Name, Content, PresenceMark, Head, Record, Records, scalar, scope, open_type, presence_mark, none, more, held, listed, holding, highest, presence_marks_alone, is_presence_mark, group_start, group_absent, group_end, listed-held}
 use Rattle.asn1_model.specs.Tables.{Line, Table}
 use Rattle.asn1_model.specs.Tags.{first_tags, record_tags}
 use Rattle.asn1_model.proofs.Lists.{held-listed, inner_height-held}
@@ -140,13 +140,13 @@ mutual
   SameAll-sym (next same all) = next (Same-sym same) (SameAll-sym all)
 
 -- they are marks alone alike, and as high
-pub same-marks_alone : (rs ss : List Record) → SameAll (held rs) (held ss) → marks_alone rs ≡ marks_alone ss
+pub same-marks_alone : (rs ss : List Record) → SameAll (held rs) (held ss) → presence_marks_alone rs ≡ presence_marks_alone ss
 same-marks_alone [] [] all = refl
 same-marks_alone [] (s ∷ ss) all = elim all [ ]
 same-marks_alone (r ∷ rs) [] all = elim all [ ]
 same-marks_alone (r ∷ rs) (s ∷ ss) all =
     let both = SameAll-cons all in
-    ap (λ b. b && marks_alone rs) (same-mark both.0) ∙ ap (λ b. is_mark s && b) (same-marks_alone rs ss both.1)
+    ap (λ b. b && presence_marks_alone rs) (same-mark both.0) ∙ ap (λ b. is_presence_mark s && b) (same-marks_alone rs ss both.1)
 
 pub same-highest : (rs ss : List Record) → SameAll (held rs) (held ss) → highest rs ≡ highest ss
 same-highest rs ss all = sym (inner_height-held rs) ∙ (same-inner_height all ∙ inner_height-held ss)
@@ -159,8 +159,8 @@ same-first_tags (r ∷ rs) [] all = elim all [ ]
 same-first_tags (r ∷ rs) (s ∷ ss) all =
     let both = SameAll-cons all in
     ap (λ b. if b then first_tags rs else record_tags r) (same-mark both.0)
-    ∙ ap (λ ts. if is_mark s then ts else record_tags r) (same-first_tags rs ss both.1)
-    ∙ ap (λ ts. if is_mark s then first_tags ss else ts) (same-tags both.0)
+    ∙ ap (λ ts. if is_presence_mark s then ts else record_tags r) (same-first_tags rs ss both.1)
+    ∙ ap (λ ts. if is_presence_mark s then first_tags ss else ts) (same-tags both.0)
 
 -- records of one head that hold the same are the same
 pub same_holding : (h : Head) (rs ss : List Record) → SameAll (held rs) (held ss) → SameAll (held (holding h rs ∷ [])) (held (holding h ss ∷ []))
@@ -173,24 +173,24 @@ same_rearranged h rs qs ss unordered all moved =
 
 -- a group, which is absent where the other is
 pub same_group_records : (table : Table Line) (rs ss : List Record) → SameAll (held rs) (held ss) → SameAll (held (group_records table (Some rs))) (held (group_records table (Some ss)))
-same_group_records table rs ss all = by_marks (marks_alone rs) (marks_alone ss) (same-marks_alone rs ss all)
+same_group_records table rs ss all = by_marks (presence_marks_alone rs) (presence_marks_alone ss) (same-marks_alone rs ss all)
   where
     by_marks : (a b : Bool) → a ≡ b →
-        SameAll (held (if a then mark group_absent ∷ [] else mark (group_start table) ∷ rs ++ mark group_end ∷ [])) (held (if b then mark group_absent ∷ [] else mark (group_start table) ∷ ss ++ mark group_end ∷ []))
-    by_marks true true e = SameAll-refl (held (mark group_absent ∷ []))
+        SameAll (held (if a then presence_mark group_absent ∷ [] else presence_mark (group_start table) ∷ rs ++ presence_mark group_end ∷ [])) (held (if b then presence_mark group_absent ∷ [] else presence_mark (group_start table) ∷ ss ++ presence_mark group_end ∷ []))
+    by_marks true true e = SameAll-refl (held (presence_mark group_absent ∷ []))
     by_marks true false e = cc
     by_marks false true e = cc
     by_marks false false e =
-        next (equal (mark (group_start table))) (SameAll-append rs ss (mark group_end ∷ []) (mark group_end ∷ []) all (SameAll-refl (held (mark group_end ∷ []))))
+        next (equal (presence_mark (group_start table))) (SameAll-append rs ss (presence_mark group_end ∷ []) (presence_mark group_end ∷ []) all (SameAll-refl (held (presence_mark group_end ∷ []))))
 
 -- What holds no other records is the same as itself alone.
 pub same_as_scalar : {q : Record} {t : Tag} {c : ConstraintSet} {n : Name} {x : Content} → Same q (scalar t c n x) → q ≡ scalar t c n x
 same_as_scalar (equal r) = refl
 
-pub same_as_raw : {q : Record} {n : Name} {bytes : List ℕ} → Same q (raw n bytes) → q ≡ raw n bytes
+pub same_as_raw : {q : Record} {n : Name} {bytes : List ℕ} → Same q (open_type n bytes) → q ≡ open_type n bytes
 same_as_raw (equal r) = refl
 
-pub same_as_mark : {q : Record} {m : Mark} → Same q (mark m) → q ≡ mark m
+pub same_as_mark : {q : Record} {m : PresenceMark} → Same q (presence_mark m) → q ≡ presence_mark m
 same_as_mark (equal r) = refl
 
 -- What is the same as a record that holds others: it has the same head, and holds lists that are the same after a

@@ -3,7 +3,7 @@ use Rattle.std.specs.Prelude.{ℕ, Bool, List, [], ◌∷◌, ◌++◌, Option, 
 use Rattle.asn1_tags.specs.declared.tags.Tag.{Tag}
 use Rattle.asn1_tags.specs.Tags.{tag_eq}
 use Rattle.asn1_model.specs.ConstraintSets.{ConstraintSet}
-use Rattle.asn1_model.specs.Records.{Name, name_or, Record, Side, raw, mark, holding, marks_alone, sequence, set, sequence_of, set_of, prefix, alternative, present, absent, group_start, group_absent, group_end}
+use Rattle.asn1_model.specs.Records.{Name, name_or, Record, PresenceMark, Side, open_type, presence_mark, holding, presence_marks_alone, sequence, set, sequence_of, set_of, explicit_tag, alternative, present, absent, group_start, group_absent, group_end}
 use Rattle.asn1_model.specs.Tables.{Line, Table}
 use Rattle.asn1_model.specs.Tags.{CHOICE}
 
@@ -22,8 +22,8 @@ abbrev pub set_of_records : Tag → ConstraintSet → Name → List Record → L
 set_of_records t c n elements = holding (set_of t c n) elements ∷ []
 
 -- What follows an explicit tag (X.680, 31.2.7).
-abbrev pub prefix_records : Tag → Name → List Record → List Record
-prefix_records t n rs = holding (prefix t n) rs ∷ []
+abbrev pub explicit_tag_records : Tag → Name → List Record → List Record
+explicit_tag_records t n rs = holding (explicit_tag t n) rs ∷ []
 
 -- The alternative of a CHOICE that was chosen, whose tag is the first of its record (X.680, 29), by the table of all.
 abbrev pub alternative_records : Tag → ConstraintSet → Table Line → Name → List Record → List Record
@@ -36,17 +36,21 @@ abbrev pub choice_records : Tag → Table Line → List Record → ConstraintSet
 choice_records chosen table rs own_constraints own_name t c n =
     if tag_eq t CHOICE
     then alternative_records chosen c table (name_or n own_name) rs
-    else prefix_records t (name_or n own_name) (alternative_records chosen own_constraints table own_name rs)
+    else explicit_tag_records t (name_or n own_name) (alternative_records chosen own_constraints table own_name rs)
 
 -- An open type (X.681, 14) is its bytes, under whatever tag.
-abbrev pub raw_records : Name → List ℕ → List Record
-raw_records n bytes = raw n bytes ∷ []
+abbrev pub open_type_records : Name → List ℕ → List Record
+open_type_records n bytes = open_type n bytes ∷ []
+
+-- a presence mark alone
+abbrev pub marked : PresenceMark → List Record
+marked m = presence_mark m ∷ []
 
 -- A component that may be absent (X.680, 25.1) is a presence mark that says so, or one that says that it is there, and its
 -- records.
 abbrev pub option_records : Side → Tag → Option (List Record) → List Record
-option_records side t None = mark (absent side t) ∷ []
-option_records side t (Some rs) = mark (present side t) ∷ rs
+option_records side t None = presence_mark (absent side t) ∷ []
+option_records side t (Some rs) = presence_mark (present side t) ∷ rs
 
 -- A component with a default (X.680, 25.1) is absent where it equals that, as canonical encodings ask (X.690, 11.5).
 abbrev pub default_records : Side → Bool → Tag → List Record → List Record
@@ -55,6 +59,6 @@ default_records side is_default t rs = option_records side t (if is_default then
 -- An extension addition group is between two presence marks. It is absent where there is none, and where its components are
 -- marks alone, as PER has it (X.691, 19.9).
 abbrev pub group_records : Table Line → Option (List Record) → List Record
-group_records table None = mark group_absent ∷ []
+group_records table None = presence_mark group_absent ∷ []
 group_records table (Some components) =
-    if marks_alone components then mark group_absent ∷ [] else mark (group_start table) ∷ components ++ mark group_end ∷ []
+    if presence_marks_alone components then presence_mark group_absent ∷ [] else presence_mark (group_start table) ∷ components ++ presence_mark group_end ∷ []

@@ -13,7 +13,7 @@ use Rattle.asn1_model.specs.Records.{Name, Record, name_or, Content, Head, arcs,
 use Rattle.asn1_model.specs.Tables.{Label, Line, Table}
 use Rattle.asn1_model.specs.Tags.{universal, CHOICE, Has, HasOwnTag, IsATag, first_tag, tree_tags}
 use Rattle.asn1_model.specs.Composites.{option_records, choice_records}
-use Rattle.asn1_model.specs.Meaning.{Meaning, own_records, CanStandInside, CanStandInsideUnder}
+use Rattle.asn1_model.specs.Meaning.{Meaning, own_records, IsWellTagged, IsWellTaggedUnder}
 use Rattle.asn1_model.specs.WellFormed.{AreWellFormed, well_formed_choice, well_formed_elements, well_formed_option, well_formed_scope}
 use Rattle.asn1_model.specs.OneRecord.{scalar_is_one, scope_is_one, choice_is_one}
 
@@ -28,11 +28,11 @@ scalar_type tag constraints name content = record {
   is_present = λ _. true;
   records = λ v t c n. scalar t c n (content v) ∷ [];
   IsSingleRecord = ⊤;
-  IsWellTagged = IsATag;
+  HasDistinctTags = IsATag;
   IsOfType = λ _. ⊤;
   IsValid = λ _ _. ⊤;
   one_record = λ v t c n _ _. scalar_is_one t c n (content v);
-  well_formed = λ takes v t c n _. (tt, tt);
+  well_formed = λ accepts v t c n _. (tt, tt);
 }
 
 -- the type, whose values are written without constraints
@@ -40,7 +40,7 @@ abbrev pub without_constraints : {V : Type 0} → Meaning V → Meaning V
 without_constraints m = record m {
   records = λ v t c n. m.records v t unconstrained n;
   one_record = λ v t c n. m.one_record v t unconstrained n;
-  well_formed = λ takes v t c n. m.well_formed takes v t unconstrained n;
+  well_formed = λ accepts v t c n. m.well_formed accepts v t unconstrained n;
 }
 
 -- the type, whose values are written under its own name where no other is given
@@ -48,7 +48,7 @@ abbrev pub under_own_name : {V : Type 0} → Meaning V → Meaning V
 under_own_name m = record m {
   records = λ v t c n. m.records v t c (name_or n m.name);
   one_record = λ v t c n. m.one_record v t c (name_or n m.name);
-  well_formed = λ takes v t c n. m.well_formed takes v t c (name_or n m.name);
+  well_formed = λ accepts v t c n. m.well_formed accepts v t c (name_or n m.name);
 }
 
 -- A kind of string (X.680, 22, 23 and 41), by its tag, its name, the units that a string can hold, and what these are to
@@ -77,7 +77,7 @@ integer_type number_of bound = record (scalar_type (universal 2) (values_of boun
 abbrev pub limited_integer_type : Bounded ℤ → Meaning ℤ
 limited_integer_type bound = record (scalar_type (universal 2) (values_of bound) (Some (codes "INTEGER")) number) {
   IsValid = λ _ n. IsMember (λ z. z) bound n;
-  well_formed = λ takes v t c n _. (tt, tt);
+  well_formed = λ accepts v t c n _. (tt, tt);
 }
 
 -- An INTEGER (X.680, 19) of any size.
@@ -95,11 +95,11 @@ through target m = record {
   is_present = λ w. m.is_present (target w);
   records = λ w. m.records (target w);
   IsSingleRecord = m.IsSingleRecord;
-  IsWellTagged = m.IsWellTagged;
+  HasDistinctTags = m.HasDistinctTags;
   IsOfType = λ w. m.IsOfType (target w);
-  IsValid = λ takes w. m.IsValid takes (target w);
+  IsValid = λ accepts w. m.IsValid accepts (target w);
   one_record = λ w. m.one_record (target w);
-  well_formed = λ takes w. m.well_formed takes (target w);
+  well_formed = λ accepts w. m.well_formed accepts (target w);
 }
 
 -- A component that may be absent (X.680, 25.1). It is no record of its own where it is absent, so it can be a
@@ -114,22 +114,22 @@ option_type m = record {
   is_present = λ o. is_some o;
   records = λ o t c n. option_records in_root t (option_map (λ v. m.records v t c n) o);
   IsSingleRecord = ⊥;
-  IsWellTagged = CanStandInsideUnder m;
+  HasDistinctTags = IsWellTaggedUnder m;
   IsOfType = λ o. IfSome o m.IsOfType;
-  IsValid = λ takes o. IfSome o (m.IsValid takes);
+  IsValid = λ accepts o. IfSome o (m.IsValid accepts);
   one_record = λ v t c n single _. absurd single;
-  well_formed = λ takes o t c n. well_formed_option takes in_root t (m.IsValid takes)
-      (λ v. m.records v t c n) (λ v. m.well_formed takes v t c n) o;
+  well_formed = λ accepts o t c n. well_formed_option accepts in_root t (m.IsValid accepts)
+      (λ v. m.records v t c n) (λ v. m.well_formed accepts v t c n) o;
 }
 
 -- What a type of values that hold others says of what is inside: the records of a value's; whether its types can be there,
 -- with distinct tags; whether a value's are of their types; and whether they are valid, when their records are well formed.
 pub record Inside (V : Type 0) : Type 1 where
   pub records : V → List Record
-  pub CanStandInside : Type 0
+  pub IsWellTagged : Type 0
   pub AreOfType : V → Type 0
   pub AreValid : (List ℕ → Bool) → V → Type 0
-  pub well_formed : (takes : List ℕ → Bool) (v : V) → AreValid takes v → AreWellFormed takes (records v)
+  pub well_formed : (accepts : List ℕ → Bool) (v : V) → AreValid accepts v → AreWellFormed accepts (records v)
 
 -- A type whose value is one record that holds others: by the head of that record, which has the tag that the type is
 -- written under, the type's tag, constraints and name, and what is inside.
@@ -145,12 +145,12 @@ scope_type head at tag constraints name inside = record {
   is_present = λ _. true;
   records = λ v t c n. holding (head t c n) (inside.records v) ∷ [];
   IsSingleRecord = ⊤;
-  IsWellTagged = λ t. IsATag t × inside.CanStandInside;
+  HasDistinctTags = λ t. IsATag t × inside.IsWellTagged;
   IsOfType = inside.AreOfType;
   IsValid = inside.AreValid;
   one_record = λ v t c n _ _. scope_is_one t (head t c n) (inside.records v) (at t c n);
-  well_formed = λ takes v t c n valid.
-      well_formed_scope takes t (head t c n) (inside.records v) (at t c n) (inside.well_formed takes v valid);
+  well_formed = λ accepts v t c n valid.
+      well_formed_scope accepts t (head t c n) (inside.records v) (at t c n) (inside.well_formed accepts v valid);
 }
 
 -- A type of elements of one type, by the head of its record, its tag, name and constraints.
@@ -160,11 +160,11 @@ abbrev pub elements_type : {V W : Type 0} → (head : Tag → ConstraintSet → 
 elements_type head at tag name constraints elements m =
     under_own_name (scope_type head at tag constraints (Some name) (record {
       records = λ w. flat_map (own_records m) (elements w);
-      CanStandInside = CanStandInside m;
+      IsWellTagged = IsWellTagged m;
       AreOfType = λ w. All m.IsOfType (elements w);
-      AreValid = λ takes w. All (m.IsValid takes) (elements w);
-      well_formed = λ takes w. well_formed_elements takes (m.IsValid takes) (own_records m)
-          (λ v. m.well_formed takes v m.tag m.constraints m.name) (elements w);
+      AreValid = λ accepts w. All (m.IsValid accepts) (elements w);
+      well_formed = λ accepts w. well_formed_elements accepts (m.IsValid accepts) (own_records m)
+          (λ v. m.well_formed accepts v m.tag m.constraints m.name) (elements w);
     }))
 
 -- A SEQUENCE OF (X.680, 26).
@@ -189,7 +189,7 @@ empty_type = record {
   is_present = λ _. true;
   records = λ _ _ _ _. [];
   IsSingleRecord = ⊥;
-  IsWellTagged = λ _. ⊥;
+  HasDistinctTags = λ _. ⊥;
   IsOfType = λ _. ⊤;
   IsValid = λ _ _. ⊤;
   one_record = λ v t c n single _. absurd single;
@@ -215,7 +215,7 @@ choice_tree alternatives t = if tag_eq t CHOICE then alternatives else leaf t
 pub record Chosen {V : Type 0} (inside : Inside V) : Type 0 where
   pub table : Table Line
   pub alternatives : Trees
-  pub among : inside.CanStandInside → (v : V) →
+  pub among : inside.IsWellTagged → (v : V) →
       Has (tree_tags (choice alternatives)) (first_tag (inside.records v))
 
 -- A CHOICE (X.680, 29), by its name and constraints, the chosen alternative, and what is said of all. Untagged it begins
@@ -231,12 +231,12 @@ choice_type name constraints inside chosen = record {
   is_present = λ _. true;
   records = λ v. choice_records (first_tag (inside.records v)) chosen.table (inside.records v) constraints name;
   IsSingleRecord = ⊤;
-  IsWellTagged = λ _. IsTrue (distinct (leaves (choice chosen.alternatives))) × inside.CanStandInside;
+  HasDistinctTags = λ _. IsTrue (distinct (leaves (choice chosen.alternatives))) × inside.IsWellTagged;
   IsOfType = inside.AreOfType;
   IsValid = inside.AreValid;
   one_record = λ v t c n _ well. choice_is_one (choice chosen.alternatives)
       (first_tag (inside.records v)) chosen.table (inside.records v) constraints name
       (chosen.among well.1 v) t c n;
-  well_formed = λ takes v t c n valid. well_formed_choice takes chosen.table (inside.records v)
-      constraints name t c n (inside.well_formed takes v valid);
+  well_formed = λ accepts v t c n valid. well_formed_choice accepts chosen.table (inside.records v)
+      constraints name t c n (inside.well_formed accepts v valid);
 }

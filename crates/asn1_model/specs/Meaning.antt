@@ -26,7 +26,7 @@ pub record Meaning (V : Type 0) : Type 1 where
   pub IsSingleRecord : Type 0
   -- the type can be written under this tag; where it has components or alternatives, these have distinct tags (X.680,
   -- 25.6, 27.3 and 29.3); and the types inside it can be there
-  pub IsWellTagged : Tag → Type 0
+  pub HasDistinctTags : Tag → Type 0
   -- what every value has that a program can make: its numbers are within the range of their types, its strings have the
   -- units of their kinds (a UTF8String the bytes of a text), its arrays are as long as they say
   pub IsOfType : V → Type 0
@@ -34,13 +34,13 @@ pub record Meaning (V : Type 0) : Type 1 where
   -- the byte strings that it takes as one; each group that is there writes a component; and each INTEGER with limits is
   -- within them
   pub IsValid : (List ℕ → Bool) → V → Type 0
-  -- The law of types: where each value is a single record and the type is well tagged, that record is no presence mark, and begins
-  -- with one of the type's tags.
+  -- The law of types: where each value is a single record and the type's tags are distinct, that record is no presence mark,
+  -- and begins with one of the type's tags.
   pub one_record : (v : V) (t : Tag) (c : ConstraintSet) (n : Name) →
-      IsSingleRecord → IsWellTagged t → IsOneRecord (tree_tags (tree t)) (records v t c n)
+      IsSingleRecord → HasDistinctTags t → IsOneRecord (tree_tags (tree t)) (records v t c n)
   -- The law of valid values: their records are well formed.
-  pub well_formed : (takes : List ℕ → Bool) (v : V) (t : Tag) (c : ConstraintSet) (n : Name) →
-      IsValid takes v → AreWellFormed takes (records v t c n)
+  pub well_formed : (accepts : List ℕ → Bool) (v : V) (t : Tag) (c : ConstraintSet) (n : Name) →
+      IsValid accepts v → AreWellFormed accepts (records v t c n)
 
 module _ {V : Type 0} (m : Meaning V) where
   -- the tags with which a value under the tag can begin
@@ -55,10 +55,10 @@ module _ {V : Type 0} (m : Meaning V) where
   abbrev pub HasOwn : Tag → ConstraintSet → Name → Type 0
   HasOwn t c n = (m.tag ≡ t) × (m.constraints ≡ c) × (m.name ≡ n)
 
-  -- the type can be inside another, under this tag
-  abbrev pub CanStandInsideUnder : Tag → Type 0
-  CanStandInsideUnder t = m.IsSingleRecord × m.IsWellTagged t
+  -- the type is well tagged under this tag: it can be inside another there
+  abbrev pub IsWellTaggedUnder : Tag → Type 0
+  IsWellTaggedUnder t = m.IsSingleRecord × m.HasDistinctTags t
 
-  -- the type can be inside another, under its own tag
-  abbrev pub CanStandInside : Type 0
-  CanStandInside = CanStandInsideUnder m.tag
+  -- the type is well tagged: it can be inside another, under its own tag
+  abbrev pub IsWellTagged : Type 0
+  IsWellTagged = IsWellTaggedUnder m.tag

@@ -5,8 +5,8 @@ use Rattle.asn1_tags.specs.declared.tags.Tag.{Tag}
 use Rattle.asn1_tags.specs.Tags.{tag_eq}
 use Rattle.asn1_tags.specs.Trees.{Tree, leaf}
 use Rattle.asn1_model.specs.ConstraintSets.{ConstraintSet}
-use Rattle.asn1_model.specs.Records.{Name, name_or, Content, Head, Record, scalar, holding, prefix, alternative, sequence, set, sequence_of, set_of}
-use Rattle.asn1_model.specs.Composites.{alternative_records, prefix_records, choice_records}
+use Rattle.asn1_model.specs.Records.{Name, name_or, Content, Head, Record, scalar, holding, explicit_tag, alternative, sequence, set, sequence_of, set_of}
+use Rattle.asn1_model.specs.Composites.{alternative_records, explicit_tag_records, choice_records}
 use Rattle.asn1_model.specs.Tables.{Line, Table}
 use Rattle.asn1_model.specs.Tags.{CHOICE, Tags, Has, HasOwnTag, LiesIn, IsOneRecord, only, head_tag, tree_tags}
 
@@ -20,7 +20,7 @@ own_tag u (sequence t table n) at = at
 own_tag u (set t table n) at = at
 own_tag u (sequence_of t c n) at = at
 own_tag u (set_of t c n) at = at
-own_tag u (prefix t n) at = at
+own_tag u (explicit_tag t n) at = at
 own_tag u (alternative t c table n) at = absurd at
 
 -- a record that holds others, whose head has the tag
@@ -55,12 +55,12 @@ choice_is_one tree chosen table rs own_constraints own_name among_tags t c n = b
         (tree_tags (if untagged then tree else leaf t))
         (if untagged
         then alternative_records chosen c table (name_or n own_name) rs
-        else prefix_records t (name_or n own_name) (alternative_records chosen own_constraints table own_name rs))
+        else explicit_tag_records t (name_or n own_name) (alternative_records chosen own_constraints table own_name rs))
     by_tag true = record {
       item = holding (alternative chosen c table (name_or n own_name)) rs;
       alone = refl;
       no_mark = refl;
       within = only_in (tree_tags tree) chosen among_tags;
     }
-    by_tag false = scope_is_one t (prefix t (name_or n own_name))
+    by_tag false = scope_is_one t (explicit_tag t (name_or n own_name))
         (alternative_records chosen own_constraints table own_name rs) refl

@@ -1,6 +1,6 @@
 -- The same records, up to the order of what a SET or a SET OF holds.
 use Rattle.std.specs.Prelude.{◌≡◌, Bool, true, false, List, IsPermutation}
-use Rattle.asn1_model.specs.Records.{Record, Records, scope, none, more, held, listed, Head, sequence, set, sequence_of, set_of, prefix, alternative}
+use Rattle.asn1_model.specs.Records.{Record, Records, scope, none, more, held, listed, Head, sequence, set, sequence_of, set_of, explicit_tag, alternative}
 
 -- the order of what is in it means nothing: the components of a SET, the elements of a SET OF (X.680, 27 and 28)
 abbrev pub is_unordered : Head → Bool
@@ -8,7 +8,7 @@ is_unordered (sequence t table n) = false
 is_unordered (set t table n) = true
 is_unordered (sequence_of t c n) = false
 is_unordered (set_of t c n) = true
-is_unordered (prefix t n) = false
+is_unordered (explicit_tag t n) = false
 is_unordered (alternative t c table n) = false
 
 -- Two records are the same up to order if they are equal, or if they have one head and hold lists that are the same up

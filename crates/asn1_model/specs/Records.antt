@@ -48,7 +48,7 @@ pub data Head : Type 0 where
   set : Tag → Table Line → Name → Head
   sequence_of : Tag → ConstraintSet → Name → Head
   set_of : Tag → ConstraintSet → Name → Head
-  prefix : Tag → Name → Head
+  explicit_tag : Tag → Name → Head
   alternative : Tag → ConstraintSet → Table Line → Name → Head
 
 -- Where a component is in its definition: in the root, or among the additions (X.680, 25.1).
@@ -58,12 +58,12 @@ pub data Side : Type 0 where
 
 -- A presence mark: whether a component is there, and where the components of a group begin, which has a table of its own,
 -- and end.
-pub data Mark : Type 0 where
-  present : Side → Tag → Mark
-  absent : Side → Tag → Mark
-  group_start : Table Line → Mark
-  group_absent : Mark
-  group_end : Mark
+pub data PresenceMark : Type 0 where
+  present : Side → Tag → PresenceMark
+  absent : Side → Tag → PresenceMark
+  group_start : Table Line → PresenceMark
+  group_absent : PresenceMark
+  group_end : PresenceMark
 
 -- A record is a content, or holds other records and marks, or is a value as its bytes (an open type). Presence marks
 -- are between the records.
@@ -71,8 +71,8 @@ mutual
   pub data Record : Type 0 where
     scalar : Tag → ConstraintSet → Name → Content → Record
     scope : Head → Records → Record
-    raw : Name → List ℕ → Record
-    mark : Mark → Record
+    open_type : Name → List ℕ → Record
+    presence_mark : PresenceMark → Record
 
   pub data Records : Type 0 where
     none : Records
@@ -102,8 +102,8 @@ abbrev mutual
   pub height : Record → ℕ
   height (scalar t c n x) = 0
   height (scope h rs) = suc (inner_height rs)
-  height (raw n bytes) = 0
-  height (mark m) = 0
+  height (open_type n bytes) = 0
+  height (presence_mark m) = 0
 
   pub inner_height : Records → ℕ
   inner_height none = 0
@@ -115,13 +115,13 @@ highest [] = 0
 highest (r ∷ rs) = max (height r) (highest rs)
 
 -- the record is a presence mark
-abbrev pub is_mark : Record → Bool
-is_mark (scalar t c n x) = false
-is_mark (scope h rs) = false
-is_mark (raw n bytes) = false
-is_mark (mark m) = true
+abbrev pub is_presence_mark : Record → Bool
+is_presence_mark (scalar t c n x) = false
+is_presence_mark (scope h rs) = false
+is_presence_mark (open_type n bytes) = false
+is_presence_mark (presence_mark m) = true
 
 -- no record but presence marks
-abbrev pub marks_alone : List Record → Bool
-marks_alone [] = true
-marks_alone (r ∷ rs) = is_mark r && marks_alone rs
+abbrev pub presence_marks_alone : List Record → Bool
+presence_marks_alone [] = true
+presence_marks_alone (r ∷ rs) = is_presence_mark r && presence_marks_alone rs

@@ -2,11 +2,11 @@
 use Rattle.std.specs.Prelude.{ℕ, Bool, List, refl}
 use Rattle.asn1_tags.specs.declared.tags.Tag.{Tag}
 use Rattle.asn1_tags.specs.Trees.{Tree, leaf}
-use Rattle.asn1_model.specs.Composites.{prefix_records}
-use Rattle.asn1_model.specs.Meaning.{Meaning, own_records, CanStandInside, CanStandInsideUnder}
+use Rattle.asn1_model.specs.Composites.{explicit_tag_records}
+use Rattle.asn1_model.specs.Meaning.{Meaning, own_records, IsWellTagged, IsWellTaggedUnder}
 use Rattle.asn1_model.specs.OneRecord.{scope_is_one}
 use Rattle.asn1_model.specs.WellFormed.{AreWellFormed}
-use Rattle.asn1_model.specs.Records.{Name, Record, prefix}
+use Rattle.asn1_model.specs.Records.{Name, Record, explicit_tag}
 use Rattle.asn1_model.specs.Tags.{IsATag, IsOneRecord, tree_tags}
 
 -- A type as a component or an alternative has it.
@@ -18,15 +18,15 @@ pub record TaggedType (W : Type 0) : Type 1 where
   -- what a value is
   pub records : W → List Record
   -- the type can be there
-  pub CanStandInside : Type 0
+  pub IsWellTagged : Type 0
   -- what a value has by its type, and whether it is valid
   pub IsOfType : W → Type 0
   pub IsValid : (List ℕ → Bool) → W → Type 0
   -- then each value is one record, which begins with one of the tags
-  pub one_record : CanStandInside → (w : W) → IsOneRecord (tree_tags tree) (records w)
+  pub one_record : IsWellTagged → (w : W) → IsOneRecord (tree_tags tree) (records w)
   -- and the records of each valid value are well formed
-  pub well_formed : (takes : List ℕ → Bool) (w : W) →
-      IsValid takes w → AreWellFormed takes (records w)
+  pub well_formed : (accepts : List ℕ → Bool) (w : W) →
+      IsValid accepts w → AreWellFormed accepts (records w)
 
 -- under a tag in the place of its own; a CHOICE is after it, as after an explicit tag (31.2.7 c)
 abbrev pub tagged : {W : Type 0} → Tag → Meaning W → TaggedType W
@@ -34,11 +34,11 @@ tagged t m = record {
   tag = t;
   tree = m.tree t;
   records = λ w. m.records w t m.constraints m.name;
-  CanStandInside = CanStandInsideUnder m t;
+  IsWellTagged = IsWellTaggedUnder m t;
   IsOfType = m.IsOfType;
   IsValid = m.IsValid;
   one_record = λ can w. m.one_record w t m.constraints m.name can.0 can.1;
-  well_formed = λ takes w. m.well_formed takes w t m.constraints m.name;
+  well_formed = λ accepts w. m.well_formed accepts w t m.constraints m.name;
 }
 
 -- under its own tag; a CHOICE is untagged there
@@ -50,12 +50,12 @@ abbrev pub explicitly_tagged_as : {W : Type 0} → Name → Tag → Meaning W �
 explicitly_tagged_as name t m = record {
   tag = t;
   tree = leaf t;
-  records = λ w. prefix_records t name (own_records m w);
-  CanStandInside = IsATag t × CanStandInside m;
+  records = λ w. explicit_tag_records t name (own_records m w);
+  IsWellTagged = IsATag t × IsWellTagged m;
   IsOfType = m.IsOfType;
   IsValid = m.IsValid;
-  one_record = λ _ w. scope_is_one t (prefix t name) (own_records m w) refl;
-  well_formed = λ takes w valid. ((tt, m.well_formed takes w m.tag m.constraints m.name valid), tt);
+  one_record = λ _ w. scope_is_one t (explicit_tag t name) (own_records m w) refl;
+  well_formed = λ accepts w valid. ((tt, m.well_formed accepts w m.tag m.constraints m.name valid), tt);
 }
 
 -- after an explicit tag, which has the type's name

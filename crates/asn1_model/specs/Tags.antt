@@ -4,7 +4,7 @@ use Rattle.asn1_tags.specs.declared.tags.Tag.{Tag}
 use Rattle.asn1_tags.specs.declared.classes.Class.TheVariants.{Universal, Context}
 use Rattle.asn1_tags.specs.Tags.{tag_eq}
 use Rattle.asn1_tags.specs.Trees.{Tree, leaves, is_open}
-use Rattle.asn1_model.specs.Records.{Record, scalar, scope, raw, mark, is_mark, marks_alone, Head, sequence, set, sequence_of, set_of, prefix, alternative}
+use Rattle.asn1_model.specs.Records.{Record, scalar, scope, open_type, presence_mark, is_presence_mark, presence_marks_alone, Head, sequence, set, sequence_of, set_of, explicit_tag, alternative}
 
 -- a tag that X.680 assigns to a type of its own (8.4, table 1)
 abbrev pub universal : ℕ → Tag
@@ -53,7 +53,7 @@ head_tag (sequence t table n) = t
 head_tag (set t table n) = t
 head_tag (sequence_of t c n) = t
 head_tag (set_of t c n) = t
-head_tag (prefix t n) = t
+head_tag (explicit_tag t n) = t
 head_tag (alternative t c table n) = t
 
 -- the head has this tag as that of its own record, and so is no alternative
@@ -62,20 +62,20 @@ HasOwnTag u (sequence t table n) = t ≡ u
 HasOwnTag u (set t table n) = t ≡ u
 HasOwnTag u (sequence_of t c n) = t ≡ u
 HasOwnTag u (set_of t c n) = t ≡ u
-HasOwnTag u (prefix t n) = t ≡ u
+HasOwnTag u (explicit_tag t n) = t ≡ u
 HasOwnTag u (alternative t c table n) = ⊥
 
 -- the tags with which a record can begin: its own, for a value as its bytes every tag, for a presence mark none
 abbrev pub record_tags : Record → Tags
 record_tags (scalar t c n x) = only t
 record_tags (scope h rs) = only (head_tag h)
-record_tags (raw n bytes) = every
-record_tags (mark m) = among []
+record_tags (open_type n bytes) = every
+record_tags (presence_mark m) = among []
 
 -- the first tags of a list are those of its first record; presence marks are passed over
 abbrev pub first_tags : List Record → Tags
 first_tags [] = among []
-first_tags (r ∷ rs) = if is_mark r then first_tags rs else record_tags r
+first_tags (r ∷ rs) = if is_presence_mark r then first_tags rs else record_tags r
 
 -- the first of a list of tags, or the CHOICE marker tag
 abbrev pub first_of : Tags → Tag
@@ -93,19 +93,19 @@ HoldsItsTag (sequence t table n) rs = ⊤
 HoldsItsTag (set t table n) rs = ⊤
 HoldsItsTag (sequence_of t c n) rs = ⊤
 HoldsItsTag (set_of t c n) rs = ⊤
-HoldsItsTag (prefix t n) rs = ⊤
+HoldsItsTag (explicit_tag t n) rs = ⊤
 HoldsItsTag (alternative t c table n) rs = first_tag rs ≡ t
 
 -- The list is one record, which is no presence mark, and its first tags lie in these.
 pub record IsOneRecord (tags : Tags) (rs : List Record) : Type 0 where
   pub item : Record
   pub alone : rs ≡ item ∷ []
-  pub no_mark : is_mark item ≡ false
+  pub no_mark : is_presence_mark item ≡ false
   pub within : LiesIn (first_tags rs) tags
 
 -- The list has a record that is no presence mark, and the first tags lie in these.
 pub record BeginsWithin (tags : Tags) (rs : List Record) : Type 0 where
-  pub some : marks_alone rs ≡ false
+  pub some : presence_marks_alone rs ≡ false
   pub within : LiesIn (first_tags rs) tags
 
 -- no tag is one of both

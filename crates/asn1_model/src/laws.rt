@@ -78,7 +78,8 @@ pub fn strings_have_the_records_of_their_kinds()
         scalar (universal 3) unconstrained (Some (codes "BIT_STRING")) (bits s) ∷ [] }
     ensures octet_string { (s : List ℕ) → own_records ⟦<OctetString as AsnType>⟧.meaning s ≡
         scalar (universal 4) unconstrained (Some (codes "OCTET_STRING")) (units octet s) ∷ [] }
-    ensures object_identifier { (s : List ℕ) → own_records ⟦<ObjectIdentifier as AsnType>⟧.meaning s ≡
+    ensures object_identifier { (s : List ℕ) →
+        own_records ⟦<ObjectIdentifier as AsnType>⟧.meaning s ≡
         scalar (universal 6) unconstrained (Some (codes "OBJECT_IDENTIFIER")) (arcs s) ∷ [] }
     ensures numeric_string { (s : List ℕ) → own_records ⟦<NumericString as AsnType>⟧.meaning s ≡
         scalar (universal 18) unconstrained (Some (codes "NumericString")) (units numeric s) ∷ [] }

@@ -22,7 +22,7 @@
 //! - Records that are the same up to the order inside sets begin with the same tags and are as high
 //!   (`order_inside_sets_is_not_seen`).
 //! - The law of types is a part of each meaning (`one_record` of `specs/Meaning.antt`): a value of a type whose values are
-//!   single records (`IsSingleRecord`), and whose tags are distinct (`IsWellTagged`), is one record, which begins with one
+//!   single records (`IsSingleRecord`), and whose tags are distinct (`HasDistinctTags`), is one record, which begins with one
 //!   of the type's tags.
 //! - The law of valid values is a part of each meaning too (`well_formed`): their records hold open types that the codec
 //!   takes, and each chosen tag is the first of what is inside (`records_of_a_valid_value_are_well_formed`).

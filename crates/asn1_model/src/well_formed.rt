@@ -11,6 +11,6 @@ use crate::asn_type::AsnType;
 /// Each open type among them holds bytes that the codec takes as one value, and each alternative of a CHOICE has the first
 /// tag of what is inside.
 pub fn records_of_a_valid_value_are_well_formed<T: AsnType>(value: &T)
-    ensures { (takes : List ℕ → Bool) (t : Tag) (c : ConstraintSet) (n : Name) →
-        T.meaning.IsValid takes value.now → AreWellFormed takes (T.meaning.records value.now t c n) }
+    ensures { (accepts : List ℕ → Bool) (t : Tag) (c : ConstraintSet) (n : Name) →
+        T.meaning.IsValid accepts value.now → AreWellFormed accepts (T.meaning.records value.now t c n) }
 {}

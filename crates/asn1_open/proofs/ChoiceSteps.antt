@@ -13,7 +13,7 @@ use Rattle.asn1_codec.specs.declared.decode_error.DecodeError.TheVariants.{Faile
 use Rattle.asn1_model.specs.Composites.{alternative_records}
 use Rattle.asn1_model.specs.ConstraintSets.{ConstraintSet}
 use Rattle.asn1_model.specs.Meaning.{Meaning}
-use Rattle.asn1_model.specs.Records.{Head, Name, Record, alternative, highest, holding, name_or, prefix}
+use Rattle.asn1_model.specs.Records.{Head, Name, Record, alternative, highest, holding, name_or, explicit_tag}
 use Rattle.asn1_model.specs.Tags.{CHOICE, Has, tree_tags}
 use Rattle.asn1_tags.specs.Tags.{tag_eq}
 use Rattle.asn1_tags.specs.declared.tags.Tag.{Tag}
@@ -59,10 +59,10 @@ module _ {D V : Type 0} (R : Reader D) {m : Meaning V} {alts : Alternatives} {pi
 
   -- what follows the tag was not opened, or it was
   abbrev pub TagNotOpened : Tag → D → DecodeError → Type 0
-  TagNotOpened t old e = (n : Name) (items rest : List Record) (outer : Outside) → R.remains old (holding (prefix t n) items ∷ rest, outer) → MayFail (R.depth_left old) 1 e
+  TagNotOpened t old e = (n : Name) (items rest : List Record) (outer : Outside) → R.remains old (holding (explicit_tag t n) items ∷ rest, outer) → MayFail (R.depth_left old) 1 e
 
   abbrev pub TagOpened : Tag → D → D → Type 0
-  TagOpened t old mid = (n : Name) (items rest : List Record) (outer : Outside) → R.remains old (holding (prefix t n) items ∷ rest, outer) → HasAdvanced R old mid 1 (items, (prefix t n, rest) ∷ outer) ⊤
+  TagOpened t old mid = (n : Name) (items rest : List Record) (outer : Outside) → R.remains old (holding (explicit_tag t n) items ∷ rest, outer) → HasAdvanced R old mid 1 (items, (explicit_tag t n, rest) ∷ outer) ⊤
 
   -- the chosen alternative was not read
   pub alternative_not_read : (c : ConstraintSet) (old mid end new : D) (tag : Tag) {e : DecodeError} → OpensChoice R alts c old mid (Ok tag) → R.depth_left old ≡ suc (R.depth_left mid) →
@@ -102,19 +102,19 @@ module _ {D V : Type 0} (R : Reader D) {m : Meaning V} {alts : Alternatives} {pi
 
   inside_tag : (mid end : D) (result : Result V DecodeError) → ReadsValue R m eq CHOICE m.constraints mid end result →
       (v : V) (outer : Outside) → HaveDistinctTags (all_of alts) → Each CanBeChosen (all_of alts) →
-      (chosen_meaning (all_of alts) (pick v)).IsOfType → (chosen_meaning (all_of alts) (pick v)).IsValid R.takes →
+      (chosen_meaning (all_of alts) (pick v)).IsOfType → (chosen_meaning (all_of alts) (pick v)).IsValid R.accepts →
       ReadsBack R mid end (own v) [] outer (λ w. eq w v ≡ true) result
   inside_tag mid end result reads v outer distinct can of_type valid =
       subst (λ rs. ReadsBack R mid end rs [] outer (λ w. eq w v ≡ true) result)
       (law.records v CHOICE m.constraints m.name ∙ ap (λ n. alternative_records (first v) m.constraints (table_of alts) n (held v)) (own_name m.name))
-      (reads v m.name [] outer ((law.well_tagged CHOICE).1 (distinct, can)) ((law.of_type v).1 of_type) ((law.valid R.takes v).1 valid) (inl law.single))
+      (reads v m.name [] outer ((law.distinct_tags CHOICE).1 (distinct, can)) ((law.of_type v).1 of_type) ((law.valid R.accepts v).1 valid) (inl law.single))
 
   -- the tag was not read
   pub tag_not_read : (t : Tag) (c : ConstraintSet) (old new : D) {e : DecodeError} → tag_eq t CHOICE ≡ false → TagNotOpened t old e →
       ReadsValue R m eq t c old new (Err e)
   tag_not_read t c old new {e} under opens =
       as_tagged R m alts pick eq t c old new (Err e) law under (λ n v rest outer distinct can of_type valid at.
-      not_opened (prefix t n) (own v) (R.depth_left old) (opens n (own v) rest outer at))
+      not_opened (explicit_tag t n) (own v) (R.depth_left old) (opens n (own v) rest outer at))
 
   -- the CHOICE after it was not read
   pub choice_after_tag_not_read : (t : Tag) (c : ConstraintSet) (old mid end new : D) {e : DecodeError} → tag_eq t CHOICE ≡ false → TagOpened t old mid →
@@ -122,8 +122,8 @@ module _ {D V : Type 0} (R : Reader D) {m : Meaning V} {alts : Alternatives} {pi
   choice_after_tag_not_read t c old mid end new {e} under opens less reads =
       as_tagged R m alts pick eq t c old new (Err e) law under (λ n v rest outer distinct can of_type valid at.
       let s = opens n (own v) rest outer at in
-      fails_inside (prefix t n) (own v) _ _ less
-      (inside_tag mid end (Err e) reads v ((prefix t n, rest) ∷ outer) distinct can of_type valid (to_end R mid (own v) ((prefix t n, rest) ∷ outer) s.at)))
+      fails_inside (explicit_tag t n) (own v) _ _ less
+      (inside_tag mid end (Err e) reads v ((explicit_tag t n, rest) ∷ outer) distinct can of_type valid (to_end R mid (own v) ((explicit_tag t n, rest) ∷ outer) s.at)))
 
   -- the end of the CHOICE after it was not read
   pub choice_after_tag_not_closed : (t : Tag) (c : ConstraintSet) (old mid end new : D) {w : V} {e : DecodeError} → tag_eq t CHOICE ≡ false → TagOpened t old mid →
@@ -131,8 +131,8 @@ module _ {D V : Type 0} (R : Reader D) {m : Meaning V} {alts : Alternatives} {pi
   choice_after_tag_not_closed t c old mid end new {w} {e} under opens reads closes =
       as_tagged R m alts pick eq t c old new (Err e) law under (λ n v rest outer distinct can of_type valid at.
       let s = opens n (own v) rest outer at in
-      let r = inside_tag mid end (Ok w) reads v ((prefix t n, rest) ∷ outer) distinct can of_type valid (to_end R mid (own v) ((prefix t n, rest) ∷ outer) s.at) in
-      flat_failure _ _ _ (closes (prefix t n) rest outer r.at))
+      let r = inside_tag mid end (Ok w) reads v ((explicit_tag t n, rest) ∷ outer) distinct can of_type valid (to_end R mid (own v) ((explicit_tag t n, rest) ∷ outer) s.at) in
+      flat_failure _ _ _ (closes (explicit_tag t n) rest outer r.at))
 
   -- the CHOICE after it was read
   pub choice_after_tag_read : (t : Tag) (c : ConstraintSet) (old mid end new : D) {w : V} → tag_eq t CHOICE ≡ false → TagOpened t old mid →
@@ -140,9 +140,9 @@ module _ {D V : Type 0} (R : Reader D) {m : Meaning V} {alts : Alternatives} {pi
   choice_after_tag_read t c old mid end new {w} under opens less reads closes =
       as_tagged R m alts pick eq t c old new (Ok w) law under (λ n v rest outer distinct can of_type valid at.
       let s = opens n (own v) rest outer at in
-      let r = inside_tag mid end (Ok w) reads v ((prefix t n, rest) ∷ outer) distinct can of_type valid (to_end R mid (own v) ((prefix t n, rest) ∷ outer) s.at) in
-      let k = closes (prefix t n) rest outer r.at in
-      record { answer = r.answer; at = k.at; within_depth = within_scope (prefix t n) (own v) _ _ less r.within_depth })
+      let r = inside_tag mid end (Ok w) reads v ((explicit_tag t n, rest) ∷ outer) distinct can of_type valid (to_end R mid (own v) ((explicit_tag t n, rest) ∷ outer) s.at) in
+      let k = closes (explicit_tag t n) rest outer r.at in
+      record { answer = r.answer; at = k.at; within_depth = within_scope (explicit_tag t n) (own v) _ _ less r.within_depth })
 
 -- An alternative: what its values are to the CHOICE, what it says of each of them, and that it alone can begin with the tag.
 module _ {D V W : Type 0} (R : Reader D) (alts : Alternatives) (pick : V → OneOf (all_of alts)) (eq : V → V → Bool) (embed : W → V) (said : W → ValueMeaning)
@@ -154,22 +154,22 @@ module _ {D V W : Type 0} (R : Reader D) (alts : Alternatives) (pick : V → One
 
   -- it was not read
   pub chosen_not_read : (old new : D) {e : DecodeError} →
-      ((w : W) (rest : List Record) (outer : Outside) → (said w).IsOfType → (said w).IsValid R.takes → R.remains old ((said w).records ++ rest, outer) → MayFail (R.depth_left old) (highest (said w).records) e) →
+      ((w : W) (rest : List Record) (outer : Outside) → (said w).IsOfType → (said w).IsValid R.accepts → R.remains old ((said w).records ++ rest, outer) → MayFail (R.depth_left old) (highest (said w).records) e) →
       ReadsChosen R alts pick eq tag old new (Err e)
   chosen_not_read old new {e} fails v rest outer distinct can of_type valid has at =
       let o = only v has in
       let is = same v o in
       subst (λ s. MayFail (R.depth_left old) (highest s.records) e) (sym is)
-      (fails o.0 rest outer (subst (λ s. s.IsOfType) is of_type) (subst (λ s. s.IsValid R.takes) is valid) (subst (λ s. R.remains old (s.records ++ rest, outer)) is at))
+      (fails o.0 rest outer (subst (λ s. s.IsOfType) is of_type) (subst (λ s. s.IsValid R.accepts) is valid) (subst (λ s. R.remains old (s.records ++ rest, outer)) is at))
 
   -- it was read
   pub chosen_read : (old new : D) (v : V) →
-      ((w : W) (rest : List Record) (outer : Outside) → (said w).IsOfType → (said w).IsValid R.takes → R.remains old ((said w).records ++ rest, outer) → HasAdvanced R old new (highest (said w).records) (rest, outer) (eq v (embed w) ≡ true)) →
+      ((w : W) (rest : List Record) (outer : Outside) → (said w).IsOfType → (said w).IsValid R.accepts → R.remains old ((said w).records ++ rest, outer) → HasAdvanced R old new (highest (said w).records) (rest, outer) (eq v (embed w) ≡ true)) →
       ReadsChosen R alts pick eq tag old new (Ok v)
   chosen_read old new v reads u rest outer distinct can of_type valid has at =
       let o = only u has in
       let is = same u o in
-      let r = reads o.0 rest outer (subst (λ s. s.IsOfType) is of_type) (subst (λ s. s.IsValid R.takes) is valid) (subst (λ s. R.remains old (s.records ++ rest, outer)) is at) in
+      let r = reads o.0 rest outer (subst (λ s. s.IsOfType) is of_type) (subst (λ s. s.IsValid R.accepts) is valid) (subst (λ s. R.remains old (s.records ++ rest, outer)) is at) in
       record {
         answer = subst (λ z. eq v z ≡ true) (sym o.1) r.answer;
         at = r.at;

@@ -7,8 +7,8 @@ use Rattle.asn1_components.specs.Components.{lines}
 use Rattle.asn1_codec.proofs.ReadingSteps.{highest-append, highest-holding}
 use Rattle.asn1_codec.proofs.TellingTags.{its_tag}
 use Rattle.asn1_model.specs.Kinds.{object_identifier}
-use Rattle.asn1_model.specs.Meaning.{CanStandInside, own_records}
-use Rattle.asn1_model.specs.Records.{Record, highest, holding, prefix, sequence}
+use Rattle.asn1_model.specs.Meaning.{IsWellTagged, own_records}
+use Rattle.asn1_model.specs.Records.{Record, highest, holding, explicit_tag, sequence}
 use Rattle.asn1_model.specs.Tags.{Has, context, tree_tags, universal}
 use Rattle.asn1_tags.specs.declared.tags.Tag.{Tag}
 use Rattle.asn1_types.specs.Kinds.{instance_of_components}
@@ -20,7 +20,7 @@ use Rattle.asn1_open.specs.declared.open_value.Open.{Open, BitString, Bool as Fl
 pub open_law : AgreesWithChoice open_alternatives open_pick open_meaning
 open_law = itself_agrees open_agrees
 
-pub open_can : CanStandInside open_meaning
+pub open_can : IsWellTagged open_meaning
 open_can = search rules
 
 -- the first where it is so, and else the second
@@ -59,7 +59,7 @@ of_number n tag is v has = subst (λ k. HasNumber k v) is (numbered v tag has)
 
 -- what is inside an INSTANCE OF: the name of a type, and a value after a tag
 abbrev pub value_record : Instance Open → Record
-value_record v = holding (prefix (context 0) (Some (codes "SEQUENCE"))) (own_records open_meaning v.value)
+value_record v = holding (explicit_tag (context 0) (Some (codes "SEQUENCE"))) (own_records open_meaning v.value)
 
 abbrev pub instance_inside : Instance Open → List Record
 instance_inside v = own_records object_identifier v.type_id ++ value_record v ∷ []
@@ -70,5 +70,5 @@ two_higher v = omega (
   arith,
   highest-holding (sequence (universal 8) (lines {V = Instance Open} (instance_of_components (λ i. i.type_id) (λ i. i.value) open_meaning)) (Some (codes "SEQUENCE"))) (instance_inside v),
   highest-append (own_records object_identifier v.type_id) (value_record v ∷ []),
-  highest-holding (prefix (context 0) (Some (codes "SEQUENCE"))) (own_records open_meaning v.value),
+  highest-holding (explicit_tag (context 0) (Some (codes "SEQUENCE"))) (own_records open_meaning v.value),
 )

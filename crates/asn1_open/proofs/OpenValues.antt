@@ -8,16 +8,16 @@ use Rattle.asn1_open.specs.declared.open_value.Open.{Open, BitString, Bool as Fl
 use Rattle.std.specs.declared.alloc.Global.{Global}
 use Rattle.std.specs.declared.boxed.Box.{Box}
 
-pub each_open_valid : (v : Open) (takes : List ℕ → Bool) → (open_means v).IsValid takes
-each_open_valid (BitString string) takes = tt
-each_open_valid (Flag flag) takes = tt
-each_open_valid (Integer number) takes = tt
-each_open_valid Null takes = tt
-each_open_valid (ObjectIdentifier arcs) takes = tt
-each_open_valid (OctetString string) takes = tt
-each_open_valid (UniversalString string) takes = tt
-each_open_valid (VisibleString string) takes = tt
-each_open_valid (InstanceOf' place type_id value) takes = (tt, (each_open_valid value takes, tt))
+pub each_open_valid : (v : Open) (accepts : List ℕ → Bool) → (open_means v).IsValid accepts
+each_open_valid (BitString string) accepts = tt
+each_open_valid (Flag flag) accepts = tt
+each_open_valid (Integer number) accepts = tt
+each_open_valid Null accepts = tt
+each_open_valid (ObjectIdentifier arcs) accepts = tt
+each_open_valid (OctetString string) accepts = tt
+each_open_valid (UniversalString string) accepts = tt
+each_open_valid (VisibleString string) accepts = tt
+each_open_valid (InstanceOf' place type_id value) accepts = (tt, (each_open_valid value accepts, tt))
 
 -- an INSTANCE OF, as the alternative that it is
 pub instance_height : (v : Open) (instance : Box (Instance Open) Global) → v ≡ InstanceOf instance →

@@ -24,7 +24,7 @@ ReadsChosen {V = V} R alts pick eq tag old new result =
     (v : V) (rest : List Record) (outer : Outside) →
     HaveDistinctTags (all_of alts) → Each CanBeChosen (all_of alts) →
     (chosen_meaning (all_of alts) (pick v)).IsOfType →
-    (chosen_meaning (all_of alts) (pick v)).IsValid R.takes →
+    (chosen_meaning (all_of alts) (pick v)).IsValid R.accepts →
     Has (tree_tags (chosen (all_of alts) (pick v)).type.tree) tag →
     ReadsBack R old new (chosen_meaning (all_of alts) (pick v)).records rest outer
     (λ w. eq w v ≡ true) result

@@ -123,7 +123,7 @@ pub(crate) fn read_alternative<D: Decoder>(decoder: &mut D, tag: Tag) -> Result<
 fn read_instance<D: Decoder>(decoder: &mut D) -> Result<InstanceOf<Open>, DecodeError>
     ensures read { (v : InstanceOf Open) (rest : List Record) (outer : Outside) →
         (instance_type open_meaning).IsOfType v →
-        (instance_type open_meaning).IsValid D.reader.takes v →
+        (instance_type open_meaning).IsValid D.reader.accepts v →
         ReadsBack D.reader decoder.old decoder.new (own_records (instance_type open_meaning) v) rest
         outer (λ w. ⟦<InstanceOf<Open> as PartialEq>⟧.eq w v ≡ true) result }
     ensures same_depth { OnOk result (D.reader.depth_left decoder.new ≡

@@ -1,6 +1,6 @@
 //! `Open`: a CHOICE that holds itself, as rasn's `types::Open`.
 ghost use Rattle.asn1_choices.specs.ChoiceTypes.{itself_agrees};
-ghost use Rattle.asn1_model.specs.Meaning.{CanStandInside, own_records};
+ghost use Rattle.asn1_model.specs.Meaning.{IsWellTagged, own_records};
 ghost use Rattle.asn1_model.specs.Records.{highest};
 ghost use Rattle.asn1_open.specs.OpenAlternatives.{open_agrees, open_alternatives, open_meaning, open_pick};
 ghost use Rattle.asn1_open.specs.declared.open_value.Open.{Open};
@@ -100,14 +100,14 @@ impl ChoiceType for Open {
 }
 
 /// An `Open` can be inside other types: the tags of its alternatives are distinct.
-pub fn open_can_stand_inside()
-    ensures { CanStandInside ⟦<Open as AsnType>⟧.meaning }
+pub fn open_is_well_tagged()
+    ensures { IsWellTagged ⟦<Open as AsnType>⟧.meaning }
 {}
 
 /// Each `Open` is valid, however deep: none of its alternatives asks anything of whoever writes it.
 #[tactic(auto, using(crate::proofs::OpenValues::each_open_valid))]
 pub fn each_open_is_valid(value: &Open)
-    ensures { (takes : List ℕ → Bool) → ⟦<Open as AsnType>⟧.meaning.IsValid takes value.now }
+    ensures { (accepts : List ℕ → Bool) → ⟦<Open as AsnType>⟧.meaning.IsValid accepts value.now }
 {}
 
 /// How deep the scopes of an `Open` are nested: an INSTANCE OF takes three more than the value in

@@ -5,7 +5,7 @@ use Rattle.std.proofs.lemmas.List.Sorted.{All-permutation, IsPermutation-sym}
 use Rattle.asn1_items.specs.Headers.{is_one_item}
 use Rattle.asn1_items.specs.Items.{HasBytes, HaveBytes, MarkBytes, read_with, written_with}
 use Rattle.asn1_model.specs.Orders.{Same, SameAll, equal, in_place, in_any_order, at_end, next}
-use Rattle.asn1_model.specs.Records.{Record, Records, scalar, scope, raw, mark, none, more, held, listed}
+use Rattle.asn1_model.specs.Records.{Record, Records, scalar, scope, open_type, presence_mark, none, more, held, listed}
 use Rattle.asn1_model.specs.WellFormed.{AreWellFormed, IsWellFormed, EachIsWellFormed}
 use Rattle.asn1_packed.specs.Carried.{CarriesWith}
 
@@ -14,8 +14,8 @@ abbrev mutual
   IsReadable : Record → Type 0
   IsReadable (scalar t c n x) = ⊤
   IsReadable (scope h rs) = AreReadable rs
-  IsReadable (raw n own) = IsTrue (is_one_item own)
-  IsReadable (mark m) = ⊤
+  IsReadable (open_type n own) = IsTrue (is_one_item own)
+  IsReadable (presence_mark m) = ⊤
 
   AreReadable : Records → Type 0
   AreReadable none = ⊤
@@ -25,8 +25,8 @@ mutual
   as_read_one : (marks : MarkBytes) (r : Record) (bytes : List ℕ) → HasBytes (written_with marks) r bytes → IsReadable r → HasBytes (read_with marks) r bytes
   as_read_one marks (scalar t c n x) bytes p readable = p
   as_read_one marks (scope h rs) bytes p readable = record { inside = p.inside; is = as_read_all marks rs p.inside p.is readable; item = p.item }
-  as_read_one marks (raw n own) bytes p readable = (p.0, readable)
-  as_read_one marks (mark m) bytes p readable = p
+  as_read_one marks (open_type n own) bytes p readable = (p.0, readable)
+  as_read_one marks (presence_mark m) bytes p readable = p
 
   as_read_all : (marks : MarkBytes) (rs : Records) (bytes : List ℕ) → HaveBytes (written_with marks) rs bytes → AreReadable rs → HaveBytes (read_with marks) rs bytes
   as_read_all marks none bytes p readable = p
@@ -63,8 +63,8 @@ mutual
   is_readable : (r : Record) → IsWellFormed (λ own. is_one_item own) r → IsReadable r
   is_readable (scalar t c n x) w = tt
   is_readable (scope h rs) w = are_readable rs w.1
-  is_readable (raw n own) w = w
-  is_readable (mark m) w = tt
+  is_readable (open_type n own) w = w
+  is_readable (presence_mark m) w = tt
 
   are_readable : (rs : Records) → EachIsWellFormed (λ own. is_one_item own) rs → AreReadable rs
   are_readable none w = tt

@@ -9,7 +9,7 @@ use Rattle.asn1_items.specs.Headers.{Header, header_at}
 use Rattle.asn1_items.specs.Items.{HasBytes, HaveBytes, MarkBytes, read_with}
 use Rattle.asn1_items.specs.Slices.{left_inside}
 use Rattle.asn1_model.specs.Records as model
-use Rattle.asn1_model.specs.Records.{Mark, held, is_mark}
+use Rattle.asn1_model.specs.Records.{PresenceMark, held, is_presence_mark}
 use Rattle.asn1_model.specs.Tags.{Has, record_tags}
 use Rattle.asn1_packed.proofs.Remaining.{some_left}
 use Rattle.asn1_packed.specs.Decoder.{AllHaveBytes, RemainsExactly, in_one_order, lists_outside}
@@ -23,13 +23,13 @@ pub record HasTag (r : model.Record) (bytes : List ℕ) : Type 0 where
   pub at : header_at bytes ≡ Some header
   pub has : Has (record_tags r) header.tag
 
-pub tag_at : (marks : MarkBytes) (r : model.Record) (first more : List ℕ) → is_mark r ≡ false → HasBytes (read_with marks) r first → HasTag r (first ++ more)
+pub tag_at : (marks : MarkBytes) (r : model.Record) (first more : List ℕ) → is_presence_mark r ≡ false → HasBytes (read_with marks) r first → HasTag r (first ++ more)
 tag_at marks (model.scalar t c n x) first more no_mark p = record { header = _; at = content_item t (content_kind x) p.inside first more p.item; has = (0, omega arith, refl) }
 tag_at marks (model.scope h rs) first more no_mark p = record { header = _; at = scope_item h p.inside first more p.item; has = (0, omega arith, refl) }
-tag_at marks (model.raw n own) first more no_mark p =
+tag_at marks (model.open_type n own) first more no_mark p =
     let o = one_item own more p.1 in
     record { header = o.header; at = ap (λ b. header_at (b ++ more)) p.0 ∙ o.at; has = tt }
-tag_at marks (model.mark m) first more no_mark p = cc
+tag_at marks (model.presence_mark m) first more no_mark p = cc
 
 -- The record that is next, after the presence marks that are passed over, and its header.
 pub record NextHeader (left : List ℕ) (items : List model.Record) : Type 0 where

@@ -17,7 +17,7 @@ use Rattle.asn1_items.specs.declared.slices.Rest.{Rest}
 use Rattle.asn1_items.specs.declared.slices.Slices.{Slices}
 use Rattle.asn1_model.specs.ConstraintSets.{ConstraintSet}
 use Rattle.asn1_model.specs.Records as model
-use Rattle.asn1_model.specs.Records.{Mark, Name, held, holding, is_mark, mark}
+use Rattle.asn1_model.specs.Records.{PresenceMark, Name, held, holding, is_presence_mark, presence_mark}
 use Rattle.asn1_model.specs.Tags.{Tags, head_tag}
 use Rattle.asn1_model.specs.WellFormed.{AreWellFormed}
 use Rattle.asn1_packed.proofs.Forms.{carried_is_read}
@@ -54,11 +54,11 @@ one_long : (own : List ℕ) → IsTrue (is_one_item own) → 1 ≤ length own
 one_long [] one = cc
 one_long (b ∷ own) one = omega arith
 
-record_long : (marks : MarkBytes) (r : model.Record) (bytes : List ℕ) → is_mark r ≡ false → HasBytes (read_with marks) r bytes → 1 ≤ length bytes
+record_long : (marks : MarkBytes) (r : model.Record) (bytes : List ℕ) → is_presence_mark r ≡ false → HasBytes (read_with marks) r bytes → 1 ≤ length bytes
 record_long marks (model.scalar t c n x) bytes no_mark p = item_long 1 t _ p.inside bytes p.item
 record_long marks (model.scope h rs) bytes no_mark p = item_long (kind_of h) (head_tag h) [] p.inside bytes p.item
-record_long marks (model.raw n own) bytes no_mark p = omega (arith, ap length p.0, one_long own p.1)
-record_long marks (model.mark m) bytes no_mark p = cc
+record_long marks (model.open_type n own) bytes no_mark p = omega (arith, ap length p.0, one_long own p.1)
+record_long marks (model.presence_mark m) bytes no_mark p = cc
 
 as_long : (marks : MarkBytes) (rs : List model.Record) (bytes : List ℕ) → HaveBytes (read_with marks) (held rs) bytes → records_in rs ≤ length bytes
 as_long marks [] bytes p = omega arith
@@ -67,11 +67,11 @@ as_long marks (r ∷ rs) bytes p = by r p (as_long marks rs p.others p.are_other
     by : (r : model.Record) (p : HaveBytes (read_with marks) (held (r ∷ rs)) bytes) → records_in rs ≤ length p.others → records_in (r ∷ rs) ≤ length bytes
     by (model.scalar t c n x) p others = omega (arith, others, record_long marks (model.scalar t c n x) p.first refl p.is_first, ap length p.are, length-append p.first p.others)
     by (model.scope h is) p others = omega (arith, others, record_long marks (model.scope h is) p.first refl p.is_first, ap length p.are, length-append p.first p.others)
-    by (model.raw n own) p others = omega (arith, others, record_long marks (model.raw n own) p.first refl p.is_first, ap length p.are, length-append p.first p.others)
-    by (model.mark m) p others = omega (arith, others, ap length p.are, length-append p.first p.others)
+    by (model.open_type n own) p others = omega (arith, others, record_long marks (model.open_type n own) p.first refl p.is_first, ap length p.are, length-append p.first p.others)
+    by (model.presence_mark m) p others = omega (arith, others, ap length p.are, length-append p.first p.others)
 
 -- something is left where a record is
-pub some_left : (marks : MarkBytes) (r : model.Record) (rest : List model.Record) (bytes : List ℕ) → is_mark r ≡ false → HaveBytes (read_with marks) (held (r ∷ rest)) bytes → bytes ≡ [] → ⊥
+pub some_left : (marks : MarkBytes) (r : model.Record) (rest : List model.Record) (bytes : List ℕ) → is_presence_mark r ≡ false → HaveBytes (read_with marks) (held (r ∷ rest)) bytes → bytes ≡ [] → ⊥
 some_left marks r rest bytes no_mark p none =
     omega (arith, ap length none, ap length p.are, length-append p.first p.others, record_long marks r p.first no_mark p.is_first)
 
@@ -130,8 +130,8 @@ module _ {P : Type 0} (marks : MarkBytes) where
   }
 
   -- a presence mark was passed
-  pub mark_passed : {V : Type 0} (d e : ItemDecoder P) (m : Mark) (rest : List model.Record) (outer : Outside) (Is : V → Type 0) (w : V) → e.failed ≡ false → KeepsOutside d.slices e.slices →
-      PassesMark marks m rest Is d.slices e.slices (Ok w) → Advances (in_one_order marks) d e 0 (mark m ∷ rest, outer) (rest, outer) Is (Ok w)
+  pub mark_passed : {V : Type 0} (d e : ItemDecoder P) (m : PresenceMark) (rest : List model.Record) (outer : Outside) (Is : V → Type 0) (w : V) → e.failed ≡ false → KeepsOutside d.slices e.slices →
+      PassesMark marks m rest Is d.slices e.slices (Ok w) → Advances (in_one_order marks) d e 0 (presence_mark m ∷ rest, outer) (rest, outer) Is (Ok w)
   mark_passed d e m rest outer Is w sound kept passes at =
       let p = passes at.inside in
       record {
@@ -141,12 +141,12 @@ module _ {P : Type 0} (marks : MarkBytes) where
       }
 
   -- or none is there
-  pub mark_not_passed : {V : Type 0} (d e : ItemDecoder P) (m : Mark) (rest : List model.Record) (outer : Outside) (Is : V → Type 0) (error : ItemError) (x : DecodeError) →
-      PassesMark marks m rest Is d.slices d.slices (Err error) → Advances (in_one_order marks) d e 0 (mark m ∷ rest, outer) (rest, outer) Is (Err x)
+  pub mark_not_passed : {V : Type 0} (d e : ItemDecoder P) (m : PresenceMark) (rest : List model.Record) (outer : Outside) (Is : V → Type 0) (error : ItemError) (x : DecodeError) →
+      PassesMark marks m rest Is d.slices d.slices (Err error) → Advances (in_one_order marks) d e 0 (presence_mark m ∷ rest, outer) (rest, outer) Is (Err x)
   mark_not_passed d e m rest outer Is error x passes at = absurd (passes at.inside)
 
   -- whether something is there was found
-  pub found : (d e : ItemDecoder P) (there away : Mark) (own : Tags) (b : Bool) → e.failed ≡ false → KeepsOutside d.slices e.slices → FindsPresence marks there away own d.slices e.slices (Ok b) →
+  pub found : (d e : ItemDecoder P) (there away : PresenceMark) (own : Tags) (b : Bool) → e.failed ≡ false → KeepsOutside d.slices e.slices → FindsPresence marks there away own d.slices e.slices (Ok b) →
       codec.TellsPresence (in_one_order marks) d e there away own (Ok b)
   found d e there away own b sound kept finds = record {
     there = λ rest outer begins. mark_passed d e there rest outer (λ b. b ≡ true) b sound kept (finds.there rest begins);
@@ -154,7 +154,7 @@ module _ {P : Type 0} (marks : MarkBytes) where
   }
 
   -- or not
-  pub not_found : (d e : ItemDecoder P) (there away : Mark) (own : Tags) (new : Slices) (error : ItemError) (x : DecodeError) → FindsPresence marks there away own d.slices new (Err error) →
+  pub not_found : (d e : ItemDecoder P) (there away : PresenceMark) (own : Tags) (new : Slices) (error : ItemError) (x : DecodeError) → FindsPresence marks there away own d.slices new (Err error) →
       codec.TellsPresence (in_one_order marks) d e there away own (Err x)
   not_found d e there away own new error x finds = record {
     there = λ rest outer begins. mark_not_passed d e there rest outer (λ b. b ≡ true) error x (finds.there rest begins);

@@ -36,7 +36,7 @@ module _ {P : Type 0} (marks : MarkBytes) where
     remains = λ d ahead. RemainsExactly d ahead;
     failed = λ d. d.failed;
     depth_left = λ d. d.depth_left;
-    takes = λ bytes. is_one_item bytes;
+    accepts = λ bytes. is_one_item bytes;
   }
 
   -- the decoder as types see it: the order inside sets means nothing

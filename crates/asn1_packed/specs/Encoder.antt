@@ -6,7 +6,7 @@ use Rattle.asn1_codec.specs.Writing.{Writer}
 use Rattle.asn1_items.specs.Buffers.{HasWritten}
 use Rattle.asn1_items.specs.Items.{IsTooLong, MarkBytes, SomeTooLong, written_with}
 use Rattle.asn1_model.specs.Records as model
-use Rattle.asn1_model.specs.Records.{held, is_mark, marks_alone}
+use Rattle.asn1_model.specs.Records.{held, is_presence_mark, presence_marks_alone}
 use Rattle.asn1_packed.specs.declared.encoder.ItemEncoder.{ItemEncoder}
 
 both_true : (a b : Bool) → (a && b) ≡ true → (a ≡ true) × (b ≡ true)
@@ -24,16 +24,16 @@ module _ (marks : MarkBytes) where
   too_long_before (r ∷ rs) after (inl t) = inl t
   too_long_before (r ∷ rs) after (inr t) = inr (too_long_before rs after t)
 
-  mark_not_long : (r : model.Record) → is_mark r ≡ true → IsTooLong (written_with marks) r → ⊥
+  mark_not_long : (r : model.Record) → is_presence_mark r ≡ true → IsTooLong (written_with marks) r → ⊥
   mark_not_long (model.scalar t c n x) e l = cc
   mark_not_long (model.scope h rs) e l = cc
-  mark_not_long (model.raw n own) e l = cc
-  mark_not_long (model.mark m) e l = l
+  mark_not_long (model.open_type n own) e l = cc
+  mark_not_long (model.presence_mark m) e l = l
 
-  marks_not_long : (rs : List model.Record) → marks_alone rs ≡ true → SomeTooLong (written_with marks) (held rs) → ⊥
+  marks_not_long : (rs : List model.Record) → presence_marks_alone rs ≡ true → SomeTooLong (written_with marks) (held rs) → ⊥
   marks_not_long [] e l = l
-  marks_not_long (r ∷ rs) e (inl l) = mark_not_long r ((both_true (is_mark r) (marks_alone rs) e).0) l
-  marks_not_long (r ∷ rs) e (inr l) = marks_not_long rs ((both_true (is_mark r) (marks_alone rs) e).1) l
+  marks_not_long (r ∷ rs) e (inl l) = mark_not_long r ((both_true (is_presence_mark r) (presence_marks_alone rs) e).0) l
+  marks_not_long (r ∷ rs) e (inr l) = marks_not_long rs ((both_true (is_presence_mark r) (presence_marks_alone rs) e).1) l
 
 module _ {P : Type 0} (marks : MarkBytes) where
   -- The encoder in the order in which it writes. It rejects records that are too long, at whatever depth.

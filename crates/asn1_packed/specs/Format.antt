@@ -16,7 +16,7 @@ abbrev pub item_format : (P : Type 0) → MarkBytes → Format (Vec ℕ Global)
 item_format P marks = record {
   carries = λ output rs. CarriesWith marks output.items rs;
   rejects = λ rs. (item_writer {P = P} marks).rejects rs;
-  takes = λ bytes. is_one_item bytes;
+  accepts = λ bytes. is_one_item bytes;
 }
 
 -- it keeps to the law

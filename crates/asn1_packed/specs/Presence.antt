@@ -4,13 +4,13 @@ use Rattle.asn1_items.specs.Items.{HaveBytes, MarkBytes, read_with}
 use Rattle.asn1_items.specs.Slices.{left_inside, left_outside, open_lists}
 use Rattle.asn1_items.specs.declared.error.ItemError.{ItemError}
 use Rattle.asn1_items.specs.declared.slices.Slices.{Slices}
-use Rattle.asn1_model.specs.Records.{Mark, Record, absent, group_absent, group_end, group_start, held, mark, present}
+use Rattle.asn1_model.specs.Records.{PresenceMark, Record, absent, group_absent, group_end, group_start, held, presence_mark, present}
 use Rattle.asn1_model.specs.Tags.{Tags, BeginsWithin, ShareNone, first_tags}
 use Rattle.asn1_packed.specs.declared.presence.MarkKind.{MarkKind}
 use Rattle.asn1_packed.specs.declared.presence.MarkKind.TheVariants.{Present, Absent, GroupStart, GroupAbsent, GroupEnd}
 
 -- the kind of a presence mark
-abbrev pub kind_of_mark : Mark → MarkKind
+abbrev pub kind_of_mark : PresenceMark → MarkKind
 kind_of_mark (present side t) = Present
 kind_of_mark (absent side t) = Absent
 kind_of_mark (group_start table) = GroupStart
@@ -28,12 +28,12 @@ pub record HasPassedMark (marks : MarkBytes) (rest : List Record) (new : Slices)
   pub left : HaveBytes (read_with marks) (held rest) (left_inside new)
 
 -- a call that goes past this presence mark, before these records
-abbrev pub PassesMark : {V : Type 0} → MarkBytes → Mark → List Record → (V → Type 0) → Slices → Slices → Result V ItemError → Type 0
+abbrev pub PassesMark : {V : Type 0} → MarkBytes → PresenceMark → List Record → (V → Type 0) → Slices → Slices → Result V ItemError → Type 0
 PassesMark marks m rest Is old new result =
-    HaveBytes (read_with marks) (held (mark m ∷ rest)) (left_inside old) → MatchResult result (λ w. HasPassedMark marks rest new (Is w)) (λ _. ⊥)
+    HaveBytes (read_with marks) (held (presence_mark m ∷ rest)) (left_inside old) → MatchResult result (λ w. HasPassedMark marks rest new (Is w)) (λ _. ⊥)
 
 -- A call that finds whether something is there, which has these tags, and goes past the presence mark that says so. What is
 -- there begins with one of its tags; what follows something absent begins with none.
-pub record FindsPresence (marks : MarkBytes) (there_mark away_mark : Mark) (own : Tags) (old new : Slices) (result : Result Bool ItemError) : Type 0 where
+pub record FindsPresence (marks : MarkBytes) (there_mark away_mark : PresenceMark) (own : Tags) (old new : Slices) (result : Result Bool ItemError) : Type 0 where
   pub there : (rest : List Record) → BeginsWithin own rest → PassesMark marks there_mark rest (λ b. b ≡ true) old new result
   pub away : (rest : List Record) → ShareNone own (first_tags rest) → PassesMark marks away_mark rest (λ b. b ≡ false) old new result

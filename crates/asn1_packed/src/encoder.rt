@@ -38,7 +38,7 @@ impl<P: Presence> ItemEncoder<P> {
     ghost use Rattle.asn1_items.specs.declared.error.BufferError.TheVariants as buffer_error;
     ghost use Rattle.asn1_model.specs.ConstraintSets.{ConstraintSet};
     ghost use Rattle.asn1_model.specs.Records as model;
-    ghost use Rattle.asn1_model.specs.Records.{Name, mark, raw, scalar};
+    ghost use Rattle.asn1_model.specs.Records.{Name, presence_mark, open_type, scalar};
     ghost use Rattle.asn1_model.specs.Tables.{Line, Table};
     ghost use Rattle.asn1_model.specs.Tags.{head_tag};
     ghost use Rattle.asn1_packed.specs.Carried.{CarriesWith};
@@ -113,7 +113,7 @@ impl<P: Presence> ItemEncoder<P> {
     /// Appends the bytes of an open type.
     fn append_open_type(&mut self, bytes: &[u8]) -> Result<(), EncodeError>
         ensures { (n : Name) →
-            Writes (item_writer P.mark_bytes) self.old (raw n bytes.now ∷ []) ⊤ self.new result }
+            Writes (item_writer P.mark_bytes) self.old (open_type n bytes.now ∷ []) ⊤ self.new result }
     {
         if self.failed {
             return Err(EncodeError::Failed);
@@ -126,8 +126,8 @@ impl<P: Presence> ItemEncoder<P> {
 
     /// Appends a presence mark of this kind.
     fn append_mark(&mut self, kind: MarkKind) -> Result<(), EncodeError>
-        ensures { (m : model.Mark) → kind_of_mark m ≡ kind →
-            Writes (item_writer P.mark_bytes) self.old (mark m ∷ []) ⊤ self.new result }
+        ensures { (m : model.PresenceMark) → kind_of_mark m ≡ kind →
+            Writes (item_writer P.mark_bytes) self.old (presence_mark m ∷ []) ⊤ self.new result }
     {
         if self.failed {
             return Err(EncodeError::Failed);

@@ -4,7 +4,7 @@ ghost use Rattle.asn1_codec.specs.Reading.{Remaining};
 ghost use Rattle.asn1_codec.specs.Writing.{Written};
 ghost use Rattle.asn1_items.specs.Headers.{is_one_item};
 ghost use Rattle.asn1_items.specs.Items.{packed_marks};
-ghost use Rattle.asn1_model.specs.Records.{Mark, Record};
+ghost use Rattle.asn1_model.specs.Records.{PresenceMark, Record};
 ghost use Rattle.asn1_packed.specs.Decoder.{Remains};
 ghost use Rattle.asn1_packed.specs.Encoder.{item_writer};
 ghost use Rattle.asn1_tags.specs.Derives.{ClonesAll};
@@ -26,18 +26,19 @@ pub fn the_encoder_writes_items<P: Presence>(encoder: &ItemEncoder<P>)
 {}
 
 /// A law of the decoder: what types see that remains (`remains`), and that it takes one item as one value of an open type
-/// (`takes`).
+/// (`accepts`).
 pub fn the_decoder_takes_one_item<P: Presence>(decoder: &ItemDecoder<'_, P>)
     ensures remains { (ahead : Remaining) →
         ⟦<ItemDecoder<'static, P> as Decoder>⟧.reader.remains decoder.now ahead ↔
         Remains P.mark_bytes decoder.now ahead }
-    ensures takes { (bytes : List ℕ) →
-        ⟦<ItemDecoder<'static, P> as Decoder>⟧.reader.takes bytes ≡ is_one_item bytes }
+    ensures accepts { (bytes : List ℕ) →
+        ⟦<ItemDecoder<'static, P> as Decoder>⟧.reader.accepts bytes ≡ is_one_item bytes }
 {}
 
 /// A law of the packed codec: its presence marks are one byte each (`marks`), and its name is `Other(0)` (`codec`).
 pub fn the_packed_codec_has_presence_marks()
-    ensures marks { (m : Mark) → ⟦<PresenceMarks as Presence>⟧.mark_bytes m ≡ packed_marks m }
+    ensures marks { (m : PresenceMark) → ⟦<PresenceMarks as Presence>⟧.mark_bytes m ≡
+        packed_marks m }
     ensures codec { ⟦<PresenceMarks as Presence>⟧.own_codec ≡ Other 0 }
 {}
 

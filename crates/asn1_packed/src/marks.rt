@@ -1,5 +1,5 @@
 //! Presence marks.
-ghost use Rattle.asn1_model.specs.Records.{Mark};
+ghost use Rattle.asn1_model.specs.Records.{PresenceMark};
 ghost use Rattle.asn1_model.specs.Tags.{Tags};
 ghost use Rattle.asn1_items.specs.Items.{mark_byte, packed_marks};
 ghost use Rattle.asn1_packed.specs.Presence.{FindsPresence, KeepsOutside};
@@ -58,7 +58,7 @@ impl Presence for PresenceMarks {
 
 /// Whether something is there, by one of two presence marks.
 fn tell(slices: &mut Slices<'_>, there: u8, away: u8) -> Result<bool, ItemError>
-    ensures told { (p a : Mark) (own : Tags) → mark_byte p ≡ there → mark_byte a ≡ away →
+    ensures told { (p a : PresenceMark) (own : Tags) → mark_byte p ≡ there → mark_byte a ≡ away →
         there ≢ away → FindsPresence packed_marks p a own slices.old slices.new result }
     ensures keeps_outside { KeepsOutside slices.old slices.new }
 {

@@ -5,7 +5,7 @@ ghost use Rattle.asn1_components.specs.ComponentLists.{trees_of};
 ghost use Rattle.asn1_components.specs.Components.{all_components, lines};
 ghost use Rattle.asn1_items.specs.Items.{HaveBytes, MarkBytes, read_with};
 ghost use Rattle.asn1_items.specs.Slices.{left_inside};
-ghost use Rattle.asn1_model.specs.Records.{Mark, Record, Side, absent, group_absent, group_end, group_start, held, present};
+ghost use Rattle.asn1_model.specs.Records.{PresenceMark, Record, Side, absent, group_absent, group_end, group_start, held, present};
 ghost use Rattle.asn1_model.specs.Tags.{tree_tags};
 ghost use Rattle.asn1_packed.specs.Presence.{FindsPresence, KeepsOutside, PassesMark, kind_of_mark};
 ghost use Rattle.asn1_tags.specs.Trees.{choice, shape};
@@ -46,7 +46,7 @@ pub trait Presence {
 
     /// The bytes of the presence marks of a kind.
     fn bytes_of_mark(kind: MarkKind) -> &'static [u8]
-        ensures { (m : Mark) → kind_of_mark m ≡ kind → mark_bytes m ≡ result.now };
+        ensures { (m : PresenceMark) → kind_of_mark m ≡ kind → mark_bytes m ≡ result.now };
 
     /// Whether the component is there that begins with a tag of the tree. Goes past the presence mark that says so.
     ///

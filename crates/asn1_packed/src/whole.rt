@@ -1,5 +1,5 @@
 //! A value and all of its bytes.
-ghost use Rattle.asn1_model.specs.Meaning.{CanStandInside, own_records};
+ghost use Rattle.asn1_model.specs.Meaning.{IsWellTagged, own_records};
 ghost use Rattle.asn1_model.specs.Records as model;
 ghost use Rattle.asn1_model.specs.Records.{highest};
 ghost use Rattle.asn1_packed.specs.Format.{item_format};
@@ -54,17 +54,17 @@ impl<'a, P: Presence> WholeDecoder for ItemDecoder<'a, P> {
 /// than the depth left, and else [`DecodeError::Memory`]. Where records remain that the type refuses, the error of the type, or
 /// one of these two in the same way. Before others, the error of the decoder.
 pub fn read_whole<T: Decode, D: WholeDecoder>(mut decoder: D) -> Result<T, DecodeError>
-    ensures read { (v : T) → CanStandInside T.meaning → T.meaning.IsOfType v →
-        T.meaning.IsValid D.reader.takes v →
+    ensures read { (v : T) → IsWellTagged T.meaning → T.meaning.IsOfType v →
+        T.meaning.IsValid D.reader.accepts v →
         D.reader.remains decoder (own_records T.meaning v, []) →
         ReadsWhole (highest (own_records T.meaning v)) (D.reader.depth_left decoder)
         (λ w. T.eq w v ≡ true) result }
     ensures refuses { (rs : List model.Record) (error : _) →
-        T.refusals D.reader.takes T.meaning.tag T.meaning.constraints rs error →
+        T.refusals D.reader.accepts T.meaning.tag T.meaning.constraints rs error →
         D.reader.remains decoder (rs, []) →
         RefusesWhole (highest rs) (D.reader.depth_left decoder) error result }
-    ensures none_left { (v : T) (rest : List model.Record) → CanStandInside T.meaning →
-        T.meaning.IsOfType v → T.meaning.IsValid D.reader.takes v →
+    ensures none_left { (v : T) (rest : List model.Record) → IsWellTagged T.meaning →
+        T.meaning.IsOfType v → T.meaning.IsValid D.reader.accepts v →
         D.reader.remains decoder (own_records T.meaning v ++ rest, []) →
         ((d : D) → D.reader.remains d (rest, []) → D.reader.remains d ([], []) → ⊥) → IsErr result }
 {

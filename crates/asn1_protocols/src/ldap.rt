@@ -3,6 +3,6 @@ mod bind_request;
 mod message;
 mod protocol_op;
 
-pub use bind_request::{BindRequest, Version, bind_request_can_stand_inside, bind_request_records};
-pub use message::{LdapMessage, MessageId, ldap_message_can_stand_inside};
-pub use protocol_op::{ProtocolOp, protocol_op_can_stand_inside};
+pub use bind_request::{BindRequest, Version, bind_request_is_well_tagged, bind_request_records};
+pub use message::{LdapMessage, MessageId, ldap_message_is_well_tagged};
+pub use protocol_op::{ProtocolOp, protocol_op_is_well_tagged};

@@ -4,9 +4,9 @@ mod date;
 mod name;
 mod record;
 
-pub use child_information::{ChildInformation, child_information_can_stand_inside};
-pub use date::{Date, date_can_stand_inside, date_records};
-pub use name::{Name, name_can_stand_inside};
+pub use child_information::{ChildInformation, child_information_is_well_tagged};
+pub use date::{Date, date_is_well_tagged, date_records};
+pub use name::{Name, name_is_well_tagged};
 pub use record::{
-    Children, PersonnelRecord, no_children_are_absent, personnel_record_can_stand_inside,
+    Children, PersonnelRecord, no_children_are_absent, personnel_record_is_well_tagged,
 };

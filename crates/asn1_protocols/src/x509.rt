@@ -5,10 +5,10 @@ mod name;
 mod tbs_certificate;
 
 pub use algorithm_identifier::{
-    AlgorithmIdentifier, algorithm_identifier_can_stand_inside, algorithm_identifier_is_valid,
+    AlgorithmIdentifier, algorithm_identifier_is_valid, algorithm_identifier_is_well_tagged,
 };
-pub use attribute::{AttributeTypeAndValue, attribute_can_stand_inside};
-pub use name::{Name, RdnSequence, RelativeDistinguishedName, name_can_stand_inside};
+pub use attribute::{AttributeTypeAndValue, attribute_is_well_tagged};
+pub use name::{Name, RdnSequence, RelativeDistinguishedName, name_is_well_tagged};
 pub use tbs_certificate::{
-    TbsCertificate, first_version_is_absent, tbs_certificate_can_stand_inside,
+    TbsCertificate, first_version_is_absent, tbs_certificate_is_well_tagged,
 };

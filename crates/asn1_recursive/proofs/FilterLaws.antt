@@ -3,7 +3,7 @@ use Rattle.std.proofs.Common.{◌≡◌, ℕ, Bool, true, false, List, eqb, refl
 use Rattle.asn1_choices.specs.Alternatives.{all_of, chosen, chosen_meaning, value_meaning}
 use Rattle.asn1_choices.specs.ChoiceTypes.{AgreesWithChoice, itself_agrees}
 use Rattle.asn1_codec.proofs.TellingTags.{its_tag}
-use Rattle.asn1_model.specs.Meaning.{CanStandInside}
+use Rattle.asn1_model.specs.Meaning.{IsWellTagged}
 use Rattle.asn1_model.specs.TaggedTypes.{tagged}
 use Rattle.asn1_model.specs.Tags.{Has, context, tree_tags}
 use Rattle.asn1_tags.specs.declared.tags.Tag.{Tag}
@@ -24,7 +24,7 @@ use Rattle.std.specs.declared.boxed.Box.{Box}
 pub filter_law : AgreesWithChoice filter_alternatives filter_pick filter_meaning
 filter_law = itself_agrees filter_agrees
 
-pub filter_can : CanStandInside filter_meaning
+pub filter_can : IsWellTagged filter_meaning
 filter_can = search rules
 
 -- a set of filters, made again of its elements

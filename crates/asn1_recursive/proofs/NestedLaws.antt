@@ -3,7 +3,7 @@ use Rattle.std.proofs.Common.{◌≡◌, ℕ, Bool, true, false, eqb, refl, rule
 use Rattle.asn1_choices.specs.Alternatives.{all_of, chosen}
 use Rattle.asn1_choices.specs.ChoiceTypes.{AgreesWithChoice, itself_agrees}
 use Rattle.asn1_codec.proofs.TellingTags.{its_tag}
-use Rattle.asn1_model.specs.Meaning.{CanStandInside}
+use Rattle.asn1_model.specs.Meaning.{IsWellTagged}
 use Rattle.asn1_model.specs.Tags.{Has, tree_tags}
 use Rattle.asn1_tags.specs.declared.tags.Tag.{Tag}
 use Rattle.asn1_recursive.specs.NestedAlternatives.{nested_agrees, nested_alternatives, nested_meaning, nested_pick}
@@ -13,7 +13,7 @@ use Rattle.asn1_recursive.specs.declared.nested.Nested.{Nested, Null, Flag, Inne
 pub nested_law : AgreesWithChoice nested_alternatives nested_pick nested_meaning
 nested_law = itself_agrees nested_agrees
 
-pub nested_can : CanStandInside nested_meaning
+pub nested_can : IsWellTagged nested_meaning
 nested_can = search rules
 
 -- the first where it is so, and else the second

@@ -10,7 +10,7 @@ use Rattle.asn1_components.proofs.Apart.{nothing_follows, sequence_apart}
 use Rattle.asn1_components.specs.Components.{all_components}
 use Rattle.asn1_codec.specs.Reading.{Reader, Outside}
 use Rattle.asn1_model.specs.ConstraintSets.{ConstraintSet, unconstrained}
-use Rattle.asn1_model.specs.Meaning.{CanStandInside, own_records, tags}
+use Rattle.asn1_model.specs.Meaning.{IsWellTagged, own_records, tags}
 use Rattle.asn1_model.specs.Records.{Name, Record, highest, holding, sequence, sequence_of}
 use Rattle.asn1_model.specs.Tags.{ShareNone, first_tags, universal}
 use Rattle.asn1_tags.specs.declared.tags.Tag.{Tag}
@@ -30,7 +30,7 @@ children_record v = holding (sequence_of (universal 16) unconstrained (Some (cod
 abbrev pub inside_node : Node → List Record
 inside_node v = label_records (out-Node v).label ++ children_record v ∷ []
 
-pub node_can : CanStandInside node_meaning
+pub node_can : IsWellTagged node_meaning
 node_can = search rules
 
 -- so that its label remains to be read, once the record is open

@@ -13,29 +13,29 @@ use Rattle.asn1_recursive.specs.declared.node.Node.{Node}
 
 -- a filter by what it holds
 mutual
-  filter_valid : (takes : List ℕ → Bool) (v : Filter) → (filter_means v).IsValid takes
-  filter_valid takes (And' shape filters) = filters_valid takes filters
-  filter_valid takes (Or' shape filters) = filters_valid takes filters
-  filter_valid takes (Not' place inner) = filter_valid takes inner
-  filter_valid takes (Present name) = tt
+  filter_valid : (accepts : List ℕ → Bool) (v : Filter) → (filter_means v).IsValid accepts
+  filter_valid accepts (And' shape filters) = filters_valid accepts filters
+  filter_valid accepts (Or' shape filters) = filters_valid accepts filters
+  filter_valid accepts (Not' place inner) = filter_valid accepts inner
+  filter_valid accepts (Present name) = tt
 
-  filters_valid : (takes : List ℕ → Bool) {m : _} (filters : Row_of-Filter m) → (filters_mean filters).IsValid takes
-  filters_valid takes end_of-Filter = tt
-  filters_valid takes (more_of-Filter filter rest) = (filter_valid takes filter, filters_valid takes rest)
+  filters_valid : (accepts : List ℕ → Bool) {m : _} (filters : Row_of-Filter m) → (filters_mean filters).IsValid accepts
+  filters_valid accepts end_of-Filter = tt
+  filters_valid accepts (more_of-Filter filter rest) = (filter_valid accepts filter, filters_valid accepts rest)
 
-pub each_filter_valid : (v : Filter) (takes : List ℕ → Bool) → (filter_means v).IsValid takes
-each_filter_valid v takes = filter_valid takes v
+pub each_filter_valid : (v : Filter) (accepts : List ℕ → Bool) → (filter_means v).IsValid accepts
+each_filter_valid v accepts = filter_valid accepts v
 
 -- and a value that holds itself by the one inside
-pub each_nested_valid : (v : Nested) (takes : List ℕ → Bool) → (nested_means v).IsValid takes
-each_nested_valid Null takes = tt
-each_nested_valid (Flag b) takes = tt
-each_nested_valid (Inner' p inner) takes = each_nested_valid inner takes
+pub each_nested_valid : (v : Nested) (accepts : List ℕ → Bool) → (nested_means v).IsValid accepts
+each_nested_valid Null accepts = tt
+each_nested_valid (Flag b) accepts = tt
+each_nested_valid (Inner' p inner) accepts = each_nested_valid inner accepts
 
-labels_valid : (takes : List ℕ → Bool) (found : List (Option (String Global))) → All (λ label. IfSome label (text.IsValid takes)) found
-labels_valid takes [] = All-nil (λ label. IfSome label (text.IsValid takes))
-labels_valid takes (label ∷ rest) = All-cons (λ label. IfSome label (text.IsValid takes)) label rest (label_is_valid takes label) (labels_valid takes rest)
+labels_valid : (accepts : List ℕ → Bool) (found : List (Option (String Global))) → All (λ label. IfSome label (text.IsValid accepts)) found
+labels_valid accepts [] = All-nil (λ label. IfSome label (text.IsValid accepts))
+labels_valid accepts (label ∷ rest) = All-cons (λ label. IfSome label (text.IsValid accepts)) label rest (label_is_valid accepts label) (labels_valid accepts rest)
 
 -- and a node by the labels inside it
-pub each_node_valid : (n : Node) (takes : List ℕ → Bool) → node_is_valid takes n
-each_node_valid n takes = labels_valid takes (labels n)
+pub each_node_valid : (n : Node) (accepts : List ℕ → Bool) → node_is_valid accepts n
+each_node_valid n accepts = labels_valid accepts (labels n)

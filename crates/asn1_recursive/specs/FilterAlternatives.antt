@@ -39,16 +39,16 @@ abbrev pub both_say : ValueMeaning → ValueMeaning → ValueMeaning
 both_say one rest = record {
   records = one.records ++ rest.records;
   IsOfType = one.IsOfType × rest.IsOfType;
-  IsValid = λ takes. one.IsValid takes × rest.IsValid takes;
-  well_formed = λ takes valid. well_formed_append takes one.records rest.records
-      (one.well_formed takes valid.0) (rest.well_formed takes valid.1);
+  IsValid = λ accepts. one.IsValid accepts × rest.IsValid accepts;
+  well_formed = λ accepts valid. well_formed_append accepts one.records rest.records
+      (one.well_formed accepts valid.0) (rest.well_formed accepts valid.1);
 }
 
 -- what a set under this tag says, by what its elements say together
 abbrev pub set_says : Tag → ValueMeaning → ValueMeaning
 set_says t elements = record elements {
   records = set_of_records t unconstrained (Some (codes "SET_OF")) elements.records;
-  well_formed = λ takes valid. ((tt, elements.well_formed takes valid), tt);
+  well_formed = λ accepts valid. ((tt, elements.well_formed accepts valid), tt);
 }
 
 -- what the chosen alternative says of each filter
@@ -84,9 +84,9 @@ abbrev together : List Filter → ValueMeaning
 together filters = record {
   records = flat_map (own_records inner_filter) filters;
   IsOfType = All inner_filter.IsOfType filters;
-  IsValid = λ takes. All (inner_filter.IsValid takes) filters;
-  well_formed = λ takes. well_formed_elements takes (inner_filter.IsValid takes) (own_records inner_filter)
-      (λ v. inner_filter.well_formed takes v inner_filter.tag inner_filter.constraints inner_filter.name) filters;
+  IsValid = λ accepts. All (inner_filter.IsValid accepts) filters;
+  well_formed = λ accepts. well_formed_elements accepts (inner_filter.IsValid accepts) (own_records inner_filter)
+      (λ v. inner_filter.well_formed accepts v inner_filter.tag inner_filter.constraints inner_filter.name) filters;
 }
 
 each_of : {X : Type 0} (P : X → Type 0) (x : X) (xs : List X) {Rest : Type 0} → Rest ↔ All P xs → (P x × Rest) ↔ All P (x ∷ xs)
@@ -96,13 +96,13 @@ filters_agree : {m : _} (filters : Row_of-Filter m) → SaysTheSame (filters_mea
 filters_agree end_of-Filter = record {
   records = refl;
   of_type = (λ _. All-nil inner_filter.IsOfType, λ _. tt);
-  valid = λ takes. (λ _. All-nil (inner_filter.IsValid takes), λ _. tt);
+  valid = λ accepts. (λ _. All-nil (inner_filter.IsValid accepts), λ _. tt);
 }
 filters_agree (more_of-Filter {n = n} filter rest) =
     let same = filters_agree rest in record {
       records = ap (λ rs. own_records inner_filter filter ++ rs) same.records;
       of_type = each_of inner_filter.IsOfType filter (items-the_row-Filter n rest) same.of_type;
-      valid = λ takes. each_of (inner_filter.IsValid takes) filter (items-the_row-Filter n rest) (same.valid takes);
+      valid = λ accepts. each_of (inner_filter.IsValid accepts) filter (items-the_row-Filter n rest) (same.valid accepts);
     }
 
 set_agrees : (t : Tag) {m : _} (filters : Row_of-Filter m) →

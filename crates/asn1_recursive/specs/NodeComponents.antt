@@ -37,7 +37,7 @@ components_with fields child = sequence (
 -- holds an open type.
 pub record WrittenNode : Type 0 where
   pub records : List Record
-  pub well_formed : (takes : List ℕ → Bool) → AreWellFormed takes records
+  pub well_formed : (accepts : List ℕ → Bool) → AreWellFormed accepts records
 
 -- the table, which is that of any node
 abbrev pub node_table : Table Line
@@ -48,30 +48,30 @@ node_table = table_with_itself {W = WrittenNode} (codes "Node") is_sequence
 abbrev pub written_child : Meaning WrittenNode
 written_child = inside_itself (codes "Node") is_sequence node_table (record {
   records = λ child. child.records;
-  CanStandInside = ⊤;
+  IsWellTagged = ⊤;
   AreOfType = λ _. ⊤;
   AreValid = λ _ _. ⊤;
-  well_formed = λ takes child _. child.well_formed takes;
+  well_formed = λ accepts child _. child.well_formed accepts;
 })
 
 -- each label is valid, and so is each child
-pub label_is_valid : (takes : List ℕ → Bool) (label : Option (String Global)) →
-    IfSome label (text.IsValid takes)
-label_is_valid takes None = tt
-label_is_valid takes (Some _) = tt
+pub label_is_valid : (accepts : List ℕ → Bool) (label : Option (String Global)) →
+    IfSome label (text.IsValid accepts)
+label_is_valid accepts None = tt
+label_is_valid accepts (Some _) = tt
 
-pub children_are_valid : (takes : List ℕ → Bool) (children : List WrittenNode) →
-    All (written_child.IsValid takes) children
-children_are_valid takes [] = All-nil (written_child.IsValid takes)
-children_are_valid takes (child ∷ children) =
-    All-cons (written_child.IsValid takes) child children tt (children_are_valid takes children)
+pub children_are_valid : (accepts : List ℕ → Bool) (children : List WrittenNode) →
+    All (written_child.IsValid accepts) children
+children_are_valid accepts [] = All-nil (written_child.IsValid accepts)
+children_are_valid accepts (child ∷ children) =
+    All-cons (written_child.IsValid accepts) child children tt (children_are_valid accepts children)
 
 -- a node is written by its components, where each child has been written
 abbrev pub write_node : Node-F WrittenNode → WrittenNode
 write_node n = record {
   records = component_records (components_with (λ n. n) written_child) n;
-  well_formed = λ takes. all_well_formed (all_components (components_with (λ n. n) written_child)) takes n
-      (label_is_valid takes n.label, (children_are_valid takes n.children.items, tt));
+  well_formed = λ accepts. all_well_formed (all_components (components_with (λ n. n) written_child)) accepts n
+      (label_is_valid accepts n.label, (children_are_valid accepts n.children.items, tt));
 }
 
 abbrev pub written_node : Node → WrittenNode
@@ -91,16 +91,16 @@ node_is_of_type n = All (λ label. IfSome label text.IsOfType) (labels n)
 
 -- and is valid
 abbrev pub node_is_valid : (List ℕ → Bool) → Node → Type 0
-node_is_valid takes n = All (λ label. IfSome label (text.IsValid takes)) (labels n)
+node_is_valid accepts n = All (λ label. IfSome label (text.IsValid accepts)) (labels n)
 
 -- what is inside a node's record
 abbrev pub own_inside : Inside Node
 own_inside = record {
   records = node_records;
-  CanStandInside = ⊤;
+  IsWellTagged = ⊤;
   AreOfType = node_is_of_type;
   AreValid = node_is_valid;
-  well_formed = λ takes n _. (written_node n).well_formed takes;
+  well_formed = λ accepts n _. (written_node n).well_formed accepts;
 }
 
 -- A node's components, where each child is a node.
@@ -137,7 +137,7 @@ node_agrees = record {
   records = λ v t c n. ap
       (λ components. holding (head_in is_sequence t node_table n) components ∷ [])
       (node_records_are v);
-  well_tagged = λ t. (λ h. h, λ h. h);
+  distinct_tags = λ t. (λ h. h, λ h. h);
   of_type = each_label (λ label. IfSome label text.IsOfType);
-  valid = λ takes. each_label (λ label. IfSome label (text.IsValid takes));
+  valid = λ accepts. each_label (λ label. IfSome label (text.IsValid accepts));
 }

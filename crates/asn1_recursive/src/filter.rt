@@ -9,7 +9,7 @@
 //! }
 //! ```
 ghost use Rattle.std.specs.Prelude.{Bool, List, ℕ};
-ghost use Rattle.asn1_model.specs.Meaning.{CanStandInside};
+ghost use Rattle.asn1_model.specs.Meaning.{IsWellTagged};
 ghost use Rattle.asn1_choices.specs.ChoiceTypes.{itself_agrees};
 ghost use Rattle.asn1_recursive.specs.FilterAlternatives.{filter_alternatives, filter_pick, filter_meaning, filter_agrees};
 
@@ -96,14 +96,14 @@ impl ChoiceType for Filter {
 }
 
 /// A `Filter` can be inside other types: the tags of its alternatives are distinct.
-pub fn filter_can_stand_inside()
-    ensures { CanStandInside ⟦<Filter as AsnType>⟧.meaning }
+pub fn filter_is_well_tagged()
+    ensures { IsWellTagged ⟦<Filter as AsnType>⟧.meaning }
 {}
 
 /// Each `Filter` is valid, whatever sets of filters it holds.
 #[tactic(auto, using(crate::proofs::Validity::each_filter_valid))]
 pub fn each_filter_is_valid(filter: &Filter)
-    ensures { (takes : List ℕ → Bool) → ⟦<Filter as AsnType>⟧.meaning.IsValid takes filter.now }
+    ensures { (accepts : List ℕ → Bool) → ⟦<Filter as AsnType>⟧.meaning.IsValid accepts filter.now }
 {}
 
 impl Encode for Filter {

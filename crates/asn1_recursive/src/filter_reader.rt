@@ -99,7 +99,7 @@ pub(crate) fn read_alternative<D: Decoder>(decoder: &mut D, tag: Tag) -> Result<
 #[cycle(filters)]
 fn read_set<D: Decoder>(decoder: &mut D, tag: Tag) -> Result<SetOf<Filter>, DecodeError>
     ensures read { (vs : List Filter) (n : Name) (rest : List Record) (outer : Outside) →
-        All filter_meaning.IsOfType vs → All (filter_meaning.IsValid D.reader.takes) vs →
+        All filter_meaning.IsOfType vs → All (filter_meaning.IsValid D.reader.accepts) vs →
         ReadsBack D.reader decoder.old decoder.new (set_of_records tag unconstrained n
         (flat_map (own_records filter_meaning) vs)) rest outer
         (λ w. ⟦<SetOf<Filter> as PartialEq>⟧.eq w vs ≡ true) result }
@@ -115,7 +115,7 @@ fn read_set<D: Decoder>(decoder: &mut D, tag: Tag) -> Result<SetOf<Filter>, Deco
 #[cycle(filters)]
 fn read_filters<D: Decoder>(decoder: &mut D, bound: usize) -> Result<Vec<Filter>, DecodeError>
     ensures read { (vs : List Filter) (scope : Head × List Record) (outer : Outside) →
-        All filter_meaning.IsOfType vs → All (filter_meaning.IsValid D.reader.takes) vs →
+        All filter_meaning.IsOfType vs → All (filter_meaning.IsValid D.reader.accepts) vs →
         length vs ≤ bound →
         Advances D.reader decoder.old decoder.new (highest (flat_map (own_records filter_meaning) vs))
         (flat_map (own_records filter_meaning) vs, scope ∷ outer) ([], scope ∷ outer)

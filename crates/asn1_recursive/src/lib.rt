@@ -9,7 +9,7 @@
 //!
 //! What the contracts promise:
 //!
-//! - Each type can be inside other types (`node_can_stand_inside`, `filter_can_stand_inside`, `nested_can_stand_inside`), and
+//! - Each type can be inside other types (`node_is_well_tagged`, `filter_is_well_tagged`, `nested_is_well_tagged`), and
 //!   each value of it is valid (`each_node_is_valid`, `each_filter_is_valid`, `each_nested_is_valid`).
 //! - A CHOICE says by recursion on a value what the chosen alternative says of it (`specs/FilterAlternatives.antt` and
 //!   `specs/NestedAlternatives.antt`). Tables and meaning are proved to say the same.
@@ -35,9 +35,9 @@ mod nested_reader;
 mod node;
 mod node_reader;
 
-pub use filter::{Filter, each_filter_is_valid, filter_can_stand_inside};
-pub use nested::{Nested, each_nested_is_valid, nested_can_stand_inside};
+pub use filter::{Filter, each_filter_is_valid, filter_is_well_tagged};
+pub use nested::{Nested, each_nested_is_valid, nested_is_well_tagged};
 pub use node::{
-    Node, each_node_is_valid, node_can_stand_inside, node_is_two_higher_than_its_children,
+    Node, each_node_is_valid, node_is_two_higher_than_its_children, node_is_well_tagged,
     node_records,
 };

@@ -1,6 +1,6 @@
 //! `Nested ::= CHOICE { null NULL, flag BOOLEAN, inner [0] Nested }`
 ghost use Rattle.std.specs.Prelude.{Bool, List, ℕ};
-ghost use Rattle.asn1_model.specs.Meaning.{CanStandInside};
+ghost use Rattle.asn1_model.specs.Meaning.{IsWellTagged};
 ghost use Rattle.asn1_choices.specs.ChoiceTypes.{itself_agrees};
 ghost use Rattle.asn1_recursive.specs.NestedAlternatives.{nested_alternatives, nested_pick, nested_meaning, nested_agrees};
 
@@ -68,14 +68,14 @@ impl ChoiceType for Nested {
 }
 
 /// A `Nested` can be inside other types: the tags of its alternatives are distinct.
-pub fn nested_can_stand_inside()
-    ensures { CanStandInside ⟦<Nested as AsnType>⟧.meaning }
+pub fn nested_is_well_tagged()
+    ensures { IsWellTagged ⟦<Nested as AsnType>⟧.meaning }
 {}
 
 /// Each `Nested` is valid, however deep.
 #[tactic(auto, using(crate::proofs::Validity::each_nested_valid))]
 pub fn each_nested_is_valid(nested: &Nested)
-    ensures { (takes : List ℕ → Bool) → ⟦<Nested as AsnType>⟧.meaning.IsValid takes nested.now }
+    ensures { (accepts : List ℕ → Bool) → ⟦<Nested as AsnType>⟧.meaning.IsValid accepts nested.now }
 {}
 
 impl Encode for Nested {

@@ -2,7 +2,7 @@
 ghost use Rattle.std.specs.List.{flat_map};
 ghost use Rattle.std.specs.Prelude.{◌≡◌, ◌+◌, Bool, List, [], ◌∷◌, None, Some, codes, ℕ};
 ghost use Rattle.std.specs.String.{string_bytes};
-ghost use Rattle.asn1_types.specs.Words.{lines, in_root, universal, CanStandInside, own_records, holding, sequence_head, sequence_of, scalar, mark, absent, present, units, utf8, unconstrained};
+ghost use Rattle.asn1_types.specs.Words.{lines, in_root, universal, IsWellTagged, own_records, holding, sequence_head, sequence_of, scalar, presence_mark, absent, present, units, utf8, unconstrained};
 ghost use Rattle.asn1_model.specs.Records.{highest};
 ghost use Rattle.asn1_recursive.specs.NodeComponents.{node_components, node_agrees, node_meaning};
 ghost use Rattle.asn1_recursive.specs.declared.node.Node.{out-Node};
@@ -61,14 +61,14 @@ impl ConstructedType for Node {
 }
 
 /// A `Node` can be inside other types: the tags of its components are distinct.
-pub fn node_can_stand_inside()
-    ensures { CanStandInside ⟦<Node as AsnType>⟧.meaning }
+pub fn node_is_well_tagged()
+    ensures { IsWellTagged ⟦<Node as AsnType>⟧.meaning }
 {}
 
 /// Each `Node` is valid, whatever labels it holds.
 #[tactic(auto, using(crate::proofs::Validity::each_node_valid))]
 pub fn each_node_is_valid(node: &Node)
-    ensures { (takes : List ℕ → Bool) → ⟦<Node as AsnType>⟧.meaning.IsValid takes node.now }
+    ensures { (accepts : List ℕ → Bool) → ⟦<Node as AsnType>⟧.meaning.IsValid accepts node.now }
 {}
 
 impl Encode for Node {
@@ -112,10 +112,10 @@ pub fn node_records(parent: &Node, child: &Node, label: &Utf8String)
         (out-Node child.now).label ≡ Some label.now → (out-Node child.now).children.items ≡ [] →
         own_records ⟦<Node as AsnType>⟧.meaning parent.now ≡
         holding (sequence_head (universal 16) (lines ⟦<Node as FieldTable>⟧.components)
-        (Some (codes "Node"))) (mark (absent in_root (universal 12)) ∷
+        (Some (codes "Node"))) (presence_mark (absent in_root (universal 12)) ∷
         holding (sequence_of (universal 16) unconstrained (Some (codes "SEQUENCE_OF")))
         (holding (sequence_head (universal 16) (lines ⟦<Node as FieldTable>⟧.components)
-        (Some (codes "Node"))) (mark (present in_root (universal 12)) ∷
+        (Some (codes "Node"))) (presence_mark (present in_root (universal 12)) ∷
         scalar (universal 12) unconstrained (Some (codes "UTF8String"))
         (units utf8 (string_bytes label.now)) ∷ holding
         (sequence_of (universal 16) unconstrained (Some (codes "SEQUENCE_OF"))) [] ∷

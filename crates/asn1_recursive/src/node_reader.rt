@@ -17,7 +17,7 @@ use asn1_types::{Constraints, Tag};
 #[cycle(nodes)]
 pub(crate) fn read_node<D: Decoder>(decoder: &mut D, tag: Tag) -> Result<Node, DecodeError>
     ensures read { (v : Node) (n : Name) (rest : List Record) (outer : Outside) →
-        node_is_of_type v → node_is_valid D.reader.takes v →
+        node_is_of_type v → node_is_valid D.reader.accepts v →
         ReadsBack D.reader decoder.old decoder.new (node_meaning.records v tag unconstrained n) rest
         outer (λ w. ⟦<Node as PartialEq>⟧.eq w v ≡ true) result }
     ensures keeps_depth { KeepsDepth D.reader decoder.old decoder.new result }
@@ -35,7 +35,7 @@ pub(crate) fn read_node<D: Decoder>(decoder: &mut D, tag: Tag) -> Result<Node, D
 #[cycle(nodes)]
 fn read_children<D: Decoder>(decoder: &mut D, bound: usize) -> Result<Vec<Node>, DecodeError>
     ensures read { (vs : List Node) (scope : Head × List Record) (outer : Outside) →
-        All node_is_of_type vs → All (node_is_valid D.reader.takes) vs → length vs ≤ bound →
+        All node_is_of_type vs → All (node_is_valid D.reader.accepts) vs → length vs ≤ bound →
         Advances D.reader decoder.old decoder.new (highest (flat_map (own_records node_meaning) vs))
         (flat_map (own_records node_meaning) vs, scope ∷ outer) ([], scope ∷ outer)
         (λ w. pointwise ⟦<Node as PartialEq>⟧.eq w.items vs ≡ true) result }

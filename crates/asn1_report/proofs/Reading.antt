@@ -22,10 +22,10 @@ read_nothing r w c begun = record { given = []; took = Consumes-nil r; taken = b
 -- a read gave bytes, which were taken
 pub read_more : (r mid_r new_r w mid_w new_w : Option (List ℕ)) (mid new : Checker) (bytes : List ℕ) → ReadUpTo r mid_r w mid_w mid → Consumes mid_r new_r bytes →
     Takes bytes mid_w new_w mid new → ReadUpTo r new_r w new_w new
-read_more r mid_r new_r w mid_w new_w mid new bytes before took takes = record {
+read_more r mid_r new_r w mid_w new_w mid new bytes before took accepts = record {
   given = before.given ++ bytes;
   took = Consumes-trans r mid_r new_r before.given bytes before.took took;
-  taken = takes.after before.given w before.taken;
+  taken = accepts.after before.given w before.taken;
 }
 
 -- a read gave nothing
@@ -68,10 +68,10 @@ read_but_end r mid_r new_r w mid_w new_w c bytes before took kept = record {
 -- or where bytes are taken
 pub read_in_part : (r mid_r new_r w mid_w new_w : Option (List ℕ)) (c : Checker) (bytes : List ℕ) → ReadUpTo r mid_r w mid_w c → Consumes mid_r new_r bytes →
     TakesSome bytes mid_w new_w c → ReadInPart r new_r w new_w
-read_in_part r mid_r new_r w mid_w new_w c bytes before took takes = record {
+read_in_part r mid_r new_r w mid_w new_w c bytes before took accepts = record {
   given = before.given ++ bytes;
   took = Consumes-trans r mid_r new_r before.given bytes before.took took;
-  some = takes.after before.given w before.taken;
+  some = accepts.after before.given w before.taken;
 }
 
 -- At the end of the input the report is written, and the answer says whether all was understood.

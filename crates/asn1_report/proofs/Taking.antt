@@ -115,7 +115,7 @@ no_feed_at_all bytes none = λ k d lt. ap (λ byte. byte == 10) (get_or_default 
 pub record TakenSoFar (bytes rest : List ℕ) (old_written new_written : Option (List ℕ)) (old new : Checker) : Type 0 where
   pub front : List ℕ
   pub parts : bytes ≡ front ++ rest
-  pub takes : Takes front old_written new_written old new
+  pub accepts : Takes front old_written new_written old new
 
 takes_both : {xs ys : List ℕ} {u v w : Option (List ℕ)} {a b c : Checker} → Takes xs u v a b → Takes ys v w b c → Takes (xs ++ ys) u w a c
 takes_both {xs} {ys} {u} {v} {w} {a} {b} {c} first second = record {
@@ -128,7 +128,7 @@ pub nothing_taken : (bytes : List ℕ) (written : Option (List ℕ)) (checker : 
 nothing_taken bytes written checker = record {
   front = [];
   parts = refl;
-  takes = record { after = λ given before taken. subst (λ all. HasTaken all before written checker) (sym (append-nil given)) taken };
+  accepts = record { after = λ given before taken. subst (λ all. HasTaken all before written checker) (sym (append-nil given)) taken };
 }
 
 -- what is in a slice from a place on
@@ -145,14 +145,14 @@ line_taken bytes rest u v w a b c d k before found piece feed = record {
       ∙ (ap (λ all. before.front ++ all)
       (at_feed rest k found ∙ (sym (append_assoc (take k rest) (10 ∷ []) (drop (k + 1) rest)) ∙ ap (λ after. (take k rest ++ 10 ∷ []) ++ after) (sym (slice_from (k + 1) rest))))
       ∙ sym (append_assoc before.front (take k rest ++ 10 ∷ []) (take (length rest - (k + 1)) (drop (k + 1) rest))));
-  takes = takes_both before.takes (takes_both piece feed);
+  accepts = takes_both before.accepts (takes_both piece feed);
 }
 
 -- the rest, and what was written is handed on
 pub all_taken : (bytes rest : List ℕ) (u v w : Option (List ℕ)) (a b c : Checker) → TakenSoFar bytes rest u v a b → Takes rest v v b c → Keeps v w → Takes bytes u w a c
 all_taken bytes rest u v w a b c before last kept = record {
   after = λ given before_all taken.
-      let all = (takes_both before.takes last).after given before_all taken in
+      let all = (takes_both before.accepts last).after given before_all taken in
       subst (λ xs. HasTaken (given ++ xs) before_all w c) (sym before.parts)
       (record { line = all.line; state = all.state; text = Appends-kept before_all v w (text_for (whole_lines (given ++ (before.front ++ rest)))) all.text kept });
 }
@@ -164,6 +164,6 @@ some_taken bytes rest u v w a b before kept = record {
     taken = given ++ before.front;
     left = rest;
     parts = ap (λ xs. given ++ xs) before.parts ∙ sym (append_assoc given before.front rest);
-    text = Appends-kept before_all v w (text_for (whole_lines (given ++ before.front))) (before.takes.after given before_all taken).text kept;
+    text = Appends-kept before_all v w (text_for (whole_lines (given ++ before.front))) (before.accepts.after given before_all taken).text kept;
   };
 }

@@ -56,7 +56,8 @@ impl Checker {
     /// Answers the last line and the end of the input, and says whether all was understood. Where memory runs out, nothing
     /// is written.
     pub(crate) fn end_input<W: Write>(&mut self, writer: &mut W) -> Result<bool, CheckError>
-        ensures ended { IfOk result (Ends (W.contents writer.old) (W.contents writer.new) self.old) }
+        ensures ended { IfOk result (Ends (W.contents writer.old) (W.contents writer.new)
+            self.old) }
         ensures memory { IsErrOf result CheckError.Memory →
             Keeps (W.contents writer.old) (W.contents writer.new) }
         ensures no_read { ¬ IsErrOf result CheckError.Reading }

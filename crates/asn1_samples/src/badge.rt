@@ -1,6 +1,6 @@
 //! `Badge ::= SET { id INTEGER (0..4294967295), label VisibleString OPTIONAL, shape Shape }`
 ghost use Rattle.std.specs.Prelude.{◌≡◌, [], ◌∷◌, None, OnOk, Some, map, pos, codes};
-ghost use Rattle.asn1_types.specs.Words.{lines, table_of, in_root, context, universal, untagged, required, optional, set, constructed_type, constructed_agrees, CanStandInside, own_records, holding, set_head, alternative_head, scalar, mark, absent, present, number, null, units, visible, unconstrained, values_of, Range};
+ghost use Rattle.asn1_types.specs.Words.{lines, table_of, in_root, context, universal, untagged, required, optional, set, constructed_type, constructed_agrees, IsWellTagged, own_records, holding, set_head, alternative_head, scalar, presence_mark, absent, present, number, null, units, visible, unconstrained, values_of, Range};
 ghost use Rattle.asn1_components.specs.Components.{all_components, root_entries, table};
 ghost use Rattle.asn1_codec.specs.SetParts.{EachFits, MakesValue};
 ghost use Rattle.asn1_fields.specs.CanonicalOrder.{IsCanonical};
@@ -79,8 +79,8 @@ impl ConstructedType for Badge {
 }
 
 /// A `Badge` can be inside other types: no two of its components share a tag, with those of a `Shape`.
-pub fn badge_can_stand_inside()
-    ensures { CanStandInside ⟦<Badge as AsnType>⟧.meaning }
+pub fn badge_is_well_tagged()
+    ensures { IsWellTagged ⟦<Badge as AsnType>⟧.meaning }
 {}
 
 /// The table is in canonical order, by the smallest tag of each component: BOOLEAN of the shape, INTEGER, VisibleString.
@@ -185,7 +185,7 @@ pub fn badge_records(badge: &Badge, label: &VisibleString)
         holding (set_head (universal 17) (lines ⟦<Badge as FieldTable>⟧.components)
         (Some (codes "Badge"))) (scalar (universal 2)
         (values_of (Range (Some (pos 0)) (Some (pos 4294967295)))) (Some (codes "INTEGER"))
-        (number (pos 7)) ∷ mark (present in_root (universal 26)) ∷
+        (number (pos 7)) ∷ presence_mark (present in_root (universal 26)) ∷
         scalar (universal 26) unconstrained (Some (codes "VisibleString"))
         (units visible (codes "x")) ∷ holding (alternative_head (context 0) unconstrained
         (table_of ⟦<Shape as Choice>⟧.alternatives) (Some (codes "Shape"))) (scalar (context 0)
@@ -196,7 +196,7 @@ pub fn badge_records(badge: &Badge, label: &VisibleString)
         holding (set_head (universal 17) (lines ⟦<Badge as FieldTable>⟧.components)
         (Some (codes "Badge"))) (scalar (universal 2)
         (values_of (Range (Some (pos 0)) (Some (pos 4294967295)))) (Some (codes "INTEGER"))
-        (number (pos 7)) ∷ mark (absent in_root (universal 26)) ∷
+        (number (pos 7)) ∷ presence_mark (absent in_root (universal 26)) ∷
         holding (alternative_head (universal 5) unconstrained
         (table_of ⟦<Shape as Choice>⟧.alternatives) (Some (codes "Shape"))) (scalar (universal 5)
         unconstrained (Some (codes "NULL")) null ∷ []) ∷ []) ∷ [] }

@@ -1,6 +1,6 @@
 //! `Color ::= ENUMERATED { red(0), green(1), ..., blue(5) }`
 ghost use Rattle.std.specs.Prelude.{◌≡◌, [], ◌∷◌, Some, pos, codes, refl};
-ghost use Rattle.asn1_types.specs.Words.{labels_of, universal, item, by_test, extensible_enumeration, enumeration_type, enumeration_agrees, CanStandInside, own_records, scalar, discriminant, unconstrained};
+ghost use Rattle.asn1_types.specs.Words.{labels_of, universal, item, by_test, extensible_enumeration, enumeration_type, enumeration_agrees, IsWellTagged, own_records, scalar, discriminant, unconstrained};
 ghost use Rattle.asn1_samples.specs.declared.color.Color.TheVariants.{Red, Green, Blue};
 
 use asn1_dec::{Decode, DecodeError, Decoder};
@@ -63,8 +63,8 @@ impl EnumeratedType for Color {
 }
 
 /// A `Color` can be inside other types.
-pub fn color_can_stand_inside()
-    ensures { CanStandInside ⟦<Color as AsnType>⟧.meaning }
+pub fn color_is_well_tagged()
+    ensures { IsWellTagged ⟦<Color as AsnType>⟧.meaning }
 {}
 
 impl Encode for Color {

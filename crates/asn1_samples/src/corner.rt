@@ -1,6 +1,6 @@
 //! `Corner ::= CHOICE { left BOOLEAN, right OCTET STRING }`
 ghost use Rattle.std.specs.Prelude.{◌≡◌, [], ◌∷◌, Some, true, codes};
-ghost use Rattle.asn1_types.specs.Words.{table_of, universal, untagged, inl, inr, alternative, closed_choice, choice_of, choice_agrees, CanStandInside, own_records, holding, alternative_head, scalar, truth, unconstrained};
+ghost use Rattle.asn1_types.specs.Words.{table_of, universal, untagged, inl, inr, alternative, closed_choice, choice_of, choice_agrees, IsWellTagged, own_records, holding, alternative_head, scalar, truth, unconstrained};
 ghost use Rattle.asn1_samples.specs.declared.corner.Corner.TheVariants.{Left, Right};
 
 use asn1_dec::{Decode, DecodeChoice, DecodeError, Decoder};
@@ -60,8 +60,8 @@ impl ChoiceType for Corner {
 }
 
 /// A `Corner` can be inside other types: no tag is twice among its alternatives.
-pub fn corner_can_stand_inside()
-    ensures { CanStandInside ⟦<Corner as AsnType>⟧.meaning }
+pub fn corner_is_well_tagged()
+    ensures { IsWellTagged ⟦<Corner as AsnType>⟧.meaning }
 {}
 
 impl Encode for Corner {

@@ -1,6 +1,6 @@
 //! `Envelope ::= SEQUENCE { kind INTEGER (0..255), body ANY }`, where ANY is an open type.
 ghost use Rattle.std.specs.Prelude.{◌≡◌, ◌↔◌, ℕ, Bool, IsTrue, List, [], ◌∷◌, None, Some, pos, codes};
-ghost use Rattle.asn1_types.specs.Words.{lines, universal, untagged, required, sequence, constructed_type, constructed_agrees, CanStandInside, own_records, holding, sequence_head, scalar, raw, number, values_of, Range};
+ghost use Rattle.asn1_types.specs.Words.{lines, universal, untagged, required, sequence, constructed_type, constructed_agrees, IsWellTagged, own_records, holding, sequence_head, scalar, open_type, number, values_of, Range};
 
 use asn1_dec::{Decode, DecodeError, DecodeFields, Decoder};
 use asn1_enc::{Encode, EncodeError, EncodeFields, Encoder};
@@ -56,8 +56,8 @@ impl ConstructedType for Envelope {
 }
 
 /// An `Envelope` can be inside other types: an open type can be a component that is always there.
-pub fn envelope_can_stand_inside()
-    ensures { CanStandInside ⟦<Envelope as AsnType>⟧.meaning }
+pub fn envelope_is_well_tagged()
+    ensures { IsWellTagged ⟦<Envelope as AsnType>⟧.meaning }
 {}
 
 impl Encode for Envelope {
@@ -106,12 +106,12 @@ pub fn envelope_records(envelope: &Envelope)
         holding (sequence_head (universal 16) (lines ⟦<Envelope as FieldTable>⟧.components)
         (Some (codes "Envelope"))) (scalar (universal 2)
         (values_of (Range (Some (pos 0)) (Some (pos 255)))) (Some (codes "INTEGER"))
-        (number (pos 1)) ∷ raw None envelope.now.body ∷ []) ∷ [] }
+        (number (pos 1)) ∷ open_type None envelope.now.body ∷ []) ∷ [] }
 {}
 
 /// An envelope is valid if and only if the codec takes the bytes of its body as one value.
 pub fn envelope_is_valid(envelope: &Envelope)
-    ensures { (takes : List ℕ → Bool) →
-        ⟦<Envelope as AsnType>⟧.meaning.IsValid takes envelope.now ↔
-        IsTrue (takes envelope.now.body) }
+    ensures { (accepts : List ℕ → Bool) →
+        ⟦<Envelope as AsnType>⟧.meaning.IsValid accepts envelope.now ↔
+        IsTrue (accepts envelope.now.body) }
 {}

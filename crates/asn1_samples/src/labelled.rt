@@ -5,7 +5,7 @@ ghost use Rattle.std.specs.Hash as fed;
 ghost use Rattle.std.specs.Hash.{on_Alike, same_Alike};
 ghost use Rattle.std.specs.Ordering.{on};
 ghost use Rattle.asn1_slots.specs.Slots.{required_slot, sequence_of_slots, slots_agree};
-ghost use Rattle.asn1_types.specs.Words.{lines, context, universal, tagged, constructed_type, constructed_agrees, CanStandInside, own_records, holding, sequence_head, scalar, number, values_of, Range};
+ghost use Rattle.asn1_types.specs.Words.{lines, context, universal, tagged, constructed_type, constructed_agrees, IsWellTagged, own_records, holding, sequence_head, scalar, number, values_of, Range};
 
 use asn1_dec::{Decode, DecodeError, DecodeFields, Decoder};
 use asn1_enc::{Encode, EncodeError, EncodeFields, Encoder};
@@ -112,8 +112,8 @@ impl ConstructedType for Labelled {
 }
 
 /// A `Labelled` can be inside other types.
-pub fn labelled_can_stand_inside()
-    ensures { CanStandInside ⟦<Labelled as AsnType>⟧.meaning }
+pub fn labelled_is_well_tagged()
+    ensures { IsWellTagged ⟦<Labelled as AsnType>⟧.meaning }
 {}
 
 impl Encode for Labelled {

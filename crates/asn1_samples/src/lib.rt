@@ -26,7 +26,7 @@
 //!   (`decode_fields`), and a `Badge` as parts (`DecodeSet`). A component that may be absent is asked for under its own tag,
 //!   which what follows does not begin with; so it is in a group whose last components are absent, where what follows is after
 //!   the group, as the note of a `Visit` is. A tag that no alternative has is refused with the name of the CHOICE.
-//! - Each can be inside other types: `person_can_stand_inside` and the like.
+//! - Each can be inside other types: `person_is_well_tagged` and the like.
 //! - The records of some values are written out: `person_records` and the like.
 //! - [`laws`] says which values are valid, when two values are equal, which names the tables have, and which types have an
 //!   extension marker. `envelope_is_valid` and `pair_is_valid` say when an `Envelope` and a `Pair` are valid.
@@ -53,18 +53,18 @@ mod shape;
 mod ticket;
 mod visit;
 
-pub use badge::{Badge, badge_can_stand_inside, badge_records, badge_table_is_canonical};
-pub use color::{Color, color_can_stand_inside, color_records};
+pub use badge::{Badge, badge_is_well_tagged, badge_records, badge_table_is_canonical};
+pub use color::{Color, color_is_well_tagged, color_records};
 pub use contact::Contact;
-pub use corner::{Corner, corner_can_stand_inside, corner_records};
-pub use envelope::{Envelope, envelope_can_stand_inside, envelope_is_valid, envelope_records};
-pub use labelled::{Labelled, labelled_can_stand_inside, labelled_records};
-pub use notice::{Notice, notice_can_stand_inside, notice_records};
-pub use pair::{Pair, pair_can_stand_inside, pair_is_valid, pair_records};
-pub use person::{Person, person_can_stand_inside, person_records};
-pub use plate::{Plate, plate_can_stand_inside, plate_records};
-pub use profile::{Profile, profile_can_stand_inside, profile_records};
-pub use settings::{Settings, settings_can_stand_inside, settings_records};
-pub use shape::{Shape, shape_can_stand_inside, shape_records};
-pub use ticket::{Ticket, ticket_can_stand_inside, ticket_records};
-pub use visit::{Visit, visit_can_stand_inside, visit_records};
+pub use corner::{Corner, corner_is_well_tagged, corner_records};
+pub use envelope::{Envelope, envelope_is_valid, envelope_is_well_tagged, envelope_records};
+pub use labelled::{Labelled, labelled_is_well_tagged, labelled_records};
+pub use notice::{Notice, notice_is_well_tagged, notice_records};
+pub use pair::{Pair, pair_is_valid, pair_is_well_tagged, pair_records};
+pub use person::{Person, person_is_well_tagged, person_records};
+pub use plate::{Plate, plate_is_well_tagged, plate_records};
+pub use profile::{Profile, profile_is_well_tagged, profile_records};
+pub use settings::{Settings, settings_is_well_tagged, settings_records};
+pub use shape::{Shape, shape_is_well_tagged, shape_records};
+pub use ticket::{Ticket, ticket_is_well_tagged, ticket_records};
+pub use visit::{Visit, visit_is_well_tagged, visit_records};

@@ -2,7 +2,7 @@
 ghost use Rattle.std.specs.Prelude.{◌≡◌, [], ◌∷◌, None, Some, true, pos, codes};
 ghost use Rattle.std.specs.String.{string_bytes};
 ghost use Rattle.asn1_slots.specs.Slots.{optional_slot, required_slot, sequence_of_slots, slots_agree};
-ghost use Rattle.asn1_types.specs.Words.{lines, in_root, context, universal, tagged, explicitly_tagged, constructed_type, constructed_agrees, CanStandInside, own_records, holding, sequence_head, prefix, scalar, mark, absent, present, number, truth, units, utf8, unconstrained, values_of, Range};
+ghost use Rattle.asn1_types.specs.Words.{lines, in_root, context, universal, tagged, explicitly_tagged, constructed_type, constructed_agrees, IsWellTagged, own_records, holding, sequence_head, explicit_tag, scalar, presence_mark, absent, present, number, truth, units, utf8, unconstrained, values_of, Range};
 
 use asn1_dec::{Decode, DecodeError, DecodeFields, Decoder};
 use asn1_enc::{Encode, EncodeError, EncodeFields, Encoder};
@@ -96,8 +96,8 @@ impl ConstructedType for Notice {
 }
 
 /// A `Notice` can be inside other types: what follows `urgent` begins with another tag.
-pub fn notice_can_stand_inside()
-    ensures { CanStandInside ⟦<Notice as AsnType>⟧.meaning }
+pub fn notice_is_well_tagged()
+    ensures { IsWellTagged ⟦<Notice as AsnType>⟧.meaning }
 {}
 
 impl Encode for Notice {
@@ -171,8 +171,8 @@ pub fn notice_records(notice: &Notice)
         (lines ⟦<Notice as FieldTable>⟧.components) (Some (codes "Notice"))) (
         scalar (context 0) (values_of (Range (Some (pos 0)) (Some (pos 255))))
         (Some (codes "INTEGER")) (number (pos 7)) ∷
-        mark (present in_root (context 1)) ∷
-        holding (prefix (context 1) (Some (codes "BOOLEAN"))) (
+        presence_mark (present in_root (context 1)) ∷
+        holding (explicit_tag (context 1) (Some (codes "BOOLEAN"))) (
         scalar (universal 1) unconstrained (Some (codes "BOOLEAN")) (truth true) ∷ []) ∷
         scalar (context 2) unconstrained
         (Some (codes "UTF8String")) (units utf8 (codes "Come")) ∷ []) ∷ [] }
@@ -183,7 +183,7 @@ pub fn notice_records(notice: &Notice)
         (lines ⟦<Notice as FieldTable>⟧.components) (Some (codes "Notice"))) (
         scalar (context 0) (values_of (Range (Some (pos 0)) (Some (pos 255))))
         (Some (codes "INTEGER")) (number (pos 7)) ∷
-        mark (absent in_root (context 1)) ∷
+        presence_mark (absent in_root (context 1)) ∷
         scalar (context 2) unconstrained
         (Some (codes "UTF8String")) (units utf8 (codes "Come")) ∷ []) ∷ [] }
 {}

@@ -1,7 +1,7 @@
 //! `Pair{T, U} ::= SEQUENCE { first T, second [0] U OPTIONAL }`
 ghost use Rattle.std.specs.Prelude.{◌≡◌, ◌↔◌, ℕ, Bool, List, [], ◌∷◌, None, Some, IfSome, true, pos, codes};
 ghost use Rattle.asn1_slots.specs.Slots.{optional_slot, required_slot, slots_agree};
-ghost use Rattle.asn1_types.specs.Words.{lines, in_root, context, universal, tagged, untagged, required, optional, sequence, constructed_type, constructed_agrees, CanStandInside, CanStandInsideUnder, own_records, holding, sequence_head, scalar, mark, absent, present, number, truth, unconstrained, values_of, Range};
+ghost use Rattle.asn1_types.specs.Words.{lines, in_root, context, universal, tagged, untagged, required, optional, sequence, constructed_type, constructed_agrees, IsWellTagged, IsWellTaggedUnder, own_records, holding, sequence_head, scalar, presence_mark, absent, present, number, truth, unconstrained, values_of, Range};
 
 use asn1_dec::{Decode, DecodeError, DecodeFields, Decoder};
 use asn1_enc::{Encode, EncodeError, EncodeFields, Encoder};
@@ -80,16 +80,16 @@ impl<T: AsnType, U: AsnType> ConstructedType for Pair<T, U> {
 }
 
 /// A `Pair` can be inside other types where its first can be a component, and its second can be one under `[0]`.
-pub fn pair_can_stand_inside<T: AsnType, U: AsnType>()
-    ensures { CanStandInside T.meaning → CanStandInsideUnder U.meaning (context 0) →
-        CanStandInside ⟦<Pair<T, U> as AsnType>⟧.meaning }
+pub fn pair_is_well_tagged<T: AsnType, U: AsnType>()
+    ensures { IsWellTagged T.meaning → IsWellTaggedUnder U.meaning (context 0) →
+        IsWellTagged ⟦<Pair<T, U> as AsnType>⟧.meaning }
 {}
 
 /// A `Pair` is valid if and only if its first is, and its second where there is one.
 pub fn pair_is_valid<T: AsnType, U: AsnType>(pair: &Pair<T, U>)
-    ensures { (takes : List ℕ → Bool) →
-        ⟦<Pair<T, U> as AsnType>⟧.meaning.IsValid takes pair.now ↔
-        (T.meaning.IsValid takes pair.now.first × IfSome pair.now.second (U.meaning.IsValid takes)) }
+    ensures { (accepts : List ℕ → Bool) →
+        ⟦<Pair<T, U> as AsnType>⟧.meaning.IsValid accepts pair.now ↔
+        (T.meaning.IsValid accepts pair.now.first × IfSome pair.now.second (U.meaning.IsValid accepts)) }
 {}
 
 impl<T: Encode, U: Encode> Encode for Pair<T, U> {
@@ -155,7 +155,7 @@ pub fn pair_records(pair: &Pair<u8, bool>)
         (lines ⟦<Pair<u8, bool> as FieldTable>⟧.components) (Some (codes "Pair"))) (
         scalar (universal 2) (values_of (Range (Some (pos 0)) (Some (pos 255))))
         (Some (codes "INTEGER")) (number (pos 7)) ∷
-        mark (present in_root (context 0)) ∷
+        presence_mark (present in_root (context 0)) ∷
         scalar (context 0) unconstrained (Some (codes "BOOLEAN")) (truth true) ∷ []) ∷ [] }
     ensures alone { pair.now ≡ record { first = 7; second = None } →
         own_records ⟦<Pair<u8, bool> as AsnType>⟧.meaning pair.now ≡
@@ -163,5 +163,5 @@ pub fn pair_records(pair: &Pair<u8, bool>)
         (lines ⟦<Pair<u8, bool> as FieldTable>⟧.components) (Some (codes "Pair"))) (
         scalar (universal 2) (values_of (Range (Some (pos 0)) (Some (pos 255))))
         (Some (codes "INTEGER")) (number (pos 7)) ∷
-        mark (absent in_root (context 0)) ∷ []) ∷ [] }
+        presence_mark (absent in_root (context 0)) ∷ []) ∷ [] }
 {}

@@ -2,7 +2,7 @@
 ghost use Rattle.std.specs.Prelude.{◌≡◌, [], ◌∷◌, Some, pos, codes};
 ghost use Rattle.std.specs.String.{string_bytes};
 ghost use Rattle.asn1_slots.specs.Slots.{required_slot, sequence_of_slots, slots_agree};
-ghost use Rattle.asn1_types.specs.Words.{lines, universal, untagged, constructed_type, constructed_agrees, CanStandInside, own_records, holding, sequence_head, scalar, number, units, utf8, unconstrained};
+ghost use Rattle.asn1_types.specs.Words.{lines, universal, untagged, constructed_type, constructed_agrees, IsWellTagged, own_records, holding, sequence_head, scalar, number, units, utf8, unconstrained};
 
 use asn1_dec::{Decode, DecodeError, DecodeFields, Decoder};
 use asn1_enc::{Encode, EncodeError, EncodeFields, Encoder};
@@ -76,8 +76,8 @@ impl ConstructedType for Person {
 }
 
 /// A `Person` can be inside other types: the types of its components can be there.
-pub fn person_can_stand_inside()
-    ensures { CanStandInside ⟦<Person as AsnType>⟧.meaning }
+pub fn person_is_well_tagged()
+    ensures { IsWellTagged ⟦<Person as AsnType>⟧.meaning }
 {}
 
 impl Encode for Person {

@@ -1,7 +1,7 @@
 //! `Plate ::= VisibleString (FROM ("A" | "B" | "C"))`
 ghost use Rattle.std.specs.Prelude.{◌≡◌, [], ◌∷◌, Some, IsTrue, All, codes};
 ghost use Rattle.asn1_model.specs.Kinds.{scalar_type, under_own_name};
-ghost use Rattle.asn1_types.specs.Words.{universal, characters_of, CanStandInside, own_records, scalar, units, visible};
+ghost use Rattle.asn1_types.specs.Words.{universal, characters_of, IsWellTagged, own_records, scalar, units, visible};
 ghost use Rattle.asn1_strings.specs.Alphabets.{is_visible};
 
 use asn1_dec::{Decode, DecodeError, Decoder};
@@ -29,8 +29,8 @@ impl AsnType for Plate {
 }
 
 /// A `Plate` can be inside other types.
-pub fn plate_can_stand_inside()
-    ensures { CanStandInside ⟦<Plate as AsnType>⟧.meaning }
+pub fn plate_is_well_tagged()
+    ensures { IsWellTagged ⟦<Plate as AsnType>⟧.meaning }
 {}
 
 impl Encode for Plate {

@@ -1,7 +1,7 @@
 //! `Settings ::= SEQUENCE { entry [0] Labelled DEFAULT { key 1, note 0 } }`
 ghost use Rattle.std.specs.Prelude.{◌≡◌, [], ◌∷◌, Some, pos, codes};
 ghost use Rattle.asn1_slots.specs.Slots.{default_slot, sequence_of_slots, slots_agree};
-ghost use Rattle.asn1_types.specs.Words.{lines, in_root, context, universal, tagged, constructed_type, constructed_agrees, CanStandInside, own_records, holding, sequence_head, scalar, mark, absent, present, number, values_of, Range};
+ghost use Rattle.asn1_types.specs.Words.{lines, in_root, context, universal, tagged, constructed_type, constructed_agrees, IsWellTagged, own_records, holding, sequence_head, scalar, presence_mark, absent, present, number, values_of, Range};
 
 use crate::labelled::Labelled;
 use asn1_dec::{Decode, DecodeError, DecodeFields, Decoder};
@@ -73,8 +73,8 @@ impl ConstructedType for Settings {
 }
 
 /// A `Settings` can be inside other types.
-pub fn settings_can_stand_inside()
-    ensures { CanStandInside ⟦<Settings as AsnType>⟧.meaning }
+pub fn settings_is_well_tagged()
+    ensures { IsWellTagged ⟦<Settings as AsnType>⟧.meaning }
 {}
 
 impl Encode for Settings {
@@ -140,11 +140,11 @@ pub fn settings_records(settings: &Settings)
     ensures default { settings.now.entry ≡ record { key = 1; note = 9 } →
         own_records ⟦<Settings as AsnType>⟧.meaning settings.now ≡
         holding (sequence_head (universal 16) (lines ⟦<Settings as FieldTable>⟧.components)
-        (Some (codes "Settings"))) (mark (absent in_root (context 0)) ∷ []) ∷ [] }
+        (Some (codes "Settings"))) (presence_mark (absent in_root (context 0)) ∷ []) ∷ [] }
     ensures another { settings.now.entry ≡ record { key = 2; note = 9 } →
         own_records ⟦<Settings as AsnType>⟧.meaning settings.now ≡
         holding (sequence_head (universal 16) (lines ⟦<Settings as FieldTable>⟧.components)
-        (Some (codes "Settings"))) (mark (present in_root (context 0)) ∷
+        (Some (codes "Settings"))) (presence_mark (present in_root (context 0)) ∷
         holding (sequence_head (context 0) (lines ⟦<Labelled as FieldTable>⟧.components)
         (Some (codes "Labelled"))) (scalar (context 0)
         (values_of (Range (Some (pos 0)) (Some (pos 255)))) (Some (codes "INTEGER"))

@@ -1,6 +1,6 @@
 //! `Shape ::= CHOICE { dot NULL, ring [0] INTEGER (0..65535), inner Corner }`
 ghost use Rattle.std.specs.Prelude.{◌≡◌, [], ◌∷◌, Some, true, pos, codes};
-ghost use Rattle.asn1_types.specs.Words.{table_of, context, universal, untagged, tagged, inl, inr, alternative, closed_choice, choice_of, choice_agrees, CanStandInside, own_records, holding, alternative_head, scalar, number, truth, unconstrained, values_of, Range};
+ghost use Rattle.asn1_types.specs.Words.{table_of, context, universal, untagged, tagged, inl, inr, alternative, closed_choice, choice_of, choice_agrees, IsWellTagged, own_records, holding, alternative_head, scalar, number, truth, unconstrained, values_of, Range};
 ghost use Rattle.asn1_samples.specs.declared.corner.Corner.TheVariants as corner;
 ghost use Rattle.asn1_samples.specs.declared.shape.Shape.TheVariants.{Dot, Ring, Inner};
 
@@ -71,8 +71,8 @@ impl ChoiceType for Shape {
 }
 
 /// A `Shape` can be inside other types: no tag is twice among its alternatives, with those of a `Corner`.
-pub fn shape_can_stand_inside()
-    ensures { CanStandInside ⟦<Shape as AsnType>⟧.meaning }
+pub fn shape_is_well_tagged()
+    ensures { IsWellTagged ⟦<Shape as AsnType>⟧.meaning }
 {}
 
 impl Encode for Shape {

@@ -1,7 +1,7 @@
 //! `Ticket ::= SET { seat [0] INTEGER (0..65535), name [1] UTF8String OPTIONAL, paid [2] BOOLEAN DEFAULT FALSE }`
 ghost use Rattle.std.specs.Prelude.{◌≡◌, [], ◌∷◌, None, Some, false, pos, codes, refl};
 ghost use Rattle.asn1_slots.specs.Slots.{default_slot, optional_slot, required_slot, set_of_slots, slots_agree};
-ghost use Rattle.asn1_types.specs.Words.{lines, in_root, context, universal, tagged, constructed_type, constructed_agrees, CanStandInside, own_records, holding, set_head, scalar, mark, absent, number, values_of, Range};
+ghost use Rattle.asn1_types.specs.Words.{lines, in_root, context, universal, tagged, constructed_type, constructed_agrees, IsWellTagged, own_records, holding, set_head, scalar, presence_mark, absent, number, values_of, Range};
 
 use asn1_dec::{Decode, DecodeError, Decoder};
 use asn1_enc::{Encode, EncodeError, EncodeFields, Encoder};
@@ -97,8 +97,8 @@ impl ConstructedType for Ticket {
 }
 
 /// A `Ticket` can be inside other types: no two of its components share a tag.
-pub fn ticket_can_stand_inside()
-    ensures { CanStandInside ⟦<Ticket as AsnType>⟧.meaning }
+pub fn ticket_is_well_tagged()
+    ensures { IsWellTagged ⟦<Ticket as AsnType>⟧.meaning }
 {}
 
 impl Encode for Ticket {
@@ -167,6 +167,6 @@ pub fn ticket_records(ticket: &Ticket)
         holding (set_head (universal 17) (lines ⟦<Ticket as FieldTable>⟧.components)
         (Some (codes "Ticket"))) (scalar (context 0)
         (values_of (Range (Some (pos 0)) (Some (pos 65535)))) (Some (codes "INTEGER"))
-        (number (pos 7)) ∷ mark (absent in_root (context 1)) ∷
-        mark (absent in_root (context 2)) ∷ []) ∷ [] }
+        (number (pos 7)) ∷ presence_mark (absent in_root (context 1)) ∷
+        presence_mark (absent in_root (context 2)) ∷ []) ∷ [] }
 {}

@@ -11,7 +11,7 @@
 ghost use Rattle.std.specs.Prelude.{◌≡◌, [], ◌∷◌, None, Some, pos, codes};
 ghost use Rattle.std.specs.String.{string_bytes};
 ghost use Rattle.asn1_slots.specs.Slots.{addition_slot, extensible_sequence_after, group_slot, required_slot, slots_agree};
-ghost use Rattle.asn1_types.specs.Words.{lines, in_root, in_additions, context, universal, tagged, constructed_type, constructed_agrees, CanStandInside, own_records, holding, sequence_head, scalar, mark, absent, present, group_start, group_end, number, units, utf8, numeric, unconstrained, values_of, Range};
+ghost use Rattle.asn1_types.specs.Words.{lines, in_root, in_additions, context, universal, tagged, constructed_type, constructed_agrees, IsWellTagged, own_records, holding, sequence_head, scalar, presence_mark, absent, present, group_start, group_end, number, units, utf8, numeric, unconstrained, values_of, Range};
 
 use crate::contact::{CONTACT, Contact};
 use asn1_dec::{Decode, DecodeError, DecodeFields, Decoder};
@@ -101,8 +101,8 @@ impl ConstructedType for Visit {
 }
 
 /// A `Visit` can be inside other types: the tag of what comes after the group is none of the group's.
-pub fn visit_can_stand_inside()
-    ensures { CanStandInside ⟦<Visit as AsnType>⟧.meaning }
+pub fn visit_is_well_tagged()
+    ensures { IsWellTagged ⟦<Visit as AsnType>⟧.meaning }
 {}
 
 impl Encode for Visit {
@@ -177,11 +177,11 @@ pub fn visit_records(visit: &Visit, phone: &NumericString, note: &Utf8String)
         } → own_records ⟦<Visit as AsnType>⟧.meaning visit.now ≡ holding (sequence_head (universal 16)
         (lines ⟦<Visit as FieldTable>⟧.components) (Some (codes "Visit"))) (scalar (context 0)
         (values_of (Range (Some (pos 0)) (Some (pos 65535)))) (Some (codes "INTEGER"))
-        (number (pos 7)) ∷ mark (group_start (lines ⟦<Contact as FieldTable>⟧.components)) ∷
-        mark (present in_root (context 3)) ∷ scalar (context 3) unconstrained
+        (number (pos 7)) ∷ presence_mark (group_start (lines ⟦<Contact as FieldTable>⟧.components)) ∷
+        presence_mark (present in_root (context 3)) ∷ scalar (context 3) unconstrained
         (Some (codes "NumericString")) (units numeric (codes "12")) ∷
-        mark (absent in_root (context 4)) ∷ mark group_end ∷
-        mark (present in_additions (context 5)) ∷ scalar (context 5) unconstrained
+        presence_mark (absent in_root (context 4)) ∷ presence_mark group_end ∷
+        presence_mark (present in_additions (context 5)) ∷ scalar (context 5) unconstrained
         (Some (codes "UTF8String")) (units utf8 (codes "ok")) ∷ []) ∷ [] }
     ensures bare { phone.now ≡ codes "12" →
         visit.now ≡ record {
@@ -192,9 +192,9 @@ pub fn visit_records(visit: &Visit, phone: &NumericString, note: &Utf8String)
         } → own_records ⟦<Visit as AsnType>⟧.meaning visit.now ≡ holding (sequence_head (universal 16)
         (lines ⟦<Visit as FieldTable>⟧.components) (Some (codes "Visit"))) (scalar (context 0)
         (values_of (Range (Some (pos 0)) (Some (pos 65535)))) (Some (codes "INTEGER"))
-        (number (pos 7)) ∷ mark (group_start (lines ⟦<Contact as FieldTable>⟧.components)) ∷
-        mark (present in_root (context 3)) ∷ scalar (context 3) unconstrained
+        (number (pos 7)) ∷ presence_mark (group_start (lines ⟦<Contact as FieldTable>⟧.components)) ∷
+        presence_mark (present in_root (context 3)) ∷ scalar (context 3) unconstrained
         (Some (codes "NumericString")) (units numeric (codes "12")) ∷
-        mark (absent in_root (context 4)) ∷ mark group_end ∷
-        mark (absent in_additions (context 5)) ∷ []) ∷ [] }
+        presence_mark (absent in_root (context 4)) ∷ presence_mark group_end ∷
+        presence_mark (absent in_additions (context 5)) ∷ []) ∷ [] }
 {}

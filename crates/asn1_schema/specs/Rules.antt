@@ -13,7 +13,7 @@ use Rattle.asn1_model.specs.Records.{Record, Head, highest, holding}
 pub record Format (O : Type 0) : Type 1 where
   pub carries : O → List Record → Type 0
   pub rejects : List Record → Type 0
-  pub takes : List ℕ → Bool
+  pub accepts : List ℕ → Bool
 
 module _ {O : Type 0} (F : Format O) where
   -- What these keep to: the order inside sets means nothing, and records are rejected where a part of them is, or what one of

@@ -74,7 +74,7 @@ pub use asn1_open as open_values;
 pub use asn1_open::Open;
 pub use asn1_open::an_instance_is_three_deeper_than_its_value;
 pub use asn1_open::each_open_is_valid;
-pub use asn1_open::open_can_stand_inside;
+pub use asn1_open::open_is_well_tagged;
 pub use asn1_ranges as ranges;
 pub use asn1_slots as slots;
 pub use asn1_slots::DecodeByPlace;

@@ -1,5 +1,5 @@
 //! From one codec to another.
-ghost use Rattle.asn1_model.specs.Meaning.{CanStandInside, own_records};
+ghost use Rattle.asn1_model.specs.Meaning.{IsWellTagged, own_records};
 ghost use Rattle.asn1_schema.specs.Recoding.{IsRecoded, RecodingFails, WritingFailsAsItMay};
 ghost use Rattle.std.specs.Prelude.{IfErr, MatchResult};
 
@@ -35,8 +35,8 @@ pub fn recode<T: Encode + Decode, A: Rules, B: Rules>(
     to: &B,
     depth: usize,
 ) -> Result<B::Output, RecodeError>
-    ensures recoded { (v : T) → CanStandInside T.meaning → T.meaning.IsOfType v →
-        T.meaning.IsValid A.format.takes v → A.format.carries input.now (own_records T.meaning v) →
+    ensures recoded { (v : T) → IsWellTagged T.meaning → T.meaning.IsOfType v →
+        T.meaning.IsValid A.format.accepts v → A.format.carries input.now (own_records T.meaning v) →
         MatchResult result (IsRecoded B.format T.meaning T.eq v depth)
         (RecodingFails B.format T.meaning T.eq v depth) }
     ensures writing { IfErr result (WritingFailsAsItMay B.format T.meaning depth) }

@@ -1,5 +1,5 @@
 //! What was written is read back.
-ghost use Rattle.asn1_model.specs.Meaning.{CanStandInside, own_records};
+ghost use Rattle.asn1_model.specs.Meaning.{IsWellTagged, own_records};
 ghost use Rattle.asn1_model.specs.Records.{highest};
 ghost use Rattle.asn1_schema.specs.RoundTrips.{FailsAs, WritesFirst};
 ghost use Rattle.std.specs.Prelude.{◌≡◌, ◌≤◌, true, MatchResult};
@@ -35,7 +35,7 @@ pub fn round_trip<R: Rules, T: Encode + Decode>(
     write_depth: usize,
     read_depth: usize,
 ) -> Result<T, RoundTripError>
-    ensures back { CanStandInside T.meaning → T.meaning.IsValid R.format.takes value.now →
+    ensures back { IsWellTagged T.meaning → T.meaning.IsValid R.format.accepts value.now →
         MatchResult result
         (λ w. (T.eq w value.now ≡ true) × (highest (own_records T.meaning value.now) ≤ read_depth))
         (FailsAs R.format (own_records T.meaning value.now) write_depth read_depth) }

@@ -1,5 +1,5 @@
 //! A codec as a whole.
-ghost use Rattle.asn1_model.specs.Meaning.{CanStandInside, own_records};
+ghost use Rattle.asn1_model.specs.Meaning.{IsWellTagged, own_records};
 ghost use Rattle.asn1_model.specs.Records.{Record, highest};
 ghost use Rattle.asn1_model.specs.WellFormed.{AreWellFormed};
 ghost use Rattle.asn1_schema.specs.Rules.{Format, IsLawful, ReadsWhole, RefusesWhole, WritesWhole};
@@ -36,12 +36,12 @@ pub trait Rules {
     /// are nested deeper than the depth, and else [`DecodeError::Memory`]. Where it carries well-formed records that the type refuses, the error of
     /// the type, or one of these two in the same way. Of other outputs nothing is said.
     fn read_value<T: Decode>(&self, output: &Self::Output, depth: usize) -> Result<T, DecodeError>
-        ensures read { (v : T) → CanStandInside T.meaning → T.meaning.IsOfType v →
-            T.meaning.IsValid format.takes v → format.carries output.now (own_records T.meaning v) →
+        ensures read { (v : T) → IsWellTagged T.meaning → T.meaning.IsOfType v →
+            T.meaning.IsValid format.accepts v → format.carries output.now (own_records T.meaning v) →
             ReadsWhole (highest (own_records T.meaning v)) depth (λ w. T.eq w v ≡ true) result }
         ensures refuses { (rs : List Record) (error : _) →
-            T.refusals format.takes T.meaning.tag T.meaning.constraints rs error →
-            AreWellFormed format.takes rs → format.carries output.now rs →
+            T.refusals format.accepts T.meaning.tag T.meaning.constraints rs error →
+            AreWellFormed format.accepts rs → format.carries output.now rs →
             RefusesWhole (highest rs) depth error result };
 
     // The law of a codec.

@@ -15,7 +15,7 @@ reads_as : {D V : Type 0} (A : Type 0) (R : Reader D) (c d : ComponentType V) (h
     ReadsInto R d holds old new result → ReadsInto R c holds old new result
 reads_as A R c d holds old new result same reads v rest outer can of_type valid apart =
     subst (λ rs. ReadsBack R old new rs rest outer (λ _. holds v ≡ true) result) (sym (same v).4)
-    (reads v rest outer ((same v).0 can) ((same v).1 of_type) ((same v).2 R.takes valid) ((same v).3 rest apart))
+    (reads v rest outer ((same v).0 can) ((same v).1 of_type) ((same v).2 R.accepts valid) ((same v).3 rest apart))
 
 module _ {S V : Type 0} where
   hold_none : (ds : List (Slot S V)) (s : S) (v : V) → HoldBefore ds zero s v
@@ -61,7 +61,7 @@ module _ {D S V : Type 0} (R : Reader D) (cs : List (ComponentType V)) (ds : Lis
     pub hold : HoldBefore ds place s v
 
   module _ (all : AreSlotsOf cs ds) (began : D) (v : V) (rest : List Record) (outer : Outside) where
-    pub none_yet : (s : S) → CanBeInSequence cs → EachIsOfType cs v → EachIsValid cs R.takes v → EndsApart cs rest → R.remains began (all_records cs v ++ rest, outer) →
+    pub none_yet : (s : S) → CanBeInSequence cs → EachIsOfType cs v → EachIsValid cs R.accepts v → EndsApart cs rest → R.remains began (all_records cs v ++ rest, outer) →
         ReadUpTo 0 began began s v rest outer
     none_yet s can of_type valid ends at = record { part = begin R began cs v rest outer can of_type valid ends at; hold = hold_none ds s v }
 

@@ -4,7 +4,7 @@ use Rattle.std.specs.Prelude.{◌==◌, ⊤, IsPermutation}
 use Rattle.std.proofs.lemmas.Bool.{and_parts}
 use Rattle.std.proofs.lemmas.Bool.Decides.{nat_tests}
 use Rattle.std.proofs.lemmas.List.Sums.{sum_by-append, sum_by-cons}
-use Rattle.asn1_components.specs.ComponentLists.{EachCanStandInside, EachIsOfType, EachIsValid, all_records}
+use Rattle.asn1_components.specs.ComponentLists.{EachIsWellTagged, EachIsOfType, EachIsValid, all_records}
 use Rattle.asn1_components.specs.ComponentTypes.{ComponentType}
 use Rattle.asn1_components.specs.Following.{AllApart}
 use Rattle.asn1_codec.proofs.ReadingSets.{ComponentComes, Midway, Through, comes, comes_at, filled, further, start, through}
@@ -93,13 +93,13 @@ module _ {S V : Type 0} where
     )
 
   -- where all have come that are there
-  holds_at_end : (h : Slot S V) → h.is_single ≡ true → (s : S) (v : V) (n : ℕ) → h.component.CanStandInside → IsInStep h n s v → (rs : List Record) → rs ≡ unmarked (h.component.records v) →
+  holds_at_end : (h : Slot S V) → h.is_single ≡ true → (s : S) (v : V) (n : ℕ) → h.component.IsWellTagged → IsInStep h n s v → (rs : List Record) → rs ≡ unmarked (h.component.records v) →
       (rs ≢ [] → n ≢ 0) → h.holds s v ≡ true
   holds_at_end h single s v (suc n) can in_step rs is complete = in_step.1 (λ none. cc)
   holds_at_end h single s v zero can in_step [] is complete = h.is_absent single s v can (in_step.0 refl) (sym is)
   holds_at_end h single s v zero can in_step (r ∷ rs) is complete = absurd (complete (λ none. cc) refl)
 
-  hold_at_end : (cs : List (ComponentType V)) (hs : List (Slot S V)) → AreSlotsOf cs hs → has_no_group hs ≡ true → (s : S) (v : V) (k : ℕ) (came : List ℕ) → EachCanStandInside cs → AreInStep hs k came s v →
+  hold_at_end : (cs : List (ComponentType V)) (hs : List (Slot S V)) → AreSlotsOf cs hs → has_no_group hs ≡ true → (s : S) (v : V) (k : ℕ) (came : List ℕ) → EachIsWellTagged cs → AreInStep hs k came s v →
       ((j index : ℕ) → index ≡ k + j → written_of cs v j ≢ [] → times index came ≢ 0) → HoldBefore hs (length hs) s v
   hold_at_end [] [] all single s v k came can in_step complete = tt
   hold_at_end [] (h ∷ hs) all single s v k came can in_step complete = absurd all
@@ -112,7 +112,7 @@ module _ {S V : Type 0} where
       )
 
   -- each component is one record, or absent
-  pub one_each : (cs : List (ComponentType V)) (hs : List (Slot S V)) → AreSlotsOf cs hs → has_no_group hs ≡ true → (v : V) → EachCanStandInside cs → EachIsOneRecord cs v
+  pub one_each : (cs : List (ComponentType V)) (hs : List (Slot S V)) → AreSlotsOf cs hs → has_no_group hs ≡ true → (v : V) → EachIsWellTagged cs → EachIsOneRecord cs v
   one_each [] hs all single v can = tt
   one_each (c ∷ cs) [] all single v can = absurd all
   one_each (c ∷ cs) (h ∷ hs) all single v can =
@@ -123,7 +123,7 @@ module _ {S V : Type 0} where
 
   -- the call reads the component of this index
   reads_at : {D A : Type 0} (R : Reader D) (cs : List (ComponentType V)) (hs : List (Slot S V)) → AreSlotsOf cs hs → has_no_group hs ≡ true → (j : ℕ) (old new : D) (before after : S) (result : Result A DecodeError) →
-      ReadsOnceAt R hs j old new before after result → IsEmptyAt hs j before → (v : V) (rest : List Record) (outer : Outside) → EachCanStandInside cs → EachIsOfType cs v → EachIsValid cs R.takes v → written_of cs v j ≢ [] →
+      ReadsOnceAt R hs j old new before after result → IsEmptyAt hs j before → (v : V) (rest : List Record) (outer : Outside) → EachIsWellTagged cs → EachIsOfType cs v → EachIsValid cs R.accepts v → written_of cs v j ≢ [] →
       ReadsBack R old new (written_of cs v j) rest outer (λ _. HoldsAt hs j after v) result
   reads_at R [] hs all single j old new before after result reads empty v rest outer can of_type valid some = absurd (some refl)
   reads_at R (c ∷ cs) [] all single j old new before after result reads empty v rest outer can of_type valid some = absurd all
@@ -132,7 +132,7 @@ module _ {S V : Type 0} where
       let same = all.0 v in
       let written : unmarked (c.records v) ≡ unmarked (h.component.records v) = ap unmarked same.4 in
       subst (λ rs. ReadsBack R old new rs rest outer (λ _. h.holds after v ≡ true) result) (sym written)
-      (h.reads_once R old new before after result singles.0 reads empty v rest outer (same.0 can.0) (same.1 of_type.0) (same.2 R.takes valid.0) (λ none. some (written ∙ none)))
+      (h.reads_once R old new before after result singles.0 reads empty v rest outer (same.0 can.0) (same.1 of_type.0) (same.2 R.accepts valid.0) (λ none. some (written ∙ none)))
   reads_at R (c ∷ cs) (h ∷ hs) all single (suc j) old new before after result reads empty v rest outer can of_type valid some =
       let singles = and_parts h.is_single (has_no_group hs) single in
       reads_at R cs hs all.1 singles.1 j old new before after result reads empty v rest outer can.1 of_type.1 valid.1 some
@@ -150,7 +150,7 @@ module _ {D S V : Type 0} (R : Reader D) (cs : List (ComponentType V)) (hs : Lis
     pub next : ComponentComes R cs v (λ i. i) (λ _. ⊤) d came height outer place bound index
     pub in_step : AreInStep hs 0 came s v
 
-  module _ (all : AreSlotsOf cs hs) (single : has_no_group hs ≡ true) (can : EachCanStandInside cs) where
+  module _ (all : AreSlotsOf cs hs) (single : has_no_group hs ≡ true) (can : EachIsWellTagged cs) where
     pub begin : (d : D) (s : S) (items : List Record) (outer : Outside) (bound : ℕ) → AreEmpty hs s → IsPermutation items (all_records cs v) → records_in items ≤ bound → R.remains d (items, outer) →
         SlotsMidway d s (highest items) outer 0 bound
     begin d s items outer bound empty moved few at = record {
@@ -164,7 +164,7 @@ module _ {D S V : Type 0} (R : Reader D) (cs : List (ComponentType V)) (hs : Lis
     not_yet {index = index} came comes = omega (arith, comes.counted index, at_most_one cs v index comes.one_each, ap {B = ℕ} (λ b. cond b 1 0) (is_same index index refl))
 
     pub reads : {A : Type 0} {d : D} {s : S} {height : ℕ} {outer : Outside} {place bound index : ℕ} (e : D) (after : S) (result : Result A DecodeError) (comes : SlotComes d s height outer place bound index) →
-        EachIsOfType cs v → EachIsValid cs R.takes v → ReadsOnceAt R hs index d e s after result →
+        EachIsOfType cs v → EachIsValid cs R.accepts v → ReadsOnceAt R hs index d e s after result →
         ReadsBack R d e (written_of cs v index) (records comes.next.todo) outer (λ _. HoldsAt hs index after v) result
     reads {d = d} {s = s} {index = index} e after result comes of_type valid once =
         reads_at R cs hs all single index d e s after result once

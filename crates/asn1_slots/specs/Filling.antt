@@ -9,7 +9,7 @@ use Rattle.asn1_codec.specs.DecodeErrors.{duplicate_field, reason}
 use Rattle.asn1_codec.specs.Reading.{Outside, Reader, ReadsBack}
 use Rattle.asn1_codec.specs.declared.decode_error.DecodeError.{DecodeError}
 use Rattle.asn1_model.specs.Composites.{group_records, option_records}
-use Rattle.asn1_model.specs.Records.{Record, Side, marks_alone}
+use Rattle.asn1_model.specs.Records.{Record, Side, presence_marks_alone}
 use Rattle.asn1_model.specs.TaggedTypes.{TaggedType}
 use Rattle.asn1_tags.specs.Trees.{choice}
 
@@ -19,16 +19,16 @@ module _ {D W A : Type 0} (R : Reader D) where
   abbrev pub ReadsComponent : TaggedType W → (W → A → Type 0) → D → D →
       Result A DecodeError → Type 0
   ReadsComponent type Is old new result =
-      (v : W) (rest : List Record) (outer : Outside) → type.CanStandInside → type.IsOfType v →
-      type.IsValid R.takes v → ReadsBack R old new (type.records v) rest outer (Is v) result
+      (v : W) (rest : List Record) (outer : Outside) → type.IsWellTagged → type.IsOfType v →
+      type.IsValid R.accepts v → ReadsBack R old new (type.records v) rest outer (Is v) result
 
   -- A call that reads a component that may be absent, on this side: what follows it begins with
   -- none of its tags.
   abbrev pub ReadsOptional : Side → TaggedType W → (Option W → A → Type 0) → D → D →
       Result A DecodeError → Type 0
   ReadsOptional side type Is old new result =
-      (v : Option W) (rest : List Record) (outer : Outside) → type.CanStandInside →
-      IfSome v type.IsOfType → IfSome v (type.IsValid R.takes) → BeginsApart type.tree rest →
+      (v : Option W) (rest : List Record) (outer : Outside) → type.IsWellTagged →
+      IfSome v type.IsOfType → IfSome v (type.IsValid R.accepts) → BeginsApart type.tree rest →
       ReadsBack R old new (option_records side type.tag (option_map type.records v)) rest outer
       (Is v) result
 
@@ -58,8 +58,8 @@ module _ {D W A : Type 0} (R : Reader D) where
     pub reads : (v : Option W) (rest : List Record) (outer : Outside) →
         CanBeInSequence (all_components components) →
         IfSome v (EachIsOfType (all_components components)) →
-        IfSome v (λ w. EachIsValid (all_components components) R.takes w ×
-        (marks_alone (component_records components w) ≡ false)) →
+        IfSome v (λ w. EachIsValid (all_components components) R.accepts w ×
+        (presence_marks_alone (component_records components w) ≡ false)) →
         BeginsApart (choice (trees_of (all_components components))) rest →
         ReadsBack R old new
         (group_records (lines components) (option_map (component_records components) v)) rest outer

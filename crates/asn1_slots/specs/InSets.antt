@@ -34,7 +34,7 @@ module _ {W : Type 0} (type : TaggedType W) where
   records_of None = []
   records_of (Some w) = type.records w
 
-  module _ (can : type.CanStandInside) where
+  module _ (can : type.IsWellTagged) where
     pub written_required : (w : W) → unmarked (type.records w) ≡ records_of (Some w)
     written_required w = one_unmarked _ (type.records w) (type.one_record can w)
 
@@ -73,8 +73,8 @@ module _ {W : Type 0} (type : TaggedType W) where
   pub slot_of_present : {D A : Type 0} (R : Reader D) (name : List ℕ) (eq : W → W → Bool) (old new : D)
       (before after : Option W) (result : Result A DecodeError) →
       FillsOnce R name type eq old new before after result → before ≡ None → (o : Option W)
-      (rs rest : List Record) (outer : Outside) → type.CanStandInside → IfSome o type.IsOfType →
-      IfSome o (type.IsValid R.takes) → rs ≡ records_of o → rs ≢ [] →
+      (rs rest : List Record) (outer : Outside) → type.IsWellTagged → IfSome o type.IsOfType →
+      IfSome o (type.IsValid R.accepts) → rs ≡ records_of o → rs ≢ [] →
       ReadsBack R old new rs rest outer (λ _. option_eq eq after o ≡ true) result
   slot_of_present R name eq old new before after result fills empty None rs rest outer can of_type valid written some =
       absurd (some written)

@@ -24,8 +24,8 @@ use Rattle.asn1_slots.specs.InSets.{one_default, one_optional, one_required, slo
 abbrev pub ReadsInto : {D V A : Type 0} → Reader D → ComponentType V → (V → Bool) → D → D →
     Result A DecodeError → Type 0
 ReadsInto {V = V} R c holds old new result =
-    (v : V) (rest : List Record) (outer : Outside) → c.CanStandInside → c.IsOfType v →
-    c.IsValid R.takes v → Where (may_be_absent c.presence) (BeginsApart c.tree rest) →
+    (v : V) (rest : List Record) (outer : Outside) → c.IsWellTagged → c.IsOfType v →
+    c.IsValid R.accepts v → Where (may_be_absent c.presence) (BeginsApart c.tree rest) →
     ReadsBack R old new (c.records v) rest outer (λ _. holds v ≡ true) result
 
 -- A component of the values V, and its slot among the slots S.
@@ -46,47 +46,47 @@ pub record Slot (S V : Type 0) : Type 1 where
   -- what a call promises that reads it in a SET, by the slots before and after
   pub ReadsOnce : {D A : Type 0} → Reader D → D → D → S → S → Result A DecodeError → Type 0
   -- Where it is no group, it is one record in a SET, or absent.
-  pub is_one : is_single ≡ true → component.CanStandInside → (v : V) →
+  pub is_one : is_single ≡ true → component.IsWellTagged → (v : V) →
       records_in (component.records v) ≤ 1
   -- what is there is read into an empty slot, without its presence mark
   pub reads_once : {D A : Type 0} (R : Reader D) (old new : D) (before after : S)
       (result : Result A DecodeError) → is_single ≡ true → ReadsOnce R old new before after result → IsEmpty before →
-      (v : V) (rest : List Record) (outer : Outside) → component.CanStandInside → component.IsOfType v →
-      component.IsValid R.takes v → unmarked (component.records v) ≢ [] →
+      (v : V) (rest : List Record) (outer : Outside) → component.IsWellTagged → component.IsOfType v →
+      component.IsValid R.accepts v → unmarked (component.records v) ≢ [] →
       ReadsBack R old new (unmarked (component.records v)) rest outer (λ _. holds after v ≡ true)
       result
   -- what is absent has an empty slot
-  pub is_absent : is_single ≡ true → (s : S) (v : V) → component.CanStandInside → IsEmpty s →
+  pub is_absent : is_single ≡ true → (s : S) (v : V) → component.IsWellTagged → IsEmpty s →
       unmarked (component.records v) ≡ [] → holds s v ≡ true
 
 -- The slot of a component with a default: it has what the value has, or it is empty, and the value
 -- has the default.
 abbrev pub holds_or_default : {W : Type 0} → (W → W → Bool) → W → Option W → W → Bool
-holds_or_default eq usual None w = eq w usual
-holds_or_default eq usual (Some x) w = eq x w
+holds_or_default eq default_value None w = eq w default_value
+holds_or_default eq default_value (Some x) w = eq x w
 
-holds_default : {W : Type 0} (eq : W → W → Bool) (usual w : W) (slot : Option W) (is_default : Bool) →
-    eq w usual ≡ is_default → option_eq eq slot (unless_default is_default w) ≡ true →
-    holds_or_default eq usual slot w ≡ true
-holds_default eq usual w None true is same = is
-holds_default eq usual w None false is same = cc
-holds_default eq usual w (Some x) true is same = cc
-holds_default eq usual w (Some x) false is same = same
+holds_default : {W : Type 0} (eq : W → W → Bool) (default_value w : W) (slot : Option W) (is_default : Bool) →
+    eq w default_value ≡ is_default → option_eq eq slot (unless_default is_default w) ≡ true →
+    holds_or_default eq default_value slot w ≡ true
+holds_default eq default_value w None true is same = is
+holds_default eq default_value w None false is same = cc
+holds_default eq default_value w (Some x) true is same = cc
+holds_default eq default_value w (Some x) false is same = same
 
 -- the slot of a component with a default is filled as that of one that may be absent
 pub reads_default : {D A W : Type 0} (R : Reader D) (side : Side) (type : TaggedType W) (eq : W → W → Bool)
-    (usual : W) (old new : D) (slot : Option W) (result : Result A DecodeError) →
+    (default_value : W) (old new : D) (slot : Option W) (result : Result A DecodeError) →
     FillsOptional R side type eq old new slot result → (w : W) (rest : List Record)
     (outer : Outside) (is_default : Bool) →
-    eq w usual ≡ is_default → type.CanStandInside → (is_default ≡ false → type.IsOfType w) →
-    (is_default ≡ false → type.IsValid R.takes w) → BeginsApart type.tree rest →
+    eq w default_value ≡ is_default → type.IsWellTagged → (is_default ≡ false → type.IsOfType w) →
+    (is_default ≡ false → type.IsValid R.accepts w) → BeginsApart type.tree rest →
     ReadsBack R old new (default_records side is_default type.tag (type.records w)) rest outer
-    (λ _. holds_or_default eq usual slot w ≡ true) result
-reads_default R side type eq usual old new slot result fills w rest outer true is can of_type valid apart =
-    in_other_words R old new _ _ _ result (λ _ same. holds_default eq usual w slot true is same)
+    (λ _. holds_or_default eq default_value slot w ≡ true) result
+reads_default R side type eq default_value old new slot result fills w rest outer true is can of_type valid apart =
+    in_other_words R old new _ _ _ result (λ _ same. holds_default eq default_value w slot true is same)
     (fills.reads None rest outer can tt tt apart)
-reads_default R side type eq usual old new slot result fills w rest outer false is can of_type valid apart =
-    in_other_words R old new _ _ _ result (λ _ same. holds_default eq usual w slot false is same)
+reads_default R side type eq default_value old new slot result fills w rest outer false is can of_type valid apart =
+    in_other_words R old new _ _ _ result (λ _ same. holds_default eq default_value w slot false is same)
     (fills.reads (Some w) rest outer can (of_type refl) (valid refl) apart)
 
 -- what is asked of a value that is not the default
@@ -96,9 +96,9 @@ if_not_default P true w holds = tt
 if_not_default P false w holds = holds refl
 
 -- and of its slot
-pub default_is_read : {W : Type 0} (eq : W → W → Bool) (usual w : W) (slot : Option W) →
-    option_eq eq slot (unless_default (eq w usual) w) ≡ true → holds_or_default eq usual slot w ≡ true
-default_is_read eq usual w slot same = holds_default eq usual w slot (eq w usual) refl same
+pub default_is_read : {W : Type 0} (eq : W → W → Bool) (default_value w : W) (slot : Option W) →
+    option_eq eq slot (unless_default (eq w default_value) w) ≡ true → holds_or_default eq default_value slot w ≡ true
+default_is_read eq default_value w slot same = holds_default eq default_value w slot (eq w default_value) refl same
 
 -- which no group is
 pub no_group : {P : Type 0} → false ≡ true → P
@@ -156,28 +156,28 @@ module _ {S V W : Type 0} (name : List ℕ) where
 
   -- of one with a default, on this side, which a value has where the slot is empty
   abbrev default_slot_in : Side → (V → W) → W → (S → Option W) → TaggedType W → (W → W → Bool) → Slot S V
-  default_slot_in side get usual slot type eq = record {
-    component = default_in side name get (λ v. eq (get v) usual) type;
+  default_slot_in side get default_value slot type eq = record {
+    component = default_in side name get (λ v. eq (get v) default_value) type;
     is_single = true;
     IsEmpty = λ s. slot s ≡ None;
     is_filled = λ s. true;
-    holds = λ s v. holds_or_default eq usual (slot s) (get v);
+    holds = λ s v. holds_or_default eq default_value (slot s) (get v);
     Reads = λ R old new s result. FillsOptional R side type eq old new (slot s) result;
     reads = λ R old new s result fills v rest outer can of_type valid apart.
-        reads_default R side type eq usual old new (slot s) result fills (get v) rest outer (eq (get v) usual)
+        reads_default R side type eq default_value old new (slot s) result fills (get v) rest outer (eq (get v) default_value)
         refl can of_type valid apart;
     ReadsOnce = λ R old new before after result.
         FillsOnce R name type eq old new (slot before) (slot after) result;
-    is_one = λ single can v. one_default type can side (eq (get v) usual) (get v);
+    is_one = λ single can v. one_default type can side (eq (get v) default_value) (get v);
     reads_once = λ R old new before after result single fills empty v rest outer can of_type valid some.
-        in_other_words R old new _ _ _ result (λ _ same. default_is_read eq usual (get v) (slot after) same)
+        in_other_words R old new _ _ _ result (λ _ same. default_is_read eq default_value (get v) (slot after) same)
         (slot_of_present type R name eq old new (slot before) (slot after) result fills empty
-        (unless_default (eq (get v) usual) (get v)) _ rest outer can (if_not_default _ (eq (get v) usual) (get v) of_type)
-        (if_not_default _ (eq (get v) usual) (get v) valid)
-        (written_default type can side (eq (get v) usual) (get v)) some);
-    is_absent = λ single s v can empty none. default_is_read eq usual (get v) (slot s)
-        (slot_of_absent type can eq (slot s) (unless_default (eq (get v) usual) (get v)) _
-        (written_default type can side (eq (get v) usual) (get v)) empty none);
+        (unless_default (eq (get v) default_value) (get v)) _ rest outer can (if_not_default _ (eq (get v) default_value) (get v) of_type)
+        (if_not_default _ (eq (get v) default_value) (get v) valid)
+        (written_default type can side (eq (get v) default_value) (get v)) some);
+    is_absent = λ single s v can empty none. default_is_read eq default_value (get v) (slot s)
+        (slot_of_absent type can eq (slot s) (unless_default (eq (get v) default_value) (get v)) _
+        (written_default type can side (eq (get v) default_value) (get v)) empty none);
   }
 
   -- of the root, and of the additions
@@ -295,8 +295,8 @@ module _ {S V : Type 0} where
 -- Two components are the same to a reader.
 abbrev pub SameComponent : {V : Type 0} → ComponentType V → ComponentType V → Type 0
 SameComponent {V = V} c d = (v : V) →
-    (c.CanStandInside → d.CanStandInside) × (c.IsOfType v → d.IsOfType v)
-    × ((takes : List ℕ → Bool) → c.IsValid takes v → d.IsValid takes v)
+    (c.IsWellTagged → d.IsWellTagged) × (c.IsOfType v → d.IsOfType v)
+    × ((accepts : List ℕ → Bool) → c.IsValid accepts v → d.IsValid accepts v)
     × ((rest : List Record) → Where (may_be_absent c.presence) (BeginsApart c.tree rest) →
     Where (may_be_absent d.presence) (BeginsApart d.tree rest))
     × (c.records v ≡ d.records v)
@@ -314,7 +314,7 @@ SameAll (c ∷ cs) = SameComponent c c × SameAll cs
 
 same_all : {V : Type 0} (cs : List (ComponentType V)) → SameAll cs
 same_all [] = tt
-same_all (c ∷ cs) = (λ v. ((λ h. h), (λ h. h), (λ takes h. h), (λ rest h. h), refl), same_all cs)
+same_all (c ∷ cs) = (λ v. ((λ h. h), (λ h. h), (λ accepts h. h), (λ rest h. h), refl), same_all cs)
 
 -- so it is for each type whose components are stated by its slots
 pub slots_agree : {V : Type 0} (components : Components V) → SameAll (all_components components)
@@ -327,7 +327,7 @@ abbrev pub ReadsSlotsLeft : {D S V : Type 0} → Reader D → ℕ → Components
 ReadsSlotsLeft {V = V} R bound components slots old new result =
     (v : V) (t : Tag) (n : Name) (items rest : List Record) (outer : Outside) →
     CanBeInSet (all_components components) → EachIsOfType (all_components components) v →
-    EachIsValid (all_components components) R.takes v →
+    EachIsValid (all_components components) R.accepts v →
     IsPermutation items (component_records components v) → records_in items ≤ bound →
     Advances R old new (highest items) (items, (set_head t (lines components) n, rest) ∷ outer)
     ([], (set_head t (lines components) n, rest) ∷ outer)

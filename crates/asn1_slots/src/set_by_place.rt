@@ -92,7 +92,8 @@ pub fn decode_set_by_place<S: DecodeSetByPlace + ConstructedType, D: Decoder>(
     decoder: &mut D,
     tag: Tag,
 ) -> Result<S, DecodeError>
-    ensures components { ReadsComponents D.reader is_set tag S.components S.eq decoder.old decoder.new
+    ensures components { ReadsComponents D.reader is_set tag S.components S.eq decoder.old
+        decoder.new
         result }
     ensures as_meant { S.components.kind ≡ is_set → (c : ConstraintSet) →
         ReadsValue D.reader S.meaning S.eq tag c decoder.old decoder.new result }

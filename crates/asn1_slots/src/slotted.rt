@@ -34,8 +34,8 @@ pub fn filled<T: Drop>(slot: Option<T>, name: &'static str) -> Result<T, DecodeE
 }
 
 /// The component that is in a slot, or the default where there is none.
-pub fn or_default<T: Eq + Drop>(slot: Option<T>, usual: T) -> T
-    ensures { (v : T) → holds_or_default T.eq usual slot v ≡ true → T.eq result v ≡ true }
+pub fn or_default<T: Eq + Drop>(slot: Option<T>, default_value: T) -> T
+    ensures { (v : T) → holds_or_default T.eq default_value slot v ≡ true → T.eq result v ≡ true }
 {
-    slot.unwrap_or(usual)
+    slot.unwrap_or(default_value)
 }

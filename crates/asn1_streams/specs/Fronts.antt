@@ -49,7 +49,7 @@ module _ {R V : Type 0} (F : Fronts R V) where
   -- output that carries the own records of a valid value is a front of that value, whole; what is
   -- the same is equal; and a value is nested no deeper than its records.
   pub record BelongsTo (reader : R) (format : Format (Vec ℕ Global)) (m : Meaning V) (eq : V → V → Bool) : Type 0 where
-    pub whole : (output : Vec ℕ Global) (v : V) → m.IsOfType v → m.IsValid format.takes v →
+    pub whole : (output : Vec ℕ Global) (v : V) → m.IsOfType v → m.IsValid format.accepts v →
         format.carries output (own_records m v) → F.front reader output.items v (length output.items)
     pub equal : (w v : V) → F.same w v ≡ true → eq w v ≡ true
     pub as_deep : (v : V) → F.height v ≤ highest (own_records m v)

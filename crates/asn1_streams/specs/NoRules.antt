@@ -4,7 +4,7 @@ use Rattle.std.specs.declared.alloc.Global.{Global}
 use Rattle.asn1_schema.specs.Rules.{Format, IsLawful}
 
 abbrev pub no_format : Format (Vec ℕ Global)
-no_format = record { carries = λ output rs. ⊥; rejects = λ rs. ⊤; takes = λ bytes. false }
+no_format = record { carries = λ output rs. ⊥; rejects = λ rs. ⊤; accepts = λ bytes. false }
 
 pub no_format_is_lawful : IsLawful no_format
 no_format_is_lawful = record {

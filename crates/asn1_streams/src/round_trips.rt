@@ -37,7 +37,7 @@ pub fn round_trip_in_pieces<
 ) -> Result<Pieces<T>, RoundTripError>
     ensures come_back { IsSteady F.fronts reader →
         BelongsTo F.fronts reader R.format T.meaning T.eq →
-        All (T.meaning.IsValid R.format.takes) values.now →
+        All (T.meaning.IsValid R.format.accepts) values.now →
         IfOk result (λ read. ComeBack T.eq (λ v. highest (own_records T.meaning v))
         (F.fronts.depth reader) read.values.items values.now read.last) }
     ensures at_most { IfOk result (λ read. length read.values.items ≤ length values.now) }
@@ -60,7 +60,7 @@ pub fn round_trip_in_pieces<
 pub fn outputs_are_fronts<T: Encode + Eq, R: Rules<Output = Vec<u8>>, F: FrontReader<T>>(reader: &F)
     ensures fronts { (depth : ℕ) (vs : List T) (bytes : List ℕ) →
         BelongsTo F.fronts reader.now R.format T.meaning T.eq →
-        All (T.meaning.IsValid R.format.takes) vs →
+        All (T.meaning.IsValid R.format.accepts) vs →
         AreOutputs R.format T.meaning depth vs bytes → AreFronts F.fronts reader.now vs bytes }
 {}
 

@@ -9,7 +9,7 @@ use Rattle.asn1_items.specs.Slices.{left_inside}
 use Rattle.asn1_items.specs.declared.error.ItemError.{ItemError}
 use Rattle.asn1_items.specs.declared.slices.Slices.{Slices}
 use Rattle.asn1_model.specs.Records as model
-use Rattle.asn1_model.specs.Records.{held, mark, marks_alone}
+use Rattle.asn1_model.specs.Records.{held, presence_mark, presence_marks_alone}
 use Rattle.asn1_model.specs.Tags.{Tags, Has, first_tags, record_tags}
 use Rattle.asn1_model.proofs.TagSets.{lies_has}
 use Rattle.asn1_packed.proofs.NextTags.{next_header, none_next}
@@ -18,7 +18,7 @@ use Rattle.asn1_tagform.specs.Next.{AreLeft, IsNext, no_marks}
 use Rattle.asn1_tags.specs.declared.tags.Tag.{Tag}
 
 -- a presence mark has no bytes
-pub mark_passed : (m : model.Mark) (rest : List model.Record) (bytes : List ℕ) → HaveBytes (read_with no_marks) (held (mark m ∷ rest)) bytes → HaveBytes (read_with no_marks) (held rest) bytes
+pub mark_passed : (m : model.PresenceMark) (rest : List model.Record) (bytes : List ℕ) → HaveBytes (read_with no_marks) (held (presence_mark m ∷ rest)) bytes → HaveBytes (read_with no_marks) (held rest) bytes
 mark_passed m rest bytes p = subst (HaveBytes (read_with no_marks) (held rest)) (sym (p.are ∙ ap (λ l. l ++ p.others) p.is_first)) p.are_others
 
 -- so the marks in front are passed over wherever the records are left
@@ -26,8 +26,8 @@ pub passed : (rs : List model.Record) (bytes : List ℕ) → HaveBytes (read_wit
 passed [] bytes p = p
 passed (model.scalar t c n x ∷ rs) bytes p = p
 passed (model.scope h is ∷ rs) bytes p = p
-passed (model.raw n own ∷ rs) bytes p = p
-passed (model.mark m ∷ rs) bytes p = passed rs bytes (mark_passed m rs bytes p)
+passed (model.open_type n own ∷ rs) bytes p = p
+passed (model.presence_mark m ∷ rs) bytes p = passed rs bytes (mark_passed m rs bytes p)
 
 -- the tag of the header of what is next, and none at the end
 pub header_tells : (s : Slices) (t : Tag) (rs : List model.Record) → (left_inside s ≡ [] → ⊥) → ((h : Header) → header_at (left_inside s) ≡ Some h → t ≡ h.tag) → AreLeft rs s → IsNext rs (Some t)
@@ -48,7 +48,7 @@ false_of : (b : Bool) → (IsTrue b → ⊥) → b ≡ false
 false_of true h = absurd (h refl)
 false_of false h = refl
 
-module _ (s : Slices) (there away : model.Mark) (own : Tags) where
+module _ (s : Slices) (there away : model.PresenceMark) (own : Tags) where
   -- an item is next: the component is there if and only if its tag is one of the component's
   pub told : (t : Tag) (b : Bool) → ((rs : List model.Record) → AreLeft rs s → IsNext rs (Some t)) → IsTrue b ↔ Has own t → FindsPresence no_marks there away own s s (Ok b)
   told t b next has = record {

@@ -5,8 +5,8 @@ ghost use Rattle.std.specs.Prelude.{◌≡◌, ℕ, Bool, List, pos, true, false
 ghost use Rattle.asn1_tags.specs.Trees.{leaf};
 ghost use Rattle.asn1_ranges.specs.declared.bounded.Bounded.TheVariants.{Range};
 ghost use Rattle.asn1_model.specs.ConstraintSets.{unconstrained, values_of};
-ghost use Rattle.asn1_model.specs.Meaning.{CanStandInside, own_records};
-ghost use Rattle.asn1_model.specs.Records.{scalar, holding, prefix, alternative as chosen, number, truth};
+ghost use Rattle.asn1_model.specs.Meaning.{IsWellTagged, own_records};
+ghost use Rattle.asn1_model.specs.Records.{scalar, holding, explicit_tag, alternative as chosen, number, truth};
 ghost use Rattle.asn1_model.specs.TaggedTypes.{tagged, untagged};
 ghost use Rattle.asn1_model.specs.Tags.{universal, context};
 ghost use Rattle.asn1_choices.specs.Alternatives.{alternative, closed, extensible, table_of, variance_of};
@@ -26,13 +26,13 @@ use reply::Reply;
 /// A CHOICE cannot be inside others with the same tag twice: in the root, on both sides of the extension marker, or in an
 /// untagged CHOICE and beside it.
 fn same_tag_twice()
-    ensures root { ¬ CanStandInside (choice_of (codes "Twice") (closed (
+    ensures root { ¬ IsWellTagged (choice_of (codes "Twice") (closed (
         alternative (codes "a") (tagged (context 1) ⟦<bool as AsnType>⟧.meaning) ∷
         alternative (codes "b") (tagged (context 1) ⟦<() as AsnType>⟧.meaning) ∷ [])) (λ x. x)) }
-    ensures added { ¬ CanStandInside (choice_of (codes "Twice") (extensible (
+    ensures added { ¬ IsWellTagged (choice_of (codes "Twice") (extensible (
         alternative (codes "a") (untagged ⟦<bool as AsnType>⟧.meaning) ∷ []) (
         alternative (codes "b") (untagged ⟦<bool as AsnType>⟧.meaning) ∷ [])) (λ x. x)) }
-    ensures inside { ¬ CanStandInside (choice_of (codes "Twice") (closed (
+    ensures inside { ¬ IsWellTagged (choice_of (codes "Twice") (closed (
         alternative (codes "inner") (untagged ⟦<Corner as AsnType>⟧.meaning) ∷
         alternative (codes "flag") (untagged ⟦<bool as AsnType>⟧.meaning) ∷ [])) (λ x. x)) }
 {}
@@ -51,7 +51,7 @@ fn nested(inner: Box<Nested>)
     ensures { inner.value ≡ Flag true →
         own_records ⟦<Nested as AsnType>⟧.meaning (Inner inner) ≡
         holding (chosen (context 0) unconstrained (table_of
-        ⟦<Nested as asn1_choices::Choice>⟧.alternatives) (Some (codes "Nested"))) (holding (prefix
+        ⟦<Nested as asn1_choices::Choice>⟧.alternatives) (Some (codes "Nested"))) (holding (explicit_tag
         (context 0) (Some (codes "Nested"))) (holding
         (chosen (universal 1) unconstrained (table_of ⟦<Nested as asn1_choices::Choice>⟧.alternatives) (Some (codes
         "Nested"))) (scalar (universal 1) unconstrained (Some (codes
@@ -82,13 +82,13 @@ fn places()
 
 /// A reply can be inside other types, and each is valid, also one after the extension marker.
 fn replies()
-    ensures can_stand_inside { CanStandInside ⟦<Reply as AsnType>⟧.meaning }
-    ensures accepted { (takes : List ℕ → Bool) (b : Bool) →
-        ⟦<Reply as AsnType>⟧.meaning.IsValid takes (reply.Accepted b) }
-    ensures refused { (takes : List ℕ → Bool) →
-        ⟦<Reply as AsnType>⟧.meaning.IsValid takes reply.Refused }
-    ensures later { (takes : List ℕ → Bool) (n : ℕ) →
-        ⟦<Reply as AsnType>⟧.meaning.IsValid takes (reply.Later n) }
+    ensures is_well_tagged { IsWellTagged ⟦<Reply as AsnType>⟧.meaning }
+    ensures accepted { (accepts : List ℕ → Bool) (b : Bool) →
+        ⟦<Reply as AsnType>⟧.meaning.IsValid accepts (reply.Accepted b) }
+    ensures refused { (accepts : List ℕ → Bool) →
+        ⟦<Reply as AsnType>⟧.meaning.IsValid accepts reply.Refused }
+    ensures later { (accepts : List ℕ → Bool) (n : ℕ) →
+        ⟦<Reply as AsnType>⟧.meaning.IsValid accepts (reply.Later n) }
 {}
 
 /// The number that an alternative holds is within its type.

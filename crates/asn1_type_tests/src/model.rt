@@ -2,10 +2,10 @@
 //!
 //! The clauses of the functions without a body are worked examples: the prover computes the definitions on them.
 ghost use Rattle.std.specs.Prelude.{◌≡◌, ℕ, Bool, true, false, List, [], ◌∷◌, ◌++◌, None, Some, codes};
-ghost use Rattle.asn1_model.specs.Composites.{sequence_records, group_records, option_records, choice_records, prefix_records};
+ghost use Rattle.asn1_model.specs.Composites.{sequence_records, group_records, option_records, choice_records, explicit_tag_records};
 ghost use Rattle.asn1_model.specs.ConstraintSets.{unconstrained, size_of};
 ghost use Rattle.asn1_model.specs.Orders.{Same};
-ghost use Rattle.asn1_model.specs.Records.{Record, scalar, raw, mark, holding, sequence, set as set_head, set_of, prefix, alternative, in_root, present, absent, group_start, group_absent, group_end, null, highest};
+ghost use Rattle.asn1_model.specs.Records.{Record, scalar, open_type, presence_mark, holding, sequence, set as set_head, set_of, explicit_tag, alternative, in_root, present, absent, group_start, group_absent, group_end, null, highest};
 ghost use Rattle.asn1_model.specs.Tables.{no_table};
 ghost use Rattle.asn1_model.specs.Tags.{universal, context, CHOICE, every, among, only, first_tags};
 ghost use Rattle.asn1_model.specs.WellFormed.{AreWellFormed};
@@ -13,7 +13,7 @@ ghost use Rattle.asn1_model.specs.WellFormed.{AreWellFormed};
 /// A group whose components are marks alone is absent.
 fn empty_group()
     ensures { group_records no_table (Some (option_records in_root (context 3) None ++
-        option_records in_root (context 4) None)) ≡ mark group_absent ∷ [] }
+        option_records in_root (context 4) None)) ≡ presence_mark group_absent ∷ [] }
 {}
 
 /// A CHOICE of a NULL, untagged and under Context 1: untagged it has the constraints and the name that it is given, and
@@ -29,7 +29,7 @@ fn choice()
     ensures tagged { choice_records (universal 5) no_table
         (scalar (universal 5) unconstrained None null ∷ []) (size_of 1) (Some (codes "C"))
         (context 1) (size_of 2) (Some (codes "n")) ≡
-        holding (prefix (context 1) (Some (codes "n")))
+        holding (explicit_tag (context 1) (Some (codes "n")))
         (holding (alternative (universal 5) (size_of 1) no_table (Some (codes "C")))
         (scalar (universal 5) unconstrained None null ∷ []) ∷ []) ∷ [] }
 {}
@@ -43,34 +43,38 @@ fn sameness()
         (sequence (universal 16) no_table None) (holding (set_of (universal 17) unconstrained None)
         (s ∷ r ∷ []) ∷ [])) }
     ensures sequence { ¬ Same (holding (sequence (universal 16) no_table None)
-        (raw None [] ∷ mark (group_start no_table) ∷ [])) (holding
-        (sequence (universal 16) no_table None) (mark (group_start no_table) ∷ raw None [] ∷ [])) }
-    ensures contents { ¬ Same (raw None []) (raw None (0 ∷ [])) }
+        (open_type None [] ∷ presence_mark (group_start no_table) ∷ [])) (holding
+        (sequence (universal 16) no_table None) (presence_mark (group_start no_table) ∷ open_type None [] ∷ [])) }
+    ensures contents { ¬ Same (open_type None []) (open_type None (0 ∷ [])) }
 {}
 
 /// Heights: of contents and marks 0, of a scope one more than what is in it, and 1 where nothing does.
 fn heights()
     ensures nothing { highest [] ≡ 0 }
-    ensures flat { highest (mark (group_start no_table) ∷ raw None [] ∷ mark group_end ∷ []) ≡ 0 }
+    ensures flat { highest (presence_mark (group_start no_table) ∷ open_type None [] ∷
+        presence_mark group_end ∷ []) ≡ 0 }
     ensures empty { highest (sequence_records (universal 16) no_table None []) ≡ 1 }
-    ensures inner { highest (mark (present in_root (context 0)) ∷
-        prefix_records (context 0) None (sequence_records (universal 16) no_table None
-        (mark (absent in_root (context 1)) ∷ []))) ≡ 2 }
+    ensures inner { highest (presence_mark (present in_root (context 0)) ∷
+        explicit_tag_records (context 0) None (sequence_records (universal 16) no_table None
+        (presence_mark (absent in_root (context 1)) ∷ []))) ≡ 2 }
 {}
 
 /// First tags: marks are passed over, and a value that is given as its bytes may begin with every tag.
 fn firsts()
-    ensures nothing { first_tags (mark (absent in_root (context 0)) ∷ mark group_absent ∷ []) ≡
+    ensures nothing { first_tags (presence_mark (absent in_root (context 0)) ∷
+        presence_mark group_absent ∷ []) ≡
         among [] }
-    ensures one { first_tags (mark (group_start no_table) ∷ mark (present in_root (context 3)) ∷
-        scalar (context 3) unconstrained None null ∷ raw None [] ∷ []) ≡ only (context 3) }
-    ensures any { first_tags (mark (present in_root CHOICE) ∷ raw None [] ∷ []) ≡ every }
-    ensures scope { first_tags (mark (absent in_root (context 0)) ∷
-        sequence_records (universal 16) no_table None (mark group_absent ∷ [])) ≡ only (universal
+    ensures one { first_tags (presence_mark (group_start no_table) ∷
+        presence_mark (present in_root (context 3)) ∷
+        scalar (context 3) unconstrained None null ∷ open_type None [] ∷ []) ≡ only (context 3) }
+    ensures any { first_tags (presence_mark (present in_root CHOICE) ∷ open_type None [] ∷ []) ≡
+        every }
+    ensures scope { first_tags (presence_mark (absent in_root (context 0)) ∷
+        sequence_records (universal 16) no_table None (presence_mark group_absent ∷ [])) ≡ only (universal
         16) }
-    ensures under_a_tag { first_tags (mark (present in_root (context 0)) ∷
-        prefix_records (context 0) None (sequence_records (universal 16) no_table None
-        (mark group_absent ∷ []))) ≡ only (context 0) }
+    ensures under_a_tag { first_tags (presence_mark (present in_root (context 0)) ∷
+        explicit_tag_records (context 0) None (sequence_records (universal 16) no_table None
+        (presence_mark group_absent ∷ []))) ≡ only (context 0) }
     ensures chosen { first_tags (holding (alternative (context 2) unconstrained no_table None) [] ∷
         []) ≡ only (context 2) }
 {}
@@ -78,15 +82,15 @@ fn firsts()
 /// Well-formed records: an open type holds bytes that the codec takes, and an alternative the first tag of what is inside, also
 /// within other records. Of contents and presence marks nothing is asked.
 fn well_formed_records()
-    ensures contents { (takes : List ℕ → Bool) →
-        AreWellFormed takes (scalar (context 0) unconstrained None null ∷ mark group_absent ∷ []) }
-    ensures taken { AreWellFormed (λ bytes. true) (raw None (0 ∷ []) ∷ []) }
+    ensures contents { (accepts : List ℕ → Bool) →
+        AreWellFormed accepts (scalar (context 0) unconstrained None null ∷ presence_mark group_absent ∷ []) }
+    ensures taken { AreWellFormed (λ bytes. true) (open_type None (0 ∷ []) ∷ []) }
     ensures not_taken { ¬ AreWellFormed (λ bytes. false)
-        (prefix_records (context 0) None (raw None (0 ∷ []) ∷ [])) }
-    ensures chosen { (takes : List ℕ → Bool) →
-        AreWellFormed takes (holding (alternative (context 2) unconstrained no_table None)
+        (explicit_tag_records (context 0) None (open_type None (0 ∷ []) ∷ [])) }
+    ensures chosen { (accepts : List ℕ → Bool) →
+        AreWellFormed accepts (holding (alternative (context 2) unconstrained no_table None)
         (scalar (context 2) unconstrained None null ∷ []) ∷ []) }
-    ensures another { (takes : List ℕ → Bool) →
-        ¬ AreWellFormed takes (holding (alternative (context 1) unconstrained no_table None)
+    ensures another { (accepts : List ℕ → Bool) →
+        ¬ AreWellFormed accepts (holding (alternative (context 1) unconstrained no_table None)
         (scalar (context 2) unconstrained None null ∷ []) ∷ []) }
 {}

@@ -6,7 +6,7 @@ ghost use Rattle.std.specs.String.{string_bytes};
 ghost use Rattle.asn1_tags.specs.declared.tags.Tag.{Tag};
 ghost use Rattle.asn1_model.specs.ConstraintSets.{unconstrained};
 ghost use Rattle.asn1_model.specs.Meaning.{own_records, tags};
-ghost use Rattle.asn1_model.specs.Records.{scalar, raw, holding, sequence, sequence_of, set_of, prefix, truth as truth_of, arcs, units, utf8};
+ghost use Rattle.asn1_model.specs.Records.{scalar, open_type, holding, sequence, sequence_of, set_of, explicit_tag, truth as truth_of, arcs, units, utf8};
 ghost use Rattle.asn1_model.specs.Tags.{universal, context, CHOICE, every};
 ghost use Rattle.asn1_components.specs.Components.{lines};
 ghost use Rattle.asn1_types.specs.Multisets.{same_counts};
@@ -47,10 +47,10 @@ fn sequence_of_truths(list: &SequenceOf<bool>, vector: &Vec<bool>)
 /// An open type is its bytes under whatever tag, and can begin with every tag.
 fn open_type(null: &Any)
     ensures own { null.now ≡ 5 ∷ 0 ∷ [] →
-        own_records ⟦<Any as AsnType>⟧.meaning null.now ≡ raw None (5 ∷ 0 ∷ []) ∷ [] }
+        own_records ⟦<Any as AsnType>⟧.meaning null.now ≡ open_type None (5 ∷ 0 ∷ []) ∷ [] }
     ensures named { null.now ≡ 5 ∷ 0 ∷ [] →
         ⟦<Any as AsnType>⟧.meaning.records null.now (context 3) unconstrained (Some (codes "n")) ≡
-        raw (Some (codes "n")) (5 ∷ 0 ∷ []) ∷ [] }
+        open_type (Some (codes "n")) (5 ∷ 0 ∷ []) ∷ [] }
     ensures begins { (t : Tag) → tags ⟦<Any as AsnType>⟧.meaning t ≡ every }
 {}
 
@@ -70,11 +70,11 @@ fn implicit_text(text: &Implicit<tag::UNIVERSAL_STRING, String>)
 fn explicit_truth(truth: &Explicit<tag::SET, bool>)
     ensures own { truth.now.value ≡ true →
         own_records ⟦<Explicit<tag::SET, bool> as AsnType>⟧.meaning truth.now ≡
-        holding (prefix (universal 17) None) (scalar (universal 1) unconstrained
+        holding (explicit_tag (universal 17) None) (scalar (universal 1) unconstrained
         (Some (codes "BOOLEAN")) (truth_of true) ∷ []) ∷ [] }
     ensures named { truth.now.value ≡ true →
         ⟦<Explicit<tag::SET, bool> as AsnType>⟧.meaning.records truth.now (context 3) unconstrained
-        (Some (codes "n")) ≡ holding (prefix (context 3) (Some (codes "n")))
+        (Some (codes "n")) ≡ holding (explicit_tag (context 3) (Some (codes "n")))
         (scalar (universal 1) unconstrained (Some (codes "BOOLEAN")) (truth_of true) ∷ []) ∷ [] }
 {}
 
@@ -84,18 +84,21 @@ fn instance_of_truth(instance: &InstanceOf<bool>)
         own_records ⟦<InstanceOf<bool> as AsnType>⟧.meaning instance.now ≡
         holding (sequence (universal 8) (lines ⟦<InstanceOf<bool> as asn1_components::FieldTable>⟧.components) (Some (codes
         "SEQUENCE"))) (scalar (universal 6) unconstrained (Some (codes
-        "OBJECT_IDENTIFIER")) (arcs (1 ∷ 2 ∷ [])) ∷ holding (prefix (context 0) (Some
+        "OBJECT_IDENTIFIER")) (arcs (1 ∷ 2 ∷ [])) ∷ holding (explicit_tag (context 0) (Some
         (codes "SEQUENCE"))) (scalar (universal 1) unconstrained (Some (codes "BOOLEAN")) (truth_of
         true) ∷ []) ∷ []) ∷ [] }
 {}
 
 /// Which tags a wrapper may have: none that means no tag, and an implicit one no open type.
 fn wrappers_under_tags()
-    ensures tagged { ⟦<Implicit<tag::SET, bool> as AsnType>⟧.meaning.IsWellTagged (context 1) }
-    ensures untagged { ⟦<Implicit<tag::SET, bool> as AsnType>⟧.meaning.IsWellTagged CHOICE → ⊥ }
-    ensures open { (t : Tag) → ⟦<Implicit<tag::SET, Any> as AsnType>⟧.meaning.IsWellTagged t → ⊥ }
-    ensures explicit_open { ⟦<Explicit<tag::SET, Any> as AsnType>⟧.meaning.IsWellTagged (context 1) }
-    ensures explicit_untagged { ⟦<Explicit<tag::SET, bool> as AsnType>⟧.meaning.IsWellTagged CHOICE
+    ensures tagged { ⟦<Implicit<tag::SET, bool> as AsnType>⟧.meaning.HasDistinctTags (context 1) }
+    ensures untagged { ⟦<Implicit<tag::SET, bool> as AsnType>⟧.meaning.HasDistinctTags CHOICE → ⊥ }
+    ensures open { (t : Tag) → ⟦<Implicit<tag::SET, Any> as AsnType>⟧.meaning.HasDistinctTags t →
+        ⊥ }
+    ensures explicit_open { ⟦<Explicit<tag::SET, Any> as AsnType>⟧.meaning.HasDistinctTags
+        (context 1) }
+    ensures explicit_untagged { ⟦<Explicit<tag::SET, bool> as AsnType>⟧.meaning.HasDistinctTags
+        CHOICE
         → ⊥ }
 {}
 

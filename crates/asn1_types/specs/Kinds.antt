@@ -4,10 +4,10 @@ use Rattle.std.proofs.Common.{subst}
 use Rattle.asn1_tags.specs.declared.tags.Tag.{Tag}
 use Rattle.asn1_tags.specs.Trees.{leaf, choice, none}
 use Rattle.asn1_model.specs.ConstraintSets.{unconstrained}
-use Rattle.asn1_model.specs.Composites.{raw_records}
-use Rattle.asn1_model.specs.Records.{prefix, raw, set_of}
+use Rattle.asn1_model.specs.Composites.{open_type_records}
+use Rattle.asn1_model.specs.Records.{explicit_tag, open_type, set_of}
 use Rattle.asn1_model.specs.Kinds.{elements_type, object_identifier, scope_type}
-use Rattle.asn1_model.specs.Meaning.{Meaning, tags, own_records, CanStandInside}
+use Rattle.asn1_model.specs.Meaning.{Meaning, tags, own_records, IsWellTagged}
 use Rattle.asn1_model.specs.TaggedTypes.{explicitly_tagged_as, untagged}
 use Rattle.asn1_model.specs.Tags.{universal, context, CHOICE, IsATag, LiesIn, first_tags, only}
 use Rattle.asn1_components.specs.ComponentTypes.{required}
@@ -27,13 +27,13 @@ any_type bytes = record {
   tree = λ _. choice none;
   is_choice = false;
   is_present = λ _. true;
-  records = λ v t c n. raw_records n (bytes v);
+  records = λ v t c n. open_type_records n (bytes v);
   IsSingleRecord = ⊤;
-  IsWellTagged = λ _. ⊤;
+  HasDistinctTags = λ _. ⊤;
   IsOfType = λ _. ⊤;
-  IsValid = λ takes v. IsTrue (takes (bytes v));
-  one_record = λ v t c n _ _. record { item = raw n (bytes v); alone = refl; no_mark = refl; within = tt };
-  well_formed = λ takes v t c n valid. (valid, tt);
+  IsValid = λ accepts v. IsTrue (accepts (bytes v));
+  one_record = λ v t c n _ _. record { item = open_type n (bytes v); alone = refl; no_mark = refl; within = tt };
+  well_formed = λ accepts v t c n valid. (valid, tt);
 }
 
 -- A type under another tag, which replaces its own (X.680, 31). The tag is not the CHOICE marker tag, and a value
@@ -48,10 +48,10 @@ implicit_type tag content m = record {
   is_present = λ _. true;
   records = λ w t c n. m.records (content w) t c n;
   IsSingleRecord = m.IsSingleRecord;
-  IsWellTagged = λ t. IsATag t × m.IsWellTagged t × (tags m t ≡ only t);
+  HasDistinctTags = λ t. IsATag t × m.HasDistinctTags t × (tags m t ≡ only t);
   IsOfType = λ w. m.IsOfType (content w);
-  IsValid = λ takes w. m.IsValid takes (content w);
-  well_formed = λ takes w. m.well_formed takes (content w);
+  IsValid = λ accepts w. m.IsValid accepts (content w);
+  well_formed = λ accepts w. m.well_formed accepts (content w);
   one_record = λ w t c n single well.
       let one = m.one_record (content w) t c n single well.1 in
       record {
@@ -65,12 +65,12 @@ implicit_type tag content m = record {
 -- A type after another tag, which comes before its own (X.680, 31). The tag is not the CHOICE marker tag.
 abbrev pub explicit_type : {V W : Type 0} → Tag → (W → V) → Meaning V → Meaning W
 explicit_type tag content m =
-    scope_type (λ t c n. prefix t n) (λ _ _ _. refl) tag unconstrained None (record {
+    scope_type (λ t c n. explicit_tag t n) (λ _ _ _. refl) tag unconstrained None (record {
       records = λ w. own_records m (content w);
-      CanStandInside = CanStandInside m;
+      IsWellTagged = IsWellTagged m;
       AreOfType = λ w. m.IsOfType (content w);
-      AreValid = λ takes w. m.IsValid takes (content w);
-      well_formed = λ takes w. m.well_formed takes (content w) m.tag m.constraints m.name;
+      AreValid = λ accepts w. m.IsValid accepts (content w);
+      well_formed = λ accepts w. m.well_formed accepts (content w) m.tag m.constraints m.name;
     })
 
 -- The components of an INSTANCE OF (X.681, annex C): the name of a type, and a value of the type after the explicit tag

@@ -79,13 +79,14 @@ pub fn arrays_are_their_elements<T: AsnType + PartialEq + Clone, const N: usize>
         own_records ⟦<Array<T, N> as AsnType>⟧.meaning array ≡ own_records ⟦<[T; N] as AsnType>⟧.meaning array.elements }
     ensures of_type { (array : Array T N) →
         ⟦<Array<T, N> as AsnType>⟧.meaning.IsOfType array ↔ ⟦<[T; N] as AsnType>⟧.meaning.IsOfType array.elements }
-    ensures valid { (takes : List ℕ → Bool) (array : Array T N) →
-        ⟦<Array<T, N> as AsnType>⟧.meaning.IsValid takes array ↔ ⟦<[T; N] as AsnType>⟧.meaning.IsValid takes array.elements }
+    ensures valid { (accepts : List ℕ → Bool) (array : Array T N) →
+        ⟦<Array<T, N> as AsnType>⟧.meaning.IsValid accepts array ↔ ⟦<[T; N] as AsnType>⟧.meaning.IsValid accepts array.elements }
     ensures made { (array : Array T N) →
         ⟦<Array<T, N> as From<[T; N]>>⟧.from_gives _elements array → array.elements ≡ _elements }
     ensures equal { (a b : Array T N) → ⟦<Array<T, N> as PartialEq>⟧.eq a b ≡
         pointwise T.eq a.elements b.elements }
-    ensures clone { ((x y : T) → T.is_clone x y → y ≡ x) → (a b : Array T N) → length a.elements ≡ N → length b.elements ≡ N →
+    ensures clone { ((x y : T) → T.is_clone x y → y ≡ x) → (a b : Array T N) →
+        length a.elements ≡ N → length b.elements ≡ N →
         ⟦<Array<T, N> as Clone>⟧.is_clone a b → b ≡ a }
 {}
 

@@ -150,7 +150,7 @@ impl Decode for Integer {
 
 impl<L: Limits> Decode for LimitedInteger<L> {
     // A number outside the limits.
-    ghost refusals = { λ takes. IsOutside L.start L.end };
+    ghost refusals = { λ accepts. IsOutside L.start L.end };
 
     /// Reads a value under a tag and constraints. A number that is outside the limits is read, and the error is
     /// [`DecodeError::OutOfRange`].

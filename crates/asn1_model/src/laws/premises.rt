@@ -5,7 +5,7 @@ ghost use Rattle.std.specs.Cow.{cow_value};
 ghost use Rattle.asn1_tags.specs.declared.tags.Tag.{Tag};
 ghost use Rattle.asn1_ranges.specs.Members.{IsMember};
 ghost use Rattle.asn1_ranges.specs.declared.bounded.Bounded.TheVariants.{Range};
-ghost use Rattle.asn1_model.specs.Meaning.{CanStandInside, CanStandInsideUnder};
+ghost use Rattle.asn1_model.specs.Meaning.{IsWellTagged, IsWellTaggedUnder};
 ghost use Rattle.asn1_model.specs.Premises.{EachIsValid, HasOneTag, IsPlain, IsTaggedAs};
 ghost use Rattle.asn1_model.specs.Tags.{IsATag};
 
@@ -49,8 +49,8 @@ pub fn types_that_hold_no_others_are_plain<
     ensures alphabet { IsPlain ⟦<AlphabetString<U, A> as AsnType>⟧.meaning }
     ensures identifier { IsPlain ⟦<ObjectIdentifier as AsnType>⟧.meaning }
     ensures marker { IsPlain ⟦<Marker<NUMBER> as AsnType>⟧.meaning }
-    ensures limited { (takes : List ℕ → Bool) (n : ℤ) →
-        ⟦<LimitedInteger<L> as AsnType>⟧.meaning.IsValid takes n ↔
+    ensures limited { (accepts : List ℕ → Bool) (n : ℤ) →
+        ⟦<LimitedInteger<L> as AsnType>⟧.meaning.IsValid accepts n ↔
         IsMember (λ z. z) (Range (Some L.start) (Some L.end)) n }
     ensures limited_tag { HasOneTag ⟦<LimitedInteger<L> as AsnType>⟧.meaning }
     ensures phantom { EachIsValid ⟦<PhantomData<T> as AsnType>⟧.meaning }
@@ -64,36 +64,36 @@ pub fn holders_are_valid_as_their_contents<'a, T: AsnType + 'a, const N: usize>(
     _boxed: &Box<T>,
     _cow: &Cow<'a, T>,
 )
-    ensures vec { (takes : List ℕ → Bool) →
-        ⟦<Vec<T> as AsnType>⟧.meaning.IsValid takes _vec.now ↔ All (T.meaning.IsValid takes) _vec.now.items }
-    ensures slice { (takes : List ℕ → Bool) →
-        ⟦<&'a [T] as AsnType>⟧.meaning.IsValid takes _slice.entry ↔ All (T.meaning.IsValid takes) _slice.entry.now }
-    ensures array { (takes : List ℕ → Bool) (elements : List T) →
-        ⟦<[T; N] as AsnType>⟧.meaning.IsValid takes elements ↔ All (T.meaning.IsValid takes) elements }
-    ensures option { (takes : List ℕ → Bool) (o : Option T) →
-        ⟦<Option<T> as AsnType>⟧.meaning.IsValid takes o ↔ IfSome o (T.meaning.IsValid takes) }
-    ensures reference { (takes : List ℕ → Bool) →
-        ⟦<&'a T as AsnType>⟧.meaning.IsValid takes _reference.entry ↔ T.meaning.IsValid takes _reference.entry.now }
-    ensures boxed { (takes : List ℕ → Bool) →
-        ⟦<Box<T> as AsnType>⟧.meaning.IsValid takes _boxed.now ↔ T.meaning.IsValid takes _boxed.now.value }
-    ensures cow { (takes : List ℕ → Bool) →
-        ⟦<Cow<'a, T> as AsnType>⟧.meaning.IsValid takes _cow.now ↔ T.meaning.IsValid takes (cow_value _cow.now) }
+    ensures vec { (accepts : List ℕ → Bool) →
+        ⟦<Vec<T> as AsnType>⟧.meaning.IsValid accepts _vec.now ↔ All (T.meaning.IsValid accepts) _vec.now.items }
+    ensures slice { (accepts : List ℕ → Bool) →
+        ⟦<&'a [T] as AsnType>⟧.meaning.IsValid accepts _slice.entry ↔ All (T.meaning.IsValid accepts) _slice.entry.now }
+    ensures array { (accepts : List ℕ → Bool) (elements : List T) →
+        ⟦<[T; N] as AsnType>⟧.meaning.IsValid accepts elements ↔ All (T.meaning.IsValid accepts) elements }
+    ensures option { (accepts : List ℕ → Bool) (o : Option T) →
+        ⟦<Option<T> as AsnType>⟧.meaning.IsValid accepts o ↔ IfSome o (T.meaning.IsValid accepts) }
+    ensures reference { (accepts : List ℕ → Bool) →
+        ⟦<&'a T as AsnType>⟧.meaning.IsValid accepts _reference.entry ↔ T.meaning.IsValid accepts _reference.entry.now }
+    ensures boxed { (accepts : List ℕ → Bool) →
+        ⟦<Box<T> as AsnType>⟧.meaning.IsValid accepts _boxed.now ↔ T.meaning.IsValid accepts _boxed.now.value }
+    ensures cow { (accepts : List ℕ → Bool) →
+        ⟦<Cow<'a, T> as AsnType>⟧.meaning.IsValid accepts _cow.now ↔ T.meaning.IsValid accepts (cow_value _cow.now) }
 {}
 
 /// A law of tags: a list can be inside another type where its elements' type can be there; what holds one value can be where
 /// that value's type can; and an option or a type without any content by itself cannot be inside another type.
 pub fn holders_are_tagged_as_their_contents<'a, T: AsnType + 'a, const N: usize>()
-    ensures vec { (t : Tag) → CanStandInsideUnder ⟦<Vec<T> as AsnType>⟧.meaning t ↔
-        (IsATag t × CanStandInside T.meaning) }
-    ensures slice { (t : Tag) → CanStandInsideUnder ⟦<&'a [T] as AsnType>⟧.meaning t ↔
-        (IsATag t × CanStandInside T.meaning) }
-    ensures array { (t : Tag) → CanStandInsideUnder ⟦<[T; N] as AsnType>⟧.meaning t ↔
-        (IsATag t × CanStandInside T.meaning) }
+    ensures vec { (t : Tag) → IsWellTaggedUnder ⟦<Vec<T> as AsnType>⟧.meaning t ↔
+        (IsATag t × IsWellTagged T.meaning) }
+    ensures slice { (t : Tag) → IsWellTaggedUnder ⟦<&'a [T] as AsnType>⟧.meaning t ↔
+        (IsATag t × IsWellTagged T.meaning) }
+    ensures array { (t : Tag) → IsWellTaggedUnder ⟦<[T; N] as AsnType>⟧.meaning t ↔
+        (IsATag t × IsWellTagged T.meaning) }
     ensures reference { IsTaggedAs ⟦<&'a T as AsnType>⟧.meaning T.meaning }
     ensures boxed { IsTaggedAs ⟦<Box<T> as AsnType>⟧.meaning T.meaning }
     ensures cow { IsTaggedAs ⟦<Cow<'a, T> as AsnType>⟧.meaning T.meaning }
-    ensures option { (t : Tag) → ¬ CanStandInsideUnder ⟦<Option<T> as AsnType>⟧.meaning t }
+    ensures option { (t : Tag) → ¬ IsWellTaggedUnder ⟦<Option<T> as AsnType>⟧.meaning t }
     ensures content_of_option { (t : Tag) →
-        ⟦<Option<T> as AsnType>⟧.meaning.IsWellTagged t ↔ CanStandInsideUnder T.meaning t }
-    ensures phantom { (t : Tag) → ¬ CanStandInsideUnder ⟦<PhantomData<T> as AsnType>⟧.meaning t }
+        ⟦<Option<T> as AsnType>⟧.meaning.HasDistinctTags t ↔ IsWellTaggedUnder T.meaning t }
+    ensures phantom { (t : Tag) → ¬ IsWellTaggedUnder ⟦<PhantomData<T> as AsnType>⟧.meaning t }
 {}

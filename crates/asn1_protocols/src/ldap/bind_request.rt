@@ -1,7 +1,7 @@
 //! `BindRequest ::= [APPLICATION 0] SEQUENCE { version INTEGER (1..127), name LDAPDN, simple [0] OCTET STRING }` (RFC 4511, 4.2),
 //! of whose kinds of authentication only one is here.
 ghost use Rattle.std.specs.Prelude.{Some, [], codes, pos, ◌∷◌, ◌≡◌};
-ghost use Rattle.asn1_schema.specs.Words.{CanStandInside, Range, application, constructed_agrees, constructed_type_under, context, holding, lines, number, octet, own_records, required, scalar, sequence, sequence_head, tagged, unconstrained, units, universal, untagged, values_of};
+ghost use Rattle.asn1_schema.specs.Words.{IsWellTagged, Range, application, constructed_agrees, constructed_type_under, context, holding, lines, number, octet, own_records, required, scalar, sequence, sequence_head, tagged, unconstrained, units, universal, untagged, values_of};
 
 use asn1_schema::{
     AsnType, Class, ConstrainedInteger, Constraints, ConstructedType, Encode, EncodeError,
@@ -77,8 +77,8 @@ impl ConstructedType for BindRequest {
 }
 
 /// A `BindRequest` can be inside other types.
-pub fn bind_request_can_stand_inside()
-    ensures { CanStandInside ⟦<BindRequest as AsnType>⟧.meaning }
+pub fn bind_request_is_well_tagged()
+    ensures { IsWellTagged ⟦<BindRequest as AsnType>⟧.meaning }
 {}
 
 impl Encode for BindRequest {

@@ -1,6 +1,6 @@
 //! `LDAPMessage ::= SEQUENCE { messageID INTEGER (0..2147483647), protocolOp ProtocolOp }` (RFC 4511, 4.1.1), without controls.
 ghost use Rattle.std.specs.Prelude.{[], codes, ◌∷◌};
-ghost use Rattle.asn1_schema.specs.Words.{CanStandInside, constructed_agrees, constructed_type, required, sequence, untagged};
+ghost use Rattle.asn1_schema.specs.Words.{IsWellTagged, constructed_agrees, constructed_type, required, sequence, untagged};
 
 use crate::ldap::ProtocolOp;
 use asn1_schema::{
@@ -61,8 +61,8 @@ impl ConstructedType for LdapMessage {
 }
 
 /// An `LdapMessage` can be inside other types.
-pub fn ldap_message_can_stand_inside()
-    ensures { CanStandInside ⟦<LdapMessage as AsnType>⟧.meaning }
+pub fn ldap_message_is_well_tagged()
+    ensures { IsWellTagged ⟦<LdapMessage as AsnType>⟧.meaning }
 {}
 
 impl Encode for LdapMessage {

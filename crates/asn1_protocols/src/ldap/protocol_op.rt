@@ -8,7 +8,7 @@
 //! }
 //! ```
 ghost use Rattle.std.specs.Prelude.{[], codes, ◌∷◌};
-ghost use Rattle.asn1_schema.specs.Words.{CanStandInside, alternative, application, choice_agrees, choice_of, closed_choice, inl, inr, tagged, untagged};
+ghost use Rattle.asn1_schema.specs.Words.{IsWellTagged, alternative, application, choice_agrees, choice_of, closed_choice, inl, inr, tagged, untagged};
 ghost use Rattle.asn1_protocols.specs.declared.ldap.protocol_op.ProtocolOp.TheVariants.{Bind, Unbind, Delete};
 
 use crate::ldap::BindRequest;
@@ -84,8 +84,8 @@ impl ChoiceType for ProtocolOp {
 }
 
 /// A `ProtocolOp` can be inside other types: the tags of its alternatives are distinct.
-pub fn protocol_op_can_stand_inside()
-    ensures { CanStandInside ⟦<ProtocolOp as AsnType>⟧.meaning }
+pub fn protocol_op_is_well_tagged()
+    ensures { IsWellTagged ⟦<ProtocolOp as AsnType>⟧.meaning }
 {}
 
 impl Encode for ProtocolOp {

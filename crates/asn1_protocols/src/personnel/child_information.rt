@@ -1,6 +1,6 @@
 //! `ChildInformation ::= SET { name Name, dateOfBirth [0] Date }`
 ghost use Rattle.std.specs.Prelude.{[], codes, ◌∷◌};
-ghost use Rattle.asn1_schema.specs.Words.{CanStandInside, constructed_agrees, constructed_type, context, explicitly_tagged, required, set, untagged};
+ghost use Rattle.asn1_schema.specs.Words.{IsWellTagged, constructed_agrees, constructed_type, context, explicitly_tagged, required, set, untagged};
 
 use crate::personnel::{Date, Name};
 use asn1_schema::{
@@ -63,8 +63,8 @@ impl ConstructedType for ChildInformation {
 }
 
 /// A `ChildInformation` can be inside other types: no two of its components share a tag.
-pub fn child_information_can_stand_inside()
-    ensures { CanStandInside ⟦<ChildInformation as AsnType>⟧.meaning }
+pub fn child_information_is_well_tagged()
+    ensures { IsWellTagged ⟦<ChildInformation as AsnType>⟧.meaning }
 {}
 
 impl Encode for ChildInformation {

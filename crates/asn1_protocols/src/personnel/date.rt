@@ -1,6 +1,6 @@
 //! `Date ::= [APPLICATION 3] IMPLICIT VisibleString -- YYYYMMDD`
 ghost use Rattle.std.specs.Prelude.{◌≡◌, [], ◌∷◌, All, IsTrue, Some, codes};
-ghost use Rattle.asn1_schema.specs.Words.{CanStandInside, application, own_records, scalar, unconstrained, units, visible};
+ghost use Rattle.asn1_schema.specs.Words.{IsWellTagged, application, own_records, scalar, unconstrained, units, visible};
 ghost use Rattle.asn1_schema.specs.model.Kinds.{scalar_type, under_own_name};
 ghost use Rattle.asn1_schema.specs.strings.Alphabets.{is_visible};
 
@@ -33,8 +33,8 @@ impl AsnType for Date {
 }
 
 /// A `Date` can be inside other types.
-pub fn date_can_stand_inside()
-    ensures { CanStandInside ⟦<Date as AsnType>⟧.meaning }
+pub fn date_is_well_tagged()
+    ensures { IsWellTagged ⟦<Date as AsnType>⟧.meaning }
 {}
 
 impl Encode for Date {

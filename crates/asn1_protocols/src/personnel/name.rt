@@ -1,6 +1,6 @@
 //! `Name ::= [APPLICATION 1] IMPLICIT SEQUENCE { givenName VisibleString, initial VisibleString, familyName VisibleString }`
 ghost use Rattle.std.specs.Prelude.{[], codes, ◌∷◌};
-ghost use Rattle.asn1_schema.specs.Words.{CanStandInside, application, constructed_agrees, constructed_type_under, required, sequence, untagged};
+ghost use Rattle.asn1_schema.specs.Words.{IsWellTagged, application, constructed_agrees, constructed_type_under, required, sequence, untagged};
 
 use asn1_schema::{
     AsnType, Class, Constraints, ConstructedType, Encode, EncodeError, EncodeFields, Encoder,
@@ -68,8 +68,8 @@ impl ConstructedType for Name {
 }
 
 /// A `Name` can be inside other types.
-pub fn name_can_stand_inside()
-    ensures { CanStandInside ⟦<Name as AsnType>⟧.meaning }
+pub fn name_is_well_tagged()
+    ensures { IsWellTagged ⟦<Name as AsnType>⟧.meaning }
 {}
 
 impl Encode for Name {

@@ -13,7 +13,7 @@
 //! ```
 ghost use Rattle.std.specs.Cmp.Lexicographic.{pointwise};
 ghost use Rattle.std.specs.Prelude.{Some, [], codes, ◌++◌, ◌∷◌, ◌≡◌};
-ghost use Rattle.asn1_schema.specs.Words.{CanStandInside, absent, application, constructed_agrees, constructed_type_under, context, explicitly_tagged, holding, in_root, lines, mark, number, own_records, prefix, required, scalar, set, set_head, tagged, unconstrained, units, universal, untagged, visible, with_default};
+ghost use Rattle.asn1_schema.specs.Words.{IsWellTagged, absent, application, constructed_agrees, constructed_type_under, context, explicitly_tagged, holding, in_root, lines, presence_mark, number, own_records, explicit_tag, required, scalar, set, set_head, tagged, unconstrained, units, universal, untagged, visible, with_default};
 
 use crate::personnel::{ChildInformation, Date, Name};
 use asn1_schema::{
@@ -124,8 +124,8 @@ impl ConstructedType for PersonnelRecord {
 }
 
 /// A `PersonnelRecord` can be inside other types: no two of its components share a tag.
-pub fn personnel_record_can_stand_inside()
-    ensures { CanStandInside ⟦<PersonnelRecord as AsnType>⟧.meaning }
+pub fn personnel_record_is_well_tagged()
+    ensures { IsWellTagged ⟦<PersonnelRecord as AsnType>⟧.meaning }
 {}
 
 impl Encode for PersonnelRecord {
@@ -174,12 +174,12 @@ pub fn no_children_are_absent(person: &PersonnelRecord)
         holding (set_head (application 0) (lines ⟦<PersonnelRecord as FieldTable>⟧.components)
         (Some (codes "PersonnelRecord")))
         (own_records ⟦<Name as AsnType>⟧.meaning person.now.name ++
-        (holding (prefix (context 0) (Some (codes "VisibleString"))) (scalar (universal 26)
+        (holding (explicit_tag (context 0) (Some (codes "VisibleString"))) (scalar (universal 26)
         unconstrained (Some (codes "VisibleString")) (units visible person.now.title) ∷ []) ∷
         scalar (application 2) unconstrained (Some (codes "INTEGER"))
-        (number person.now.number) ∷ holding (prefix (context 1) (Some (codes "Date")))
+        (number person.now.number) ∷ holding (explicit_tag (context 1) (Some (codes "Date")))
         (own_records ⟦<Date as AsnType>⟧.meaning person.now.date_of_hire) ∷
-        holding (prefix (context 2) (Some (codes "Name")))
+        holding (explicit_tag (context 2) (Some (codes "Name")))
         (own_records ⟦<Name as AsnType>⟧.meaning person.now.name_of_spouse) ∷
-        mark (absent in_root (context 3)) ∷ [])) ∷ [] }
+        presence_mark (absent in_root (context 3)) ∷ [])) ∷ [] }
 {}

@@ -1,6 +1,6 @@
 //! `AlgorithmIdentifier ::= SEQUENCE { algorithm OBJECT IDENTIFIER, parameters ANY DEFINED BY algorithm OPTIONAL }`
 ghost use Rattle.std.specs.Prelude.{Bool, IfSome, IsTrue, List, [], codes, ℕ, ◌↔◌, ◌∷◌};
-ghost use Rattle.asn1_schema.specs.Words.{CanStandInside, constructed_agrees, constructed_type, optional, required, sequence, untagged};
+ghost use Rattle.asn1_schema.specs.Words.{IsWellTagged, constructed_agrees, constructed_type, optional, required, sequence, untagged};
 
 use asn1_schema::{
     Any, AsnType, Constraints, ConstructedType, Encode, EncodeError, EncodeFields, Encoder, Field,
@@ -57,8 +57,8 @@ impl ConstructedType for AlgorithmIdentifier {
 }
 
 /// An `AlgorithmIdentifier` can be inside other types: nothing follows the open type.
-pub fn algorithm_identifier_can_stand_inside()
-    ensures { CanStandInside ⟦<AlgorithmIdentifier as AsnType>⟧.meaning }
+pub fn algorithm_identifier_is_well_tagged()
+    ensures { IsWellTagged ⟦<AlgorithmIdentifier as AsnType>⟧.meaning }
 {}
 
 impl Encode for AlgorithmIdentifier {
@@ -85,7 +85,7 @@ impl EncodeFields for AlgorithmIdentifier {
 
 /// An `AlgorithmIdentifier` is valid if and only if the codec takes its parameters as one value, where there are any.
 pub fn algorithm_identifier_is_valid(algorithm: &AlgorithmIdentifier)
-    ensures { (takes : List ℕ → Bool) →
-        ⟦<AlgorithmIdentifier as AsnType>⟧.meaning.IsValid takes algorithm.now ↔
-        IfSome algorithm.now.parameters (λ parameters. IsTrue (takes parameters)) }
+    ensures { (accepts : List ℕ → Bool) →
+        ⟦<AlgorithmIdentifier as AsnType>⟧.meaning.IsValid accepts algorithm.now ↔
+        IfSome algorithm.now.parameters (λ parameters. IsTrue (accepts parameters)) }
 {}

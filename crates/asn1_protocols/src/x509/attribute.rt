@@ -1,6 +1,6 @@
 //! `AttributeTypeAndValue ::= SEQUENCE { type OBJECT IDENTIFIER, value ANY DEFINED BY type }`
 ghost use Rattle.std.specs.Prelude.{[], codes, ◌∷◌};
-ghost use Rattle.asn1_schema.specs.Words.{CanStandInside, constructed_agrees, constructed_type, required, sequence, untagged};
+ghost use Rattle.asn1_schema.specs.Words.{IsWellTagged, constructed_agrees, constructed_type, required, sequence, untagged};
 
 use asn1_schema::{
     Any, AsnType, Constraints, ConstructedType, Encode, EncodeError, EncodeFields, Encoder, Field,
@@ -57,8 +57,8 @@ impl ConstructedType for AttributeTypeAndValue {
 }
 
 /// An `AttributeTypeAndValue` can be inside other types.
-pub fn attribute_can_stand_inside()
-    ensures { CanStandInside ⟦<AttributeTypeAndValue as AsnType>⟧.meaning }
+pub fn attribute_is_well_tagged()
+    ensures { IsWellTagged ⟦<AttributeTypeAndValue as AsnType>⟧.meaning }
 {}
 
 impl Encode for AttributeTypeAndValue {

@@ -1,6 +1,6 @@
 //! `Name ::= CHOICE { rdnSequence RDNSequence }`
 ghost use Rattle.std.specs.Prelude.{[], codes, ◌∷◌};
-ghost use Rattle.asn1_schema.specs.Words.{CanStandInside, alternative, choice_agrees, choice_of, closed_choice, inl, untagged};
+ghost use Rattle.asn1_schema.specs.Words.{IsWellTagged, alternative, choice_agrees, choice_of, closed_choice, inl, untagged};
 ghost use Rattle.asn1_protocols.specs.declared.x509.name.Name.TheVariants.{Rdns};
 
 use crate::x509::AttributeTypeAndValue;
@@ -61,8 +61,8 @@ impl ChoiceType for Name {
 }
 
 /// A `Name` can be inside other types.
-pub fn name_can_stand_inside()
-    ensures { CanStandInside ⟦<Name as AsnType>⟧.meaning }
+pub fn name_is_well_tagged()
+    ensures { IsWellTagged ⟦<Name as AsnType>⟧.meaning }
 {}
 
 impl Encode for Name {

@@ -10,7 +10,7 @@
 //! Version ::= INTEGER { v1(0), v2(1), v3(2) }
 //! ```
 ghost use Rattle.std.specs.Prelude.{Some, [], codes, pos, ◌++◌, ◌∷◌, ◌≡◌};
-ghost use Rattle.asn1_schema.specs.Words.{CanStandInside, absent, constructed_agrees, constructed_type, context, explicitly_tagged, holding, in_root, lines, mark, number, own_records, required, scalar, sequence, sequence_head, unconstrained, universal, untagged, with_default};
+ghost use Rattle.asn1_schema.specs.Words.{IsWellTagged, absent, constructed_agrees, constructed_type, context, explicitly_tagged, holding, in_root, lines, presence_mark, number, own_records, required, scalar, sequence, sequence_head, unconstrained, universal, untagged, with_default};
 
 use crate::x509::{AlgorithmIdentifier, Name};
 use asn1_schema::{
@@ -83,8 +83,8 @@ impl ConstructedType for TbsCertificate {
 }
 
 /// A `TbsCertificate` can be inside other types: the serial number does not begin as the version does.
-pub fn tbs_certificate_can_stand_inside()
-    ensures { CanStandInside ⟦<TbsCertificate as AsnType>⟧.meaning }
+pub fn tbs_certificate_is_well_tagged()
+    ensures { IsWellTagged ⟦<TbsCertificate as AsnType>⟧.meaning }
 {}
 
 impl Encode for TbsCertificate {
@@ -121,7 +121,7 @@ pub fn first_version_is_absent(certificate: &TbsCertificate)
     ensures { certificate.now.version ≡ pos 0 → certificate.now.serial_number ≡ pos 7 →
         own_records ⟦<TbsCertificate as AsnType>⟧.meaning certificate.now ≡
         holding (sequence_head (universal 16) (lines ⟦<TbsCertificate as FieldTable>⟧.components)
-        (Some (codes "TBSCertificate"))) (mark (absent in_root (context 0)) ∷
+        (Some (codes "TBSCertificate"))) (presence_mark (absent in_root (context 0)) ∷
         scalar (universal 2) unconstrained (Some (codes "INTEGER")) (number (pos 7)) ∷
         (own_records ⟦<AlgorithmIdentifier as AsnType>⟧.meaning certificate.now.signature ++
         own_records ⟦<Name as AsnType>⟧.meaning certificate.now.issuer)) ∷ [] }

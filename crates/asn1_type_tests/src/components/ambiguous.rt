@@ -1,6 +1,6 @@
 //! What no type can be.
 ghost use Rattle.std.specs.Prelude.{[], ◌∷◌, Option, codes};
-ghost use Rattle.asn1_model.specs.Meaning.{CanStandInside};
+ghost use Rattle.asn1_model.specs.Meaning.{IsWellTagged};
 ghost use Rattle.asn1_model.specs.TaggedTypes.{tagged};
 ghost use Rattle.asn1_model.specs.Tags.{context};
 ghost use Rattle.asn1_components.specs.ComponentTypes.{required, optional, with_default, addition_with_default};
@@ -20,40 +20,40 @@ struct Ambiguous {
 /// inside a group; two components of a SET share a tag, also inside a group; an addition is always there; a group is a SET.
 /// An addition with a default is one that can.
 fn ambiguous_cannot_stand_inside()
-    ensures sequence { ¬ CanStandInside (constructed_type {V = Ambiguous} (codes "Ambiguous")
+    ensures sequence { ¬ IsWellTagged (constructed_type {V = Ambiguous} (codes "Ambiguous")
         (sequence (optional (codes "a") (λ v. v.a) (tagged (context 0)
         ⟦<bool as AsnType>⟧.meaning) ∷ required (codes "b") (λ v. v.b) (tagged (context 0)
         ⟦<bool as AsnType>⟧.meaning) ∷ []))) }
-    ensures set { ¬ CanStandInside (constructed_type {V = Ambiguous} (codes "Ambiguous") (set (
+    ensures set { ¬ IsWellTagged (constructed_type {V = Ambiguous} (codes "Ambiguous") (set (
         required (codes "b") (λ v. v.b) (tagged (context 0) ⟦<bool as AsnType>⟧.meaning) ∷
         optional (codes "a") (λ v. v.a) (tagged (context 0) ⟦<bool as AsnType>⟧.meaning) ∷ []))) }
-    ensures addition { ¬ CanStandInside (constructed_type {V = Ambiguous} (codes "Ambiguous")
+    ensures addition { ¬ IsWellTagged (constructed_type {V = Ambiguous} (codes "Ambiguous")
         (extensible_sequence (optional (codes "a") (λ v. v.a)
         (tagged (context 0) ⟦<bool as AsnType>⟧.meaning) ∷
         []) (required (codes "b") (λ v. v.b) (tagged (context 1) ⟦<bool as AsnType>⟧.meaning) ∷
         []))) }
-    ensures in_group { ¬ CanStandInside (constructed_type {V = Option Ambiguous} (codes "Ambiguous")
+    ensures in_group { ¬ IsWellTagged (constructed_type {V = Option Ambiguous} (codes "Ambiguous")
         (extensible_sequence [] (group (codes "g") (λ v. v)
         (sequence (optional (codes "a") (λ v. v.a) (tagged (context 0)
         ⟦<bool as AsnType>⟧.meaning) ∷ required (codes "b") (λ v. v.b) (tagged (context 0)
         ⟦<bool as AsnType>⟧.meaning) ∷ [])) ∷ []))) }
-    ensures group_in_set { ¬ CanStandInside (constructed_type {V = Option Ambiguous}
+    ensures group_in_set { ¬ IsWellTagged (constructed_type {V = Option Ambiguous}
         (codes "Ambiguous") (extensible_set [] (group (codes "g") (λ v. v)
         (sequence (required (codes "b") (λ v. v.b) (tagged (context 0)
         ⟦<bool as AsnType>⟧.meaning) ∷ optional (codes "a") (λ v. v.a) (tagged (context 0)
         ⟦<bool as AsnType>⟧.meaning) ∷ [])) ∷ []))) }
-    ensures set_as_group { ¬ CanStandInside (constructed_type {V = Option Ambiguous}
+    ensures set_as_group { ¬ IsWellTagged (constructed_type {V = Option Ambiguous}
         (codes "Ambiguous") (extensible_sequence [] (group (codes "g") (λ v. v)
         (set (required (codes "b") (λ v. v.b) (tagged (context 0) ⟦<bool as AsnType>⟧.meaning) ∷
         [])) ∷ []))) }
-    ensures root_word_among_additions { ¬ CanStandInside
+    ensures root_word_among_additions { ¬ IsWellTagged
         (constructed_type {V = Ambiguous} (codes "Ambiguous")
         (extensible_sequence [] (with_default (codes "b") (λ v. v.b) (λ v. v.b)
         (tagged (context 1) ⟦<bool as AsnType>⟧.meaning) ∷ []))) }
-    ensures addition_in_the_root { ¬ CanStandInside (constructed_type {V = Ambiguous}
+    ensures addition_in_the_root { ¬ IsWellTagged (constructed_type {V = Ambiguous}
         (codes "Ambiguous") (sequence (addition_with_default (codes "b") (λ v. v.b) (λ v. v.b)
         (tagged (context 1) ⟦<bool as AsnType>⟧.meaning) ∷ []))) }
-    ensures default { CanStandInside (constructed_type {V = Ambiguous} (codes "Ambiguous")
+    ensures default { IsWellTagged (constructed_type {V = Ambiguous} (codes "Ambiguous")
         (extensible_sequence [] (addition_with_default (codes "b") (λ v. v.b) (λ v. v.b)
         (tagged (context 1) ⟦<bool as AsnType>⟧.meaning) ∷ []))) }
 {}

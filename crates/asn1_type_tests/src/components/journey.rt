@@ -4,8 +4,8 @@ ghost use Rattle.std.specs.Prelude.{◌≡◌, [], ◌∷◌, None, Some, true, 
 ghost use Rattle.asn1_tags.specs.Trees.{leaf, choice, none, more};
 ghost use Rattle.asn1_ranges.specs.declared.bounded.Bounded.TheVariants.{Range};
 ghost use Rattle.asn1_model.specs.ConstraintSets.{unconstrained, values_of};
-ghost use Rattle.asn1_model.specs.Meaning.{CanStandInside, own_records};
-ghost use Rattle.asn1_model.specs.Records.{holding, in_root, scalar, mark, present, group_start, group_absent, group_end, sequence as sequence_head, number, truth};
+ghost use Rattle.asn1_model.specs.Meaning.{IsWellTagged, own_records};
+ghost use Rattle.asn1_model.specs.Records.{holding, in_root, scalar, presence_mark, present, group_start, group_absent, group_end, sequence as sequence_head, number, truth};
 ghost use Rattle.asn1_model.specs.TaggedTypes.{tagged, untagged};
 ghost use Rattle.asn1_model.specs.Tags.{context, universal};
 ghost use Rattle.asn1_components.specs.ComponentTypes.{required, optional};
@@ -34,7 +34,7 @@ struct Journey {
 /// The tags of both groups are distinct. The records are those of a journey whose inner group is absent, beside the tables of
 /// the journey and of its outer group.
 fn journeys(journey: &Journey)
-    ensures distinct { CanStandInside (constructed_type {V = Journey} (codes "Journey")
+    ensures distinct { IsWellTagged (constructed_type {V = Journey} (codes "Journey")
         (extensible_sequence (required (codes "id") (λ j. j.id)
         (untagged ⟦<u8 as AsnType>⟧.meaning) ∷ []) (group (codes "route") (λ j. j.route)
         (sequence (optional (codes "from") (λ r. r.from)
@@ -62,7 +62,7 @@ fn journeys(journey: &Journey)
                 = true;
           } ∷ []);
         }) (Some (codes "Journey"))) (scalar (universal 2) (values_of (Range (Some
-        (pos 0)) (Some (pos 255)))) (Some (codes "INTEGER")) (number (pos 7)) ∷ mark (group_start
+        (pos 0)) (Some (pos 255)))) (Some (codes "INTEGER")) (number (pos 7)) ∷ presence_mark (group_start
         (record {
           root = record {
             name = codes "from";
@@ -74,7 +74,7 @@ fn journeys(journey: &Journey)
             may_be_absent = true;
           } ∷ [];
           additions = None;
-        })) ∷ mark (present in_root (context 0)) ∷
-        scalar (context 0) unconstrained (Some (codes "BOOLEAN")) (truth true) ∷ mark group_absent ∷
-        mark group_end ∷ []) ∷ [] }
+        })) ∷ presence_mark (present in_root (context 0)) ∷
+        scalar (context 0) unconstrained (Some (codes "BOOLEAN")) (truth true) ∷ presence_mark group_absent ∷
+        presence_mark group_end ∷ []) ∷ [] }
 {}

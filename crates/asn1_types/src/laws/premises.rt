@@ -1,7 +1,7 @@
 //! When the premises of a round trip hold of each type of this crate: which values are valid, and under which tags the type is
 //! well tagged.
 ghost use Rattle.std.specs.Prelude.{◌≡◌, ◌↔◌, ℕ, Bool, List, All, IsTrue};
-ghost use Rattle.asn1_model.specs.Meaning.{CanStandInside, CanStandInsideUnder, tags};
+ghost use Rattle.asn1_model.specs.Meaning.{IsWellTagged, IsWellTaggedUnder, tags};
 ghost use Rattle.asn1_model.specs.Premises.{IsTaggedAs};
 ghost use Rattle.asn1_model.specs.Tags.{IsATag, only};
 ghost use Rattle.asn1_tags.specs.declared.tags.Tag.{Tag};
@@ -20,29 +20,29 @@ use asn1_model::AsnType;
 /// A law of validity: an open type is valid if the codec takes its bytes as one value, and of a value that holds others, what is
 /// asked is what is asked of these. Of arrays `arrays_are_their_elements` says it.
 pub fn values_are_valid_as_their_contents<T: AsnType, V: AsnType>()
-    ensures any { (takes : List ℕ → Bool) (bytes : List ℕ) →
-        ⟦<Any as AsnType>⟧.meaning.IsValid takes bytes ↔ IsTrue (takes bytes) }
-    ensures set { (takes : List ℕ → Bool) (set : List V) →
-        ⟦<SetOf<V> as AsnType>⟧.meaning.IsValid takes set ↔ All (V.meaning.IsValid takes) set }
-    ensures implicit { (takes : List ℕ → Bool) (v : Implicit T V) →
-        ⟦<Implicit<T, V> as AsnType>⟧.meaning.IsValid takes v ↔ V.meaning.IsValid takes v.value }
-    ensures explicit { (takes : List ℕ → Bool) (v : Explicit T V) →
-        ⟦<Explicit<T, V> as AsnType>⟧.meaning.IsValid takes v ↔ V.meaning.IsValid takes v.value }
-    ensures instance { (takes : List ℕ → Bool) (v : InstanceOf V) →
-        ⟦<InstanceOf<V> as AsnType>⟧.meaning.IsValid takes v ↔ V.meaning.IsValid takes v.value }
+    ensures any { (accepts : List ℕ → Bool) (bytes : List ℕ) →
+        ⟦<Any as AsnType>⟧.meaning.IsValid accepts bytes ↔ IsTrue (accepts bytes) }
+    ensures set { (accepts : List ℕ → Bool) (set : List V) →
+        ⟦<SetOf<V> as AsnType>⟧.meaning.IsValid accepts set ↔ All (V.meaning.IsValid accepts) set }
+    ensures implicit { (accepts : List ℕ → Bool) (v : Implicit T V) →
+        ⟦<Implicit<T, V> as AsnType>⟧.meaning.IsValid accepts v ↔ V.meaning.IsValid accepts v.value }
+    ensures explicit { (accepts : List ℕ → Bool) (v : Explicit T V) →
+        ⟦<Explicit<T, V> as AsnType>⟧.meaning.IsValid accepts v ↔ V.meaning.IsValid accepts v.value }
+    ensures instance { (accepts : List ℕ → Bool) (v : InstanceOf V) →
+        ⟦<InstanceOf<V> as AsnType>⟧.meaning.IsValid accepts v ↔ V.meaning.IsValid accepts v.value }
 {}
 
 /// A law of tags: an open type can be a component wherever it is, a set and a value after an explicit tag where the type inside
 /// can be there, and a value under an implicit tag where the type inside can be there under it, and begins with it alone.
 pub fn types_are_tagged_as_their_contents<T: AsnType, V: AsnType, const N: usize>()
-    ensures any { (t : Tag) → CanStandInsideUnder ⟦<Any as AsnType>⟧.meaning t }
-    ensures set { (t : Tag) → CanStandInsideUnder ⟦<SetOf<V> as AsnType>⟧.meaning t ↔
-        (IsATag t × CanStandInside V.meaning) }
-    ensures implicit { (t : Tag) → CanStandInsideUnder ⟦<Implicit<T, V> as AsnType>⟧.meaning t ↔
-        (IsATag t × CanStandInsideUnder V.meaning t × (tags V.meaning t ≡ only t)) }
-    ensures explicit { (t : Tag) → CanStandInsideUnder ⟦<Explicit<T, V> as AsnType>⟧.meaning t ↔
-        (IsATag t × CanStandInside V.meaning) }
-    ensures instance { (t : Tag) → CanStandInsideUnder ⟦<InstanceOf<V> as AsnType>⟧.meaning t ↔
-        (IsATag t × CanStandInside V.meaning) }
+    ensures any { (t : Tag) → IsWellTaggedUnder ⟦<Any as AsnType>⟧.meaning t }
+    ensures set { (t : Tag) → IsWellTaggedUnder ⟦<SetOf<V> as AsnType>⟧.meaning t ↔
+        (IsATag t × IsWellTagged V.meaning) }
+    ensures implicit { (t : Tag) → IsWellTaggedUnder ⟦<Implicit<T, V> as AsnType>⟧.meaning t ↔
+        (IsATag t × IsWellTaggedUnder V.meaning t × (tags V.meaning t ≡ only t)) }
+    ensures explicit { (t : Tag) → IsWellTaggedUnder ⟦<Explicit<T, V> as AsnType>⟧.meaning t ↔
+        (IsATag t × IsWellTagged V.meaning) }
+    ensures instance { (t : Tag) → IsWellTaggedUnder ⟦<InstanceOf<V> as AsnType>⟧.meaning t ↔
+        (IsATag t × IsWellTagged V.meaning) }
     ensures array { IsTaggedAs ⟦<Array<T, N> as AsnType>⟧.meaning ⟦<[T; N] as AsnType>⟧.meaning }
 {}

@@ -5,5 +5,5 @@ use Rattle.asn1_choices.proofs.choices.the_chosen_tag_tells_the_alternative.Goal
 -- a well tagged CHOICE has alternatives with distinct tags, which can be chosen
 pub returns : goal.returns
 returns g c = λ t v well.
-    let can = (g.met.T.ChoiceType.agrees.well_tagged t).0 well in
+    let can = (g.met.T.ChoiceType.agrees.distinct_tags t).0 well in
     tag_tells (all_of g.T.Choice.alternatives) can.0 can.1 (g.T.Choice.pick v)

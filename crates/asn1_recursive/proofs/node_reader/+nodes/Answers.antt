@@ -69,7 +69,7 @@ pub read_node-returns-in_err-label-clause-read : goal.read_node-returns-in_err-l
 read_node-returns-in_err-label-clause-read g t c = λ v n rest outer of_type valid at.
     let p = err_from_is_err_and c.from_residual-in_err-label.result c.from_residual-in_err-label.ensures.1 in
     let parts = (node_agrees.of_type v).0 of_type in
-    let whole = (node_agrees.valid g.D.Decoder.reader.takes v).0 valid in
+    let whole = (node_agrees.valid g.D.Decoder.reader.accepts v).0 valid in
     let s = c.in_ok-open_sequence.ensures.read n (inside_node v) rest outer (one_level g.D.Decoder.reader _ v c.args.tag unconstrained n rest outer at) in
     let l = c.in_err-label.ensures.read (out-Node v).label (Some (codes "UTF8String")) (children_record v ∷ []) ((_, rest) ∷ outer) node_can.1.1.0.0 parts.0 whole.0 (λ _. label_apart v) s.at in
     rw (p.1, p.2) (fails_deeper _ _ 1 (omega (arith, c.in_ok-open_sequence.ensures.opens_scope.one_less)) (omega (arith, label_height (out-Node v).label, two_higher v c.args.tag unconstrained n)) l)
@@ -78,7 +78,7 @@ pub read_node-returns-in_err-bound-clause-read : goal.read_node-returns-in_err-b
 read_node-returns-in_err-bound-clause-read g t c = λ v n rest outer of_type valid at.
     let p = err_from_is_err_and c.from_residual-in_err-bound.result c.from_residual-in_err-bound.ensures.1 in
     let parts = (node_agrees.of_type v).0 of_type in
-    let whole = (node_agrees.valid g.D.Decoder.reader.takes v).0 valid in
+    let whole = (node_agrees.valid g.D.Decoder.reader.accepts v).0 valid in
     let s = c.in_ok-open_sequence.ensures.read n (inside_node v) rest outer (one_level g.D.Decoder.reader _ v c.args.tag unconstrained n rest outer at) in
     let l = c.in_ok-label.ensures.read (out-Node v).label (Some (codes "UTF8String")) (children_record v ∷ []) ((_, rest) ∷ outer) node_can.1.1.0.0 parts.0 whole.0 (λ _. label_apart v) s.at in
     let b = c.in_err-bound.ensures.read (Some (codes "SEQUENCE_OF")) (flat_map (own_records node_meaning) (children_of v)) [] ((_, rest) ∷ outer) l.at in
@@ -88,7 +88,7 @@ pub read_node-returns-in_err-children-clause-read : goal.read_node-returns-in_er
 read_node-returns-in_err-children-clause-read g t c = λ v n rest outer of_type valid at.
     let p = err_from_is_err_and c.from_residual-in_err-children.result c.from_residual-in_err-children.ensures.1 in
     let parts = (node_agrees.of_type v).0 of_type in
-    let whole = (node_agrees.valid g.D.Decoder.reader.takes v).0 valid in
+    let whole = (node_agrees.valid g.D.Decoder.reader.accepts v).0 valid in
     let s = c.in_ok-open_sequence.ensures.read n (inside_node v) rest outer (one_level g.D.Decoder.reader _ v c.args.tag unconstrained n rest outer at) in
     let l = c.in_ok-label.ensures.read (out-Node v).label (Some (codes "UTF8String")) (children_record v ∷ []) ((_, rest) ∷ outer) node_can.1.1.0.0 parts.0 whole.0 (λ _. label_apart v) s.at in
     let b = c.in_ok-bound.ensures.read (Some (codes "SEQUENCE_OF")) (flat_map (own_records node_meaning) (children_of v)) [] ((_, rest) ∷ outer) l.at in
@@ -99,7 +99,7 @@ pub read_node-returns-in_err-close-clause-read : goal.read_node-returns-in_err-c
 read_node-returns-in_err-close-clause-read g t c = λ v n rest outer of_type valid at.
     let p = err_from_is_err_and c.from_residual-in_err-close.result c.from_residual-in_err-close.ensures.1 in
     let parts = (node_agrees.of_type v).0 of_type in
-    let whole = (node_agrees.valid g.D.Decoder.reader.takes v).0 valid in
+    let whole = (node_agrees.valid g.D.Decoder.reader.accepts v).0 valid in
     let s = c.in_ok-open_sequence.ensures.read n (inside_node v) rest outer (one_level g.D.Decoder.reader _ v c.args.tag unconstrained n rest outer at) in
     let l = c.in_ok-label.ensures.read (out-Node v).label (Some (codes "UTF8String")) (children_record v ∷ []) ((_, rest) ∷ outer) node_can.1.1.0.0 parts.0 whole.0 (λ _. label_apart v) s.at in
     let b = c.in_ok-bound.ensures.read (Some (codes "SEQUENCE_OF")) (flat_map (own_records node_meaning) (children_of v)) [] ((_, rest) ∷ outer) l.at in
@@ -111,7 +111,7 @@ pub read_node-returns-in_err-close-2-clause-read : goal.read_node-returns-in_err
 read_node-returns-in_err-close-2-clause-read g t c = λ v n rest outer of_type valid at.
     let p = err_from_is_err_and c.from_residual-in_err-close-2.result c.from_residual-in_err-close-2.ensures.1 in
     let parts = (node_agrees.of_type v).0 of_type in
-    let whole = (node_agrees.valid g.D.Decoder.reader.takes v).0 valid in
+    let whole = (node_agrees.valid g.D.Decoder.reader.accepts v).0 valid in
     let s = c.in_ok-open_sequence.ensures.read n (inside_node v) rest outer (one_level g.D.Decoder.reader _ v c.args.tag unconstrained n rest outer at) in
     let l = c.in_ok-label.ensures.read (out-Node v).label (Some (codes "UTF8String")) (children_record v ∷ []) ((_, rest) ∷ outer) node_can.1.1.0.0 parts.0 whole.0 (λ _. label_apart v) s.at in
     let b = c.in_ok-bound.ensures.read (Some (codes "SEQUENCE_OF")) (flat_map (own_records node_meaning) (children_of v)) [] ((_, rest) ∷ outer) l.at in
@@ -123,7 +123,7 @@ read_node-returns-in_err-close-2-clause-read g t c = λ v n rest outer of_type v
 pub read_node-returns-clause-read : goal.read_node-returns-clause-read
 read_node-returns-clause-read g t c = λ v n rest outer of_type valid at.
     let parts = (node_agrees.of_type v).0 of_type in
-    let whole = (node_agrees.valid g.D.Decoder.reader.takes v).0 valid in
+    let whole = (node_agrees.valid g.D.Decoder.reader.accepts v).0 valid in
     let s = c.in_ok-open_sequence.ensures.read n (inside_node v) rest outer (one_level g.D.Decoder.reader _ v c.args.tag unconstrained n rest outer at) in
     let l = c.in_ok-label.ensures.read (out-Node v).label (Some (codes "UTF8String")) (children_record v ∷ []) ((_, rest) ∷ outer) node_can.1.1.0.0 parts.0 whole.0 (λ _. label_apart v) s.at in
     let b = c.in_ok-bound.ensures.read (Some (codes "SEQUENCE_OF")) (flat_map (own_records node_meaning) (children_of v)) [] ((_, rest) ∷ outer) l.at in

@@ -4,7 +4,7 @@ use Rattle.std.proofs.lemmas.Bool.{false≢true}
 use Rattle.std.proofs.lemmas.List.Sorted.{IsPermutation-middle}
 use Rattle.asn1_model.specs.ConstraintSets.{unconstrained}
 use Rattle.asn1_model.specs.Orders.{is_unordered, Same, SameAll, equal, in_place, in_any_order, at_end, next}
-use Rattle.asn1_model.specs.Records.{Record, Records, scalar, scope, raw, mark, none, more, is_mark, sequence, set, set_of}
+use Rattle.asn1_model.specs.Records.{Record, Records, scalar, scope, open_type, presence_mark, none, more, is_presence_mark, sequence, set, set_of}
 use Rattle.asn1_model.specs.Tables.{no_table}
 use Rattle.asn1_model.specs.Tags.{universal}
 use Rattle.asn1_model.proofs.SameRecords.{same-mark}
@@ -27,21 +27,21 @@ returns-clause-inside c = λ r s.
 -- whether the first of the records is a mark
 abbrev begins_with_mark : Records → Bool
 begins_with_mark none = false
-begins_with_mark (more r rs) = is_mark r
+begins_with_mark (more r rs) = is_presence_mark r
 
 -- whether what is in the record begins with a mark
 abbrev holds_mark_first : Record → Bool
 holds_mark_first (scalar t c n x) = false
 holds_mark_first (scope h rs) = begins_with_mark rs
-holds_mark_first (raw n bytes) = false
-holds_mark_first (mark m) = false
+holds_mark_first (open_type n bytes) = false
+holds_mark_first (presence_mark m) = false
 
 -- whether the order means nothing in the record
 abbrev has_no_order : Record → Bool
 has_no_order (scalar t c n x) = false
 has_no_order (scope h rs) = is_unordered h
-has_no_order (raw n bytes) = false
-has_no_order (mark m) = false
+has_no_order (open_type n bytes) = false
+has_no_order (presence_mark m) = false
 
 first_alike : {rs ss : Records} → SameAll rs ss → begins_with_mark rs ≡ begins_with_mark ss
 first_alike at_end = refl

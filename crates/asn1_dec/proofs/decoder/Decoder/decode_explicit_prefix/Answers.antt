@@ -1,7 +1,7 @@
 use Rattle.std.proofs.Common.{[], ◌∷◌, inl}
 use Rattle.std.proofs.lemmas.Result.{err_from_is_err_and}
 use Rattle.asn1_model.specs.Meaning.{own_records}
-use Rattle.asn1_model.specs.Records.{prefix}
+use Rattle.asn1_model.specs.Records.{explicit_tag}
 use Rattle.asn1_codec.proofs.ReadingSteps.{to_end, fails_inside, flat_failure, within_scope}
 use Rattle.asn1_dec.proofs.decoder.Decoder.decode_explicit_prefix.Goals as goal
 
@@ -10,7 +10,7 @@ returns-in-Err-clause-read g c = λ v n rest outer can of_type valid at.
     let rs = own_records g.T.AsnType.meaning v in
     let s = c.in_ok-open_explicit_prefix.ensures.read n rs rest outer at in
     let r = c.in-Err.ensures.read v g.T.AsnType.meaning.name [] ((_, rest) ∷ outer) can.1 of_type valid (inl can.0) (to_end g.Self.Decoder.reader _ rs ((_, rest) ∷ outer) s.at) in
-    rw c.refuse.ensures.same (fails_inside (prefix c.args.tag n) rs _ _ c.in_ok-open_explicit_prefix.ensures.opens_scope.one_less r)
+    rw c.refuse.ensures.same (fails_inside (explicit_tag c.args.tag n) rs _ _ c.in_ok-open_explicit_prefix.ensures.opens_scope.one_less r)
 
 pub returns-in_err-close-clause-read : goal.returns-in_err-close-clause-read
 returns-in_err-close-clause-read g c = λ v n rest outer can of_type valid at.
@@ -26,4 +26,4 @@ returns-clause-read g c = λ v n rest outer can of_type valid at.
     let s = c.in_ok-open_explicit_prefix.ensures.read n rs rest outer at in
     let r = c.in-Ok.ensures.read v g.T.AsnType.meaning.name [] ((_, rest) ∷ outer) can.1 of_type valid (inl can.0) (to_end g.Self.Decoder.reader _ rs ((_, rest) ∷ outer) s.at) in
     let k = c.in_ok-close.ensures.read _ rest outer r.at in
-    record { answer = r.answer; at = k.at; within_depth = within_scope (prefix c.args.tag n) rs _ _ c.in_ok-open_explicit_prefix.ensures.opens_scope.one_less r.within_depth }
+    record { answer = r.answer; at = k.at; within_depth = within_scope (explicit_tag c.args.tag n) rs _ _ c.in_ok-open_explicit_prefix.ensures.opens_scope.one_less r.within_depth }

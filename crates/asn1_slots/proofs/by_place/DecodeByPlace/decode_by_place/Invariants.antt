@@ -13,7 +13,7 @@ invariant-loop-place g l =
     let cs = all_components g.Self.FieldTable.components in
     record {
       same_depth : R.depth_left l.decoder ≡ R.depth_left l.fn.decoder;
-      way : (v : _) (rest : List Record) (outer : Outside) → CanBeInSequence cs → EachIsOfType cs v → EachIsValid cs R.takes v → EndsApart cs rest →
+      way : (v : _) (rest : List Record) (outer : Outside) → CanBeInSequence cs → EachIsOfType cs v → EachIsValid cs R.accepts v → EndsApart cs rest →
           R.remains l.fn.decoder (all_records cs v ++ rest, outer) →
           ReadUpTo R cs g.Self.Slotted.layout l.place l.fn.decoder l.decoder l.slots v rest outer;
     }

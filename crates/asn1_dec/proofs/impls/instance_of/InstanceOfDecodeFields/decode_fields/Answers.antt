@@ -3,7 +3,7 @@ use Rattle.std.specs.Prelude.{Some, codes}
 use Rattle.std.proofs.lemmas.Bool.{and_from}
 use Rattle.std.proofs.lemmas.Result.{err_from_is_err_and}
 use Rattle.asn1_codec.proofs.ReadingSteps.{fails_below}
-use Rattle.asn1_model.specs.Composites.{prefix_records}
+use Rattle.asn1_model.specs.Composites.{explicit_tag_records}
 use Rattle.asn1_model.specs.Kinds.{object_identifier}
 use Rattle.asn1_model.specs.Meaning.{own_records}
 use Rattle.asn1_model.specs.Tags.{context}
@@ -14,7 +14,7 @@ pub returns-in_err-type_id-clause-read : goal.returns-in_err-type_id-clause-read
 returns-in_err-type_id-clause-read g c = λ v rest outer can of_type valid ends at.
     let p = err_from_is_err_and c.from_residual.result c.from_residual.ensures.1 in
     let rs = own_records object_identifier v.type_id in
-    let ss = prefix_records (context 0) (Some (codes "SEQUENCE")) (own_records g.T.AsnType.meaning v.value) in
+    let ss = explicit_tag_records (context 0) (Some (codes "SEQUENCE")) (own_records g.T.AsnType.meaning v.value) in
     let before = subst (λ l. g.D.Decoder.reader.remains c.args.decoder.now (l, outer)) (one_then_other rs ss rest) at in
     let r = c.in_err-type_id.ensures.read v.type_id (Some (codes "OBJECT_IDENTIFIER")) (ss ++ rest) outer can.0.0.1 of_type.0 valid.0 (inl can.0.0.0) before in
     rw (p.1, p.2) (fails_below _ _ _ refl (omega (arith, highest_of_two rs ss)) r)
@@ -23,7 +23,7 @@ pub returns-in_err-value-clause-read : goal.returns-in_err-value-clause-read
 returns-in_err-value-clause-read g c = λ v rest outer can of_type valid ends at.
     let p = err_from_is_err_and c.from_residual-in_err-value.result c.from_residual-in_err-value.ensures.1 in
     let rs = own_records object_identifier v.type_id in
-    let ss = prefix_records (context 0) (Some (codes "SEQUENCE")) (own_records g.T.AsnType.meaning v.value) in
+    let ss = explicit_tag_records (context 0) (Some (codes "SEQUENCE")) (own_records g.T.AsnType.meaning v.value) in
     let before = subst (λ l. g.D.Decoder.reader.remains c.args.decoder.now (l, outer)) (one_then_other rs ss rest) at in
     let r = c.in_ok-type_id.ensures.read v.type_id (Some (codes "OBJECT_IDENTIFIER")) (ss ++ rest) outer can.0.0.1 of_type.0 valid.0 (inl can.0.0.0) before in
     let s = c.in_err-value.ensures.read v.value (Some (codes "SEQUENCE")) rest outer can.0.1.0.1 of_type.1.0 valid.1.0 r.at in
@@ -32,7 +32,7 @@ returns-in_err-value-clause-read g c = λ v rest outer can of_type valid ends at
 pub returns-clause-read : goal.returns-clause-read
 returns-clause-read g c = λ v rest outer can of_type valid ends at.
     let rs = own_records object_identifier v.type_id in
-    let ss = prefix_records (context 0) (Some (codes "SEQUENCE")) (own_records g.T.AsnType.meaning v.value) in
+    let ss = explicit_tag_records (context 0) (Some (codes "SEQUENCE")) (own_records g.T.AsnType.meaning v.value) in
     let before = subst (λ l. g.D.Decoder.reader.remains c.args.decoder.now (l, outer)) (one_then_other rs ss rest) at in
     let r = c.in_ok-type_id.ensures.read v.type_id (Some (codes "OBJECT_IDENTIFIER")) (ss ++ rest) outer can.0.0.1 of_type.0 valid.0 (inl can.0.0.0) before in
     let s = c.in_ok-value.ensures.read v.value (Some (codes "SEQUENCE")) rest outer can.0.1.0.1 of_type.1.0 valid.1.0 r.at in

@@ -15,6 +15,6 @@ returns-in_ok-write-in-Wide-clause-writes g c =
     let form = rw c.in-Wide.is at c.self.invariant in
     let sign : c.if-negative.sign.now ≡ sign_text c.in-Wide.negative = elim c.if-negative.branch [ then-negative w ↦ search rules | else-negative w ↦ search rules ] in
     let text = ap (λ s. s ++ codes "0x" ++ flat_map byte_text bytes) sign ∙ integer_text-wide c.in-Wide.negative bytes form ∙ ap integer_text number in
-    let prefix : HasWritten g.W.Write.write_str_gives c.args.f.now (c.if-negative.sign.now ++ codes "0x") c.write.new.self = search rules in
-    let rest : HasWritten g.W.Write.write_str_gives c.write.new.self (flat_map byte_text bytes) c.write_bytes.new.f = rw (← c.deref.ensures.value) (c.write_bytes.ensures prefix.plain ok) in
-    has_written_of_eq _ _ _ _ _ text (has_written_append _ _ _ _ _ _ prefix rest)
+    let explicit_tag : HasWritten g.W.Write.write_str_gives c.args.f.now (c.if-negative.sign.now ++ codes "0x") c.write.new.self = search rules in
+    let rest : HasWritten g.W.Write.write_str_gives c.write.new.self (flat_map byte_text bytes) c.write_bytes.new.f = rw (← c.deref.ensures.value) (c.write_bytes.ensures explicit_tag.plain ok) in
+    has_written_of_eq _ _ _ _ _ text (has_written_append _ _ _ _ _ _ explicit_tag rest)
