@@ -7,7 +7,7 @@ ghost use Rattle.std.specs.Str.{bytes_eq};
 ghost use Rattle.asn1_enumerations.specs.Enumerations.{Enumeration, IsEnumeration, added, items as items_of, values, numbers, names, item_of, number_of, name_of};
 ghost use Rattle.asn1_enumerations.specs.Tables.{line_item, table_items, variants_left, discriminants_left, identifiers_left};
 
-use crate::items::EnumerationItem;
+use crate::items::{EnumerationItem, line_with_name, line_with_number};
 use crate::iterators::{DiscriminantIter, ItemIdentifierIter, VariantIter};
 
 /// An ENUMERATED type (X.680, clause 20): its items, each a value with its number and its name.
@@ -199,10 +199,7 @@ fn with_number<T: Copy>(
     ensures { result ≡
         option_map (λ l. l.value) (find (λ l. int_eq l.number number) (root.now ++ additions.now)) }
 {
-    root.iter()
-        .chain(additions.iter())
-        .find(|line| line.number == number)
-        .map(|line| line.value)
+    Some(line_with_number(number, root, additions)?.value)
 }
 
 // The value of the first line of that name in two tables.
@@ -215,10 +212,7 @@ fn with_name<T: Copy>(
         option_map (λ l. l.value) (find (λ l. bytes_eq l.name.now name.now)
         (root.now ++ additions.now)) }
 {
-    root.iter()
-        .chain(additions.iter())
-        .find(|line| line.name == name)
-        .map(|line| line.value)
+    Some(line_with_name(name, root, additions)?.value)
 }
 
 // The first place of the value in a table.
@@ -232,5 +226,5 @@ fn place_in<T: Eq>(value: &T, table: &[EnumerationItem<T>]) -> Option<usize>
 fn value_at<T: Copy>(table: &[EnumerationItem<T>], place: usize) -> Option<T>
     ensures { result ≡ option_map (λ l. l.value) (slice_get table.now place) }
 {
-    table.get(place).map(|line| line.value)
+    Some(table.get(place)?.value)
 }

@@ -7,7 +7,7 @@ ghost use Rattle.std.specs.Str.{bytes_eq};
 ghost use Rattle.asn1_enumerations.specs.Labels.{Labels, LabelsDiffer, added_labels, all_labels, labels_of, numbers_in};
 
 use crate::enumerated::{Enumerated, added_lines};
-use crate::items::EnumerationItem;
+use crate::items::{EnumerationItem, line_with_name, line_with_number};
 
 /// The table of an ENUMERATED type without its values: the numbers and the names of its items, in their places. It tells a
 /// codec which numbers there are. Each [`Enumerated`] type has it.
@@ -97,7 +97,7 @@ impl<E: Enumerated> EnumeratedTable for E {
 fn number_at<T>(table: &[EnumerationItem<T>], place: usize) -> Option<isize>
     ensures { result ≡ option_map (λ l. l.number) (slice_get table.now place) }
 {
-    table.get(place).map(|line| line.number)
+    Some(table.get(place)?.number)
 }
 
 // The first place of the number in a table.
@@ -117,10 +117,7 @@ fn name_of<T>(
         option_map (λ l. l.name.now)
         (find (λ l. int_eq l.number number) (root.now ++ additions.now)) }
 {
-    root.iter()
-        .chain(additions.iter())
-        .find(|line| line.number == number)
-        .map(|line| line.name)
+    Some(line_with_number(number, root, additions)?.name)
 }
 
 // The number of the first line of that name in two tables.
@@ -133,8 +130,5 @@ fn number_of<T>(
         option_map (λ l. l.number) (find (λ l. bytes_eq l.name.now name.now)
         (root.now ++ additions.now)) }
 {
-    root.iter()
-        .chain(additions.iter())
-        .find(|line| line.name == name)
-        .map(|line| line.number)
+    Some(line_with_name(name, root, additions)?.number)
 }

@@ -5,7 +5,7 @@ ghost use Rattle.either.specs.Either.{IsLeftAnd};
 ghost use Rattle.either.specs.declared.Either.TheVariants.{Right};
 ghost use Rattle.asn1_ranges.specs.Count.{distance};
 ghost use Rattle.asn1_ranges.specs.Ends.{start_of, end_of, range_start};
-ghost use Rattle.asn1_ranges.specs.Members.{Holds, CountsMembers};
+ghost use Rattle.asn1_ranges.specs.Members.{Holds, CountsMembers, IsFrom, IsUpTo};
 ghost use Rattle.asn1_ranges.specs.Text.{bound_text};
 
 use crate::number::WholeNumber;
@@ -112,7 +112,7 @@ impl<T: WholeNumber> Bounded<T> {
             Bounded::None => true,
             Bounded::Single(value) => element == value,
             Bounded::Range { start, end } => {
-                start.is_none_or(|start| start <= *element) && end.is_none_or(|end| *element <= end)
+                is_from(*start, *element) && is_up_to(*end, *element)
             }
         }
     }
@@ -178,6 +178,26 @@ impl<T: WholeNumber> Bounded<T> {
             Some(start) => Left(value.offset_from(start)),
             None => Right(value),
         }
+    }
+}
+
+// Whether the number is not below the start, where there is one.
+fn is_from<T: WholeNumber>(start: Option<T>, element: T) -> bool
+    ensures { IsTrue result ↔ IsFrom T.number start (T.number element) }
+{
+    match start {
+        Some(start) => start <= element,
+        None => true,
+    }
+}
+
+// Whether the number is not above the end, where there is one.
+fn is_up_to<T: WholeNumber>(end: Option<T>, element: T) -> bool
+    ensures { IsTrue result ↔ IsUpTo T.number end (T.number element) }
+{
+    match end {
+        Some(end) => element <= end,
+        None => true,
     }
 }
 

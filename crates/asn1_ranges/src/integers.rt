@@ -1,7 +1,7 @@
 //! Bounds of integers: the least value, and membership of numbers of any size.
 ghost use Rattle.std.specs.Prelude.{◌≡◌, ◌↔◌, ◌≤ℤ◌, IsTrue, pos, IfSome, IfNone};
 ghost use Rattle.asn1_ranges.specs.Ends.{start_of};
-ghost use Rattle.asn1_ranges.specs.Members.{IsMember};
+ghost use Rattle.asn1_ranges.specs.Members.{IsFrom, IsMember, IsUpTo};
 
 use crate::bounded::Bounded;
 use asn1_values::IntegerType;
@@ -27,11 +27,28 @@ impl Bounded<i128> {
         match *self {
             Bounded::None => true,
             Bounded::Single(value) => is_at_least(element, value) && is_at_most(element, value),
-            Bounded::Range { start, end } => {
-                start.is_none_or(|start| is_at_least(element, start))
-                    && end.is_none_or(|end| is_at_most(element, end))
-            }
+            Bounded::Range { start, end } => is_from(element, start) && is_up_to(element, end),
         }
+    }
+}
+
+// Whether the number is not below the start, where there is one.
+fn is_from<I: IntegerType>(element: &I, start: Option<i128>) -> bool
+    ensures { IsTrue result ↔ IsFrom (λ n. n) start (I.number element.now) }
+{
+    match start {
+        Some(start) => is_at_least(element, start),
+        None => true,
+    }
+}
+
+// Whether the number is not above the end, where there is one.
+fn is_up_to<I: IntegerType>(element: &I, end: Option<i128>) -> bool
+    ensures { IsTrue result ↔ IsUpTo (λ n. n) end (I.number element.now) }
+{
+    match end {
+        Some(end) => is_at_most(element, end),
+        None => true,
     }
 }
 

@@ -44,8 +44,10 @@ impl WholeNumber for u8 {
     ghost distinct = { Prim.search rules };
 
     fn count_to(self, last: u8) -> u8 {
-        last.checked_sub(self)
-            .map_or(0, |distance| distance.saturating_add(1))
+        if last < self {
+            return 0;
+        }
+        last.saturating_sub(self).saturating_add(1)
     }
 
     fn offset_from(self, start: u8) -> u8 {
@@ -63,8 +65,10 @@ impl WholeNumber for u16 {
     ghost distinct = { Prim.search rules };
 
     fn count_to(self, last: u16) -> u16 {
-        last.checked_sub(self)
-            .map_or(0, |distance| distance.saturating_add(1))
+        if last < self {
+            return 0;
+        }
+        last.saturating_sub(self).saturating_add(1)
     }
 
     fn offset_from(self, start: u16) -> u16 {
@@ -82,8 +86,10 @@ impl WholeNumber for u32 {
     ghost distinct = { Prim.search rules };
 
     fn count_to(self, last: u32) -> u32 {
-        last.checked_sub(self)
-            .map_or(0, |distance| distance.saturating_add(1))
+        if last < self {
+            return 0;
+        }
+        last.saturating_sub(self).saturating_add(1)
     }
 
     fn offset_from(self, start: u32) -> u32 {
@@ -101,8 +107,10 @@ impl WholeNumber for u64 {
     ghost distinct = { Prim.search rules };
 
     fn count_to(self, last: u64) -> u64 {
-        last.checked_sub(self)
-            .map_or(0, |distance| distance.saturating_add(1))
+        if last < self {
+            return 0;
+        }
+        last.saturating_sub(self).saturating_add(1)
     }
 
     fn offset_from(self, start: u64) -> u64 {
@@ -120,8 +128,10 @@ impl WholeNumber for u128 {
     ghost distinct = { Prim.search rules };
 
     fn count_to(self, last: u128) -> u128 {
-        last.checked_sub(self)
-            .map_or(0, |distance| distance.saturating_add(1))
+        if last < self {
+            return 0;
+        }
+        last.saturating_sub(self).saturating_add(1)
     }
 
     fn offset_from(self, start: u128) -> u128 {
@@ -139,8 +149,10 @@ impl WholeNumber for usize {
     ghost distinct = { Prim.search rules };
 
     fn count_to(self, last: usize) -> usize {
-        last.checked_sub(self)
-            .map_or(0, |distance| distance.saturating_add(1))
+        if last < self {
+            return 0;
+        }
+        last.saturating_sub(self).saturating_add(1)
     }
 
     fn offset_from(self, start: usize) -> usize {
@@ -161,8 +173,7 @@ impl WholeNumber for i8 {
         if last < self {
             return 0;
         }
-        last.checked_sub(self)
-            .map_or(i8::MAX, |distance| distance.saturating_add(1))
+        last.saturating_sub(self).saturating_add(1)
     }
 
     fn offset_from(self, start: i8) -> i8 {
@@ -183,8 +194,7 @@ impl WholeNumber for i16 {
         if last < self {
             return 0;
         }
-        last.checked_sub(self)
-            .map_or(i16::MAX, |distance| distance.saturating_add(1))
+        last.saturating_sub(self).saturating_add(1)
     }
 
     fn offset_from(self, start: i16) -> i16 {
@@ -205,8 +215,7 @@ impl WholeNumber for i32 {
         if last < self {
             return 0;
         }
-        last.checked_sub(self)
-            .map_or(i32::MAX, |distance| distance.saturating_add(1))
+        last.saturating_sub(self).saturating_add(1)
     }
 
     fn offset_from(self, start: i32) -> i32 {
@@ -227,8 +236,7 @@ impl WholeNumber for i64 {
         if last < self {
             return 0;
         }
-        last.checked_sub(self)
-            .map_or(i64::MAX, |distance| distance.saturating_add(1))
+        last.saturating_sub(self).saturating_add(1)
     }
 
     fn offset_from(self, start: i64) -> i64 {
@@ -249,8 +257,7 @@ impl WholeNumber for i128 {
         if last < self {
             return 0;
         }
-        last.checked_sub(self)
-            .map_or(i128::MAX, |distance| distance.saturating_add(1))
+        last.saturating_sub(self).saturating_add(1)
     }
 
     fn offset_from(self, start: i128) -> i128 {
@@ -271,8 +278,7 @@ impl WholeNumber for isize {
         if last < self {
             return 0;
         }
-        last.checked_sub(self)
-            .map_or(isize::MAX, |distance| distance.saturating_add(1))
+        last.saturating_sub(self).saturating_add(1)
     }
 
     fn offset_from(self, start: isize) -> isize {

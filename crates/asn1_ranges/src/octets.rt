@@ -14,7 +14,10 @@ impl Bounded<i128> {
         ensures signed { result.0 ≡ is_signed self.now }
         ensures octets { result.1 ≡ octets_of self.now }
     {
-        let signed = self.as_start().is_none_or(|start| *start < 0);
+        let signed = match self.as_start() {
+            Some(start) => *start < 0,
+            None => true,
+        };
         let octets = match self.start_and_end() {
             (Some(start), Some(end)) => first_width(&[1, 2, 4, 8], signed, *start, *end),
             _ => None,

@@ -105,6 +105,13 @@ impl Integer {
         }
     }
 
+    /// The same, of an integer that is needed no more.
+    pub(crate) fn into_i128(self) -> Option<i128>
+        ensures { SomeIff result (FitsSigned w128 self) self }
+    {
+        self.to_i128()
+    }
+
     /// The number, if it is a `u128`.
     pub(crate) fn to_u128(&self) -> Option<u128>
         ensures { SomeIff result (FitsUnsigned w128 self.now) (unsigned_abs self.now) }

@@ -30,9 +30,8 @@ impl IntegerType for i8 {
     }
 
     fn try_from_integer(integer: Integer) -> Option<Self> {
-        integer
-            .to_i128()
-            .and_then(|number| i8::try_from(number).ok())
+        let number = integer.into_i128()?;
+        i8::try_from(number).ok()
     }
 }
 
@@ -60,9 +59,8 @@ impl IntegerType for i16 {
     }
 
     fn try_from_integer(integer: Integer) -> Option<Self> {
-        integer
-            .to_i128()
-            .and_then(|number| i16::try_from(number).ok())
+        let number = integer.into_i128()?;
+        i16::try_from(number).ok()
     }
 }
 
@@ -90,9 +88,8 @@ impl IntegerType for i32 {
     }
 
     fn try_from_integer(integer: Integer) -> Option<Self> {
-        integer
-            .to_i128()
-            .and_then(|number| i32::try_from(number).ok())
+        let number = integer.into_i128()?;
+        i32::try_from(number).ok()
     }
 }
 
@@ -120,9 +117,8 @@ impl IntegerType for i64 {
     }
 
     fn try_from_integer(integer: Integer) -> Option<Self> {
-        integer
-            .to_i128()
-            .and_then(|number| i64::try_from(number).ok())
+        let number = integer.into_i128()?;
+        i64::try_from(number).ok()
     }
 }
 
@@ -150,7 +146,7 @@ impl IntegerType for i128 {
     }
 
     fn try_from_integer(integer: Integer) -> Option<Self> {
-        integer.to_i128()
+        integer.into_i128()
     }
 }
 
@@ -178,8 +174,7 @@ impl IntegerType for isize {
     }
 
     fn try_from_integer(integer: Integer) -> Option<Self> {
-        integer
-            .to_i128()
-            .and_then(|number| isize::try_from(number).ok())
+        let number = integer.into_i128()?;
+        isize::try_from(number).ok()
     }
 }

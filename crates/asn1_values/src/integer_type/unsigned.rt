@@ -31,9 +31,8 @@ impl IntegerType for u8 {
     }
 
     fn try_from_integer(integer: Integer) -> Option<Self> {
-        integer
-            .to_i128()
-            .and_then(|number| u8::try_from(number).ok())
+        let number = integer.into_i128()?;
+        u8::try_from(number).ok()
     }
 }
 
@@ -61,9 +60,8 @@ impl IntegerType for u16 {
     }
 
     fn try_from_integer(integer: Integer) -> Option<Self> {
-        integer
-            .to_i128()
-            .and_then(|number| u16::try_from(number).ok())
+        let number = integer.into_i128()?;
+        u16::try_from(number).ok()
     }
 }
 
@@ -91,9 +89,8 @@ impl IntegerType for u32 {
     }
 
     fn try_from_integer(integer: Integer) -> Option<Self> {
-        integer
-            .to_i128()
-            .and_then(|number| u32::try_from(number).ok())
+        let number = integer.into_i128()?;
+        u32::try_from(number).ok()
     }
 }
 
@@ -121,9 +118,8 @@ impl IntegerType for u64 {
     }
 
     fn try_from_integer(integer: Integer) -> Option<Self> {
-        integer
-            .to_i128()
-            .and_then(|number| u64::try_from(number).ok())
+        let number = integer.into_i128()?;
+        u64::try_from(number).ok()
     }
 }
 
@@ -179,8 +175,7 @@ impl IntegerType for usize {
     }
 
     fn try_from_integer(integer: Integer) -> Option<Self> {
-        integer
-            .to_i128()
-            .and_then(|number| usize::try_from(number).ok())
+        let number = integer.into_i128()?;
+        usize::try_from(number).ok()
     }
 }
