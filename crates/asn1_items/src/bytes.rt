@@ -13,9 +13,8 @@ pub(crate) fn push_tag(bytes: &mut Vec<u8>, kind: u8, tag: Tag) -> Result<(), Al
         tag_bytes tag) }
     ensures fits { OnOk result (tag.value < 2 ^ 32) }
 {
-    bytes.push(kind)?;
-    bytes.push(tag.class as u8)?;
-    bytes.extend_from_slice(&tag.value.to_be_bytes())
+    let [a, b, c, d] = tag.value.to_be_bytes();
+    bytes.extend_from_slice(&[kind, tag.class as u8, a, b, c, d])
 }
 
 /// Writes the length of what begins at a place over the four bytes before it.

@@ -5,7 +5,7 @@ ghost use Rattle.asn1_types.specs.AnyStrings.{content_of_str, octet_kind};
 ghost use Rattle.std.specs.Prelude.{◌≡◌, IfOk};
 
 use crate::bits::append_bits;
-use crate::numbers::{append_fours, append_integer, append_twos};
+use crate::numbers::{append_fours, append_integer, append_narrow, append_twos};
 use asn1_types::{AnyStr, OctetKind};
 use asn1_values::Integer;
 use std::alloc::{AllocError, Global};
@@ -54,9 +54,7 @@ impl Content<'_> {
             Content::Null => Ok(()),
             Content::Truth(truth) => bytes.extend_from_slice(&[u8::from(truth)]),
             Content::Number(number) => append_integer(bytes, alloc, number),
-            Content::Discriminant(number) => {
-                append_integer(bytes, alloc, &Integer::from_i128(number as i128))
-            }
+            Content::Discriminant(number) => append_narrow(bytes, number as i128),
             Content::Arcs(arcs) => append_fours(bytes, arcs),
             Content::String(string) => append_string(bytes, string),
         }

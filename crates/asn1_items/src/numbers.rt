@@ -1,13 +1,15 @@
 //! Numbers as bytes, the highest first.
 ghost use Rattle.asn1_items.specs.declared.error.ItemError.TheVariants.{Memory};
 ghost use Rattle.asn1_items.specs.Numbers.{Appended, AreFours, AreTwos, IsInteger};
-ghost use Rattle.std.specs.Prelude.{◌≡◌, IfOk, List, MatchResult, ℕ, ℤ};
+ghost use Rattle.asn1_values.specs.Numbers.{IsShortest, magnitude, signed};
+ghost use Rattle.std.specs.Prelude.{◌≡◌, ◌↔◌, ◌<ℤ◌, IfOk, IsTrue, List, MatchResult, ℕ, ℤ, pos, unsigned_abs};
 
 use crate::error::ItemError;
 use asn1_values::Integer;
 use std::alloc::{AllocError, Global};
 
-/// Appends the sign of an integer, and its magnitude without leading zeros.
+/// Appends the sign of an integer, and its magnitude without leading zeros. Of a number that is no `i128` the magnitude is copied
+/// first.
 pub(crate) fn append_integer(
     bytes: &mut Vec<u8>,
     alloc: Global,
@@ -16,9 +18,49 @@ pub(crate) fn append_integer(
     ensures { IfOk result (λ _.
         Appended (IsInteger number.now) bytes.old.items bytes.new.items) }
 {
-    let (negative, digits) = number.sign_magnitude(alloc)?;
+    let Some(narrow) = number.to_i128() else {
+        let (negative, digits) = number.sign_magnitude(alloc)?;
+        return append_signed(bytes, negative, &digits);
+    };
+    append_narrow(bytes, narrow)
+}
+
+/// Appends the sign of a number, and its magnitude without leading zeros.
+pub(crate) fn append_narrow(bytes: &mut Vec<u8>, number: i128) -> Result<(), AllocError>
+    ensures { IfOk result (λ _.
+        Appended (IsInteger number) bytes.old.items bytes.new.items) }
+{
+    append_absolute(bytes, number.is_negative(), number.unsigned_abs())
+}
+
+/// Appends a sign, and an absolute value as a magnitude without leading zeros.
+fn append_absolute(bytes: &mut Vec<u8>, negative: bool, absolute: u128) -> Result<(), AllocError>
+    ensures { (z : ℤ) → unsigned_abs z ≡ absolute → (IsTrue negative ↔ (z <ℤ pos 0)) →
+        IfOk result (λ _. Appended (IsInteger z) bytes.old.items bytes.new.items) }
+{
+    let digits = absolute.to_be_bytes();
+    append_signed(bytes, negative, significant(&digits))
+}
+
+/// Appends a sign and a magnitude.
+fn append_signed(bytes: &mut Vec<u8>, negative: bool, digits: &[u8]) -> Result<(), AllocError>
+    ensures { (z : ℤ) → signed negative (magnitude digits.now) ≡ z → IsShortest digits.now →
+        (IsTrue negative ↔ (z <ℤ pos 0)) →
+        IfOk result (λ _. Appended (IsInteger z) bytes.old.items bytes.new.items) }
+{
     bytes.push(u8::from(negative))?;
-    bytes.extend_from_slice(&digits)
+    bytes.extend_from_slice(digits)
+}
+
+/// The bytes from the first that is not 0 on.
+fn significant(bytes: &[u8]) -> &[u8]
+    ensures number { magnitude result.now ≡ magnitude bytes.now }
+    ensures shortest { IsShortest result.now }
+{
+    match bytes {
+        [0, rest @ ..] => significant(rest),
+        _ => bytes,
+    }
 }
 
 /// Appends numbers of two bytes each.
