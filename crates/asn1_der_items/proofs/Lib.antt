@@ -1,4 +1,6 @@
+pub mod Behind
 mod Complements
-mod Found
+pub mod Found
+mod ReadingArcs
 mod Septets
 mod Wrapping

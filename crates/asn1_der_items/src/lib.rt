@@ -5,6 +5,7 @@
 //! | [`find_element`], [`Element`] | the element with which some bytes begin |
 //! | [`wrap`] | makes an element of the bytes from a place on |
 //! | [`append_integer`], [`read_integer`] | the contents octets of an INTEGER and an ENUMERATED |
+//! | [`read_arcs`] | the contents octets of an OBJECT IDENTIFIER |
 //! | [`laws`] | what no other contract names |
 //!
 //! The errors are those of `asn1_items`.
@@ -24,6 +25,7 @@
 //! A length that bytes tell reserves no memory, and nothing is copied.
 #![tactic(auto)]
 
+mod arcs_read;
 mod base128;
 mod elements;
 mod identifiers;
@@ -31,6 +33,7 @@ mod integers;
 pub mod laws;
 mod lengths;
 
+pub use arcs_read::read_arcs;
 pub use elements::{Element, find_element, wrap};
 pub use integers::{append_integer, read_integer};
 

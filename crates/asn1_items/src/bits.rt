@@ -59,7 +59,10 @@ fn last_octet(bits: &[bool]) -> Option<u8>
 }
 
 /// Reads bits. Unused bits that are not 0 are refused.
-pub(crate) fn read_bits(alloc: Global, bytes: &[u8]) -> Result<Vec<bool>, ItemError>
+///
+/// # Errors
+/// [`ItemError::Memory`], and [`ItemError::Malformed`] where the bytes are no bits.
+pub fn read_bits(alloc: Global, bytes: &[u8]) -> Result<Vec<bool>, ItemError>
     ensures read { (list : List Bool) → AreBits list bytes.now →
         MatchResult result (λ v. v.items ≡ list) (λ e. e ≡ Memory) }
     ensures only { IfOk result (λ v. AreBits v.items bytes.now) }

@@ -3,6 +3,7 @@
 //! | Item | What it is |
 //! |---|---|
 //! | [`Content`], [`FromContent`], [`StringOf`] | the content of an item, as it is written and as it is read |
+//! | [`read_bits`], [`read_twos`] | what other codecs read alike: bits, and numbers of two bytes each |
 //! | [`Header`], [`Wanted`], [`find_header`] | what an item begins with, and what it has to be that is read |
 //! | [`Buffer`] | the bytes that are written, with a frame for each scope and group that is open |
 //! | [`Slices`], [`Item`] | the bytes that are read, list by list |
@@ -44,9 +45,11 @@ pub mod laws;
 mod numbers;
 mod slices;
 
+pub use bits::read_bits;
 pub use buffer::Buffer;
 pub use content::Content;
 pub use error::{BufferError, ItemError};
 pub use from_content::{FromContent, StringOf};
 pub use header::{Header, Wanted, find_header};
+pub use numbers::read_twos;
 pub use slices::{Item, Slices};

@@ -102,7 +102,10 @@ pub(crate) fn read_integer(alloc: Global, bytes: &[u8]) -> Result<Integer, ItemE
 }
 
 /// Reads numbers of two bytes each.
-pub(crate) fn read_twos(alloc: Global, bytes: &[u8]) -> Result<Vec<u16>, ItemError>
+///
+/// # Errors
+/// [`ItemError::Memory`], and [`ItemError::Malformed`] where a byte is left.
+pub fn read_twos(alloc: Global, bytes: &[u8]) -> Result<Vec<u16>, ItemError>
     ensures read { (list : List ℕ) → AreTwos list bytes.now →
         MatchResult result (λ v. v.items ≡ list) (λ e. e ≡ Memory) }
 {

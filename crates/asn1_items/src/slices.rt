@@ -61,6 +61,22 @@ impl<'a> Slices<'a> {
         self.outer.is_empty()
     }
 
+    /// What is left of the innermost list.
+    pub fn left(&self) -> &'a [u8]
+        ensures inside { result.now ≡ left_inside self.now }
+    {
+        self.left
+    }
+
+    /// Goes on in the innermost list, of which this is left then.
+    pub fn advance_to(&mut self, rest: &'a [u8])
+        ensures inside { left_inside self.new ≡ rest.now }
+        ensures outside { left_outside self.new ≡ left_outside self.old }
+        ensures same_lists { open_lists self.new ≡ open_lists self.old }
+    {
+        self.left = rest;
+    }
+
     /// Takes the next item, which is to be what is wanted.
     ///
     /// # Errors

@@ -1,0 +1,61 @@
+use Rattle.std.proofs.Common.{rules, ◌≡◌, ◌-◌, ◌*◌, [], ◌∷◌, ◌++◌, ap, ◌∙◌, arith}
+use Rattle.std.proofs.lemmas.List.{nil_from_length}
+use Rattle.std.proofs.lemmas.Result.{err_from_is_err_and}
+use Rattle.asn1_der_items.proofs.ReadingArcs.{all_read, first_number, next_arc}
+use Rattle.asn1_der_items.proofs.arcs_read.read_arcs.Goals as goal
+
+pub returns-in_err-front : goal.returns-in_err-front
+returns-in_err-front c = record {
+  read = λ list are.
+      let f = first_number list c.args.octets.now are in
+      absurd (c.in_err-front.ensures.found _ f.at (omega (arith, f.first_of_three, f.fits)));
+}
+
+pub returns-in_err-push_arc-2 : goal.returns-in_err-push_arc-2
+returns-in_err-push_arc-2 c = record {
+  read = λ list are.
+      let f = first_number list c.args.octets.now are in
+      let found = c.in_ok-front.ensures.found _ f.at (omega (arith, f.first_of_three, f.fits)) in
+      let first = c.first_of-first.ensures.told f.first f.second found.0 f.first_of_three f.second_below in
+      let p = err_from_is_err_and c.from_residual-in_err-push_arc-2.result c.from_residual-in_err-push_arc-2.ensures.1 in
+      rw (p.1, p.2) (c.in_err-push_arc-2.ensures (omega (arith, found.0, first, f.fits)));
+}
+
+pub loop-left-init : goal.loop-left-init
+loop-left-init c = λ list are.
+    let f = first_number list c.args.octets.now are in
+    let found = c.in_ok-front.ensures.found _ f.at (omega (arith, f.first_of_three, f.fits)) in
+    let first = c.first_of-first.ensures.told f.first f.second found.0 f.first_of_three f.second_below in
+    let second : c.in_ok-front.front.number - c.first_of-first.result * 40 ≡ f.second = omega (arith, found.0, first) in
+    let one = c.in_ok-push_arc.ensures (omega (arith, first, f.first_of_three)) in
+    let two = c.in_ok-push_arc-2.ensures (omega (arith, second, f.fits)) in
+    let read : c.push_arc-2.new.arcs.items ≡ ([] ++ f.first ∷ []) ++ f.second ∷ [] =
+    two ∙ ap (λ n. c.push_arc.new.arcs.items ++ n ∷ []) second
+    ∙ ap (λ l. l ++ f.second ∷ []) (one ∙ ap (λ n. c.new-arcs.result.items ++ n ∷ []) first ∙ ap (λ l. l ++ f.first ∷ []) c.new-arcs.ensures.items) in
+    rw found.1 (f.after c.push_arc-2.new.arcs.items read)
+
+pub returns-in_err-front-2 : goal.returns-in_err-front-2
+returns-in_err-front-2 c = record {
+  read = λ list are.
+      let n = next_arc list c.loop-left.arcs.items c.loop-left.left.now (c.loop-left.invariant list are) (λ none. search rules) in
+      absurd (c.in_err-front-2.ensures.found _ n.at (let f = n.fits in omega arith));
+}
+
+pub returns-in_err-push_arc-3 : goal.returns-in_err-push_arc-3
+returns-in_err-push_arc-3 c = record {
+  read = λ list are.
+      let n = next_arc list c.loop-left.arcs.items c.loop-left.left.now (c.loop-left.invariant list are) (λ none. search rules) in
+      let found = c.in_ok-front-2.ensures.found _ n.at (let f = n.fits in omega arith) in
+      let p = err_from_is_err_and c.from_residual-in_err-push_arc-3.result c.from_residual-in_err-push_arc-3.ensures.1 in
+      rw (p.1, p.2) (c.in_err-push_arc-3.ensures (omega (arith, found.0, n.fits)));
+}
+
+pub loop-left-preserved : goal.loop-left-preserved
+loop-left-preserved c = λ list are.
+    let n = next_arc list c.loop-left.arcs.items c.loop-left.left.now (c.loop-left.invariant list are) (λ none. search rules) in
+    let found = c.in_ok-front-2.ensures.found _ n.at (let f = n.fits in omega arith) in
+    let pushed = c.in_ok-push_arc-3.ensures (omega (arith, found.0, n.fits)) in
+    rw found.1 (n.after c.push_arc-in-loop-left.new.arcs.items (pushed ∙ ap (λ k. c.loop-left.arcs.items ++ k ∷ []) found.0))
+
+pub returns : goal.returns
+returns c = record { read = λ list are. all_read list c.loop-left.arcs.items c.loop-left.left.now (nil_from_length c.loop-left.left.now (search rules)) (c.loop-left.invariant list are) }

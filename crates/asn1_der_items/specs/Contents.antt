@@ -1,0 +1,41 @@
+-- The contents octets of a content (X.690, 8.2 to 8.9 and 8.19 to 8.23, with 11.1 and 11.2), for each kind of content.
+use Rattle.std.specs.Prelude.{◌≡◌, ℕ, ◌<◌, ◌≤◌, List, [], ◌∷◌, All, Contains, FitsSigned, if◌then◌else◌}
+use Rattle.std.specs.Int.{w64}
+use Rattle.asn1_items.specs.Bits.{AreBits}
+use Rattle.asn1_items.specs.Numbers.{AreTwos}
+use Rattle.asn1_der_items.specs.Arcs.{AreArcs, HaveNoOctets}
+use Rattle.asn1_der_items.specs.Integers.{IsInteger}
+use Rattle.asn1_model.specs.Records.{Content, StringKind, null, truth, number, discriminant, arcs, bits, units, teletex, bmp}
+
+-- The octets are these units of a TeletexString, of which each is one octet.
+pub record AreOctets (list octets : List ℕ) : Type 0 where
+  pub are : octets ≡ list
+  pub fit : All (λ unit. unit < 256) list
+
+-- The octets are these units of a string: two octets for each of a BMPString, and one for each of the other kinds (8.23).
+abbrev pub AreUnits : StringKind → List ℕ → List ℕ → Type 0
+AreUnits teletex list octets = AreOctets list octets
+AreUnits bmp list octets = AreTwos list octets
+AreUnits _ list octets = octets ≡ list
+
+-- The content has these contents octets. Of the items of an ENUMERATED type they have the number alone.
+abbrev pub HasContents : Content → List ℕ → Type 0
+HasContents null octets = octets ≡ []
+HasContents (truth b) octets = octets ≡ (if b then 255 else 0) ∷ []
+HasContents (number z) octets = IsInteger z octets
+HasContents (discriminant labels z) octets = IsInteger z octets × FitsSigned w64 z
+HasContents (arcs list) octets = AreArcs list octets
+HasContents (bits list) octets = AreBits list octets
+HasContents (units kind list) octets = AreUnits kind list octets
+
+-- Some unit is above 255.
+pub record SomeIsWide (list : List ℕ) : Type 0 where
+  pub unit : ℕ
+  pub among : Contains list unit
+  pub above : 256 ≤ unit
+
+-- The content has no contents octets: arcs that have none, and a TeletexString with a unit above 255.
+abbrev pub HasNoContents : Content → Type 0
+HasNoContents (arcs list) = HaveNoOctets list
+HasNoContents (units teletex list) = SomeIsWide list
+HasNoContents _ = ⊥
