@@ -1,5 +1,5 @@
 -- What an error says.
-use Rattle.std.specs.Prelude.{ℕ, List}
+use Rattle.std.specs.Prelude.{ℕ, Bool, true, false, List}
 use Rattle.asn1_tags.specs.declared.tags.Tag.{Tag}
 use Rattle.asn1_codec.specs.declared.needed.Needed.{Needed}
 use Rattle.asn1_codec.specs.declared.decode_error.DecodeError.{DecodeError}
@@ -36,3 +36,37 @@ reason Memory = no_memory
 reason Depth = too_deep
 reason Failed = has_failed
 reason OutOfRange = out_of_range
+
+-- The number of what is said: its place above, from 1.
+abbrev pub number : Reason → ℕ
+number (custom message) = 1
+number (incomplete needed) = 2
+number (too_long length) = 3
+number (missing_field name) = 4
+number (no_valid_choice name) = 5
+number (field_error name cause) = 6
+number (duplicate_field name) = 7
+number (unknown_field index tag) = 8
+number (wrong_number_of_items expected actual) = 9
+number no_memory = 10
+number too_deep = 11
+number has_failed = 12
+number out_of_range = 13
+
+-- It lacks the name of the component that was read: it is about what was read, and names none. The others name a component, or
+-- they are about the decoder or the input as a whole: more input is needed, no memory or no depth is left, or the decoder has failed
+-- before.
+abbrev pub lacks_name : Reason → Bool
+lacks_name (custom message) = true
+lacks_name (incomplete needed) = false
+lacks_name (too_long length) = true
+lacks_name (missing_field name) = false
+lacks_name (no_valid_choice name) = true
+lacks_name (field_error name cause) = false
+lacks_name (duplicate_field name) = false
+lacks_name (unknown_field index tag) = true
+lacks_name (wrong_number_of_items expected actual) = true
+lacks_name no_memory = false
+lacks_name too_deep = false
+lacks_name has_failed = false
+lacks_name out_of_range = true

@@ -1,5 +1,6 @@
 //! Why a value was not read.
-ghost use Rattle.std.specs.Prelude.{◌≡◌};
+ghost use Rattle.std.specs.Prelude.{◌≡◌, false, true};
+ghost use Rattle.asn1_codec.specs.DecodeErrors.{field_error, lacks_name, number, reason};
 ghost use Rattle.asn1_codec.specs.declared.decode_error.DecodeError.TheVariants.{Memory};
 
 use crate::needed::Needed;
@@ -31,7 +32,7 @@ pub enum DecodeError {
     /// No alternative of a CHOICE has the tag, by the name of the CHOICE.
     #[error("no valid alternative of {0}")]
     NoValidChoice(&'static str),
-    /// A component was not read.
+    /// A component was not read, for an error that does not name one ([`DecodeError::in_field`]).
     #[error("field {name}: error {cause}")]
     FieldError {
         /// The component's name.
@@ -70,6 +71,55 @@ pub enum DecodeError {
     /// A number is outside the limits of its type.
     #[error("value out of range")]
     OutOfRange,
+}
+
+impl DecodeError {
+    /// The number of the error: the place of its case in the definition, from 1.
+    pub fn number(self) -> u8
+        ensures { result ≡ number (reason self) }
+    {
+        match self {
+            DecodeError::Custom(_) => 1,
+            DecodeError::Incomplete(_) => 2,
+            DecodeError::ExceedsMaxLength { .. } => 3,
+            DecodeError::MissingField(_) => 4,
+            DecodeError::NoValidChoice(_) => 5,
+            DecodeError::FieldError { .. } => 6,
+            DecodeError::DuplicateField(_) => 7,
+            DecodeError::UnknownField { .. } => 8,
+            DecodeError::IncorrectItemNumber { .. } => 9,
+            DecodeError::Memory => 10,
+            DecodeError::Depth => 11,
+            DecodeError::Failed => 12,
+            DecodeError::OutOfRange => 13,
+        }
+    }
+
+    /// The error of a type as that of a component of this name: [`DecodeError::FieldError`], with the name and the error's number.
+    /// An error stays as it is that names a component already, and one that is about more than the component: that more input is
+    /// needed, that no memory or no depth is left, or that the decoder has failed before.
+    pub fn in_field(self, name: &'static str) -> DecodeError
+        ensures named { lacks_name (reason self) ≡ true →
+            reason result ≡ field_error name.now (number (reason self)) }
+        ensures same { lacks_name (reason self) ≡ false → result ≡ self }
+    {
+        let cause = self.number();
+        match self {
+            DecodeError::Custom(_)
+            | DecodeError::ExceedsMaxLength { .. }
+            | DecodeError::NoValidChoice(_)
+            | DecodeError::UnknownField { .. }
+            | DecodeError::IncorrectItemNumber { .. }
+            | DecodeError::OutOfRange => DecodeError::FieldError { name, cause },
+            DecodeError::Incomplete(_)
+            | DecodeError::MissingField(_)
+            | DecodeError::FieldError { .. }
+            | DecodeError::DuplicateField(_)
+            | DecodeError::Memory
+            | DecodeError::Depth
+            | DecodeError::Failed => self,
+        }
+    }
 }
 
 impl From<AllocError> for DecodeError {

@@ -1,2 +1,3 @@
+mod NamedErrors
 mod ReadByPlace
 mod ReadInSets

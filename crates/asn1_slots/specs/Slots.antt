@@ -1,5 +1,5 @@
 -- The components of a SEQUENCE or a group, each read into a slot of its own.
-use Rattle.std.specs.Prelude.{◌≡◌, ◌≢◌, ◌≤◌, ◌&&◌, ℕ, zero, suc, ⊤, Bool, true, false, List, [], ◌∷◌, drop, length, take, IsPermutation, Option, None, Some, IfSome, Result, MatchResult, is_some, if◌then◌else◌, refl}
+use Rattle.std.specs.Prelude.{◌≡◌, ◌≢◌, ◌≤◌, ◌&&◌, ℕ, zero, suc, ⊤, Bool, true, false, List, [], ◌∷◌, drop, length, take, IsPermutation, Option, None, Some, IfSome, Result, Err, MatchResult, is_some, if◌then◌else◌, refl}
 use Rattle.std.specs.Option.{option_eq}
 use Rattle.std.specs.Result.{IsErrAnd}
 use Rattle.asn1_components.specs.ComponentLists.{EachIsOfType, EachIsValid}
@@ -291,6 +291,11 @@ module _ {S V : Type 0} where
   MakesValue slots eq s result =
       (v : V) → HoldBefore slots (length slots) s v →
       MatchResult result (λ w. eq w v ≡ true) (λ e. e ≡ Memory)
+
+-- The error is one that can be made of slots.
+abbrev pub IsOfSlots : {S V : Type 0} → List (Slot S V) → (V → V → Bool) → DecodeError → Type 0
+IsOfSlots {S = S} {V = V} slots eq e =
+    (s : S) × (MakesValue slots eq s (Err e) × RefusesMissing {A = V} slots s (Err e))
 
 -- Two components are the same to a reader.
 abbrev pub SameComponent : {V : Type 0} → ComponentType V → ComponentType V → Type 0

@@ -1,10 +1,11 @@
 //! The calls that read a component into its slot.
+ghost use Rattle.asn1_codec.specs.DecodeErrors.{lacks_name, reason};
 ghost use Rattle.asn1_model.specs.Records.{in_additions, in_root};
 ghost use Rattle.asn1_slots.specs.Filling.{Fills, FillsGroup, FillsOnce, FillsOptional};
 ghost use Rattle.asn1_slots.specs.Taggings.{under};
-ghost use Rattle.std.specs.Prelude.{◌≡◌, OnOk};
+ghost use Rattle.std.specs.Prelude.{◌≡◌, false, IfErr, OnOk};
 
-use crate::tagged::{read_addition, read_component, read_optional};
+use crate::tagged::{read_addition, read_component, read_named, read_optional};
 use crate::tagging::Tagging;
 use asn1_codec::DecodeError;
 use asn1_dec::{Decode, DecodeFields, Decoder};
@@ -67,7 +68,8 @@ pub fn group<C: DecodeFields, D: Decoder>(
     Ok(())
 }
 
-/// Reads a component of a SET. Where it was read before, the error is [`DecodeError::DuplicateField`], with the name.
+/// Reads a component of a SET. Where it was read before, the error is [`DecodeError::DuplicateField`], with the name; an error of
+/// the component is answered with its name ([`DecodeError::in_field`]).
 pub fn once<T: Decode, D: Decoder>(
     slot: &mut Option<T>,
     decoder: &mut D,
@@ -78,10 +80,11 @@ pub fn once<T: Decode, D: Decoder>(
         decoder.new slot.old slot.new result }
     ensures same_depth { OnOk result (D.reader.depth_left decoder.new ≡
         D.reader.depth_left decoder.old) }
+    ensures named { IfErr result (λ error. lacks_name (reason error) ≡ false) }
 {
     if slot.is_some() {
         return Err(DecodeError::DuplicateField(name));
     }
-    *slot = Some(read_component(decoder, tagging)?);
+    *slot = Some(read_named(decoder, tagging, name)?);
     Ok(())
 }

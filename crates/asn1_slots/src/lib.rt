@@ -26,6 +26,8 @@
 //! - At each place of a type its call has to promise that (`ReadsAt`, `ReadsOnceAt`), and to leave what other slots hold (`kept`).
 //! - Of slots that hold what a value has an equal value is made (`MakesValue`). Where a component is missing that is always
 //!   there, the error says which is the first (`RefusesMissing`).
+//! - An error of a component is answered with the component's name, unless it has one already, or is about more than the component
+//!   (`named` of `decode_by_place` and of [`once`]).
 //! - So `decode_by_place` reads a SEQUENCE or a group as `decode_fields` of `asn1_dec` has to, and [`decode_set_by_place`] reads
 //!   a SET as `decode_set` of `Decoder` does.
 //!
@@ -35,6 +37,7 @@
 mod by_place;
 mod calls;
 mod constrained;
+mod errors;
 mod set_by_place;
 mod slotted;
 mod tagged;

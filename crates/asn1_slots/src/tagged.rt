@@ -1,10 +1,11 @@
 //! A component, read by its type.
+ghost use Rattle.asn1_codec.specs.DecodeErrors.{lacks_name, reason};
 ghost use Rattle.asn1_codec.specs.Reading.{Outside, ReadsBack};
 ghost use Rattle.asn1_model.specs.Records.{in_additions, in_root};
 ghost use Rattle.asn1_slots.specs.Filling.{ReadsComponent, ReadsOptional};
 ghost use Rattle.asn1_slots.specs.Taggings.{under};
 ghost use Rattle.std.specs.Option.{option_eq};
-ghost use Rattle.std.specs.Prelude.{◌≡◌, OnOk, true};
+ghost use Rattle.std.specs.Prelude.{◌≡◌, false, IfErr, OnOk, true};
 
 use crate::tagging::Tagging;
 use asn1_codec::DecodeError;
@@ -24,6 +25,24 @@ pub(crate) fn read_component<T: Decode, D: Decoder>(
         Tagging::Untagged => T::decode(decoder),
         Tagging::Tagged(tag) => T::decode_with_tag(decoder, tag),
         Tagging::Explicit(tag) => decoder.decode_explicit_prefix(tag),
+    }
+}
+
+/// A component that is always there, whose errors have its name.
+pub(crate) fn read_named<T: Decode, D: Decoder>(
+    decoder: &mut D,
+    tagging: Tagging,
+    name: &'static str,
+) -> Result<T, DecodeError>
+    ensures read { ReadsComponent D.reader (under tagging T.meaning) (λ v w. T.eq w v ≡ true)
+        decoder.old decoder.new result }
+    ensures same_depth { OnOk result (D.reader.depth_left decoder.new ≡
+        D.reader.depth_left decoder.old) }
+    ensures named { IfErr result (λ error. lacks_name (reason error) ≡ false) }
+{
+    match read_component(decoder, tagging) {
+        Ok(value) => Ok(value),
+        Err(error) => Err(error.in_field(name)),
     }
 }
 

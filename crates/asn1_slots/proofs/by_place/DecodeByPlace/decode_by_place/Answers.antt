@@ -1,7 +1,7 @@
 use Rattle.std.proofs.Common.{◌≡◌, ◌<◌, length, refl, arith, ◌∙◌}
-use Rattle.std.proofs.lemmas.Result.{err_from_is_err_and}
 use Rattle.asn1_components.proofs.TableLengths.{length-table}
 use Rattle.asn1_components.specs.Components.{all_components}
+use Rattle.asn1_slots.proofs.NamedErrors.{fails_alike, of_slots}
 use Rattle.asn1_slots.proofs.ReadByPlace.{none_yet, one_more, not_read, all_read}
 use Rattle.asn1_slots.proofs.by_place.DecodeByPlace.decode_by_place.Goals as goal
 
@@ -16,19 +16,19 @@ loop-place-preserved g c =
     let cs = all_components g.Self.FieldTable.components in
     let low : c.loop-place.place < length cs = omega (arith, c.loop-place-test.true, c.loop-place.auto.place-end, c.field_count-place-end.ensures, length-table g.Self.FieldTable.components) in
     record {
-      same_depth = c.in_ok-decode_field.ensures.same_depth ∙ c.loop-place.invariant.same_depth;
+      same_depth = c.in-Ok.ensures.same_depth ∙ c.loop-place.invariant.same_depth;
       way = λ v rest outer can of_type valid ends at.
           let upto = c.loop-place.invariant.way v rest outer can of_type valid ends at in
-          one_more g.D.Decoder.reader cs g.Self.Slotted.layout g.met.Self.DecodeByPlace.agrees _ v rest outer _ _ _ _ _ c.loop-place.place low upto _ c.in_ok-decode_field.ensures.same_depth c.in_ok-decode_field.ensures.read (c.in_ok-decode_field.ensures.kept v upto.hold);
+          one_more g.D.Decoder.reader cs g.Self.Slotted.layout g.met.Self.DecodeByPlace.agrees _ v rest outer _ _ _ _ _ c.loop-place.place low upto _ c.in-Ok.ensures.same_depth c.in-Ok.ensures.read (c.in-Ok.ensures.kept v upto.hold);
     }
 
-pub returns-in_err-decode_field-clause-read : goal.returns-in_err-decode_field-clause-read
-returns-in_err-decode_field-clause-read g c = λ v rest outer can of_type valid ends at.
+pub returns-in-Err-clause-read : goal.returns-in-Err-clause-read
+returns-in-Err-clause-read g c = λ v rest outer can of_type valid ends at.
     let cs = all_components g.Self.FieldTable.components in
     let low : c.loop-place.place < length cs = omega (arith, c.loop-place-test.true, c.loop-place.auto.place-end, c.field_count-place-end.ensures, length-table g.Self.FieldTable.components) in
-    let p = err_from_is_err_and c.from_residual.result c.from_residual.ensures.1 in
     let upto = c.loop-place.invariant.way v rest outer can of_type valid ends at in
-    rw (p.1, p.2) (not_read g.D.Decoder.reader cs g.Self.Slotted.layout g.met.Self.DecodeByPlace.agrees _ v rest outer _ _ _ _ _ c.loop-place.place low upto _ c.in_err-decode_field.ensures.read)
+    fails_alike _ _ _ _ c.in_component.ensures.same
+    (not_read g.D.Decoder.reader cs g.Self.Slotted.layout g.met.Self.DecodeByPlace.agrees _ v rest outer _ _ _ _ _ c.loop-place.place low upto _ c.in-Err.ensures.read)
 
 pub returns-clause-read : goal.returns-clause-read
 returns-clause-read g c = λ v rest outer can of_type valid ends at.
@@ -36,3 +36,6 @@ returns-clause-read g c = λ v rest outer can of_type valid ends at.
     let end : length cs ≡ c.loop-place.place = omega (arith, c.loop-place-test.false, c.loop-place.auto.place-end, c.field_count-place-end.ensures, length-table g.Self.FieldTable.components) in
     let upto = c.loop-place.invariant.way v rest outer can of_type valid ends at in
     all_read g.D.Decoder.reader cs g.Self.Slotted.layout g.met.Self.DecodeByPlace.agrees _ v rest outer g.Self.PartialEq.eq _ _ c.loop-place.place c.from_slots.result end upto c.from_slots.ensures.made
+
+pub returns-clause-named : goal.returns-clause-named
+returns-clause-named g c = of_slots g.Self.Slotted.layout g.Self.PartialEq.eq _ c.from_slots.result c.from_slots.ensures.made c.from_slots.ensures.missing

@@ -1,0 +1,21 @@
+//! The error of a component, by its name.
+ghost use Rattle.asn1_codec.specs.DecodeErrors.{field_error, lacks_name, number, reason};
+ghost use Rattle.asn1_components.specs.Components.{table};
+ghost use Rattle.std.specs.Prelude.{◌≡◌, ◌<◌, false, IfSome, length, slice_get, true};
+
+use asn1_codec::DecodeError;
+use asn1_components::FieldTable;
+
+/// The error as that of the component at this place of the table ([`DecodeError::in_field`]).
+pub(crate) fn in_component<C: FieldTable>(place: usize, error: DecodeError) -> DecodeError
+    requires { place < length (table C.components) }
+    ensures named { lacks_name (reason error) ≡ true → IfSome (slice_get (table C.components) place)
+        (λ entry. reason result ≡ field_error entry.name (number (reason error))) }
+    ensures same { lacks_name (reason error) ≡ false → result ≡ error }
+    ensures has_name { lacks_name (reason result) ≡ false }
+{
+    match C::field_at(place) {
+        Some(field) => error.in_field(field.name),
+        None => error,
+    }
+}
