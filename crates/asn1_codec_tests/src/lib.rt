@@ -11,7 +11,8 @@
 //! | [`nested_lists_need_their_depth`] | how deep scopes are nested |
 //! | [`Failure`] | why a case failed |
 //! | [`comes_back`], [`made_comes_back`], [`needs_depth`], [`is_refused`] | what is tried of a value of any type |
-//! | [`goes_there_and_back`], [`made_goes_there_and_back`], [`is_not_recoded`] | what is tried of two codecs |
+//! | [`goes_there_and_back`], [`is_not_recoded`] | what is tried of two codecs |
+//! | [`ValueCase`], [`ThereAndBack`] | what is tried of values of many types |
 //! | [`CallRules`], [`Calls`], [`calls_come_back`] | what is tried of calls |
 //! | [`NumberedCalls`], [`numbered_calls_come_back`] | what is tried of several calls in a row |
 //! | [`made`] | values that cases make |
@@ -31,6 +32,7 @@ mod recoding;
 pub mod refusals;
 mod round_trips;
 pub mod types;
+mod value_case;
 
 pub use call_rules::{
     CallRules, Calls, FIRST, NAME, NumberedCalls, answers, answers_none, answers_some,
@@ -38,7 +40,8 @@ pub use call_rules::{
 };
 pub use depth::{is_read, needs_depth, nested_lists_need_their_depth};
 pub use failure::Failure;
-pub use recoding::{goes_there_and_back, is_not_recoded, made_goes_there_and_back};
+pub use recoding::{goes_there_and_back, is_not_recoded};
 pub use round_trips::{
     comes_back, comes_back_as, is_not_read, is_refused, is_same, is_this, made_comes_back,
 };
+pub use value_case::{ThereAndBack, ValueCase};

@@ -47,21 +47,6 @@ fn goes_back<A: Rules, B: Rules, T: Encode + Decode>(
     }
 }
 
-/// The same of a value that has been made for it.
-///
-/// # Errors
-/// Why it was not made, or as `goes_there_and_back`.
-pub fn made_goes_there_and_back<A: Rules, B: Rules, T: Encode + Decode>(
-    here: &A,
-    there: &B,
-    made: Result<T, Failure>,
-) -> Result<(), Failure> {
-    match made {
-        Ok(value) => goes_there_and_back(here, there, &value),
-        Err(failure) => Err(failure),
-    }
-}
-
 /// Whether an output that is no value of the type is refused as reading refuses it.
 ///
 /// # Errors

@@ -23,8 +23,6 @@ pub mod laws;
 mod next_item;
 mod rules;
 mod tags;
-#[cfg(test)]
-mod tests;
 
 pub use next_item::NextItem;
 pub use rules::TagRules;

@@ -1,14 +1,16 @@
 //! The bytes of worked values, which were made by hand.
 use crate::rules::BenchRules;
+use crate::tests::cases::writes;
 use asn1_codec_tests::made::{letters, list, units};
-use asn1_enc::Encode;
+use asn1_enc::{Encode, Encoder};
 use asn1_open::Open;
-use asn1_sample_tests::samples::person;
-use asn1_samples::{Badge, Color, Contact, Plate, Profile, Shape};
+use asn1_packed::PackedEncoder;
+use asn1_sample_tests::samples::{bare_chain, person};
+use asn1_samples::{Badge, Color, Contact, Labelled, Plate, Profile, Settings, Shape};
 use asn1_schema::Rules;
 use asn1_strings::kind::{Bmp, Teletex};
 use asn1_strings::{BitString, NumericString, ObjectIdentifier};
-use asn1_types::{Explicit, tag};
+use asn1_tags::{Class, Identifier, Tag};
 use asn1_values::Integer;
 use std::alloc::Global;
 use std::process::Abort;
@@ -52,6 +54,15 @@ pub(super) const BADGE: &[u8] = &[
     0x00, 0x0b, 0x01, 0x00, 0x00, 0x00, 0x00, 0x05, 0x04, 0x00, 0x00, 0x00, 0x00,
 ];
 
+/// `AB`.
+const PLATE: &[u8] = &[1, 0, 0, 0, 0, 26, 9, 0, 0, 0, 2, 0x41, 0x42];
+
+/// A `Node` without a label and without children.
+const NODE: &[u8] = &[
+    0x02, 0x00, 0x00, 0x00, 0x00, 0x10, 0x00, 0x00, 0x00, 0x0b, 0x11, 0x04, 0x00, 0x00, 0x00, 0x00,
+    0x10, 0x00, 0x00, 0x00, 0x00,
+];
+
 /// The bytes of a value.
 pub(super) fn written<T: Encode>(rt: &impl Abort, alloc: Global, value: &T) -> Vec<u8> {
     BenchRules::new(alloc)
@@ -61,7 +72,7 @@ pub(super) fn written<T: Encode>(rt: &impl Abort, alloc: Global, value: &T) -> V
 
 /// Asserts the bytes of a value.
 fn assert_bytes<T: Encode>(rt: &impl Abort, alloc: Global, value: &T, bytes: &[u8]) {
-    assert!(rt; written(rt, alloc, value).as_slice() == bytes);
+    writes(rt, &BenchRules::new(alloc), value, bytes);
 }
 
 fn assert_integer(rt: &impl Abort, alloc: Global, number: i128, bytes: &[u8]) {
@@ -128,9 +139,10 @@ fn assert_bmp(rt: &impl Abort, alloc: Global, string: &[u16], bytes: &[u8]) {
     assert_bytes(rt, alloc, &value, bytes);
 }
 
-fn assert_plate(rt: &impl Abort, alloc: Global, plate: &[u8], bytes: &[u8]) {
-    let value = Plate(letters(alloc, plate).expect(rt, "memory"));
-    assert_bytes(rt, alloc, &value, bytes);
+/// Asserts the bytes of the plate `AB`.
+pub(super) fn assert_plate<R: Rules<Output = Vec<u8>>>(rt: &impl Abort, alloc: Global, rules: &R) {
+    let value = Plate(letters(alloc, b"AB").expect(rt, "memory"));
+    writes(rt, rules, &value, PLATE);
 }
 
 #[test]
@@ -146,12 +158,7 @@ fn units_have_one_two_or_four_bytes(rt: HostRuntime) {
         &[258],
         &[1, 0, 0, 0, 0, 30, 16, 0, 0, 0, 2, 1, 2],
     );
-    assert_plate(
-        &rt,
-        alloc,
-        b"AB",
-        &[1, 0, 0, 0, 0, 26, 9, 0, 0, 0, 2, 0x41, 0x42],
-    );
+    assert_plate(&rt, alloc, &BenchRules::new(alloc));
 }
 
 fn assert_none(rt: &impl Abort, alloc: Global) {
@@ -159,19 +166,32 @@ fn assert_none(rt: &impl Abort, alloc: Global) {
     assert_bytes(rt, alloc, &none, &[4, 0, 0, 0, 0, 16, 0, 0, 0, 0]);
 }
 
+/// Asserts the bytes of `TRUE` under an explicit tag.
+fn assert_after_a_tag(rt: &impl Abort, alloc: Global) {
+    let tag = Tag {
+        class: Class::Context,
+        value: 1,
+    };
+    let mut encoder = PackedEncoder::new(alloc, 1);
+    encoder
+        .encode_explicit_prefix(tag, &true, Identifier::EMPTY)
+        .expect(rt, "memory");
+    let inner = [
+        6, 2, 0, 0, 0, 1, 0, 0, 0, 12, 1, 0, 0, 0, 0, 1, 1, 0, 0, 0, 1, 1,
+    ];
+    assert!(rt; encoder.finish().as_slice() == inner.as_slice());
+}
+
 #[test]
 fn scopes_have_the_length_of_what_is_inside(rt: HostRuntime) {
     let alloc = rt.alloc();
     assert_none(&rt, alloc);
-    let inner = [
-        6, 0, 0, 0, 0, 1, 0, 0, 0, 12, 1, 0, 0, 0, 0, 1, 1, 0, 0, 0, 1, 1,
-    ];
-    assert_bytes(&rt, alloc, &Explicit::<tag::BOOL, bool>::new(true), &inner);
+    assert_after_a_tag(&rt, alloc);
     assert_bytes(&rt, alloc, &Open::Null, OPEN);
 }
 
 /// A profile with this contact.
-fn profile(contact: Option<Contact>) -> Profile {
+pub(super) fn profile(contact: Option<Contact>) -> Profile {
     Profile {
         nick: None,
         level: 7,
@@ -189,9 +209,36 @@ fn assert_person(rt: &impl Abort, alloc: Global) {
     assert_bytes(rt, alloc, &person(alloc).expect(rt, "memory"), PERSON);
 }
 
-fn assert_reached(rt: &impl Abort, alloc: Global, phone: &[u8], bytes: &[u8]) {
-    let phone = letters(alloc, phone).expect(rt, "memory");
-    assert_bytes(rt, alloc, &profile(Some(contact(Some(phone)))), bytes);
+/// Asserts the bytes of a profile with the contact `{ phone "12" }`.
+pub(super) fn assert_reached<R: Rules<Output = Vec<u8>>>(
+    rt: &impl Abort,
+    alloc: Global,
+    rules: &R,
+    bytes: &[u8],
+) {
+    let phone = letters(alloc, b"12").expect(rt, "memory");
+    writes(rt, rules, &profile(Some(contact(Some(phone)))), bytes);
+}
+
+/// Asserts the bytes of settings whose entry equals the default.
+pub(super) fn assert_settings<R: Rules<Output = Vec<u8>>>(
+    rt: &impl Abort,
+    rules: &R,
+    bytes: &[u8],
+) {
+    let entry = Labelled { key: 1, note: 9 };
+    writes(rt, rules, &Settings { entry }, bytes);
+}
+
+/// Asserts the bytes of a node without a label and without children.
+pub(super) fn assert_node<R: Rules<Output = Vec<u8>>>(
+    rt: &impl Abort,
+    alloc: Global,
+    rules: &R,
+    bytes: &[u8],
+) {
+    let node = bare_chain(alloc, 0).expect(rt, "memory");
+    writes(rt, rules, &node, bytes);
 }
 
 fn assert_badge(rt: &impl Abort, alloc: Global, shape: Shape, bytes: &[u8]) {
@@ -206,9 +253,12 @@ fn assert_badge(rt: &impl Abort, alloc: Global, shape: Shape, bytes: &[u8]) {
 #[test]
 fn samples_are_written_as_worked_out(rt: HostRuntime) {
     let alloc = rt.alloc();
+    let rules = BenchRules::new(alloc);
     assert_person(&rt, alloc);
     assert_bytes(&rt, alloc, &profile(None), PROFILE);
     assert_bytes(&rt, alloc, &profile(Some(contact(None))), PROFILE);
-    assert_reached(&rt, alloc, b"12", REACHED);
+    assert_reached(&rt, alloc, &rules, REACHED);
     assert_badge(&rt, alloc, Shape::Dot(()), BADGE);
+    assert_settings(&rt, &rules, &[2, 0, 0, 0, 0, 16, 0, 0, 0, 1, 0x11]);
+    assert_node(&rt, alloc, &rules, NODE);
 }

@@ -1,52 +1,43 @@
-//! How deep values may be nested: as deep as the depth says, and no deeper.
+//! How long nested values are, and what is answered where no scope may be opened.
 use crate::rules::BenchRules;
-use crate::tests::cases::passes;
-use asn1_codec_tests::made::list;
-use asn1_codec_tests::needs_depth;
 use asn1_dec::{Decode, DecodeError, Decoder};
 use asn1_enc::Encode;
-use asn1_open::Open;
 use asn1_packed::PackedDecoder;
+use asn1_sample_tests::samples::{bare_chain, null_inside_instances};
 use asn1_schema::Rules;
-use asn1_strings::ObjectIdentifier;
-use asn1_types::InstanceOf;
 use std::alloc::Global;
 use std::process::Abort;
 
-/// Asserts how many bytes a value has, and that it is neither written nor read where one scope less may be opened.
-fn assert_nested<T: Encode + Decode>(
+/// Asserts how many bytes a value has, which is written with so many nested scopes.
+fn assert_length<T: Encode>(
     rt: &impl Abort,
     alloc: Global,
     value: &T,
-    length: usize,
     depth: usize,
+    length: usize,
 ) {
-    let rules = BenchRules::new(alloc);
-    let bytes = rules.write_value(value, depth).expect(rt, "enough depth");
-    assert!(rt; bytes.len() == length);
-    passes(rt, "depth", needs_depth(&rules, value, depth));
-}
-
-/// An INSTANCE OF around a value.
-fn instance(rt: &impl Abort, alloc: Global, value: Open) -> Open {
-    let type_id = ObjectIdentifier::new(list(alloc, &[1, 3]).expect(rt, "memory"));
-    Open::InstanceOf(Box::new(alloc, InstanceOf { type_id, value }).expect(rt, "memory"))
+    let written = BenchRules::new(alloc).write_value(value, depth);
+    assert!(rt; written.expect(rt, "enough depth").len() == length);
 }
 
 /// Asserts it of a NULL inside so many INSTANCE OF.
-fn assert_instances(rt: &impl Abort, alloc: Global, around: usize, length: usize, depth: usize) {
-    let mut value = Open::Null;
-    for _index in 0..around {
-        value = instance(rt, alloc, value);
-    }
-    assert_nested(rt, alloc, &value, length, depth);
+fn assert_instances(rt: &impl Abort, alloc: Global, around: usize, depth: usize, length: usize) {
+    let value = null_inside_instances(alloc, around).expect(rt, "memory");
+    assert_length(rt, alloc, &value, depth, length);
+}
+
+/// Asserts it of a node without labels and with so many nodes around it.
+fn assert_nodes(rt: &impl Abort, alloc: Global, around: usize, depth: usize, length: usize) {
+    let value = bare_chain(alloc, around).expect(rt, "memory");
+    assert_length(rt, alloc, &value, depth, length);
 }
 
 #[test]
-fn each_instance_takes_three_scopes(rt: HostRuntime) {
-    assert_instances(&rt, rt.alloc(), 0, 21, 1);
-    assert_instances(&rt, rt.alloc(), 1, 70, 4);
-    assert_instances(&rt, rt.alloc(), 100, 4921, 301);
+fn bytes_grow_with_the_depth(rt: HostRuntime) {
+    assert_instances(&rt, rt.alloc(), 1, 4, 70);
+    assert_instances(&rt, rt.alloc(), 100, 301, 4921);
+    assert_nodes(&rt, rt.alloc(), 1, 4, 42);
+    assert_nodes(&rt, rt.alloc(), 100, 202, 2121);
 }
 
 #[test]

@@ -14,7 +14,7 @@ struct NoMemory;
 impl Rules for NoMemory {
     type Output = ();
 
-    ghost format = { record { carries = λ output rs. ⊥; rejects = λ rs. ⊥; takes = λ bytes. true } };
+    ghost format = { record { carries = λ output rs. ⊥; rejects = λ rs. ⊥; accepts = λ bytes. true } };
 
     fn write_value<T: Encode>(&self, _value: &T, _depth: usize) -> Result<(), EncodeError> {
         Err(EncodeError::Memory)

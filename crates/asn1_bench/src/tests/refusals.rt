@@ -227,15 +227,21 @@ const TWICE: &[u8] = &[
     1, 0, 0, 0, 0, 1, 1, 0, 0, 0, 1, 1, 1, 0, 0, 0, 0, 1, 1, 0, 0, 0, 1, 1,
 ];
 
+/// `{ age 0, name "" }`, with a NULL behind.
+const THIRD: &[u8] = &[
+    2, 0, 0, 0, 0, 16, 0, 0, 0, 34, 1, 0, 0, 0, 0, 2, 2, 0, 0, 0, 1, 0, 1, 0, 0, 0, 0, 12, 8, 0, 0,
+    0, 0, 1, 0, 0, 0, 0, 5, 4, 0, 0, 0, 0,
+];
+
 #[test]
 fn what_is_left_over_is_bad(rt: HostRuntime) {
     let alloc = rt.alloc();
     is_bad::<bool>(&rt, alloc, "twice", TWICE);
     is_bad::<PhantomData<u8>>(&rt, alloc, "one for none", TRUE);
-    let mark = [2, 0, 0, 0, 0, 16, 0, 0, 0, 1, 19];
+    let mark = [4, 0, 0, 0, 0, 16, 0, 0, 0, 1, 19];
     is_bad::<Vec<bool>>(&rt, alloc, "a mark in a list", &mark);
-    let more = [4, 0, 0, 0, 0, 16, 0, 0, 0, 1, 17];
-    is_bad::<PhantomData<u8>>(&rt, alloc, "a list for none", &more);
+    is_bad::<Vec<PhantomData<u8>>>(&rt, alloc, "elements of no bytes", &mark);
+    is_bad::<Person>(&rt, alloc, "a third", THIRD);
 }
 
 #[test]

@@ -13,6 +13,7 @@ fn sequences_come_back<R: Rules>(rt: &impl Abort, alloc: Global, rules: &R) {
     passes(rt, "profiles", samples::profiles_come_back(rules, alloc));
     passes(rt, "visits", samples::visits_come_back(rules, alloc));
     passes(rt, "settings", samples::settings_come_back(rules));
+    passes(rt, "a default", samples::default_settings_come_back(rules));
     passes(
         rt,
         "bodies",
@@ -35,6 +36,7 @@ fn choices_and_sets_come_back<R: Rules>(rt: &impl Abort, alloc: Global, rules: &
         samples::alternatives_come_back(rules, alloc),
     );
     passes(rt, "badges", samples::badges_come_back(rules, alloc));
+    passes(rt, "tickets", samples::tickets_come_back(rules, alloc));
 }
 
 fn values_that_hold_themselves_come_back<R: Rules>(rt: &impl Abort, alloc: Global, rules: &R) {

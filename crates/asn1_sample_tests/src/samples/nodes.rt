@@ -10,8 +10,20 @@ use std::alloc::{AllocError, Global};
 /// There was no memory.
 pub fn node_chain(alloc: Global, around: usize) -> Result<Node, AllocError> {
     let label = String::from_str(alloc, "a")?;
+    chain(alloc, Some(label), around)
+}
+
+/// The same without a label.
+///
+/// # Errors
+/// There was no memory.
+pub fn bare_chain(alloc: Global, around: usize) -> Result<Node, AllocError> {
+    chain(alloc, None, around)
+}
+
+fn chain(alloc: Global, label: Option<String>, around: usize) -> Result<Node, AllocError> {
     let mut node = Node {
-        label: Some(label),
+        label,
         children: Vec::new(alloc),
     };
     for _index in 0..around {

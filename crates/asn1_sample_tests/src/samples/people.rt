@@ -79,13 +79,15 @@ pub(super) fn full(alloc: Global) -> Result<Profile, Failure> {
     })
 }
 
-/// Whether profiles come back, bare and full. One whose group writes nothing comes back without it.
+/// Whether profiles come back: bare, with the second component of the group alone, and full. One whose group writes nothing comes
+/// back without it.
 ///
 /// # Errors
 /// Why one did not.
 pub fn profiles_come_back<R: Rules>(rules: &R, alloc: Global) -> Result<(), Failure> {
     made_comes_back(rules, Ok(bare(None)))
         .and(without_contact(rules))
+        .and(made_comes_back(rules, with_contact(alloc, None, Some(b"a@b"))))
         .and(made_comes_back(rules, full(alloc)))
 }
 

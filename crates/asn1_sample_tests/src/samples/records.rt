@@ -1,9 +1,9 @@
 //! The other SEQUENCEs, and `Plate`.
 use asn1_codec_tests::made::{letters, list, text};
-use asn1_codec_tests::{Failure, comes_back, is_refused, made_comes_back};
+use asn1_codec_tests::{Failure, comes_back, is_refused, is_same, made_comes_back};
 use asn1_dec::{Decode, DecodeError};
 use asn1_samples::{Envelope, Labelled, Notice, Pair, Plate, Settings};
-use asn1_schema::Rules;
+use asn1_schema::{Rules, round_trip};
 use asn1_types::Any;
 use asn1_values::ConstrainedInteger;
 use std::alloc::Global;
@@ -21,6 +21,18 @@ pub fn settings_come_back<R: Rules>(rules: &R) -> Result<(), Failure> {
 fn settings<R: Rules>(rules: &R, key: u8) -> Result<(), Failure> {
     let entry = Labelled { key, note: 9 };
     comes_back(rules, &Settings { entry })
+}
+
+/// Whether an entry that equals the default comes back as the default, whose note is 0.
+///
+/// # Errors
+/// [`Failure::Another`] where it has another note; else why it did not come back.
+pub fn default_settings_come_back<R: Rules>(rules: &R) -> Result<(), Failure> {
+    let entry = Labelled { key: 1, note: 9 };
+    match round_trip(rules, &Settings { entry }, 1, 1) {
+        Ok(back) => is_same(&back.entry.note, &0),
+        Err(error) => Err(Failure::of_round_trip(error)),
+    }
 }
 
 /// Whether an envelope comes back whose open type has these bytes, which are one value of it.
