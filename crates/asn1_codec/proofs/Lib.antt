@@ -3,6 +3,7 @@ pub mod Heights
 pub mod MarksPassed
 pub mod OneRecordEach
 pub mod ReadingAlternatives
+pub mod ReadingChoices
 pub mod ReadingComponents
 pub mod ReadingConstructed
 pub mod ReadingDefaults
@@ -12,6 +13,7 @@ pub mod ReadingHolders
 pub mod ReadingOnce
 pub mod ReadingOptionals
 pub mod ReadingParts
+pub mod ReadingSetScopes
 pub mod ReadingSets
 pub mod ReadingSetsOf
 pub mod ReadingSteps
@@ -24,6 +26,7 @@ pub mod TellingTags
 pub mod TwoComponents
 pub mod WritingAlternatives
 pub mod WritingComponents
+pub mod WritingConstructed
 pub mod WritingDefaults
 pub mod WritingElements
 pub mod WritingNames

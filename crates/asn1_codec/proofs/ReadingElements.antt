@@ -52,7 +52,7 @@ module _ {V : Type 0} (m : Meaning V) (can : IsWellTagged m) where
 
 module _ {D V : Type 0} (R : Reader D) (m : Meaning V) (eq : V → V → Bool) where
   -- These elements were read, and others are left.
-  pub record Midway (d : D) (read vs : List V) (outer : Outside) : Type 0 where
+  pub record ElementsRead (d : D) (read vs : List V) (outer : Outside) : Type 0 where
     pub done : List V
     pub todo : List V
     pub split : vs ≡ done ++ todo
@@ -83,7 +83,7 @@ module _ {D V : Type 0} (R : Reader D) (m : Meaning V) (eq : V → V → Bool) w
     pub at : R.remains d ([], outer)
 
   pub start : (d : D) (vs : List V) (outer : Outside) → All m.IsOfType vs → All (m.IsValid R.accepts) vs →
-      R.remains d (flat_map (own_records m) vs, outer) → Midway d [] vs outer
+      R.remains d (flat_map (own_records m) vs, outer) → ElementsRead d [] vs outer
   start d vs outer of_type valid at =
       record { done = []; todo = vs; split = refl; same = refl; low = omega arith; of_type = of_type; valid = valid; at = at }
 
@@ -93,7 +93,7 @@ module _ {D V : Type 0} (R : Reader D) (m : Meaning V) (eq : V → V → Bool) w
   comes can d x xs outer at = subst (λ l. R.remains d (l ++ flat_map (own_records m) xs, outer)) (one m can x).alone at
 
   -- where whether an element comes could not be told
-  pub not_told : (can : IsWellTagged m) {d e : D} {read vs : List V} {scope : Head × List Record} {outer : Outside} {error : DecodeError} (b h : ℕ) → Midway d read vs (scope ∷ outer) →
+  pub not_told : (can : IsWellTagged m) {d e : D} {read vs : List V} {scope : Head × List Record} {outer : Outside} {error : DecodeError} (b h : ℕ) → ElementsRead d read vs (scope ∷ outer) →
       TellsMore R d e (Err error) → MayFail b h error
   not_told can {d} {e} {read} {vs} {scope} {outer} {error} b h mid tells =
       elim mid.todo as (λ todo. R.remains d (flat_map (own_records m) todo, scope ∷ outer) → MayFail b h error) [
@@ -102,7 +102,7 @@ module _ {D V : Type 0} (R : Reader D) (m : Meaning V) (eq : V → V → Bool) w
       ]
       mid.at
 
-  pub another : (can : IsWellTagged m) {d e : D} {read vs : List V} {scope : Head × List Record} {outer : Outside} (b : Bool) → Midway d read vs (scope ∷ outer) → TellsMore R d e (Ok b) → b ≡ true →
+  pub another : (can : IsWellTagged m) {d e : D} {read vs : List V} {scope : Head × List Record} {outer : Outside} (b : Bool) → ElementsRead d read vs (scope ∷ outer) → TellsMore R d e (Ok b) → b ≡ true →
       R.depth_left e ≡ R.depth_left d → AnotherComes e read vs (scope ∷ outer)
   another can {d} {e} {read} {vs} {scope} {outer} b mid tells hit kept =
       elim mid.todo as (λ todo. vs ≡ mid.done ++ todo → All m.IsOfType todo → All (m.IsValid R.accepts) todo → R.remains d (flat_map (own_records m) todo, scope ∷ outer) → AnotherComes e read vs (scope ∷ outer)) [
@@ -124,7 +124,7 @@ module _ {D V : Type 0} (R : Reader D) (m : Meaning V) (eq : V → V → Bool) w
       ]
       mid.split mid.of_type mid.valid mid.at
 
-  pub through : (can : IsWellTagged m) {d e : D} {read vs : List V} {scope : Head × List Record} {outer : Outside} (b : Bool) → Midway d read vs (scope ∷ outer) → TellsMore R d e (Ok b) → b ≡ false →
+  pub through : (can : IsWellTagged m) {d e : D} {read vs : List V} {scope : Head × List Record} {outer : Outside} (b : Bool) → ElementsRead d read vs (scope ∷ outer) → TellsMore R d e (Ok b) → b ≡ false →
       R.depth_left e ≡ R.depth_left d → Through e read vs (scope ∷ outer)
   through can {d} {e} {read} {vs} {scope} {outer} b mid tells miss kept =
       elim mid.todo as (λ todo. vs ≡ mid.done ++ todo → R.remains d (flat_map (own_records m) todo, scope ∷ outer) → Through e read vs (scope ∷ outer)) [
@@ -140,7 +140,7 @@ module _ {D V : Type 0} (R : Reader D) (m : Meaning V) (eq : V → V → Bool) w
   -- after an element was read
   pub further : {d : D} {read vs : List V} {outer : Outside} (e : D) (w : V) (a : AnotherComes d read vs outer) →
       highest (own_records m a.next) ≤ R.depth_left d → eq w a.next ≡ true → R.remains e (flat_map (own_records m) a.todo, outer) → R.depth_left e ≡ R.depth_left d →
-      Midway e (read ++ w ∷ []) vs outer
+      ElementsRead e (read ++ w ∷ []) vs outer
   further {read = read} e w a low same at kept = record {
     done = a.done ++ a.next ∷ [];
     todo = a.todo;
@@ -153,7 +153,7 @@ module _ {D V : Type 0} (R : Reader D) (m : Meaning V) (eq : V → V → Bool) w
   }
 
   -- where as many elements were read as there can be
-  pub filled : {d : D} {read vs : List V} {outer : Outside} → Midway d read vs outer → length vs ≤ length read → Through d read vs outer
+  pub filled : {d : D} {read vs : List V} {outer : Outside} → ElementsRead d read vs outer → length vs ≤ length read → Through d read vs outer
   filled {d = d} {read = read} {vs = vs} {outer = outer} mid long =
       elim mid.todo as (λ todo. vs ≡ mid.done ++ todo → R.remains d (flat_map (own_records m) todo, outer) → Through d read vs outer) [
         | [] ↦ λ split at. let all : vs ≡ mid.done = split ∙ append-nil mid.done in record {

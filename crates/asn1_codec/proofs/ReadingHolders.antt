@@ -28,12 +28,12 @@ module _ {D V W : Type 0} (R : Reader D) (m : Meaning V) (value : W → V) (t : 
     no_failure = tt;
     after_error = elim (R.failed new) as (λ b. R.failed new ≡ b → (R.failed new ≡ true) ⊎ HasReadPast R (under_own_name (through value m)) t c old new (Err e)) [
       | true ↦ λ failed. inl failed
-      | false ↦ λ sound. inr (record {
+      | false ↦ λ not_failed. inr (record {
         same_depth = leaves.same_depth;
         at = λ w n rest outer tagged of_type valid follow at. (read (value w) (name_or n m.name) rest outer tagged of_type valid follow at).at;
         not_too_deep = λ deep. cc;
         not_failed = λ failed. cc;
-        no_failure = sound;
+        no_failure = not_failed;
       })
     ] refl;
     failed_before = λ single failed. let wrong = leaves.failed_before single failed in cc;

@@ -73,7 +73,7 @@ parts_at-push index_of k parts p =
 
 module _ {D V P : Type 0} (R : Reader D) (cs : List (ComponentType V)) (v : V) (index_of : P → ℕ) (IsPart : P → Type 0) where
   -- These parts were read, and others are left. The records of all are so high.
-  pub record Midway (d : D) (parts : List P) (height : ℕ) (outer : Outside) (place bound : ℕ) : Type 0 where
+  pub record PartsRead (d : D) (parts : List P) (height : ℕ) (outer : Outside) (place bound : ℕ) : Type 0 where
     pub todo : List Item
     pub one_each : EachIsOneRecord cs v
     pub are : All (IsAll cs v) todo
@@ -110,7 +110,7 @@ module _ {D V P : Type 0} (R : Reader D) (cs : List (ComponentType V)) (v : V) (
     pub at : R.remains d ([], outer)
 
   pub start : (d : D) (items : List Record) (outer : Outside) (bound : ℕ) → EachIsOneRecord cs v → IsPermutation items (all_records cs v) → records_in items ≤ bound → R.remains d (items, outer) →
-      Midway d [] (highest items) outer 0 bound
+      PartsRead d [] (highest items) outer 0 bound
   start d items outer bound one moved few at =
       let made = made_of (λ (i : Item). i.1) items (items_from 0 cs v) (subst (IsPermutation items) (sym (their_records 0 cs v)) moved) in
       let high : highest items ≡ highest (records made.order) = ap highest made.is in
@@ -127,14 +127,14 @@ module _ {D V P : Type 0} (R : Reader D) (cs : List (ComponentType V)) (v : V) (
       }
 
   -- where the next tag could not be told
-  pub not_told : (e : D) {d : D} {parts : List P} {height : ℕ} {outer : Outside} {place bound : ℕ} {error : DecodeError} (b h : ℕ) (m : Midway d parts height outer place bound) →
+  pub not_told : (e : D) {d : D} {parts : List P} {height : ℕ} {outer : Outside} {place bound : ℕ} {error : DecodeError} (b h : ℕ) (m : PartsRead d parts height outer place bound) →
       Advances R d e 0 (records m.todo, outer) (marks_passed (records m.todo), outer) (IsNextTag cs (records m.todo)) (Err error) → MayFail b h error
   not_told e {error = error} b h m moves = flat_failure b h error (moves m.at)
 
   -- past the marks in front
-  ahead : {d : D} {parts : List P} {height : ℕ} {outer : Outside} {place bound : ℕ} (e : D) (m : Midway d parts height outer place bound) →
-      R.remains e (marks_passed (records m.todo), outer) → R.depth_left e ≡ R.depth_left d → Midway e parts height outer place bound
-  ahead {outer = outer} e m at kept =
+  past_marks : {d : D} {parts : List P} {height : ℕ} {outer : Outside} {place bound : ℕ} (e : D) (m : PartsRead d parts height outer place bound) →
+      R.remains e (marks_passed (records m.todo), outer) → R.depth_left e ≡ R.depth_left d → PartsRead e parts height outer place bound
+  past_marks {outer = outer} e m at kept =
       let f = is_front m.todo in
       record {
         todo = front m.todo;
@@ -156,7 +156,7 @@ module _ {D V P : Type 0} (R : Reader D) (cs : List (ComponentType V)) (v : V) (
   none_has t (k, below, same) = omega (arith, below)
 
   -- where a component comes
-  comes_first : {d : D} {parts : List P} {height : ℕ} {outer : Outside} {place bound : ℕ} (t : Tag) → EachIsWellTagged cs → (m : Midway d parts height outer place bound) →
+  comes_first : {d : D} {parts : List P} {height : ℕ} {outer : Outside} {place bound : ℕ} (t : Tag) → EachIsWellTagged cs → (m : PartsRead d parts height outer place bound) →
       BeginsWithRecord m.todo → (u : Tag) → Has (first_tags (records m.todo)) u → TellsComponent cs (first_tags (records m.todo)) t → AnotherComes d parts height outer place bound t
   comes_first {d} {parts} {height} {outer} {place} {bound} t can m begins u has tells =
       elim m.todo as (λ todo. BeginsWithRecord todo → Has (first_tags (records todo)) u → TellsComponent cs (first_tags (records todo)) t → All (IsAll cs v) todo → ((k : ℕ) → parts_at index_of k parts + items_at k todo ≡ length (written_of cs v k)) →
@@ -183,14 +183,14 @@ module _ {D V P : Type 0} (R : Reader D) (cs : List (ComponentType V)) (v : V) (
       ]
       begins has tells m.are m.counted m.few m.low m.no_higher m.at
 
-  pub comes : {d : D} {parts : List P} {height : ℕ} {outer : Outside} {place bound : ℕ} (e : D) (t : Tag) → EachIsWellTagged cs → (m : Midway d parts height outer place bound) →
+  pub comes : {d : D} {parts : List P} {height : ℕ} {outer : Outside} {place bound : ℕ} (e : D) (t : Tag) → EachIsWellTagged cs → (m : PartsRead d parts height outer place bound) →
       Advances R d e 0 (records m.todo, outer) (marks_passed (records m.todo), outer) (IsNextTag cs (records m.todo)) (Ok (Some t)) → R.depth_left e ≡ R.depth_left d → AnotherComes e parts height outer place bound t
-  unfolding ahead
+  unfolding past_marks
   comes e t can m moves kept =
       let moved = moves m.at in
       let f = is_front m.todo in
       let told = moved.answer.some t refl in
-      comes_first t can (ahead e m moved.at kept) f.begins told.0 (subst (λ a. Has a told.0) f.tags told.1.0) (subst (λ a. TellsComponent cs a t) f.tags told.1.1)
+      comes_first t can (past_marks e m moved.at kept) f.begins told.0 (subst (λ a. Has a told.0) f.tags told.1.0) (subst (λ a. TellsComponent cs a t) f.tags told.1.1)
 
   -- which no other can
   pub comes_at : {d : D} {parts : List P} {height : ℕ} {outer : Outside} {place bound : ℕ} {t : Tag} (index : ℕ) → AllApart cs → CanBeginWith cs index t →
@@ -199,7 +199,7 @@ module _ {D V P : Type 0} (R : Reader D) (cs : List (ComponentType V)) (v : V) (
       subst (λ k. ComponentComes d parts height outer place bound k) (same_component cs a.index index t apart a.begins begins) a.comes
 
   -- where none is left
-  none_left : {d : D} {parts : List P} {height : ℕ} {outer : Outside} {place bound : ℕ} (m : Midway d parts height outer place bound) → m.todo ≡ [] → Through d parts height outer
+  none_left : {d : D} {parts : List P} {height : ℕ} {outer : Outside} {place bound : ℕ} (m : PartsRead d parts height outer place bound) → m.todo ≡ [] → Through d parts height outer
   none_left {d = d} {outer = outer} m none = record {
     parts_are = record {
       each = m.each;
@@ -216,27 +216,27 @@ module _ {D V P : Type 0} (R : Reader D) (cs : List (ComponentType V)) (v : V) (
       let one : records_in (records (i ∷ items)) ≡ suc (records_in (records items)) = ap (λ b. if b then records_in (records items) else suc (records_in (records items))) no_mark in
       absurd (omega (arith, few, one))
 
-  pub through : {d : D} {parts : List P} {height : ℕ} {outer : Outside} {place bound : ℕ} (e : D) → (m : Midway d parts height outer place bound) →
+  pub through : {d : D} {parts : List P} {height : ℕ} {outer : Outside} {place bound : ℕ} (e : D) → (m : PartsRead d parts height outer place bound) →
       Advances R d e 0 (records m.todo, outer) (marks_passed (records m.todo), outer) (IsNextTag cs (records m.todo)) (Ok None) → R.depth_left e ≡ R.depth_left d → Through e parts height outer
-  unfolding ahead
+  unfolding past_marks
   through e m moves kept =
       let moved = moves m.at in
       let f = is_front m.todo in
-      none_left (ahead e m moved.at kept) (few_none (front m.todo) f.begins (sym f.as_many ∙ no_records (records m.todo) (moved.answer.none refl)))
+      none_left (past_marks e m moved.at kept) (few_none (front m.todo) f.begins (sym f.as_many ∙ no_records (records m.todo) (moved.answer.none refl)))
 
   -- where as many were read as there can be
-  pub filled : {d : D} {parts : List P} {height : ℕ} {outer : Outside} {place bound : ℕ} (e : D) (answer : Option Tag) → (m : Midway d parts height outer place bound) → bound ≤ place →
+  pub filled : {d : D} {parts : List P} {height : ℕ} {outer : Outside} {place bound : ℕ} (e : D) (answer : Option Tag) → (m : PartsRead d parts height outer place bound) → bound ≤ place →
       Advances R d e 0 (records m.todo, outer) (marks_passed (records m.todo), outer) (IsNextTag cs (records m.todo)) (Ok answer) → R.depth_left e ≡ R.depth_left d → Through e parts height outer
-  unfolding ahead
+  unfolding past_marks
   filled e answer m full moves kept =
       let moved = moves m.at in
       let f = is_front m.todo in
-      none_left (ahead e m moved.at kept) (few_none (front m.todo) f.begins (omega (arith, m.few, full, f.as_many)))
+      none_left (past_marks e m moved.at kept) (few_none (front m.todo) f.begins (omega (arith, m.few, full, f.as_many)))
 
   -- after a component was read
   pub further : {d : D} {parts : List P} {height : ℕ} {outer : Outside} {place bound index : ℕ} (e : D) (p : P) (a : ComponentComes d parts height outer place bound index) →
       index_of p ≡ index → IsPart p → highest (written_of cs v index) ≤ R.depth_left d → R.remains e (records a.todo, outer) → R.depth_left e ≡ R.depth_left d →
-      Midway e (parts ++ p ∷ []) height outer (place + 1) bound
+      PartsRead e (parts ++ p ∷ []) height outer (place + 1) bound
   further {parts = parts} e p a own is_part low at kept = record {
     todo = a.todo;
     one_each = a.one_each;

@@ -1,6 +1,6 @@
 -- How steps of reading follow one another.
 pub use Rattle.asn1_codec.proofs.Heights.{highest-append, highest-holding}
-use Rattle.std.proofs.Common.{◌≡◌, Bool, true, ℕ, suc, ◌≤◌, List, [], ◌∷◌, ◌++◌, inl, inr, arith, sym, subst, append-nil, Result, Ok, Err}
+use Rattle.std.proofs.Common.{◌≡◌, Bool, true, ℕ, suc, ◌≤◌, ◌+◌, List, [], ◌∷◌, ◌++◌, inl, inr, arith, sym, subst, append-nil, Result, Ok, Err}
 use Rattle.std.specs.Cmp.{IsEquivalence}
 use Rattle.asn1_model.specs.Records.{Record, Head, height, highest, holding}
 use Rattle.asn1_codec.specs.declared.decode_error.DecodeError.{DecodeError}
@@ -36,15 +36,24 @@ pub fails_below : {e : DecodeError} {a : ℕ} (b g h : ℕ) → b ≡ a → g �
 fails_below b g h same low (inl memory) = inl memory
 fails_below b g h same low (inr deep) = inr (deep.0, omega (arith, deep.1, same, low))
 
+-- a failure this many scopes inside
+pub fails_deeper : {e : DecodeError} {a g : ℕ} (b h scopes : ℕ) → b ≡ a + scopes → g + scopes ≤ h → MayFail a g e → MayFail b h e
+fails_deeper b h scopes deeper low (inl memory) = inl memory
+fails_deeper b h scopes deeper low (inr deep) = inr (deep.0, omega (arith, deep.1, deeper, low))
+
 module _ {D : Type 0} (R : Reader D) where
   -- what is left in a scope, with nothing after it
   pub to_end : (d : D) (rs : List Record) (outer : Outside) → R.remains d (rs, outer) → R.remains d (rs ++ [], outer)
   to_end d rs outer at = subst (λ l. R.remains d (l, outer)) (sym (append-nil rs)) at
 
-  -- what is said of the answer may be said in other words
+  -- what is said of an answer may be said in other words
+  pub moved_as : {old new : D} {height : ℕ} {after : Remaining} {Is As : Type 0} → HasAdvanced R old new height after Is → (Is → As) → HasAdvanced R old new height after As
+  moved_as m f = record { answer = f m.answer; at = m.at; within_depth = m.within_depth }
+
+  -- and what is said of each
   pub in_other_words : {V : Type 0} (old new : D) (height : ℕ) (before after : Remaining) {Is As : V → Type 0} (result : Result V DecodeError) →
       ((w : V) → Is w → As w) → Advances R old new height before after Is result → Advances R old new height before after As result
-  in_other_words old new height before after (Ok w) f moves = λ at. let m = moves at in record { answer = f w m.answer; at = m.at; within_depth = m.within_depth }
+  in_other_words old new height before after (Ok w) f moves = λ at. moved_as (moves at) (f w)
   in_other_words old new height before after (Err e) f moves = moves
 
   -- what was found is answered, by a call that opens nothing

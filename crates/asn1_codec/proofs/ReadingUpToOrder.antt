@@ -3,8 +3,9 @@ use Rattle.std.specs.Prelude.{◌≡◌, ℕ, ◌≤◌, ⊤, Bool, true, false,
 use Rattle.std.proofs.Common.{ap, subst, sym, ◌∙◌, refl, arith}
 use Rattle.std.proofs.lemmas.List.Sorted.{IsPermutation-refl}
 use Rattle.asn1_components.specs.ComponentTypes.{ComponentType}
+use Rattle.asn1_codec.specs.ReadingTypes.{ReadsContent, ReadsOpenType}
 use Rattle.asn1_codec.specs.ReadingUpToOrder.{RemainsUpToOrder, up_to_order}
-use Rattle.asn1_codec.specs.Reading.{Remaining, Outside, Reader, SameRemaining, SameOutside, nothing, scope_and, records_in, IsLawful, HasAdvanced, Advances, MayFail, ReadsContent, ReadsOpenType, ReadsMark, ReadsEnd, TellsPresence, TellsMore, TellsNextTag, IsNextTag, ReadsHead, ReadsHeadOfSet, SetIsOpen, marks_passed}
+use Rattle.asn1_codec.specs.Reading.{Remaining, Outside, Reader, SameRemaining, SameOutside, nothing, scope_and, records_in, IsLawful, HasAdvanced, Advances, MayFail, ReadsMark, ReadsEnd, TellsPresence, TellsMore, TellsNextTag, IsNextTag, ReadsHead, ReadsHeadOfSet, SetIsOpen, marks_passed}
 use Rattle.asn1_codec.specs.declared.decode_error.DecodeError.{DecodeError}
 use Rattle.asn1_codec.proofs.Remaining.{SameRemaining-refl, SameRemaining-trans, same_as_record, same_as_scope, same_as_end}
 use Rattle.asn1_codec.proofs.MarksPassed.{same-marks_passed, same-next_tag}
@@ -73,8 +74,8 @@ same_as_opened a h items rest outer same =
 
 module _ {D : Type 0} (R : Reader D) where
   -- what holds exactly holds up to order
-  pub remains_exactly : (d : D) (ahead : Remaining) → R.remains d ahead → RemainsUpToOrder R d ahead
-  remains_exactly d ahead at = record { exactly = ahead; remains = at; same = SameRemaining-refl ahead }
+  pub remains_exactly : (d : D) (left : Remaining) → R.remains d left → RemainsUpToOrder R d left
+  remains_exactly d left at = record { exactly = left; remains = at; same = SameRemaining-refl left }
 
   -- the decoder is exactly at the end of all where it is so up to order
   pub at_the_end : (d : D) → RemainsUpToOrder R d ([], []) → R.remains d ([], [])
@@ -112,13 +113,13 @@ module _ {D : Type 0} (R : Reader D) where
 
   -- each word of a decoder's own calls
   pub reads_content : {X V : Type 0} (old new : D) (t : Tag) (c : ConstraintSet) (content : X → Content) (IsOfType : X → Type 0) (Is : V → X → Type 0) (result : Result V DecodeError) →
-      ReadsContent R old new t c content IsOfType Is result → ReadsContent (up_to_order R) old new t c content IsOfType Is result
+      ReadsContent R t c content IsOfType Is old new result → ReadsContent (up_to_order R) t c content IsOfType Is old new result
   reads_content old new t c content IsOfType Is result reads x n rest outer of_type =
       past_record old new (scalar t c n (content x)) rest outer (highest (scalar t c n (content x) ∷ [])) (λ w. Is w x) result (λ q same. same_as_scalar same)
       (λ others outside same. reads x n others outside of_type)
 
   pub reads_open_type : {V : Type 0} (old new : D) (Is : V → List ℕ → Type 0) (result : Result V DecodeError) →
-      ReadsOpenType R old new Is result → ReadsOpenType (up_to_order R) old new Is result
+      ReadsOpenType R Is old new result → ReadsOpenType (up_to_order R) Is old new result
   reads_open_type old new Is result reads bytes n rest outer accepts =
       past_record old new (open_type n bytes) rest outer (highest (open_type n bytes ∷ [])) (λ w. Is w bytes) result (λ q same. same_as_raw same)
       (λ others outside same. reads bytes n others outside accepts)

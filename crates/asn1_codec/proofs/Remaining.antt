@@ -19,8 +19,8 @@ SameOutside-trans nothing q = q
 SameOutside-trans (scope_and h all outer) (scope_and _ all' outer') =
     scope_and h (SameAll-trans all all') (SameOutside-trans outer outer')
 
-pub SameRemaining-refl : (ahead : Remaining) → SameRemaining ahead ahead
-SameRemaining-refl ahead = record { here = SameRecords-refl ahead.0; outside = SameOutside-refl ahead.1 }
+pub SameRemaining-refl : (left : Remaining) → SameRemaining left left
+SameRemaining-refl left = record { here = SameRecords-refl left.0; outside = SameOutside-refl left.1 }
 
 pub SameRemaining-sym : {a b : Remaining} → SameRemaining a b → SameRemaining b a
 SameRemaining-sym same = record { here = SameAll-sym same.here; outside = SameOutside-sym same.outside }

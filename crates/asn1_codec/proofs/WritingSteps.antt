@@ -2,14 +2,9 @@
 pub use Rattle.asn1_codec.proofs.Heights.{highest-append, highest-holding}
 use Rattle.std.proofs.Common.{◌≡◌, Bool, true, false, ◌&&◌, List, [], ◌∷◌, ◌++◌, if◌then◌else◌, refl, sym, ap, ◌∙◌, subst, append_assoc, append-nil, zero-le, arith, Some, Result, Ok, Err}
 use Rattle.std.specs.Result.{IsErrAnd}
-use Rattle.asn1_components.specs.ComponentLists.{EachIsOfType}
-use Rattle.asn1_components.specs.Components.{Components, Kind, AgreesWithComponents, all_components, component_records, head_in, lines}
 use Rattle.asn1_model.specs.Composites.{group_records}
-use Rattle.asn1_model.specs.ConstraintSets.{ConstraintSet}
-use Rattle.asn1_model.specs.Meaning.{Meaning}
-use Rattle.asn1_model.specs.Records.{Record, Head, Name, scalar, scope, open_type, presence_mark, group_start, group_absent, group_end, holding, height, highest, is_presence_mark, presence_marks_alone}
+use Rattle.asn1_model.specs.Records.{Record, Head, scalar, scope, open_type, presence_mark, group_start, group_absent, group_end, holding, height, highest, is_presence_mark, presence_marks_alone}
 use Rattle.asn1_model.specs.Tables.{Line, Table}
-use Rattle.asn1_tags.specs.declared.tags.Tag.{Tag}
 use Rattle.asn1_codec.specs.declared.encode_error.EncodeError.{EncodeError}
 use Rattle.asn1_codec.specs.declared.encode_error.EncodeError.TheVariants.{Memory, Depth, Failed}
 use Rattle.asn1_codec.specs.Writing.{Writer, Written, outermost, in_scope, in_group, followed_by, IsCustom, IsLawful, Appends, IsError, Fails, Writes, ScopeIsOpen, ScopeIsNotOpen, ClosesScope, GroupIsOpen, GroupIsNotOpen, ClosesGroup, IsOutOfMemory}
@@ -199,13 +194,3 @@ module _ {E : Type 0} (W : Writer E) where
     of_type = f q.of_type;
   }
   in_other_words a b rs (Err e) f q = q
-
-  -- the records of a SEQUENCE or a SET, by the law that ties its meaning to its components
-  pub as_meant : {V : Type 0} (m : Meaning V) (components : Components V) (kind : Kind) (v : V) (t : Tag) (c : ConstraintSet) (n : Name) (a b : E) {A : Type 0} (result : Result A EncodeError) →
-      AgreesWithComponents components m → components.kind ≡ kind →
-      Writes W a (holding (head_in kind t (lines components) n) (component_records components v) ∷ []) (EachIsOfType (all_components components) v) b result →
-      Writes W a (m.records v t c n) (m.IsOfType v) b result
-  as_meant m components kind v t c n a b result law is q =
-      subst (λ l. Writes W a l (m.IsOfType v) b result)
-      (sym (law.records v t c n ∙ ap (λ k. holding (head_in k t (lines components) n) (component_records components v) ∷ []) is))
-      (in_other_words a b _ result ((law.of_type v).1) q)

@@ -9,7 +9,7 @@ records_at [] place v = []
 records_at (c ∷ cs) zero v = c.records v
 records_at (c ∷ cs) (suc place) v = records_at cs place v
 
--- it has what it has by its type
+-- it meets its type's invariant
 abbrev pub IsOfTypeAt : {V : Type 0} → List (ComponentType V) → ℕ → V → Type 0
 IsOfTypeAt [] place v = ⊤
 IsOfTypeAt (c ∷ cs) zero v = c.IsOfType v

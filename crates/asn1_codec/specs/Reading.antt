@@ -1,14 +1,12 @@
 -- What remains to be read, and what each call of a decoder does.
-use Rattle.std.specs.Prelude.{◌≡◌, ◌≢◌, ◌⊎◌, ℕ, suc, ◌≤◌, ◌<◌, ⊤, Bool, true, false, List, [], ◌∷◌, ◌++◌, IsPermutation, Option, None, Some, IfSome, IsSome, IfErr, IsTrue, Result, Err, MatchResult, OnOk, OnErr, if◌then◌else◌}
-use Rattle.std.specs.Option.{option_eq, option_map}
+use Rattle.std.specs.Prelude.{◌≡◌, ◌≢◌, ◌⊎◌, ℕ, suc, ◌≤◌, ◌<◌, ⊤, Bool, true, false, List, [], ◌∷◌, ◌++◌, IsPermutation, Option, None, Some, IsSome, IfErr, Result, Err, MatchResult, OnOk, OnErr, if◌then◌else◌}
 use Rattle.asn1_tags.specs.declared.tags.Tag.{Tag}
 use Rattle.asn1_components.specs.ComponentTypes.{ComponentType}
-use Rattle.asn1_model.specs.Composites.{default_records, option_records, explicit_tag_records}
 use Rattle.asn1_model.specs.ConstraintSets.{ConstraintSet}
-use Rattle.asn1_model.specs.Meaning.{Meaning, IsWellTagged, IsWellTaggedUnder, tags}
+use Rattle.asn1_model.specs.Meaning.{Meaning, tags}
 use Rattle.asn1_model.specs.Orders.{SameRecords}
-use Rattle.asn1_model.specs.Records.{Name, Record, Head, PresenceMark, Side, Content, scalar, open_type, presence_mark, holding, highest, is_presence_mark, presence_marks_alone}
-use Rattle.asn1_model.specs.Tags.{Tags, only, BeginsWithin, Has, LiesIn, ShareNone, first_tags, tree_tags}
+use Rattle.asn1_model.specs.Records.{Name, Record, Head, PresenceMark, presence_mark, holding, highest, is_presence_mark, presence_marks_alone}
+use Rattle.asn1_model.specs.Tags.{Tags, BeginsWithin, Has, LiesIn, ShareNone, first_tags, tree_tags}
 use Rattle.asn1_codec.specs.Refusals.{Refusals}
 use Rattle.asn1_codec.specs.declared.decode_error.DecodeError.{DecodeError}
 use Rattle.asn1_codec.specs.declared.decode_error.DecodeError.TheVariants.{Memory, Depth, Failed}
@@ -93,20 +91,6 @@ module _ {D : Type 0} (R : Reader D) where
   abbrev pub ReadsBack : {V : Type 0} → D → D → List Record → List Record → Outside → (V → Type 0) → Result V DecodeError → Type 0
   ReadsBack old new rs rest outer Is result = Advances old new (highest rs) (rs ++ rest, outer) (rest, outer) Is result
 
-  -- A call that reads a content, under this tag, these constraints and any name: of each that is of the type, it answers
-  -- what `Is` holds of.
-  abbrev pub ReadsContent : {X V : Type 0} → D → D → Tag → ConstraintSet → (X → Content) → (X → Type 0) → (V → X → Type 0) → Result V DecodeError → Type 0
-  ReadsContent {X = X} old new t c content IsOfType Is result =
-      (x : X) (n : Name) (rest : List Record) (outer : Outside) → IsOfType x →
-      ReadsBack old new (scalar t c n (content x) ∷ []) rest outer (λ w. Is w x) result
-
-  -- A call that reads the bytes of an open type, of any name: of those that the codec takes as one value, it answers what `Is`
-  -- holds of.
-  abbrev pub ReadsOpenType : {V : Type 0} → D → D → (V → List ℕ → Type 0) → Result V DecodeError → Type 0
-  ReadsOpenType old new Is result =
-      (bytes : List ℕ) (n : Name) (rest : List Record) (outer : Outside) → IsTrue (R.accepts bytes) →
-      ReadsBack old new (open_type n bytes ∷ []) rest outer (λ w. Is w bytes) result
-
   -- a call that goes past this presence mark
   abbrev pub ReadsMark : {V : Type 0} → D → D → PresenceMark → Result V DecodeError → Type 0
   ReadsMark old new m result =
@@ -152,39 +136,6 @@ module _ {D : Type 0} (R : Reader D) where
     pub no_failure : OnOk result (R.failed new ≡ R.failed old)
     pub after_error : OnErr result (R.failed new ≡ true) ⊎ (HasReadPast m t m.constraints old new result ⊎ HadNoMemory m old new result)
     pub failed_before : m.IsSingleRecord → R.failed old ≡ true → (result ≡ Err Failed) ⊎ HadNoMemory m old new result
-
-  -- A call that reads a component that may be absent, on this side, which is written under this tag and begins with one of
-  -- these tags, by the records of a value under any name. What follows one that is absent begins with none of its tags.
-  abbrev pub ReadsOptional : {V : Type 0} → Side → Tag → Tags → (Name → V → List Record) →
-      (IsWellTagged : Type 0) → (V → Type 0) → (V → Type 0) → (V → V → Bool) → D → D →
-      Result (Option V) DecodeError → Type 0
-  ReadsOptional {V = V} side t own records IsWellTagged IsOfType IsValid eq old new result =
-      (v : Option V) (n : Name) (rest : List Record) (outer : Outside) →
-      IsWellTagged → IfSome v IsOfType → IfSome v IsValid → (v ≡ None → ShareNone own (first_tags rest)) →
-      ReadsBack old new (option_records side t (option_map (records n) v)) rest outer (λ w. option_eq eq w v ≡ true) result
-
-  -- the same of a value of this type, under these constraints
-  abbrev pub ReadsOption : {V : Type 0} → Side → Meaning V → (V → V → Bool) → Tag → ConstraintSet →
-      D → D → Result (Option V) DecodeError → Type 0
-  ReadsOption side m eq t c old new result =
-      ReadsOptional side t (tags m t) (λ n v. m.records v t c n) (IsWellTaggedUnder m t) m.IsOfType (m.IsValid R.accepts) eq old new result
-
-  -- the same after an explicit tag, with the type's own constraints and name
-  abbrev pub ReadsOptionAfterTag : {V : Type 0} → Side → Meaning V → (V → V → Bool) → Tag →
-      ConstraintSet → D → D → Result (Option V) DecodeError → Type 0
-  ReadsOptionAfterTag side m eq t c old new result =
-      ReadsOptional side t (only t) (λ n v. explicit_tag_records t n (m.records v m.tag c m.name)) (IsWellTagged m) m.IsOfType (m.IsValid R.accepts) eq old new result
-
-  -- A call that reads a component with a default, which `IsDefault` holds of: it is absent where it equals that. Of an absent
-  -- one nothing is asked, but that what follows begins with none of its tags.
-  abbrev pub ReadsDefault : {V : Type 0} → Side → (V → Type 0) → Meaning V → (V → V → Bool) → Tag →
-      ConstraintSet → D → D → Result V DecodeError → Type 0
-  ReadsDefault {V = V} side IsDefault m eq t c old new result =
-      (v : V) (equal : Bool) (n : Name) (rest : List Record) (outer : Outside) →
-      ((default_value : V) → IsDefault default_value → eq v default_value ≡ equal) →
-      IsWellTaggedUnder m t → (equal ≡ false → m.IsOfType v) → (equal ≡ false → m.IsValid R.accepts v) →
-      (equal ≡ true → ShareNone (tags m t) (first_tags rest)) →
-      ReadsBack old new (default_records side equal t (m.records v t c n)) rest outer (λ w. eq w v ≡ true) result
 
   -- A type's own error: what follows the records remains to be read, the depth left is as it was, and the decoder has not
   -- failed.

@@ -1,5 +1,5 @@
 -- What a call reads of the values of a type.
-use Rattle.std.specs.Prelude.{◌≡◌, ◌≤◌, ℕ, Bool, true, false, List, [], ◌∷◌, All, IsPermutation, None, Option, IfSome, Result, length}
+use Rattle.std.specs.Prelude.{◌≡◌, ◌≤◌, ℕ, Bool, true, false, List, [], ◌∷◌, All, IsPermutation, IsTrue, None, Option, IfSome, Result, length}
 use Rattle.std.specs.List.{flat_map}
 use Rattle.std.specs.Option.{option_eq, option_map}
 use Rattle.asn1_tags.specs.Trees.{choice}
@@ -12,11 +12,10 @@ use Rattle.asn1_components.specs.Following.{EndsApart}
 use Rattle.asn1_model.specs.Composites.{alternative_records, default_records, group_records, option_records}
 use Rattle.asn1_model.specs.ConstraintSets.{ConstraintSet}
 use Rattle.asn1_model.specs.Meaning.{Meaning, IsWellTagged, own_records}
-use Rattle.asn1_model.specs.Records.{Content, alternative, Head, Name, Record, Side, highest, holding, presence_marks_alone, set}
+use Rattle.asn1_model.specs.Records.{Content, Head, Name, Record, Side, absent, alternative, highest, holding, open_type, present, presence_marks_alone, scalar, set}
 use Rattle.asn1_model.specs.Tags.{Has, ShareNone, first_tags, tree_tags}
 use Rattle.asn1_codec.specs.GivenTypes.{Named}
-use Rattle.asn1_codec.specs.Reading as reading
-use Rattle.asn1_codec.specs.Reading.{Advances, Outside, Reader, ReadsBack, ReadsHead, records_in}
+use Rattle.asn1_codec.specs.Reading.{Advances, Outside, Reader, ReadsBack, ReadsHead, TellsPresence, records_in}
 use Rattle.asn1_codec.specs.SetParts.{ArePartsOf, CanBeInSet}
 use Rattle.asn1_codec.specs.declared.decode_error.DecodeError.{DecodeError}
 
@@ -25,12 +24,16 @@ module _ {D : Type 0} (R : Reader D) where
   -- of.
   abbrev pub ReadsContent : {X V : Type 0} → Tag → ConstraintSet → (X → Content) → (IsOfType : X → Type 0) → (V → X → Type 0) →
       D → D → Result V DecodeError → Type 0
-  ReadsContent t c content IsOfType Is old new result = reading.ReadsContent R old new t c content IsOfType Is result
+  ReadsContent {X = X} t c content IsOfType Is old new result =
+      (x : X) (n : Name) (rest : List Record) (outer : Outside) → IsOfType x →
+      ReadsBack R old new (scalar t c n (content x) ∷ []) rest outer (λ w. Is w x) result
 
   -- A call that reads the bytes of an open type, of any name: of those that the codec takes as one value, it answers what `Is`
   -- holds of.
   abbrev pub ReadsOpenType : {V : Type 0} → (V → List ℕ → Type 0) → D → D → Result V DecodeError → Type 0
-  ReadsOpenType Is old new result = reading.ReadsOpenType R old new Is result
+  ReadsOpenType Is old new result =
+      (bytes : List ℕ) (n : Name) (rest : List Record) (outer : Outside) → IsTrue (R.accepts bytes) →
+      ReadsBack R old new (open_type n bytes ∷ []) rest outer (λ w. Is w bytes) result
 
   -- A call that opens a CHOICE of these alternatives (X.680, 29), which can be told apart, under constraints and any name. It answers
   -- a tag that the chosen one can begin with, where that can begin with its own.
@@ -47,6 +50,12 @@ module _ {D : Type 0} (R : Reader D) {V : Type 0} where
       (v : V) (n : Name) (rest : List Record) (outer : Outside) →
       (type n).IsWellTagged → (type n).IsOfType v → (type n).IsValid R.accepts v →
       ReadsBack R old new ((type n).records v) rest outer (λ w. eq w v ≡ true) result
+
+  -- A call that tells whether a component of this type is there, on this side of the extension marker, and goes past the presence
+  -- mark that says so.
+  abbrev pub TellsIfThere : Side → Named V → D → D → Result Bool DecodeError → Type 0
+  TellsIfThere side type old new result =
+      (n : Name) → TellsPresence R old new (present side (type n).tag) (absent side (type n).tag) (tree_tags (type n).tree) result
 
   -- A call that reads a component that may be absent, on this side of the extension marker (X.680, 25.1). What follows one that
   -- is absent begins with none of its tags.
@@ -134,14 +143,19 @@ module _ {D : Type 0} (R : Reader D) {V : Type 0} where
       Advances R old new (highest (flat_map (own_records m) vs)) (flat_map (own_records m) vs, scope ∷ outer) ([], scope ∷ outer)
       (λ w. eq w vs ≡ true) result
 
-  -- A call that reads the components that are left in a SET, of which there are at most this many records: in any order, and as
-  -- parts.
-  abbrev pub ReadsPartsLeft : {P W : Type 0} → ℕ → Components V → (P → ℕ) → (V → P → Type 0) → (W → List P) →
-      D → D → Result W DecodeError → Type 0
-  ReadsPartsLeft bound components index_of IsPartOf parts_in old new result =
+  -- A call that reads the components that are left in a SET, of which there are at most this many records, in any order: of each
+  -- value that is of its type and valid, this holds of its answer.
+  abbrev pub ReadsSetLeft : {W : Type 0} → ℕ → Components V → (V → W → Type 0) → D → D → Result W DecodeError → Type 0
+  ReadsSetLeft bound components Is old new result =
       (v : V) (t : Tag) (n : Name) (items rest : List Record) (outer : Outside) →
       CanBeInSet (all_components components) → EachIsOfType (all_components components) v →
       EachIsValid (all_components components) R.accepts v →
       IsPermutation items (component_records components v) → records_in items ≤ bound →
       Advances R old new (highest items) (items, (set t (lines components) n, rest) ∷ outer) ([], (set t (lines components) n, rest) ∷ outer)
-      (λ w. ArePartsOf (all_components components) v index_of (IsPartOf v) (parts_in w)) result
+      (Is v) result
+
+  -- the same of a call that reads them as parts
+  abbrev pub ReadsPartsLeft : {P W : Type 0} → ℕ → Components V → (P → ℕ) → (V → P → Type 0) → (W → List P) →
+      D → D → Result W DecodeError → Type 0
+  ReadsPartsLeft bound components index_of IsPartOf parts_in old new result =
+      ReadsSetLeft bound components (λ v w. ArePartsOf (all_components components) v index_of (IsPartOf v) (parts_in w)) old new result

@@ -52,8 +52,8 @@ module _ {E : Type 0} (W : Writer E) where
     pub wrote_in_any_order : (e : E) (w x : Written) → SameWritten w x → W.wrote e w → W.wrote e x
     pub rejects_in_any_order : (rs ss : List Record) → SameRecords rs ss → W.rejects rs → W.rejects ss
 
-  -- The records have been written, which are nested no deeper than the depth left, and the value that they are of has what it has
-  -- by its type. Nothing else has changed; where the encoder has failed, there were no records to be written.
+  -- The records have been written, which are nested no deeper than the depth left, and the value that they are of meets its type's
+  -- invariant. Nothing else has changed; where the encoder has failed, there were no records to be written.
   pub record Appends (old : E) (rs : List Record) (IsOfType : Type 0) (new : E) : Type 0 where
     pub written : (w : Written) → W.wrote old w → W.wrote new (followed_by w rs)
     pub no_failure : W.failed new ≡ W.failed old

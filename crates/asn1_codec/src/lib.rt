@@ -24,9 +24,10 @@
 //! | `EncodeErrors.antt`, `DecodeErrors.antt` | what an error says |
 //!
 //! For authors of types whose components are read in their order `proofs/ReadingComponents.antt` has lemmas, and for those of a
-//! SET `proofs/ReadingParts.antt` and `proofs/ReadingOnce.antt`. For authors of codecs these are in
-//! `proofs/WritingUpToOrder.antt` and `proofs/ReadingUpToOrder.antt`. The other files that begin with `Writing` or `Reading` are
-//! the steps of the final calls of `Encoder` and `Decoder`.
+//! SET `proofs/ReadingParts.antt` and `proofs/ReadingOnce.antt`. For those of a CHOICE that holds itself there is
+//! `proofs/ReadingChoices.antt`. For authors of codecs these are in `proofs/WritingUpToOrder.antt` and
+//! `proofs/ReadingUpToOrder.antt`. The other files that begin with `Writing` or `Reading` are the steps of the final calls of
+//! `Encoder` and `Decoder`.
 #![tactic(auto)]
 
 mod decode_error;

@@ -40,8 +40,8 @@ pub trait DecodeSet: FieldTable + Eq + Sized + Drop {
         ensures same_depth { OnOk result (D.reader.depth_left decoder.new ≡
             D.reader.depth_left decoder.old) };
 
-    /// The value of these parts, in whatever order they are. Of all parts of a value it makes an equal one, and fails only for want
-    /// of memory. It makes one only where no component is among the parts twice, and each that is always there is among them.
+    /// The value of these parts, in whatever order they are. Of all parts of a value it makes an equal one, and fails only if
+    /// memory runs out. It makes one only where no component is among the parts twice, and each that is always there is among them.
     /// Where that is not so, types answer [`DecodeError::DuplicateField`] for the first part whose component came before, or else
     /// [`DecodeError::MissingField`] for the first component that is missing.
     fn from_fields(alloc: Global, parts: Vec<Self::Part>) -> Result<Self, DecodeError>

@@ -23,7 +23,7 @@ use asn1_tags::{Identifier, Tag};
 /// A type whose values are written.
 ///
 /// Each entry point appends exactly the value's records under what it is given: a tag, constraints, a name. What it is not
-/// given is the type's own. A success also tells that the value has what each value of its type has. An error is one of the
+/// given is the type's own. A success also tells that the value meets its type's invariant. An error is one of the
 /// encoder's calls, and comes only where the encoder has failed.
 pub trait Encode: AsnType {
     /// Writes the value under a tag, constraints and a name.

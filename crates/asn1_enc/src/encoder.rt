@@ -17,6 +17,7 @@ ghost use Rattle.std.specs.Prelude.{◌≡◌, ◌<◌, ◌^◌, [], ◌∷◌, 
 ghost use Rattle.std.specs.Str.{IsUtf8};
 
 use crate::choices::write_choice;
+use crate::constructed::{Kind, write_constructed};
 use crate::defaults::equals_default;
 use crate::encode::{Encode, EncodeChoice, EncodeFields};
 use crate::own_constraints::make_constraints;
@@ -41,8 +42,8 @@ use std::alloc::{AllocError, Global};
 /// A codec that writes records: by calls of its own, on which those for whole types rest.
 ///
 /// The calls before the law are a codec's own. Each that succeeds appends its record or presence mark to the innermost list
-/// that is open, and leaves those outside it; and tells that the value has what each value of its type has, such as that a
-/// `u8` is below 256. Each that fails makes the encoder failed. An encoder that has failed answers [`EncodeError::Failed`],
+/// that is open, and leaves those outside it; and tells that the value meets its type's invariant, such as that a `u8` is
+/// below 256. Each that fails makes the encoder failed. An encoder that has failed answers [`EncodeError::Failed`],
 /// and no other does. [`EncodeError::Depth`] comes only from opening a scope where no depth is left, and is answered
 /// there before anything else but `Failed`. [`EncodeError::Custom`] comes only where the codec does not take the records.
 ///
@@ -419,9 +420,7 @@ pub trait Encoder: Sized {
             (given tag unconstrained C.meaning (name_of name)) value.now self.old self.new result }
         ensures depth_first { NeedsDepth writer self.old result }
     {
-        self.open_sequence::<C>(tag, name)?;
-        value.encode_fields(self)?;
-        self.close()
+        write_constructed(self, Kind::Sequence, tag, value, name)
     }
 
     /// A SEQUENCE OF, by its elements.
@@ -474,9 +473,7 @@ pub trait Encoder: Sized {
             (given tag unconstrained C.meaning (name_of name)) value.now self.old self.new result }
         ensures depth_first { NeedsDepth writer self.old result }
     {
-        self.open_set::<C>(tag, name)?;
-        value.encode_fields(self)?;
-        self.close()
+        write_constructed(self, Kind::Set, tag, value, name)
     }
 
     /// A SET OF, by its elements.

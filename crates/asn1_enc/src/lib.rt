@@ -19,11 +19,11 @@
 //!
 //! - What a call writes is exactly the records of its value, after what was written before, in the innermost list that is open
 //!   (`Writes` of `specs/Writing.antt` of `asn1_codec`). They are nested no deeper than the depth left, which is then what it was. A success also
-//!   tells that the value has what each value of its type has (`IsOfType`), so that no caller has to show it.
+//!   tells that the value meets its type's invariant (`IsOfType`: range, alphabet, length), so that no caller has to show it.
 //! - An error comes only where the encoder has failed from then on (`IsError`), and it is `Failed` if and only if the encoder
 //!   had failed before. `Depth` comes only where the records are nested deeper than the depth left, and `Custom` only where the codec
-//!   rejects them, of an encoder that has written something (`Fails`). A type whose own constraints could not be made for want
-//!   of memory says so by `refuse_memory`.
+//!   rejects them, of an encoder that has written something (`Fails`). Where memory runs out for a type's own constraints, the
+//!   type says so by `refuse_memory`.
 //! - A codec states what it has written, whether it has failed, its depth left, and which records it rejects (`Writer`). Its own
 //!   calls have the laws of these: opening a scope takes one from the depth left and closing gives it back (`OpensScope`, `ClosesScope`),
 //!   a group is no scope (`OpensGroup`, `ClosesGroup`), and where no depth is left the error is `Depth`, before any other
@@ -42,6 +42,7 @@
 #![tactic(auto, using(asn1_tags::proofs::Leaves::tree_shapes))]
 
 mod choices;
+mod constructed;
 mod defaults;
 mod encode;
 mod encoder;

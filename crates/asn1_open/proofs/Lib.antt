@@ -1,3 +1,2 @@
-pub mod ChoiceSteps
 pub mod OpenLaws
 pub mod OpenValues

@@ -1,2 +1,1 @@
-pub mod ChoiceReading
 pub mod OpenAlternatives

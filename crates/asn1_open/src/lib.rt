@@ -35,8 +35,9 @@
 //! - The scopes of an INSTANCE OF are nested three deeper than those of the value in it, and those
 //!   of every other alternative one deep (`an_instance_is_three_deeper_than_its_value`). So a NULL
 //!   with `k` of them around it takes `1 + 3k` scopes.
-//! - `specs/ChoiceReading.antt` and `proofs/ChoiceSteps.antt` are for the author of any CHOICE that
-//!   holds itself: what its reading functions do, and a lemma for each way out of them.
+//! - `proofs/ReadingChoices.antt` of `asn1_codec` is for the author of any CHOICE that holds itself: a
+//!   lemma for each way out of its reading functions, which do what `ReadsValue`, `ReadsHeadOfChoice`
+//!   and `ReadsChosen` say.
 //!
 //! A call takes memory where a codec does, and reading for the strings, the numbers and the boxes.
 #![tactic(auto, using(asn1_tags::proofs::Leaves::tree_shapes))]

@@ -3,11 +3,11 @@ ghost use Rattle.asn1_choices.specs.Alternatives.{Each, all_of};
 ghost use Rattle.asn1_choices.specs.ChosenTags.{LacksTag};
 ghost use Rattle.asn1_codec.specs.DecodeErrors.{no_valid_choice, reason};
 ghost use Rattle.asn1_codec.specs.Reading.{KeepsDepth, Outside, ReadsBack, ReadsValue};
+ghost use Rattle.asn1_codec.specs.ReadingTypes.{ReadsChosen};
 ghost use Rattle.asn1_model.specs.ConstraintSets.{constraint_set};
 ghost use Rattle.asn1_model.specs.Meaning.{own_records};
 ghost use Rattle.asn1_model.specs.Records.{Record};
 ghost use Rattle.asn1_model.specs.Tags.{CHOICE};
-ghost use Rattle.asn1_open.specs.ChoiceReading.{ReadsChosen};
 ghost use Rattle.asn1_open.specs.OpenAlternatives.{instance_type, open_alternatives, open_meaning, open_pick};
 ghost use Rattle.asn1_open.specs.declared.open_value.Open.{Open};
 ghost use Rattle.asn1_types.specs.declared.instance_of.InstanceOf.{InstanceOf};
@@ -67,7 +67,7 @@ fn read_untagged<D: Decoder>(
 /// The alternative that can begin with the tag.
 #[cycle(opens)]
 pub(crate) fn read_alternative<D: Decoder>(decoder: &mut D, tag: Tag) -> Result<Open, DecodeError>
-    ensures read { ReadsChosen D.reader open_alternatives open_pick ⟦<Open as PartialEq>⟧.eq tag
+    ensures read { ReadsChosen D.reader tag open_alternatives open_pick ⟦<Open as PartialEq>⟧.eq
         decoder.old decoder.new result }
     ensures unknown { Each (LacksTag tag) (all_of open_alternatives) →
         IsErrAnd result (λ e. reason e ≡ no_valid_choice (codes "Open")) }

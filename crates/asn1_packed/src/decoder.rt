@@ -44,7 +44,8 @@ struct Opened {
 
 impl<'a, P: Presence> ItemDecoder<'a, P> {
     ghost use Rattle.asn1_codec.specs.DecodeErrors.{custom, reason};
-    ghost use Rattle.asn1_codec.specs.Reading.{OpensNothing, OpensScope, ReadsContent, ReadsHead, ReadsHeadOfSet, TellsPresence, records_in};
+    ghost use Rattle.asn1_codec.specs.Reading.{OpensNothing, OpensScope, ReadsHead, ReadsHeadOfSet, TellsPresence, records_in};
+    ghost use Rattle.asn1_codec.specs.ReadingTypes.{ReadsContent};
     ghost use Rattle.asn1_codec.specs.declared.decode_error.DecodeError.TheVariants.{Depth, Failed, Memory};
     ghost use Rattle.asn1_items.specs.Contents.{LooksLike};
     ghost use Rattle.asn1_items.specs.Headers.{Header, Meets, header_at, is_one_item};
@@ -155,8 +156,8 @@ impl<'a, P: Presence> ItemDecoder<'a, P> {
     fn scalar<V: FromContent>(&mut self, tag: Tag) -> Result<V, DecodeError>
         ensures read { (content : V.Value → model.Content) →
             ((x : V.Value) → LooksLike (content x) (V.content x)) → (c : ConstraintSet) →
-            ReadsContent (item_reader P.mark_bytes) self.old self.new tag c content
-            V.IsOfType V.Is result }
+            ReadsContent (item_reader P.mark_bytes) tag c content V.IsOfType V.Is
+            self.old self.new result }
         ensures opens_nothing { OpensNothing (item_reader P.mark_bytes) self.old self.new result }
     {
         let item = self.take(Wanted::Content(tag, V::kind()))?;

@@ -3,12 +3,12 @@ ghost use Rattle.asn1_choices.specs.Alternatives.{Each, all_of};
 ghost use Rattle.asn1_choices.specs.ChosenTags.{LacksTag};
 ghost use Rattle.asn1_codec.specs.DecodeErrors.{no_valid_choice, reason};
 ghost use Rattle.asn1_codec.specs.Reading.{KeepsDepth, Advances, Outside, ReadsBack, ReadsValue};
+ghost use Rattle.asn1_codec.specs.ReadingTypes.{ReadsChosen};
 ghost use Rattle.asn1_model.specs.Composites.{set_of_records};
 ghost use Rattle.asn1_model.specs.ConstraintSets.{constraint_set, unconstrained};
 ghost use Rattle.asn1_model.specs.Meaning.{own_records};
 ghost use Rattle.asn1_model.specs.Records.{Head, Name, Record, highest};
 ghost use Rattle.asn1_model.specs.Tags.{CHOICE};
-ghost use Rattle.asn1_open.specs.ChoiceReading.{ReadsChosen};
 ghost use Rattle.asn1_recursive.specs.FilterAlternatives.{filter_alternatives, filter_meaning, filter_pick};
 ghost use Rattle.asn1_recursive.specs.declared.filter.Filter.{Filter};
 ghost use Rattle.std.specs.Cmp.Lexicographic.{pointwise};
@@ -64,7 +64,7 @@ fn read_untagged<D: Decoder>(
 /// The alternative that can begin with the tag.
 #[cycle(filters)]
 pub(crate) fn read_alternative<D: Decoder>(decoder: &mut D, tag: Tag) -> Result<Filter, DecodeError>
-    ensures read { ReadsChosen D.reader filter_alternatives filter_pick ⟦<Filter as PartialEq>⟧.eq tag
+    ensures read { ReadsChosen D.reader tag filter_alternatives filter_pick ⟦<Filter as PartialEq>⟧.eq
         decoder.old decoder.new result }
     ensures unknown { Each (LacksTag tag) (all_of filter_alternatives) →
         IsErrAnd result (λ e. reason e ≡ no_valid_choice (codes "Filter")) }

@@ -20,7 +20,7 @@
 //! - A `Node` is read by two functions that call each other. Each node opens two scopes, so the depth left of the decoder ends the
 //!   recursion, whatever the input.
 //! - A `Nested` and a `Filter` are read by functions that call one another too, and open a scope before each alternative. Their
-//!   proofs go by the steps of `asn1_open` for a CHOICE that holds itself.
+//!   proofs go by the lemmas of `asn1_codec` for a CHOICE that holds itself (`proofs/ReadingChoices.antt`).
 //! - [`laws`] says when two nodes are equal, and which names the tables have.
 //!
 //! The prover wants such a type, its tables, its writer and its reader in one crate. A call takes memory where a codec does,

@@ -7,7 +7,7 @@ use Rattle.std.proofs.lemmas.List.Sums.{sum_by-append, sum_by-cons}
 use Rattle.asn1_components.specs.ComponentLists.{EachIsWellTagged, EachIsOfType, EachIsValid, all_records}
 use Rattle.asn1_components.specs.ComponentTypes.{ComponentType}
 use Rattle.asn1_components.specs.Following.{AllApart}
-use Rattle.asn1_codec.proofs.ReadingSets.{ComponentComes, Midway, Through, comes, comes_at, filled, further, start, through}
+use Rattle.asn1_codec.proofs.ReadingSets.{ComponentComes, PartsRead, Through, comes, comes_at, filled, further, start, through}
 use Rattle.asn1_codec.proofs.SetRecords.{at_most_one, records}
 use Rattle.asn1_codec.specs.Reading.{Advances, HasAdvanced, IsNextTag, Outside, Reader, ReadsBack, marks_passed, records_in}
 use Rattle.asn1_codec.specs.SetParts.{CanBeginWith, EachIsOneRecord, parts_at, unmarked, written_of}
@@ -141,7 +141,7 @@ module _ {D S V : Type 0} (R : Reader D) (cs : List (ComponentType V)) (hs : Lis
   -- Some components were read into their slots, and others are left. The records of all are so high.
   pub record SlotsMidway (d : D) (s : S) (height : ℕ) (outer : Outside) (place bound : ℕ) : Type 0 where
     pub came : List ℕ
-    pub midway : Midway R cs v (λ i. i) (λ _. ⊤) d came height outer place bound
+    pub midway : PartsRead R cs v (λ i. i) (λ _. ⊤) d came height outer place bound
     pub in_step : AreInStep hs 0 came s v
 
   -- The same, where the component of this index comes.

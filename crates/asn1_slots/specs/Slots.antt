@@ -1,20 +1,20 @@
 -- The components of a SEQUENCE or a group, each read into a slot of its own.
-use Rattle.std.specs.Prelude.{◌≡◌, ◌≢◌, ◌≤◌, ◌&&◌, ℕ, zero, suc, ⊤, Bool, true, false, List, [], ◌∷◌, drop, length, take, IsPermutation, Option, None, Some, IfSome, Result, Err, MatchResult, is_some, if◌then◌else◌, refl}
+use Rattle.std.specs.Prelude.{◌≡◌, ◌≢◌, ◌≤◌, ◌&&◌, ℕ, zero, suc, ⊤, Bool, true, false, List, [], ◌∷◌, drop, length, take, Option, None, Some, IfSome, Result, Err, MatchResult, is_some, if◌then◌else◌, refl}
 use Rattle.std.specs.Option.{option_eq}
 use Rattle.std.specs.Result.{IsErrAnd}
-use Rattle.asn1_components.specs.ComponentLists.{EachIsOfType, EachIsValid}
-use Rattle.asn1_components.specs.Components.{Components, all_components, component_records, lines, extensible_sequence, extensible_set, group, sequence, set}
+use Rattle.asn1_components.specs.Components.{Components, all_components, extensible_sequence, extensible_set, group, sequence, set}
 use Rattle.asn1_components.specs.ComponentTypes.{ComponentType, default_in, optional_in, required}
 use Rattle.asn1_components.specs.Following.{BeginsApart, Where}
 use Rattle.asn1_codec.specs.DecodeErrors.{missing_field, reason}
-use Rattle.asn1_codec.specs.Reading.{Advances, Outside, Reader, ReadsBack, records_in}
-use Rattle.asn1_codec.specs.SetParts.{CanBeInSet, unmarked}
+use Rattle.asn1_codec.specs.Reading.{Outside, Reader, ReadsBack, records_in}
+use Rattle.asn1_codec.specs.ReadingTypes.{ReadsSetLeft}
+use Rattle.asn1_codec.specs.SetParts.{unmarked}
 use Rattle.asn1_codec.proofs.ReadingSteps.{in_other_words}
 use Rattle.asn1_codec.specs.declared.decode_error.DecodeError.{DecodeError}
 use Rattle.asn1_codec.specs.declared.decode_error.DecodeError.TheVariants.{Memory}
 use Rattle.asn1_fields.specs.Entries.{may_be_absent}
 use Rattle.asn1_model.specs.Composites.{default_records}
-use Rattle.asn1_model.specs.Records.{Name, Record, Side, highest, in_additions, in_root, set as set_head}
+use Rattle.asn1_model.specs.Records.{Record, Side, in_additions, in_root}
 use Rattle.asn1_model.specs.TaggedTypes.{TaggedType}
 use Rattle.asn1_tags.specs.declared.tags.Tag.{Tag}
 use Rattle.asn1_slots.specs.Filling.{Fills, FillsGroup, FillsOnce, FillsOptional}
@@ -329,11 +329,5 @@ slots_agree components = same_all (all_components components)
 -- records: in any order, and into slots.
 abbrev pub ReadsSlotsLeft : {D S V : Type 0} → Reader D → ℕ → Components V → List (Slot S V) → D → D →
     Result S DecodeError → Type 0
-ReadsSlotsLeft {V = V} R bound components slots old new result =
-    (v : V) (t : Tag) (n : Name) (items rest : List Record) (outer : Outside) →
-    CanBeInSet (all_components components) → EachIsOfType (all_components components) v →
-    EachIsValid (all_components components) R.accepts v →
-    IsPermutation items (component_records components v) → records_in items ≤ bound →
-    Advances R old new (highest items) (items, (set_head t (lines components) n, rest) ∷ outer)
-    ([], (set_head t (lines components) n, rest) ∷ outer)
-    (λ s. HoldBefore slots (length slots) s v) result
+ReadsSlotsLeft R bound components slots old new result =
+    ReadsSetLeft R bound components (λ v s. HoldBefore slots (length slots) s v) old new result

@@ -14,7 +14,7 @@ returns-in_err-open_explicit_prefix-clause-read g c =
     let m = g.T.AsnType.meaning in
     let p = err_from_is_err_and c.from_residual.result c.from_residual.ensures.1 in
     as_tagged g.D.Decoder.reader m g.T.Choice.alternatives g.T.Choice.pick g.T.PartialEq.eq c.args.tag (constraint_set c.args.constraints.now) _ _ c.from_residual.result g.met.T.ChoiceType.agrees
-    (sym c.is_choice.ensures.parts ∙ c.if-is_choice.false) (λ n v rest outer distinct can of_type valid at.
+    (sym c.is_choice.ensures.parts ∙ c.if-is_choice.false) (λ v n rest outer distinct can of_type valid at.
     let rs = alternative_records (chosen_tag (all_of g.T.Choice.alternatives) (g.T.Choice.pick v)) m.constraints (table_of g.T.Choice.alternatives) m.name (chosen_meaning (all_of g.T.Choice.alternatives) (g.T.Choice.pick v)).records in
     rw (p.1, p.2) (not_opened (explicit_tag c.args.tag n) rs _ (c.in_err-open_explicit_prefix.ensures.read n rs rest outer at)))
 
@@ -23,7 +23,7 @@ returns-in_err-value-clause-read g c =
     let m = g.T.AsnType.meaning in
     let p = err_from_is_err_and c.from_residual-in_err-value.result c.from_residual-in_err-value.ensures.1 in
     as_tagged g.D.Decoder.reader m g.T.Choice.alternatives g.T.Choice.pick g.T.PartialEq.eq c.args.tag (constraint_set c.args.constraints.now) _ _ c.from_residual-in_err-value.result g.met.T.ChoiceType.agrees
-    (sym c.is_choice.ensures.parts ∙ c.if-is_choice.false) (λ n v rest outer distinct can of_type valid at.
+    (sym c.is_choice.ensures.parts ∙ c.if-is_choice.false) (λ v n rest outer distinct can of_type valid at.
     let rs = alternative_records (chosen_tag (all_of g.T.Choice.alternatives) (g.T.Choice.pick v)) m.constraints (table_of g.T.Choice.alternatives) m.name (chosen_meaning (all_of g.T.Choice.alternatives) (g.T.Choice.pick v)).records in
     let s = c.in_ok-open_explicit_prefix.ensures.read n rs rest outer at in
     let r = (rw c.in-Ok.ensures.set at c.in_err-value.ensures.read) v m.name [] ((_, rest) ∷ outer) distinct can of_type valid (to_end g.D.Decoder.reader _ rs ((_, rest) ∷ outer) s.at) in
@@ -34,7 +34,7 @@ returns-in_err-close-clause-read g c =
     let m = g.T.AsnType.meaning in
     let p = err_from_is_err_and c.from_residual-in_err-close.result c.from_residual-in_err-close.ensures.1 in
     as_tagged g.D.Decoder.reader m g.T.Choice.alternatives g.T.Choice.pick g.T.PartialEq.eq c.args.tag (constraint_set c.args.constraints.now) _ _ c.from_residual-in_err-close.result g.met.T.ChoiceType.agrees
-    (sym c.is_choice.ensures.parts ∙ c.if-is_choice.false) (λ n v rest outer distinct can of_type valid at.
+    (sym c.is_choice.ensures.parts ∙ c.if-is_choice.false) (λ v n rest outer distinct can of_type valid at.
     let rs = alternative_records (chosen_tag (all_of g.T.Choice.alternatives) (g.T.Choice.pick v)) m.constraints (table_of g.T.Choice.alternatives) m.name (chosen_meaning (all_of g.T.Choice.alternatives) (g.T.Choice.pick v)).records in
     let s = c.in_ok-open_explicit_prefix.ensures.read n rs rest outer at in
     let r = (rw c.in-Ok.ensures.set at c.in_ok-value.ensures.read) v m.name [] ((_, rest) ∷ outer) distinct can of_type valid (to_end g.D.Decoder.reader _ rs ((_, rest) ∷ outer) s.at) in
@@ -44,7 +44,7 @@ pub returns-clause-read : goal.returns-clause-read
 returns-clause-read g c =
     let m = g.T.AsnType.meaning in
     as_tagged g.D.Decoder.reader m g.T.Choice.alternatives g.T.Choice.pick g.T.PartialEq.eq c.args.tag (constraint_set c.args.constraints.now) c.args.decoder.now c.close.new.self (Ok c.in_ok-value.value) g.met.T.ChoiceType.agrees
-    (sym c.is_choice.ensures.parts ∙ c.if-is_choice.false) (λ n v rest outer distinct can of_type valid at.
+    (sym c.is_choice.ensures.parts ∙ c.if-is_choice.false) (λ v n rest outer distinct can of_type valid at.
     let rs = alternative_records (chosen_tag (all_of g.T.Choice.alternatives) (g.T.Choice.pick v)) m.constraints (table_of g.T.Choice.alternatives) m.name (chosen_meaning (all_of g.T.Choice.alternatives) (g.T.Choice.pick v)).records in
     let s = c.in_ok-open_explicit_prefix.ensures.read n rs rest outer at in
     let r = (rw c.in-Ok.ensures.set at c.in_ok-value.ensures.read) v m.name [] ((_, rest) ∷ outer) distinct can of_type valid (to_end g.D.Decoder.reader _ rs ((_, rest) ∷ outer) s.at) in

@@ -10,8 +10,8 @@ pub loop-index-preserved : goal.loop-index-preserved
 loop-index-preserved g c = record {
   kept = omega (arith, c.loop-index.invariant.kept, c.in_ok-more.ensures.opens_nothing.keeps_depth.same_depth, c.in-Ok.ensures.after_reading.same_depth);
   count = omega (arith, c.loop-index.invariant.count, ap length c.in-Ok-push.ensures.items, length-append c.loop-index.elements.items (c.in-Ok.element ∷ []));
-  midway = λ vs scope outer can of_type valid at.
-      let mid = c.loop-index.invariant.midway vs scope outer can of_type valid at in
+  so_far = λ vs scope outer can of_type valid at.
+      let mid = c.loop-index.invariant.so_far vs scope outer can of_type valid at in
       let a = another g.D.Decoder.reader g.T.AsnType.meaning g.T.PartialEq.eq can _ mid c.in_ok-more.ensures.read c.if-not-branch.false c.in_ok-more.ensures.opens_nothing.keeps_depth.same_depth in
       let r = c.in-Ok.ensures.read a.next g.T.AsnType.meaning.name (flat_map (own_records g.T.AsnType.meaning) a.todo) (scope ∷ outer) can.1 a.next_of_type a.next_valid (inl can.0) a.at in
       let f = further g.D.Decoder.reader g.T.AsnType.meaning g.T.PartialEq.eq c.decode.new.decoder c.in-Ok.element a r.within_depth r.answer r.at c.in-Ok.ensures.after_reading.same_depth in
@@ -21,18 +21,18 @@ loop-index-preserved g c = record {
 pub returns-in_err-more-clause-read : goal.returns-in_err-more-clause-read
 returns-in_err-more-clause-read g c = λ vs scope outer can of_type valid few at.
     let p = err_from_is_err_and c.from_residual.result c.from_residual.ensures.1 in
-    let mid = c.loop-index.invariant.midway vs scope outer can of_type valid at in
+    let mid = c.loop-index.invariant.so_far vs scope outer can of_type valid at in
     rw (p.1, p.2) (not_told g.D.Decoder.reader g.T.AsnType.meaning g.T.PartialEq.eq can _ _ mid c.in_err-more.ensures.read)
 
 pub returns-then-not-branch-clause-read : goal.returns-then-not-branch-clause-read
 returns-then-not-branch-clause-read g c = λ vs scope outer can of_type valid few at.
-    let mid = c.loop-index.invariant.midway vs scope outer can of_type valid at in
+    let mid = c.loop-index.invariant.so_far vs scope outer can of_type valid at in
     let t = through g.D.Decoder.reader g.T.AsnType.meaning g.T.PartialEq.eq can _ mid c.in_ok-more.ensures.read c.if-not-branch.true c.in_ok-more.ensures.opens_nothing.keeps_depth.same_depth in
     record { answer = t.same; at = t.at; within_depth = omega (arith, t.low, c.loop-index.invariant.kept, c.in_ok-more.ensures.opens_nothing.keeps_depth.same_depth) }
 
 pub returns-in-Err-clause-read : goal.returns-in-Err-clause-read
 returns-in-Err-clause-read g c = λ vs scope outer can of_type valid few at.
-    let mid = c.loop-index.invariant.midway vs scope outer can of_type valid at in
+    let mid = c.loop-index.invariant.so_far vs scope outer can of_type valid at in
     let a = another g.D.Decoder.reader g.T.AsnType.meaning g.T.PartialEq.eq can _ mid c.in_ok-more.ensures.read c.if-not-branch.false c.in_ok-more.ensures.opens_nothing.keeps_depth.same_depth in
     let r = c.in-Err.ensures.read a.next g.T.AsnType.meaning.name (flat_map (own_records g.T.AsnType.meaning) a.todo) (scope ∷ outer) can.1 a.next_of_type a.next_valid (inl can.0) a.at in
     rw c.refuse.ensures.same (fails_below _ _ _ (omega (arith, c.loop-index.invariant.kept, c.in_ok-more.ensures.opens_nothing.keeps_depth.same_depth)) (no_higher (own_records g.T.AsnType.meaning) a.done a.todo a.next vs a.split) r)

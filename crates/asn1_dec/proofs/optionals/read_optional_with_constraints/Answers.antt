@@ -3,8 +3,9 @@ use Rattle.std.proofs.lemmas.Result.{err_from_is_err_and}
 use Rattle.asn1_model.specs.ConstraintSets.{constraint_set}
 use Rattle.asn1_model.specs.Tags.{tree_tags}
 use Rattle.std.specs.Prelude.{unwrap_or}
+use Rattle.asn1_codec.specs.GivenTypes.{given}
 use Rattle.asn1_codec.specs.Sides.{side_of}
-use Rattle.asn1_codec.proofs.ReadingOptionals.{option_is_absent, option_is_read, option_not_told}
+use Rattle.asn1_codec.proofs.ReadingOptionals.{is_absent, is_there, not_told, told_of}
 use Rattle.asn1_dec.proofs.optionals.read_optional_with_constraints.Goals as goal
 
 pub returns-in_err-is_there-clause-read : goal.returns-in_err-is_there-clause-read
@@ -14,7 +15,7 @@ returns-in_err-is_there-clause-read g c =
     let is : t ≡ unwrap_or c.args.tag m.tag = c.unwrap_or-tag.ensures ∙ ap (unwrap_or c.args.tag) c.table-table.ensures.tag in
     let asked = ap tree_tags (c.under.ensures ∙ c.table-table.ensures.tree t) in
     let p = err_from_is_err_and c.from_residual.result c.from_residual.ensures.1 in
-    rw (← is, p.1, p.2) (option_not_told g.D.Decoder.reader (side_of c.args.side) m g.T.PartialEq.eq t (constraint_set c.args.constraints.now) c.args.decoder.now c.is_there.new.decoder _ asked c.in_err-is_there.ensures.read)
+    rw (← is, p.1, p.2) (not_told g.D.Decoder.reader (side_of c.args.side) (given t (constraint_set c.args.constraints.now) m) g.T.PartialEq.eq _ _ (λ _. told_of g.D.Decoder.reader _ _ asked c.in_err-is_there.ensures.read))
 
 pub returns-then-not-branch-clause-read : goal.returns-then-not-branch-clause-read
 returns-then-not-branch-clause-read g c =
@@ -22,7 +23,7 @@ returns-then-not-branch-clause-read g c =
     let t = c.unwrap_or-tag.result in
     let is : t ≡ unwrap_or c.args.tag m.tag = c.unwrap_or-tag.ensures ∙ ap (unwrap_or c.args.tag) c.table-table.ensures.tag in
     let asked = ap tree_tags (c.under.ensures ∙ c.table-table.ensures.tree t) in
-    rw (← is) (option_is_absent g.D.Decoder.reader (side_of c.args.side) m g.T.PartialEq.eq t (constraint_set c.args.constraints.now) c.args.decoder.now c.is_there.new.decoder _ asked c.in_ok-is_there.ensures.read c.if-not-branch.true)
+    rw (← is) (is_absent g.D.Decoder.reader (side_of c.args.side) (given t (constraint_set c.args.constraints.now) m) g.T.PartialEq.eq _ _ (λ _. told_of g.D.Decoder.reader _ _ asked c.in_ok-is_there.ensures.read) c.if-not-branch.true)
 
 pub returns-clause-read : goal.returns-clause-read
 returns-clause-read g c =
@@ -30,4 +31,5 @@ returns-clause-read g c =
     let t = c.unwrap_or-tag.result in
     let is : t ≡ unwrap_or c.args.tag m.tag = c.unwrap_or-tag.ensures ∙ ap (unwrap_or c.args.tag) c.table-table.ensures.tag in
     let asked = ap tree_tags (c.under.ensures ∙ c.table-table.ensures.tree t) in
-    rw (← is) (option_is_read g.D.Decoder.reader (side_of c.args.side) m g.T.PartialEq.eq t (constraint_set c.args.constraints.now) c.args.decoder.now c.is_there.new.decoder _ asked c.in_ok-is_there.ensures.read c.if-not-branch.false c.in_ok-is_there.ensures.opens_nothing.keeps_depth.same_depth c.read_present.new.decoder c.read_present.result c.read_present.ensures.read)
+    rw (← is) (is_there g.D.Decoder.reader (side_of c.args.side) (given t (constraint_set c.args.constraints.now) m) g.T.PartialEq.eq _ c.is_there.new.decoder c.read_present.new.decoder c.read_present.result (λ _. told_of g.D.Decoder.reader _ _ asked c.in_ok-is_there.ensures.read) c.if-not-branch.false
+    c.in_ok-is_there.ensures.opens_nothing.keeps_depth.same_depth c.read_present.ensures.read)

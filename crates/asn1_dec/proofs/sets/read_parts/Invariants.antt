@@ -6,7 +6,7 @@ use Rattle.asn1_tags.specs.declared.tags.Tag.{Tag}
 use Rattle.asn1_codec.specs.Reading.{Outside, records_in}
 use Rattle.asn1_model.specs.Records.{Name, Record, highest, set}
 use Rattle.asn1_codec.specs.SetParts.{CanBeInSet}
-use Rattle.asn1_codec.proofs.ReadingSets.{Midway}
+use Rattle.asn1_codec.proofs.ReadingSets.{PartsRead}
 use Rattle.asn1_dec.proofs.sets.read_parts.Given as goal
 
 abbrev pub invariant-loop-place : goal.invariant-loop-place
@@ -14,8 +14,8 @@ invariant-loop-place g l =
     let cs = all_components g.S.FieldTable.components in
     record {
       kept : g.D.Decoder.reader.depth_left l.decoder ≡ g.D.Decoder.reader.depth_left l.fn.decoder;
-      midway : (v : _) (tag : Tag) (n : Name) (items rest : List Record) (outer : Outside) → CanBeInSet cs → EachIsOfType cs v → EachIsValid cs g.D.Decoder.reader.accepts v →
+      so_far : (v : _) (tag : Tag) (n : Name) (items rest : List Record) (outer : Outside) → CanBeInSet cs → EachIsOfType cs v → EachIsValid cs g.D.Decoder.reader.accepts v →
           IsPermutation items (component_records g.S.FieldTable.components v) → records_in items ≤ l.bound → g.D.Decoder.reader.remains l.fn.decoder (items, (set tag (lines g.S.FieldTable.components) n, rest) ∷ outer) →
-          Midway g.D.Decoder.reader cs v g.S.DecodeSet.index_of (g.S.DecodeSet.is_part_of v) l.decoder l.parts.items (highest items)
+          PartsRead g.D.Decoder.reader cs v g.S.DecodeSet.index_of (g.S.DecodeSet.is_part_of v) l.decoder l.parts.items (highest items)
           ((set tag (lines g.S.FieldTable.components) n, rest) ∷ outer) l.place l.bound;
     }

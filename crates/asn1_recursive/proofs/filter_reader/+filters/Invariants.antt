@@ -1,6 +1,6 @@
 use Rattle.std.proofs.Common.{◌≡◌, ◌+◌, ◌*◌, List, ◌∷◌, length}
 use Rattle.std.specs.List.{flat_map, All}
-use Rattle.asn1_codec.proofs.ReadingElements.{Midway}
+use Rattle.asn1_codec.proofs.ReadingElements.{ElementsRead}
 use Rattle.asn1_codec.specs.Reading.{Outside}
 use Rattle.asn1_model.specs.Meaning.{own_records}
 use Rattle.asn1_model.specs.Records.{Head, Record}
@@ -30,5 +30,5 @@ invariant-read_filters-loop-index g l = record {
   count : length l.filters.items ≡ l._index;
   midway : (vs : List Filter) (scope : Head × List Record) (outer : Outside) → All filter_meaning.IsOfType vs → All (filter_meaning.IsValid g.D.Decoder.reader.accepts) vs →
       g.D.Decoder.reader.remains l.fn.decoder (flat_map (own_records filter_meaning) vs, scope ∷ outer) →
-      Midway g.D.Decoder.reader filter_meaning ghosts.eq l.decoder l.filters.items vs (scope ∷ outer);
+      ElementsRead g.D.Decoder.reader filter_meaning ghosts.eq l.decoder l.filters.items vs (scope ∷ outer);
 }

@@ -3,11 +3,10 @@ use Rattle.std.specs.List.{flat_map}
 use Rattle.std.specs.Prelude.{Some, codes}
 use Rattle.std.proofs.lemmas.Result.{err_from_is_err_and}
 use Rattle.asn1_codec.proofs.ReadingElements.{another, as_many, filled, further, no_higher, not_told, start, through}
-use Rattle.asn1_codec.proofs.ReadingSteps.{fails_below, flat_failure}
+use Rattle.asn1_codec.proofs.ReadingSteps.{fails_below, fails_deeper, flat_failure}
 use Rattle.asn1_model.specs.ConstraintSets.{unconstrained}
 use Rattle.asn1_model.specs.Meaning.{own_records}
 use Rattle.asn1_recursive.proofs.NodeHeights.{label_height}
-use Rattle.asn1_open.proofs.ChoiceSteps.{fails_deeper}
 use Rattle.asn1_recursive.proofs.NodeLaws.{children_of, children_record, inside_node, label_apart, node_can, one_level, same_nodes, two_higher}
 use Rattle.asn1_recursive.specs.NodeComponents.{node_agrees, node_meaning}
 use Rattle.asn1_recursive.specs.contracts.node.NodePartialEq.TheImpl.{ghosts}

@@ -1,6 +1,6 @@
 use Rattle.std.proofs.Common.{◌≡◌, ◌+◌, ◌*◌, List, ◌∷◌, length}
 use Rattle.std.specs.List.{flat_map, All}
-use Rattle.asn1_codec.proofs.ReadingElements.{Midway}
+use Rattle.asn1_codec.proofs.ReadingElements.{ElementsRead}
 use Rattle.asn1_codec.specs.Reading.{Outside}
 use Rattle.asn1_model.specs.Meaning.{own_records}
 use Rattle.asn1_model.specs.Records.{Head, Record}
@@ -21,5 +21,5 @@ invariant-read_children-loop-index g l = record {
   count : length l.children.items ≡ l._index;
   midway : (vs : List Node) (scope : Head × List Record) (outer : Outside) → All node_is_of_type vs → All (node_is_valid g.D.Decoder.reader.accepts) vs →
       g.D.Decoder.reader.remains l.fn.decoder (flat_map (own_records node_meaning) vs, scope ∷ outer) →
-      Midway g.D.Decoder.reader node_meaning ghosts.eq l.decoder l.children.items vs (scope ∷ outer);
+      ElementsRead g.D.Decoder.reader node_meaning ghosts.eq l.decoder l.children.items vs (scope ∷ outer);
 }

@@ -8,6 +8,7 @@ use Rattle.asn1_choices.specs.ChosenTags.{TellsAlternative, chosen_has_own, chos
 use Rattle.asn1_codec.proofs.ReadingAlternatives.{as_tagged, as_untagged}
 use Rattle.asn1_codec.proofs.ReadingSteps.{fails_inside, flat_failure, not_opened, to_end, within_scope}
 use Rattle.asn1_codec.specs.Reading.{Remaining, KeepsDepth, AfterReading, MayFail, HasAdvanced, Outside, Reader, ReadsBack, ReadsValue}
+use Rattle.asn1_codec.specs.ReadingTypes.{ReadsChosen, ReadsHeadOfChoice}
 use Rattle.asn1_codec.specs.declared.decode_error.DecodeError.{DecodeError}
 use Rattle.asn1_codec.specs.declared.decode_error.DecodeError.TheVariants.{Failed}
 use Rattle.asn1_model.specs.Composites.{alternative_records}
@@ -17,12 +18,6 @@ use Rattle.asn1_model.specs.Records.{Head, Name, Record, alternative, highest, h
 use Rattle.asn1_model.specs.Tags.{CHOICE, Has, tree_tags}
 use Rattle.asn1_tags.specs.Tags.{tag_eq}
 use Rattle.asn1_tags.specs.declared.tags.Tag.{Tag}
-use Rattle.asn1_open.specs.ChoiceReading.{OpensChoice, ReadsChosen}
-
--- A failure this many scopes inside.
-pub fails_deeper : {e : DecodeError} {a g : ℕ} (b h scopes : ℕ) → b ≡ a + scopes → g + scopes ≤ h → MayFail a g e → MayFail b h e
-fails_deeper b h scopes deeper low (inl memory) = inl memory
-fails_deeper b h scopes deeper low (inr deep) = inr (deep.0, omega (arith, deep.1, deeper, low))
 
 -- a name stands for itself
 own_name : (n : Name) → name_or n n ≡ n
@@ -45,9 +40,9 @@ module _ {D V : Type 0} (R : Reader D) {m : Meaning V} {alts : Alternatives} {pi
   its_tag v can tag tells = tells_chosen (all_of alts) (pick v) (first v) tag tells (chosen_has_own (all_of alts) can (pick v))
 
   -- the CHOICE was not opened
-  pub choice_not_opened : (c : ConstraintSet) (old new : D) {e : DecodeError} → OpensChoice R alts c old new (Err e) → ReadsValue R m eq CHOICE c old new (Err e)
+  pub choice_not_opened : (c : ConstraintSet) (old new : D) {e : DecodeError} → ReadsHeadOfChoice R c alts old new (Err e) → ReadsValue R m eq CHOICE c old new (Err e)
   choice_not_opened c old new {e} opens =
-      as_untagged R m alts pick eq CHOICE c old new (Err e) law refl (λ n v rest outer distinct can of_type valid at.
+      as_untagged R m alts pick eq CHOICE c old new (Err e) law refl (λ v n rest outer distinct can of_type valid at.
       not_opened (head c n v) (held v) (R.depth_left old) (opens (first v) distinct can n (held v) rest outer at))
 
   -- the innermost scope was not closed, or it was
@@ -65,28 +60,28 @@ module _ {D V : Type 0} (R : Reader D) {m : Meaning V} {alts : Alternatives} {pi
   TagOpened t old mid = (n : Name) (items rest : List Record) (outer : Outside) → R.remains old (holding (explicit_tag t n) items ∷ rest, outer) → HasAdvanced R old mid 1 (items, (explicit_tag t n, rest) ∷ outer) ⊤
 
   -- the chosen alternative was not read
-  pub alternative_not_read : (c : ConstraintSet) (old mid end new : D) (tag : Tag) {e : DecodeError} → OpensChoice R alts c old mid (Ok tag) → R.depth_left old ≡ suc (R.depth_left mid) →
-      ReadsChosen R alts pick eq tag mid end (Err e) → ReadsValue R m eq CHOICE c old new (Err e)
+  pub alternative_not_read : (c : ConstraintSet) (old mid end new : D) (tag : Tag) {e : DecodeError} → ReadsHeadOfChoice R c alts old mid (Ok tag) → R.depth_left old ≡ suc (R.depth_left mid) →
+      ReadsChosen R tag alts pick eq mid end (Err e) → ReadsValue R m eq CHOICE c old new (Err e)
   alternative_not_read c old mid end new tag {e} opens less reads =
-      as_untagged R m alts pick eq CHOICE c old new (Err e) law refl (λ n v rest outer distinct can of_type valid at.
+      as_untagged R m alts pick eq CHOICE c old new (Err e) law refl (λ v n rest outer distinct can of_type valid at.
       let s = opens (first v) distinct can n (held v) rest outer at in
       let r = reads v [] ((head c n v, rest) ∷ outer) distinct can of_type valid (its_tag v can tag s.answer) (to_end R mid (held v) ((head c n v, rest) ∷ outer) s.at) in
       fails_inside (head c n v) (held v) _ _ less r)
 
   -- the CHOICE was not closed
-  pub choice_not_closed : (c : ConstraintSet) (old mid end new : D) (tag : Tag) {w : V} {e : DecodeError} → OpensChoice R alts c old mid (Ok tag) →
-      ReadsChosen R alts pick eq tag mid end (Ok w) → EndNotRead end e → ReadsValue R m eq CHOICE c old new (Err e)
+  pub choice_not_closed : (c : ConstraintSet) (old mid end new : D) (tag : Tag) {w : V} {e : DecodeError} → ReadsHeadOfChoice R c alts old mid (Ok tag) →
+      ReadsChosen R tag alts pick eq mid end (Ok w) → EndNotRead end e → ReadsValue R m eq CHOICE c old new (Err e)
   choice_not_closed c old mid end new tag {w} {e} opens reads closes =
-      as_untagged R m alts pick eq CHOICE c old new (Err e) law refl (λ n v rest outer distinct can of_type valid at.
+      as_untagged R m alts pick eq CHOICE c old new (Err e) law refl (λ v n rest outer distinct can of_type valid at.
       let s = opens (first v) distinct can n (held v) rest outer at in
       let r = reads v [] ((head c n v, rest) ∷ outer) distinct can of_type valid (its_tag v can tag s.answer) (to_end R mid (held v) ((head c n v, rest) ∷ outer) s.at) in
       flat_failure _ _ _ (closes (head c n v) rest outer r.at))
 
   -- the CHOICE was read
-  pub choice_read : (c : ConstraintSet) (old mid end new : D) (tag : Tag) {w : V} → OpensChoice R alts c old mid (Ok tag) → R.depth_left old ≡ suc (R.depth_left mid) →
-      ReadsChosen R alts pick eq tag mid end (Ok w) → EndRead end new → ReadsValue R m eq CHOICE c old new (Ok w)
+  pub choice_read : (c : ConstraintSet) (old mid end new : D) (tag : Tag) {w : V} → ReadsHeadOfChoice R c alts old mid (Ok tag) → R.depth_left old ≡ suc (R.depth_left mid) →
+      ReadsChosen R tag alts pick eq mid end (Ok w) → EndRead end new → ReadsValue R m eq CHOICE c old new (Ok w)
   choice_read c old mid end new tag {w} opens less reads closes =
-      as_untagged R m alts pick eq CHOICE c old new (Ok w) law refl (λ n v rest outer distinct can of_type valid at.
+      as_untagged R m alts pick eq CHOICE c old new (Ok w) law refl (λ v n rest outer distinct can of_type valid at.
       let s = opens (first v) distinct can n (held v) rest outer at in
       let r = reads v [] ((head c n v, rest) ∷ outer) distinct can of_type valid (its_tag v can tag s.answer) (to_end R mid (held v) ((head c n v, rest) ∷ outer) s.at) in
       let k = closes (head c n v) rest outer r.at in
@@ -113,14 +108,14 @@ module _ {D V : Type 0} (R : Reader D) {m : Meaning V} {alts : Alternatives} {pi
   pub tag_not_read : (t : Tag) (c : ConstraintSet) (old new : D) {e : DecodeError} → tag_eq t CHOICE ≡ false → TagNotOpened t old e →
       ReadsValue R m eq t c old new (Err e)
   tag_not_read t c old new {e} under opens =
-      as_tagged R m alts pick eq t c old new (Err e) law under (λ n v rest outer distinct can of_type valid at.
+      as_tagged R m alts pick eq t c old new (Err e) law under (λ v n rest outer distinct can of_type valid at.
       not_opened (explicit_tag t n) (own v) (R.depth_left old) (opens n (own v) rest outer at))
 
   -- the CHOICE after it was not read
   pub choice_after_tag_not_read : (t : Tag) (c : ConstraintSet) (old mid end new : D) {e : DecodeError} → tag_eq t CHOICE ≡ false → TagOpened t old mid →
       R.depth_left old ≡ suc (R.depth_left mid) → ReadsValue R m eq CHOICE m.constraints mid end (Err e) → ReadsValue R m eq t c old new (Err e)
   choice_after_tag_not_read t c old mid end new {e} under opens less reads =
-      as_tagged R m alts pick eq t c old new (Err e) law under (λ n v rest outer distinct can of_type valid at.
+      as_tagged R m alts pick eq t c old new (Err e) law under (λ v n rest outer distinct can of_type valid at.
       let s = opens n (own v) rest outer at in
       fails_inside (explicit_tag t n) (own v) _ _ less
       (inside_tag mid end (Err e) reads v ((explicit_tag t n, rest) ∷ outer) distinct can of_type valid (to_end R mid (own v) ((explicit_tag t n, rest) ∷ outer) s.at)))
@@ -129,7 +124,7 @@ module _ {D V : Type 0} (R : Reader D) {m : Meaning V} {alts : Alternatives} {pi
   pub choice_after_tag_not_closed : (t : Tag) (c : ConstraintSet) (old mid end new : D) {w : V} {e : DecodeError} → tag_eq t CHOICE ≡ false → TagOpened t old mid →
       ReadsValue R m eq CHOICE m.constraints mid end (Ok w) → EndNotRead end e → ReadsValue R m eq t c old new (Err e)
   choice_after_tag_not_closed t c old mid end new {w} {e} under opens reads closes =
-      as_tagged R m alts pick eq t c old new (Err e) law under (λ n v rest outer distinct can of_type valid at.
+      as_tagged R m alts pick eq t c old new (Err e) law under (λ v n rest outer distinct can of_type valid at.
       let s = opens n (own v) rest outer at in
       let r = inside_tag mid end (Ok w) reads v ((explicit_tag t n, rest) ∷ outer) distinct can of_type valid (to_end R mid (own v) ((explicit_tag t n, rest) ∷ outer) s.at) in
       flat_failure _ _ _ (closes (explicit_tag t n) rest outer r.at))
@@ -138,7 +133,7 @@ module _ {D V : Type 0} (R : Reader D) {m : Meaning V} {alts : Alternatives} {pi
   pub choice_after_tag_read : (t : Tag) (c : ConstraintSet) (old mid end new : D) {w : V} → tag_eq t CHOICE ≡ false → TagOpened t old mid →
       R.depth_left old ≡ suc (R.depth_left mid) → ReadsValue R m eq CHOICE m.constraints mid end (Ok w) → EndRead end new → ReadsValue R m eq t c old new (Ok w)
   choice_after_tag_read t c old mid end new {w} under opens less reads closes =
-      as_tagged R m alts pick eq t c old new (Ok w) law under (λ n v rest outer distinct can of_type valid at.
+      as_tagged R m alts pick eq t c old new (Ok w) law under (λ v n rest outer distinct can of_type valid at.
       let s = opens n (own v) rest outer at in
       let r = inside_tag mid end (Ok w) reads v ((explicit_tag t n, rest) ∷ outer) distinct can of_type valid (to_end R mid (own v) ((explicit_tag t n, rest) ∷ outer) s.at) in
       let k = closes (explicit_tag t n) rest outer r.at in
@@ -155,7 +150,7 @@ module _ {D V W : Type 0} (R : Reader D) (alts : Alternatives) (pick : V → One
   -- it was not read
   pub chosen_not_read : (old new : D) {e : DecodeError} →
       ((w : W) (rest : List Record) (outer : Outside) → (said w).IsOfType → (said w).IsValid R.accepts → R.remains old ((said w).records ++ rest, outer) → MayFail (R.depth_left old) (highest (said w).records) e) →
-      ReadsChosen R alts pick eq tag old new (Err e)
+      ReadsChosen R tag alts pick eq old new (Err e)
   chosen_not_read old new {e} fails v rest outer distinct can of_type valid has at =
       let o = only v has in
       let is = same v o in
@@ -165,7 +160,7 @@ module _ {D V W : Type 0} (R : Reader D) (alts : Alternatives) (pick : V → One
   -- it was read
   pub chosen_read : (old new : D) (v : V) →
       ((w : W) (rest : List Record) (outer : Outside) → (said w).IsOfType → (said w).IsValid R.accepts → R.remains old ((said w).records ++ rest, outer) → HasAdvanced R old new (highest (said w).records) (rest, outer) (eq v (embed w) ≡ true)) →
-      ReadsChosen R alts pick eq tag old new (Ok v)
+      ReadsChosen R tag alts pick eq old new (Ok v)
   chosen_read old new v reads u rest outer distinct can of_type valid has at =
       let o = only u has in
       let is = same u o in
@@ -175,10 +170,6 @@ module _ {D V W : Type 0} (R : Reader D) (alts : Alternatives) (pick : V → One
         at = r.at;
         within_depth = subst (λ s. highest s.records ≤ R.depth_left old) (sym is) r.within_depth;
       }
-
--- What is said of an answer may be said in other words.
-pub moved_as : {D : Type 0} (R : Reader D) {old new : D} {height : ℕ} {after : Remaining} {Is As : Type 0} → HasAdvanced R old new height after Is → (Is → As) → HasAdvanced R old new height after As
-moved_as R m f = record { answer = f m.answer; at = m.at; within_depth = m.within_depth }
 
 -- What a function leaves that is a reader of its own: an error of it makes the decoder failed.
 pub leaves_kept : {D V : Type 0} (R : Reader D) (m : Meaning V) (t : Tag) (c : ConstraintSet) (old new : D) (result : Result V DecodeError) → KeepsDepth R old new result → AfterReading R m t c old new result
