@@ -212,14 +212,36 @@ fn what_is_missing_inside_a_scope_is_bad(rt: HostRuntime) {
         "past the end",
         &[4, 0, 0, 0, 0, 16, 0, 0, 0, 1, 1],
     );
-    is_bad::<Person>(&rt, alloc, "none", &[2, 0, 0, 0, 0, 16, 0, 0, 0, 0]);
-    is_bad::<Profile>(&rt, alloc, "no mark", &[2, 0, 0, 0, 0, 16, 0, 0, 0, 0]);
-    is_bad::<Profile>(
-        &rt,
-        alloc,
-        "another mark",
-        &[2, 0, 0, 0, 0, 16, 0, 0, 0, 1, 18],
-    );
+    let no_age = DecodeError::FieldError {
+        name: "age",
+        cause: 1,
+    };
+    let no_nick = DecodeError::FieldError {
+        name: "nick",
+        cause: 1,
+    };
+    let empty = [2, 0, 0, 0, 0, 16, 0, 0, 0, 0];
+    refused::<Person>(&rt, alloc, "none", &empty, no_age);
+    refused::<Profile>(&rt, alloc, "no mark", &empty, no_nick);
+    let other = [2, 0, 0, 0, 0, 16, 0, 0, 0, 1, 18];
+    refused::<Profile>(&rt, alloc, "another mark", &other, no_nick);
+}
+
+/// Asserts that a person is refused for this component, where the byte at the place is 9.
+fn assert_named(rt: &impl Abort, alloc: Global, place: usize, name: &'static str) {
+    let mut bytes = list(alloc, PERSON).expect(rt, "memory");
+    if let Some(byte) = bytes.get_mut(place) {
+        *byte = 9;
+    }
+    let error = DecodeError::FieldError { name, cause: 1 };
+    refused::<Person>(rt, alloc, name, &bytes, error);
+}
+
+/// The tag of each component is another.
+#[test]
+fn an_error_names_the_component(rt: HostRuntime) {
+    assert_named(&rt, rt.alloc(), 15, "age");
+    assert_named(&rt, rt.alloc(), 28, "name");
 }
 
 /// `TRUE`, twice.

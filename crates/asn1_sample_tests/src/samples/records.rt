@@ -92,22 +92,26 @@ pub fn pairs_come_back<R: Rules>(rules: &R) -> Result<(), Failure> {
     comes_back(rules, &pair)
 }
 
-/// Whether a pair is refused by the error of the number in it that is outside its limits, by a codec that writes an INTEGER the
-/// same under all limits.
+/// Whether a pair is refused for the number in it that is outside its limits, by a codec that writes an INTEGER the same under all
+/// limits. The error names the component.
 ///
 /// # Errors
 /// How else it ended.
 pub fn pairs_outside_limits_are_refused<R: Rules>(rules: &R) -> Result<(), Failure> {
-    elevens_are_refused::<Pair<OneToTen, u8>, R>(rules).and(elevens_are_refused::<
+    elevens_are_refused::<Pair<OneToTen, u8>, R>(rules, "first").and(elevens_are_refused::<
         Pair<u8, OneToTen>,
         R,
-    >(rules))
+    >(rules, "second"))
 }
 
-fn elevens_are_refused<P: Decode, R: Rules>(rules: &R) -> Result<(), Failure> {
+fn elevens_are_refused<P: Decode, R: Rules>(rules: &R, name: &'static str) -> Result<(), Failure> {
     let elevens = Pair {
         first: 11u8,
         second: Some(11u8),
     };
-    is_refused::<P, R, Pair<u8, u8>>(rules, &elevens, DecodeError::OutOfRange)
+    let error = DecodeError::FieldError {
+        name,
+        cause: DecodeError::OutOfRange.number(),
+    };
+    is_refused::<P, R, Pair<u8, u8>>(rules, &elevens, error)
 }
