@@ -8,7 +8,7 @@ use asn1_packed::{PackedDecoder, read_whole};
 use asn1_streams::FrontReader;
 use std::alloc::Global;
 
-/// Reads values from the front of packed bytes, each with at most so many nested scopes.
+/// Reads values from the front of packed bytes, each with at most this many nested scopes.
 ///
 /// The item with which an input begins is found by its header, and is read as a whole. Where not all of it is there, or the
 /// input does not begin with an item, the bytes are read as they are, and the error is that of `read_value` of

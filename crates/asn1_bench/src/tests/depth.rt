@@ -8,7 +8,7 @@ use asn1_schema::Rules;
 use std::alloc::Global;
 use std::process::Abort;
 
-/// Asserts how many bytes a value has, which is written with so many nested scopes.
+/// Asserts how many bytes a value has, which is written with this many nested scopes.
 fn assert_length<T: Encode>(
     rt: &impl Abort,
     alloc: Global,
@@ -20,13 +20,13 @@ fn assert_length<T: Encode>(
     assert!(rt; written.expect(rt, "enough depth").len() == length);
 }
 
-/// Asserts it of a NULL inside so many INSTANCE OF.
+/// Asserts it of a NULL inside this many INSTANCE OF.
 fn assert_instances(rt: &impl Abort, alloc: Global, around: usize, depth: usize, length: usize) {
     let value = null_inside_instances(alloc, around).expect(rt, "memory");
     assert_length(rt, alloc, &value, depth, length);
 }
 
-/// Asserts it of a node without labels and with so many nodes around it.
+/// Asserts it of a node without labels and with this many nodes around it.
 fn assert_nodes(rt: &impl Abort, alloc: Global, around: usize, depth: usize, length: usize) {
     let value = bare_chain(alloc, around).expect(rt, "memory");
     assert_length(rt, alloc, &value, depth, length);
