@@ -1,0 +1,114 @@
+//! `Name ::= CHOICE { rdnSequence RDNSequence }`
+ghost use Rattle.std.specs.Prelude.{[], codes, ◌∷◌};
+ghost use Rattle.asn1_schema.specs.Words.{IsWellTagged, alternative, choice_agrees, choice_of, closed_choice, inl, untagged};
+ghost use Rattle.asn1_x509.specs.declared.name.Name.TheVariants.{Rdns};
+
+use crate::attribute::AttributeTypeAndValue;
+use asn1_schema::{
+    AsnType, Choice, ChoiceType, Constraints, Decode, DecodeChoice, DecodeError, Decoder, Encode,
+    EncodeChoice, EncodeError, Encoder, Identifier, SetOf, Tag, TagTree, TypeTable,
+};
+
+/// `RelativeDistinguishedName ::= SET SIZE (1..MAX) OF AttributeTypeAndValue`. That there is one is the caller's to see.
+pub type RelativeDistinguishedName = SetOf<AttributeTypeAndValue>;
+
+/// `RDNSequence ::= SEQUENCE OF RelativeDistinguishedName`
+pub type RdnSequence = Vec<RelativeDistinguishedName>;
+
+/// Whose certificate it is, and who issued it: a CHOICE of one alternative.
+#[derive(PartialEq, Eq, Debug, Drop)]
+pub enum Name {
+    /// `rdnSequence RDNSequence`
+    Rdns(RdnSequence),
+}
+
+/// The trees of the alternatives.
+const NAME: &[TagTree<'static>] = &[TagTree::Leaf(Tag::SEQUENCE)];
+
+impl Choice for Name {
+    ghost alternatives = { closed_choice (
+        alternative (codes "rdnSequence") (untagged ⟦<RdnSequence as AsnType>⟧.meaning) ∷ []) };
+
+    ghost pick = { elim [ Rdns rdns ↦ inl rdns ] };
+
+    fn variants() -> &'static [TagTree<'static>] {
+        NAME
+    }
+
+    fn extended_variants() -> Option<&'static [TagTree<'static>]> {
+        None
+    }
+
+    fn identifiers() -> &'static [&'static str] {
+        &["rdnSequence"]
+    }
+}
+
+impl AsnType for Name {
+    ghost meaning = { choice_of (codes "Name") ⟦<Name as Choice>⟧.alternatives ⟦<Name as Choice>⟧.pick };
+
+    fn table() -> TypeTable {
+        TypeTable::choice(Identifier(Some("Name")), NAME)
+    }
+
+    fn is_present(&self) -> bool {
+        true
+    }
+}
+
+impl ChoiceType for Name {
+    ghost agrees = { choice_agrees };
+}
+
+/// A `Name` can be inside other types.
+pub fn name_is_well_tagged()
+    ensures { IsWellTagged ⟦<Name as AsnType>⟧.meaning }
+{}
+
+impl Encode for Name {
+    fn encode_with_tag_and_constraints<E: Encoder>(
+        &self,
+        encoder: &mut E,
+        tag: Tag,
+        constraints: &Constraints<'_>,
+        name: Identifier,
+    ) -> Result<(), EncodeError> {
+        encoder.encode_choice_with_tag(tag, constraints, self, name)
+    }
+}
+
+impl EncodeChoice for Name {
+    fn chosen_tag(&self) -> Tag {
+        match self {
+            Name::Rdns(_) => Tag::SEQUENCE,
+        }
+    }
+
+    fn encode_alternative<E: Encoder>(&self, encoder: &mut E) -> Result<(), EncodeError> {
+        match self {
+            Name::Rdns(rdns) => rdns.encode(encoder),
+        }
+    }
+}
+
+impl Decode for Name {
+    fn decode_with_tag_and_constraints<D: Decoder>(
+        decoder: &mut D,
+        tag: Tag,
+        constraints: &Constraints<'_>,
+    ) -> Result<Name, DecodeError> {
+        decoder.decode_choice_with_tag(tag, constraints)
+    }
+}
+
+impl DecodeChoice for Name {
+    fn from_tag<D: Decoder>(decoder: &mut D, tag: Tag) -> Result<Name, DecodeError> {
+        match tag {
+            Tag::SEQUENCE => {
+                let rdns = RdnSequence::decode(decoder)?;
+                Ok(Name::Rdns(rdns))
+            }
+            _ => Err(DecodeError::NoValidChoice("Name")),
+        }
+    }
+}
