@@ -1,3 +1,5 @@
 mod NamedErrors
+mod PlacesOfTags
 mod ReadByPlace
+mod ReadChoices
 mod ReadInSets

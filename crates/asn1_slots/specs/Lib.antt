@@ -1,3 +1,4 @@
+pub mod AlternativeSlots
 pub mod Filling
 pub mod InSets
 pub mod Slots

@@ -34,8 +34,10 @@
 //! The other words are those of `asn1_codec` and of the crates below it. The calls take memory as the types of the components do.
 #![tactic(auto)]
 
+mod alternatives;
 mod by_place;
 mod calls;
+mod choice_by_place;
 mod constrained;
 mod errors;
 mod set_by_place;
@@ -43,8 +45,10 @@ mod slotted;
 mod tagged;
 mod tagging;
 
+pub use alternatives::alternative_with_tag;
 pub use by_place::DecodeByPlace;
 pub use calls::{addition, group, once, optional, required};
+pub use choice_by_place::{DecodeChoiceByPlace, MadeOfAlternatives, alternative};
 pub use constrained::{
     addition_with_constraints, optional_with_constraints, required_with_constraints,
 };
