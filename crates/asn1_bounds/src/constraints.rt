@@ -190,7 +190,10 @@ impl<'a> Constraints<'a> {
 fn is_extensible<T>(part: Option<&Extensible<'_, T>>) -> bool
     ensures { result ≡ is_part_extensible (option_copied part.entry) }
 {
-    part.is_some_and(|part| part.extensible.is_some())
+    match part {
+        Some(part) => part.extensible.is_some(),
+        None => false,
+    }
 }
 
 // What two parts on values leave, either of which may be missing.
