@@ -85,7 +85,7 @@ module _ {D V : Type 0} (R : Reader D) {m : Meaning V} {alts : Alternatives} {pi
       let s = opens (first v) distinct can n (held v) rest outer at in
       let r = reads v [] ((head c n v, rest) ∷ outer) distinct can of_type valid (its_tag v can tag s.answer) (to_end R mid (held v) ((head c n v, rest) ∷ outer) s.at) in
       let k = closes (head c n v) rest outer r.at in
-      record { answer = r.answer; at = k.at; within_depth = within_scope (head c n v) (held v) _ _ less r.within_depth })
+      record { answer = r.answer; at = k.at; within_depth_left = within_scope (head c n v) (held v) _ _ less r.within_depth_left })
 
   -- under the CHOICE marker tag it is read without a tag
   pub as_without_tag : (t : Tag) (c : ConstraintSet) (old new : D) (result : Result V DecodeError) → t ≡ CHOICE → ReadsValue R m eq CHOICE c old new result → ReadsValue R m eq t c old new result
@@ -137,7 +137,7 @@ module _ {D V : Type 0} (R : Reader D) {m : Meaning V} {alts : Alternatives} {pi
       let s = opens n (own v) rest outer at in
       let r = inside_tag mid end (Ok w) reads v ((explicit_tag t n, rest) ∷ outer) distinct can of_type valid (to_end R mid (own v) ((explicit_tag t n, rest) ∷ outer) s.at) in
       let k = closes (explicit_tag t n) rest outer r.at in
-      record { answer = r.answer; at = k.at; within_depth = within_scope (explicit_tag t n) (own v) _ _ less r.within_depth })
+      record { answer = r.answer; at = k.at; within_depth_left = within_scope (explicit_tag t n) (own v) _ _ less r.within_depth_left })
 
 -- An alternative: what its values are to the CHOICE, what it says of each of them, and that it alone can begin with the tag.
 module _ {D V W : Type 0} (R : Reader D) (alts : Alternatives) (pick : V → OneOf (all_of alts)) (eq : V → V → Bool) (embed : W → V) (said : W → ValueMeaning)
@@ -168,7 +168,7 @@ module _ {D V W : Type 0} (R : Reader D) (alts : Alternatives) (pick : V → One
       record {
         answer = subst (λ z. eq v z ≡ true) (sym o.1) r.answer;
         at = r.at;
-        within_depth = subst (λ s. highest s.records ≤ R.depth_left old) (sym is) r.within_depth;
+        within_depth_left = subst (λ s. highest s.records ≤ R.depth_left old) (sym is) r.within_depth_left;
       }
 
 -- What a function leaves that is a reader of its own: an error of it makes the decoder failed.

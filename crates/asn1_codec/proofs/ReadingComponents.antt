@@ -20,7 +20,7 @@ module _ {D V : Type 0} (R : Reader D) where
     pub apart : EachApart left v rest
     -- how high those are that were read
     pub read : ℕ
-    pub within_depth : read ≤ R.depth_left began
+    pub within_depth_left : read ≤ R.depth_left began
     pub no_higher : highest (all_records left v) ≤ height
     pub highest_of_both : height ≤ max read (highest (all_records left v))
     pub same_depth : R.depth_left now ≡ R.depth_left began
@@ -36,7 +36,7 @@ module _ {D V : Type 0} (R : Reader D) where
     valid = valid;
     apart = sequence_apart cs can v rest ends;
     read = 0;
-    within_depth = omega arith;
+    within_depth_left = omega arith;
     no_higher = omega arith;
     highest_of_both = omega arith;
     same_depth = refl;
@@ -63,7 +63,7 @@ module _ {D V : Type 0} {R : Reader D} {began now : D} {c : ComponentType V} {cs
           valid = part.valid.1;
           apart = part.apart.1;
           read = max part.read (highest (c.records v));
-          within_depth = omega (arith, part.within_depth, moved.within_depth, part.same_depth);
+          within_depth_left = omega (arith, part.within_depth_left, moved.within_depth_left, part.same_depth);
           no_higher = omega (arith, part.no_higher, highest-append (c.records v) (all_records cs v));
           highest_of_both = omega (arith, part.highest_of_both, highest-append (c.records v) (all_records cs v));
           same_depth = same ∙ part.same_depth;
@@ -86,5 +86,5 @@ pub through : {D V : Type 0} {R : Reader D} {began now : D} {v : V} {height : �
 through part answer = record {
   answer = answer;
   at = part.at;
-  within_depth = omega (arith, part.within_depth, part.highest_of_both);
+  within_depth_left = omega (arith, part.within_depth_left, part.highest_of_both);
 }

@@ -25,10 +25,10 @@ module _ {D V : Type 0} (R : Reader D) (side : Side) (type : Named V) (eq : V �
       let wrong = (reads None n rest outer can tt tt (λ _. apart refl) at).answer in cc
   default_reads law old mid new (Some w) result reads there away v false n rest outer is can of_type valid apart at =
       let r = reads (Some v) n rest outer can (of_type refl) (valid refl) (λ none. cc) at in
-      rw there.0 (record { answer = r.answer; at = subst (λ d. R.remains d (rest, outer)) (sym there.1) r.at; within_depth = r.within_depth })
+      rw there.0 (record { answer = r.answer; at = subst (λ d. R.remains d (rest, outer)) (sym there.1) r.at; within_depth_left = r.within_depth_left })
   default_reads law old mid new None (Ok default_value) reads there away v true n rest outer is can of_type valid apart at =
       let r = reads None n rest outer can tt tt (λ _. apart refl) at in
-      record { answer = law.symm default_value v ∙ is default_value away.0; at = subst (λ d. R.remains d (rest, outer)) (sym away.1) r.at; within_depth = r.within_depth }
+      record { answer = law.symm default_value v ∙ is default_value away.0; at = subst (λ d. R.remains d (rest, outer)) (sym away.1) r.at; within_depth_left = r.within_depth_left }
   default_reads law old mid new None (Err e) reads there away v true n rest outer is can of_type valid apart at = inl away.0
   default_reads law old mid new None result reads there away v false n rest outer is can of_type valid apart at =
       let wrong = (reads (Some v) n rest outer can (of_type refl) (valid refl) (λ none. cc) at).answer in cc

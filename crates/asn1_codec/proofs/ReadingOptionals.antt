@@ -41,7 +41,7 @@ module _ {D V : Type 0} (R : Reader D) (side : Side) (type : Named V) (eq : V �
   pub is_absent : (old new : D) {b : Bool} → TellsIfThere R side type old new (Ok b) → b ≡ false → ReadsOptional R side type eq old new (Ok None)
   is_absent old new tells miss None n rest outer can of_type valid apart at =
       let p = (tells n).away rest outer (apart refl) at in
-      record { answer = refl; at = p.at; within_depth = omega arith }
+      record { answer = refl; at = p.at; within_depth_left = omega arith }
   is_absent old new tells miss (Some x) n rest outer can of_type valid apart at =
       let wrong = ((tells n).there ((type n).records x ++ rest) outer (begins x n rest can) at).answer in cc
 
@@ -53,7 +53,7 @@ module _ {D V : Type 0} (R : Reader D) (side : Side) (type : Named V) (eq : V �
   is_there old mid new (Ok w) tells hit same reads (Some x) n rest outer can of_type valid apart at =
       let p = (tells n).there ((type n).records x ++ rest) outer (begins x n rest can) at in
       let r = reads x n rest outer can of_type valid p.at in
-      record { answer = r.answer; at = r.at; within_depth = omega (arith, r.within_depth, same) }
+      record { answer = r.answer; at = r.at; within_depth_left = omega (arith, r.within_depth_left, same) }
   is_there old mid new (Err e) tells hit same reads (Some x) n rest outer can of_type valid apart at =
       let p = (tells n).there ((type n).records x ++ rest) outer (begins x n rest can) at in
       fails_below _ _ _ (sym same) (omega arith) (reads x n rest outer can of_type valid p.at)

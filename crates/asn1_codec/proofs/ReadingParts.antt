@@ -20,7 +20,7 @@ module _ {D P W : Type 0} (R : Reader D) (old new : D) (make : W → P) where
   -- the part that is made of what was read
   made_part : (height : ℕ) (before after : Remaining) (Is : W → Type 0) (As : P → Type 0) (result : Result W DecodeError) (made : Result P DecodeError) → ((w : W) → Is w → As (make w)) →
       MatchResult result (λ w. IsOkAnd made (λ p. p ≡ make w)) (λ e. made ≡ Err e) → Advances R old new height before after Is result → Advances R old new height before after As made
-  made_part height before after Is As (Ok w) (Ok p) gives is moves at = let m = moves at in record { answer = subst As (sym is) (gives w m.answer); at = m.at; within_depth = m.within_depth }
+  made_part height before after Is As (Ok w) (Ok p) gives is moves at = let m = moves at in record { answer = subst As (sym is) (gives w m.answer); at = m.at; within_depth_left = m.within_depth_left }
   made_part height before after Is As (Ok w) (Err e) gives is moves at = absurd is
   made_part height before after Is As (Err e) made gives is moves at =
       subst (λ r. MatchResult r (λ p. HasAdvanced R old new height after (As p)) (MayFail (R.depth_left old) height)) (sym is) (moves at)

@@ -51,5 +51,5 @@ module _ {D V : Type 0} (R : Reader D) (t : Tag) (components : Components V) (eq
         record {
           answer = makes v r.answer;
           at = k.at;
-          within_depth = within_scope (set t (lines components) n) rs _ _ less (rw (highest-permutation s.order rs s.rearranged) at r.within_depth);
+          within_depth_left = within_scope (set t (lines components) n) rs _ _ less (rw (highest-permutation s.order rs s.rearranged) at r.within_depth_left);
         }

@@ -48,7 +48,7 @@ module _ {D : Type 0} (R : Reader D) where
 
   -- what is said of an answer may be said in other words
   pub moved_as : {old new : D} {height : ℕ} {after : Remaining} {Is As : Type 0} → HasAdvanced R old new height after Is → (Is → As) → HasAdvanced R old new height after As
-  moved_as m f = record { answer = f m.answer; at = m.at; within_depth = m.within_depth }
+  moved_as m f = record { answer = f m.answer; at = m.at; within_depth_left = m.within_depth_left }
 
   -- and what is said of each
   pub in_other_words : {V : Type 0} (old new : D) (height : ℕ) (before after : Remaining) {Is As : V → Type 0} (result : Result V DecodeError) →
@@ -59,5 +59,5 @@ module _ {D : Type 0} (R : Reader D) where
   -- what was found is answered, by a call that opens nothing
   pub answered : {V : Type 0} (old mid new : D) (after : Remaining) (Is : V → Type 0) (result : Result V DecodeError) →
       MatchResult result Is (λ e. e ≡ Memory) → OnOk result (new ≡ mid) → R.remains mid after → MatchResult result (λ w. HasAdvanced R old new 0 after (Is w)) (MayFail (R.depth_left old) 0)
-  answered old mid new after Is (Ok w) found kept at = record { answer = found; at = subst (λ d. R.remains d after) (sym kept) at; within_depth = omega arith }
+  answered old mid new after Is (Ok w) found kept at = record { answer = found; at = subst (λ d. R.remains d after) (sym kept) at; within_depth_left = omega arith }
   answered old mid new after Is (Err e) found kept at = inl found

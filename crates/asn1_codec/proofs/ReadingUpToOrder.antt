@@ -96,7 +96,7 @@ module _ {D : Type 0} (R : Reader D) where
   carried_over old new height exactly after Is As (Ok w) same holds m = record {
     answer = holds w m.answer;
     at = record { exactly = exactly; remains = m.at; same = same };
-    within_depth = m.within_depth;
+    within_depth_left = m.within_depth_left;
   }
   carried_over old new height exactly after Is As (Err e) same holds m = m
 

@@ -72,7 +72,7 @@ module _ {E : Type 0} (W : Writer E) where
     no_failure = refl;
     unless_failed = λ _. refl;
     same_depth = refl;
-    within_depth = zero-le;
+    within_depth_left = zero-le;
     of_type = h;
   }
 
@@ -83,7 +83,7 @@ module _ {E : Type 0} (W : Writer E) where
     no_failure = q.no_failure ∙ p.no_failure;
     unless_failed = λ failed. ap (λ l. l ++ ss) (p.unless_failed failed) ∙ q.unless_failed (p.no_failure ∙ failed);
     same_depth = q.same_depth ∙ p.same_depth;
-    within_depth = omega (arith, highest-append rs ss, p.within_depth, q.within_depth, p.same_depth);
+    within_depth_left = omega (arith, highest-append rs ss, p.within_depth_left, q.within_depth_left, p.same_depth);
     of_type = f p.of_type q.of_type;
   }
 
@@ -144,7 +144,7 @@ module _ {E : Type 0} (W : Writer E) where
     no_failure = r.no_failure ∙ sym p.had_not_failed;
     unless_failed = λ failed. absurd (let x : false ≡ true = sym p.had_not_failed ∙ failed in cc);
     same_depth = omega (arith, p.one_less, q.same_depth, r.one_more);
-    within_depth = omega (arith, highest-holding h rs, p.one_less, q.within_depth);
+    within_depth_left = omega (arith, highest-holding h rs, p.one_less, q.within_depth_left);
     of_type = q.of_type;
   }
   writes_scope {h = h} {rs} d (Err e) p q r = record {
@@ -174,7 +174,7 @@ module _ {E : Type 0} (W : Writer E) where
     no_failure = r.no_failure ∙ sym p.had_not_failed;
     unless_failed = λ failed. absurd (let x : false ≡ true = sym p.had_not_failed ∙ failed in cc);
     same_depth = r.same_depth ∙ q.same_depth ∙ p.same_depth;
-    within_depth = omega (arith, highest-group table rs, p.same_depth, q.within_depth);
+    within_depth_left = omega (arith, highest-group table rs, p.same_depth, q.within_depth_left);
     of_type = q.of_type;
   }
   writes_group {table = table} {rs} d (Err e) p q r = record {
@@ -190,7 +190,7 @@ module _ {E : Type 0} (W : Writer E) where
     no_failure = q.no_failure;
     unless_failed = q.unless_failed;
     same_depth = q.same_depth;
-    within_depth = q.within_depth;
+    within_depth_left = q.within_depth_left;
     of_type = f q.of_type;
   }
   in_other_words a b rs (Err e) f q = q

@@ -102,7 +102,7 @@ module _ {E : Type 0} (W : Writer E) where
     no_failure = p.no_failure;
     unless_failed = p.unless_failed;
     same_depth = p.same_depth;
-    within_depth = p.within_depth;
+    within_depth_left = p.within_depth_left;
     of_type = p.of_type;
   }
 

@@ -80,7 +80,7 @@ module _ {D : Type 0} (R : Reader D) where
   pub record HasAdvanced (old new : D) (height : ℕ) (after : Remaining) (Answer : Type 0) : Type 0 where
     pub answer : Answer
     pub at : R.remains new after
-    pub within_depth : height ≤ R.depth_left old
+    pub within_depth_left : height ≤ R.depth_left old
 
   -- a call that advances from one position to another, nesting at most this deep
   abbrev pub Advances : {V : Type 0} → D → D → ℕ → Remaining → Remaining → (V → Type 0) → Result V DecodeError → Type 0

@@ -59,7 +59,7 @@ module _ {E : Type 0} (W : Writer E) where
     pub no_failure : W.failed new ≡ W.failed old
     pub unless_failed : W.failed old ≡ true → rs ≡ []
     pub same_depth : W.depth_left new ≡ W.depth_left old
-    pub within_depth : highest rs ≤ W.depth_left old
+    pub within_depth_left : highest rs ≤ W.depth_left old
     pub of_type : IsOfType
 
   -- An error: the encoder has failed, and had failed before if and only if the error says so.

@@ -9,7 +9,7 @@ ghost use Rattle.asn1_codec.specs.SetParts.{CanBeInSet};
 ghost use Rattle.asn1_enumerations.specs.Enumerations.{number_of};
 ghost use Rattle.asn1_enumerations.specs.Labels.{HasNumber, labels_of};
 ghost use Rattle.asn1_model.specs.ConstraintSets.{ConstraintSet, constraint_set, unconstrained};
-ghost use Rattle.asn1_model.specs.Records.{Name, absent, arcs, bits, bmp, discriminant, general, graphic, group_absent, group_end, group_start, ia5, in_additions, in_root, null, number, numeric, octet, explicit_tag, present, printable, sequence, sequence_of, set, set_of, teletex, truth, units, utf8, visible};
+ghost use Rattle.asn1_model.specs.Records.{Name, absent, arcs, bits, bmp, discriminant, general, graphic, group_absent, group_end, group_start, ia5, in_additions, in_root, null, number, numeric, octet, explicit_tag, present, printable, sequence, sequence_of, set, set_of, teletex, boolean, units, utf8, visible};
 ghost use Rattle.asn1_model.specs.Tags.{tree_tags};
 ghost use Rattle.asn1_tags.specs.Trees.{choice, shape};
 ghost use Rattle.asn1_tags.specs.declared.tags.Tag.{Tag};
@@ -75,7 +75,7 @@ pub trait Decoder: Sized {
 
     /// A BOOLEAN.
     fn decode_bool(&mut self, tag: Tag) -> Result<bool, DecodeError>
-        ensures read { ReadsContent reader tag unconstrained truth (λ _. ⊤) (λ w v. w ≡ v)
+        ensures read { ReadsContent reader tag unconstrained boolean (λ _. ⊤) (λ w v. w ≡ v)
             self.old self.new result }
         ensures opens_nothing { OpensNothing reader self.old self.new result };
 

@@ -24,7 +24,7 @@
 //! - What remains to be read is what is left of each list that is open (`remains` of `Reader`, in `specs/Reading.antt` of `asn1_codec`). Before
 //!   the records of a valid value of a well-tagged type, under the asked tag and constraints and any name, a call answers an
 //!   equal value, and then what follows remains to be read (`ReadsValue`, `ReadsBack`). It fails there only if memory runs out, or
-//!   where the records are nested deeper than the depth left (`MayFail`). A success is within the depth left (`within_depth`).
+//!   where the records are nested deeper than the depth left (`MayFail`). A success is within the depth left (`within_depth_left`).
 //! - Before other records nothing is promised about the answer, but for those that a type states to refuse (`refusals` of [`Decode`]): a
 //!   number outside its limits, and a list of another length than the array's, are read, and refused after that by an error of
 //!   the type's own (`Refuses`, `specs/Refusals.antt`).

@@ -5,7 +5,7 @@ use Rattle.asn1_items.specs.Bits.{AreBits}
 use Rattle.asn1_items.specs.Numbers.{AreTwos}
 use Rattle.asn1_der_items.specs.Arcs.{AreArcs, HaveNoOctets}
 use Rattle.asn1_der_items.specs.Integers.{IsInteger}
-use Rattle.asn1_model.specs.Records.{Content, StringKind, null, truth, number, discriminant, arcs, bits, units, teletex, bmp}
+use Rattle.asn1_model.specs.Records.{Content, StringKind, null, boolean, number, discriminant, arcs, bits, units, teletex, bmp}
 
 -- The octets are these units of a TeletexString, of which each is one octet.
 pub record AreOctets (list octets : List ℕ) : Type 0 where
@@ -21,7 +21,7 @@ AreUnits _ list octets = octets ≡ list
 -- The content has these contents octets. Of the items of an ENUMERATED type they have the number alone.
 abbrev pub HasContents : Content → List ℕ → Type 0
 HasContents null octets = octets ≡ []
-HasContents (truth b) octets = octets ≡ (if b then 255 else 0) ∷ []
+HasContents (boolean b) octets = octets ≡ (if b then 255 else 0) ∷ []
 HasContents (number z) octets = IsInteger z octets
 HasContents (discriminant labels z) octets = IsInteger z octets × FitsSigned w64 z
 HasContents (arcs list) octets = AreArcs list octets

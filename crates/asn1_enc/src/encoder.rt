@@ -9,7 +9,7 @@ ghost use Rattle.asn1_enumerations.specs.Enumerations.{number_of};
 ghost use Rattle.asn1_enumerations.specs.Labels.{labels_of};
 ghost use Rattle.asn1_model.specs.Composites.{option_records, open_type_records, marked};
 ghost use Rattle.asn1_model.specs.ConstraintSets.{constraint_set, unconstrained};
-ghost use Rattle.asn1_model.specs.Records.{absent, alternative, arcs, bits, bmp, discriminant, general, graphic, group_absent, ia5, in_additions, in_root, null, number, numeric, octet, explicit_tag, present, printable, sequence, sequence_of, set, set_of, teletex, truth, units, utf8, visible};
+ghost use Rattle.asn1_model.specs.Records.{absent, alternative, arcs, bits, bmp, discriminant, general, graphic, group_absent, ia5, in_additions, in_root, null, number, numeric, octet, explicit_tag, present, printable, sequence, sequence_of, set, set_of, teletex, boolean, units, utf8, visible};
 ghost use Rattle.asn1_tags.specs.Names.{name_of};
 ghost use Rattle.asn1_strings.specs.Alphabets.{is_ia5, is_numeric, is_printable, is_visible};
 ghost use Rattle.std.specs.Option.{option_copied};
@@ -69,7 +69,7 @@ pub trait Encoder: Sized {
 
     /// A BOOLEAN.
     fn encode_bool(&mut self, tag: Tag, value: bool, name: Identifier) -> Result<(), EncodeError>
-        ensures { WritesContent writer tag unconstrained (name_of name) (truth value) ⊤ self.old
+        ensures { WritesContent writer tag unconstrained (name_of name) (boolean value) ⊤ self.old
             self.new result };
 
     /// A NULL.

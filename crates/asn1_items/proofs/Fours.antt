@@ -6,23 +6,23 @@ use Rattle.std.specs.Int.{w32, from_be_bytes}
 use Rattle.asn1_items.specs.Numbers.{AreFours}
 
 -- Some of the numbers were read, and the bytes of the others are left.
-pub record Midway (numbers left list : List ℕ) : Type 0 where
+pub record NumbersRead (numbers left list : List ℕ) : Type 0 where
   pub rest : List ℕ
   pub are : list ≡ numbers ++ rest
   pub left_are : AreFours rest left
 
 -- the same of whatever numbers the bytes are
-abbrev pub IsMidway : List ℕ → List ℕ → List ℕ → Type 0
-IsMidway bytes numbers left = (list : List ℕ) → AreFours list bytes → Midway numbers left list
+abbrev pub ReadsNumbers : List ℕ → List ℕ → List ℕ → Type 0
+ReadsNumbers bytes numbers left = (list : List ℕ) → AreFours list bytes → NumbersRead numbers left list
 
-pub starts : (bytes numbers : List ℕ) → numbers ≡ [] → IsMidway bytes numbers bytes
+pub starts : (bytes numbers : List ℕ) → numbers ≡ [] → ReadsNumbers bytes numbers bytes
 starts bytes numbers none list are = record { rest = list; are = ap (λ l. l ++ list) (sym none); left_are = are }
 
 -- one more
-pub step : (numbers left list rest items : List ℕ) (n : ℕ) → items ≡ numbers ++ n ∷ [] → 4 ≤ length left → rest ≡ drop 4 left → n ≡ from_be_bytes w32 (get_or left 0 0 ∷ get_or left 1 0 ∷ get_or left 2 0 ∷ get_or left 3 0 ∷ []) → Midway numbers left list → Midway items rest list
+pub step : (numbers left list rest items : List ℕ) (n : ℕ) → items ≡ numbers ++ n ∷ [] → 4 ≤ length left → rest ≡ drop 4 left → n ≡ from_be_bytes w32 (get_or left 0 0 ∷ get_or left 1 0 ∷ get_or left 2 0 ∷ get_or left 3 0 ∷ []) → NumbersRead numbers left list → NumbersRead items rest list
 step numbers left list rest items n items_are long rest_is is m = by m.rest m.are m.left_are
   where
-    by : (more : List ℕ) → list ≡ numbers ++ more → AreFours more left → Midway items rest list
+    by : (more : List ℕ) → list ≡ numbers ++ more → AreFours more left → NumbersRead items rest list
     by [] are left_are = absurd (omega (arith, ap length left_are.are))
     by (x ∷ more) are left_are =
         let first : x ≡ n = sym (from_be_bytes-to_be_bytes_4 x (All-head (λ n. n < 2 ^ 32) x more left_are.fit)) ∙ ap (λ l. from_be_bytes w32 (get_or l 0 0 ∷ get_or l 1 0 ∷ get_or l 2 0 ∷ get_or l 3 0 ∷ [])) (sym left_are.are) ∙ sym is in
@@ -33,7 +33,7 @@ step numbers left list rest items n items_are long rest_is is m = by m.rest m.ar
         }
 
 -- all was read
-pub none_left : (numbers left list : List ℕ) → length left < 4 → Midway numbers left list → (left ≡ []) × (numbers ≡ list)
+pub none_left : (numbers left list : List ℕ) → length left < 4 → NumbersRead numbers left list → (left ≡ []) × (numbers ≡ list)
 none_left numbers left list short m = by m.rest m.are m.left_are
   where
     by : (more : List ℕ) → list ≡ numbers ++ more → AreFours more left → (left ≡ []) × (numbers ≡ list)

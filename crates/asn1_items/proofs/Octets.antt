@@ -10,7 +10,7 @@ abbrev pub unused_of : List Bool → ℕ
 unused_of bits = (8 - length bits % 8) % 8
 
 -- Some octets were appended, and the other bits are left.
-pub record Midway (bits : List Bool) (before bytes : List ℕ) (left : List Bool) : Type 0 where
+pub record BitsAppended (bits : List Bool) (before bytes : List ℕ) (left : List Bool) : Type 0 where
   pub octets : List ℕ
   pub bytes_are : bytes ≡ before ++ (unused_of bits ∷ octets)
   pub bits_are : bits ≡ bits_of_octets octets ++ left
@@ -20,12 +20,12 @@ flat-more : (octets : List ℕ) (o : ℕ) → bits_of_octets (octets ++ o ∷ []
 flat-more [] o = refl
 flat-more (x ∷ octets) o = ap (λ l. bits_of_octet x ++ l) (flat-more octets o)
 
-pub starts : (bits : List Bool) (before bytes : List ℕ) → bytes ≡ before ++ unused_of bits ∷ [] → Midway bits before bytes bits
+pub starts : (bits : List Bool) (before bytes : List ℕ) → bytes ≡ before ++ unused_of bits ∷ [] → BitsAppended bits before bytes bits
 starts bits before bytes is = record { octets = []; bytes_are = is; bits_are = refl; same_rest = refl }
 
 pub step : (bits left rest : List Bool) (before bytes all : List ℕ) (o : ℕ) → 8 ≤ length left → rest ≡ drop 8 left → all ≡ bytes ++ o ∷ [] →
     bits_of_octet o ≡ get_or left 0 false ∷ get_or left 1 false ∷ get_or left 2 false ∷ get_or left 3 false ∷ get_or left 4 false ∷ get_or left 5 false ∷ get_or left 6 false ∷ get_or left 7 false ∷ [] →
-    Midway bits before bytes left → Midway bits before all rest
+    BitsAppended bits before bytes left → BitsAppended bits before all rest
 step bits (a ∷ b ∷ c ∷ d ∷ e ∷ f ∷ g ∷ h ∷ left) rest before bytes all o long rest_is all_is is m = record {
   octets = m.octets ++ o ∷ [];
   bytes_are = all_is ∙ ap (λ l. l ++ o ∷ []) m.bytes_are ∙ append_assoc before (unused_of bits ∷ m.octets) (o ∷ []);
@@ -34,7 +34,7 @@ step bits (a ∷ b ∷ c ∷ d ∷ e ∷ f ∷ g ∷ h ∷ left) rest before byt
 }
 step bits _ rest before bytes all o long rest_is all_is is m = absurd (omega arith)
 
-pub no_rest : (bits left : List Bool) (before bytes : List ℕ) → left ≡ [] → Midway bits before bytes left → Appended (AreBits bits) before bytes
+pub no_rest : (bits left : List Bool) (before bytes : List ℕ) → left ≡ [] → BitsAppended bits before bytes left → Appended (AreBits bits) before bytes
 no_rest bits left before bytes none m =
     let whole : unused_of bits ≡ 0 = omega (arith, m.same_rest, ap length none) in
     record {
@@ -49,7 +49,7 @@ no_rest bits left before bytes none m =
       joined = m.bytes_are;
     }
 
-pub with_rest : (bits left : List Bool) (before bytes all : List ℕ) (o : ℕ) → length left < 8 → 1 ≤ length left → all ≡ bytes ++ o ∷ [] → bits_of_octet o ≡ left ++ replicate (8 - length left) false → Midway bits before bytes left →
+pub with_rest : (bits left : List Bool) (before bytes all : List ℕ) (o : ℕ) → length left < 8 → 1 ≤ length left → all ≡ bytes ++ o ∷ [] → bits_of_octet o ≡ left ++ replicate (8 - length left) false → BitsAppended bits before bytes left →
     Appended (AreBits bits) before all
 with_rest bits left before bytes all o short some all_is is m =
     let unused : 8 - length left ≡ unused_of bits = omega (arith, m.same_rest, short, some) in

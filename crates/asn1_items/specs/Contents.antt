@@ -7,7 +7,7 @@ use Rattle.asn1_items.specs.Numbers.{AreFours, AreTwos, IsInteger}
 use Rattle.asn1_items.specs.declared.content.Content.{Content}
 use Rattle.asn1_items.specs.declared.content.Content.TheVariants as own
 use Rattle.asn1_model.specs.Records as model
-use Rattle.asn1_model.specs.Records.{StringKind, null, truth, number, discriminant, arcs, bits, units, octet, utf8, visible, general, graphic, ia5, printable, numeric, teletex, bmp}
+use Rattle.asn1_model.specs.Records.{StringKind, null, boolean, number, discriminant, arcs, bits, units, octet, utf8, visible, general, graphic, ia5, printable, numeric, teletex, bmp}
 use Rattle.asn1_model.specs.Tables.{no_table}
 use Rattle.asn1_types.specs.AnyStrings.{IsStringOf, content_of_str, octet_kind}
 use Rattle.asn1_types.specs.declared.any_string.StringKind as kind
@@ -28,7 +28,7 @@ string_kind bmp = 16
 
 -- the number of a kind of content
 abbrev pub content_kind : model.Content → ℕ
-content_kind (truth b) = 1
+content_kind (boolean b) = 1
 content_kind (number z) = 2
 content_kind (discriminant labels z) = 3
 content_kind null = 4
@@ -45,7 +45,7 @@ AreUnits _ list bytes = bytes ≡ list
 -- The bytes are this content. Of the items of an ENUMERATED type they have the number alone.
 abbrev pub IsContent : model.Content → List ℕ → Type 0
 IsContent null bytes = bytes ≡ []
-IsContent (truth b) bytes = bytes ≡ (if b then 1 else 0) ∷ []
+IsContent (boolean b) bytes = bytes ≡ (if b then 1 else 0) ∷ []
 IsContent (number z) bytes = IsInteger z bytes
 IsContent (discriminant labels z) bytes = IsInteger z bytes × FitsSigned w64 z
 IsContent (arcs list) bytes = AreFours list bytes
@@ -60,7 +60,7 @@ pub record LooksLike (x y : model.Content) : Type 0 where
 -- what a content of the program is, without the labels of a type
 abbrev pub content_of : Content → model.Content
 content_of own.Null = null
-content_of (own.Truth b) = truth b
+content_of (own.Boolean b) = boolean b
 content_of (own.Number z) = number z.now
 content_of (own.Discriminant z) = discriminant no_table z
 content_of (own.Arcs list) = arcs list.now

@@ -16,7 +16,7 @@ pub enum Content<'a> {
     /// NULL, which has no bytes.
     Null,
     /// A BOOLEAN: 0 or 1.
-    Truth(bool),
+    Boolean(bool),
     /// An INTEGER: 1 if it is negative and else 0, and its magnitude without leading zeros.
     Number(&'a Integer),
     /// The number of an item of an ENUMERATED type, as an INTEGER.
@@ -34,7 +34,7 @@ impl Content<'_> {
         ensures { result ≡ content_kind (content_of self.entry) }
     {
         match self {
-            Content::Truth(_) => 1,
+            Content::Boolean(_) => 1,
             Content::Number(_) => 2,
             Content::Discriminant(_) => 3,
             Content::Null => 4,
@@ -52,7 +52,7 @@ impl Content<'_> {
     {
         match self {
             Content::Null => Ok(()),
-            Content::Truth(truth) => bytes.extend_from_slice(&[u8::from(truth)]),
+            Content::Boolean(value) => bytes.extend_from_slice(&[u8::from(value)]),
             Content::Number(number) => append_integer(bytes, alloc, number),
             Content::Discriminant(number) => append_narrow(bytes, number as i128),
             Content::Arcs(arcs) => append_fours(bytes, arcs),

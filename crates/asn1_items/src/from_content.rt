@@ -2,7 +2,7 @@
 ghost use Rattle.asn1_items.specs.Contents.{IsContent, content_kind, kind_number};
 ghost use Rattle.asn1_items.specs.declared.error.ItemError.TheVariants.{Memory};
 ghost use Rattle.asn1_model.specs.Records as model;
-ghost use Rattle.asn1_model.specs.Records.{arcs, discriminant, null, number, truth};
+ghost use Rattle.asn1_model.specs.Records.{arcs, discriminant, null, number, boolean};
 ghost use Rattle.asn1_model.specs.Tables.{no_table};
 ghost use Rattle.asn1_types.specs.AnyStrings.{IsStringOf, content_of_string};
 ghost use Rattle.std.specs.Prelude.{◌≡◌, ⊤, Bool, IfOk, List, MatchResult, ℕ, ℤ, refl};
@@ -51,7 +51,7 @@ pub trait FromContent: Sized {
 impl FromContent for bool {
     ghost Value = { Bool };
 
-    ghost content = { truth };
+    ghost content = { boolean };
 
     ghost IsOfType = { λ _. ⊤ };
 

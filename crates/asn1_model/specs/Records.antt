@@ -32,7 +32,7 @@ pub data StringKind : Type 0 where
 -- of an ENUMERATED value is beside the labels of its type.
 pub data Content : Type 0 where
   null : Content
-  truth : Bool → Content
+  boolean : Bool → Content
   number : ℤ → Content
   discriminant : Table Label → ℤ → Content
   arcs : List ℕ → Content

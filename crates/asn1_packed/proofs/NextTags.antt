@@ -57,13 +57,13 @@ none_next marks left items none have = by (marks_passed items) refl have
     by [] is have = refl
     by (s ∷ ss) is have = absurd (some_left marks s ss left (first_left items s ss is).no_mark have none)
 
-module _ {V P : Type 0} (cs : List (ComponentType V)) (marks : MarkBytes) (d e : ItemDecoder P) (kept : KeepsOutside d.slices e.slices) (sound : e.failed ≡ false)
+module _ {V P : Type 0} (cs : List (ComponentType V)) (marks : MarkBytes) (d e : ItemDecoder P) (kept : KeepsOutside d.slices e.slices) (no_failure : e.failed ≡ false)
     (items : List model.Record) (outer : Outside) (have : HaveBytes (read_with marks) (held (marks_passed items)) (left_inside e.slices)) (at : RemainsExactly marks d (items, outer)) where
   advanced : (next : Option Tag) → IsNextTag cs items next → HasAdvanced (in_one_order marks) d e 0 (marks_passed items, outer) (IsNextTag cs items next)
   advanced next is = record {
     answer = is;
-    at = record { no_failure = sound; inside = have; outside = subst (AllHaveBytes marks (lists_outside outer)) (sym kept.outside) at.outside };
-    within_depth = omega arith;
+    at = record { no_failure = no_failure; inside = have; outside = subst (AllHaveBytes marks (lists_outside outer)) (sym kept.outside) at.outside };
+    within_depth_left = omega arith;
   }
 
   -- no record is next

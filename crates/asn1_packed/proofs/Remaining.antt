@@ -109,8 +109,8 @@ module _ {P : Type 0} (marks : MarkBytes) where
     back = at.inside.others;
     has = at.inside.is_first;
     left = at.inside.are;
-    after = λ e sound is kept. record {
-      no_failure = sound;
+    after = λ e no_failure is kept. record {
+      no_failure = no_failure;
       inside = subst (λ l. HaveBytes (read_with marks) (held rest) l) (sym is) at.inside.are_others;
       outside = subst (AllHaveBytes marks (lists_outside outer)) (sym kept) at.outside;
     };
@@ -119,10 +119,10 @@ module _ {P : Type 0} (marks : MarkBytes) where
   -- where a reading begins
   pub begins : (d : ItemDecoder P) (bytes : List ℕ) (rs : List model.Record) → d.failed ≡ false → left_inside d.slices ≡ bytes → left_outside d.slices ≡ [] →
       CarriesWith marks bytes rs → AreWellFormed (λ own. is_one_item own) rs → Remains marks d (rs, [])
-  begins d bytes rs sound is closed c w = record {
+  begins d bytes rs no_failure is closed c w = record {
     exactly = (c.exactly, []);
     remains = record {
-      no_failure = sound;
+      no_failure = no_failure;
       inside = subst (λ l. HaveBytes (read_with marks) (held c.exactly) l) (sym is) (carried_is_read marks bytes rs c w);
       outside = subst (AllHaveBytes marks []) (sym closed) tt;
     };
@@ -132,12 +132,12 @@ module _ {P : Type 0} (marks : MarkBytes) where
   -- a presence mark was passed
   pub mark_passed : {V : Type 0} (d e : ItemDecoder P) (m : PresenceMark) (rest : List model.Record) (outer : Outside) (Is : V → Type 0) (w : V) → e.failed ≡ false → KeepsOutside d.slices e.slices →
       PassesMark marks m rest Is d.slices e.slices (Ok w) → Advances (in_one_order marks) d e 0 (presence_mark m ∷ rest, outer) (rest, outer) Is (Ok w)
-  mark_passed d e m rest outer Is w sound kept passes at =
+  mark_passed d e m rest outer Is w no_failure kept passes at =
       let p = passes at.inside in
       record {
         answer = p.answer;
-        at = record { no_failure = sound; inside = p.left; outside = subst (AllHaveBytes marks (lists_outside outer)) (sym kept.outside) at.outside };
-        within_depth = omega arith;
+        at = record { no_failure = no_failure; inside = p.left; outside = subst (AllHaveBytes marks (lists_outside outer)) (sym kept.outside) at.outside };
+        within_depth_left = omega arith;
       }
 
   -- or none is there
@@ -148,9 +148,9 @@ module _ {P : Type 0} (marks : MarkBytes) where
   -- whether something is there was found
   pub found : (d e : ItemDecoder P) (there away : PresenceMark) (own : Tags) (b : Bool) → e.failed ≡ false → KeepsOutside d.slices e.slices → FindsPresence marks there away own d.slices e.slices (Ok b) →
       codec.TellsPresence (in_one_order marks) d e there away own (Ok b)
-  found d e there away own b sound kept finds = record {
-    there = λ rest outer begins. mark_passed d e there rest outer (λ b. b ≡ true) b sound kept (finds.there rest begins);
-    away = λ rest outer apart. mark_passed d e away rest outer (λ b. b ≡ false) b sound kept (finds.away rest apart);
+  found d e there away own b no_failure kept finds = record {
+    there = λ rest outer begins. mark_passed d e there rest outer (λ b. b ≡ true) b no_failure kept (finds.there rest begins);
+    away = λ rest outer apart. mark_passed d e away rest outer (λ b. b ≡ false) b no_failure kept (finds.away rest apart);
   }
 
   -- or not
@@ -165,14 +165,14 @@ module _ {P : Type 0} (marks : MarkBytes) where
   pub scope_opened : (old mid new : ItemDecoder P) (h : model.Head) (items rest : List model.Record) (outer : Outside) (inside : List ℕ) (w : Opened) → HaveBytes (read_with marks) (held items) inside → RemainsExactly marks mid (rest, outer) → 1 ≤ old.depth_left →
       left_inside new.slices ≡ inside → left_outside new.slices ≡ left_inside mid.slices ∷ left_outside mid.slices → new.failed ≡ false → w.tag ≡ head_tag h → w.bound ≡ length inside →
       HasAdvanced (in_one_order marks) old new 1 (items, (h, rest) ∷ outer) (IsOpened h items w)
-  scope_opened old mid new h items rest outer inside w have at allowed is outside sound tag bound = record {
+  scope_opened old mid new h items rest outer inside w have at allowed is outside no_failure tag bound = record {
     answer = record { has_tag = tag; is_bound = omega (arith, as_long marks items inside have, bound) };
     at = record {
-      no_failure = sound;
+      no_failure = no_failure;
       inside = subst (λ l. HaveBytes (read_with marks) (held items) l) (sym is) have;
       outside = subst (AllHaveBytes marks (rest ∷ lists_outside outer)) (sym outside) (at.inside, at.outside);
     };
-    within_depth = allowed;
+    within_depth_left = allowed;
   }
 
   -- a call of the trait that opens what is wanted, by whether that was opened
@@ -184,25 +184,25 @@ module _ {P : Type 0} (marks : MarkBytes) where
       ((n : Name) (items : List model.Record) → IsOpened (head n) items opened → Is items w) → ((n : Name) → IsWanted wanted (head n)) → OpensWanted marks wanted old new (Ok opened) → ReadsHead (in_one_order marks) old new head Is (Ok w)
   was_opened old new wanted head Is opened w answers meets opens n items rest outer at =
       let o = opens (head n) items rest outer (meets n) at in
-      record { answer = answers n items o.answer; at = o.at; within_depth = o.within_depth }
+      record { answer = answers n items o.answer; at = o.at; within_depth_left = o.within_depth_left }
 
   -- whether something is left
   pub more_told : (d : ItemDecoder P) (ended : Bool) → Decides ended (left_inside d.slices ≡ []) → codec.TellsMore (in_one_order marks) d d (Ok (not ended))
   more_told d true is = record {
     some = λ r items scope outer no_mark at. absurd (some_left marks r items (left_inside d.slices) no_mark at.inside (is.0 refl));
-    none = λ scope outer at. record { answer = refl; at = at; within_depth = omega arith };
+    none = λ scope outer at. record { answer = refl; at = at; within_depth_left = omega arith };
   }
   more_told d false is = record {
-    some = λ r items scope outer no_mark at. record { answer = refl; at = at; within_depth = omega arith };
+    some = λ r items scope outer no_mark at. record { answer = refl; at = at; within_depth_left = omega arith };
     none = λ scope outer at. let wrong = is.1 at.inside in cc;
   }
 
   -- a scope was closed
   pub closed : (d e : ItemDecoder P) → left_outside d.slices ≡ left_inside e.slices ∷ left_outside e.slices → e.failed ≡ false →
       (h : model.Head) (rest : List model.Record) (outer : Outside) → RemainsExactly marks d ([], (h, rest) ∷ outer) → RemainsExactly marks e (rest, outer)
-  closed d e was sound h rest outer at =
+  closed d e was no_failure h rest outer at =
       let p = subst (AllHaveBytes marks (rest ∷ lists_outside outer)) was at.outside in
-      record { no_failure = sound; inside = p.0; outside = p.1 }
+      record { no_failure = no_failure; inside = p.0; outside = p.1 }
 
   -- a list is outside where a scope is open
   pub some_outside : (d : ItemDecoder P) (h : model.Head) (rest : List model.Record) (outer : Outside) → RemainsExactly marks d ([], (h, rest) ∷ outer) → left_outside d.slices ≡ [] → ⊥
@@ -210,7 +210,7 @@ module _ {P : Type 0} (marks : MarkBytes) where
 
   -- the end
   pub all_is_read : (d : ItemDecoder P) → left_inside d.slices ≡ [] → left_outside d.slices ≡ [] → d.failed ≡ false → Remains marks d ([], [])
-  all_is_read d none closed sound = remains_exactly (in_one_order marks) d ([], []) (record { no_failure = sound; inside = none; outside = subst (AllHaveBytes marks []) (sym closed) tt })
+  all_is_read d none closed no_failure = remains_exactly (in_one_order marks) d ([], []) (record { no_failure = no_failure; inside = none; outside = subst (AllHaveBytes marks []) (sym closed) tt })
 
   -- What is left at the end.
   pub record NothingLeft (d : ItemDecoder P) : Type 0 where

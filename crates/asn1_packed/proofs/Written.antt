@@ -31,7 +31,7 @@ module _ {P : Type 0} (marks : MarkBytes) where
     no_failure = now ∙ sym was;
     unless_failed = λ failed. absurd (not_both old.failed was failed);
     same_depth = depth_left;
-    within_depth = omega (arith, flat);
+    within_depth_left = omega (arith, flat);
     of_type = tt;
   }
 
@@ -57,7 +57,7 @@ module _ {P : Type 0} (marks : MarkBytes) where
   scope_is_not_opened old new h e not_custom not_deep other some was now = record {
     error = is_error old new e other was now;
     too_deep = λ deep. absurd (not_deep deep);
-    depth_first = λ sound none. absurd (some none);
+    depth_first = λ no_failure none. absurd (some none);
     rejected = λ custom. absurd (not_custom custom);
   }
 
@@ -100,7 +100,7 @@ module _ {P : Type 0} (marks : MarkBytes) where
     no_failure = wrote.no_failure;
     unless_failed = wrote.unless_failed;
     same_depth = wrote.same_depth;
-    within_depth = wrote.within_depth;
+    within_depth_left = wrote.within_depth_left;
     of_type = fact;
   }
   known old rs T new (Err e) wrote fact = wrote

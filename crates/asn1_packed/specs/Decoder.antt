@@ -25,15 +25,15 @@ lists_outside = map (λ scope. scope.1)
 
 module _ {P : Type 0} (marks : MarkBytes) where
   -- The decoder is before exactly these lists: what is left are their bytes.
-  pub record RemainsExactly (d : ItemDecoder P) (ahead : Remaining) : Type 0 where
+  pub record RemainsExactly (d : ItemDecoder P) (remaining : Remaining) : Type 0 where
     pub no_failure : d.failed ≡ false
-    pub inside : HaveBytes (read_with marks) (held ahead.0) (left_inside d.slices)
-    pub outside : AllHaveBytes marks (lists_outside ahead.1) (left_outside d.slices)
+    pub inside : HaveBytes (read_with marks) (held remaining.0) (left_inside d.slices)
+    pub outside : AllHaveBytes marks (lists_outside remaining.1) (left_outside d.slices)
 
   -- The decoder in the order in which its bytes come. It takes what is one item as one value of an open type.
   abbrev pub in_one_order : Reader (ItemDecoder P)
   in_one_order = record {
-    remains = λ d ahead. RemainsExactly d ahead;
+    remains = λ d remaining. RemainsExactly d remaining;
     failed = λ d. d.failed;
     depth_left = λ d. d.depth_left;
     accepts = λ bytes. is_one_item bytes;
@@ -45,7 +45,7 @@ module _ {P : Type 0} (marks : MarkBytes) where
 
   -- the decoder is before these lists, up to the order inside sets
   abbrev pub Remains : ItemDecoder P → Remaining → Type 0
-  Remains d ahead = item_reader.remains d ahead
+  Remains d remaining = item_reader.remains d remaining
 
 -- The head is what is wanted.
 abbrev pub IsWanted : Wanted → Head → Type 0

@@ -235,7 +235,7 @@ impl<P: Presence> Encoder for ItemEncoder<P> {
     }
 
     fn encode_bool(&mut self, tag: Tag, value: bool, _name: Identifier) -> Result<(), EncodeError> {
-        self.append_scalar(tag, Content::Truth(value))
+        self.append_scalar(tag, Content::Boolean(value))
     }
 
     fn encode_null(&mut self, tag: Tag, _name: Identifier) -> Result<(), EncodeError> {

@@ -28,9 +28,9 @@ pub fn the_encoder_writes_items<P: Presence>(encoder: &ItemEncoder<P>)
 /// A law of the decoder: what types see that remains (`remains`), and that it takes one item as one value of an open type
 /// (`accepts`).
 pub fn the_decoder_takes_one_item<P: Presence>(decoder: &ItemDecoder<'_, P>)
-    ensures remains { (ahead : Remaining) →
-        ⟦<ItemDecoder<'static, P> as Decoder>⟧.reader.remains decoder.now ahead ↔
-        Remains P.mark_bytes decoder.now ahead }
+    ensures remains { (remaining : Remaining) →
+        ⟦<ItemDecoder<'static, P> as Decoder>⟧.reader.remains decoder.now remaining ↔
+        Remains P.mark_bytes decoder.now remaining }
     ensures accepts { (bytes : List ℕ) →
         ⟦<ItemDecoder<'static, P> as Decoder>⟧.reader.accepts bytes ≡ is_one_item bytes }
 {}

@@ -1,6 +1,6 @@
 //! `Corner ::= CHOICE { left BOOLEAN, right OCTET STRING }`
 ghost use Rattle.std.specs.Prelude.{◌≡◌, [], ◌∷◌, Some, true, codes};
-ghost use Rattle.asn1_types.specs.Words.{table_of, universal, untagged, inl, inr, alternative, closed_choice, choice_of, choice_agrees, IsWellTagged, own_records, holding, alternative_head, scalar, truth, unconstrained};
+ghost use Rattle.asn1_types.specs.Words.{table_of, universal, untagged, inl, inr, alternative, closed_choice, choice_of, choice_agrees, IsWellTagged, own_records, holding, alternative_head, scalar, boolean, unconstrained};
 ghost use Rattle.asn1_samples.specs.declared.corner.Corner.TheVariants.{Left, Right};
 
 use asn1_dec::{Decode, DecodeChoice, DecodeError, Decoder};
@@ -124,5 +124,5 @@ pub fn corner_records(corner: &Corner)
         own_records ⟦<Corner as AsnType>⟧.meaning corner.now ≡
         holding (alternative_head (universal 1) unconstrained
         (table_of ⟦<Corner as Choice>⟧.alternatives) (Some (codes "Corner"))) (scalar (universal 1)
-        unconstrained (Some (codes "BOOLEAN")) (truth true) ∷ []) ∷ [] }
+        unconstrained (Some (codes "BOOLEAN")) (boolean true) ∷ []) ∷ [] }
 {}

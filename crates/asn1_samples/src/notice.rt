@@ -2,7 +2,7 @@
 ghost use Rattle.std.specs.Prelude.{◌≡◌, [], ◌∷◌, None, Some, true, pos, codes};
 ghost use Rattle.std.specs.String.{string_bytes};
 ghost use Rattle.asn1_slots.specs.Slots.{optional_slot, required_slot, sequence_of_slots, slots_agree};
-ghost use Rattle.asn1_types.specs.Words.{lines, in_root, context, universal, tagged, explicitly_tagged, constructed_type, constructed_agrees, IsWellTagged, own_records, holding, sequence_head, explicit_tag, scalar, presence_mark, absent, present, number, truth, units, utf8, unconstrained, values_of, Range};
+ghost use Rattle.asn1_types.specs.Words.{lines, in_root, context, universal, tagged, explicitly_tagged, constructed_type, constructed_agrees, IsWellTagged, own_records, holding, sequence_head, explicit_tag, scalar, presence_mark, absent, present, number, boolean, units, utf8, unconstrained, values_of, Range};
 
 use asn1_dec::{Decode, DecodeError, DecodeFields, Decoder};
 use asn1_enc::{Encode, EncodeError, EncodeFields, Encoder};
@@ -173,7 +173,7 @@ pub fn notice_records(notice: &Notice)
         (Some (codes "INTEGER")) (number (pos 7)) ∷
         presence_mark (present in_root (context 1)) ∷
         holding (explicit_tag (context 1) (Some (codes "BOOLEAN"))) (
-        scalar (universal 1) unconstrained (Some (codes "BOOLEAN")) (truth true) ∷ []) ∷
+        scalar (universal 1) unconstrained (Some (codes "BOOLEAN")) (boolean true) ∷ []) ∷
         scalar (context 2) unconstrained
         (Some (codes "UTF8String")) (units utf8 (codes "Come")) ∷ []) ∷ [] }
     ensures plain { notice.now.id ≡ 7 → notice.now.urgent ≡ None →

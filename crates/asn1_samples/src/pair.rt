@@ -1,7 +1,7 @@
 //! `Pair{T, U} ::= SEQUENCE { first T, second [0] U OPTIONAL }`
 ghost use Rattle.std.specs.Prelude.{◌≡◌, ◌↔◌, ℕ, Bool, List, [], ◌∷◌, None, Some, IfSome, true, pos, codes};
 ghost use Rattle.asn1_slots.specs.Slots.{optional_slot, required_slot, slots_agree};
-ghost use Rattle.asn1_types.specs.Words.{lines, in_root, context, universal, tagged, untagged, required, optional, sequence, constructed_type, constructed_agrees, IsWellTagged, IsWellTaggedUnder, own_records, holding, sequence_head, scalar, presence_mark, absent, present, number, truth, unconstrained, values_of, Range};
+ghost use Rattle.asn1_types.specs.Words.{lines, in_root, context, universal, tagged, untagged, required, optional, sequence, constructed_type, constructed_agrees, IsWellTagged, IsWellTaggedUnder, own_records, holding, sequence_head, scalar, presence_mark, absent, present, number, boolean, unconstrained, values_of, Range};
 
 use asn1_dec::{Decode, DecodeError, DecodeFields, Decoder};
 use asn1_enc::{Encode, EncodeError, EncodeFields, Encoder};
@@ -156,7 +156,7 @@ pub fn pair_records(pair: &Pair<u8, bool>)
         scalar (universal 2) (values_of (Range (Some (pos 0)) (Some (pos 255))))
         (Some (codes "INTEGER")) (number (pos 7)) ∷
         presence_mark (present in_root (context 0)) ∷
-        scalar (context 0) unconstrained (Some (codes "BOOLEAN")) (truth true) ∷ []) ∷ [] }
+        scalar (context 0) unconstrained (Some (codes "BOOLEAN")) (boolean true) ∷ []) ∷ [] }
     ensures alone { pair.now ≡ record { first = 7; second = None } →
         own_records ⟦<Pair<u8, bool> as AsnType>⟧.meaning pair.now ≡
         holding (sequence_head (universal 16)

@@ -1,6 +1,6 @@
 //! `Shape ::= CHOICE { dot NULL, ring [0] INTEGER (0..65535), inner Corner }`
 ghost use Rattle.std.specs.Prelude.{◌≡◌, [], ◌∷◌, Some, true, pos, codes};
-ghost use Rattle.asn1_types.specs.Words.{table_of, context, universal, untagged, tagged, inl, inr, alternative, closed_choice, choice_of, choice_agrees, IsWellTagged, own_records, holding, alternative_head, scalar, number, truth, unconstrained, values_of, Range};
+ghost use Rattle.asn1_types.specs.Words.{table_of, context, universal, untagged, tagged, inl, inr, alternative, closed_choice, choice_of, choice_agrees, IsWellTagged, own_records, holding, alternative_head, scalar, number, boolean, unconstrained, values_of, Range};
 ghost use Rattle.asn1_samples.specs.declared.corner.Corner.TheVariants as corner;
 ghost use Rattle.asn1_samples.specs.declared.shape.Shape.TheVariants.{Dot, Ring, Inner};
 
@@ -150,5 +150,5 @@ pub fn shape_records(shape: &Shape)
         (table_of ⟦<Shape as Choice>⟧.alternatives) (Some (codes "Shape"))) (holding
         (alternative_head (universal 1) unconstrained (table_of ⟦<Corner as Choice>⟧.alternatives)
         (Some (codes "Corner"))) (scalar (universal 1) unconstrained (Some (codes "BOOLEAN"))
-        (truth true) ∷ []) ∷ []) ∷ [] }
+        (boolean true) ∷ []) ∷ []) ∷ [] }
 {}

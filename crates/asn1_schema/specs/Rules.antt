@@ -28,7 +28,7 @@ module _ {O : Type 0} (F : Format O) where
   -- type.
   pub record IsWritten (rs : List Record) (IsOfType : Type 0) (depth : ℕ) (output : O) : Type 0 where
     pub carried : F.carries output rs
-    pub within_depth : highest rs ≤ depth
+    pub within_depth_left : highest rs ≤ depth
     pub of_type : IsOfType
 
   -- There was no memory, or the records are nested deeper than the depth, or rejected.

@@ -141,7 +141,7 @@ module _ {D S V : Type 0} (R : Reader D) (cs : List (ComponentType V)) (hs : Lis
   -- Some components were read into their slots, and others are left. The records of all are so high.
   pub record SlotsMidway (d : D) (s : S) (height : ℕ) (outer : Outside) (place bound : ℕ) : Type 0 where
     pub came : List ℕ
-    pub midway : PartsRead R cs v (λ i. i) (λ _. ⊤) d came height outer place bound
+    pub so_far : PartsRead R cs v (λ i. i) (λ _. ⊤) d came height outer place bound
     pub in_step : AreInStep hs 0 came s v
 
   -- The same, where the component of this index comes.
@@ -155,7 +155,7 @@ module _ {D S V : Type 0} (R : Reader D) (cs : List (ComponentType V)) (hs : Lis
         SlotsMidway d s (highest items) outer 0 bound
     begin d s items outer bound empty moved few at = record {
       came = [];
-      midway = start R cs v (λ i. i) (λ _. ⊤) d items outer bound (one_each cs hs all single v can) moved few at;
+      so_far = start R cs v (λ i. i) (λ _. ⊤) d items outer bound (one_each cs hs all single v can) moved few at;
       in_step = none_came hs 0 s v empty;
     }
 
@@ -177,16 +177,16 @@ module _ {D S V : Type 0} (R : Reader D) (cs : List (ComponentType V)) (hs : Lis
         SlotsMidway e after height outer (place + 1) bound
     one_more {s = s} {index = index} e after comes moved kept same = record {
       came = comes.came ++ index ∷ [];
-      midway = further R cs v (λ i. i) (λ _. ⊤) e index comes.next refl tt moved.within_depth moved.at same;
+      so_far = further R cs v (λ i. i) (λ _. ⊤) e index comes.next refl tt moved.within_depth_left moved.at same;
       in_step = one_came s after v hs 0 index index comes.came (omega arith) comes.in_step moved.answer kept;
     }
 
     -- where a component comes, which begins with the tag
     pub comes_next : {d : D} {s : S} {height : ℕ} {outer : Outside} {place bound : ℕ} (e : D) (t : Tag) (index : ℕ) (m : SlotsMidway d s height outer place bound) → AllApart cs → CanBeginWith cs index t →
-        Advances R d e 0 (records m.midway.todo, outer) (marks_passed (records m.midway.todo), outer) (IsNextTag cs (records m.midway.todo)) (Ok (Some t)) → R.depth_left e ≡ R.depth_left d → SlotComes e s height outer place bound index
+        Advances R d e 0 (records m.so_far.todo, outer) (marks_passed (records m.so_far.todo), outer) (IsNextTag cs (records m.so_far.todo)) (Ok (Some t)) → R.depth_left e ≡ R.depth_left d → SlotComes e s height outer place bound index
     comes_next e t index m apart begins moves same = record {
       came = m.came;
-      next = comes_at R cs v (λ i. i) (λ _. ⊤) index apart begins (comes R cs v (λ i. i) (λ _. ⊤) e t can m.midway moves same);
+      next = comes_at R cs v (λ i. i) (λ _. ⊤) index apart begins (comes R cs v (λ i. i) (λ _. ⊤) e t can m.so_far moves same);
       in_step = m.in_step;
     }
 
@@ -196,17 +196,17 @@ module _ {D S V : Type 0} (R : Reader D) (cs : List (ComponentType V)) (hs : Lis
       answer = hold_at_end cs hs all single s v 0 came can in_step (λ j index is written.
           let same : j ≡ index = omega (arith, is) in t.parts_are.complete index (subst (λ i. written_of cs v i ≢ []) same written));
       at = t.at;
-      within_depth = t.low;
+      within_depth_left = t.low;
     }
 
     -- where none is left
     pub none_is_left : {d : D} {s : S} {height : ℕ} {outer : Outside} {place bound : ℕ} (e : D) (m : SlotsMidway d s height outer place bound) →
-        Advances R d e 0 (records m.midway.todo, outer) (marks_passed (records m.midway.todo), outer) (IsNextTag cs (records m.midway.todo)) (Ok None) → R.depth_left e ≡ R.depth_left d →
+        Advances R d e 0 (records m.so_far.todo, outer) (marks_passed (records m.so_far.todo), outer) (IsNextTag cs (records m.so_far.todo)) (Ok None) → R.depth_left e ≡ R.depth_left d →
         HasAdvanced R e e height ([], outer) (HoldBefore hs (length hs) s v)
-    none_is_left {s = s} e m moves same = all_hold s m.came (through R cs v (λ i. i) (λ _. ⊤) e m.midway moves same) m.in_step
+    none_is_left {s = s} e m moves same = all_hold s m.came (through R cs v (λ i. i) (λ _. ⊤) e m.so_far moves same) m.in_step
 
     -- where as many were read as there can be
     pub as_many_as_can : {d : D} {s : S} {height : ℕ} {outer : Outside} {place bound : ℕ} (e : D) (answer : Option Tag) (m : SlotsMidway d s height outer place bound) → bound ≤ place →
-        Advances R d e 0 (records m.midway.todo, outer) (marks_passed (records m.midway.todo), outer) (IsNextTag cs (records m.midway.todo)) (Ok answer) → R.depth_left e ≡ R.depth_left d →
+        Advances R d e 0 (records m.so_far.todo, outer) (marks_passed (records m.so_far.todo), outer) (IsNextTag cs (records m.so_far.todo)) (Ok answer) → R.depth_left e ≡ R.depth_left d →
         HasAdvanced R e e height ([], outer) (HoldBefore hs (length hs) s v)
-    as_many_as_can {s = s} e answer m full moves same = all_hold s m.came (filled R cs v (λ i. i) (λ _. ⊤) e answer m.midway full moves same) m.in_step
+    as_many_as_can {s = s} e answer m full moves same = all_hold s m.came (filled R cs v (λ i. i) (λ _. ⊤) e answer m.so_far full moves same) m.in_step

@@ -6,7 +6,7 @@ ghost use Rattle.asn1_tags.specs.Trees.{leaf};
 ghost use Rattle.asn1_ranges.specs.declared.bounded.Bounded.TheVariants.{Range};
 ghost use Rattle.asn1_model.specs.ConstraintSets.{unconstrained, values_of};
 ghost use Rattle.asn1_model.specs.Meaning.{IsWellTagged, own_records};
-ghost use Rattle.asn1_model.specs.Records.{scalar, holding, explicit_tag, alternative as chosen, number, truth};
+ghost use Rattle.asn1_model.specs.Records.{scalar, holding, explicit_tag, alternative as chosen, number, boolean};
 ghost use Rattle.asn1_model.specs.TaggedTypes.{tagged, untagged};
 ghost use Rattle.asn1_model.specs.Tags.{universal, context};
 ghost use Rattle.asn1_choices.specs.Alternatives.{alternative, closed, extensible, table_of, variance_of};
@@ -55,7 +55,7 @@ fn nested(inner: Box<Nested>)
         (context 0) (Some (codes "Nested"))) (holding
         (chosen (universal 1) unconstrained (table_of ⟦<Nested as asn1_choices::Choice>⟧.alternatives) (Some (codes
         "Nested"))) (scalar (universal 1) unconstrained (Some (codes
-        "BOOLEAN")) (truth true) ∷ []) ∷ []) ∷ []) ∷ [] }
+        "BOOLEAN")) (boolean true) ∷ []) ∷ []) ∷ []) ∷ [] }
 {}
 
 /// The table beside a chosen alternative: the names and tags of those in the root, and of those after the extension marker.

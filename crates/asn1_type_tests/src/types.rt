@@ -6,7 +6,7 @@ ghost use Rattle.std.specs.String.{string_bytes};
 ghost use Rattle.asn1_tags.specs.declared.tags.Tag.{Tag};
 ghost use Rattle.asn1_model.specs.ConstraintSets.{unconstrained};
 ghost use Rattle.asn1_model.specs.Meaning.{own_records, tags};
-ghost use Rattle.asn1_model.specs.Records.{scalar, open_type, holding, sequence, sequence_of, set_of, explicit_tag, truth as truth_of, arcs, units, utf8};
+ghost use Rattle.asn1_model.specs.Records.{scalar, open_type, holding, sequence, sequence_of, set_of, explicit_tag, boolean, arcs, units, utf8};
 ghost use Rattle.asn1_model.specs.Tags.{universal, context, CHOICE, every};
 ghost use Rattle.asn1_components.specs.Components.{lines};
 ghost use Rattle.asn1_types.specs.Multisets.{same_counts};
@@ -29,8 +29,8 @@ fn set_of_booleans(set: &SetOf<bool>)
     ensures own { set.now ≡ true ∷ false ∷ [] →
         own_records ⟦<SetOf<bool> as AsnType>⟧.meaning set.now ≡
         holding (set_of (universal 17) unconstrained (Some (codes "SET_OF")))
-        (scalar (universal 1) unconstrained (Some (codes "BOOLEAN")) (truth_of true) ∷
-        scalar (universal 1) unconstrained (Some (codes "BOOLEAN")) (truth_of false) ∷ []) ∷ [] }
+        (scalar (universal 1) unconstrained (Some (codes "BOOLEAN")) (boolean true) ∷
+        scalar (universal 1) unconstrained (Some (codes "BOOLEAN")) (boolean false) ∷ []) ∷ [] }
     ensures named { set.now ≡ [] → ⟦<SetOf<bool> as AsnType>⟧.meaning.records set.now (context 3)
         unconstrained (Some (codes "s")) ≡ holding (set_of (context 3) unconstrained
         (Some (codes "s"))) [] ∷ [] }
@@ -41,7 +41,7 @@ fn sequence_of_truths(list: &SequenceOf<bool>, vector: &Vec<bool>)
     ensures { list.now.items ≡ true ∷ [] → vector.now ≡ list.now →
         own_records ⟦<Vec<bool> as AsnType>⟧.meaning vector.now ≡
         holding (sequence_of (universal 16) unconstrained (Some (codes "SEQUENCE_OF"))) (
-        scalar (universal 1) unconstrained (Some (codes "BOOLEAN")) (truth_of true) ∷ []) ∷ [] }
+        scalar (universal 1) unconstrained (Some (codes "BOOLEAN")) (boolean true) ∷ []) ∷ [] }
 {}
 
 /// An open type is its bytes under whatever tag, and can begin with every tag.
@@ -71,11 +71,11 @@ fn explicit_truth(truth: &Explicit<tag::SET, bool>)
     ensures own { truth.now.value ≡ true →
         own_records ⟦<Explicit<tag::SET, bool> as AsnType>⟧.meaning truth.now ≡
         holding (explicit_tag (universal 17) None) (scalar (universal 1) unconstrained
-        (Some (codes "BOOLEAN")) (truth_of true) ∷ []) ∷ [] }
+        (Some (codes "BOOLEAN")) (boolean true) ∷ []) ∷ [] }
     ensures named { truth.now.value ≡ true →
         ⟦<Explicit<tag::SET, bool> as AsnType>⟧.meaning.records truth.now (context 3) unconstrained
         (Some (codes "n")) ≡ holding (explicit_tag (context 3) (Some (codes "n")))
-        (scalar (universal 1) unconstrained (Some (codes "BOOLEAN")) (truth_of true) ∷ []) ∷ [] }
+        (scalar (universal 1) unconstrained (Some (codes "BOOLEAN")) (boolean true) ∷ []) ∷ [] }
 {}
 
 /// `true` beside the name 1.2 of its type.
@@ -85,7 +85,7 @@ fn instance_of_truth(instance: &InstanceOf<bool>)
         holding (sequence (universal 8) (lines ⟦<InstanceOf<bool> as asn1_components::FieldTable>⟧.components) (Some (codes
         "SEQUENCE"))) (scalar (universal 6) unconstrained (Some (codes
         "OBJECT_IDENTIFIER")) (arcs (1 ∷ 2 ∷ [])) ∷ holding (explicit_tag (context 0) (Some
-        (codes "SEQUENCE"))) (scalar (universal 1) unconstrained (Some (codes "BOOLEAN")) (truth_of
+        (codes "SEQUENCE"))) (scalar (universal 1) unconstrained (Some (codes "BOOLEAN")) (boolean
         true) ∷ []) ∷ []) ∷ [] }
 {}
 

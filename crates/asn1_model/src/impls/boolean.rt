@@ -2,7 +2,7 @@
 ghost use Rattle.std.specs.Prelude.{Some, codes};
 ghost use Rattle.asn1_model.specs.ConstraintSets.{unconstrained};
 ghost use Rattle.asn1_model.specs.Kinds.{scalar_type, without_constraints};
-ghost use Rattle.asn1_model.specs.Records.{truth};
+ghost use Rattle.asn1_model.specs.Records.{boolean};
 ghost use Rattle.asn1_model.specs.Tags.{universal};
 
 use crate::asn_type::AsnType;
@@ -10,7 +10,7 @@ use crate::type_table::TypeTable;
 use asn1_tags::{Identifier, Tag};
 
 impl AsnType for bool {
-    ghost meaning = { without_constraints (scalar_type (universal 1) unconstrained (Some (codes "BOOLEAN")) truth) };
+    ghost meaning = { without_constraints (scalar_type (universal 1) unconstrained (Some (codes "BOOLEAN")) boolean) };
 
     fn table() -> TypeTable {
         TypeTable::new(Tag::BOOL, Identifier::BOOL)

@@ -9,7 +9,7 @@ ghost use Rattle.asn1_tags.specs.declared.tags.Tag.{Tag};
 ghost use Rattle.asn1_model.specs.Composites.{list_records, option_records};
 ghost use Rattle.asn1_model.specs.ConstraintSets.{ConstraintSet, unconstrained, values_of, size_of};
 ghost use Rattle.asn1_model.specs.Meaning.{HasOwn, own_records};
-ghost use Rattle.asn1_model.specs.Records.{Name, arcs, in_root, name_or, null, number, scalar, truth, units, utf8};
+ghost use Rattle.asn1_model.specs.Records.{Name, arcs, in_root, name_or, null, number, scalar, boolean, units, utf8};
 ghost use Rattle.asn1_model.specs.Tags.{universal};
 
 use crate::asn_type::AsnType;
@@ -29,7 +29,7 @@ pub fn numbers_have_their_records<L: Limits>()
     ensures boolean_own { HasOwn ⟦<bool as AsnType>⟧.meaning (universal 1) unconstrained
         (Some (codes "BOOLEAN")) }
     ensures boolean { (b : Bool) (t : Tag) (c : ConstraintSet) (name : Name) →
-        ⟦<bool as AsnType>⟧.meaning.records b t c name ≡ scalar t unconstrained name (truth b) ∷
+        ⟦<bool as AsnType>⟧.meaning.records b t c name ≡ scalar t unconstrained name (boolean b) ∷
         [] }
     ensures u8_own { HasOwn ⟦<u8 as AsnType>⟧.meaning (universal 2)
         (values_of (Range (Some (pos 0)) (Some (pos (2 ^ 8 - 1))))) (Some (codes "INTEGER")) }

@@ -5,7 +5,7 @@ ghost use Rattle.asn1_tags.specs.Trees.{leaf, choice, none, more};
 ghost use Rattle.asn1_ranges.specs.declared.bounded.Bounded.TheVariants.{Range};
 ghost use Rattle.asn1_model.specs.ConstraintSets.{unconstrained, values_of};
 ghost use Rattle.asn1_model.specs.Meaning.{IsWellTagged, own_records};
-ghost use Rattle.asn1_model.specs.Records.{holding, in_root, scalar, presence_mark, present, group_start, group_absent, group_end, sequence as sequence_head, number, truth};
+ghost use Rattle.asn1_model.specs.Records.{holding, in_root, scalar, presence_mark, present, group_start, group_absent, group_end, sequence as sequence_head, number, boolean};
 ghost use Rattle.asn1_model.specs.TaggedTypes.{tagged, untagged};
 ghost use Rattle.asn1_model.specs.Tags.{context, universal};
 ghost use Rattle.asn1_components.specs.ComponentTypes.{required, optional};
@@ -75,6 +75,6 @@ fn journeys(journey: &Journey)
           } ∷ [];
           additions = None;
         })) ∷ presence_mark (present in_root (context 0)) ∷
-        scalar (context 0) unconstrained (Some (codes "BOOLEAN")) (truth true) ∷ presence_mark group_absent ∷
+        scalar (context 0) unconstrained (Some (codes "BOOLEAN")) (boolean true) ∷ presence_mark group_absent ∷
         presence_mark group_end ∷ []) ∷ [] }
 {}

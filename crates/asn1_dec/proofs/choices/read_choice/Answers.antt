@@ -49,4 +49,4 @@ returns-clause-read g c =
     let s = c.in_ok-open_explicit_prefix.ensures.read n rs rest outer at in
     let r = (rw c.in-Ok.ensures.set at c.in_ok-value.ensures.read) v m.name [] ((_, rest) ∷ outer) distinct can of_type valid (to_end g.D.Decoder.reader _ rs ((_, rest) ∷ outer) s.at) in
     let k = c.in_ok-close.ensures.read _ rest outer r.at in
-    record { answer = r.answer; at = k.at; within_depth = within_scope (explicit_tag c.args.tag n) rs _ _ c.in_ok-open_explicit_prefix.ensures.opens_scope.one_less r.within_depth })
+    record { answer = r.answer; at = k.at; within_depth_left = within_scope (explicit_tag c.args.tag n) rs _ _ c.in_ok-open_explicit_prefix.ensures.opens_scope.one_less r.within_depth_left })

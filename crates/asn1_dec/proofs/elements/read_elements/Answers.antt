@@ -14,7 +14,7 @@ loop-index-preserved g c = record {
       let mid = c.loop-index.invariant.so_far vs scope outer can of_type valid at in
       let a = another g.D.Decoder.reader g.T.AsnType.meaning g.T.PartialEq.eq can _ mid c.in_ok-more.ensures.read c.if-not-branch.false c.in_ok-more.ensures.opens_nothing.keeps_depth.same_depth in
       let r = c.in-Ok.ensures.read a.next g.T.AsnType.meaning.name (flat_map (own_records g.T.AsnType.meaning) a.todo) (scope ∷ outer) can.1 a.next_of_type a.next_valid (inl can.0) a.at in
-      let f = further g.D.Decoder.reader g.T.AsnType.meaning g.T.PartialEq.eq c.decode.new.decoder c.in-Ok.element a r.within_depth r.answer r.at c.in-Ok.ensures.after_reading.same_depth in
+      let f = further g.D.Decoder.reader g.T.AsnType.meaning g.T.PartialEq.eq c.decode.new.decoder c.in-Ok.element a r.within_depth_left r.answer r.at c.in-Ok.ensures.after_reading.same_depth in
       rw c.in-Ok-push.ensures.items f;
 }
 
@@ -28,7 +28,7 @@ pub returns-then-not-branch-clause-read : goal.returns-then-not-branch-clause-re
 returns-then-not-branch-clause-read g c = λ vs scope outer can of_type valid few at.
     let mid = c.loop-index.invariant.so_far vs scope outer can of_type valid at in
     let t = through g.D.Decoder.reader g.T.AsnType.meaning g.T.PartialEq.eq can _ mid c.in_ok-more.ensures.read c.if-not-branch.true c.in_ok-more.ensures.opens_nothing.keeps_depth.same_depth in
-    record { answer = t.same; at = t.at; within_depth = omega (arith, t.low, c.loop-index.invariant.kept, c.in_ok-more.ensures.opens_nothing.keeps_depth.same_depth) }
+    record { answer = t.same; at = t.at; within_depth_left = omega (arith, t.low, c.loop-index.invariant.kept, c.in_ok-more.ensures.opens_nothing.keeps_depth.same_depth) }
 
 pub returns-in-Err-clause-read : goal.returns-in-Err-clause-read
 returns-in-Err-clause-read g c = λ vs scope outer can of_type valid few at.

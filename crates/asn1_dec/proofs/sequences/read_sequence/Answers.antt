@@ -27,4 +27,4 @@ returns-clause-read g c = λ v n rest outer can of_type valid at.
     let s = c.in_ok-open_sequence.ensures.read n rs rest outer at in
     let r = c.in-Ok.ensures.read v [] ((_, rest) ∷ outer) can of_type valid (nothing_follows (all_components g.C.FieldTable.components)) (to_end g.D.Decoder.reader _ rs ((_, rest) ∷ outer) s.at) in
     let k = c.in_ok-close.ensures.read _ rest outer r.at in
-    record { answer = r.answer; at = k.at; within_depth = within_scope (sequence c.args.tag (lines g.C.FieldTable.components) n) rs _ _ c.in_ok-open_sequence.ensures.opens_scope.one_less r.within_depth }
+    record { answer = r.answer; at = k.at; within_depth_left = within_scope (sequence c.args.tag (lines g.C.FieldTable.components) n) rs _ _ c.in_ok-open_sequence.ensures.opens_scope.one_less r.within_depth_left }

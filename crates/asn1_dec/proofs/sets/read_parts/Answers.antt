@@ -27,7 +27,7 @@ loop-place-preserved g c = record {
       (comes R cs v g.S.DecodeSet.index_of (g.S.DecodeSet.is_part_of v) c.next_component.new.self c.in-Some.tag can.0 m (rw c.in-Some.is at (c.in_ok-tag.ensures.read tag n can (records m.todo) rest outer)) c.in_ok-tag.ensures.opens_nothing.keeps_depth.same_depth) in
       let r = c.in-Ok.ensures.read v (records a.todo) ((_, rest) ∷ outer) can.0 of_type valid a.is_there a.at in
       rw c.in-Ok-push.ensures.items
-      (further R cs v g.S.DecodeSet.index_of (g.S.DecodeSet.is_part_of v) c.decode_field.new.decoder c.in-Ok.part a r.answer.0 r.answer.1 r.within_depth r.at c.in-Ok.ensures.same_depth);
+      (further R cs v g.S.DecodeSet.index_of (g.S.DecodeSet.is_part_of v) c.decode_field.new.decoder c.in-Ok.part a r.answer.0 r.answer.1 r.within_depth_left r.at c.in-Ok.ensures.same_depth);
 }
 
 pub returns-in_err-tag-clause-read : goal.returns-in_err-tag-clause-read
@@ -40,7 +40,7 @@ pub returns-in-None-clause-read : goal.returns-in-None-clause-read
 returns-in-None-clause-read g c = λ v tag n items rest outer can of_type valid moved few at.
     let m = c.loop-place.invariant.so_far v tag n items rest outer can of_type valid moved few at in
     let t = through g.D.Decoder.reader (all_components g.S.FieldTable.components) v g.S.DecodeSet.index_of (g.S.DecodeSet.is_part_of v) c.next_component.new.self m (rw c.in-None.is at (c.in_ok-tag.ensures.read tag n can (records m.todo) rest outer)) c.in_ok-tag.ensures.opens_nothing.keeps_depth.same_depth in
-    record { answer = t.parts_are; at = t.at; within_depth = omega (arith, t.low, c.loop-place.invariant.kept, c.in_ok-tag.ensures.opens_nothing.keeps_depth.same_depth) }
+    record { answer = t.parts_are; at = t.at; within_depth_left = omega (arith, t.low, c.loop-place.invariant.kept, c.in_ok-tag.ensures.opens_nothing.keeps_depth.same_depth) }
 
 pub returns-in-None-component_with_tag-clause-read : goal.returns-in-None-component_with_tag-clause-read
 returns-in-None-component_with_tag-clause-read g c = λ v tag n items rest outer can of_type valid moved few at.
@@ -70,4 +70,4 @@ pub returns-clause-read : goal.returns-clause-read
 returns-clause-read g c = λ v tag n items rest outer can of_type valid moved few at.
     let m = c.loop-place.invariant.so_far v tag n items rest outer can of_type valid moved few at in
     let t = filled g.D.Decoder.reader (all_components g.S.FieldTable.components) v g.S.DecodeSet.index_of (g.S.DecodeSet.is_part_of v) c.next_component-2.new.self c.in_ok-next_component.field-0 m (omega (arith, c.loop-place-test.false)) (c.in_ok-next_component.ensures.read tag n can (records m.todo) rest outer) c.in_ok-next_component.ensures.opens_nothing.keeps_depth.same_depth in
-    record { answer = t.parts_are; at = t.at; within_depth = omega (arith, t.low, c.loop-place.invariant.kept, c.in_ok-next_component.ensures.opens_nothing.keeps_depth.same_depth) }
+    record { answer = t.parts_are; at = t.at; within_depth_left = omega (arith, t.low, c.loop-place.invariant.kept, c.in_ok-next_component.ensures.opens_nothing.keeps_depth.same_depth) }

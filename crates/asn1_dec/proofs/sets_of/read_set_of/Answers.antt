@@ -37,5 +37,5 @@ returns-clause-read g c = λ vs n rest outer can of_type valid at.
       answer = (same_counts-SameElements {eq = g.T.PartialEq.eq} g.met.T.PartialEq.laws c.from_vec.result vs).1
           (record { order = b.order; rearranged = b.rearranged; equal = rw c.from_vec.ensures r.answer });
       at = k.at;
-      within_depth = within_scope (set_of c.args.tag (constraint_set c.args.constraints.now) n) rs _ _ c.in_ok-bound.ensures.opens_scope.one_less (rw b.same_height at r.within_depth);
+      within_depth_left = within_scope (set_of c.args.tag (constraint_set c.args.constraints.now) n) rs _ _ c.in_ok-bound.ensures.opens_scope.one_less (rw b.same_height at r.within_depth_left);
     }

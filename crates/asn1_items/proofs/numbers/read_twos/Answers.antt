@@ -5,21 +5,21 @@ use Rattle.asn1_items.proofs.Octets.{rest_is}
 use Rattle.asn1_items.proofs.numbers.read_twos.Goals as goal
 
 pub loop-left-init : goal.loop-left-init
-loop-left-init c = record { midway = starts c.args.bytes.now c.new-numbers.result.items c.new-numbers.ensures.items }
+loop-left-init c = record { so_far = starts c.args.bytes.now c.new-numbers.result.items c.new-numbers.ensures.items }
 
 pub loop-left-preserved : goal.loop-left-preserved
 loop-left-preserved c = record {
-  midway = λ list are.
-      step c.loop-left.numbers.items c.loop-left.left.now list _ _ c.from_be_bytes.result c.in_default-push.ensures.items c.in-len2-up.len_at_least (rest_is 2 c.loop-left.left.now c.in-len2-up.len_at_least) c.from_be_bytes.ensures (c.loop-left.invariant.midway list are);
+  so_far = λ list are.
+      step c.loop-left.numbers.items c.loop-left.left.now list _ _ c.from_be_bytes.result c.in_default-push.ensures.items c.in-len2-up.len_at_least (rest_is 2 c.loop-left.left.now c.in-len2-up.len_at_least) c.from_be_bytes.ensures (c.loop-left.invariant.so_far list are);
 }
 
 pub returns-then-not-is_empty : goal.returns-then-not-is_empty
 returns-then-not-is_empty c = record {
   read = λ list are.
-      let none = (none_left c.loop-left.numbers.items c.loop-left.left.now list c.in_default.len_below (c.loop-left.invariant.midway list are)).0 in
+      let none = (none_left c.loop-left.numbers.items c.loop-left.left.now list c.in_default.len_below (c.loop-left.invariant.so_far list are)).0 in
       let empty = ap (λ (x : List ℕ). length x == 0) none in
       cc;
 }
 
 pub returns : goal.returns
-returns c = record { read = λ list are. (none_left c.loop-left.numbers.items c.loop-left.left.now list c.in_default.len_below (c.loop-left.invariant.midway list are)).1 }
+returns c = record { read = λ list are. (none_left c.loop-left.numbers.items c.loop-left.left.now list c.in_default.len_below (c.loop-left.invariant.so_far list are)).1 }

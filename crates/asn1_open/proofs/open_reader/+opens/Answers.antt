@@ -212,4 +212,4 @@ read_instance-returns-clause-read g t c =
     let y = c.in_ok-value.ensures.read v.value (Some (codes "Open")) [] ((_, []) ∷ (_, rest) ∷ outer) open_can.1 of_type.1.0 valid.1.0 (inl tt) (to_end g.D.Decoder.reader _ (own_records open_meaning v.value) ((_, []) ∷ (_, rest) ∷ outer) x.at) in
     let z = c.in_ok-close.ensures.read _ [] ((_, rest) ∷ outer) y.at in
     let k = c.in_ok-close-2.ensures.read _ rest outer z.at in
-    record { answer = and_from _ _ r.answer y.answer; at = k.at; within_depth = omega (arith, y.within_depth, c.in_ok-open_sequence.ensures.opens_scope.one_less, c.in_ok-type_id.ensures.after_reading.same_depth, c.in_ok-open_explicit_prefix.ensures.opens_scope.one_less, two_higher v) }
+    record { answer = and_from _ _ r.answer y.answer; at = k.at; within_depth_left = omega (arith, y.within_depth_left, c.in_ok-open_sequence.ensures.opens_scope.one_less, c.in_ok-type_id.ensures.after_reading.same_depth, c.in_ok-open_explicit_prefix.ensures.opens_scope.one_less, two_higher v) }

@@ -21,7 +21,7 @@ pub returns-clause-read : goal.returns-clause-read
 returns-clause-read g c = λ v can of_type valid at.
     let m = g.T.AsnType.meaning in
     let read = c.in_ok-value.ensures.read v m.name [] [] can.1 of_type valid (inl can.0) (before_nothing g.D.Decoder.reader c.args.decoder (own_records m v) at) in
-    (read.answer, read.within_depth)
+    (read.answer, read.within_depth_left)
 
 pub returns-in_err-value-clause-refuses : goal.returns-in_err-value-clause-refuses
 returns-in_err-value-clause-refuses g c = λ rs error refused at.

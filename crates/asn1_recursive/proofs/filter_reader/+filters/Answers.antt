@@ -130,50 +130,50 @@ read_set-returns-clause-read g t c =
       answer = (same_counts-SameElements {eq = ghosts.eq} lawful.laws c.from_vec.result vs).1
           (record { order = b.order; rearranged = b.rearranged; equal = rw c.from_vec.ensures r.answer });
       at = k.at;
-      within_depth = within_scope (set_of c.args.tag unconstrained n) rs _ _ c.in_ok-bound.ensures.opens_scope.one_less (rw b.same_height at r.within_depth);
+      within_depth_left = within_scope (set_of c.args.tag unconstrained n) rs _ _ c.in_ok-bound.ensures.opens_scope.one_less (rw b.same_height at r.within_depth_left);
     }
 
 pub read_filters-loop-index-init : goal.read_filters-loop-index-init
 read_filters-loop-index-init g t c = record {
   kept = omega arith;
   count = omega (arith, ap length c.new-filters.ensures.items);
-  midway = λ vs scope outer of_type valid at. rw c.new-filters.ensures.items (start g.D.Decoder.reader filter_meaning ghosts.eq _ vs (scope ∷ outer) of_type valid at);
+  so_far = λ vs scope outer of_type valid at. rw c.new-filters.ensures.items (start g.D.Decoder.reader filter_meaning ghosts.eq _ vs (scope ∷ outer) of_type valid at);
 }
 
 pub read_filters-loop-index-preserved : goal.read_filters-loop-index-preserved
 read_filters-loop-index-preserved g t c = record {
   kept = omega (arith, c.loop-index.invariant.kept, c.in_ok-more.ensures.opens_nothing.keeps_depth.same_depth, c.in_ok-filter.ensures.keeps_depth.same_depth);
   count = omega (arith, c.loop-index.invariant.count, ap length c.in-Ok.ensures.items, length-append c.loop-index.filters.items (c.in_ok-filter.filter ∷ []));
-  midway = λ vs scope outer of_type valid at.
-      let mid = c.loop-index.invariant.midway vs scope outer of_type valid at in
+  so_far = λ vs scope outer of_type valid at.
+      let mid = c.loop-index.invariant.so_far vs scope outer of_type valid at in
       let a = another g.D.Decoder.reader filter_meaning ghosts.eq filter_can _ mid c.in_ok-more.ensures.read c.if-not-branch.false c.in_ok-more.ensures.opens_nothing.keeps_depth.same_depth in
       let r = c.in_ok-filter.ensures.read a.next filter_meaning.name (flat_map (own_records filter_meaning) a.todo) (scope ∷ outer) filter_can.1 a.next_of_type a.next_valid (inl tt) a.at in
-      let f = further g.D.Decoder.reader filter_meaning ghosts.eq c.read_filter.new.decoder c.in_ok-filter.filter a r.within_depth r.answer r.at c.in_ok-filter.ensures.keeps_depth.same_depth in
+      let f = further g.D.Decoder.reader filter_meaning ghosts.eq c.read_filter.new.decoder c.in_ok-filter.filter a r.within_depth_left r.answer r.at c.in_ok-filter.ensures.keeps_depth.same_depth in
       rw c.in-Ok.ensures.items f;
 }
 
 pub read_filters-returns-in_err-more-clause-read : goal.read_filters-returns-in_err-more-clause-read
 read_filters-returns-in_err-more-clause-read g t c = λ vs scope outer of_type valid few at.
     let p = err_from_is_err_and c.from_residual.result c.from_residual.ensures.1 in
-    let mid = c.loop-index.invariant.midway vs scope outer of_type valid at in
+    let mid = c.loop-index.invariant.so_far vs scope outer of_type valid at in
     rw (p.1, p.2) (not_told g.D.Decoder.reader filter_meaning ghosts.eq filter_can _ _ mid c.in_err-more.ensures.read)
 
 pub read_filters-returns-then-not-branch-clause-read : goal.read_filters-returns-then-not-branch-clause-read
 read_filters-returns-then-not-branch-clause-read g t c = λ vs scope outer of_type valid few at.
-    let mid = c.loop-index.invariant.midway vs scope outer of_type valid at in
+    let mid = c.loop-index.invariant.so_far vs scope outer of_type valid at in
     let u = through g.D.Decoder.reader filter_meaning ghosts.eq filter_can _ mid c.in_ok-more.ensures.read c.if-not-branch.true c.in_ok-more.ensures.opens_nothing.keeps_depth.same_depth in
-    record { answer = u.same; at = u.at; within_depth = omega (arith, u.low, c.loop-index.invariant.kept, c.in_ok-more.ensures.opens_nothing.keeps_depth.same_depth) }
+    record { answer = u.same; at = u.at; within_depth_left = omega (arith, u.low, c.loop-index.invariant.kept, c.in_ok-more.ensures.opens_nothing.keeps_depth.same_depth) }
 
 pub read_filters-returns-in_err-filter-clause-read : goal.read_filters-returns-in_err-filter-clause-read
 read_filters-returns-in_err-filter-clause-read g t c = λ vs scope outer of_type valid few at.
     let p = err_from_is_err_and c.from_residual-in_err-filter.result c.from_residual-in_err-filter.ensures.1 in
-    let mid = c.loop-index.invariant.midway vs scope outer of_type valid at in
+    let mid = c.loop-index.invariant.so_far vs scope outer of_type valid at in
     let a = another g.D.Decoder.reader filter_meaning ghosts.eq filter_can _ mid c.in_ok-more.ensures.read c.if-not-branch.false c.in_ok-more.ensures.opens_nothing.keeps_depth.same_depth in
     let r = c.in_err-filter.ensures.read a.next filter_meaning.name (flat_map (own_records filter_meaning) a.todo) (scope ∷ outer) filter_can.1 a.next_of_type a.next_valid (inl tt) a.at in
     rw (p.1, p.2) (fails_below _ _ _ (omega (arith, c.loop-index.invariant.kept, c.in_ok-more.ensures.opens_nothing.keeps_depth.same_depth)) (no_higher (own_records filter_meaning) a.done a.todo a.next vs a.split) r)
 
 pub read_filters-returns-clause-read : goal.read_filters-returns-clause-read
 read_filters-returns-clause-read g t c = λ vs scope outer of_type valid few at.
-    let mid = c.loop-index.invariant.midway vs scope outer of_type valid at in
+    let mid = c.loop-index.invariant.so_far vs scope outer of_type valid at in
     let u = filled g.D.Decoder.reader filter_meaning ghosts.eq mid (omega (arith, few, c.loop-index.invariant.count)) in
-    record { answer = u.same; at = u.at; within_depth = omega (arith, u.low, c.loop-index.invariant.kept) }
+    record { answer = u.same; at = u.at; within_depth_left = omega (arith, u.low, c.loop-index.invariant.kept) }

@@ -28,7 +28,7 @@ abbrev pub invariant-read_filters-loop-index : goal.invariant-read_filters-loop-
 invariant-read_filters-loop-index g l = record {
   kept : g.D.Decoder.reader.depth_left l.decoder ≡ g.D.Decoder.reader.depth_left l.fn.decoder;
   count : length l.filters.items ≡ l._index;
-  midway : (vs : List Filter) (scope : Head × List Record) (outer : Outside) → All filter_meaning.IsOfType vs → All (filter_meaning.IsValid g.D.Decoder.reader.accepts) vs →
+  so_far : (vs : List Filter) (scope : Head × List Record) (outer : Outside) → All filter_meaning.IsOfType vs → All (filter_meaning.IsValid g.D.Decoder.reader.accepts) vs →
       g.D.Decoder.reader.remains l.fn.decoder (flat_map (own_records filter_meaning) vs, scope ∷ outer) →
       ElementsRead g.D.Decoder.reader filter_meaning ghosts.eq l.decoder l.filters.items vs (scope ∷ outer);
 }

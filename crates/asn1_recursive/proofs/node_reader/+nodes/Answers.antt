@@ -17,46 +17,46 @@ pub read_children-loop-index-init : goal.read_children-loop-index-init
 read_children-loop-index-init g t c = record {
   kept = omega arith;
   count = omega (arith, ap length c.new-children.ensures.items);
-  midway = λ vs scope outer of_type valid at. rw c.new-children.ensures.items (start g.D.Decoder.reader node_meaning ghosts.eq _ vs (scope ∷ outer) of_type valid at);
+  so_far = λ vs scope outer of_type valid at. rw c.new-children.ensures.items (start g.D.Decoder.reader node_meaning ghosts.eq _ vs (scope ∷ outer) of_type valid at);
 }
 
 pub read_children-loop-index-preserved : goal.read_children-loop-index-preserved
 read_children-loop-index-preserved g t c = record {
   kept = omega (arith, c.loop-index.invariant.kept, c.in_ok-more.ensures.opens_nothing.keeps_depth.same_depth, c.in_ok-child.ensures.keeps_depth.same_depth);
   count = omega (arith, c.loop-index.invariant.count, ap length c.in-Ok.ensures.items, length-append c.loop-index.children.items (c.in_ok-child.child ∷ []));
-  midway = λ vs scope outer of_type valid at.
-      let mid = c.loop-index.invariant.midway vs scope outer of_type valid at in
+  so_far = λ vs scope outer of_type valid at.
+      let mid = c.loop-index.invariant.so_far vs scope outer of_type valid at in
       let a = another g.D.Decoder.reader node_meaning ghosts.eq node_can _ mid c.in_ok-more.ensures.read c.if-not-branch.false c.in_ok-more.ensures.opens_nothing.keeps_depth.same_depth in
       let r = c.in_ok-child.ensures.read a.next node_meaning.name (flat_map (own_records node_meaning) a.todo) (scope ∷ outer) a.next_of_type a.next_valid a.at in
-      let f = further g.D.Decoder.reader node_meaning ghosts.eq c.read_node.new.decoder c.in_ok-child.child a r.within_depth r.answer r.at c.in_ok-child.ensures.keeps_depth.same_depth in
+      let f = further g.D.Decoder.reader node_meaning ghosts.eq c.read_node.new.decoder c.in_ok-child.child a r.within_depth_left r.answer r.at c.in_ok-child.ensures.keeps_depth.same_depth in
       rw c.in-Ok.ensures.items f;
 }
 
 pub read_children-returns-in_err-more-clause-read : goal.read_children-returns-in_err-more-clause-read
 read_children-returns-in_err-more-clause-read g t c = λ vs scope outer of_type valid few at.
     let p = err_from_is_err_and c.from_residual.result c.from_residual.ensures.1 in
-    let mid = c.loop-index.invariant.midway vs scope outer of_type valid at in
+    let mid = c.loop-index.invariant.so_far vs scope outer of_type valid at in
     rw (p.1, p.2) (not_told g.D.Decoder.reader node_meaning ghosts.eq node_can _ _ mid c.in_err-more.ensures.read)
 
 pub read_children-returns-then-not-branch-clause-read : goal.read_children-returns-then-not-branch-clause-read
 read_children-returns-then-not-branch-clause-read g t c = λ vs scope outer of_type valid few at.
-    let mid = c.loop-index.invariant.midway vs scope outer of_type valid at in
+    let mid = c.loop-index.invariant.so_far vs scope outer of_type valid at in
     let u = through g.D.Decoder.reader node_meaning ghosts.eq node_can _ mid c.in_ok-more.ensures.read c.if-not-branch.true c.in_ok-more.ensures.opens_nothing.keeps_depth.same_depth in
-    record { answer = u.same; at = u.at; within_depth = omega (arith, u.low, c.loop-index.invariant.kept, c.in_ok-more.ensures.opens_nothing.keeps_depth.same_depth) }
+    record { answer = u.same; at = u.at; within_depth_left = omega (arith, u.low, c.loop-index.invariant.kept, c.in_ok-more.ensures.opens_nothing.keeps_depth.same_depth) }
 
 pub read_children-returns-in_err-child-clause-read : goal.read_children-returns-in_err-child-clause-read
 read_children-returns-in_err-child-clause-read g t c = λ vs scope outer of_type valid few at.
     let p = err_from_is_err_and c.from_residual-in_err-child.result c.from_residual-in_err-child.ensures.1 in
-    let mid = c.loop-index.invariant.midway vs scope outer of_type valid at in
+    let mid = c.loop-index.invariant.so_far vs scope outer of_type valid at in
     let a = another g.D.Decoder.reader node_meaning ghosts.eq node_can _ mid c.in_ok-more.ensures.read c.if-not-branch.false c.in_ok-more.ensures.opens_nothing.keeps_depth.same_depth in
     let r = c.in_err-child.ensures.read a.next node_meaning.name (flat_map (own_records node_meaning) a.todo) (scope ∷ outer) a.next_of_type a.next_valid a.at in
     rw (p.1, p.2) (fails_below _ _ _ (omega (arith, c.loop-index.invariant.kept, c.in_ok-more.ensures.opens_nothing.keeps_depth.same_depth)) (no_higher (own_records node_meaning) a.done a.todo a.next vs a.split) r)
 
 pub read_children-returns-clause-read : goal.read_children-returns-clause-read
 read_children-returns-clause-read g t c = λ vs scope outer of_type valid few at.
-    let mid = c.loop-index.invariant.midway vs scope outer of_type valid at in
+    let mid = c.loop-index.invariant.so_far vs scope outer of_type valid at in
     let u = filled g.D.Decoder.reader node_meaning ghosts.eq mid (omega (arith, few, c.loop-index.invariant.count)) in
-    record { answer = u.same; at = u.at; within_depth = omega (arith, u.low, c.loop-index.invariant.kept) }
+    record { answer = u.same; at = u.at; within_depth_left = omega (arith, u.low, c.loop-index.invariant.kept) }
 
 pub read_node-returns-in_err-open_sequence-clause-read : goal.read_node-returns-in_err-open_sequence-clause-read
 read_node-returns-in_err-open_sequence-clause-read g t c = λ v n rest outer of_type valid at.
@@ -130,4 +130,4 @@ read_node-returns-clause-read g t c = λ v n rest outer of_type valid at.
     let x = c.in_ok-close.ensures.read _ [] ((_, rest) ∷ outer) k.at in
     let y = c.in_ok-close-2.ensures.read _ rest outer x.at in
     let o = out-roll-Node record { label = c.in_ok-label.label; children = c.in_ok-children.children } in
-    record { answer = same_nodes _ v (rw o l.answer) (rw o k.answer); at = y.at; within_depth = omega (arith, k.within_depth, c.in_ok-open_sequence.ensures.opens_scope.one_less, c.in_ok-label.ensures.keeps_depth.same_depth, c.in_ok-bound.ensures.opens_scope.one_less, two_higher v c.args.tag unconstrained n) }
+    record { answer = same_nodes _ v (rw o l.answer) (rw o k.answer); at = y.at; within_depth_left = omega (arith, k.within_depth_left, c.in_ok-open_sequence.ensures.opens_scope.one_less, c.in_ok-label.ensures.keeps_depth.same_depth, c.in_ok-bound.ensures.opens_scope.one_less, two_higher v c.args.tag unconstrained n) }

@@ -19,7 +19,7 @@ abbrev pub invariant-read_children-loop-index : goal.invariant-read_children-loo
 invariant-read_children-loop-index g l = record {
   kept : g.D.Decoder.reader.depth_left l.decoder ≡ g.D.Decoder.reader.depth_left l.fn.decoder;
   count : length l.children.items ≡ l._index;
-  midway : (vs : List Node) (scope : Head × List Record) (outer : Outside) → All node_is_of_type vs → All (node_is_valid g.D.Decoder.reader.accepts) vs →
+  so_far : (vs : List Node) (scope : Head × List Record) (outer : Outside) → All node_is_of_type vs → All (node_is_valid g.D.Decoder.reader.accepts) vs →
       g.D.Decoder.reader.remains l.fn.decoder (flat_map (own_records node_meaning) vs, scope ∷ outer) →
       ElementsRead g.D.Decoder.reader node_meaning ghosts.eq l.decoder l.children.items vs (scope ∷ outer);
 }

@@ -14,7 +14,7 @@ invariant-loop-count g l =
     let cs = all_components g.S.FieldTable.components in
     record {
       kept : g.D.Decoder.reader.depth_left l.decoder ≡ g.D.Decoder.reader.depth_left l.fn.decoder;
-      midway : (v : _) (tag : Tag) (n : Name) (items rest : List Record) (outer : Outside) → CanBeInSet cs → EachIsOfType cs v → EachIsValid cs g.D.Decoder.reader.accepts v →
+      so_far : (v : _) (tag : Tag) (n : Name) (items rest : List Record) (outer : Outside) → CanBeInSet cs → EachIsOfType cs v → EachIsValid cs g.D.Decoder.reader.accepts v →
           IsPermutation items (component_records g.S.FieldTable.components v) → records_in items ≤ l.bound → g.D.Decoder.reader.remains l.fn.decoder (items, (set tag (lines g.S.FieldTable.components) n, rest) ∷ outer) →
           SlotsMidway g.D.Decoder.reader cs g.S.Slotted.layout v l.decoder l.slots (highest items)
           ((set tag (lines g.S.FieldTable.components) n, rest) ∷ outer) l.count l.bound;

@@ -26,4 +26,4 @@ returns-clause-read g c = λ v n rest outer can of_type valid at.
     let s = c.in_ok-open_explicit_prefix.ensures.read n rs rest outer at in
     let r = c.in-Ok.ensures.read v g.T.AsnType.meaning.name [] ((_, rest) ∷ outer) can.1 of_type valid (inl can.0) (to_end g.Self.Decoder.reader _ rs ((_, rest) ∷ outer) s.at) in
     let k = c.in_ok-close.ensures.read _ rest outer r.at in
-    record { answer = r.answer; at = k.at; within_depth = within_scope (explicit_tag c.args.tag n) rs _ _ c.in_ok-open_explicit_prefix.ensures.opens_scope.one_less r.within_depth }
+    record { answer = r.answer; at = k.at; within_depth_left = within_scope (explicit_tag c.args.tag n) rs _ _ c.in_ok-open_explicit_prefix.ensures.opens_scope.one_less r.within_depth_left }

@@ -15,7 +15,7 @@ returns-in_err-open_group-clause-read g c = λ v rest outer can of_type valid ap
 pub returns-then-not-branch-clause-read : goal.returns-then-not-branch-clause-read
 returns-then-not-branch-clause-read g c = λ v rest outer can of_type valid apart at.
     let n = not_there (all_components g.C.FieldTable.components) (lines g.C.FieldTable.components) g.Self.Decoder.reader c.args.self.now c.open_group.new.self rest outer can.0 apart c.in_ok-open_group.ensures.read c.if-not-branch.true v valid at in
-    rw n.0 (record { answer = refl; at = n.1; within_depth = omega arith })
+    rw n.0 (record { answer = refl; at = n.1; within_depth_left = omega arith })
 
 pub returns-in-Err-clause-read : goal.returns-in-Err-clause-read
 returns-in-Err-clause-read g c = λ v rest outer can of_type valid apart at.
@@ -35,4 +35,4 @@ returns-clause-read g c = λ v rest outer can of_type valid apart at.
     let n = is_there (all_components g.C.FieldTable.components) (lines g.C.FieldTable.components) g.Self.Decoder.reader c.args.self.now c.open_group.new.self rest outer can.0 apart c.in_ok-open_group.ensures.read c.if-not-branch.false v of_type valid at in
     let r = c.in-Ok.ensures.read n.held (presence_mark group_end ∷ rest) outer can n.of_type n.valid (group_ends (all_components g.C.FieldTable.components) (presence_mark group_end ∷ rest) apart) n.at in
     let k = c.in_ok-close_group.ensures.read rest outer r.at in
-    record { answer = rw n.is r.answer; at = k.at; within_depth = omega (arith, r.within_depth, n.high, c.in_ok-open_group.ensures.opens_nothing.keeps_depth.same_depth) }
+    record { answer = rw n.is r.answer; at = k.at; within_depth_left = omega (arith, r.within_depth_left, n.high, c.in_ok-open_group.ensures.opens_nothing.keeps_depth.same_depth) }

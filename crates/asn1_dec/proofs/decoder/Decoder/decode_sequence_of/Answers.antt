@@ -30,4 +30,4 @@ returns-clause-read g c = λ vs n rest outer can of_type valid at.
     let s = c.in_ok-bound.ensures.read n rs rest outer at in
     let r = c.in_ok-elements.ensures.read vs _ outer can of_type valid (omega (arith, s.answer, as_many g.T.AsnType.meaning can vs)) s.at in
     let k = c.in_ok-close.ensures.read _ rest outer r.at in
-    record { answer = r.answer; at = k.at; within_depth = within_scope (sequence_of c.args.tag (constraint_set c.args.constraints.now) n) rs _ _ c.in_ok-bound.ensures.opens_scope.one_less r.within_depth }
+    record { answer = r.answer; at = k.at; within_depth_left = within_scope (sequence_of c.args.tag (constraint_set c.args.constraints.now) n) rs _ _ c.in_ok-bound.ensures.opens_scope.one_less r.within_depth_left }

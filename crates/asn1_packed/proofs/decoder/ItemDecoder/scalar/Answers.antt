@@ -26,7 +26,7 @@ returns-in-Ok-clause-read g c = λ content same k.
     record {
       answer = c.in-Ok.ensures.read x of_type (subst (IsContent (g.V.FromContent.content x)) (sym taken.inside_is) ((same x).bytes next.has.inside next.has.is));
       at = next.after c.take.new.self c.in_ok-item.ensures.opens_nothing.keeps_depth.no_failure taken.left c.in_ok-item.ensures.outside;
-      within_depth = omega arith;
+      within_depth_left = omega arith;
     })
 
 pub returns-in-Err-clause-read : goal.returns-in-Err-clause-read

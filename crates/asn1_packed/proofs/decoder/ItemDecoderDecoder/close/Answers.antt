@@ -21,4 +21,4 @@ pub returns-clause-read : goal.returns-clause-read
 returns-clause-read g c =
     let marks = g.P.Presence.mark_bytes in
     reads_end (in_one_order marks) c.args.self.now _ (Ok (tt {0}))
-    (λ h rest outer at. record { answer = tt; at = closed marks c.args.self.now _ (c.leave.ensures.left c.if-not-leave.false) c.if-self.false h rest outer at; within_depth = omega arith })
+    (λ h rest outer at. record { answer = tt; at = closed marks c.args.self.now _ (c.leave.ensures.left c.if-not-leave.false) c.if-self.false h rest outer at; within_depth_left = omega arith })

@@ -29,7 +29,7 @@ returns-in-Ok-clause-read g c =
     record {
       answer = c.new.ensures ∙ c.in-Ok.ensures.items ∙ whole;
       at = next.after c.take.new.self c.in_ok-item.ensures.opens_nothing.keeps_depth.no_failure taken.left c.in_ok-item.ensures.outside;
-      within_depth = omega arith;
+      within_depth_left = omega arith;
     })
 
 pub returns-in-Err-clause-read : goal.returns-in-Err-clause-read

@@ -12,7 +12,7 @@ returns-in_err-number-clause-read g c = λ z n rest outer fits at.
 pub returns-in-Some-clause-read : goal.returns-in-Some-clause-read
 returns-in-Some-clause-read g c = λ z n rest outer fits at.
     let m = c.in_ok-number.ensures.read number (λ x. record { kind = refl; bytes = λ own p. p }) (constraint_set c.args._constraints.now) z n rest outer tt at in
-    record { answer = c.in-Some.ensures.same_number ∙ m.answer; at = m.at; within_depth = m.within_depth }
+    record { answer = c.in-Some.ensures.same_number ∙ m.answer; at = m.at; within_depth_left = m.within_depth_left }
 
 pub returns-in-None-clause-read : goal.returns-in-None-clause-read
 returns-in-None-clause-read g c = λ z n rest outer fits at.

@@ -11,4 +11,4 @@ returns-in_err-string-clause-read g c = λ list n rest outer of_kind at.
 pub returns-clause-read : goal.returns-clause-read
 returns-clause-read g c = λ list n rest outer of_kind at.
     let m = c.in_ok-string.ensures.read g.K.StringType.content (λ x. record { kind = refl; bytes = λ own p. p }) (constraint_set c.args._constraints.now) list n rest outer of_kind at in
-    record { answer = m.answer; at = m.at; within_depth = m.within_depth }
+    record { answer = m.answer; at = m.at; within_depth_left = m.within_depth_left }

@@ -39,5 +39,5 @@ returns-clause-read g c = λ v rest outer can of_type valid ends at.
     record {
       answer = and_from _ _ r.answer s.answer;
       at = s.at;
-      within_depth = omega (arith, r.within_depth, s.within_depth, highest_of_two rs ss, c.in_ok-type_id.ensures.after_reading.same_depth);
+      within_depth_left = omega (arith, r.within_depth_left, s.within_depth_left, highest_of_two rs ss, c.in_ok-type_id.ensures.after_reading.same_depth);
     }
