@@ -1,12 +1,12 @@
 //! Types that are read.
 ghost use Rattle.asn1_choices.specs.Alternatives.{Each, all_of};
 ghost use Rattle.asn1_choices.specs.ChosenTags.{LacksTag};
-ghost use Rattle.asn1_codec.specs.DecodeErrors.{no_valid_choice, reason};
+ghost use Rattle.asn1_codec.specs.DecodeErrors.{no_memory, no_valid_choice, reason};
 ghost use Rattle.asn1_codec.specs.Reading.{AfterReading, AfterReadingWithOwnConstraints, ReadsValue, Refuses};
 ghost use Rattle.asn1_codec.specs.ReadingTypes.{ReadsChosen, ReadsFields};
 ghost use Rattle.asn1_codec.specs.Refusals.{Refusals, no_refusals};
 ghost use Rattle.asn1_model.specs.ConstraintSets.{constraint_set};
-ghost use Rattle.std.specs.Prelude.{◌≡◌, OnOk, [], unwrap_or};
+ghost use Rattle.std.specs.Prelude.{◌≡◌, ◌≢◌, OnOk, [], unwrap_or};
 ghost use Rattle.std.specs.Result.{IsErrAnd};
 
 use crate::decoder::Decoder;
@@ -110,13 +110,14 @@ pub trait DecodeFields: FieldTable + Eq + Sized + Drop {
 /// A CHOICE whose alternatives are read.
 pub trait DecodeChoice: AsnType + Choice + Eq + Sized + Drop {
     /// Reads the alternative that can begin with the tag. Where there is none, the error is [`DecodeError::NoValidChoice`], with
-    /// the name of the type. After an error nothing is known of the decoder, until the caller makes it failed
-    /// ([`Decoder::refuse`]).
+    /// the name of the type, unless memory runs out, as where the alternative is looked for in a table that is made for it.
+    /// After an error nothing is known of the decoder, until the caller makes it failed ([`Decoder::refuse`]).
     fn from_tag<D: Decoder>(decoder: &mut D, tag: Tag) -> Result<Self, DecodeError>
         ensures read { ReadsChosen D.reader tag Self.alternatives Self.pick Self.eq
             decoder.old decoder.new result }
         ensures unknown { Each (LacksTag tag) (all_of Self.alternatives) →
-            IsErrAnd result (λ e. reason e ≡ no_valid_choice (unwrap_or Self.meaning.name [])) }
+            IsErrAnd result (λ e. reason e ≢ no_memory →
+            reason e ≡ no_valid_choice (unwrap_or Self.meaning.name [])) }
         ensures same_depth { OnOk result (D.reader.depth_left decoder.new ≡
             D.reader.depth_left decoder.old) };
 }

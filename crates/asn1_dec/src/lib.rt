@@ -37,7 +37,8 @@
 //!   (`HasReadPast`), or it is as it was, where there was no memory for the permitted alphabet of the type's own constraints
 //!   (`HadNoMemory`). The call around the value makes the decoder failed (`refuse`). Where each value of a type is a record, a
 //!   failed decoder answers `Failed`.
-//! - A tag that no alternative of a CHOICE has is refused with the name of the type (`unknown` of [`DecodeChoice`]).
+//! - A tag that no alternative of a CHOICE has is refused with the name of the type, unless memory runs out (`unknown` of
+//!   [`DecodeChoice`]).
 //! - Whether a component is there, a codec knows by a presence mark or by the next tag. So a component that is absent is read only
 //!   where what follows begins with none of its tags (`TellsPresence`, `ReadsOptional`, `ReadsDefault`), which distinct tags
 //!   give: `EachApart` of `asn1_components`. Where each value of a type is a single record, anything may follow (`MayFollow`).
