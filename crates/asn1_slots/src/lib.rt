@@ -36,8 +36,11 @@
 
 mod by_place;
 mod calls;
+mod cases;
+mod choice_by_place;
 mod constrained;
 mod errors;
+mod places;
 mod set_by_place;
 mod slotted;
 mod tagged;
@@ -45,6 +48,8 @@ mod tagging;
 
 pub use by_place::DecodeByPlace;
 pub use calls::{addition, group, once, optional, required};
+pub use cases::{HasCases, alternative, alternative_with_constraints};
+pub use choice_by_place::DecodeChoiceByPlace;
 pub use constrained::{
     addition_with_constraints, optional_with_constraints, required_with_constraints,
 };
