@@ -1,7 +1,6 @@
 -- How a CHOICE is read by the place of its alternative.
 use Rattle.std.proofs.Common.{◌≡◌, ℕ, zero, suc, Bool, true, List, [], ◌∷◌, ◌++◌, Contains, Result, Ok, Err, inl, inr, sym, ◌∙◌, subst}
 use Rattle.std.specs.Prelude.{⊤}
-use Rattle.std.proofs.lemmas.List.Elements.{Contains-append_left, Contains-append_right}
 use Rattle.asn1_choices.specs.Alternatives.{Alternative, CanBeChosen, Each, HaveDistinctTags, OneOf, chosen, chosen_meaning, trees_of}
 use Rattle.asn1_choices.specs.ChosenTags.{LacksTag}
 use Rattle.asn1_codec.specs.Reading.{Outside, Reader, ReadsBack}
@@ -12,15 +11,9 @@ use Rattle.asn1_model.specs.Tags.{Has, tree_tags}
 use Rattle.asn1_tags.proofs.Distinct.{apart-from_distinct, distinct-after}
 use Rattle.asn1_tags.specs.Trees.{leaves, leaves_of}
 use Rattle.asn1_tags.specs.declared.tags.Tag.{Tag}
+use Rattle.asn1_slots.proofs.TreesWithTags.{is_leaf}
 use Rattle.asn1_slots.specs.Cases.{Case, FailsAt, HasReadAt, IsMade, IsSameChoice, ReadsCaseAt, alternatives_of}
 use Rattle.asn1_slots.specs.TagPlaces.{BeginsAt}
-
--- a leaf at a place is one of all
-is_leaf : (alts : List Alternative) (place : ℕ) (t : Tag) → BeginsAt (trees_of alts) place t → Contains (leaves_of (trees_of alts)) t
-is_leaf [] place t at = absurd at
-is_leaf (a ∷ alts) zero t at = Contains-append_left (leaves a.type.tree) (leaves_of (trees_of alts)) t at
-is_leaf (a ∷ alts) (suc place) t at =
-    Contains-append_right (leaves a.type.tree) (leaves_of (trees_of alts)) t (is_leaf alts place t at)
 
 -- the place of the chosen alternative
 abbrev pub place_of : (alts : List Alternative) → OneOf alts → ℕ
@@ -49,9 +42,9 @@ pub only_place : (alts : List Alternative) (x : OneOf alts) (place : ℕ) (t : T
 only_place [] x place t distinct can has at = absurd x
 only_place (a ∷ alts) (inl w) zero t distinct can has at = tt
 only_place (a ∷ alts) (inl w) (suc place) t distinct can has at =
-    apart-from_distinct (leaves a.type.tree) (leaves_of (trees_of alts)) distinct t (leaf_has a.type.tree t can.0.1 has) (is_leaf alts place t at)
+    apart-from_distinct (leaves a.type.tree) (leaves_of (trees_of alts)) distinct t (leaf_has a.type.tree t can.0.1 has) (is_leaf (trees_of alts) place t at)
 only_place (a ∷ alts) (inr x) zero t distinct can has at =
-    apart-from_distinct (leaves a.type.tree) (leaves_of (trees_of alts)) distinct t at (is_leaf alts (place_of alts x) t (its_place alts x t can.1 has))
+    apart-from_distinct (leaves a.type.tree) (leaves_of (trees_of alts)) distinct t at (is_leaf (trees_of alts) (place_of alts x) t (its_place alts x t can.1 has))
 only_place (a ∷ alts) (inr x) (suc place) t distinct can has at =
     only_place alts x place t (distinct-after (leaves a.type.tree) (leaves_of (trees_of alts)) distinct) can.1 has at
 

@@ -10,7 +10,7 @@ ghost use Rattle.std.specs.Prelude.{◌≡◌, ◌≢◌, [], OnOk, unwrap_or};
 ghost use Rattle.std.specs.Result.{IsErrAnd};
 
 use crate::cases::HasCases;
-use crate::places::{place_in_table, place_of_tag, trees_of_alternatives};
+use crate::places::{place_in_table, place_of_tag};
 use asn1_choices::ChoiceType;
 use asn1_codec::DecodeError;
 use asn1_dec::Decoder;
@@ -44,8 +44,7 @@ pub trait DecodeChoiceByPlace: ChoiceType + HasCases + Eq + Sized + Drop {
         ensures same_depth { OnOk result (D.reader.depth_left decoder.new ≡
             D.reader.depth_left decoder.old) }
     {
-        let place = place_of_tag(trees_of_alternatives::<Self>(), tag);
-        read_at(decoder, place)
+        read_at(decoder, place_of_tag::<Self>(tag))
     }
 
     /// The same, where the alternative is looked for in a table of all leaves of the alternatives, as
@@ -64,8 +63,7 @@ pub trait DecodeChoiceByPlace: ChoiceType + HasCases + Eq + Sized + Drop {
         ensures same_depth { OnOk result (D.reader.depth_left decoder.new ≡
             D.reader.depth_left decoder.old) }
     {
-        let trees = trees_of_alternatives::<Self>();
-        match place_in_table(decoder.global(), trees, table, tag) {
+        match place_in_table::<Self>(decoder.global(), table, tag) {
             Ok(place) => read_at(decoder, place),
             Err(_) => Err(DecodeError::Memory),
         }

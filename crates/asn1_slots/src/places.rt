@@ -6,23 +6,13 @@ ghost use Rattle.asn1_tags.specs.declared.tags.Tag.{Tag};
 ghost use Rattle.std.specs.Prelude.{◌≡◌, IfOk, MatchOption, Some, slice_get};
 
 use asn1_choices::ChoiceType;
+use asn1_model::TreeForm;
 use asn1_tags::{Tag, TagTree, Variants, VariantsError};
 use std::alloc::{AllocError, Global};
 use std::slice;
 
-/// The trees of the alternatives of a CHOICE, those of the root first.
-#[tactic(auto, using(asn1_tags::proofs::Leaves::tree_shapes))]
-pub(crate) fn trees_of_alternatives<T: ChoiceType>() -> &'static [TagTree<'static>]
-    ensures { shapes result.now ≡ trees_of (all_of T.alternatives) }
-{
-    match T::tag_tree() {
-        TagTree::Choice(trees) => trees,
-        TagTree::Leaf(_) => &[],
-    }
-}
-
 /// The place of the first tree that has the tag as a leaf.
-pub(crate) fn place_of_tag(trees: &[TagTree<'static>], tag: Tag) -> Option<usize>
+fn first_with_leaf(trees: &[TagTree<'static>], tag: Tag) -> Option<usize>
     ensures { IsPlaceOf tag (shapes trees.now) result }
 {
     for place in 0..trees.len() {
@@ -41,8 +31,13 @@ fn place_of_leaf(trees: &[TagTree<'static>], position: usize) -> Option<usize>
     let mut left = position;
     for place in 0..trees.len() {
         match TagTree::leaf_count(slice::from_ref(&trees[place])) {
-            Some(count) if count <= left => left -= count,
-            _ => return Some(place),
+            Some(count) => {
+                if left < count {
+                    return Some(place);
+                }
+                left -= count;
+            }
+            None => return Some(place),
         }
     }
     None
@@ -64,7 +59,7 @@ fn variants_with(
 }
 
 /// The place of a tree that has the tag as a leaf, which is looked for in a table of the leaves.
-pub(crate) fn place_in_table(
+fn find_in_table(
     alloc: Global,
     trees: &[TagTree<'static>],
     table: &[(Tag, usize)],
@@ -76,5 +71,31 @@ pub(crate) fn place_in_table(
     match variants.position_of(&tag) {
         Some(position) => Ok(place_of_leaf(trees, position)),
         None => Ok(None),
+    }
+}
+
+/// The place of the alternative that can begin with the tag, in the order of the definition.
+pub(crate) fn place_of_tag<T: ChoiceType>(tag: Tag) -> Option<usize>
+    ensures { IsPlaceOf tag (trees_of (all_of T.alternatives)) result }
+{
+    match T::table().tree {
+        TreeForm::Choice(trees) => first_with_leaf(trees, tag),
+        TreeForm::Leaf => None,
+        TreeForm::Open => None,
+    }
+}
+
+/// The same, where the tag is looked for in a table of the leaves of all alternatives.
+pub(crate) fn place_in_table<T: ChoiceType>(
+    alloc: Global,
+    table: &[(Tag, usize)],
+    tag: Tag,
+) -> Result<Option<usize>, AllocError>
+    ensures { IfOk result (λ place. IsPlaceOf tag (trees_of (all_of T.alternatives)) place) }
+{
+    match T::table().tree {
+        TreeForm::Choice(trees) => find_in_table(alloc, trees, table, tag),
+        TreeForm::Leaf => Ok(None),
+        TreeForm::Open => Ok(None),
     }
 }
