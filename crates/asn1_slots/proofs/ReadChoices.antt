@@ -1,5 +1,5 @@
 -- How a CHOICE is read by the place of its alternative.
-use Rattle.std.proofs.Common.{◌≡◌, ℕ, zero, suc, Bool, true, List, [], ◌∷◌, ◌++◌, Contains, Result, Ok, Err, inl, inr, sym, ◌∙◌, subst}
+use Rattle.std.proofs.Common.{◌≡◌, ℕ, zero, suc, Bool, true, List, [], ◌∷◌, Result, Ok, Err, inl, inr, sym, ◌∙◌, subst}
 use Rattle.std.specs.Prelude.{⊤}
 use Rattle.asn1_choices.specs.Alternatives.{Alternative, CanBeChosen, Each, HaveDistinctTags, OneOf, chosen, chosen_meaning, trees_of}
 use Rattle.asn1_choices.specs.ChosenTags.{LacksTag}
@@ -74,7 +74,7 @@ module _ {D V : Type 0} (R : Reader D) (eq : V → V → Bool) (old new : D) (v 
       record {
         answer = subst (λ x. eq x v ≡ true) made_u.0 (made.1 d ∙ r.answer);
         at = r.at;
-        within_depth = r.within_depth;
+        within_depth_left = r.within_depth_left;
       })
   has_read u (a ∷ alts) (inr x) (h ∷ hs) (inr y) (inr z) (suc place) same made made_u at can of_type valid read =
       has_read u alts x hs y z place same made made_u at can.1 of_type valid read

@@ -1,5 +1,4 @@
 use Rattle.std.proofs.Common.{IfOk, subst}
-use Rattle.asn1_choices.specs.Alternatives.{all_of}
 use Rattle.asn1_slots.proofs.TreesWithTags.{no_leaf_alone, no_trees, trees_are}
 use Rattle.asn1_slots.specs.TagPlaces.{IsPlaceOf}
 use Rattle.asn1_slots.proofs.places.place_in_table.Goals as goal
