@@ -17,7 +17,7 @@ use Rattle.asn1_model.specs.Composites.{group_records}
 use Rattle.asn1_model.specs.Orders.{Same, SameRecords, at_end, in_place, next}
 use Rattle.asn1_model.specs.Records.{Content, Head, Record, bits, height, holding, units}
 use Rattle.asn1_model.specs.Tables.{Line, Table}
-use Rattle.asn1_schema.specs.Rules.{IsNotWritten}
+use Rattle.asn1_rules.specs.Rules.{IsNotWritten}
 use Rattle.asn1_types.specs.AnyStrings.{content_of_str}
 use Rattle.asn1_types.specs.declared.any_string.AnyStr.{AnyStr}
 use Rattle.asn1_types.specs.declared.any_string.AnyStr.TheVariants.{Bits, Octets, Bmp, Teletex}

@@ -6,7 +6,7 @@ use Rattle.asn1_buffers.specs.Encoder.{CarriesIn, buffer_writer, in_one_order}
 use Rattle.asn1_codec.proofs.WritingUpToOrder.{lawful}
 use Rattle.asn1_codec.specs.WritingUpToOrder.{RejectsByParts}
 use Rattle.asn1_model.proofs.SameUpToOrder.{SameAll-trans}
-use Rattle.asn1_schema.specs.Rules.{Format, IsLawful}
+use Rattle.asn1_rules.specs.Rules.{Format, IsLawful}
 
 module _ {B : Type 0} (F : BufferForm B) where
   -- The format of a codec that writes in this form, and takes these byte strings as one value each of an open type.

@@ -1,7 +1,7 @@
 //! A value and all of its bytes.
 ghost use Rattle.asn1_buffers.specs.Format.{buffer_format};
 ghost use Rattle.asn1_model.specs.Meaning.{own_records};
-ghost use Rattle.asn1_schema.specs.Rules.{WritesWhole};
+ghost use Rattle.asn1_rules.specs.Rules.{WritesWhole};
 ghost use Rattle.std.specs.Prelude.{Bool, List, ℕ};
 
 use crate::buffer::RecordBuffer;
