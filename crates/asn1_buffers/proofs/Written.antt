@@ -1,5 +1,5 @@
 -- An encoder over a buffer keeps the laws of a codec, by what its buffer has written.
-use Rattle.std.proofs.Common.{◌≡◌, ◌≢◌, ℕ, suc, false, true, List, [], ◌∷◌, refl, sym, ap, subst, ◌∙◌, arith, Result, Ok, Err}
+use Rattle.std.proofs.Common.{◌≡◌, ◌≢◌, ℕ, suc, Bool, false, true, List, [], ◌∷◌, refl, sym, ap, subst, ◌∙◌, arith, Result, Ok, Err}
 use Rattle.std.proofs.lemmas.Bool.{false≢true}
 use Rattle.std.specs.Prelude.{⊤, Some}
 use Rattle.asn1_buffers.specs.Buffers.{BufferForm, ScopeIsHeld}
