@@ -26,16 +26,24 @@
 #![tactic(auto)]
 
 mod arcs_read;
+mod arcs_written;
 mod base128;
+mod contents;
 mod elements;
+mod error;
 mod identifiers;
 mod integers;
 pub mod laws;
 mod lengths;
+mod teletex;
 
 pub use arcs_read::read_arcs;
-pub use elements::{Element, find_element, wrap};
+pub use arcs_written::append_arcs;
+pub use contents::append_contents;
+pub use elements::{Element, append_primitive, find_element, wrap};
+pub use error::ElementError;
 pub use integers::{append_integer, read_integer};
+pub use teletex::append_teletex;
 
 #[cfg(test)]
 mod tests;

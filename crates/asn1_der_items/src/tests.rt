@@ -1,5 +1,5 @@
-use crate::{append_integer, find_element, read_integer, wrap};
-use asn1_items::ItemError;
+use crate::{append_contents, append_integer, find_element, read_integer, wrap};
+use asn1_items::{Content, ItemError};
 use asn1_tags::Tag;
 use asn1_values::Integer;
 use std::alloc::Global;
@@ -188,4 +188,21 @@ fn integers_with_an_octet_too_many_are_refused(rt: HostRuntime) {
     assert_no_integer(&rt, alloc, &[0, 0x7f]);
     assert_no_integer(&rt, alloc, &[0xff, 0x80]);
     assert_no_integer(&rt, alloc, &[0, 0]);
+}
+
+/// Asserts that these are the contents octets of a content.
+fn assert_contents(rt: &impl Abort, alloc: Global, content: Content<'_>, octets: &[u8]) {
+    let mut written = Vec::new(alloc);
+    append_contents(&mut written, alloc, content).expect(rt, "a content with octets");
+    assert!(rt; written.as_slice() == octets);
+}
+
+// X.690: 8.2.2 and 11.1, 8.5.1 with the fewest octets, and 8.8.3.
+#[test]
+fn contents_are_those_of_x690(rt: HostRuntime) {
+    let alloc = rt.alloc();
+    assert_contents(&rt, alloc, Content::Null, &[]);
+    assert_contents(&rt, alloc, Content::Boolean(true), &[0xff]);
+    assert_contents(&rt, alloc, Content::Boolean(false), &[0]);
+    assert_contents(&rt, alloc, Content::Discriminant(-129), &[0xff, 0x7f]);
 }
