@@ -3,7 +3,7 @@ use Rattle.std.proofs.Common.{◌≡◌, ◌≢◌, ℕ, suc, Bool, false, true,
 use Rattle.std.proofs.lemmas.Bool.{false≢true}
 use Rattle.std.specs.Prelude.{⊤, Some}
 use Rattle.asn1_buffers.specs.Buffers.{BufferForm, ScopeIsHeld}
-use Rattle.asn1_buffers.specs.Encoder.{CarriesIn, buffer_writer, in_one_order, scopes_in}
+use Rattle.asn1_buffers.specs.Encoder.{CarriesUpToOrder, buffer_writer, in_one_order, scopes_in}
 use Rattle.asn1_buffers.specs.Format.{buffer_format}
 use Rattle.asn1_buffers.specs.Kinds.{unlabelled}
 use Rattle.asn1_buffers.specs.declared.encoder.BufferEncoder.{BufferEncoder}
@@ -151,7 +151,7 @@ module _ {B : Type 0} (F : BufferForm B) where
   known old rs T new (Err e) wrote fact = wrote
 
   -- what has been written at the end
-  pub finished : (e : BufferEncoder B) (bytes : List ℕ) → ((rs : List Record) → F.wrote e.buffer (outermost rs) → F.have_bytes rs bytes) → (rs : List Record) → WroteUpToOrder (in_one_order F) e (outermost rs) → CarriesIn F bytes rs
+  pub finished : (e : BufferEncoder B) (bytes : List ℕ) → ((rs : List Record) → F.wrote e.buffer (outermost rs) → F.have_bytes rs bytes) → (rs : List Record) → WroteUpToOrder (in_one_order F) e (outermost rs) → CarriesUpToOrder F.have_bytes bytes rs
   finished e bytes have rs w =
       let t = same_as_outermost w.same in
       record { exactly = t.records; have_bytes = have t.records (subst (λ v. (in_one_order F).wrote e v) t.is w.wrote).0; same = t.same }

@@ -13,6 +13,12 @@ scopes_in (outermost rs) = 0
 scopes_in (in_scope h rs w) = suc (scopes_in w)
 scopes_in (in_group table rs w) = scopes_in w
 
+-- The bytes are those of these records by a relation, up to the order inside sets.
+pub record CarriesUpToOrder (HaveBytes : List Record → List ℕ → Type 0) (bytes : List ℕ) (rs : List Record) : Type 0 where
+  pub exactly : List Record
+  pub have_bytes : HaveBytes exactly bytes
+  pub same : SameRecords exactly rs
+
 module _ {B : Type 0} (F : BufferForm B) where
   -- The encoder in the order in which it writes: its buffer has written the records, and it has counted the scopes.
   abbrev pub in_one_order : Writer (BufferEncoder B)
@@ -26,9 +32,3 @@ module _ {B : Type 0} (F : BufferForm B) where
   -- the encoder as types see it: the order inside sets means nothing
   abbrev pub buffer_writer : Writer (BufferEncoder B)
   buffer_writer = up_to_order in_one_order
-
-  -- The bytes are those of these records, up to the order inside sets.
-  pub record CarriesIn (bytes : List ℕ) (rs : List Record) : Type 0 where
-    pub exactly : List Record
-    pub have_bytes : F.have_bytes exactly bytes
-    pub same : SameRecords exactly rs

@@ -2,7 +2,7 @@
 use Rattle.std.specs.Prelude.{ℕ, Bool, List, Vec}
 use Rattle.std.specs.declared.alloc.Global.{Global}
 use Rattle.asn1_buffers.specs.Buffers.{BufferForm}
-use Rattle.asn1_buffers.specs.Encoder.{CarriesIn, buffer_writer, in_one_order}
+use Rattle.asn1_buffers.specs.Encoder.{CarriesUpToOrder, buffer_writer, in_one_order}
 use Rattle.asn1_codec.proofs.WritingUpToOrder.{lawful}
 use Rattle.asn1_codec.specs.WritingUpToOrder.{RejectsByParts}
 use Rattle.asn1_model.proofs.SameUpToOrder.{SameAll-trans}
@@ -12,7 +12,7 @@ module _ {B : Type 0} (F : BufferForm B) where
   -- The format of a codec that writes in this form, and takes these byte strings as one value each of an open type.
   abbrev pub buffer_format : (List ℕ → Bool) → Format (Vec ℕ Global)
   buffer_format accepts = record {
-    carries = λ output rs. CarriesIn F output.items rs;
+    carries = λ output rs. CarriesUpToOrder F.have_bytes output.items rs;
     rejects = λ rs. (buffer_writer F).rejects rs;
     accepts = accepts;
   }

@@ -29,7 +29,7 @@ pub struct BufferEncoder<B> {
 }
 
 impl<B: RecordBuffer> BufferEncoder<B> {
-    ghost use Rattle.asn1_buffers.specs.Encoder.{CarriesIn, buffer_writer};
+    ghost use Rattle.asn1_buffers.specs.Encoder.{CarriesUpToOrder, buffer_writer};
     ghost use Rattle.asn1_buffers.specs.Kinds.{kind_of_mark, kind_of_scope, unlabelled};
     ghost use Rattle.asn1_buffers.specs.declared.error.WriteError.TheVariants as write_error;
     ghost use Rattle.asn1_codec.specs.Writing.{ClosesScope, ClosesGroup, IsCustom, OpensScope, OpensGroup, IsOutOfMemory, Writes, outermost};
@@ -60,7 +60,7 @@ impl<B: RecordBuffer> BufferEncoder<B> {
     /// The bytes that have been written, where no scope and no group is open and no call has failed.
     pub fn finish(self) -> Vec<u8>
         ensures { (rs : List model.Record) → (buffer_writer B.form).wrote self (outermost rs) →
-            CarriesIn B.form result.items rs }
+            CarriesUpToOrder B.form.have_bytes result.items rs }
     {
         self.buffer.finish()
     }

@@ -1,13 +1,16 @@
--- What an encoder over items has written, and what it rejects.
+-- What a buffer of items has written, and what it does not take.
 use Rattle.std.specs.Prelude.{◌≡◌, Bool, true, false, ◌&&◌, List, [], ◌∷◌, ◌++◌, refl}
 use Rattle.std.proofs.Common.{inl, inr}
-use Rattle.asn1_codec.specs.WritingUpToOrder.{RejectsByParts, up_to_order}
+use Rattle.asn1_buffers.specs.Buffers.{BufferForm}
+use Rattle.asn1_buffers.specs.Encoder.{buffer_writer, in_one_order}
+use Rattle.asn1_buffers.specs.declared.encoder.BufferEncoder.{BufferEncoder}
+use Rattle.asn1_codec.specs.WritingUpToOrder.{RejectsByParts}
 use Rattle.asn1_codec.specs.Writing.{Writer}
 use Rattle.asn1_items.specs.Buffers.{HasWritten}
-use Rattle.asn1_items.specs.Items.{IsTooLong, MarkBytes, SomeTooLong, written_with}
+use Rattle.asn1_items.specs.Items.{HaveBytes, IsTooLong, MarkBytes, SomeTooLong, written_with}
 use Rattle.asn1_model.specs.Records as model
 use Rattle.asn1_model.specs.Records.{held, is_presence_mark, presence_marks_alone}
-use Rattle.asn1_packed.specs.declared.encoder.ItemEncoder.{ItemEncoder}
+use Rattle.asn1_packed.specs.declared.item_buffer.ItemBuffer.{ItemBuffer}
 
 both_true : (a b : Bool) → (a && b) ≡ true → (a ≡ true) × (b ≡ true)
 both_true true b e = (refl, e)
@@ -36,20 +39,19 @@ module _ (marks : MarkBytes) where
   marks_not_long (r ∷ rs) e (inr l) = marks_not_long rs ((both_true (is_presence_mark r) (presence_marks_alone rs) e).1) l
 
 module _ {P : Type 0} (marks : MarkBytes) where
-  -- The encoder in the order in which it writes. It rejects records that are too long, at whatever depth.
-  abbrev pub in_one_order : Writer (ItemEncoder P)
-  in_one_order = record {
-    wrote = λ e w. HasWritten marks w e.buffer;
-    failed = λ e. e.failed;
-    depth_left = λ e. e.depth_left;
+  -- The buffer in the order in which it is written. It does not take records that are too long, at whatever depth.
+  abbrev pub written_items : BufferForm (ItemBuffer P)
+  written_items = record {
+    wrote = λ b w. HasWritten marks w b.items;
     rejects = λ rs. SomeTooLong (written_with marks) (held rs);
+    have_bytes = λ rs bytes. HaveBytes (written_with marks) (held rs) bytes;
   }
 
   -- the encoder as types see it: the order inside sets means nothing
-  abbrev pub item_writer : Writer (ItemEncoder P)
-  item_writer = up_to_order in_one_order
+  abbrev pub item_writer : Writer (BufferEncoder (ItemBuffer P))
+  item_writer = buffer_writer written_items
 
-  pub rejects_by_parts : RejectsByParts in_one_order
+  pub rejects_by_parts : RejectsByParts (in_one_order written_items)
   rejects_by_parts = record {
     part = λ before rs after t. too_long_after marks before (rs ++ after) (too_long_before marks rs after t);
     inner = λ h rs t. inl (inl t);
