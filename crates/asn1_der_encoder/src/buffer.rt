@@ -22,6 +22,13 @@ pub struct DerBuffer {
 }
 
 impl RecordBuffer for DerBuffer {
+    ghost use Rattle.asn1_bounds.specs.declared.codec.Codec.TheVariants.{Der};
+    ghost use Rattle.asn1_der_encoder.specs.Written.{rejects_by_parts, written_der};
+
+    ghost form = { written_der };
+
+    ghost own_codec = { Der };
+
     fn codec() -> Codec {
         Codec::Der
     }
@@ -85,6 +92,8 @@ impl RecordBuffer for DerBuffer {
     fn end_group(&mut self) -> Result<(), WriteError> {
         Ok(())
     }
+
+    ghost by_parts = { rejects_by_parts };
 }
 
 impl DerBuffer {

@@ -17,5 +17,5 @@ use asn1_buffers::BufferEncoder;
 /// An encoder that writes DER.
 pub type DerEncoder = BufferEncoder<DerBuffer>;
 
-#[cfg(test)]
-mod tests;
+
+

@@ -50,7 +50,7 @@ pub(crate) fn sort_elements(
 /// The elements of which these bytes consist, in their order.
 fn sorted_elements(alloc: Global, inside: &[u8], order: Order) -> Result<Vec<u8>, WriteError> {
     let mut pieces = split(alloc, inside, order)?;
-    pieces.sort(alloc)?;
+    pieces.sort()?;
     Ok(joined(alloc, &pieces)?)
 }
 
@@ -62,7 +62,9 @@ fn split(alloc: Global, inside: &[u8], order: Order) -> Result<Vec<Piece<'_>>, W
         let Some(cut) = first_of(left, order) else {
             return Err(WriteError::Rejected("not an element"));
         };
-        pieces.push(cut.piece)?;
+        if let Err(_) = pieces.push(cut.piece) {
+            return Err(WriteError::Memory);
+        }
         left = cut.rest;
     }
     Ok(pieces)

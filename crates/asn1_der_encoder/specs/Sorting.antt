@@ -1,0 +1,24 @@
+-- Elements in the orders that DER has inside sets.
+use Rattle.std.specs.Prelude.{◌≡◌, ℕ, IsPermutation, IsTrue, List, All}
+use Rattle.std.specs.List.{flat_map}
+use Rattle.asn1_der_encoder.specs.declared.sorting.Order.{Order}
+use Rattle.asn1_der_encoder.specs.declared.sorting.Order.TheVariants.{Tags, Encodings}
+use Rattle.asn1_der_items.specs.Series.{RiseByEncoding, RiseByTag, is_one_element, tag_of}
+use Rattle.asn1_tags.specs.declared.tags.Tag.{Tag}
+
+-- The bytes consist of these elements, one after another.
+pub record AreJoined (elements : List (List ℕ)) (bytes : List ℕ) : Type 0 where
+  pub each : All (λ e. IsTrue (is_one_element e)) elements
+  pub are : bytes ≡ flat_map (λ e. e) elements
+
+-- The elements do not fall, by their tags or as lists of octets.
+abbrev pub IsInOrder : Order → List (List ℕ) → Type 0
+IsInOrder Tags elements = RiseByTag elements
+IsInOrder Encodings elements = RiseByEncoding elements
+
+-- The bytes consist of these elements, which have been sorted.
+pub record AreSorted (order : Order) (elements : List (List ℕ)) (bytes : List ℕ) : Type 0 where
+  pub sorted : List (List ℕ)
+  pub moved : IsPermutation elements sorted
+  pub in_order : IsInOrder order sorted
+  pub are : bytes ≡ flat_map (λ e. e) sorted
