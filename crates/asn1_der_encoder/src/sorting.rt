@@ -1,4 +1,11 @@
 //! Elements in the orders that DER has inside sets.
+ghost use Rattle.asn1_buffers.specs.declared.error.WriteError.TheVariants.{Memory};
+ghost use Rattle.asn1_der_encoder.specs.Sorting.{AreJoined, ArePieces, AreSorted, IsCutAs, key_of};
+ghost use Rattle.asn1_der_items.specs.Series.{is_one_element};
+ghost use Rattle.asn1_items.specs.Numbers.{Appended};
+ghost use Rattle.std.specs.List.{flat_map};
+ghost use Rattle.std.specs.Prelude.{◌≡◌, ◌++◌, ◌<◌, IfOk, IfSome, IsSomeAnd, IsTrue, List, MatchResult, length, ℕ};
+
 use asn1_buffers::WriteError;
 use asn1_der_items::find_element;
 use asn1_tags::Tag;
@@ -37,7 +44,12 @@ pub(crate) fn sort_elements(
     bytes: &mut Vec<u8>,
     start: usize,
     order: Order,
-) -> Result<(), WriteError> {
+) -> Result<(), WriteError>
+    ensures { (before inside : List ℕ) (elements : List (List ℕ)) →
+        bytes.old.items ≡ before ++ inside → start ≡ length before → AreJoined elements inside →
+        MatchResult result (λ _. Appended (AreSorted order elements) before bytes.new.items)
+        (λ e. e ≡ Memory) }
+{
     let Some(inside) = bytes.get(start..) else {
         return Err(WriteError::Rejected("nothing is open"));
     };
@@ -48,14 +60,20 @@ pub(crate) fn sort_elements(
 }
 
 /// The elements of which these bytes consist, in their order.
-fn sorted_elements(alloc: Global, inside: &[u8], order: Order) -> Result<Vec<u8>, WriteError> {
+fn sorted_elements(alloc: Global, inside: &[u8], order: Order) -> Result<Vec<u8>, WriteError>
+    ensures { (elements : List (List ℕ)) → AreJoined elements inside.now →
+        MatchResult result (λ sorted. AreSorted order elements sorted.items) (λ e. e ≡ Memory) }
+{
     let mut pieces = split(alloc, inside, order)?;
     pieces.sort()?;
     Ok(joined(alloc, &pieces)?)
 }
 
 /// The elements of which these bytes consist, one after another.
-fn split(alloc: Global, inside: &[u8], order: Order) -> Result<Vec<Piece<'_>>, WriteError> {
+fn split(alloc: Global, inside: &[u8], order: Order) -> Result<Vec<Piece<'_>>, WriteError>
+    ensures { (elements : List (List ℕ)) → AreJoined elements inside.now →
+        MatchResult result (λ pieces. ArePieces order elements pieces.items) (λ e. e ≡ Memory) }
+{
     let mut pieces = Vec::new(alloc);
     let mut left = inside;
     while !left.is_empty() {
@@ -71,7 +89,11 @@ fn split(alloc: Global, inside: &[u8], order: Order) -> Result<Vec<Piece<'_>>, W
 }
 
 /// The element with which the bytes begin.
-fn first_of(bytes: &[u8], order: Order) -> Option<Cut<'_>> {
+fn first_of(bytes: &[u8], order: Order) -> Option<Cut<'_>>
+    ensures found { (own back : List ℕ) → IsTrue (is_one_element own) →
+        bytes.now ≡ own ++ back → IsSomeAnd result (IsCutAs order own back) }
+    ensures shorter { IfSome result (λ cut. length cut.rest.now < length bytes.now) }
+{
     let Ok(element) = find_element(bytes) else {
         return None;
     };
@@ -88,7 +110,9 @@ fn first_of(bytes: &[u8], order: Order) -> Option<Cut<'_>> {
 }
 
 /// The tag by which an element of this tag comes before others: of a SET OF one and the same.
-fn key_of(tag: Tag, order: Order) -> Tag {
+fn key_of(tag: Tag, order: Order) -> Tag
+    ensures { result ≡ key_of order tag }
+{
     match order {
         Order::Tags => tag,
         Order::Encodings => Tag::NULL,
@@ -96,7 +120,9 @@ fn key_of(tag: Tag, order: Order) -> Tag {
 }
 
 /// The bytes of these elements, one after another.
-fn joined(alloc: Global, pieces: &[Piece<'_>]) -> Result<Vec<u8>, AllocError> {
+fn joined(alloc: Global, pieces: &[Piece<'_>]) -> Result<Vec<u8>, AllocError>
+    ensures { IfOk result (λ bytes. bytes.items ≡ flat_map (λ p. p.bytes.now) pieces.now) }
+{
     let mut bytes = Vec::new(alloc);
     for piece in pieces {
         bytes.extend_from_slice(piece.bytes)?;
