@@ -12,3 +12,6 @@ mod taken;
 mod whole;
 
 pub use decoder::DerDecoder;
+
+#[cfg(test)]
+mod tests;
