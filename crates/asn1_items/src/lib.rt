@@ -7,6 +7,7 @@
 //! | [`Header`], [`Wanted`], [`find_header`] | what an item begins with, and what it has to be that is read |
 //! | [`Buffer`] | the bytes that are written, with a frame for each scope and group that is open |
 //! | [`Slices`], [`Item`] | the bytes that are read, list by list |
+//! | [`can_begin_with`], [`group_can_begin_with`] | whether something is there, by the tag that is next |
 //! | [`ItemError`], [`BufferError`] | why an item was not read, or not written |
 //! | [`laws`] | what the derives give |
 //!
@@ -44,6 +45,7 @@ mod header;
 pub mod laws;
 mod numbers;
 mod slices;
+mod tags;
 
 pub use bits::read_bits;
 pub use buffer::Buffer;
@@ -53,3 +55,4 @@ pub use from_content::{FromContent, StringOf};
 pub use header::{Header, Wanted, find_header};
 pub use numbers::{read_twos, significant};
 pub use slices::{Item, Slices};
+pub use tags::{can_begin_with, group_can_begin_with};

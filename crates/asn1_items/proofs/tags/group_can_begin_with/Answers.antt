@@ -1,7 +1,7 @@
 use Rattle.std.proofs.Common.{arith, refl, sym}
 use Rattle.asn1_fields.specs.Entries.{entry_of}
-use Rattle.asn1_tagform.proofs.GroupTags.{by_line, by_none}
-use Rattle.asn1_tagform.proofs.tags.group_can_begin_with.Goals as goal
+use Rattle.asn1_items.proofs.GroupTags.{by_line, by_none}
+use Rattle.asn1_items.proofs.tags.group_can_begin_with.Goals as goal
 
 pub returns-then-can_begin_with : goal.returns-then-can_begin_with
 returns-then-can_begin_with g c =

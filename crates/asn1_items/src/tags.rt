@@ -9,14 +9,14 @@ use asn1_components::FieldTable;
 use asn1_tags::{Tag, TagTree};
 
 /// Whether what has this tree can begin with the tag.
-pub(crate) fn can_begin_with(tree: TagTree<'static>, tag: Tag) -> bool
+pub fn can_begin_with(tree: TagTree<'static>, tag: Tag) -> bool
     ensures { IsTrue result ↔ Has (tree_tags (shape tree.entry)) tag }
 {
     tree.has_empty_choice() || TagTree::tag_contains(&tag, &[tree])
 }
 
 /// Whether a group with the components of this table can begin with the tag: one of them can, or there are none.
-pub(crate) fn group_can_begin_with<C: FieldTable>(tag: Tag) -> bool
+pub fn group_can_begin_with<C: FieldTable>(tag: Tag) -> bool
     ensures { IsTrue result ↔
         Has (tree_tags (choice (trees_of (all_components C.components)))) tag }
 {
