@@ -1,5 +1,5 @@
 -- A reader of items is steady, and belongs to the rules by which each value is one item.
-use Rattle.std.proofs.Common.{◌≡◌, ℕ, Bool, List, ◌++◌, subst, sym, arith, length}
+use Rattle.std.proofs.Common.{ℕ, Bool, List, ◌++◌, subst, sym, arith, length}
 use Rattle.std.proofs.Math.Seq.{take-length}
 use Rattle.std.proofs.lemmas.List.{take-append-le}
 use Rattle.asn1_model.specs.Meaning.{Meaning, IsWellTagged, own_records}
@@ -33,7 +33,7 @@ module _ (IsCut : List ℕ → ℕ → Type 0) (Carries : List ℕ → List Reco
       BelongsTo (item_fronts IsCut Carries accepts depth m eq) reader (record { carries = λ output rs. Carries output.items rs; rejects = rejects; accepts = accepts }) m eq
   belongs depth m eq reader rejects can whole = record {
     whole = λ output v of_type valid carried. record {
-      cut = whole output.items (own_records m v) _ (m.one_record v m.tag m.constraints m.name can.0) (m.well_formed accepts v m.tag m.constraints m.name valid) carried;
+      cut = whole output.items (own_records m v) _ (m.one_record v m.tag m.constraints m.name can.0 can.1) (m.well_formed accepts v m.tag m.constraints m.name valid) carried;
       is_well_tagged = can;
       of_type = of_type;
       valid = valid;
