@@ -7,6 +7,7 @@
 #![tactic(auto)]
 
 mod buffer;
+mod elements;
 mod frame;
 mod sorting;
 
