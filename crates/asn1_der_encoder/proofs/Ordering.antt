@@ -23,7 +23,7 @@ sorted_map : {P X : Type 0} (K : P → Type 0) (below : P → P → Bool) (after
     IsSortedBy after (map f ps)
 sorted_map K below after f [] keeps keyed sorted = λ k d low high. absurd (omega (arith, high))
 sorted_map K below after f (p ∷ ps) keeps keyed sorted = λ k d low high.
-    let long : k + 1 < length (p ∷ ps) = omega (arith, high, length-map f (p ∷ ps)) in
+    let long : k + 1 < length (p ∷ ps) = omega (arith, high, length-map (p ∷ ps) f) in
     let short : k < length (p ∷ ps) = omega (arith, long) in
     let kept = keeps _ _ (keyed (k + 1) p long) (keyed k p short) (sorted k p low long) in
     ap (λ x. after x (get_or (map f (p ∷ ps)) k d)) (get_or-map f (p ∷ ps) (k + 1) p d long) ∙ ap (λ x. after (f (get_or (p ∷ ps) (k + 1) p)) x) (get_or-map f (p ∷ ps) k p d short) ∙ kept
