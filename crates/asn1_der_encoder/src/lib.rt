@@ -9,6 +9,7 @@
 mod buffer;
 mod elements;
 mod frame;
+mod holding;
 mod sorting;
 
 pub use buffer::DerBuffer;
