@@ -35,13 +35,13 @@ moved_below f xs ys moved =
     (λ l. IsMovedBelow f xs l)
     (record { order = xs; moved = IsPermutation-refl xs; are = refl })
     (λ l i j in_i in_j so_far.
-      let long = ap length so_far.are in
-      let as_long = length-map so_far.order f in
-      record {
-        order = swap so_far.order i j;
-        moved = IsPermutation-trans xs so_far.order (swap so_far.order i j) so_far.moved (IsPermutation-swap so_far.order (swap so_far.order i j) i j (omega (arith, in_i, long, as_long)) (omega (arith, in_j, long, as_long)) refl);
-        are = map-swap f so_far.order i j ∙ ap (λ m. swap m i j) so_far.are;
-      })
+    let long = ap length so_far.are in
+    let as_long = length-map so_far.order f in
+    record {
+      order = swap so_far.order i j;
+      moved = IsPermutation-trans xs so_far.order (swap so_far.order i j) so_far.moved (IsPermutation-swap so_far.order (swap so_far.order i j) i j (omega (arith, in_i, long, as_long)) (omega (arith, in_j, long, as_long)) refl);
+      are = map-swap f so_far.order i j ∙ ap (λ m. swap m i j) so_far.are;
+    })
     ys
     moved
 

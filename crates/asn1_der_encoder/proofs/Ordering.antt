@@ -1,5 +1,5 @@
 -- Sorted pieces are elements in order.
-use Rattle.std.proofs.Common.{◌≡◌, ℕ, ◌+◌, ◌<◌, Bool, true, false, List, [], ◌∷◌, map, length, get_or, refl, sym, ap, subst, ◌∙◌, arith}
+use Rattle.std.proofs.Common.{rules, ◌≡◌, ℕ, ◌+◌, ◌<◌, Bool, true, false, List, [], ◌∷◌, map, length, get_or, refl, sym, ap, subst, ◌∙◌, arith}
 use Rattle.std.proofs.lemmas.List.{get_or-map, length-map}
 use Rattle.std.proofs.lemmas.List.Sorted.{All-permutation, IsPermutation-map}
 use Rattle.std.specs.Cmp.Lexicographic.{slice_cmp}
@@ -10,9 +10,11 @@ use Rattle.std.specs.declared.cmp.Ordering.{Ordering}
 use Rattle.std.specs.declared.cmp.Ordering.TheVariants.{Less, Equal, Greater}
 use Rattle.std.specs.Prelude.{All, IsPermutation}
 use Rattle.asn1_tags.specs.Tags.{tag_cmp}
+use Rattle.asn1_tags.specs.contracts.tags.TagOrd.TheImpl.{ghosts as tag_ord}
 use Rattle.asn1_tags.specs.declared.tags.Tag.{Tag}
 use Rattle.asn1_der_encoder.proofs.Pieces.{bytes_of_pieces}
 use Rattle.asn1_der_encoder.specs.Sorting.{ArePieces, AreSorted, IsInOrder, key_of}
+use Rattle.asn1_der_encoder.specs.contracts.sorting.PieceOrd.TheImpl.{ghosts as piece_ord}
 use Rattle.asn1_der_encoder.specs.declared.sorting.Order.{Order}
 use Rattle.asn1_der_encoder.specs.declared.sorting.Order.TheVariants.{Tags, Encodings}
 use Rattle.asn1_der_encoder.specs.declared.sorting.Piece.{Piece}
@@ -38,6 +40,12 @@ first_not_below Greater b e = refl
 abbrev pub piece_cmp : Piece → Piece → Ordering
 piece_cmp p q = ordering_then (tag_cmp p.key q.key) (slice_cmp nat_cmp p.bytes.now q.bytes.now)
 
+tag_order : (s t : Tag) → tag_ord.cmp s t ≡ tag_cmp s t
+tag_order s t = search rules
+
+piece_order : (p q : Piece) → piece_ord.cmp p q ≡ piece_cmp p q
+piece_order p q = ap (λ o. ordering_then o (slice_cmp nat_cmp p.bytes.now q.bytes.now)) (tag_order p.key q.key)
+
 in_order : (order : Order) (ps : List Piece) → All (λ p. p.key ≡ key_of order (tag_of p.bytes.now)) ps → IsSortedBy (λ p q. is_lt (piece_cmp p q)) ps → IsInOrder order (map (λ p. p.bytes.now) ps)
 in_order Tags ps keyed sorted =
     sorted_map (λ p. p.key ≡ tag_of p.bytes.now) (λ p q. is_lt (piece_cmp p q)) (λ x y. is_lt (tag_cmp (tag_of x) (tag_of y))) (λ p. p.bytes.now) ps
@@ -52,11 +60,11 @@ in_order Encodings ps keyed sorted =
     sorted
 
 -- what was made of sorted pieces
-pub sorted_pieces : (order : Order) (elements : List (List ℕ)) (old new : List Piece) (bytes : List ℕ) (cmp : Piece → Piece → Ordering) → ((p q : Piece) → cmp p q ≡ piece_cmp p q) → ArePieces order elements old →
-    IsPermutation old new → IsSortedBy (λ p q. is_lt (cmp p q)) new → bytes ≡ flat_map (λ p. p.bytes.now) new → AreSorted order elements bytes
-sorted_pieces order elements old new bytes cmp by pieces moved sorted are = record {
+pub sorted_pieces : (order : Order) (elements : List (List ℕ)) (old new : List Piece) (bytes : List ℕ) → ArePieces order elements old →
+    IsPermutation old new → IsSortedBy (λ p q. is_lt (piece_ord.cmp p q)) new → bytes ≡ flat_map (λ p. p.bytes.now) new → AreSorted order elements bytes
+sorted_pieces order elements old new bytes pieces moved sorted are = record {
   sorted = map (λ p. p.bytes.now) new;
   moved = subst (λ es. IsPermutation es (map (λ p. p.bytes.now) new)) pieces.are (IsPermutation-map (λ (p : Piece). p.bytes.now) old new moved);
-  in_order = in_order order new (All-permutation (λ p. p.key ≡ key_of order (tag_of p.bytes.now)) old new moved pieces.keys) (λ k d low high. ap is_lt (sym (by _ _)) ∙ sorted k d low high);
+  in_order = in_order order new (All-permutation (λ p. p.key ≡ key_of order (tag_of p.bytes.now)) old new moved pieces.keys) (λ k d low high. ap is_lt (sym (piece_order (get_or new (k + 1) d) (get_or new k d))) ∙ sorted k d low high);
   are = are ∙ bytes_of_pieces new;
 }

@@ -86,8 +86,6 @@ fn find_chosen(bytes: &[u8], start: usize, tag: Tag) -> Result<(), WriteError>
     if is_element_of(inside, tag) {
         Ok(())
     } else {
-        Err(WriteError::Rejected(
-            "a choice is not one element of its tag",
-        ))
+        Err(WriteError::Rejected("a choice is not one element of its tag"))
     }
 }
