@@ -7,15 +7,13 @@
 #![tactic(auto)]
 
 mod buffer;
+mod elements;
 mod frame;
+mod holding;
 mod sorting;
 
-pub use buffer::DerBuffer;
-
 use asn1_buffers::BufferEncoder;
+pub use buffer::DerBuffer;
 
 /// An encoder that writes DER.
 pub type DerEncoder = BufferEncoder<DerBuffer>;
-
-
-
