@@ -3,7 +3,8 @@ use Rattle.std.proofs.Common.{◌≡◌, ℕ, zero, suc, ◌+◌, ◌-◌, ◌<�
 use Rattle.std.specs.Prelude.{All, IsTrue, slice_index_or}
 use Rattle.std.specs.List.{flat_map}
 use Rattle.std.specs.List.Sorted.{IsSortedBy}
-use Rattle.std.specs.Ordering.{is_lt}
+use Rattle.std.specs.Ordering.{is_lt, nat_cmp}
+use Rattle.std.proofs.lemmas.Bool.Decides.{nat_tests}
 use Rattle.std.proofs.lemmas.List.Elements.{All-head, All-tail}
 use Rattle.asn1_der.specs.OneElement.{IsAlone}
 use Rattle.asn1_der_decoder.specs.Rising.{AreAfter, HasItsTag, IsInOrder, RiseFrom, falls}
@@ -21,9 +22,11 @@ use Rattle.asn1_tags.specs.declared.classes.Class.TheVariants.{Universal, Applic
 use Rattle.asn1_tags.specs.declared.tags.Tag.{Tag}
 
 -- no tag is below the CHOICE marker tag, and no bytes are below none
+not_lower : (n : ℕ) → is_lt (nat_cmp n 0) ≡ false
+not_lower n = grind (arith, nat_tests)
+
 no_lower_tag : (class : Class) (value : ℕ) → is_lt (tag_cmp (record { class = class; value = value }) CHOICE) ≡ false
-no_lower_tag Universal zero = refl
-no_lower_tag Universal (suc n) = refl
+no_lower_tag Universal n = not_lower n
 no_lower_tag Application n = refl
 no_lower_tag Context n = refl
 no_lower_tag Private n = refl
