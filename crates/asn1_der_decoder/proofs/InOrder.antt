@@ -4,6 +4,7 @@ use Rattle.std.specs.Prelude.{All, IsTrue, slice_index_or}
 use Rattle.std.specs.List.{flat_map}
 use Rattle.std.specs.List.Sorted.{IsSortedBy}
 use Rattle.std.specs.Ordering.{is_lt, nat_cmp}
+use Rattle.std.specs.declared.cmp.Ordering.{Ordering}
 use Rattle.std.proofs.lemmas.Bool.Decides.{nat_tests}
 use Rattle.std.proofs.lemmas.List.Elements.{All-head, All-tail}
 use Rattle.asn1_der.specs.OneElement.{IsAlone}
@@ -56,29 +57,29 @@ rise form [] sorted = tt
 rise form (x ∷ xs) sorted = (none_below form x, rise_after form x xs sorted)
 
 -- at the beginning
-pub begin : (form : ScopeForm) (before : Key) (contents : List ℕ) → before.tag ≡ CHOICE → before.bytes.now ≡ [] → AreElements (IsInOrder form) contents → AreAfter form before contents
-begin form before contents tag none are = record {
+pub begin : (form : ScopeForm) (contents : List ℕ) → AreElements (IsInOrder form) contents → AreAfter form CHOICE [] contents
+begin form contents are = record {
   elements = are.elements;
   each = are.each;
-  rise = subst (λ l. RiseFrom form l are.elements) (sym none) (rise form are.elements are.order);
+  rise = rise form are.elements are.order;
   are = are.are;
-  tag = tag ∙ ap tag_of (sym none);
+  tag_of_it = refl;
 }
 
 -- The element that is next.
-record NextElement (form : ScopeForm) (before : Key) (left : List ℕ) : Type 0 where
+record NextElement (form : ScopeForm) (before left : List ℕ) : Type 0 where
   pub own : List ℕ
   pub back : List ℕ
   pub element : Element
   pub alone : IsAlone element own
   pub is : left ≡ own ++ back
-  pub above : falls form own before.bytes.now ≡ false
-  pub after : (key : Key) → key.bytes.now ≡ own → HasItsTag key → AreAfter form key back
+  pub above : falls form own before ≡ false
+  pub after : (tag : Tag) → tag ≡ tag_of own → AreAfter form tag own back
 
-next_element : (form : ScopeForm) (before : Key) (left : List ℕ) → AreAfter form before left → (left ≡ [] → ⊥) → NextElement form before left
-next_element form before left a some = by a.elements a.each a.rise a.are
+next_element : (form : ScopeForm) (tag : Tag) (before left : List ℕ) → AreAfter form tag before left → (left ≡ [] → ⊥) → NextElement form before left
+next_element form tag before left a some = by a.elements a.each a.rise a.are
   where
-    by : (elements : List (List ℕ)) → All (λ e. IsTrue (is_one_element e)) elements → RiseFrom form before.bytes.now elements → left ≡ flat_map (λ e. e) elements → NextElement form before left
+    by : (elements : List (List ℕ)) → All (λ e. IsTrue (is_one_element e)) elements → RiseFrom form before elements → left ≡ flat_map (λ e. e) elements → NextElement form before left
     by [] each rise are = absurd (some are)
     by (own ∷ elements) each rise are =
         let o = one own (All-head (λ e. IsTrue (is_one_element e)) own elements each) in
@@ -89,38 +90,43 @@ next_element form before left a some = by a.elements a.each a.rise a.are
           alone = o.alone;
           is = are;
           above = rise.0;
-          after = λ key same tag. record {
+          after = λ its is. record {
             elements = elements;
             each = All-tail (λ e. IsTrue (is_one_element e)) own elements each;
-            rise = subst (λ l. RiseFrom form l elements) (sym same) rise.1;
+            rise = rise.1;
             are = refl;
-            tag = tag;
+            tag_of_it = is;
           };
         }
 
 -- it is found
-pub next_found : (form : ScopeForm) (before : Key) (left : List ℕ) → AreAfter form before left → (left ≡ [] → ⊥) → ((e : Element) → element_at left ≡ Some e → ⊥) → ⊥
-next_found form before left a some never =
-    let n = next_element form before left a some in
+pub next_found : (form : ScopeForm) (tag : Tag) (before left : List ℕ) → AreAfter form tag before left → (left ≡ [] → ⊥) → ((e : Element) → element_at left ≡ Some e → ⊥) → ⊥
+next_found form tag before left a some never =
+    let n = next_element form tag before left a some in
     is_found n.element n.own n.back left n.alone n.is never
 
 -- What was found is not below the one before it, and the others are after it.
-pub record Goes (form : ScopeForm) (before own : Key) (rest : List ℕ) : Type 0 where
-  pub tag : HasItsTag own
-  pub above : falls form own.bytes.now before.bytes.now ≡ false
-  pub after : AreAfter form own rest
+pub record Goes (form : ScopeForm) (before : List ℕ) (tag : Tag) (own rest : List ℕ) : Type 0 where
+  pub above : falls form own before ≡ false
+  pub after : AreAfter form tag own rest
 
-pub goes : (form : ScopeForm) (before own : Key) (left : List ℕ) (found : Element) → AreAfter form before left → (left ≡ [] → ⊥) → element_at left ≡ Some found →
-    own.tag ≡ found.tag → own.bytes.now ≡ take (length left - length found.rest) left → Goes form before own found.rest
-goes form before own left found a some at tag bytes =
-    let n = next_element form before left a some in
+pub goes : (form : ScopeForm) (tag : Tag) (before left : List ℕ) (found : Element) → AreAfter form tag before left → (left ≡ [] → ⊥) → element_at left ≡ Some found →
+    Goes form before found.tag (take (length left - length found.rest) left) found.rest
+goes form tag before left found a some at =
+    let n = next_element form tag before left a some in
     let same = found_before n.element found n.own n.back left n.alone n.is at in
     let behind : found.rest ≡ n.back = ap (λ (x : Element). x.rest) same in
-    let whole : own.bytes.now ≡ n.own =
-    bytes ∙ ap (λ l. take (length left - length l) left) behind ∙ ap (λ l. take (length l - length n.back) l) n.is ∙ front_of n.own n.back (length (n.own ++ n.back) - length n.back) refl in
-    let its : HasItsTag own = tag ∙ ap (λ (x : Element). x.tag) same ∙ sym (ap tag_found n.alone.at) ∙ sym (ap tag_of whole) in
+    let whole : take (length left - length found.rest) left ≡ n.own =
+    ap (λ l. take (length left - length l) left) behind ∙ ap (λ l. take (length l - length n.back) l) n.is ∙ front_of n.own n.back (length (n.own ++ n.back) - length n.back) refl in
+    let its : found.tag ≡ tag_of n.own = ap (λ (x : Element). x.tag) same ∙ sym (ap tag_found n.alone.at) in
     record {
-      tag = its;
-      above = subst (λ l. falls form l before.bytes.now ≡ false) (sym whole) n.above;
-      after = subst (AreAfter form own) (sym behind) (n.after own whole its);
+      above = subst (λ l. falls form l before ≡ false) (sym whole) n.above;
+      after = subst (λ l. AreAfter form found.tag l found.rest) (sym whole) (subst (AreAfter form found.tag n.own) (sym behind) (n.after found.tag its));
     }
+
+-- what is compared by tags is compared by the tags of the bytes
+pub by_tag : (form : ScopeForm) (below : Bool) (own before : Key) (o : Ordering) → form ≡ ByTag → o ≡ tag_cmp own.tag before.tag → below ≡ is_lt o → HasItsTag own → HasItsTag before →
+    below ≡ falls form own.bytes.now before.bytes.now
+by_tag form below own before o is compared told own_tag before_tag =
+    told ∙ ap is_lt compared ∙ ap (λ t. is_lt (tag_cmp t before.tag)) own_tag ∙ ap (λ t. is_lt (tag_cmp (tag_of own.bytes.now) t)) before_tag
+    ∙ sym (ap (λ f. falls f own.bytes.now before.bytes.now) is)

@@ -14,13 +14,13 @@ returns-in_err-element-clause-read g c = λ content same k.
     let next = next_is c.args.self.now (scalar c.args.tag k n (content x)) rest outer at in
     absurd (c.in_err-element.ensures.took next.front next.back _ at.no_failure (element_alone c.args.tag _ next.has.contents next.front next.has.element) next.left))
 
-pub returns-else-clause-read : goal.returns-else-clause-read
-returns-else-clause-read g c = λ content same k.
+pub returns-in_default-clause-read : goal.returns-in_default-clause-read
+returns-in_default-clause-read g c = λ content same k.
     reads_content in_one_order c.args.self.now c.fail.new.self c.args.tag k content g.V.FromContents.IsOfType g.V.FromContents.Is (Err c.fail.result)
     (λ x n rest outer of_type at.
     let next = next_is c.args.self.now (scalar c.args.tag k n (content x)) rest outer at in
     let taken = c.in_ok-element.ensures.took next.front next.back _ at.no_failure (element_alone c.args.tag _ next.has.contents next.front next.has.element) next.left in
-    ?)
+    absurd (c.in_default.ensures taken.seen.constructed taken.seen.tag))
 
 pub returns-in-Ok-clause-read : goal.returns-in-Ok-clause-read
 returns-in-Ok-clause-read g c = λ content same k.

@@ -12,4 +12,4 @@ returns-in-Err-clause-took c = λ own back e no_failure alone is.
     absurd (is_found e own back c.left-left.result.now alone (c.left-left.ensures.inside ∙ is) (λ e at. let wrong = c.in-Err.ensures.found e at in cc))
 
 pub slice_bounds-result-count : goal.slice_bounds-result-count
-slice_bounds-result-count c = ?
+slice_bounds-result-count c = omega (arith, element_at-shorter c.left-left.result.now _ c.in-Ok.ensures.only)
