@@ -1,17 +1,15 @@
 -- The order of elements inside sets, from one to the next.
-use Rattle.std.proofs.Common.{◌≡◌, ℕ, zero, suc, ◌+◌, ◌-◌, ◌<◌, Bool, true, false, List, [], ◌∷◌, ◌++◌, Some, length, take, refl, sym, ap, subst, ◌∙◌, arith}
+use Rattle.std.proofs.Common.{◌≡◌, ℕ, suc, ◌+◌, ◌-◌, Bool, false, List, [], ◌∷◌, ◌++◌, Some, length, take, refl, sym, ap, subst, ◌∙◌, arith}
 use Rattle.std.specs.Prelude.{All, IsTrue, slice_index_or}
 use Rattle.std.specs.List.{flat_map}
 use Rattle.std.specs.List.Sorted.{IsSortedBy}
 use Rattle.std.specs.Ordering.{is_lt, nat_cmp}
-use Rattle.std.specs.declared.cmp.Ordering.{Ordering}
 use Rattle.std.proofs.lemmas.Bool.Decides.{nat_tests}
 use Rattle.std.proofs.lemmas.List.Elements.{All-head, All-tail}
 use Rattle.asn1_der.specs.OneElement.{IsAlone}
-use Rattle.asn1_der_decoder.specs.Rising.{AreAfter, HasItsTag, IsInOrder, RiseFrom, falls}
+use Rattle.asn1_der_decoder.specs.Rising.{AreAfter, IsInOrder, RiseFrom, falls}
 use Rattle.asn1_der.specs.declared.form.ScopeForm.{ScopeForm}
 use Rattle.asn1_der.specs.declared.form.ScopeForm.TheVariants.{AsDefined, ByTag, ByEncoding, Chosen}
-use Rattle.asn1_der_decoder.specs.declared.rising.Key.{Key}
 use Rattle.asn1_der.proofs.OneElement.{one}
 use Rattle.asn1_der_decoder.proofs.Taking.{found_before, front_of, is_found}
 use Rattle.asn1_der_items.specs.Elements.{Element, element_at}
@@ -123,10 +121,3 @@ goes form tag before left found a some at =
       above = subst (λ l. falls form l before ≡ false) (sym whole) n.above;
       after = subst (λ l. AreAfter form found.tag l found.rest) (sym whole) (subst (AreAfter form found.tag n.own) (sym behind) (n.after found.tag its));
     }
-
--- what is compared by tags is compared by the tags of the bytes
-pub by_tag : (form : ScopeForm) (below : Bool) (own before : Key) (o : Ordering) → form ≡ ByTag → o ≡ tag_cmp own.tag before.tag → below ≡ is_lt o → HasItsTag own → HasItsTag before →
-    below ≡ falls form own.bytes.now before.bytes.now
-by_tag form below own before o is compared told own_tag before_tag =
-    told ∙ ap is_lt compared ∙ ap (λ t. is_lt (tag_cmp t before.tag)) own_tag ∙ ap (λ t. is_lt (tag_cmp (tag_of own.bytes.now) t)) before_tag
-    ∙ sym (ap (λ f. falls f own.bytes.now before.bytes.now) is)

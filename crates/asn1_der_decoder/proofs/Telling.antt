@@ -1,5 +1,5 @@
 -- What the tag of the next element tells: whether something is there, and whose the next record of a SET is.
-use Rattle.std.proofs.Common.{◌≡◌, ℕ, Bool, true, false, List, [], ◌∷◌, ◌++◌, Option, None, Some, Ok, Err, refl, ap, sym, subst, ◌∙◌, arith}
+use Rattle.std.proofs.Common.{◌≡◌, ℕ, Bool, true, false, List, [], ◌∷◌, Option, None, Some, Ok, Err, refl, ap, sym, subst, ◌∙◌, arith}
 use Rattle.std.specs.Prelude.{◌↔◌, IsTrue, MatchResult, OnOk, Result}
 use Rattle.asn1_codec.proofs.MarksPassed.{first_left, none_left}
 use Rattle.asn1_codec.proofs.TellingTags.{tells_itself}

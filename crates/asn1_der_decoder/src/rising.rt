@@ -46,7 +46,7 @@ fn falls(own: Key<'_>, before: Key<'_>, form: ScopeForm) -> bool
         result ≡ falls_below form own.entry.bytes.now before.entry.bytes.now }
 {
     match form {
-        ScopeForm::ByTag => own.tag.cmp(&before.tag).is_lt(),
+        ScopeForm::ByTag => own.tag.const_cmp(&before.tag).is_lt(),
         ScopeForm::ByEncoding => own.bytes.cmp(before.bytes).is_lt(),
         ScopeForm::AsDefined | ScopeForm::Chosen => false,
     }

@@ -1,4 +1,4 @@
-use Rattle.std.proofs.Common.{◌≡◌, length}
+use Rattle.std.proofs.Common.{length}
 use Rattle.asn1_der_decoder.specs.Rising.{AreAfter, IsInOrder}
 use Rattle.asn1_der_items.specs.Series.{AreElements}
 use Rattle.asn1_der_decoder.proofs.rising.rises.Given as goal

@@ -1,4 +1,4 @@
-use Rattle.std.proofs.Common.{refl, arith, ap, ◌∙◌, length}
+use Rattle.std.proofs.Common.{arith, ap, ◌∙◌, length}
 use Rattle.asn1_der_decoder.proofs.Inside.{asked_tag, inside_wanted}
 use Rattle.asn1_der_decoder.proofs.Remaining.{next_is, scope_opened}
 use Rattle.asn1_model.specs.Records.{holding}

@@ -1,4 +1,4 @@
-use Rattle.std.proofs.Common.{refl, sym, subst, ◌∙◌, Ok, Err, arith, inl}
+use Rattle.std.proofs.Common.{sym, subst, ◌∙◌, Ok, Err, arith, inl}
 use Rattle.asn1_codec.proofs.ReadingUpToOrder.{reads_content}
 use Rattle.asn1_der.proofs.OneElement.{element_alone}
 use Rattle.asn1_der_decoder.proofs.Remaining.{next_is}

@@ -1,4 +1,4 @@
-use Rattle.std.proofs.Common.{ap, refl, ◌∙◌, arith}
+use Rattle.std.proofs.Common.{refl, ◌∙◌, arith}
 use Rattle.asn1_der_items.proofs.Behind.{element_at-shorter}
 use Rattle.asn1_der_decoder.proofs.Taking.{is_found, was_taken}
 use Rattle.asn1_der_decoder.proofs.decoder.DerDecoder.take.Goals as goal
