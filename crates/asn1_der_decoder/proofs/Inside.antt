@@ -1,8 +1,8 @@
 -- What is inside a record that holds others.
-use Rattle.std.proofs.Common.{◌≡◌, ℕ, true, List, [], refl, subst, ◌∙◌}
+use Rattle.std.proofs.Common.{◌≡◌, ℕ, true, List, refl, subst, ◌∙◌}
 use Rattle.std.specs.Prelude.{Option, Some, None, IfSome}
 use Rattle.asn1_der.proofs.OneElement.{element_alone, element_of, one_of}
-use Rattle.asn1_der.specs.Bytes.{HasDer, HaveDer, HoldsInForm, form_of}
+use Rattle.asn1_der.specs.Bytes.{HasDer, HaveDer, HoldsInForm}
 use Rattle.asn1_der.specs.OneElement.{IsAlone}
 use Rattle.asn1_der.specs.declared.form.ScopeForm.{ScopeForm}
 use Rattle.asn1_der.specs.declared.form.ScopeForm.TheVariants.{AsDefined, ByTag, ByEncoding, Chosen}

@@ -1,5 +1,5 @@
 -- What was found is the element that is next.
-use Rattle.std.proofs.Common.{◌≡◌, ℕ, ◌-◌, List, [], ◌∷◌, ◌++◌, Some, append-nil, length, length-append, take, refl, sym, ap, subst, ◌∙◌, arith}
+use Rattle.std.proofs.Common.{◌≡◌, ℕ, ◌-◌, List, ◌++◌, Some, length, length-append, take, refl, sym, ap, ◌∙◌, arith}
 use Rattle.std.proofs.Math.Seq.{take-append_seam}
 use Rattle.asn1_der.specs.OneElement.{IsAlone}
 use Rattle.asn1_der_decoder.specs.Decoder.{IsTaken}

@@ -165,7 +165,7 @@ impl<'a> DerDecoder<'a> {
     fn next_tag(&mut self) -> Result<Option<Tag>, DecodeError>
         ensures told { (rs : List model.Record) → self.old.failed ≡ false →
             AreLeft rs self.old.slices → MatchResult result (IsNext rs) (λ _. ⊥) }
-        ensures same_bytes { self.new.slices ≡ self.old.slices }
+        ensures same_bytes { OnOk result (self.new.slices ≡ self.old.slices) }
         ensures opens_nothing { OpensNothing der_reader self.old self.new result }
     {
         if self.failed {
@@ -188,10 +188,10 @@ impl<'a> DerDecoder<'a> {
         ensures opens_nothing { OpensNothing der_reader self.old self.new result }
     {
         let element = self.take()?;
-        if element.constructed || element.tag != tag {
+        let Some(octets) = element.contents_under(tag) else {
             return Err(self.fail(BAD_ITEM));
-        }
-        match V::from_contents(self.alloc, element.contents) {
+        };
+        match V::from_contents(self.alloc, octets) {
             Ok(value) => Ok(value),
             Err(error) => Err(self.fault(error)),
         }

@@ -1,4 +1,4 @@
-use Rattle.std.proofs.Common.{◌≡◌, ◌++◌, Ok, Err, sym, ap, ◌∙◌, arith, inl}
+use Rattle.std.proofs.Common.{◌≡◌, ◌++◌, Ok, Err, ap, ◌∙◌, arith, inl}
 use Rattle.asn1_codec.proofs.ReadingUpToOrder.{reads_open_type}
 use Rattle.asn1_der_decoder.specs.Decoder.{in_one_order}
 use Rattle.asn1_der.proofs.OneElement.{one}

@@ -1,15 +1,15 @@
 -- The order of elements inside sets, from one to the next.
-use Rattle.std.proofs.Common.{◌≡◌, ℕ, zero, suc, ◌+◌, ◌-◌, ◌<◌, Bool, true, false, List, [], ◌∷◌, ◌++◌, Some, length, take, refl, sym, ap, subst, ◌∙◌, arith}
+use Rattle.std.proofs.Common.{◌≡◌, ℕ, suc, ◌+◌, ◌-◌, Bool, false, List, [], ◌∷◌, ◌++◌, Some, length, take, refl, sym, ap, subst, ◌∙◌, arith}
 use Rattle.std.specs.Prelude.{All, IsTrue, slice_index_or}
 use Rattle.std.specs.List.{flat_map}
 use Rattle.std.specs.List.Sorted.{IsSortedBy}
-use Rattle.std.specs.Ordering.{is_lt}
+use Rattle.std.specs.Ordering.{is_lt, nat_cmp}
+use Rattle.std.proofs.lemmas.Bool.Decides.{nat_tests}
 use Rattle.std.proofs.lemmas.List.Elements.{All-head, All-tail}
 use Rattle.asn1_der.specs.OneElement.{IsAlone}
-use Rattle.asn1_der_decoder.specs.Rising.{AreAfter, HasItsTag, IsInOrder, RiseFrom, falls}
+use Rattle.asn1_der_decoder.specs.Rising.{AreAfter, IsInOrder, RiseFrom, falls}
 use Rattle.asn1_der.specs.declared.form.ScopeForm.{ScopeForm}
 use Rattle.asn1_der.specs.declared.form.ScopeForm.TheVariants.{AsDefined, ByTag, ByEncoding, Chosen}
-use Rattle.asn1_der_decoder.specs.declared.rising.Key.{Key}
 use Rattle.asn1_der.proofs.OneElement.{one}
 use Rattle.asn1_der_decoder.proofs.Taking.{found_before, front_of, is_found}
 use Rattle.asn1_der_items.specs.Elements.{Element, element_at}
@@ -21,9 +21,11 @@ use Rattle.asn1_tags.specs.declared.classes.Class.TheVariants.{Universal, Applic
 use Rattle.asn1_tags.specs.declared.tags.Tag.{Tag}
 
 -- no tag is below the CHOICE marker tag, and no bytes are below none
+not_lower : (n : ℕ) → is_lt (nat_cmp n 0) ≡ false
+not_lower n = grind (arith, nat_tests)
+
 no_lower_tag : (class : Class) (value : ℕ) → is_lt (tag_cmp (record { class = class; value = value }) CHOICE) ≡ false
-no_lower_tag Universal zero = refl
-no_lower_tag Universal (suc n) = refl
+no_lower_tag Universal n = not_lower n
 no_lower_tag Application n = refl
 no_lower_tag Context n = refl
 no_lower_tag Private n = refl
@@ -53,29 +55,29 @@ rise form [] sorted = tt
 rise form (x ∷ xs) sorted = (none_below form x, rise_after form x xs sorted)
 
 -- at the beginning
-pub begin : (form : ScopeForm) (before : Key) (contents : List ℕ) → before.tag ≡ CHOICE → before.bytes.now ≡ [] → AreElements (IsInOrder form) contents → AreAfter form before contents
-begin form before contents tag none are = record {
+pub begin : (form : ScopeForm) (contents : List ℕ) → AreElements (IsInOrder form) contents → AreAfter form CHOICE [] contents
+begin form contents are = record {
   elements = are.elements;
   each = are.each;
-  rise = subst (λ l. RiseFrom form l are.elements) (sym none) (rise form are.elements are.order);
+  rise = rise form are.elements are.order;
   are = are.are;
-  tag = tag ∙ ap tag_of (sym none);
+  tag_of_it = refl;
 }
 
 -- The element that is next.
-record NextElement (form : ScopeForm) (before : Key) (left : List ℕ) : Type 0 where
+record NextElement (form : ScopeForm) (before left : List ℕ) : Type 0 where
   pub own : List ℕ
   pub back : List ℕ
   pub element : Element
   pub alone : IsAlone element own
   pub is : left ≡ own ++ back
-  pub above : falls form own before.bytes.now ≡ false
-  pub after : (key : Key) → key.bytes.now ≡ own → HasItsTag key → AreAfter form key back
+  pub above : falls form own before ≡ false
+  pub after : (tag : Tag) → tag ≡ tag_of own → AreAfter form tag own back
 
-next_element : (form : ScopeForm) (before : Key) (left : List ℕ) → AreAfter form before left → (left ≡ [] → ⊥) → NextElement form before left
-next_element form before left a some = by a.elements a.each a.rise a.are
+next_element : (form : ScopeForm) (tag : Tag) (before left : List ℕ) → AreAfter form tag before left → (left ≡ [] → ⊥) → NextElement form before left
+next_element form tag before left a some = by a.elements a.each a.rise a.are
   where
-    by : (elements : List (List ℕ)) → All (λ e. IsTrue (is_one_element e)) elements → RiseFrom form before.bytes.now elements → left ≡ flat_map (λ e. e) elements → NextElement form before left
+    by : (elements : List (List ℕ)) → All (λ e. IsTrue (is_one_element e)) elements → RiseFrom form before elements → left ≡ flat_map (λ e. e) elements → NextElement form before left
     by [] each rise are = absurd (some are)
     by (own ∷ elements) each rise are =
         let o = one own (All-head (λ e. IsTrue (is_one_element e)) own elements each) in
@@ -86,38 +88,36 @@ next_element form before left a some = by a.elements a.each a.rise a.are
           alone = o.alone;
           is = are;
           above = rise.0;
-          after = λ key same tag. record {
+          after = λ its is. record {
             elements = elements;
             each = All-tail (λ e. IsTrue (is_one_element e)) own elements each;
-            rise = subst (λ l. RiseFrom form l elements) (sym same) rise.1;
+            rise = rise.1;
             are = refl;
-            tag = tag;
+            tag_of_it = is;
           };
         }
 
 -- it is found
-pub next_found : (form : ScopeForm) (before : Key) (left : List ℕ) → AreAfter form before left → (left ≡ [] → ⊥) → ((e : Element) → element_at left ≡ Some e → ⊥) → ⊥
-next_found form before left a some never =
-    let n = next_element form before left a some in
+pub next_found : (form : ScopeForm) (tag : Tag) (before left : List ℕ) → AreAfter form tag before left → (left ≡ [] → ⊥) → ((e : Element) → element_at left ≡ Some e → ⊥) → ⊥
+next_found form tag before left a some never =
+    let n = next_element form tag before left a some in
     is_found n.element n.own n.back left n.alone n.is never
 
 -- What was found is not below the one before it, and the others are after it.
-pub record Goes (form : ScopeForm) (before own : Key) (rest : List ℕ) : Type 0 where
-  pub tag : HasItsTag own
-  pub above : falls form own.bytes.now before.bytes.now ≡ false
-  pub after : AreAfter form own rest
+pub record Goes (form : ScopeForm) (before : List ℕ) (tag : Tag) (own rest : List ℕ) : Type 0 where
+  pub above : falls form own before ≡ false
+  pub after : AreAfter form tag own rest
 
-pub goes : (form : ScopeForm) (before own : Key) (left : List ℕ) (found : Element) → AreAfter form before left → (left ≡ [] → ⊥) → element_at left ≡ Some found →
-    own.tag ≡ found.tag → own.bytes.now ≡ take (length left - length found.rest) left → Goes form before own found.rest
-goes form before own left found a some at tag bytes =
-    let n = next_element form before left a some in
+pub goes : (form : ScopeForm) (tag : Tag) (before left : List ℕ) (found : Element) → AreAfter form tag before left → (left ≡ [] → ⊥) → element_at left ≡ Some found →
+    Goes form before found.tag (take (length left - length found.rest) left) found.rest
+goes form tag before left found a some at =
+    let n = next_element form tag before left a some in
     let same = found_before n.element found n.own n.back left n.alone n.is at in
     let behind : found.rest ≡ n.back = ap (λ (x : Element). x.rest) same in
-    let whole : own.bytes.now ≡ n.own =
-    bytes ∙ ap (λ l. take (length left - length l) left) behind ∙ ap (λ l. take (length l - length n.back) l) n.is ∙ front_of n.own n.back (length (n.own ++ n.back) - length n.back) refl in
-    let its : HasItsTag own = tag ∙ ap (λ (x : Element). x.tag) same ∙ sym (ap tag_found n.alone.at) ∙ sym (ap tag_of whole) in
+    let whole : take (length left - length found.rest) left ≡ n.own =
+    ap (λ l. take (length left - length l) left) behind ∙ ap (λ l. take (length l - length n.back) l) n.is ∙ front_of n.own n.back (length (n.own ++ n.back) - length n.back) refl in
+    let its : found.tag ≡ tag_of n.own = ap (λ (x : Element). x.tag) same ∙ sym (ap tag_found n.alone.at) in
     record {
-      tag = its;
-      above = subst (λ l. falls form l before.bytes.now ≡ false) (sym whole) n.above;
-      after = subst (AreAfter form own) (sym behind) (n.after own whole its);
+      above = subst (λ l. falls form l before ≡ false) (sym whole) n.above;
+      after = subst (λ l. AreAfter form found.tag l found.rest) (sym whole) (subst (AreAfter form found.tag n.own) (sym behind) (n.after found.tag its));
     }
