@@ -5,13 +5,13 @@ use Rattle.asn1_codec.proofs.ReadingUpToOrder.{at_the_end, remains_exactly}
 use Rattle.asn1_codec.specs.Reading.{Advances, HasAdvanced, Outside, ReadsHead, nothing, records_in}
 use Rattle.asn1_codec.specs.Reading as codec
 use Rattle.asn1_codec.specs.declared.decode_error.DecodeError.{DecodeError}
-use Rattle.asn1_der.specs.Bytes.{HasDer, HaveDer}
+use Rattle.asn1_der_records.specs.Bytes.{HasDer, HaveDer}
 use Rattle.asn1_der_decoder.specs.Decoder.{AllHaveDer, IsOpened, IsWanted, OpensWanted, Remains, RemainsExactly, in_one_order}
 use Rattle.asn1_der_decoder.specs.declared.decoder.DerDecoder.{DerDecoder}
 use Rattle.asn1_der_decoder.specs.declared.decoder.Opened.{Opened}
-use Rattle.asn1_der.specs.declared.form.ScopeForm.{ScopeForm}
-use Rattle.asn1_der.proofs.Marks.{without_mark}
-use Rattle.asn1_der.proofs.OneElement.{record_long}
+use Rattle.asn1_der_records.specs.declared.form.ScopeForm.{ScopeForm}
+use Rattle.asn1_der_records.proofs.Marks.{without_mark}
+use Rattle.asn1_der_records.proofs.OneElement.{record_long}
 use Rattle.asn1_items.specs.Slices.{left_inside, left_outside}
 use Rattle.asn1_model.specs.Orders.{SameRecords}
 use Rattle.asn1_model.specs.Records as model

@@ -6,12 +6,12 @@ use Rattle.asn1_codec.proofs.TellingTags.{tells_itself}
 use Rattle.asn1_codec.specs.Reading.{Advances, HasAdvanced, IsNextTag, Outside, TellsPresence, marks_passed}
 use Rattle.asn1_codec.specs.declared.decode_error.DecodeError.{DecodeError}
 use Rattle.asn1_components.specs.ComponentTypes.{ComponentType}
-use Rattle.asn1_der.specs.Bytes.{HaveDer}
+use Rattle.asn1_der_records.specs.Bytes.{HaveDer}
 use Rattle.asn1_der_decoder.specs.Decoder.{AllHaveDer, AreLeft, RemainsExactly, in_one_order}
 use Rattle.asn1_items.specs.NextTags.{IsNext}
 use Rattle.asn1_der_decoder.specs.declared.decoder.DerDecoder.{DerDecoder}
-use Rattle.asn1_der.proofs.OneElement.{record_element}
-use Rattle.asn1_der.proofs.Marks.{without_mark}
+use Rattle.asn1_der_records.proofs.OneElement.{record_element}
+use Rattle.asn1_der_records.proofs.Marks.{without_mark}
 use Rattle.asn1_der_decoder.proofs.Remaining.{past_mark, some_left}
 use Rattle.asn1_packed.specs.Decoder.{lists_outside}
 use Rattle.asn1_der_items.proofs.Behind.{element_at-append, element_before}

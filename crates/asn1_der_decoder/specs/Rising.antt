@@ -4,8 +4,8 @@ use Rattle.std.specs.Cmp.Lexicographic.{slice_cmp}
 use Rattle.std.specs.List.{flat_map}
 use Rattle.std.specs.List.Sorted.{IsSortedBy}
 use Rattle.std.specs.Ordering.{is_lt, nat_cmp}
-use Rattle.asn1_der.specs.declared.form.ScopeForm.{ScopeForm}
-use Rattle.asn1_der.specs.declared.form.ScopeForm.TheVariants.{ByTag, ByEncoding}
+use Rattle.asn1_der_records.specs.declared.form.ScopeForm.{ScopeForm}
+use Rattle.asn1_der_records.specs.declared.form.ScopeForm.TheVariants.{ByTag, ByEncoding}
 use Rattle.asn1_der_decoder.specs.declared.rising.Key.{Key}
 use Rattle.asn1_der_items.specs.Series.{is_one_element, tag_of}
 use Rattle.asn1_tags.specs.Tags.{tag_cmp}

@@ -3,8 +3,8 @@ ghost use Rattle.asn1_der_decoder.specs.Rising.{HasItsTag, IsInOrder, falls as f
 ghost use Rattle.asn1_der_items.specs.Series.{AreElements};
 ghost use Rattle.std.specs.Prelude.{◌≡◌, true};
 
-use asn1_der::ScopeForm;
 use asn1_der_items::find_element;
+use asn1_der_records::ScopeForm;
 use asn1_tags::Tag;
 
 /// What of an element is compared: its tag and its bytes.

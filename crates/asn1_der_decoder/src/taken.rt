@@ -4,7 +4,7 @@ ghost use Rattle.asn1_der_items.specs.Elements.{Element};
 ghost use Rattle.std.specs.Prelude.{◌≡◌, IsSomeAnd, List, ℕ, false, true};
 
 use crate::rising::rises;
-use asn1_der::ScopeForm;
+use asn1_der_records::ScopeForm;
 use asn1_tags::Tag;
 
 /// An element that was taken, and all of its bytes.

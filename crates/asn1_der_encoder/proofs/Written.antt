@@ -5,9 +5,9 @@ use Rattle.std.proofs.lemmas.List.Sorted.{All-permutation}
 use Rattle.std.specs.Prelude.{All, IsTrue, Some, reverse, if◌then◌else◌}
 use Rattle.asn1_buffers.specs.Kinds.{unlabelled}
 use Rattle.asn1_codec.specs.Writing.{Written, outermost, in_scope, in_group, followed_by}
-use Rattle.asn1_der.specs.Bytes.{CannotHold, HasDer, HasNoDer, HaveDer, HoldsInForm, form_of}
-use Rattle.asn1_der.specs.declared.form.ScopeForm.{ScopeForm}
-use Rattle.asn1_der.specs.declared.form.ScopeForm.TheVariants.{AsDefined, ByTag, ByEncoding, Chosen}
+use Rattle.asn1_der_records.specs.Bytes.{CannotHold, HasDer, HasNoDer, HaveDer, HoldsInForm, form_of}
+use Rattle.asn1_der_records.specs.declared.form.ScopeForm.{ScopeForm}
+use Rattle.asn1_der_records.specs.declared.form.ScopeForm.TheVariants.{AsDefined, ByTag, ByEncoding, Chosen}
 use Rattle.asn1_der_encoder.proofs.Arranging.{CanBeRearranged}
 use Rattle.asn1_der_encoder.specs.Sorting.{AreSorted}
 use Rattle.asn1_der_encoder.specs.Written.{IsHeld, IsOpenScope, IsWritten}

@@ -6,7 +6,7 @@ use Rattle.asn1_buffers.specs.Encoder.{buffer_writer, in_one_order}
 use Rattle.asn1_buffers.specs.declared.encoder.BufferEncoder.{BufferEncoder}
 use Rattle.asn1_codec.specs.Writing.{Writer, Written, outermost, in_scope, in_group}
 use Rattle.asn1_codec.specs.WritingUpToOrder.{RejectsByParts}
-use Rattle.asn1_der.specs.Bytes.{HasDer, HasNoDer, HaveDer, SomeHasNoDer, form_of}
+use Rattle.asn1_der_records.specs.Bytes.{HasDer, HasNoDer, HaveDer, SomeHasNoDer, form_of}
 use Rattle.asn1_der_encoder.specs.declared.buffer.DerBuffer.{DerBuffer}
 use Rattle.asn1_der_encoder.specs.declared.frame.Frame.{Frame}
 use Rattle.asn1_items.specs.Items.{IsJoined}

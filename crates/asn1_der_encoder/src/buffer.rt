@@ -1,7 +1,7 @@
 //! The bytes of DER, as an encoder writes them.
 ghost use Rattle.asn1_buffers.specs.Kinds.{kind_of_scope};
 ghost use Rattle.asn1_buffers.specs.declared.error.WriteError.TheVariants.{Memory};
-ghost use Rattle.asn1_der.specs.Bytes.{form_of};
+ghost use Rattle.asn1_der_records.specs.Bytes.{form_of};
 ghost use Rattle.asn1_der_items.specs.declared.error.ElementError.TheVariants as element_error;
 ghost use Rattle.asn1_model.specs.Records.{Head};
 ghost use Rattle.std.specs.Prelude.{◌≡◌, ◌↔◌};
@@ -11,8 +11,8 @@ use crate::frame::Frame;
 use crate::holding::hold;
 use asn1_bounds::Codec;
 use asn1_buffers::{MarkKind, RecordBuffer, ScopeKind, WriteError};
-use asn1_der::ScopeForm;
 use asn1_der_items::{ElementError, append_primitive};
+use asn1_der_records::ScopeForm;
 use asn1_items::Content;
 use asn1_tags::Tag;
 use std::alloc::Global;

@@ -1,6 +1,6 @@
 //! What a scope holds, as a record when the scope ends.
 ghost use Rattle.asn1_buffers.specs.declared.error.WriteError.TheVariants.{Memory};
-ghost use Rattle.asn1_der.specs.Bytes.{HasNoDer, HaveDer, form_of};
+ghost use Rattle.asn1_der_records.specs.Bytes.{HasNoDer, HaveDer, form_of};
 ghost use Rattle.asn1_der_encoder.specs.Sorting.{AreJoined, AreSorted};
 ghost use Rattle.asn1_der_encoder.specs.Written.{IsHeld};
 ghost use Rattle.asn1_der_items.specs.Elements.{IsElement};
@@ -15,7 +15,7 @@ use crate::elements::{bytes_from, is_element_of};
 use crate::frame::Frame;
 use crate::sorting::{Order, sort_elements};
 use asn1_buffers::WriteError;
-use asn1_der::ScopeForm;
+use asn1_der_records::ScopeForm;
 use asn1_tags::Tag;
 use std::alloc::Global;
 

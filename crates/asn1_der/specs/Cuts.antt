@@ -4,7 +4,7 @@ use Rattle.std.proofs.Common.{arith}
 use Rattle.asn1_der_encoder.specs.Format.{Carries}
 use Rattle.asn1_der_items.specs.Elements.{Element, element_at}
 use Rattle.asn1_der_items.specs.Series.{is_one_element}
-use Rattle.asn1_der_rules.specs.declared.reader.DerReader.{DerReader}
+use Rattle.asn1_der.specs.declared.reader.DerReader.{DerReader}
 use Rattle.asn1_model.specs.Meaning.{Meaning}
 use Rattle.asn1_streams.specs.Fronts.{Fronts}
 use Rattle.asn1_streams.specs.ItemFronts.{item_fronts}

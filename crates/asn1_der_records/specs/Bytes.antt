@@ -1,7 +1,7 @@
 -- The DER of records (X.690): an element for each, and what is inside.
 use Rattle.std.specs.Prelude.{◌≡◌, ◌⊎◌, ℕ, ◌≤◌, ◌^◌, false, true, IsTrue, List, [], length}
-use Rattle.asn1_der.specs.declared.form.ScopeForm.{ScopeForm}
-use Rattle.asn1_der.specs.declared.form.ScopeForm.TheVariants.{AsDefined, ByTag, ByEncoding, Chosen}
+use Rattle.asn1_der_records.specs.declared.form.ScopeForm.{ScopeForm}
+use Rattle.asn1_der_records.specs.declared.form.ScopeForm.TheVariants.{AsDefined, ByTag, ByEncoding, Chosen}
 use Rattle.asn1_der_items.specs.Contents.{HasContents, HasNoContents}
 use Rattle.asn1_der_items.specs.Series.{AreElements, HoldsContents, IsElementOf, RiseByEncoding, RiseByTag, is_one_element}
 use Rattle.asn1_items.specs.Items.{IsJoined}

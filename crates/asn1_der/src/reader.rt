@@ -1,5 +1,5 @@
 //! Values at the front of bytes of DER.
-ghost use Rattle.asn1_der_rules.specs.Cuts.{IsCut};
+ghost use Rattle.asn1_der.specs.Cuts.{IsCut};
 ghost use Rattle.std.specs.Prelude.{MatchOption, ℕ};
 
 use asn1_dec::{Decode, DecodeError};
@@ -59,7 +59,7 @@ impl DerReader {
 }
 
 impl<D: Decode> FrontReader<D> for DerReader {
-    ghost use Rattle.asn1_der_rules.specs.Cuts.{cut_within, der_fronts};
+    ghost use Rattle.asn1_der.specs.Cuts.{cut_within, der_fronts};
 
     ghost fronts = { der_fronts D.meaning D.eq };
 

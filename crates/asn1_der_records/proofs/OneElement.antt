@@ -1,10 +1,10 @@
 -- A record that is no presence mark is one element, whose tag is one with which the record begins.
 use Rattle.std.proofs.Common.{◌≡◌, ℕ, ◌≤◌, Bool, true, false, List, [], ◌∷◌, ◌++◌, refl, sym, ap, subst, ◌∙◌, arith, append-nil, length, Option, None, Some}
 use Rattle.std.specs.Prelude.{◌&&◌, IsTrue}
-use Rattle.asn1_der.specs.Bytes.{HasDer, HaveDer, HoldsInForm, form_of}
-use Rattle.asn1_der.specs.OneElement.{IsAlone, IsElementOfRecord}
-use Rattle.asn1_der.specs.declared.form.ScopeForm.{ScopeForm}
-use Rattle.asn1_der.specs.declared.form.ScopeForm.TheVariants.{AsDefined, ByTag, ByEncoding, Chosen}
+use Rattle.asn1_der_records.specs.Bytes.{HasDer, HaveDer, HoldsInForm, form_of}
+use Rattle.asn1_der_records.specs.OneElement.{IsAlone, IsElementOfRecord}
+use Rattle.asn1_der_records.specs.declared.form.ScopeForm.{ScopeForm}
+use Rattle.asn1_der_records.specs.declared.form.ScopeForm.TheVariants.{AsDefined, ByTag, ByEncoding, Chosen}
 use Rattle.asn1_der_items.proofs.Found.{element-found}
 use Rattle.asn1_der_items.specs.Elements.{Element, IsElement, element_at}
 use Rattle.asn1_der_items.specs.Series.{IsElementOf, ends, is_one_element, is_whole, tag_found}

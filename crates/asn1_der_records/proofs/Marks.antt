@@ -1,6 +1,6 @@
 -- A presence mark in front changes no bytes.
 use Rattle.std.proofs.Common.{ℕ, List, [], ◌∷◌, ◌++◌, refl, ap, subst, sym, ◌∙◌}
-use Rattle.asn1_der.specs.Bytes.{HaveDer}
+use Rattle.asn1_der_records.specs.Bytes.{HaveDer}
 use Rattle.asn1_model.specs.Records.{PresenceMark, Record, held, presence_mark}
 
 pub without_mark : (m : PresenceMark) (rs : List Record) (bytes : List ℕ) → HaveDer (held (presence_mark m ∷ rs)) bytes → HaveDer (held rs) bytes

@@ -1,13 +1,13 @@
 -- Elements are cut off: bytes behind change nothing, and what was written is one element.
 use Rattle.std.proofs.Common.{◌≡◌, ℕ, Bool, false, List, [], ◌∷◌, ◌++◌, Some, ap, sym, subst, ◌∙◌, arith, append-nil, length, length-append}
-use Rattle.asn1_der.proofs.OneElement.{record_element}
-use Rattle.asn1_der.specs.Bytes.{HaveDer}
+use Rattle.asn1_der_records.proofs.OneElement.{record_element}
+use Rattle.asn1_der_records.specs.Bytes.{HaveDer}
 use Rattle.asn1_der_encoder.specs.Format.{Carries, der_format}
 use Rattle.asn1_der_items.proofs.Behind.{element_at-append, element_before}
 use Rattle.asn1_der_items.specs.Elements.{Element, element_at}
 use Rattle.asn1_der_items.specs.Series.{is_one_element}
-use Rattle.asn1_der_rules.specs.Cuts.{IsCut, cut_within, der_fronts}
-use Rattle.asn1_der_rules.specs.declared.reader.DerReader.{DerReader}
+use Rattle.asn1_der.specs.Cuts.{IsCut, cut_within, der_fronts}
+use Rattle.asn1_der.specs.declared.reader.DerReader.{DerReader}
 use Rattle.asn1_model.proofs.SameRecords.{same-mark}
 use Rattle.asn1_model.proofs.SameUpToOrder.{same_as_cons, same_as_none}
 use Rattle.asn1_model.specs.Meaning.{Meaning, IsWellTagged}
