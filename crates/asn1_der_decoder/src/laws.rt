@@ -1,0 +1,18 @@
+//! Laws of what no other contract names: what the decoder is as types see it.
+ghost use Rattle.asn1_codec.specs.Reading.{Remaining};
+ghost use Rattle.asn1_der_decoder.specs.Decoder.{Remains};
+ghost use Rattle.asn1_der_items.specs.Series.{is_one_element};
+ghost use Rattle.std.specs.Prelude.{◌≡◌, ◌↔◌, List, ℕ};
+
+use crate::decoder::DerDecoder;
+use asn1_dec::Decoder;
+
+/// A law of the decoder: what types see that remains (`remains`), and that it takes one element as one value of an open type
+/// (`accepts`).
+pub fn the_decoder_takes_one_element(decoder: &DerDecoder<'_>)
+    ensures remains { (remaining : Remaining) →
+        ⟦<DerDecoder<'static> as Decoder>⟧.reader.remains decoder.now remaining ↔
+        Remains decoder.now remaining }
+    ensures accepts { (bytes : List ℕ) →
+        ⟦<DerDecoder<'static> as Decoder>⟧.reader.accepts bytes ≡ is_one_element bytes }
+{}
