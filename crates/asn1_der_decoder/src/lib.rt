@@ -5,7 +5,7 @@
 //! | [`DerDecoder`] | reads from the bytes of DER |
 //! | [`laws`] | what types see of it |
 //!
-//! `asn1_der` has what the DER of records is, and `asn1_der_items` the bytes of elements. There is nothing in the bytes that says
+//! `asn1_der_records` has what the DER of records is, and `asn1_der_items` the bytes of elements. There is nothing in the bytes that says
 //! whether a component is there: it is if and only if an element follows in the scope whose tag is one of its own. A CHOICE has no
 //! element of its own, so to open one is to go inside the element of its alternative.
 //!

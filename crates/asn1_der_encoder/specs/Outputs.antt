@@ -1,6 +1,6 @@
 -- Which records have DER, and which bytes are it, where the order inside sets means nothing.
 use Rattle.std.specs.Prelude.{ℕ, List}
-use Rattle.asn1_der.specs.Bytes.{HaveDer, SomeHasNoDer}
+use Rattle.asn1_der_records.specs.Bytes.{HaveDer, SomeHasNoDer}
 use Rattle.asn1_model.specs.Orders.{SameRecords}
 use Rattle.asn1_model.specs.Records.{Record, held}
 

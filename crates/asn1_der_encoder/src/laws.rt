@@ -1,7 +1,7 @@
 //! Laws of what no other contract names: what the encoder and its format are.
 ghost use Rattle.asn1_bounds.specs.declared.codec.Codec.TheVariants.{Der};
 ghost use Rattle.asn1_codec.specs.Writing.{Written};
-ghost use Rattle.asn1_der.specs.Bytes.{HaveDer, SomeHasNoDer};
+ghost use Rattle.asn1_der_records.specs.Bytes.{HaveDer, SomeHasNoDer};
 ghost use Rattle.asn1_der_encoder.specs.Format.{der_format};
 ghost use Rattle.asn1_der_encoder.specs.Outputs.{HasNoOutput, IsDerOf};
 ghost use Rattle.asn1_der_encoder.specs.Written.{der_writer};

@@ -13,7 +13,7 @@
 //!
 //! What the contracts promise, and the words that they use:
 //!
-//! - What has been written is the DER of the records (`HasDer` of `asn1_der`), in the scopes that are open (`IsWritten` of
+//! - What has been written is the DER of the records (`HasDer` of `asn1_der_records`), in the scopes that are open (`IsWritten` of
 //!   `specs/Written.antt`), and the encoder keeps the laws of every encoder (`Encoder`). As types see it, the order inside sets means
 //!   nothing: the components of a SET come out by their tags, and the elements of a SET OF by their encodings
 //!   (`AreSorted` of `specs/Sorting.antt`).
