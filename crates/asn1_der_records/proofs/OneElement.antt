@@ -6,10 +6,11 @@ use Rattle.asn1_der_records.specs.OneElement.{IsAlone, IsElementOfRecord}
 use Rattle.asn1_der_records.specs.declared.form.ScopeForm.{ScopeForm}
 use Rattle.asn1_der_records.specs.declared.form.ScopeForm.TheVariants.{AsDefined, ByTag, ByEncoding, Chosen}
 use Rattle.asn1_der_items.proofs.Found.{element-found}
+use Rattle.asn1_der_items.proofs.OneElement.{element_of_tag}
 use Rattle.asn1_der_items.specs.Elements.{Element, IsElement, element_at}
 use Rattle.asn1_der_items.specs.Series.{IsElementOf, ends, is_one_element, is_whole, tag_found}
 use Rattle.asn1_model.specs.Records as model
-use Rattle.asn1_model.specs.Records.{is_presence_mark}
+use Rattle.asn1_model.specs.Records.{Record, is_presence_mark, open_type, presence_mark, scalar, scope}
 use Rattle.asn1_model.specs.Tags.{Has, record_tags, head_tag}
 use Rattle.asn1_tags.proofs.Distinct.{tag_eq-true}
 use Rattle.asn1_tags.specs.Tags.{tag_eq}
@@ -110,3 +111,26 @@ is_element_of_record r own no_mark p =
       one = ap is_whole e.alone.at ∙ ends_it e.element.rest e.alone.alone;
       tag = subst (Has (record_tags r)) (sym (ap tag_found e.alone.at)) e.has;
     }
+
+-- so what holds records is one element of its tag
+pub scope_is_one : (f : ScopeForm) (t : Tag) (IsInside : List ℕ → Type 0) (bytes : List ℕ) → HoldsInForm f t IsInside bytes → IsElementOf t bytes
+scope_is_one AsDefined t IsInside bytes d = element_of_tag t true d.contents bytes d.element
+scope_is_one ByTag t IsInside bytes d = element_of_tag t true d.contents bytes d.element
+scope_is_one ByEncoding t IsInside bytes d = element_of_tag t true d.contents bytes d.element
+scope_is_one Chosen t IsInside bytes d = d.1
+
+-- A presence mark has no bytes.
+pub mark_bytes : (r : Record) (bytes : List ℕ) → is_presence_mark r ≡ true → HasDer r bytes → bytes ≡ []
+mark_bytes (scalar t c n x) bytes mark d = cc
+mark_bytes (scope h rs) bytes mark d = cc
+mark_bytes (open_type n own) bytes mark d = cc
+mark_bytes (presence_mark m) bytes mark d = d
+
+-- parts of no bytes are none
+pub no_first : (xs ys : List ℕ) → xs ++ ys ≡ [] → xs ≡ []
+no_first [] ys e = refl
+no_first (x ∷ xs) ys e = cc
+
+pub no_later : (xs ys : List ℕ) → xs ++ ys ≡ [] → ys ≡ []
+no_later [] ys e = e
+no_later (x ∷ xs) ys e = cc
