@@ -2,6 +2,7 @@ pub mod Behind
 mod Complements
 pub mod Found
 mod Narrow
+pub mod OneElement
 mod ReadingArcs
 mod Septets
 mod Wrapping

@@ -1,0 +1,31 @@
+-- A record that is no presence mark is one element.
+use Rattle.std.proofs.Common.{◌≡◌, ℕ, true, false, List, sym, ap, ◌∙◌, arith}
+use Rattle.asn1_tags.specs.declared.tags.Tag.{Tag}
+use Rattle.asn1_model.specs.Records.{Head, Record, Records, scalar, scope, open_type, presence_mark, is_presence_mark}
+use Rattle.asn1_model.specs.Tags.{Has, head_tag, only}
+use Rattle.asn1_der.specs.declared.form.ScopeForm.{ScopeForm}
+use Rattle.asn1_der.specs.declared.form.ScopeForm.TheVariants.{AsDefined, ByTag, ByEncoding, Chosen}
+use Rattle.asn1_der.specs.Bytes.{HasDer, HaveDer, HoldsInForm, form_of}
+use Rattle.asn1_der.specs.OneElement.{IsElementOfRecord}
+use Rattle.asn1_der_items.specs.Series.{IsElementOf, is_one_element, tag_of}
+use Rattle.asn1_der_items.proofs.OneElement.{element_of_tag, is_one, tag_is}
+
+pub scope_is_one : (f : ScopeForm) (t : Tag) (IsInside : List ℕ → Type 0) (bytes : List ℕ) → HoldsInForm f t IsInside bytes → IsElementOf t bytes
+scope_is_one AsDefined t IsInside bytes d = element_of_tag t true d.contents bytes d.element
+scope_is_one ByTag t IsInside bytes d = element_of_tag t true d.contents bytes d.element
+scope_is_one ByEncoding t IsInside bytes d = element_of_tag t true d.contents bytes d.element
+scope_is_one Chosen t IsInside bytes d = d.1
+
+-- by the tag of its own record, or of the chosen alternative
+of_own_tag : (t : Tag) (bytes : List ℕ) → IsElementOf t bytes → Has (only t) (tag_of bytes)
+of_own_tag t bytes is = (0, omega arith, sym (tag_is t bytes is))
+
+pub record_is_one : (r : Record) (bytes : List ℕ) → is_presence_mark r ≡ false → HasDer r bytes → IsElementOfRecord r bytes
+record_is_one (scalar t c n x) bytes no_mark d =
+    let is = element_of_tag t false d.contents bytes d.element in
+    record { one = is_one t bytes is; tag = of_own_tag t bytes is }
+record_is_one (scope h rs) bytes no_mark d =
+    let is = scope_is_one (form_of h) (head_tag h) (HaveDer rs) bytes d in
+    record { one = is_one (head_tag h) bytes is; tag = of_own_tag (head_tag h) bytes is }
+record_is_one (open_type n own) bytes no_mark d = record { one = ap is_one_element d.0 ∙ d.1; tag = tt }
+record_is_one (presence_mark m) bytes no_mark d = cc
