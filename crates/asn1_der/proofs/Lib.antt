@@ -1,2 +1,3 @@
 mod Marks
 pub mod OneElement
+pub mod OneEncoding

@@ -1,5 +1,6 @@
 -- The DER of records (X.690): an element for each, and what is inside.
 use Rattle.std.specs.Prelude.{◌≡◌, ◌⊎◌, ℕ, ◌≤◌, ◌^◌, false, true, IsTrue, List, [], length}
+use Rattle.std.specs.Int.Digits.{AllBelowBase}
 use Rattle.asn1_der.specs.declared.form.ScopeForm.{ScopeForm}
 use Rattle.asn1_der.specs.declared.form.ScopeForm.TheVariants.{AsDefined, ByTag, ByEncoding, Chosen}
 use Rattle.asn1_der_items.specs.Contents.{HasContents, HasNoContents}
@@ -50,6 +51,7 @@ pub record IsNotChosen (t : Tag) (IsInside : List ℕ → Type 0) : Type 0 where
 pub record IsTooLong (IsInside : List ℕ → Type 0) : Type 0 where
   pub inside : List ℕ
   pub are : IsInside inside
+  pub are_octets : AllBelowBase 256 inside
   pub long : 2 ^ 64 ≤ length inside
 
 abbrev pub CannotHold : ScopeForm → Tag → (List ℕ → Type 0) → Type 0

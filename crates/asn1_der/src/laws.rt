@@ -40,7 +40,8 @@ pub fn a_record_has_der_or_none()
 
 /// A law of what there is: no record has DER and has none.
 pub fn no_record_has_both()
-    ensures { (r : Record) (bytes : List ℕ) → HasDer r bytes → ¬ HasNoDer r }
+    ensures { (r : Record) (bytes : List ℕ) → AllBelowBase 256 bytes →
+        HasDer r bytes → ¬ HasNoDer r }
 {}
 
 /// A law of encodings: a record, in one order inside sets, has one.
