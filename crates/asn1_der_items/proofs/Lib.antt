@@ -7,5 +7,6 @@ pub mod OneContents
 pub mod OneElement
 mod ReadingArcs
 mod Septets
+pub mod SomeEncoding
 mod Wrapping
 mod WritingArcs
