@@ -1,7 +1,7 @@
 -- A record that is no presence mark is one element.
-use Rattle.std.proofs.Common.{◌≡◌, ℕ, true, false, List, sym, ap, ◌∙◌, arith}
+use Rattle.std.proofs.Common.{◌≡◌, ℕ, true, false, List, [], ◌∷◌, ◌++◌, refl, sym, ap, ◌∙◌, arith}
 use Rattle.asn1_tags.specs.declared.tags.Tag.{Tag}
-use Rattle.asn1_model.specs.Records.{Head, Record, Records, scalar, scope, open_type, presence_mark, is_presence_mark}
+use Rattle.asn1_model.specs.Records.{Record, scalar, scope, open_type, presence_mark, is_presence_mark}
 use Rattle.asn1_model.specs.Tags.{Has, head_tag, only}
 use Rattle.asn1_der.specs.declared.form.ScopeForm.{ScopeForm}
 use Rattle.asn1_der.specs.declared.form.ScopeForm.TheVariants.{AsDefined, ByTag, ByEncoding, Chosen}
@@ -29,3 +29,19 @@ record_is_one (scope h rs) bytes no_mark d =
     record { one = is_one (head_tag h) bytes is; tag = of_own_tag (head_tag h) bytes is }
 record_is_one (open_type n own) bytes no_mark d = record { one = ap is_one_element d.0 ∙ d.1; tag = tt }
 record_is_one (presence_mark m) bytes no_mark d = cc
+
+-- A presence mark has no bytes.
+pub mark_bytes : (r : Record) (bytes : List ℕ) → is_presence_mark r ≡ true → HasDer r bytes → bytes ≡ []
+mark_bytes (scalar t c n x) bytes mark d = cc
+mark_bytes (scope h rs) bytes mark d = cc
+mark_bytes (open_type n own) bytes mark d = cc
+mark_bytes (presence_mark m) bytes mark d = d
+
+-- parts of no bytes are none
+pub no_first : (xs ys : List ℕ) → xs ++ ys ≡ [] → xs ≡ []
+no_first [] ys e = refl
+no_first (x ∷ xs) ys e = cc
+
+pub no_later : (xs ys : List ℕ) → xs ++ ys ≡ [] → ys ≡ []
+no_later [] ys e = e
+no_later (x ∷ xs) ys e = cc

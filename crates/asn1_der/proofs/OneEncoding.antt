@@ -1,9 +1,8 @@
 -- A record, in one order inside sets, has no more than one DER, and what has DER is not what has none.
-use Rattle.std.proofs.Common.{◌≡◌, ℕ, ◌+◌, ◌≤◌, ◌<◌, ◌^◌, true, false, List, [], ◌∷◌, ◌++◌, append-nil, length, refl, sym, ap, subst, ◌∙◌, arith, inl, inr}
+use Rattle.std.proofs.Common.{◌≡◌, ℕ, ◌<◌, ◌^◌, true, false, List, [], ◌++◌, append-nil, length, refl, sym, ap, subst, ◌∙◌, arith, inl, inr}
 use Rattle.std.proofs.lemmas.Bool.{true≢false}
 use Rattle.std.specs.Int.Digits.{AllBelowBase}
 use Rattle.std.specs.Prelude.{Bool}
-use Rattle.asn1_items.specs.Items.{IsJoined}
 use Rattle.asn1_tags.specs.declared.tags.Tag.{Tag}
 use Rattle.asn1_model.specs.Records.{Record, Records, scalar, scope, open_type, presence_mark, none, more, is_presence_mark}
 use Rattle.asn1_model.specs.Tags.{head_tag}
@@ -16,8 +15,8 @@ use Rattle.asn1_der_items.specs.Lengths.{IsLength}
 use Rattle.asn1_der_items.specs.Series.{HoldsContents, IsElementOf, is_one_element, tag_of}
 use Rattle.asn1_der_items.proofs.Encodings.{one_element}
 use Rattle.asn1_der_items.proofs.OneContents.{below_first, below_later, not_both, one_contents}
-use Rattle.asn1_der_items.proofs.OneElement.{alone, element_of_tag, is_one, one_of_tag, some_bytes, tag_is, tag_of_element}
-use Rattle.asn1_der.proofs.OneElement.{record_is_one, scope_is_one}
+use Rattle.asn1_der_items.proofs.OneElement.{alone, is_one, one_of_tag, some_bytes, tag_is, tag_of_element}
+use Rattle.asn1_der.proofs.OneElement.{mark_bytes, no_first, no_later, record_is_one, scope_is_one}
 
 -- the contents octets are octets where the element is
 contents_below : (t : Tag) (constructed : Bool) (contents own : List ℕ) → IsElement t constructed contents own → AllBelowBase 256 own → AllBelowBase 256 contents
@@ -59,26 +58,12 @@ mutual
       ∙ sym b.are
 
 -- Whether something is the chosen alternative does not depend on its bytes.
-mark_bytes : (r : Record) (bytes : List ℕ) → is_presence_mark r ≡ true → HasDer r bytes → bytes ≡ []
-mark_bytes (scalar t c n x) bytes mark d = cc
-mark_bytes (scope h rs) bytes mark d = cc
-mark_bytes (open_type n own) bytes mark d = cc
-mark_bytes (presence_mark m) bytes mark d = d
-
 same_tag : (r : Record) (own other : List ℕ) → HasDer r own → HasDer r other → tag_of own ≡ tag_of other
 same_tag (scalar t c n x) own other a b = tag_of_element t false a.contents own a.element ∙ sym (tag_of_element t false b.contents other b.element)
 same_tag (scope h rs) own other a b =
     tag_is (head_tag h) own (scope_is_one (form_of h) (head_tag h) (HaveDer rs) own a) ∙ sym (tag_is (head_tag h) other (scope_is_one (form_of h) (head_tag h) (HaveDer rs) other b))
 same_tag (open_type n bytes) own other a b = ap tag_of (a.0 ∙ sym b.0)
 same_tag (presence_mark m) own other a b = ap tag_of (a ∙ sym b)
-
-no_first : (xs ys : List ℕ) → xs ++ ys ≡ [] → xs ≡ []
-no_first [] ys e = refl
-no_first (x ∷ xs) ys e = cc
-
-no_later : (xs ys : List ℕ) → xs ++ ys ≡ [] → ys ≡ []
-no_later [] ys e = e
-no_later (x ∷ xs) ys e = cc
 
 nothing_left : (rs : Records) (own other : List ℕ) → HaveDer rs own → own ≡ [] → HaveDer rs other → other ≡ []
 nothing_left none own other a none_left b = b

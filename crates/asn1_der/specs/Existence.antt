@@ -1,30 +1,20 @@
 -- Which records have DER, and which have none.
-use Rattle.std.specs.Prelude.{◌⊎◌, ℕ, ◌<◌, ◌^◌, ⊤, FitsSigned, List, All}
-use Rattle.std.specs.Int.{w64}
+use Rattle.std.specs.Prelude.{◌⊎◌, ◌<◌, ◌^◌, ⊤}
+use Rattle.std.specs.Int.Digits.{AllBelowBase}
 use Rattle.asn1_der.specs.Bytes.{HasDer, HasNoDer}
+use Rattle.asn1_der_items.specs.Contents.{IsContentInRange}
+use Rattle.asn1_der_items.specs.Series.{HasOctets}
 use Rattle.asn1_model.specs.Orders.{Same}
-use Rattle.asn1_model.specs.Records.{Content, Record, Records, null, boolean, number, discriminant, arcs, bits, units, bmp, scalar, scope, open_type, presence_mark, none, more}
+use Rattle.asn1_model.specs.Records.{Record, Records, scalar, scope, open_type, presence_mark, none, more}
 use Rattle.asn1_model.specs.Tags.{head_tag}
-use Rattle.asn1_tags.specs.declared.tags.Tag.{Tag}
 
--- the number of the tag is one of 32 bits
-abbrev pub IsTagInRange : Tag → Type 0
-IsTagInRange t = t.value < 2 ^ 32
-
--- The numbers of a content are those of the types that hold them: the number of an ENUMERATED value is one of 64 bits, an arc of 32,
--- and a unit of a BMPString of 16.
-abbrev pub IsContentInRange : Content → Type 0
-IsContentInRange (discriminant labels z) = FitsSigned w64 z
-IsContentInRange (arcs list) = All (λ arc. arc < 2 ^ 32) list
-IsContentInRange (units bmp list) = All (λ unit. unit < 2 ^ 16) list
-IsContentInRange _ = ⊤
-
--- So are all numbers in a record, and in those that it holds.
+-- All numbers in a record, and in those that it holds, are those of the types that hold them: the number of a tag is one of 32 bits,
+-- and the bytes of an open type are octets.
 abbrev mutual
   pub IsInRange : Record → Type 0
-  IsInRange (scalar t c n x) = IsTagInRange t × IsContentInRange x
-  IsInRange (scope h rs) = IsTagInRange (head_tag h) × EachIsInRange rs
-  IsInRange (open_type n own) = ⊤
+  IsInRange (scalar t c n x) = (t.value < 2 ^ 32) × IsContentInRange x
+  IsInRange (scope h rs) = ((head_tag h).value < 2 ^ 32) × EachIsInRange rs
+  IsInRange (open_type n own) = AllBelowBase 256 own
   IsInRange (presence_mark m) = ⊤
 
   pub EachIsInRange : Records → Type 0
@@ -35,4 +25,4 @@ abbrev mutual
 pub record HasDerOrNone (r : Record) : Type 0 where
   pub ordered : Record
   pub same : Same r ordered
-  pub either : ((bytes : List ℕ) × HasDer ordered bytes) ⊎ HasNoDer ordered
+  pub either : HasOctets (HasDer ordered) ⊎ HasNoDer ordered

@@ -6,9 +6,9 @@ use Rattle.std.proofs.lemmas.Int.Digits.{number_lt}
 use Rattle.std.proofs.lemmas.List.{length-replicate}
 use Rattle.std.proofs.lemmas.List.Elements.{All-contains}
 use Rattle.std.specs.Int.Digits.{AllBelowBase}
-use Rattle.std.specs.Prelude.{ℤ, pos, neg_ℤ, ◌/◌, ◌%◌, ◌==◌, ◌⊎◌, nat_eq, nat_lt, replicate, if◌then◌else◌}
+use Rattle.std.specs.Prelude.{ℤ, pos, neg_ℤ, ◌/◌, ◌%◌, ◌==◌, ◌⊎◌, nat_lt, replicate, if◌then◌else◌}
 use Rattle.asn1_model.specs.Records.{Content, StringKind, null, boolean, number, discriminant, arcs, bits, units, octet, utf8, visible, general, graphic, ia5, printable, numeric, teletex, bmp}
-use Rattle.asn1_items.specs.Bits.{AreBits, bit_of_worth, bits_of_octet, bits_of_octets}
+use Rattle.asn1_items.specs.Bits.{AreBits, bits_of_octet, bits_of_octets}
 use Rattle.asn1_values.specs.Numbers.{magnitude}
 use Rattle.asn1_der_items.specs.Arcs.{AreArcs, AreNumbers, HaveNoOctets}
 use Rattle.asn1_der_items.specs.Contents.{AreUnits, HasContents, HasNoContents}
@@ -204,7 +204,7 @@ same_octet o p xs ys low below e = (
     same_bit (o / 8 % 2) (p / 8 % 2) (omega arith) (omega arith) (ap (λ l. first_bit (later (later (later (later l))))) e),
     same_bit (o / 4 % 2) (p / 4 % 2) (omega arith) (omega arith) (ap (λ l. first_bit (later (later (later (later (later l)))))) e),
     same_bit (o / 2 % 2) (p / 2 % 2) (omega arith) (omega arith) (ap (λ l. first_bit (later (later (later (later (later (later l))))))) e),
-    same_bit (o % 2) (p % 2) (omega arith) (omega arith) (ap (λ l. first_bit (later (later (later (later (later (later (later l)))))))) e)
+    same_bit (o % 2) (p % 2) (omega arith) (omega arith) (ap (λ l. first_bit (later (later (later (later (later (later (later l)))))))) e),
   ),
   ap (λ l. later (later (later (later (later (later (later (later l)))))))) e,
 )

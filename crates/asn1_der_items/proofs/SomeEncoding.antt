@@ -1,13 +1,13 @@
 -- Each content in range has contents octets or has none, and contents octets have an element where they are fewer than 2^64.
-use Rattle.std.proofs.Common.{◌≡◌, ℕ, zero, suc, ◌+◌, ◌-◌, ◌*◌, ◌≤◌, ◌<◌, ◌^◌, Bool, true, false, List, [], ◌∷◌, ◌++◌, append_assoc, length, get_or, refl, sym, ap, subst, ◌∙◌, arith, inl, inr}
-use Rattle.std.proofs.Math.Nat.{mod-lt, one-le-pow, pow-suc}
-use Rattle.std.proofs.lemmas.Bool.{cases_lt, ltb-true, ltb-false}
+use Rattle.std.proofs.Common.{◌≡◌, ℕ, zero, suc, ◌+◌, ◌-◌, ◌*◌, ◌≤◌, ◌<◌, ◌^◌, Bool, true, false, List, [], ◌∷◌, ◌++◌, length, get_or, refl, ap, subst, ◌∙◌, arith, inl, inr}
+use Rattle.std.proofs.Math.Nat.{mod-lt}
+use Rattle.std.proofs.lemmas.Bool.{cases_lt}
 use Rattle.std.proofs.lemmas.Int.Digits.{all_below_base_digits_of, first_digits_of, length-digits_of-le, number_digits_of, number_lt, number_push}
-use Rattle.std.proofs.lemmas.List.Elements.{All-cons, All-head, All-nil, All-tail, Contains-get_or, recursion_from_All}
+use Rattle.std.proofs.lemmas.List.Elements.{All-cons, All-nil, Contains-get_or, recursion_from_All}
 use Rattle.std.specs.Int.{byte_at, bytes_high_first}
 use Rattle.std.specs.Int.Digits.{AllBelowBase, digits_of}
 use Rattle.std.specs.List.{flat_map}
-use Rattle.std.specs.Prelude.{ℤ, pos, negsuc, neg_ℤ, ◌/◌, ◌%◌, ◌==◌, ◌⊎◌, All, Some, map, nat_lt, replicate, if◌then◌else◌}
+use Rattle.std.specs.Prelude.{ℤ, pos, negsuc, neg_ℤ, ◌/◌, ◌%◌, ◌==◌, ◌⊎◌, All, map, replicate, if◌then◌else◌}
 use Rattle.asn1_model.specs.Records.{Content, StringKind, null, boolean, number, discriminant, arcs, bits, units, octet, utf8, visible, general, graphic, ia5, printable, numeric, teletex, bmp}
 use Rattle.asn1_items.specs.Bits.{AreBits, bits_of_octet, bits_of_octets}
 use Rattle.asn1_items.specs.Numbers.{two_bytes}
@@ -19,19 +19,14 @@ use Rattle.asn1_values.proofs.Digits.{magnitude-bytes_high_first}
 use Rattle.asn1_values.specs.Numbers.{IsMagnitude, IsShortest, magnitude}
 use Rattle.asn1_der_items.specs.Arcs.{AreArcs, AreNumbers, HaveNoOctets}
 use Rattle.asn1_der_items.specs.Base128.{IsBase128}
-use Rattle.asn1_der_items.specs.Contents.{AreOctets, AreUnits, AreUnitsInRange, HasContents, HasNoContents, IsContentInRange, SomeIsWide}
+use Rattle.asn1_der_items.specs.Contents.{AreUnits, AreUnitsInRange, HasContents, HasNoContents, IsContentInRange, SomeIsWide}
 use Rattle.asn1_der_items.specs.Elements.{IsElement}
 use Rattle.asn1_der_items.specs.Identifiers.{IsIdentifier, first_octet, form_bit}
 use Rattle.asn1_der_items.specs.Integers.{IsComplement, IsInteger}
 use Rattle.asn1_der_items.specs.Lengths.{IsLength}
+use Rattle.asn1_der_items.specs.Series.{HasOctets}
 use Rattle.asn1_der_items.proofs.Complements.{high_natural, high_negative, low_natural, low_negative}
 use Rattle.asn1_der_items.proofs.Septets.{below-push}
-
--- Octets of which this holds.
-pub record HasOctets (Are : List ℕ → Type 0) : Type 0 where
-  pub octets : List ℕ
-  pub are : Are octets
-  pub are_octets : AllBelowBase 256 octets
 
 pub below_both : (xs ys : List ℕ) → AllBelowBase 256 xs → AllBelowBase 256 ys → AllBelowBase 256 (xs ++ ys)
 below_both [] ys below above = above
