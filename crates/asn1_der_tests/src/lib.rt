@@ -4,6 +4,7 @@
 //! |---|---|
 //! | `scalars` | the worked examples of X.690, clause 8, and what DER cannot say |
 //! | `scopes` | sets in their orders, choices, open types, long lengths, groups and components that are their DEFAULT |
+//! | `reading` | the sample types as they are read, and damaged bytes |
 //! | `protocols` | the personnel record of X.690, annex A, and a name of RFC 5280 |
 #![tactic(auto)]
 
@@ -11,6 +12,8 @@
 mod cases;
 #[cfg(test)]
 mod protocols;
+#[cfg(test)]
+mod reading;
 #[cfg(test)]
 mod scalars;
 #[cfg(test)]
