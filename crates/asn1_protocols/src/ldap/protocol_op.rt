@@ -14,8 +14,8 @@ ghost use Rattle.asn1_protocols.specs.declared.ldap.protocol_op.ProtocolOp.TheVa
 use crate::ldap::BindRequest;
 use crate::ldap::bind_request::BIND_REQUEST;
 use asn1_schema::{
-    AsnType, Choice, ChoiceType, Class, Constraints, Encode, EncodeChoice, EncodeError, Encoder,
-    Identifier, OctetString, Tag, TagTree, TypeTable,
+    AsnType, Choice, ChoiceType, Class, Constraints, Decode, DecodeChoice, DecodeError, Decoder,
+    Encode, EncodeChoice, EncodeError, Encoder, Identifier, OctetString, Tag, TagTree, TypeTable,
 };
 
 /// What is asked.
@@ -114,6 +114,36 @@ impl EncodeChoice for ProtocolOp {
             ProtocolOp::Bind(request) => request.encode(encoder),
             ProtocolOp::Unbind(nothing) => nothing.encode_with_tag(encoder, UNBIND_REQUEST),
             ProtocolOp::Delete(entry) => entry.encode_with_tag(encoder, DELETE_REQUEST),
+        }
+    }
+}
+
+impl Decode for ProtocolOp {
+    fn decode_with_tag_and_constraints<D: Decoder>(
+        decoder: &mut D,
+        tag: Tag,
+        constraints: &Constraints<'_>,
+    ) -> Result<ProtocolOp, DecodeError> {
+        decoder.decode_choice_with_tag(tag, constraints)
+    }
+}
+
+impl DecodeChoice for ProtocolOp {
+    fn from_tag<D: Decoder>(decoder: &mut D, tag: Tag) -> Result<ProtocolOp, DecodeError> {
+        match tag {
+            BIND_REQUEST => {
+                let request = BindRequest::decode(decoder)?;
+                Ok(ProtocolOp::Bind(request))
+            }
+            UNBIND_REQUEST => {
+                let nothing = <()>::decode_with_tag(decoder, UNBIND_REQUEST)?;
+                Ok(ProtocolOp::Unbind(nothing))
+            }
+            DELETE_REQUEST => {
+                let entry = OctetString::decode_with_tag(decoder, DELETE_REQUEST)?;
+                Ok(ProtocolOp::Delete(entry))
+            }
+            _ => Err(DecodeError::NoValidChoice("protocolOp")),
         }
     }
 }
