@@ -5,10 +5,12 @@
 //! | [`samples`] | worked values of each sample type, written and read back, and from one codec to another |
 //! | [`sets`] | a SET in each order of its components, and what is none |
 //! | [`calls`] | the calls for groups of additions, items of an ENUMERATED and a CHOICE under a tag |
+//! | [`protocols`] | values of types of LDAP and of X.690, annex A |
 //! | [`depth`] | how many scopes the values take, up to a hundred nodes in one another |
 #![tactic(auto)]
 
 pub mod calls;
 pub mod depth;
+pub mod protocols;
 pub mod samples;
 pub mod sets;

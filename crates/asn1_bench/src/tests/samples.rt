@@ -2,7 +2,7 @@
 use crate::rules::BenchRules;
 use crate::tests::bytes::NULL;
 use crate::tests::cases::passes;
-use asn1_sample_tests::{depth, samples};
+use asn1_sample_tests::{depth, protocols, samples};
 use asn1_schema::Rules;
 use asn1_tagform::TagRules;
 use std::alloc::Global;
@@ -52,12 +52,22 @@ fn values_that_hold_themselves_come_back<R: Rules>(rt: &impl Abort, alloc: Globa
     passes(rt, "depth", depth::samples_need_their_depth(rules, alloc));
 }
 
+fn types_of_protocols_come_back<R: Rules>(rt: &impl Abort, alloc: Global, rules: &R) {
+    passes(
+        rt,
+        "personnel records",
+        protocols::personnel_records_come_back(rules, alloc),
+    );
+    passes(rt, "messages", protocols::messages_come_back(rules, alloc));
+}
+
 #[test]
 fn samples_come_back(rt: HostRuntime) {
     let rules = BenchRules::new(rt.alloc());
     sequences_come_back(&rt, rt.alloc(), &rules);
     choices_and_sets_come_back(&rt, rt.alloc(), &rules);
     values_that_hold_themselves_come_back(&rt, rt.alloc(), &rules);
+    types_of_protocols_come_back(&rt, rt.alloc(), &rules);
 }
 
 #[test]
@@ -66,6 +76,7 @@ fn samples_come_back_without_presence_marks(rt: HostRuntime) {
     sequences_come_back(&rt, rt.alloc(), &rules);
     choices_and_sets_come_back(&rt, rt.alloc(), &rules);
     values_that_hold_themselves_come_back(&rt, rt.alloc(), &rules);
+    types_of_protocols_come_back(&rt, rt.alloc(), &rules);
 }
 
 #[test]

@@ -1,7 +1,9 @@
 //! `Filter` and `Nested`.
 use asn1_codec_tests::made::units;
 use asn1_codec_tests::{Failure, comes_back, made_comes_back, needs_depth};
-use asn1_recursive::{Filter, Nested};
+use asn1_recursive::{
+    AttributeValueAssertion, Filter, MatchingRuleAssertion, Nested, Substring, SubstringFilter,
+};
 use asn1_schema::{Rules, SetOf};
 use std::alloc::Global;
 
@@ -14,6 +16,41 @@ fn not(alloc: Global, filter: Filter) -> Result<Filter, Failure> {
         Ok(filter) => Ok(Filter::Not(filter)),
         Err(_) => Err(Failure::Memory),
     }
+}
+
+fn assertion(alloc: Global) -> Result<AttributeValueAssertion, Failure> {
+    let attribute = units(alloc, b"cn")?;
+    let value = units(alloc, b"Ann")?;
+    Ok(AttributeValueAssertion { attribute, value })
+}
+
+/// `cn=A*n*n`
+fn substrings(alloc: Global) -> Result<SubstringFilter, Failure> {
+    let attribute = units(alloc, b"cn")?;
+    let mut substrings = Vec::new(alloc);
+    substrings.push(Substring::Initial(units(alloc, b"A")?))?;
+    substrings.push(Substring::Any(units(alloc, b"n")?))?;
+    substrings.push(Substring::Final(units(alloc, b"n")?))?;
+    Ok(SubstringFilter {
+        attribute,
+        substrings,
+    })
+}
+
+/// `cn:dn:2.5.13.2:=Ann`, or of it the value alone.
+fn matching(alloc: Global, is_whole: bool) -> Result<MatchingRuleAssertion, Failure> {
+    let value = units(alloc, b"Ann")?;
+    let mut assertion = MatchingRuleAssertion {
+        matching_rule: None,
+        attribute: None,
+        value,
+        dn_attributes: is_whole,
+    };
+    if is_whole {
+        assertion.matching_rule = Some(units(alloc, b"2.5.13.2")?);
+        assertion.attribute = Some(units(alloc, b"cn")?);
+    }
+    Ok(assertion)
 }
 
 /// The set of a name that is there and of one that is not.
@@ -38,6 +75,22 @@ pub fn filters_come_back<R: Rules>(rules: &R, alloc: Global) -> Result<(), Failu
     made_comes_back(rules, present(alloc, b"cn"))
         .and(filter_needs_depth(rules, names(alloc).map(Filter::Or), 5))
         .and(filter_needs_depth(rules, names(alloc).map(Filter::And), 5))
+        .and(assertions_come_back(rules, alloc))
+        .and(matches_come_back(rules, alloc))
+}
+
+/// The four alternatives that say the same of an attribute.
+fn assertions_come_back<R: Rules>(rules: &R, alloc: Global) -> Result<(), Failure> {
+    made_comes_back(rules, assertion(alloc).map(Filter::EqualityMatch))
+        .and(made_comes_back(rules, assertion(alloc).map(Filter::GreaterOrEqual)))
+        .and(made_comes_back(rules, assertion(alloc).map(Filter::LessOrEqual)))
+        .and(made_comes_back(rules, assertion(alloc).map(Filter::ApproxMatch)))
+}
+
+fn matches_come_back<R: Rules>(rules: &R, alloc: Global) -> Result<(), Failure> {
+    filter_needs_depth(rules, substrings(alloc).map(Filter::Substrings), 4)
+        .and(made_comes_back(rules, matching(alloc, true).map(Filter::ExtensibleMatch)))
+        .and(made_comes_back(rules, matching(alloc, false).map(Filter::ExtensibleMatch)))
 }
 
 fn filter_needs_depth<R: Rules>(
