@@ -17,21 +17,33 @@ fn name(alloc: Global, given: &[u8], initial: &[u8], family: &[u8]) -> Result<Na
     })
 }
 
-fn child(alloc: Global, name: Name, born: &[u8]) -> Result<ChildInformation, Failure> {
-    let date_of_birth = Date(letters(alloc, born)?);
+fn child(
+    alloc: Global,
+    name: Result<Name, Failure>,
+    born: &[u8],
+) -> Result<ChildInformation, Failure> {
+    let name = name?;
+    let born = letters(alloc, born)?;
     Ok(ChildInformation {
         name,
-        date_of_birth,
+        date_of_birth: Date(born),
     })
+}
+
+fn push(children: &mut Children, child: Result<ChildInformation, Failure>) -> Result<(), Failure> {
+    match children.push(child?) {
+        Ok(()) => Ok(()),
+        Err(_) => Err(Failure::Memory),
+    }
 }
 
 /// Ralph and Susan.
 fn children(alloc: Global) -> Result<Children, Failure> {
+    let ralph = name(alloc, b"Ralph", b"T", b"Smith");
+    let susan = name(alloc, b"Susan", b"B", b"Jones");
     let mut children = Vec::new(alloc);
-    let ralph = child(alloc, name(alloc, b"Ralph", b"T", b"Smith")?, b"19571111")?;
-    children.push(ralph)?;
-    let susan = child(alloc, name(alloc, b"Susan", b"B", b"Jones")?, b"19590717")?;
-    children.push(susan)?;
+    push(&mut children, child(alloc, ralph, b"19571111"))?;
+    push(&mut children, child(alloc, susan, b"19590717"))?;
     Ok(children)
 }
 

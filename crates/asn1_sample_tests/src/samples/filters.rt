@@ -24,33 +24,54 @@ fn assertion(alloc: Global) -> Result<AttributeValueAssertion, Failure> {
     Ok(AttributeValueAssertion { attribute, value })
 }
 
+fn push(parts: &mut Vec<Substring>, part: Result<Substring, Failure>) -> Result<(), Failure> {
+    match parts.push(part?) {
+        Ok(()) => Ok(()),
+        Err(_) => Err(Failure::Memory),
+    }
+}
+
+/// `A*n*n`
+fn parts(alloc: Global) -> Result<Vec<Substring>, Failure> {
+    let mut parts = Vec::new(alloc);
+    push(&mut parts, units(alloc, b"A").map(Substring::Initial))?;
+    push(&mut parts, units(alloc, b"n").map(Substring::Any))?;
+    push(&mut parts, units(alloc, b"n").map(Substring::Final))?;
+    Ok(parts)
+}
+
 /// `cn=A*n*n`
 fn substrings(alloc: Global) -> Result<SubstringFilter, Failure> {
     let attribute = units(alloc, b"cn")?;
-    let mut substrings = Vec::new(alloc);
-    substrings.push(Substring::Initial(units(alloc, b"A")?))?;
-    substrings.push(Substring::Any(units(alloc, b"n")?))?;
-    substrings.push(Substring::Final(units(alloc, b"n")?))?;
+    let substrings = parts(alloc)?;
     Ok(SubstringFilter {
         attribute,
         substrings,
     })
 }
 
-/// `cn:dn:2.5.13.2:=Ann`, or of it the value alone.
-fn matching(alloc: Global, is_whole: bool) -> Result<MatchingRuleAssertion, Failure> {
+/// `cn:dn:2.5.13.2:=Ann`
+fn whole_match(alloc: Global) -> Result<MatchingRuleAssertion, Failure> {
+    let rule = units(alloc, b"2.5.13.2")?;
+    let attribute = units(alloc, b"cn")?;
     let value = units(alloc, b"Ann")?;
-    let mut assertion = MatchingRuleAssertion {
+    Ok(MatchingRuleAssertion {
+        matching_rule: Some(rule),
+        attribute: Some(attribute),
+        value,
+        dn_attributes: true,
+    })
+}
+
+/// The value of that alone.
+fn bare_match(alloc: Global) -> Result<MatchingRuleAssertion, Failure> {
+    let value = units(alloc, b"Ann")?;
+    Ok(MatchingRuleAssertion {
         matching_rule: None,
         attribute: None,
         value,
-        dn_attributes: is_whole,
-    };
-    if is_whole {
-        assertion.matching_rule = Some(units(alloc, b"2.5.13.2")?);
-        assertion.attribute = Some(units(alloc, b"cn")?);
-    }
-    Ok(assertion)
+        dn_attributes: false,
+    })
 }
 
 /// The set of a name that is there and of one that is not.
@@ -89,8 +110,8 @@ fn assertions_come_back<R: Rules>(rules: &R, alloc: Global) -> Result<(), Failur
 
 fn matches_come_back<R: Rules>(rules: &R, alloc: Global) -> Result<(), Failure> {
     filter_needs_depth(rules, substrings(alloc).map(Filter::Substrings), 4)
-        .and(made_comes_back(rules, matching(alloc, true).map(Filter::ExtensibleMatch)))
-        .and(made_comes_back(rules, matching(alloc, false).map(Filter::ExtensibleMatch)))
+        .and(made_comes_back(rules, whole_match(alloc).map(Filter::ExtensibleMatch)))
+        .and(made_comes_back(rules, bare_match(alloc).map(Filter::ExtensibleMatch)))
 }
 
 fn filter_needs_depth<R: Rules>(
