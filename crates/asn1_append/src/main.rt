@@ -1,12 +1,12 @@
 //! Appends bytes to a stream in pieces, and takes blocks from it: what `bench/append.py` measures.
 //!
-//! The first argument says how many bytes there are, the second how many of them a piece has; with 0 nothing is appended. It
-//! writes how many blocks were taken.
+//! The first argument says how many bytes there are, the second how many of them a piece has; with 0 nothing is appended. With
+//! the third argument `late` blocks are taken when all is appended, and else after each piece. It writes how many blocks were taken.
 #![tactic(auto)]
 
 mod blocks;
 
-use asn1_streams::iter_of;
+use asn1_streams::{Iter, iter_of};
 use blocks::BlockReader;
 use std::alloc::{AllocError, Global};
 use std::{env, io};
@@ -16,7 +16,8 @@ fn main(rt: HostRuntime) -> io::Result<()> {
     let _program = words.next();
     let total = number(words.next());
     let size = number(words.next());
-    match append_all(rt.alloc(), total, size) {
+    let takes_late = words.next().is_some();
+    match append_all(rt.alloc(), total, size, takes_late) {
         Ok(blocks) => println!(rt; "{blocks} blocks"),
         Err(error) => println!(rt; "{error}"),
     }
@@ -30,8 +31,13 @@ fn number(word: Option<String>) -> usize {
     }
 }
 
-/// Appends this many bytes in pieces of this size, takes blocks after each piece, and answers how many there were.
-fn append_all(alloc: Global, total: usize, size: usize) -> Result<usize, AllocError> {
+/// Appends this many bytes in pieces of this size, and answers how many blocks were taken of them.
+fn append_all(
+    alloc: Global,
+    total: usize,
+    size: usize,
+    takes_late: bool,
+) -> Result<usize, AllocError> {
     let bytes = vec![in alloc; 7u8; total]?;
     if size == 0 {
         return Ok(0);
@@ -40,12 +46,21 @@ fn append_all(alloc: Global, total: usize, size: usize) -> Result<usize, AllocEr
     let mut blocks = 0usize;
     for piece in bytes.chunks(size) {
         iter.append_bytes(piece)?;
-        for _ in 0..total {
-            match iter.next() {
-                Some(Ok(())) => blocks = blocks.saturating_add(1),
-                _ => break,
-            }
+        if !takes_late {
+            blocks = blocks.saturating_add(take_blocks(&mut iter, total));
         }
     }
-    Ok(blocks)
+    Ok(blocks.saturating_add(take_blocks(&mut iter, total)))
+}
+
+/// Takes the blocks that have come, at most this many, and answers how many there were.
+fn take_blocks(iter: &mut Iter<'_, (), BlockReader>, most: usize) -> usize {
+    let mut blocks = 0usize;
+    for _index in 0..most {
+        match iter.next() {
+            Some(Ok(())) => blocks = blocks.saturating_add(1),
+            _ => return blocks,
+        }
+    }
+    blocks
 }
