@@ -1,10 +1,12 @@
 //! `CHOICE { initial [0] AssertionValue, any [1] AssertionValue, final [2] AssertionValue }` (RFC 4511, 4.5.1)
-ghost use Rattle.std.specs.Prelude.{[], codes, ◌∷◌};
-ghost use Rattle.asn1_types.specs.Words.{IsWellTagged, alternative, choice_agrees, choice_of, closed_choice, context, inl, inr, tagged};
+ghost use Rattle.std.specs.Prelude.{[], codes, refl, ◌∷◌};
+ghost use Rattle.asn1_slots.specs.Cases.{cases_agree, choice_of_cases, variant};
+ghost use Rattle.asn1_types.specs.Words.{IsWellTagged, choice_agrees, choice_of, context, inl, inr, tagged};
 ghost use Rattle.asn1_recursive.specs.declared.substring.Substring.TheVariants.{Initial, Any, Final};
 
 use asn1_dec::{Decode, DecodeChoice, DecodeError, Decoder};
 use asn1_enc::{Encode, EncodeChoice, EncodeError, Encoder};
+use asn1_slots::{DecodeChoiceByPlace, HasCases, Tagging, alternative};
 use asn1_strings::OctetString;
 use asn1_types::{
     AsnType, Choice, ChoiceType, Class, Constraints, Identifier, Tag, TagTree, TypeTable,
@@ -43,13 +45,18 @@ const SUBSTRING: &[TagTree<'static>] = &[
     TagTree::Leaf(FINAL),
 ];
 
-impl Choice for Substring {
-    ghost alternatives = { closed_choice (
-        alternative (codes "initial") (tagged (context 0) ⟦<OctetString as AsnType>⟧.meaning) ∷
-        alternative (codes "any") (tagged (context 1) ⟦<OctetString as AsnType>⟧.meaning) ∷
-        alternative (codes "final") (tagged (context 2) ⟦<OctetString as AsnType>⟧.meaning) ∷ []) };
+impl HasCases for Substring {
+    ghost cases = { variant (codes "initial") Initial (tagged (context 0) ⟦<OctetString as AsnType>⟧.meaning) ⟦<OctetString as PartialEq>⟧.eq ∷
+        variant (codes "any") Any (tagged (context 1) ⟦<OctetString as AsnType>⟧.meaning) ⟦<OctetString as PartialEq>⟧.eq ∷
+        variant (codes "final") Final (tagged (context 2) ⟦<OctetString as AsnType>⟧.meaning) ⟦<OctetString as PartialEq>⟧.eq ∷ [] };
 
-    ghost pick = { elim [ Initial part ↦ inl part | Any part ↦ inr (inl part) | Final part ↦ inr (inr (inl part)) ] };
+    ghost case_of = { elim [ Initial part ↦ inl part | Any part ↦ inr (inl part) | Final part ↦ inr (inr (inl part)) ] };
+}
+
+impl Choice for Substring {
+    ghost alternatives = { choice_of_cases ⟦<Substring as HasCases>⟧.cases };
+
+    ghost pick = { ⟦<Substring as HasCases>⟧.case_of };
 
     fn variants() -> &'static [TagTree<'static>] {
         SUBSTRING
@@ -127,20 +134,24 @@ impl Decode for Substring {
 
 impl DecodeChoice for Substring {
     fn from_tag<D: Decoder>(decoder: &mut D, tag: Tag) -> Result<Substring, DecodeError> {
-        match tag {
-            INITIAL => {
-                let part = OctetString::decode_with_tag(decoder, INITIAL)?;
-                Ok(Substring::Initial(part))
-            }
-            ANY => {
-                let part = OctetString::decode_with_tag(decoder, ANY)?;
-                Ok(Substring::Any(part))
-            }
-            FINAL => {
-                let part = OctetString::decode_with_tag(decoder, FINAL)?;
-                Ok(Substring::Final(part))
-            }
+        Substring::from_tag_by_place(decoder, tag)
+    }
+}
+
+impl DecodeChoiceByPlace for Substring {
+    fn decode_alternative<D: Decoder>(
+        place: usize,
+        decoder: &mut D,
+    ) -> Result<Substring, DecodeError> {
+        match place {
+            0 => Ok(Substring::Initial(alternative(decoder, Tagging::Tagged(INITIAL))?)),
+            1 => Ok(Substring::Any(alternative(decoder, Tagging::Tagged(ANY))?)),
+            2 => Ok(Substring::Final(alternative(decoder, Tagging::Tagged(FINAL))?)),
             _ => Err(DecodeError::NoValidChoice("substring")),
         }
     }
+
+    ghost agrees = { λ part. cases_agree ⟦<Substring as HasCases>⟧.cases (⟦<Substring as HasCases>⟧.case_of part) };
+
+    ghost made = { elim [ Initial part ↦ (refl, λ _. refl) | Any part ↦ (refl, λ _. refl) | Final part ↦ (refl, λ _. refl) ] };
 }
