@@ -77,9 +77,9 @@ numbered (ExtensibleMatch said) tag has = subst (λ t. HasNumber t.value (Extens
 pub of_number : (n : ℕ) (tag : Tag) → tag.value ≡ n → (v : Filter) → Has (tree_tags (chosen (all_of filter_alternatives) (filter_pick v)).type.tree) tag → HasNumber n v
 of_number n tag is v has = subst (λ k. HasNumber k v) is (numbered v tag has)
 
--- a tag of one of them is not lacked by all
-pub is_had : {P : Type 0} (n : ℕ) (tag : Tag) → tag ≡ context n → ¬ Has (only (context n)) tag → P
-is_had n tag is lacks = absurd (lacks (subst (Has (only (context n))) (sym is) (only_has (context n))))
+-- a tag of one of them is had
+pub is_had : (n : ℕ) (tag : Tag) → tag ≡ context n → Has (only (context n)) tag
+is_had n tag is = subst (Has (only (context n))) (sym is) (only_has (context n))
 
 -- a set means what its elements mean
 pub and_says : (filters : List Filter) → chosen_meaning (all_of filter_alternatives) (filter_pick (And filters)) ≡ value_meaning (tagged (context 0) (set_of_type (λ filters. filters) inner_filter)) filters

@@ -158,43 +158,43 @@ read_alternative-returns-in-EXTENSIBLE_MATCH-clause-read g t c = λ v rest outer
 
 pub read_alternative-returns-in_err-filters-in-AND-clause-unknown : goal.read_alternative-returns-in_err-filters-in-AND-clause-unknown
 read_alternative-returns-in_err-filters-in-AND-clause-unknown g t c =
-    let is : c.args.tag ≡ context 0 = search rules in λ lacks. is_had 0 c.args.tag is lacks.0
+    let is : c.args.tag ≡ context 0 = search rules in λ lacks. absurd (lacks.0 (is_had 0 c.args.tag is))
 
 pub read_alternative-returns-in-AND-clause-unknown : goal.read_alternative-returns-in-AND-clause-unknown
 read_alternative-returns-in-AND-clause-unknown g t c =
-    let is : c.args.tag ≡ context 0 = search rules in λ lacks. is_had 0 c.args.tag is lacks.0
+    let is : c.args.tag ≡ context 0 = search rules in λ lacks. absurd (lacks.0 (is_had 0 c.args.tag is))
 
 pub read_alternative-returns-in_err-filters-in-OR-clause-unknown : goal.read_alternative-returns-in_err-filters-in-OR-clause-unknown
 read_alternative-returns-in_err-filters-in-OR-clause-unknown g t c =
-    let is : c.args.tag ≡ context 1 = search rules in λ lacks. is_had 1 c.args.tag is lacks.1.0
+    let is : c.args.tag ≡ context 1 = search rules in λ lacks. absurd (lacks.1.0 (is_had 1 c.args.tag is))
 
 pub read_alternative-returns-in-OR-clause-unknown : goal.read_alternative-returns-in-OR-clause-unknown
 read_alternative-returns-in-OR-clause-unknown g t c =
-    let is : c.args.tag ≡ context 1 = search rules in λ lacks. is_had 1 c.args.tag is lacks.1.0
+    let is : c.args.tag ≡ context 1 = search rules in λ lacks. absurd (lacks.1.0 (is_had 1 c.args.tag is))
 
 pub read_alternative-returns-in_err-inner-in-NOT-clause-unknown : goal.read_alternative-returns-in_err-inner-in-NOT-clause-unknown
 read_alternative-returns-in_err-inner-in-NOT-clause-unknown g t c =
-    let is : c.args.tag ≡ context 2 = search rules in λ lacks. is_had 2 c.args.tag is lacks.1.1.0
+    let is : c.args.tag ≡ context 2 = search rules in λ lacks. absurd (lacks.1.1.0 (is_had 2 c.args.tag is))
 
 pub read_alternative-returns-in-Ok-clause-unknown : goal.read_alternative-returns-in-Ok-clause-unknown
 read_alternative-returns-in-Ok-clause-unknown g t c =
-    let is : c.args.tag ≡ context 2 = search rules in λ lacks. is_had 2 c.args.tag is lacks.1.1.0
+    let is : c.args.tag ≡ context 2 = search rules in λ lacks. absurd (lacks.1.1.0 (is_had 2 c.args.tag is))
 
 pub read_alternative-returns-in-NOT-clause-unknown : goal.read_alternative-returns-in-NOT-clause-unknown
 read_alternative-returns-in-NOT-clause-unknown g t c =
-    let is : c.args.tag ≡ context 2 = search rules in λ lacks. is_had 2 c.args.tag is lacks.1.1.0
+    let is : c.args.tag ≡ context 2 = search rules in λ lacks. absurd (lacks.1.1.0 (is_had 2 c.args.tag is))
 
 pub read_alternative-returns-in_err-said-in-EQUALITY_MATCH-clause-unknown : goal.read_alternative-returns-in_err-said-in-EQUALITY_MATCH-clause-unknown
 read_alternative-returns-in_err-said-in-EQUALITY_MATCH-clause-unknown g t c =
-    let is : c.args.tag ≡ context 3 = search rules in λ lacks. is_had 3 c.args.tag is lacks.1.1.1.0
+    let is : c.args.tag ≡ context 3 = search rules in λ lacks. absurd (lacks.1.1.1.0 (is_had 3 c.args.tag is))
 
 pub read_alternative-returns-in-EQUALITY_MATCH-clause-unknown : goal.read_alternative-returns-in-EQUALITY_MATCH-clause-unknown
 read_alternative-returns-in-EQUALITY_MATCH-clause-unknown g t c =
-    let is : c.args.tag ≡ context 3 = search rules in λ lacks. is_had 3 c.args.tag is lacks.1.1.1.0
+    let is : c.args.tag ≡ context 3 = search rules in λ lacks. absurd (lacks.1.1.1.0 (is_had 3 c.args.tag is))
 
 pub read_alternative-returns-in-SUBSTRINGS-clause-unknown : goal.read_alternative-returns-in-SUBSTRINGS-clause-unknown
 read_alternative-returns-in-SUBSTRINGS-clause-unknown g t c =
-    let is : c.args.tag ≡ context 4 = search rules in λ lacks. is_had 4 c.args.tag is lacks.1.1.1.1.0
+    let is : c.args.tag ≡ context 4 = search rules in λ lacks. absurd (lacks.1.1.1.1.0 (is_had 4 c.args.tag is))
 
 pub read_alternative-returns-clause-read : goal.read_alternative-returns-clause-read
 read_alternative-returns-clause-read g t c =
