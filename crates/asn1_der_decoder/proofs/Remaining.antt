@@ -1,5 +1,5 @@
 -- What remains exactly to be read by a decoder of DER, from call to call.
-use Rattle.std.proofs.Common.{◌≡◌, ℕ, ◌≤◌, Bool, true, false, List, [], ◌∷◌, ◌++◌, refl, sym, ap, subst, arith, length, length-append, Option}
+use Rattle.std.proofs.Common.{◌≡◌, ◌∙◌, ℕ, ◌≤◌, Bool, true, false, List, [], ◌∷◌, ◌++◌, refl, sym, ap, subst, arith, length, length-append, Option}
 use Rattle.std.specs.Prelude.{Decides, Result, Ok, Err, not}
 use Rattle.asn1_codec.proofs.ReadingUpToOrder.{at_the_end, remains_exactly}
 use Rattle.asn1_codec.proofs.Remaining.{same_as_record}
