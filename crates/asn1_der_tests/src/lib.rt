@@ -6,6 +6,7 @@
 //! | `scopes` | sets in their orders, choices, open types, long lengths, groups and components that are their DEFAULT |
 //! | `reading` | the sample types as they are read, and damaged bytes |
 //! | `messages` | values of LDAP and of X.690, annex A, over each codec |
+//! | `streams` | persons one after another, in pieces |
 //! | `protocols` | the personnel record of X.690, annex A, and a name of RFC 5280 |
 #![tactic(auto)]
 
@@ -21,3 +22,5 @@ mod reading;
 mod scalars;
 #[cfg(test)]
 mod scopes;
+#[cfg(test)]
+mod streams;
