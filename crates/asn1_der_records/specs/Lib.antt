@@ -1,3 +1,4 @@
 pub mod Bytes
+pub mod DistinctTags
 pub mod Existence
 pub mod OneElement
