@@ -113,7 +113,8 @@ impl<P: Presence> ItemEncoder<P> {
     /// Appends the bytes of an open type.
     fn append_open_type(&mut self, bytes: &[u8]) -> Result<(), EncodeError>
         ensures { (n : Name) →
-            Writes (item_writer P.mark_bytes) self.old (open_type n bytes.now ∷ []) ⊤ self.new result }
+            Writes (item_writer P.mark_bytes) self.old (open_type n bytes.now ∷ []) ⊤ self.new
+                result }
     {
         if self.failed {
             return Err(EncodeError::Failed);
