@@ -1,7 +1,7 @@
 //! The packed codec as a whole.
 use asn1_dec::{Decode, DecodeError};
 use asn1_enc::{Encode, EncodeError};
-use asn1_packed::{PackedDecoder, PresenceMarks, read_whole, write_whole};
+use asn1_packed::{PackedBuffer, PackedDecoder, read_whole, write_whole};
 use asn1_rules::Rules;
 use std::alloc::Global;
 
@@ -45,7 +45,7 @@ impl Rules for BenchRules {
     ghost format = { packed_format };
 
     fn write_value<T: Encode>(&self, value: &T, depth: usize) -> Result<Vec<u8>, EncodeError> {
-        write_whole::<PresenceMarks, T>(self.alloc, value, depth)
+        write_whole::<PackedBuffer, T>(self.alloc, value, depth)
     }
 
     fn read_value<T: Decode>(&self, output: &Vec<u8>, depth: usize) -> Result<T, DecodeError>

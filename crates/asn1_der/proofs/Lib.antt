@@ -1,1 +1,2 @@
-mod Marks
+pub mod Marks
+pub mod OneElement

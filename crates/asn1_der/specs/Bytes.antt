@@ -1,5 +1,5 @@
 -- The DER of records (X.690): an element for each, and what is inside.
-use Rattle.std.specs.Prelude.{◌≡◌, ◌⊎◌, ℕ, false, true, IsTrue, List, []}
+use Rattle.std.specs.Prelude.{◌≡◌, ◌⊎◌, ℕ, ◌≤◌, ◌^◌, false, true, IsTrue, List, [], length}
 use Rattle.asn1_der.specs.declared.form.ScopeForm.{ScopeForm}
 use Rattle.asn1_der.specs.declared.form.ScopeForm.TheVariants.{AsDefined, ByTag, ByEncoding, Chosen}
 use Rattle.asn1_der_items.specs.Contents.{HasContents, HasNoContents}
@@ -46,15 +46,21 @@ pub record IsNotChosen (t : Tag) (IsInside : List ℕ → Type 0) : Type 0 where
   pub are : IsInside inside
   pub not : ¬ IsElementOf t inside
 
+-- What is inside is 2^64 octets or more, a length that is not told here.
+pub record IsTooLong (IsInside : List ℕ → Type 0) : Type 0 where
+  pub inside : List ℕ
+  pub are : IsInside inside
+  pub long : 2 ^ 64 ≤ length inside
+
 abbrev pub CannotHold : ScopeForm → Tag → (List ℕ → Type 0) → Type 0
 CannotHold Chosen t IsInside = IsNotChosen t IsInside
-CannotHold _ t IsInside = ⊥
+CannotHold _ t IsInside = IsTooLong IsInside
 
 -- There is a record that has no DER, at some depth: a content that has no contents octets, a CHOICE that is not one element of
--- the chosen tag, or an open type that is not one element.
+-- the chosen tag, an open type that is not one element, or what is 2^64 octets or more inside an element.
 abbrev mutual
   pub HasNoDer : Record → Type 0
-  HasNoDer (scalar t c n x) = HasNoContents x
+  HasNoDer (scalar t c n x) = HasNoContents x ⊎ IsTooLong (HasContents x)
   HasNoDer (scope h rs) = SomeHasNoDer rs ⊎ CannotHold (form_of h) (head_tag h) (HaveDer rs)
   HasNoDer (open_type n own) = is_one_element own ≡ false
   HasNoDer (presence_mark m) = ⊥

@@ -39,3 +39,9 @@ abbrev pub HasNoContents : Content → Type 0
 HasNoContents (arcs list) = HaveNoOctets list
 HasNoContents (units teletex list) = SomeIsWide list
 HasNoContents _ = ⊥
+
+-- A content has the contents octets of another: what are octets of it are octets of the other, and where it has none, neither has
+-- the other.
+pub record HasOctetsOf (x y : Content) : Type 0 where
+  pub octets : (own : List ℕ) → HasContents x own → HasContents y own
+  pub none : HasNoContents x → HasNoContents y

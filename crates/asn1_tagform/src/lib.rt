@@ -22,7 +22,6 @@
 pub mod laws;
 mod next_item;
 mod rules;
-mod tags;
 
 pub use next_item::NextItem;
 pub use rules::TagRules;

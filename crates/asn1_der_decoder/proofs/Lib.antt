@@ -1,0 +1,5 @@
+mod Inside
+pub mod Remaining
+mod Rising
+mod Taking
+mod Telling
