@@ -104,7 +104,8 @@ pub fn arrays_are_made_of_lists<T: Drop, const N: usize>(_list: &Vec<T>)
             IsOk made ↔ (vec_len _list.now ≡ N) }
     ensures elements { (made : _) →
         ⟦<Array<T, N> as TryFrom<Vec<T>>>⟧.try_from_gives _list.now made →
-            MatchResult made (λ array. array.elements ≡ _list.now.items) (λ same. same ≡ _list.now) }
+            MatchResult made (λ array. array.elements ≡ _list.now.items)
+            (λ same. same ≡ _list.now) }
 {}
 
 /// Laws of the order and hash of an array in a struct of its own, which are those of the slice of its elements.
