@@ -1,5 +1,5 @@
 //! A CHOICE under whatever tag.
-ghost use Rattle.asn1_enc.specs.TaggedChoices.{WritesAfterTag};
+ghost use Rattle.asn1_codec.specs.TaggedChoices.{WritesAfterTag};
 ghost use Rattle.asn1_codec.specs.GivenTypes.{given};
 ghost use Rattle.asn1_codec.specs.Writing.{NeedsDepth};
 ghost use Rattle.asn1_codec.specs.WritingTypes.{WritesValue};
