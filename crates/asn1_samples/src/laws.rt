@@ -158,6 +158,5 @@ pub fn settings_are_compared_by_key(a: &Settings, b: &Settings) -> bool
 /// A law of the derived clones: a clone is its source.
 pub fn clones_are_their_sources()
     ensures color { ClonesAll ⟦<Color as Clone>⟧.is_clone ⟦<Color as Clone>⟧.is_infallible }
-    ensures labelled { ClonesAll ⟦<Labelled as Clone>⟧.is_clone
-        ⟦<Labelled as Clone>⟧.is_infallible }
+    ensures labelled { ClonesAll ⟦<Labelled as Clone>⟧.is_clone ⟦<Labelled as Clone>⟧.is_infallible }
 {}

@@ -89,8 +89,7 @@ pub fn pair_is_well_tagged<T: AsnType, U: AsnType>()
 pub fn pair_is_valid<T: AsnType, U: AsnType>(pair: &Pair<T, U>)
     ensures { (accepts : List ℕ → Bool) →
         ⟦<Pair<T, U> as AsnType>⟧.meaning.IsValid accepts pair.now ↔
-        (T.meaning.IsValid accepts pair.now.first ×
-            IfSome pair.now.second (U.meaning.IsValid accepts)) }
+        (T.meaning.IsValid accepts pair.now.first × IfSome pair.now.second (U.meaning.IsValid accepts)) }
 {}
 
 impl<T: Encode, U: Encode> Encode for Pair<T, U> {

@@ -204,13 +204,11 @@ pub fn profile_records(profile: &Profile, nick: &Utf8String, mail: &Ia5String)
       color = Red;
       contact =
           Some (record { phone = None; mail = None });
-    } → own_records ⟦<Profile as AsnType>⟧.meaning profile.now ≡
-        holding (sequence_head (universal 16)
+    } → own_records ⟦<Profile as AsnType>⟧.meaning profile.now ≡ holding (sequence_head (universal 16)
         (lines ⟦<Profile as FieldTable>⟧.components) (Some (codes "Profile"))) (presence_mark
         (absent in_root (context 0)) ∷ scalar (context 1)
         (values_of (Range (Some (pos 0)) (Some (pos 255)))) (Some (codes "INTEGER"))
-        (number (pos 7)) ∷ presence_mark (absent in_root (context 2)) ∷
-            presence_mark group_absent ∷ []) ∷ [] }
+        (number (pos 7)) ∷ presence_mark (absent in_root (context 2)) ∷ presence_mark group_absent ∷ []) ∷ [] }
     ensures full { string_bytes nick.now ≡ codes "Al" → mail.now ≡ codes "a@b" →
         profile.now ≡ record {
           nick = Some nick.now;
@@ -218,8 +216,7 @@ pub fn profile_records(profile: &Profile, nick: &Utf8String, mail: &Ia5String)
           color = Blue;
           contact = Some
               (record { phone = None; mail = Some mail.now });
-        } → own_records ⟦<Profile as AsnType>⟧.meaning profile.now ≡
-            holding (sequence_head (universal 16)
+        } → own_records ⟦<Profile as AsnType>⟧.meaning profile.now ≡ holding (sequence_head (universal 16)
         (lines ⟦<Profile as FieldTable>⟧.components) (Some (codes "Profile"))) (presence_mark
         (present in_root (context 0)) ∷ scalar (context 0) unconstrained (Some (codes "UTF8String"))
         (units utf8 (codes "Al")) ∷ scalar (context 1)

@@ -141,11 +141,11 @@ impl Decode for Ticket {
 
 impl DecodeSetByPlace for Ticket {
     fn decode_field<D: Decoder>(
-        index: usize,
+        place: usize,
         slots: &mut Self::Slots,
         decoder: &mut D,
     ) -> Result<(), DecodeError> {
-        match index {
+        match place {
             0 => once(&mut slots.0, decoder, Tagging::Tagged(SEAT), "seat"),
             1 => once(&mut slots.1, decoder, Tagging::Tagged(NAME), "name"),
             2 => once(&mut slots.2, decoder, Tagging::Tagged(PAID), "paid"),

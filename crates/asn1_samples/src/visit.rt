@@ -174,12 +174,10 @@ pub fn visit_records(visit: &Visit, phone: &NumericString, note: &Utf8String)
           contact = Some (record
               { phone = Some phone.now; mail = None });
           note = Some note.now;
-        } → own_records ⟦<Visit as AsnType>⟧.meaning visit.now ≡
-            holding (sequence_head (universal 16)
+        } → own_records ⟦<Visit as AsnType>⟧.meaning visit.now ≡ holding (sequence_head (universal 16)
         (lines ⟦<Visit as FieldTable>⟧.components) (Some (codes "Visit"))) (scalar (context 0)
         (values_of (Range (Some (pos 0)) (Some (pos 65535)))) (Some (codes "INTEGER"))
-        (number (pos 7)) ∷
-            presence_mark (group_start (lines ⟦<Contact as FieldTable>⟧.components)) ∷
+        (number (pos 7)) ∷ presence_mark (group_start (lines ⟦<Contact as FieldTable>⟧.components)) ∷
         presence_mark (present in_root (context 3)) ∷ scalar (context 3) unconstrained
         (Some (codes "NumericString")) (units numeric (codes "12")) ∷
         presence_mark (absent in_root (context 4)) ∷ presence_mark group_end ∷
@@ -191,12 +189,10 @@ pub fn visit_records(visit: &Visit, phone: &NumericString, note: &Utf8String)
           contact = Some (record
               { phone = Some phone.now; mail = None });
           note = None;
-        } → own_records ⟦<Visit as AsnType>⟧.meaning visit.now ≡
-            holding (sequence_head (universal 16)
+        } → own_records ⟦<Visit as AsnType>⟧.meaning visit.now ≡ holding (sequence_head (universal 16)
         (lines ⟦<Visit as FieldTable>⟧.components) (Some (codes "Visit"))) (scalar (context 0)
         (values_of (Range (Some (pos 0)) (Some (pos 65535)))) (Some (codes "INTEGER"))
-        (number (pos 7)) ∷
-            presence_mark (group_start (lines ⟦<Contact as FieldTable>⟧.components)) ∷
+        (number (pos 7)) ∷ presence_mark (group_start (lines ⟦<Contact as FieldTable>⟧.components)) ∷
         presence_mark (present in_root (context 3)) ∷ scalar (context 3) unconstrained
         (Some (codes "NumericString")) (units numeric (codes "12")) ∷
         presence_mark (absent in_root (context 4)) ∷ presence_mark group_end ∷

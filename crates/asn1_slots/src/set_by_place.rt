@@ -12,18 +12,18 @@ use asn1_components::{ConstructedType, FieldTable};
 use asn1_dec::{Decoder, component_with_tag};
 use asn1_tags::Tag;
 
-/// A SET whose components are read in whatever order they come, each by its index, its place in the definition, into slots.
+/// A SET whose components are read in whatever order they come, each by its place in the definition, into slots.
 pub trait DecodeSetByPlace: FieldTable + Slotted + Drop {
-    /// Reads the component of an index into its slot, and leaves the other slots. Where it was read before, the error is
-    /// [`DecodeError::DuplicateField`], with its name.
+    /// Reads the component at a place of the definition into its slot, and leaves the other slots. Where it was read before, the
+    /// error is [`DecodeError::DuplicateField`], with its name.
     fn decode_field<D: Decoder>(
-        index: usize,
+        place: usize,
         slots: &mut Self::Slots,
         decoder: &mut D,
     ) -> Result<(), DecodeError>
-        ensures read { ReadsOnceAt D.reader Self.layout index decoder.old decoder.new slots.old
+        ensures read { ReadsOnceAt D.reader Self.layout place decoder.old decoder.new slots.old
             slots.new result }
-        ensures kept { (v : Self) → OthersAreKept Self.layout index slots.old slots.new v }
+        ensures kept { (v : Self) → OthersAreKept Self.layout place slots.old slots.new v }
         ensures same_depth { OnOk result (D.reader.depth_left decoder.new ≡
             D.reader.depth_left decoder.old) };
 
@@ -52,11 +52,11 @@ fn read_slots<S: DecodeSetByPlace, D: Decoder>(
             Some(tag) => tag,
             None => return Ok(slots),
         };
-        let index = match component_with_tag::<S>(tag) {
-            Some(index) => index,
+        let place = match component_with_tag::<S>(tag) {
+            Some(place) => place,
             None => return Err(decoder.refuse(DecodeError::UnknownField { index: count, tag })),
         };
-        match S::decode_field(index, &mut slots, decoder) {
+        match S::decode_field(place, &mut slots, decoder) {
             Ok(()) => {}
             Err(error) => return Err(decoder.refuse(error)),
         }
