@@ -1,11 +1,11 @@
 -- What is inside a record that holds others.
-use Rattle.std.proofs.Common.{◌≡◌, ℕ, true, List, [], refl, subst, ◌∙◌}
+use Rattle.std.proofs.Common.{◌≡◌, ℕ, true, List, refl, subst, ◌∙◌}
 use Rattle.std.specs.Prelude.{Option, Some, None, IfSome}
-use Rattle.asn1_der.proofs.OneElement.{element_alone, element_of, one_of}
-use Rattle.asn1_der.specs.Bytes.{HasDer, HaveDer, HoldsInForm, form_of}
-use Rattle.asn1_der.specs.OneElement.{IsAlone}
-use Rattle.asn1_der.specs.declared.form.ScopeForm.{ScopeForm}
-use Rattle.asn1_der.specs.declared.form.ScopeForm.TheVariants.{AsDefined, ByTag, ByEncoding, Chosen}
+use Rattle.asn1_der_records.proofs.OneElement.{element_alone, element_of, one_of}
+use Rattle.asn1_der_records.specs.Bytes.{HasDer, HaveDer, HoldsInForm}
+use Rattle.asn1_der_records.specs.OneElement.{IsAlone}
+use Rattle.asn1_der_records.specs.declared.form.ScopeForm.{ScopeForm}
+use Rattle.asn1_der_records.specs.declared.form.ScopeForm.TheVariants.{AsDefined, ByTag, ByEncoding, Chosen}
 use Rattle.asn1_der_decoder.specs.Decoder.{IsInside, IsWanted}
 use Rattle.asn1_der_items.specs.Elements.{Element}
 use Rattle.asn1_model.specs.Records as model

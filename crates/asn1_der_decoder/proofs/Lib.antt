@@ -1,5 +1,5 @@
+mod InOrder
 mod Inside
-pub mod Remaining
-mod Rising
 mod Taking
 mod Telling
+pub mod Remaining

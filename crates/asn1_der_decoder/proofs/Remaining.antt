@@ -1,18 +1,20 @@
 -- What remains exactly to be read by a decoder of DER, from call to call.
-use Rattle.std.proofs.Common.{◌≡◌, ℕ, ◌+◌, ◌≤◌, Bool, true, false, List, [], ◌∷◌, ◌++◌, refl, sym, ap, subst, ◌∙◌, arith, length, length-append, Option}
+use Rattle.std.proofs.Common.{◌≡◌, ◌∙◌, ℕ, ◌≤◌, Bool, true, false, List, [], ◌∷◌, ◌++◌, refl, sym, ap, subst, arith, length, length-append, Option}
 use Rattle.std.specs.Prelude.{Decides, Result, Ok, Err, not}
 use Rattle.asn1_codec.proofs.ReadingUpToOrder.{at_the_end, remains_exactly}
+use Rattle.asn1_codec.proofs.Remaining.{same_as_record}
 use Rattle.asn1_codec.specs.Reading.{Advances, HasAdvanced, Outside, ReadsHead, nothing, records_in}
 use Rattle.asn1_codec.specs.Reading as codec
 use Rattle.asn1_codec.specs.declared.decode_error.DecodeError.{DecodeError}
-use Rattle.asn1_der.specs.Bytes.{HasDer, HaveDer}
+use Rattle.asn1_der_records.specs.Bytes.{HasDer, HaveDer}
 use Rattle.asn1_der_decoder.specs.Decoder.{AllHaveDer, IsOpened, IsWanted, OpensWanted, Remains, RemainsExactly, in_one_order}
 use Rattle.asn1_der_decoder.specs.declared.decoder.DerDecoder.{DerDecoder}
 use Rattle.asn1_der_decoder.specs.declared.decoder.Opened.{Opened}
-use Rattle.asn1_der.specs.declared.form.ScopeForm.{ScopeForm}
-use Rattle.asn1_der.proofs.Marks.{without_mark}
-use Rattle.asn1_der.proofs.OneElement.{record_long}
+use Rattle.asn1_der_records.specs.declared.form.ScopeForm.{ScopeForm}
+use Rattle.asn1_der_records.proofs.Marks.{without_mark}
+use Rattle.asn1_der_records.proofs.OneElement.{record_long}
 use Rattle.asn1_items.specs.Slices.{left_inside, left_outside}
+use Rattle.asn1_model.proofs.SameRecords.{same-mark}
 use Rattle.asn1_model.specs.Orders.{SameRecords}
 use Rattle.asn1_model.specs.Records as model
 use Rattle.asn1_model.specs.Records.{Name, held, holding, is_presence_mark, presence_mark}
@@ -143,3 +145,10 @@ pub nothing_is_left : (d : DerDecoder) → Remains d ([], []) → NothingLeft d
 nothing_is_left d at =
     let e = at_the_end in_one_order d at in
     record { no_failure = e.no_failure; inside = e.inside; outside = none_outside (left_outside d.slices) e.outside }
+
+-- a record that is left is not the end, if it is no presence mark
+pub not_at_end : (d : DerDecoder) (r : model.Record) (rest : List model.Record) → is_presence_mark r ≡ false → Remains d (r ∷ rest, []) → Remains d ([], []) → ⊥
+not_at_end d r rest no_mark at end =
+    let a = same_as_record at.same in
+    let exact = subst (λ l. RemainsExactly d l) a.is at.remains in
+    some_left a.first a.rest (left_inside d.slices) (same-mark a.same ∙ no_mark) exact.inside (nothing_is_left d end).inside

@@ -1,17 +1,17 @@
 -- What the tag of the next element tells: whether something is there, and whose the next record of a SET is.
-use Rattle.std.proofs.Common.{◌≡◌, ℕ, Bool, true, false, List, [], ◌∷◌, ◌++◌, Option, None, Some, Ok, Err, refl, ap, sym, subst, ◌∙◌, arith}
+use Rattle.std.proofs.Common.{◌≡◌, ℕ, Bool, true, false, List, [], ◌∷◌, Option, None, Some, Ok, Err, refl, ap, sym, subst, ◌∙◌, arith}
 use Rattle.std.specs.Prelude.{◌↔◌, IsTrue, MatchResult, OnOk, Result}
 use Rattle.asn1_codec.proofs.MarksPassed.{first_left, none_left}
 use Rattle.asn1_codec.proofs.TellingTags.{tells_itself}
 use Rattle.asn1_codec.specs.Reading.{Advances, HasAdvanced, IsNextTag, Outside, TellsPresence, marks_passed}
 use Rattle.asn1_codec.specs.declared.decode_error.DecodeError.{DecodeError}
 use Rattle.asn1_components.specs.ComponentTypes.{ComponentType}
-use Rattle.asn1_der.specs.Bytes.{HaveDer}
+use Rattle.asn1_der_records.specs.Bytes.{HaveDer}
 use Rattle.asn1_der_decoder.specs.Decoder.{AllHaveDer, AreLeft, RemainsExactly, in_one_order}
 use Rattle.asn1_items.specs.NextTags.{IsNext}
 use Rattle.asn1_der_decoder.specs.declared.decoder.DerDecoder.{DerDecoder}
-use Rattle.asn1_der.proofs.OneElement.{record_element}
-use Rattle.asn1_der.proofs.Marks.{without_mark}
+use Rattle.asn1_der_records.proofs.OneElement.{record_element}
+use Rattle.asn1_der_records.proofs.Marks.{without_mark}
 use Rattle.asn1_der_decoder.proofs.Remaining.{past_mark, some_left}
 use Rattle.asn1_packed.specs.Decoder.{lists_outside}
 use Rattle.asn1_der_items.proofs.Behind.{element_at-append, element_before}
@@ -93,35 +93,37 @@ false_of false h = refl
 
 module _ (d e : DerDecoder) (there away : model.PresenceMark) (own : Tags) where
   -- an element is next: the component is there if and only if its tag is one of the component's
-  pub told : (t : Tag) (b : Bool) → e.failed ≡ false → e.slices ≡ d.slices → ((rs : List model.Record) → AreLeft rs d.slices → IsNext rs (Some t)) → IsTrue b ↔ Has own t → TellsPresence in_one_order d e there away own (Ok b)
-  told t b no_failure same next has = record {
+  pub told : (t : Tag) (b : Bool) (next : Option Tag) → next ≡ Some t → e.failed ≡ false → e.slices ≡ d.slices → ((rs : List model.Record) → d.failed ≡ false → AreLeft rs d.slices → IsNext rs next) → IsTrue b ↔ Has own t →
+      TellsPresence in_one_order d e there away own (Ok b)
+  told t b next is no_failure same tells has = record {
     there = λ rest outer begins at.
         let left = without_mark there rest (left_inside d.slices) at.inside in
         record {
-          answer = has.1 (lies_has (first_tags rest) own begins.within t ((next rest left).some t refl));
+          answer = has.1 (lies_has (first_tags rest) own begins.within t ((tells rest at.no_failure left).some t is));
           at = past_mark d e there rest outer no_failure same at;
           within_depth_left = omega arith;
         };
     away = λ rest outer apart at.
         let left = without_mark away rest (left_inside d.slices) at.inside in
         record {
-          answer = false_of b (λ yes. apart t (has.0 yes) ((next rest left).some t refl));
+          answer = false_of b (λ yes. apart t (has.0 yes) ((tells rest at.no_failure left).some t is));
           at = past_mark d e away rest outer no_failure same at;
           within_depth_left = omega arith;
         };
   }
 
   -- none is next: it is absent
-  pub told_none : e.failed ≡ false → e.slices ≡ d.slices → ((rs : List model.Record) → AreLeft rs d.slices → IsNext rs None) → TellsPresence in_one_order d e there away own (Ok false)
-  told_none no_failure same next = record {
+  pub told_none : (next : Option Tag) → next ≡ None → e.failed ≡ false → e.slices ≡ d.slices → ((rs : List model.Record) → d.failed ≡ false → AreLeft rs d.slices → IsNext rs next) →
+      TellsPresence in_one_order d e there away own (Ok false)
+  told_none next is no_failure same tells = record {
     there = λ rest outer begins at.
-        let wrong = sym begins.some ∙ (next rest (without_mark there rest (left_inside d.slices) at.inside)).none refl in cc;
+        let wrong = sym begins.some ∙ (tells rest at.no_failure (without_mark there rest (left_inside d.slices) at.inside)).none is in cc;
     away = λ rest outer apart at. record { answer = refl; at = past_mark d e away rest outer no_failure same at; within_depth_left = omega arith };
   }
 
   -- where records are left, it is told
-  pub not_told : (error : DecodeError) → ((rs : List model.Record) → d.failed ≡ false → AreLeft rs d.slices → ⊥) → TellsPresence in_one_order d e there away own (Err error)
-  not_told error never = record {
+  pub not_told : (result : Result Bool DecodeError) (error : DecodeError) → result ≡ Err error → ((rs : List model.Record) → d.failed ≡ false → AreLeft rs d.slices → ⊥) → TellsPresence in_one_order d e there away own result
+  not_told result error is never = record {
     there = λ rest outer begins at. absurd (never rest at.no_failure (without_mark there rest (left_inside d.slices) at.inside));
     away = λ rest outer apart at. absurd (never rest at.no_failure (without_mark away rest (left_inside d.slices) at.inside));
   }
@@ -140,7 +142,7 @@ next_told cs d e items outer next no_failure same is at = record {
 }
 
 pub next_tag_told : {V : Type 0} (cs : List (ComponentType V)) (d e : DerDecoder) (items : List model.Record) (outer : Outside) (result : Result (Option Tag) DecodeError) →
-    ((rs : List model.Record) → d.failed ≡ false → AreLeft rs d.slices → MatchResult result (IsNext rs) (λ _. ⊥)) → e.slices ≡ d.slices → OnOk result (e.failed ≡ false) →
+    ((rs : List model.Record) → d.failed ≡ false → AreLeft rs d.slices → MatchResult result (IsNext rs) (λ _. ⊥)) → OnOk result (e.slices ≡ d.slices) → OnOk result (e.failed ≡ false) →
     Advances in_one_order d e 0 (items, outer) (marks_passed items, outer) (IsNextTag cs items) result
 next_tag_told cs d e items outer (Ok next) told same no_failure at = next_told cs d e items outer next no_failure same (told items at.no_failure at.inside) at
 next_tag_told cs d e items outer (Err error) told same no_failure at = absurd (told items at.no_failure at.inside)

@@ -3,9 +3,9 @@ use Rattle.std.specs.Prelude.{◌≡◌, ℕ, ◌≤◌, ⊤, false, true, List,
 use Rattle.asn1_codec.specs.ReadingUpToOrder.{up_to_order}
 use Rattle.asn1_codec.specs.Reading.{Advances, Outside, Reader, Remaining, records_in}
 use Rattle.asn1_codec.specs.declared.decode_error.DecodeError.{DecodeError}
-use Rattle.asn1_der.specs.Bytes.{HaveDer, form_of}
-use Rattle.asn1_der.specs.declared.form.ScopeForm.{ScopeForm}
-use Rattle.asn1_der.specs.declared.form.ScopeForm.TheVariants.{AsDefined, ByTag, ByEncoding, Chosen}
+use Rattle.asn1_der_records.specs.Bytes.{HaveDer, form_of}
+use Rattle.asn1_der_records.specs.declared.form.ScopeForm.{ScopeForm}
+use Rattle.asn1_der_records.specs.declared.form.ScopeForm.TheVariants.{AsDefined, ByTag, ByEncoding, Chosen}
 use Rattle.asn1_der_decoder.specs.declared.decoder.DerDecoder.{DerDecoder}
 use Rattle.asn1_der_decoder.specs.declared.decoder.Opened.{Opened}
 use Rattle.asn1_der_decoder.specs.declared.taken.Taken.{Taken}

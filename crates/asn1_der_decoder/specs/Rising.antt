@@ -4,11 +4,12 @@ use Rattle.std.specs.Cmp.Lexicographic.{slice_cmp}
 use Rattle.std.specs.List.{flat_map}
 use Rattle.std.specs.List.Sorted.{IsSortedBy}
 use Rattle.std.specs.Ordering.{is_lt, nat_cmp}
-use Rattle.asn1_der.specs.declared.form.ScopeForm.{ScopeForm}
-use Rattle.asn1_der.specs.declared.form.ScopeForm.TheVariants.{AsDefined, ByTag, ByEncoding, Chosen}
+use Rattle.asn1_der_records.specs.declared.form.ScopeForm.{ScopeForm}
+use Rattle.asn1_der_records.specs.declared.form.ScopeForm.TheVariants.{ByTag, ByEncoding}
 use Rattle.asn1_der_decoder.specs.declared.rising.Key.{Key}
 use Rattle.asn1_der_items.specs.Series.{is_one_element, tag_of}
 use Rattle.asn1_tags.specs.Tags.{tag_cmp}
+use Rattle.asn1_tags.specs.declared.tags.Tag.{Tag}
 
 -- the first element is below the second, in the order of a form
 abbrev pub falls : ScopeForm → List ℕ → List ℕ → Bool
@@ -29,10 +30,10 @@ abbrev pub RiseFrom : ScopeForm → List ℕ → List (List ℕ) → Type 0
 RiseFrom form before [] = ⊤
 RiseFrom form before (own ∷ elements) = (falls form own before ≡ false) × RiseFrom form own elements
 
--- What is left are elements, in the order of a form, after this one.
-pub record AreAfter (form : ScopeForm) (before : Key) (left : List ℕ) : Type 0 where
+-- What is left are elements, in the order of a form, after one of this tag and these bytes.
+pub record AreAfter (form : ScopeForm) (tag : Tag) (before left : List ℕ) : Type 0 where
   pub elements : List (List ℕ)
   pub each : All (λ e. IsTrue (is_one_element e)) elements
-  pub rise : RiseFrom form before.bytes.now elements
+  pub rise : RiseFrom form before elements
   pub are : left ≡ flat_map (λ e. e) elements
-  pub tag : HasItsTag before
+  pub tag_of_it : tag ≡ tag_of before

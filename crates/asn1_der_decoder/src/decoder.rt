@@ -8,8 +8,8 @@ use asn1_bounds::{Codec, Constraints};
 use asn1_choices::Choice;
 use asn1_components::FieldTable;
 use asn1_dec::{DecodeError, Decoder, Needed};
-use asn1_der::ScopeForm;
 use asn1_der_items::find_element;
+use asn1_der_records::ScopeForm;
 use asn1_enumerations::EnumeratedTable;
 use asn1_items::{ItemError, Slices, StringOf, can_begin_with, group_can_begin_with};
 use asn1_strings::ObjectIdentifier;
@@ -50,9 +50,9 @@ impl<'a> DerDecoder<'a> {
     ghost use Rattle.asn1_codec.specs.Reading.{OpensNothing, OpensScope, ReadsHead, ReadsHeadOfSet, TellsPresence, records_in};
     ghost use Rattle.asn1_codec.specs.ReadingTypes.{ReadsContent};
     ghost use Rattle.asn1_codec.specs.declared.decode_error.DecodeError.TheVariants.{Depth, Failed, Memory};
-    ghost use Rattle.asn1_der.specs.Bytes.{HaveDer};
-    ghost use Rattle.asn1_der.specs.OneElement.{IsAlone};
-    ghost use Rattle.asn1_der.specs.declared.form.ScopeForm.TheVariants.{AsDefined};
+    ghost use Rattle.asn1_der_records.specs.Bytes.{HaveDer};
+    ghost use Rattle.asn1_der_records.specs.OneElement.{IsAlone};
+    ghost use Rattle.asn1_der_records.specs.declared.form.ScopeForm.TheVariants.{AsDefined};
     ghost use Rattle.asn1_der_decoder.specs.Decoder.{AreLeft, IsTaken, IsWanted, OpensWanted, Remains, der_reader};
     ghost use Rattle.asn1_der_items.specs.Contents.{HasOctetsOf};
     ghost use Rattle.asn1_der_items.specs.Elements.{Element};
@@ -165,7 +165,7 @@ impl<'a> DerDecoder<'a> {
     fn next_tag(&mut self) -> Result<Option<Tag>, DecodeError>
         ensures told { (rs : List model.Record) → self.old.failed ≡ false →
             AreLeft rs self.old.slices → MatchResult result (IsNext rs) (λ _. ⊥) }
-        ensures same_bytes { self.new.slices ≡ self.old.slices }
+        ensures same_bytes { OnOk result (self.new.slices ≡ self.old.slices) }
         ensures opens_nothing { OpensNothing der_reader self.old self.new result }
     {
         if self.failed {
@@ -188,10 +188,10 @@ impl<'a> DerDecoder<'a> {
         ensures opens_nothing { OpensNothing der_reader self.old self.new result }
     {
         let element = self.take()?;
-        if element.constructed || element.tag != tag {
+        let Some(octets) = element.contents_under(tag) else {
             return Err(self.fail(BAD_ITEM));
-        }
-        match V::from_contents(self.alloc, element.contents) {
+        };
+        match V::from_contents(self.alloc, octets) {
             Ok(value) => Ok(value),
             Err(error) => Err(self.fault(error)),
         }

@@ -114,7 +114,8 @@ impl FromContents for ObjectIdentifier {
     ghost Is = { λ w v. w ≡ v };
 
     fn from_contents(alloc: Global, octets: &[u8]) -> Result<Self, ItemError> {
-        Ok(ObjectIdentifier::new(read_arcs(alloc, octets)?))
+        let arcs = read_arcs(alloc, octets)?;
+        Ok(ObjectIdentifier::new(arcs))
     }
 }
 

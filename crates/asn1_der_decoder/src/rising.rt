@@ -3,8 +3,8 @@ ghost use Rattle.asn1_der_decoder.specs.Rising.{HasItsTag, IsInOrder, falls as f
 ghost use Rattle.asn1_der_items.specs.Series.{AreElements};
 ghost use Rattle.std.specs.Prelude.{◌≡◌, true};
 
-use asn1_der::ScopeForm;
 use asn1_der_items::find_element;
+use asn1_der_records::ScopeForm;
 use asn1_tags::Tag;
 
 /// What of an element is compared: its tag and its bytes.
@@ -42,11 +42,11 @@ pub(crate) fn rises(contents: &[u8], form: ScopeForm) -> bool
 
 /// Whether an element is below the one before it, in the order of this form.
 fn falls(own: Key<'_>, before: Key<'_>, form: ScopeForm) -> bool
-    ensures { HasItsTag own → HasItsTag before →
-        result ≡ falls_below form own.bytes.now before.bytes.now }
+    ensures { HasItsTag own.entry → HasItsTag before.entry →
+        result ≡ falls_below form own.entry.bytes.now before.entry.bytes.now }
 {
     match form {
-        ScopeForm::ByTag => own.tag.cmp(&before.tag).is_lt(),
+        ScopeForm::ByTag => own.tag.const_cmp(&before.tag).is_lt(),
         ScopeForm::ByEncoding => own.bytes.cmp(before.bytes).is_lt(),
         ScopeForm::AsDefined | ScopeForm::Chosen => false,
     }

@@ -6,7 +6,7 @@ use Rattle.asn1_der_encoder.specs.declared.sorting.Order.TheVariants.{Tags, Enco
 use Rattle.asn1_der_encoder.specs.declared.sorting.Piece.{Piece}
 use Rattle.asn1_der_encoder.specs.declared.sorting.Cut.{Cut}
 use Rattle.asn1_der_items.specs.Series.{RiseByEncoding, RiseByTag, is_one_element, tag_of}
-use Rattle.asn1_tags.specs.TheConstants.Tag.{NULL}
+use Rattle.asn1_tags.specs.declared.classes.Class.TheVariants.{Universal}
 use Rattle.asn1_tags.specs.declared.tags.Tag.{Tag}
 
 -- The bytes consist of these elements, one after another.
@@ -22,7 +22,7 @@ IsInOrder Encodings elements = RiseByEncoding elements
 -- the tag by which an element of this tag comes before others: of a SET OF one and the same
 abbrev pub key_of : Order → Tag → Tag
 key_of Tags t = t
-key_of Encodings t = NULL
+key_of Encodings t = record { class = Universal; value = 5 }
 
 -- These are the elements, each with its key.
 pub record ArePieces (order : Order) (elements : List (List ℕ)) (pieces : List Piece) : Type 0 where

@@ -6,12 +6,13 @@ use Rattle.asn1_buffers.specs.Encoder.{buffer_writer, in_one_order}
 use Rattle.asn1_buffers.specs.declared.encoder.BufferEncoder.{BufferEncoder}
 use Rattle.asn1_codec.specs.Writing.{Writer, Written, outermost, in_scope, in_group}
 use Rattle.asn1_codec.specs.WritingUpToOrder.{RejectsByParts}
-use Rattle.asn1_der.specs.Bytes.{HasNoDer, HaveDer, SomeHasNoDer, form_of}
+use Rattle.asn1_der_records.specs.Bytes.{HasDer, HasNoDer, HaveDer, SomeHasNoDer, form_of}
 use Rattle.asn1_der_encoder.specs.declared.buffer.DerBuffer.{DerBuffer}
 use Rattle.asn1_der_encoder.specs.declared.frame.Frame.{Frame}
 use Rattle.asn1_items.specs.Items.{IsJoined}
+use Rattle.asn1_model.specs.Orders.{Same}
 use Rattle.asn1_model.specs.Records as model
-use Rattle.asn1_model.specs.Records.{Head, Record, held, is_presence_mark, presence_marks_alone}
+use Rattle.asn1_model.specs.Records.{Head, Record, held, holding, is_presence_mark, presence_marks_alone}
 use Rattle.asn1_model.specs.Tags.{head_tag}
 
 -- A scope that is open: what is outside, and what is inside, which has no identifier and no length yet.
@@ -33,6 +34,12 @@ IsWritten (outermost rs) (f ∷ fs) bytes = ⊥
 IsWritten (in_scope h rs w) [] bytes = ⊥
 IsWritten (in_scope h rs w) (f ∷ fs) bytes = IsOpenScope (λ before. IsWritten w fs before) h rs f bytes
 IsWritten (in_group table rs w) fs bytes = IsJoined (λ before. IsWritten w fs before) (HaveDer (held rs)) bytes
+
+-- The bytes are the DER of a record of this head, which holds these records, in some order where the order means nothing.
+pub record IsHeld (h : Head) (rs : List Record) (bytes : List ℕ) : Type 0 where
+  pub closed : Record
+  pub same : Same closed (holding h rs)
+  pub has_der : HasDer closed bytes
 
 -- Records have no DER where a part of them has none, or what one of them holds; presence marks always have.
 none_after : (before rs : List Record) → SomeHasNoDer (held rs) → SomeHasNoDer (held (before ++ rs))

@@ -1,10 +1,18 @@
 //! The bytes of DER, as an encoder writes them.
+ghost use Rattle.asn1_buffers.specs.Kinds.{kind_of_scope};
+ghost use Rattle.asn1_buffers.specs.declared.error.WriteError.TheVariants.{Memory};
+ghost use Rattle.asn1_der_records.specs.Bytes.{form_of};
+ghost use Rattle.asn1_der_items.specs.declared.error.ElementError.TheVariants as element_error;
+ghost use Rattle.asn1_model.specs.Records.{Head};
+ghost use Rattle.std.specs.Prelude.{◌≡◌, ◌↔◌};
+
+use crate::elements::is_one_element;
 use crate::frame::Frame;
-use crate::sorting::{Order, sort_elements};
+use crate::holding::hold;
 use asn1_bounds::Codec;
 use asn1_buffers::{MarkKind, RecordBuffer, ScopeKind, WriteError};
-use asn1_der::ScopeForm;
-use asn1_der_items::{ElementError, append_primitive, find_element, wrap};
+use asn1_der_items::{ElementError, append_primitive};
+use asn1_der_records::ScopeForm;
 use asn1_items::Content;
 use asn1_tags::Tag;
 use std::alloc::Global;
@@ -77,12 +85,7 @@ impl RecordBuffer for DerBuffer {
         let Some(frame) = self.outer.pop() else {
             return Err(WriteError::Rejected("nothing is open"));
         };
-        match frame.form {
-            ScopeForm::AsDefined => hold(&mut self.bytes, frame.start, frame.tag),
-            ScopeForm::ByTag => self.hold_sorted(frame, Order::Tags),
-            ScopeForm::ByEncoding => self.hold_sorted(frame, Order::Encodings),
-            ScopeForm::Chosen => hold_chosen(&self.bytes, frame.start, frame.tag),
-        }
+        hold(self.alloc, &mut self.bytes, frame)
     }
 
     fn begin_group(&mut self) -> Result<(), WriteError> {
@@ -96,66 +99,24 @@ impl RecordBuffer for DerBuffer {
     ghost by_parts = { rejects_by_parts };
 }
 
-impl DerBuffer {
-    /// Makes an element of the bytes inside a scope, after their elements have been sorted.
-    fn hold_sorted(&mut self, frame: Frame, order: Order) -> Result<(), WriteError> {
-        sort_elements(self.alloc, &mut self.bytes, frame.start, order)?;
-        hold(&mut self.bytes, frame.start, frame.tag)
-    }
-}
-
-/// Makes an element of the bytes from a place on.
-fn hold(bytes: &mut Vec<u8>, start: usize, tag: Tag) -> Result<(), WriteError> {
-    match wrap(bytes, start, tag, true) {
-        Ok(()) => Ok(()),
-        Err(error) => Err(told(error)),
-    }
-}
-
-/// Refuses the bytes from a place on where they are not one element of the chosen tag.
-fn hold_chosen(bytes: &[u8], start: usize, tag: Tag) -> Result<(), WriteError> {
-    let Some(inside) = bytes.get(start..) else {
-        return Err(WriteError::Rejected("nothing is open"));
-    };
-    if is_element_of(inside, tag) {
-        Ok(())
-    } else {
-        Err(WriteError::Rejected(
-            "a choice is not one element of its tag",
-        ))
-    }
-}
-
-/// Whether the bytes are one element.
-fn is_one_element(bytes: &[u8]) -> bool {
-    match find_element(bytes) {
-        Ok(element) => element.rest.is_empty(),
-        Err(_) => false,
-    }
-}
-
-/// Whether the bytes are one element of this tag.
-fn is_element_of(bytes: &[u8], tag: Tag) -> bool {
-    match find_element(bytes) {
-        Ok(element) => element.rest.is_empty() && element.tag == tag,
-        Err(_) => false,
-    }
-}
-
 /// In which form a scope of a kind holds what is inside.
-fn form_of(kind: ScopeKind) -> ScopeForm {
+fn form_of(kind: ScopeKind) -> ScopeForm
+    ensures { (h : Head) → kind_of_scope h ≡ kind → result ≡ form_of h }
+{
     match kind {
+        ScopeKind::Sequence => ScopeForm::AsDefined,
         ScopeKind::Set => ScopeForm::ByTag,
+        ScopeKind::SequenceOf => ScopeForm::AsDefined,
         ScopeKind::SetOf => ScopeForm::ByEncoding,
+        ScopeKind::ExplicitTag => ScopeForm::AsDefined,
         ScopeKind::Alternative => ScopeForm::Chosen,
-        ScopeKind::Sequence | ScopeKind::SequenceOf | ScopeKind::ExplicitTag => {
-            ScopeForm::AsDefined
-        }
     }
 }
 
 /// The error, as an encoder is told it.
-fn told(error: ElementError) -> WriteError {
+pub(crate) fn told(error: ElementError) -> WriteError
+    ensures { (result ≡ Memory) ↔ (error ≡ element_error.Memory) }
+{
     match error {
         ElementError::Memory => WriteError::Memory,
         ElementError::NoSuchArcs => WriteError::Rejected("no such object identifier"),

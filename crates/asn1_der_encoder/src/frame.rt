@@ -1,5 +1,5 @@
 //! The scopes that are open.
-use asn1_der::ScopeForm;
+use asn1_der_records::ScopeForm;
 use asn1_tags::Tag;
 
 /// A scope that is open.

@@ -6,6 +6,7 @@ ghost use Rattle.asn1_items.specs.Numbers.{Appended};
 ghost use Rattle.std.specs.List.{flat_map};
 ghost use Rattle.std.specs.Prelude.{◌≡◌, ◌++◌, ◌<◌, IfOk, IfSome, IsSomeAnd, IsTrue, List, MatchResult, length, ℕ};
 
+use crate::elements::bytes_from;
 use asn1_buffers::WriteError;
 use asn1_der_items::find_element;
 use asn1_tags::Tag;
@@ -50,7 +51,7 @@ pub(crate) fn sort_elements(
         MatchResult result (λ _. Appended (AreSorted order elements) before bytes.new.items)
         (λ e. e ≡ Memory) }
 {
-    let Some(inside) = bytes.get(start..) else {
+    let Some(inside) = bytes_from(bytes, start) else {
         return Err(WriteError::Rejected("nothing is open"));
     };
     let sorted = sorted_elements(alloc, inside, order)?;

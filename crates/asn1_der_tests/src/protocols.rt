@@ -109,6 +109,7 @@ fn common_name_and_country(rt: &impl Abort, alloc: Global) -> x509::Name {
 #[test]
 fn a_name_of_two_attributes_is_that_of_openssl(rt: HostRuntime) {
     let alloc = rt.alloc();
-    let bytes = b"\x30\x1a\x31\x18\x30\x09\x06\x03\x55\x04\x06\x13\x02DE\x30\x0b\x06\x03\x55\x04\x03\x0c\x04leaf";
+    let bytes =
+        b"\x30\x1a\x31\x18\x30\x09\x06\x03\x55\x04\x06\x13\x02DE\x30\x0b\x06\x03\x55\x04\x03\x0c\x04leaf";
     writes(&rt, alloc, &common_name_and_country(&rt, alloc), bytes);
 }

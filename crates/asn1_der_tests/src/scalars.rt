@@ -34,10 +34,10 @@ fn integers_are_those_of_openssl(rt: HostRuntime) {
 #[test]
 fn a_bit_string_is_that_of_x690(rt: HostRuntime) {
     let bits = [
-        false, false, false, false, true, false, true, false, false, false, true, true, true, false,
-        true, true, false, true, false, true, true, true, true, true, false, false, true, false,
-        true, false, false, true, false, false, false, true, true, true, false, false, true, true,
-        false, true,
+        false, false, false, false, true, false, true, false, false, false, true, true, true,
+        false, true, true, false, true, false, true, true, true, true, true, false, false, true,
+        false, true, false, false, true, false, false, false, true, true, true, false, false, true,
+        true, false, true,
     ];
     let alloc = rt.alloc();
     let string: BitString = units(&rt, alloc, &bits);

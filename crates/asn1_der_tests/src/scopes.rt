@@ -50,9 +50,7 @@ fn the_components_of_a_set_rise_by_their_tags(rt: HostRuntime) {
     append_null(&rt, &mut buffer, Tag::new_application(2));
     append_null(&rt, &mut buffer, Tag::NULL);
     buffer.end_scope().expect(&rt, "memory");
-    let bytes = [
-        0x31, 11, 5, 0, 0x42, 0, 0x81, 0, 0x9f, 31, 0, 0xc0, 0,
-    ];
+    let bytes = [0x31, 11, 5, 0, 0x42, 0, 0x81, 0, 0x9f, 31, 0, 0xc0, 0];
     assert!(rt; buffer.finish().as_slice() == bytes.as_slice());
 }
 
@@ -130,9 +128,7 @@ fn lengths_are_the_shortest(rt: HostRuntime) {
 fn presence_marks_and_groups_have_no_bytes(rt: HostRuntime) {
     let mut buffer = DerBuffer::new(rt.alloc());
     buffer.begin_group().expect(&rt, "memory");
-    buffer
-        .append_mark(MarkKind::Absent)
-        .expect(&rt, "no bytes");
+    buffer.append_mark(MarkKind::Absent).expect(&rt, "no bytes");
     buffer.end_group().expect(&rt, "memory");
     assert!(rt; buffer.finish().is_empty());
 }

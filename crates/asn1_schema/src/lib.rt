@@ -80,6 +80,7 @@ pub use asn1_slots::once;
 pub use asn1_slots::optional;
 pub use asn1_slots::optional_with_constraints;
 pub use asn1_slots::or_default;
+pub use asn1_slots::or_empty;
 pub use asn1_slots::required;
 pub use asn1_slots::required_with_constraints;
 pub use asn1_streams as streams;

@@ -12,7 +12,7 @@
 //!
 //! | Item | What it is |
 //! |---|---|
-//! | [`Slotted`], [`filled`], [`or_default`] | a type with a slot for each component, and what is in a slot |
+//! | [`Slotted`], [`filled`], [`or_default`], [`or_empty`] | a type with a slot for each component, and what is in a slot |
 //! | [`DecodeByPlace`] | a SEQUENCE or a group of additions whose components are read into slots |
 //! | [`DecodeSetByPlace`], [`decode_set_by_place`] | a SET whose components are read into slots, in whatever order they come |
 //! | [`required`], [`optional`], [`addition`], [`group`], [`once`] | the calls that read a component into its slot |
@@ -24,7 +24,8 @@
 //! What the contracts promise, and the words that they use:
 //!
 //! - A component and its slot are a `Slot` (`specs/Slots.antt`). Words for each kind of component make one: `required_slot`,
-//!   `optional_slot`, `default_slot`, `addition_slot`, `addition_with_default_slot` and `group_slot`. Of the list of these are
+//!   `optional_slot`, `default_slot`, `addition_slot`, `addition_with_default_slot` and `group_slot`; `default_slot_by` and
+//!   `addition_with_default_slot_by` take a test in place of the default value, as `is_empty_list`. Of the list of these are
 //!   made the components of the type, by `sequence_of_slots`, `set_of_slots`, and with an extension marker by
 //!   `extensible_sequence_after` and `extensible_set_after`.
 //! - A call that reads a component into its slot reads what the component's records are: then the slot holds an equal value
@@ -69,5 +70,5 @@ pub use constrained::{
     addition_with_constraints, optional_with_constraints, required_with_constraints,
 };
 pub use set_by_place::{DecodeSetByPlace, decode_set_by_place};
-pub use slotted::{Slotted, filled, or_default};
+pub use slotted::{Slotted, filled, or_default, or_empty};
 pub use tagging::Tagging;

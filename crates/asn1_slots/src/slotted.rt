@@ -1,7 +1,7 @@
 //! Types with a slot for each component.
-ghost use Rattle.asn1_slots.specs.Slots.{MakesValue, RefusesMissing, Slot, holds_or_default};
+ghost use Rattle.asn1_slots.specs.Slots.{MakesValue, RefusesMissing, Slot, holds_or_default, holds_or_passes, is_empty_list};
 ghost use Rattle.asn1_codec.specs.DecodeErrors.{missing_field, reason};
-ghost use Rattle.std.specs.Prelude.{◌≡◌, List, MatchOption, Ok, true};
+ghost use Rattle.std.specs.Prelude.{◌≡◌, List, MatchOption, Ok, Vec, true};
 ghost use Rattle.std.specs.Result.{IsErrAnd};
 
 use asn1_codec::DecodeError;
@@ -38,4 +38,16 @@ pub fn or_default<T: Eq + Drop>(slot: Option<T>, default_value: T) -> T
     ensures { (v : T) → holds_or_default T.eq default_value slot v ≡ true → T.eq result v ≡ true }
 {
     slot.unwrap_or(default_value)
+}
+
+/// The list that is in a slot, or the empty list where there is none: a component with `DEFAULT {}`.
+pub fn or_empty<T: Eq + Drop>(alloc: Global, slot: Option<Vec<T>>) -> Vec<T>
+    ensures { (v : Vec T Global) →
+        holds_or_passes ⟦<Vec<T> as PartialEq>⟧.eq (is_empty_list T.eq) slot v ≡ true →
+        ⟦<Vec<T> as PartialEq>⟧.eq result v ≡ true }
+{
+    match slot {
+        Some(list) => list,
+        None => Vec::new(alloc),
+    }
 }

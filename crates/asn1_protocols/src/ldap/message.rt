@@ -1,12 +1,14 @@
 //! `LDAPMessage ::= SEQUENCE { messageID INTEGER (0..2147483647), protocolOp ProtocolOp }` (RFC 4511, 4.1.1), without controls.
 ghost use Rattle.std.specs.Prelude.{[], codes, ◌∷◌};
-ghost use Rattle.asn1_schema.specs.Words.{IsWellTagged, constructed_agrees, constructed_type, required, sequence, untagged};
+ghost use Rattle.asn1_schema.specs.Words.{IsWellTagged, constructed_agrees, constructed_type, required_slot, sequence_of_slots, slots_agree, untagged};
 
 use crate::ldap::ProtocolOp;
 use asn1_schema::{
-    AsnType, ConstrainedInteger, Constraints, ConstructedType, Encode, EncodeError, EncodeFields,
-    Encoder, Field, FieldTable, Identifier, Tag, TypeTable,
+    AsnType, ConstrainedInteger, Constraints, ConstructedType, Decode, DecodeByPlace, DecodeError,
+    DecodeFields, Decoder, Encode, EncodeError, EncodeFields, Encoder, Field, FieldTable,
+    Identifier, Slotted, Tag, Tagging, TypeTable, filled, required,
 };
+use std::alloc::Global;
 
 /// `MessageID ::= INTEGER (0..2147483647)`
 pub type MessageId = ConstrainedInteger<0, 2147483647>;
@@ -20,12 +22,24 @@ pub struct LdapMessage {
     pub operation: ProtocolOp,
 }
 
+impl Slotted for LdapMessage {
+    type Slots = (Option<MessageId>, Option<ProtocolOp>);
+
+    ghost layout = { required_slot (codes "messageID") (λ v. v.id) (λ s. s.0)
+        (untagged ⟦<MessageId as AsnType>⟧.meaning) ⟦<MessageId as PartialEq>⟧.eq ∷
+        required_slot (codes "protocolOp") (λ v. v.operation) (λ s. s.1)
+        (untagged ⟦<ProtocolOp as AsnType>⟧.meaning) ⟦<ProtocolOp as PartialEq>⟧.eq ∷ [] };
+
+    fn from_slots(_alloc: Global, slots: Self::Slots) -> Result<LdapMessage, DecodeError> {
+        Ok(LdapMessage {
+            id: filled(slots.0, "messageID")?,
+            operation: filled(slots.1, "protocolOp")?,
+        })
+    }
+}
+
 impl FieldTable for LdapMessage {
-    ghost components = { sequence (
-        required (codes "messageID") (λ v. v.id)
-        (untagged ⟦<MessageId as AsnType>⟧.meaning) ∷
-        required (codes "protocolOp") (λ v. v.operation)
-        (untagged ⟦<ProtocolOp as AsnType>⟧.meaning) ∷ []) };
+    ghost components = { sequence_of_slots ⟦<LdapMessage as Slotted>⟧.layout };
 
     fn field_count() -> usize {
         2
@@ -85,4 +99,36 @@ impl EncodeFields for LdapMessage {
             _ => Ok(()),
         }
     }
+}
+
+impl Decode for LdapMessage {
+    fn decode_with_tag_and_constraints<D: Decoder>(
+        decoder: &mut D,
+        tag: Tag,
+        _constraints: &Constraints<'_>,
+    ) -> Result<LdapMessage, DecodeError> {
+        decoder.decode_sequence(tag)
+    }
+}
+
+impl DecodeFields for LdapMessage {
+    fn decode_fields<D: Decoder>(decoder: &mut D) -> Result<LdapMessage, DecodeError> {
+        LdapMessage::decode_by_place(decoder)
+    }
+}
+
+impl DecodeByPlace for LdapMessage {
+    fn decode_field<D: Decoder>(
+        place: usize,
+        slots: &mut Self::Slots,
+        decoder: &mut D,
+    ) -> Result<(), DecodeError> {
+        match place {
+            0 => required(&mut slots.0, decoder, Tagging::Untagged),
+            1 => required(&mut slots.1, decoder, Tagging::Untagged),
+            _ => Ok(()),
+        }
+    }
+
+    ghost agrees = { slots_agree ⟦<LdapMessage as FieldTable>⟧.components };
 }

@@ -14,4 +14,4 @@ returns-in-Ok-clause-told c = λ rs no_failure left.
 pub returns-in-Err-clause-told : goal.returns-in-Err-clause-told
 returns-in-Err-clause-told c = λ rs no_failure left.
     absurd (has_element c.args.self.now.slices rs (λ none. let wrong = c.is_at_end.ensures.at_end.1 none in cc)
-    (λ e at. c.in-Err.ensures.found e (ap element_at c.left.ensures.inside ∙ at)) left)
+    (λ e at. let wrong = c.in-Err.ensures.found e (ap element_at c.left.ensures.inside ∙ at) in cc) left)

@@ -3,7 +3,7 @@ use Rattle.std.specs.Prelude.{⊤}
 use Rattle.std.proofs.lemmas.Result.{err_from_is_err_and}
 use Rattle.asn1_codec.proofs.ReadingUpToOrder.{answer_in_any_order, opens}
 use Rattle.asn1_der_decoder.specs.Decoder.{in_one_order}
-use Rattle.asn1_der.specs.declared.form.ScopeForm.TheVariants.{AsDefined}
+use Rattle.asn1_der_records.specs.declared.form.ScopeForm.TheVariants.{AsDefined}
 use Rattle.asn1_der_decoder.proofs.Remaining.{not_opened, was_opened}
 use Rattle.asn1_der_decoder.proofs.decoder.DerDecoder.open_in_order.Goals as goal
 

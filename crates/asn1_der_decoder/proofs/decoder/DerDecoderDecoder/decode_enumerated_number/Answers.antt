@@ -1,4 +1,4 @@
-use Rattle.std.proofs.Common.{refl, rules}
+use Rattle.std.proofs.Common.{rules}
 use Rattle.std.proofs.lemmas.Result.{err_from_is_err_and}
 use Rattle.asn1_enumerations.specs.Labels.{all_labels}
 use Rattle.asn1_model.specs.ConstraintSets.{unconstrained}

@@ -1,4 +1,3 @@
-use Rattle.std.proofs.Common.{refl}
 use Rattle.asn1_model.specs.ConstraintSets.{unconstrained}
 use Rattle.asn1_der_decoder.proofs.decoder.DerDecoderDecoder.decode_null.Goals as goal
 

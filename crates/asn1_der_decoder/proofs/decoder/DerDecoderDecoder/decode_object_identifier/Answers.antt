@@ -1,4 +1,3 @@
-use Rattle.std.proofs.Common.{refl}
 use Rattle.asn1_model.specs.ConstraintSets.{unconstrained}
 use Rattle.asn1_model.specs.Records.{arcs}
 use Rattle.asn1_der_decoder.proofs.decoder.DerDecoderDecoder.decode_object_identifier.Goals as goal

@@ -1,4 +1,3 @@
-use Rattle.std.proofs.Common.{refl}
 use Rattle.std.proofs.lemmas.Result.{err_from_is_err_and}
 use Rattle.asn1_model.specs.ConstraintSets.{constraint_set}
 use Rattle.asn1_der_decoder.proofs.decoder.DerDecoderDecoder.decode_string.Goals as goal

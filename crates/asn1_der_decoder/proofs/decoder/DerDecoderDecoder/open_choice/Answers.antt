@@ -6,7 +6,7 @@ use Rattle.asn1_codec.proofs.ReadingUpToOrder.{answer_in_any_order, opens}
 use Rattle.asn1_model.specs.ConstraintSets.{constraint_set}
 use Rattle.asn1_model.specs.Records.{alternative}
 use Rattle.asn1_der_decoder.specs.Decoder.{in_one_order}
-use Rattle.asn1_der.specs.declared.form.ScopeForm.TheVariants.{Chosen}
+use Rattle.asn1_der_records.specs.declared.form.ScopeForm.TheVariants.{Chosen}
 use Rattle.asn1_der_decoder.proofs.Remaining.{not_opened, was_opened}
 use Rattle.asn1_der_decoder.proofs.decoder.DerDecoderDecoder.open_choice.Goals as goal
 
