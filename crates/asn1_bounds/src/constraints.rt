@@ -190,7 +190,10 @@ impl<'a> Constraints<'a> {
 fn is_extensible<T>(part: Option<&Extensible<'_, T>>) -> bool
     ensures { result ≡ is_part_extensible (option_copied part.entry) }
 {
-    part.is_some_and(|part| part.extensible.is_some())
+    match part {
+        Some(part) => part.extensible.is_some(),
+        None => false,
+    }
 }
 
 // What two parts on values leave, either of which may be missing.
@@ -226,7 +229,8 @@ fn intersect_alphabets<'a>(
     b: Option<&Extensible<'a, PermittedAlphabet>>,
 ) -> Result<Option<Extensible<'a, PermittedAlphabet>>, AllocError>
     ensures part { IfOk result (λ both.
-        both ≡ parts_intersection common_characters (option_copied a.entry) (option_copied b.entry)) }
+        both ≡ parts_intersection common_characters (option_copied a.entry)
+            (option_copied b.entry)) }
     ensures without_alphabet { IsNone a.entry → IsNone b.entry → IsOk result }
 {
     match (a, b) {

@@ -72,7 +72,8 @@ pub fn alphabets_are_compared_by_characters()
     ensures order { (a b : PermittedAlphabet) → ⟦<PermittedAlphabet as Ord>⟧.cmp a b ≡
         slice_cmp nat_cmp a b }
     ensures partial_order { (a b : PermittedAlphabet) →
-        ⟦<PermittedAlphabet as PartialOrd>⟧.partial_cmp a b ≡ Some (⟦<PermittedAlphabet as Ord>⟧.cmp a b) }
+        ⟦<PermittedAlphabet as PartialOrd>⟧.partial_cmp a b ≡
+            Some (⟦<PermittedAlphabet as Ord>⟧.cmp a b) }
     ensures hash { (a : PermittedAlphabet) → ⟦<PermittedAlphabet as Hash>⟧.hash_input a ≡
         fed.slice fed.u32 a }
 {}
@@ -94,12 +95,15 @@ pub fn extensible_constraints_are_compared_by_parts<'a, T: PartialEq + Default +
 
 /// Two constraints are equal if and only if they are of one kind, and their parts are equal.
 pub fn constraints_are_compared_by_parts<'a>()
-    ensures values { (a b : Extensible Value) → ⟦<Constraint<'a> as PartialEq>⟧.eq (constraint.Value a) (constraint.Value b)
+    ensures values { (a b : Extensible Value) →
+        ⟦<Constraint<'a> as PartialEq>⟧.eq (constraint.Value a) (constraint.Value b)
         ≡ ⟦<Extensible<'a, Value> as PartialEq>⟧.eq a b }
-    ensures sizes { (a b : Extensible Size) → ⟦<Constraint<'a> as PartialEq>⟧.eq (constraint.Size a) (constraint.Size b)
+    ensures sizes { (a b : Extensible Size) →
+        ⟦<Constraint<'a> as PartialEq>⟧.eq (constraint.Size a) (constraint.Size b)
         ≡ ⟦<Extensible<'a, Size> as PartialEq>⟧.eq a b }
     ensures alphabets { (a b : Extensible PermittedAlphabet) →
-        ⟦<Constraint<'a> as PartialEq>⟧.eq (constraint.PermittedAlphabet a) (constraint.PermittedAlphabet b)
+        ⟦<Constraint<'a> as PartialEq>⟧.eq (constraint.PermittedAlphabet a)
+            (constraint.PermittedAlphabet b)
         ≡ ⟦<Extensible<'a, PermittedAlphabet> as PartialEq>⟧.eq a b }
     ensures markers { IsTrue
         (⟦<Constraint<'a> as PartialEq>⟧.eq constraint.Extensible constraint.Extensible) }
@@ -114,7 +118,8 @@ pub fn names_are_compared_by_case()
     ensures codecs { TellsApart ⟦<Codec as PartialEq>⟧.eq }
     ensures widths { TellsApart ⟦<TooWide as PartialEq>⟧.eq }
     ensures errors { (a b : InnerSubtypeConstraintError) →
-        IsTrue (⟦<InnerSubtypeConstraintError as PartialEq>⟧.eq a b) ↔ (refusal_of a ≡ refusal_of b) }
+        IsTrue (⟦<InnerSubtypeConstraintError as PartialEq>⟧.eq a b) ↔
+            (refusal_of a ≡ refusal_of b) }
     ensures discriminant_clones { ClonesExactly ⟦<ConstraintDiscriminant as Clone>⟧.is_clone
         ⟦<ConstraintDiscriminant as Clone>⟧.is_infallible }
     ensures codec_clones { ClonesExactly ⟦<Codec as Clone>⟧.is_clone
@@ -131,30 +136,39 @@ pub fn names_are_compared_by_case()
 /// extensible. A bound of lengths with an end above the greatest `i128` is refused. The default set has no constraints.
 pub fn conversions_keep_the_constraint<'a, T: FitsI128, U: 'a>()
     ensures bounds { (bound : Bounded T) (value : Value) →
-        ⟦<Value as From<Bounded<T>>>⟧.from_gives bound value → value.bound ≡ numbers T.number bound }
+        ⟦<Value as From<Bounded<T>>>⟧.from_gives bound value →
+            value.bound ≡ numbers T.number bound }
     ensures lengths { (bound : Bounded ℕ) (answer : Result Value TooWide) →
         ⟦<Value as TryFrom<Bounded<usize>>>⟧.try_from_gives bound answer →
         OkIff answer (HasNarrowEnds bound) (record { bound = numbers pos bound }) }
     ensures parts { (kind : U) (part : Extensible U) →
         ⟦<Extensible<'a, U> as From<U>>⟧.from_gives kind part → part ≡ fixed kind }
     ensures value_parts { (part : Extensible Value) (one : Constraint) →
-        ⟦<Constraint<'a> as From<Extensible<'a, Value>>>⟧.from_gives part one → one ≡ constraint.Value part }
+        ⟦<Constraint<'a> as From<Extensible<'a, Value>>>⟧.from_gives part one →
+            one ≡ constraint.Value part }
     ensures values { (kind : Value) (one : Constraint) →
-        ⟦<Constraint<'a> as From<Value>>⟧.from_gives kind one → one ≡ constraint.Value (fixed kind) }
+        ⟦<Constraint<'a> as From<Value>>⟧.from_gives kind one →
+            one ≡ constraint.Value (fixed kind) }
     ensures size_parts { (part : Extensible Size) (one : Constraint) →
-        ⟦<Constraint<'a> as From<Extensible<'a, Size>>>⟧.from_gives part one → one ≡ constraint.Size part }
+        ⟦<Constraint<'a> as From<Extensible<'a, Size>>>⟧.from_gives part one →
+            one ≡ constraint.Size part }
     ensures sizes { (kind : Size) (one : Constraint) →
         ⟦<Constraint<'a> as From<Size>>⟧.from_gives kind one → one ≡ constraint.Size (fixed kind) }
     ensures alphabet_parts { (part : Extensible PermittedAlphabet) (one : Constraint) →
-        ⟦<Constraint<'a> as From<Extensible<'a, PermittedAlphabet>>>⟧.from_gives part one → one ≡ constraint.PermittedAlphabet part }
+        ⟦<Constraint<'a> as From<Extensible<'a, PermittedAlphabet>>>⟧.from_gives part one →
+            one ≡ constraint.PermittedAlphabet part }
     ensures alphabets { (kind : PermittedAlphabet) (one : Constraint) →
-        ⟦<Constraint<'a> as From<PermittedAlphabet>>⟧.from_gives kind one → one ≡ constraint.PermittedAlphabet (fixed kind) }
+        ⟦<Constraint<'a> as From<PermittedAlphabet>>⟧.from_gives kind one →
+            one ≡ constraint.PermittedAlphabet (fixed kind) }
     ensures value_tables { (kind : Value) (table : ConstraintTable) →
-        ⟦<ConstraintTable<'a> as From<Value>>⟧.from_gives kind table → owned table ≡ set_of (constraint.Value (fixed kind)) }
+        ⟦<ConstraintTable<'a> as From<Value>>⟧.from_gives kind table →
+            owned table ≡ set_of (constraint.Value (fixed kind)) }
     ensures size_tables { (kind : Size) (table : ConstraintTable) →
-        ⟦<ConstraintTable<'a> as From<Size>>⟧.from_gives kind table → owned table ≡ set_of (constraint.Size (fixed kind)) }
+        ⟦<ConstraintTable<'a> as From<Size>>⟧.from_gives kind table →
+            owned table ≡ set_of (constraint.Size (fixed kind)) }
     ensures memory { (refused : AllocError) (error : InnerSubtypeConstraintError) →
-        ⟦<InnerSubtypeConstraintError as From<AllocError>>⟧.from_gives refused error → refusal_of error ≡ no_memory }
+        ⟦<InnerSubtypeConstraintError as From<AllocError>>⟧.from_gives refused error →
+            refusal_of error ≡ no_memory }
     ensures default_set { (set : Constraints) → ⟦<Constraints<'a> as Default>⟧.is_default set →
         set ≡ no_constraints }
 {}

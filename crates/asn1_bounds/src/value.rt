@@ -76,11 +76,18 @@ impl<T: FitsI128> From<Bounded<T>> for Value {
             Bounded::None => Bounded::None,
             Bounded::Single(value) => Bounded::Single(value.to_i128()),
             Bounded::Range { start, end } => Bounded::Range {
-                start: start.map(|start| start.to_i128()),
-                end: end.map(|end| end.to_i128()),
+                start: widened(start),
+                end: widened(end),
             },
         })
     }
+}
+
+// The end as an `i128`, where there is one.
+fn widened<T: FitsI128>(end: Option<T>) -> Option<i128>
+    ensures { result ≡ option_map T.number end }
+{
+    Some(end?.to_i128())
 }
 
 impl TryFrom<Bounded<usize>> for Value {
@@ -109,7 +116,7 @@ impl TryFrom<Bounded<usize>> for Value {
 fn narrowed(number: usize) -> Result<i128, TooWide>
     ensures { OkIff result (FitsSigned w128 (pos number)) (pos number) }
 {
-    i128::try_from(number).map_err(|_| TooWide)
+    i128::try_from(number).or(Err(TooWide))
 }
 
 // The end as an `i128`, where it is missing or one.

@@ -9,6 +9,7 @@ pub mod ReadingUpToOrder
 pub mod Refusals
 pub mod SetParts
 pub mod Sides
+pub mod TaggedChoices
 pub mod Writing
 pub mod WritingTypes
 pub mod WritingUpToOrder

@@ -16,7 +16,8 @@ use crate::field_table::FieldTable;
 /// after the extension marker (`as_in_records`).
 pub fn tables_are_in_order<T: FieldTable>()
     ensures numbered { (place : ℕ) (entry : Entry) →
-        slice_get (entries_from 0 (all_components T.components)) place ≡ Some entry → entry.index ≡ place }
+        slice_get (entries_from 0 (all_components T.components)) place ≡ Some entry →
+            entry.index ≡ place }
     ensures rearranged { IsPermutation (entries_from 0 (all_components T.components))
         (table T.components) }
     ensures counted { length (table T.components) ≡ length (all_components T.components) }

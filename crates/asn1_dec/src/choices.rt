@@ -1,5 +1,6 @@
 //! A CHOICE under whatever tag.
 ghost use Rattle.asn1_codec.specs.Reading.{KeepsDepth, NeedsDepth, ReadsValue};
+ghost use Rattle.asn1_codec.specs.TaggedChoices.{ReadsAfterTag};
 ghost use Rattle.asn1_model.specs.ConstraintSets.{constraint_set};
 
 use crate::decode::DecodeChoice;
@@ -8,6 +9,25 @@ use asn1_bounds::Constraints;
 use asn1_choices::ChoiceType;
 use asn1_codec::DecodeError;
 use asn1_tags::Tag;
+
+/// A CHOICE after an explicit tag, under its own constraints.
+fn read_after_tag<T: DecodeChoice, D: Decoder>(
+    decoder: &mut D,
+    tag: Tag,
+) -> Result<T, DecodeError>
+    ensures read { ReadsAfterTag D.reader tag T.meaning.constraints T.meaning.name T.alternatives
+        T.pick T.eq decoder.old decoder.new result }
+    ensures depth_first { NeedsDepth D.reader decoder.old result }
+    ensures keeps_depth { KeepsDepth D.reader decoder.old decoder.new result }
+{
+    decoder.open_explicit_prefix(tag)?;
+    let Ok(constraints) = T::constraints(decoder.global()) else {
+        return Err(decoder.refuse(DecodeError::Memory));
+    };
+    let value = decoder.decode_choice(&constraints)?;
+    decoder.close()?;
+    Ok(value)
+}
 
 /// A CHOICE under a tag: untagged under the CHOICE marker tag, and else after the tag, with its own constraints inside
 /// (X.680, 31.2.7).
@@ -24,11 +44,5 @@ pub(crate) fn read_choice<T: DecodeChoice + ChoiceType, D: Decoder>(
     if tag.is_choice() {
         return decoder.decode_choice(constraints);
     }
-    decoder.open_explicit_prefix(tag)?;
-    let Ok(own_constraints) = T::constraints(decoder.global()) else {
-        return Err(decoder.refuse(DecodeError::Memory));
-    };
-    let value = decoder.decode_choice(&own_constraints)?;
-    decoder.close()?;
-    Ok(value)
+    read_after_tag(decoder, tag)
 }

@@ -1,8 +1,9 @@
 //! A CHOICE under whatever tag.
+ghost use Rattle.asn1_codec.specs.TaggedChoices.{WritesAfterTag};
 ghost use Rattle.asn1_codec.specs.GivenTypes.{given};
 ghost use Rattle.asn1_codec.specs.Writing.{NeedsDepth};
 ghost use Rattle.asn1_codec.specs.WritingTypes.{WritesValue};
-ghost use Rattle.asn1_model.specs.ConstraintSets.{constraint_set};
+ghost use Rattle.asn1_model.specs.ConstraintSets.{constraint_set, table_constraints};
 ghost use Rattle.asn1_tags.specs.Names.{name_of};
 
 use crate::encode::EncodeChoice;
@@ -11,7 +12,27 @@ use crate::own_constraints::make_constraints;
 use asn1_bounds::Constraints;
 use asn1_choices::ChoiceType;
 use asn1_codec::EncodeError;
+use asn1_model::TypeTable;
 use asn1_tags::{Identifier, Tag};
+
+/// A CHOICE after an explicit tag, under the constraints and the name of its table.
+fn write_after_tag<T: EncodeChoice, E: Encoder>(
+    encoder: &mut E,
+    tag: Tag,
+    table: &TypeTable,
+    value: &T,
+    name: Identifier,
+) -> Result<(), EncodeError>
+    ensures writes { WritesAfterTag E.writer tag (name_of name)
+        (table_constraints table.now.constraints) (name_of table.now.identifier) T.alternatives
+        (T.pick value.now) encoder.old encoder.new result }
+    ensures depth_first { NeedsDepth E.writer encoder.old result }
+{
+    encoder.open_explicit_prefix(tag, name)?;
+    let constraints = make_constraints(encoder, table)?;
+    encoder.encode_choice(&constraints, value, table.identifier)?;
+    encoder.close()
+}
 
 /// A CHOICE under a tag: untagged under the CHOICE marker tag, and else after the tag, with its own constraints and name
 /// (X.680, 31.2.7). Without a name it is written under the type's own.
@@ -32,8 +53,5 @@ pub(crate) fn write_choice<T: EncodeChoice + ChoiceType, E: Encoder>(
     if tag.is_choice() {
         return encoder.encode_choice(constraints, value, name);
     }
-    encoder.open_explicit_prefix(tag, name)?;
-    let own_constraints = make_constraints(encoder, &table)?;
-    encoder.encode_choice(&own_constraints, value, table.identifier)?;
-    encoder.close()
+    write_after_tag(encoder, tag, &table, value, name)
 }

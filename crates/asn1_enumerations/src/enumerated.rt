@@ -226,5 +226,5 @@ fn place_in<T: Eq>(value: &T, table: &[EnumerationItem<T>]) -> Option<usize>
 fn value_at<T: Copy>(table: &[EnumerationItem<T>], place: usize) -> Option<T>
     ensures { result ≡ option_map (λ l. l.value) (slice_get table.now place) }
 {
-    Some(table.get(place)?.value)
+    table.get(place).map(|line| line.value)
 }

@@ -97,7 +97,7 @@ impl<E: Enumerated> EnumeratedTable for E {
 fn number_at<T>(table: &[EnumerationItem<T>], place: usize) -> Option<isize>
     ensures { result ≡ option_map (λ l. l.number) (slice_get table.now place) }
 {
-    Some(table.get(place)?.number)
+    table.get(place).map(|line| line.number)
 }
 
 // The first place of the number in a table.

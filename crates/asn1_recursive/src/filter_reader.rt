@@ -70,7 +70,8 @@ fn read_untagged<D: Decoder>(
 /// The alternative that can begin with the tag.
 #[cycle(filters)]
 pub(crate) fn read_alternative<D: Decoder>(decoder: &mut D, tag: Tag) -> Result<Filter, DecodeError>
-    ensures read { ReadsChosen D.reader tag filter_alternatives filter_pick ⟦<Filter as PartialEq>⟧.eq
+    ensures read { ReadsChosen D.reader tag filter_alternatives filter_pick
+        ⟦<Filter as PartialEq>⟧.eq
         decoder.old decoder.new result }
     ensures unknown { Each (LacksTag tag) (all_of filter_alternatives) →
         IsErrAnd result (λ e. reason e ≡ no_valid_choice (codes "Filter")) }
@@ -147,7 +148,8 @@ fn read_filters<D: Decoder>(decoder: &mut D, bound: usize) -> Result<Vec<Filter>
     ensures read { (vs : List Filter) (scope : Head × List Record) (outer : Outside) →
         All filter_meaning.IsOfType vs → All (filter_meaning.IsValid D.reader.accepts) vs →
         length vs ≤ bound →
-        Advances D.reader decoder.old decoder.new (highest (flat_map (own_records filter_meaning) vs))
+        Advances D.reader decoder.old decoder.new
+            (highest (flat_map (own_records filter_meaning) vs))
         (flat_map (own_records filter_meaning) vs, scope ∷ outer) ([], scope ∷ outer)
         (λ w. pointwise ⟦<Filter as PartialEq>⟧.eq w.items vs ≡ true) result }
     ensures same_depth { OnOk result (D.reader.depth_left decoder.new ≡

@@ -58,7 +58,8 @@ fn read_untagged<D: Decoder>(
 /// The alternative that can begin with the tag.
 #[cycle(nested_values)]
 pub(crate) fn read_alternative<D: Decoder>(decoder: &mut D, tag: Tag) -> Result<Nested, DecodeError>
-    ensures read { ReadsChosen D.reader tag nested_alternatives nested_pick ⟦<Nested as PartialEq>⟧.eq
+    ensures read { ReadsChosen D.reader tag nested_alternatives nested_pick
+        ⟦<Nested as PartialEq>⟧.eq
         decoder.old decoder.new result }
     ensures unknown { Each (LacksTag tag) (all_of nested_alternatives) →
         IsErrAnd result (λ e. reason e ≡ no_valid_choice (codes "Nested")) }

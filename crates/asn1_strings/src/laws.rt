@@ -162,5 +162,6 @@ pub fn ascii_strings_are_written_as_their_characters<A: AsciiAlphabet>()
     ensures text { (units : List ℕ) → ⟦<AlphabetString<u8, A> as Display>⟧.output units ≡
         Some units }
     ensures styled { (units : List ℕ) (options : _) →
-        ⟦<AlphabetString<u8, A> as Display>⟧.styled_output units options ≡ Some (styled_text options units) }
+        ⟦<AlphabetString<u8, A> as Display>⟧.styled_output units options ≡
+            Some (styled_text options units) }
 {}

@@ -1,5 +1,5 @@
 //! Arrays, in a struct of their own.
-ghost use Rattle.std.specs.Prelude.{◌≡◌};
+ghost use Rattle.std.specs.Prelude.{◌≡◌, ◌≢◌, MatchResult, vec_len};
 ghost use Rattle.asn1_model.specs.Kinds.{array_type, through};
 
 use asn1_model::{AsnType, TypeTable};
@@ -37,6 +37,22 @@ impl<T, const N: usize> From<[T; N]> for Array<T, N> {
 
     fn from(elements: [T; N]) -> Self {
         Array { elements }
+    }
+}
+
+impl<T: Drop, const N: usize> TryFrom<Vec<T>> for Array<T, N> {
+    type Error = Vec<T>;
+
+    // A list of another length is answered as it is.
+    ghost try_from_gives = { λ list made.
+        MatchResult made (λ array. (array.elements ≡ list.items) × (vec_len list ≡ N))
+            (λ same. (same ≡ list) × (vec_len list ≢ N)) };
+
+    fn try_from(list: Vec<T>) -> Result<Array<T, N>, Vec<T>> {
+        match <[T; N]>::try_from(list) {
+            Ok(elements) => Ok(Array { elements }),
+            Err(list) => Err(list),
+        }
     }
 }
 

@@ -38,7 +38,8 @@
 //! - `Any`, `Implicit` and `Explicit` give back what went in. Equality, order, hash and clones of these and of `InstanceOf`
 //!   are those of what they hold (`laws::values_are_compared_by_what_they_hold`).
 //! - An `Array` means what the array means; it is compared, ordered, hashed and cloned as that, and gives its elements back
-//!   (`laws::arrays_are_their_elements`, `laws::arrays_are_ordered_as_slices`).
+//!   (`laws::arrays_are_their_elements`, `laws::arrays_are_ordered_as_slices`). It is made of a list of as many elements
+//!   (`laws::arrays_are_made_of_lists`).
 //! - The fields of an `InstanceOf` are the name of the type and then the value, and both are always there
 //!   (`laws::instance_of_has_two_fields`).
 //! - A kind of string says what its strings are to a codec (`CodecString`): `as_any` makes the string of given units, and

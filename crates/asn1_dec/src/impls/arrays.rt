@@ -20,12 +20,11 @@ impl<T: Decode, const N: usize> Decode for Array<T, N> {
         constraints: &Constraints<'_>,
     ) -> Result<Array<T, N>, DecodeError> {
         let elements = decoder.decode_sequence_of::<T>(tag, constraints)?;
-        let actual = elements.len();
-        match <[T; N]>::try_from(elements) {
-            Ok(elements) => Ok(Array { elements }),
-            Err(_) => Err(DecodeError::IncorrectItemNumber {
+        match Array::try_from(elements) {
+            Ok(array) => Ok(array),
+            Err(elements) => Err(DecodeError::IncorrectItemNumber {
                 expected: N,
-                actual,
+                actual: elements.len(),
             }),
         }
     }

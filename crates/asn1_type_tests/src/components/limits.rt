@@ -13,11 +13,13 @@ fn numbers_outside_their_limits()
     ensures written { (accepts : List ℕ → Bool) →
         ¬ (constructed_type {V = ℤ} (codes "Limited") (sequence
         (with_default (codes "n") (λ n. n) (λ _. false)
-        (untagged ⟦<ConstrainedInteger<1, 10> as AsnType>⟧.meaning) ∷ []))).IsValid accepts (pos 11) }
+        (untagged ⟦<ConstrainedInteger<1, 10> as AsnType>⟧.meaning) ∷ []))).IsValid accepts
+            (pos 11) }
     ensures default { (accepts : List ℕ → Bool) →
         (constructed_type {V = ℤ} (codes "Limited") (sequence
         (with_default (codes "n") (λ n. n) (λ _. true)
-        (untagged ⟦<ConstrainedInteger<1, 10> as AsnType>⟧.meaning) ∷ []))).IsValid accepts (pos 11) }
+        (untagged ⟦<ConstrainedInteger<1, 10> as AsnType>⟧.meaning) ∷ []))).IsValid accepts
+            (pos 11) }
     ensures in_group { (accepts : List ℕ → Bool) →
         ¬ (constructed_type {V = ℤ} (codes "Limited") (extensible_sequence []
         (group (codes "g") (λ n. Some n) (sequence (required (codes "n") (λ n. n)

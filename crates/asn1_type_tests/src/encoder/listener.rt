@@ -1,8 +1,5 @@
-//! A codec that keeps nothing of records, and of what else it is told the number of elements.
-ghost use Rattle.asn1_codec.specs.Writing.{OpensScope};
-ghost use Rattle.asn1_model.specs.Records.{Head};
-ghost use Rattle.std.specs.Prelude.{◌≡◌, ⊤, MatchResult, false, true};
-ghost use Rattle.asn1_codec.specs.declared.encode_error.EncodeError.TheVariants.{Failed};
+//! A codec that has failed from the start, and keeps the number of elements that it is told.
+ghost use Rattle.std.specs.Prelude.{⊤, true};
 
 use asn1_bounds::{Codec, Constraints};
 use asn1_choices::Choice;
@@ -14,73 +11,29 @@ use asn1_types::{Any, CodecString};
 use asn1_values::IntegerType;
 use std::alloc::Global;
 
-/// The codec that listens.
+/// The codec that listens. Each call answers that it has failed, so that nothing of it has to be right but what it keeps.
 #[derive(Drop)]
 pub(super) struct Listener {
-    /// How many elements the list has that was opened last.
+    /// How many elements the list has that was to be opened last.
     pub(super) count: Option<usize>,
-    depth: usize,
-    has_failed: bool,
     alloc: Global,
 }
 
 impl Listener {
-    pub(super) fn new(alloc: Global, depth: usize) -> Listener {
-        Listener {
-            count: None,
-            depth,
-            has_failed: false,
-            alloc,
-        }
-    }
-
-    /// Whether the encoder has not failed.
-    fn may_write(&self) -> Result<(), EncodeError>
-        ensures { MatchResult result (λ _. self.now.has_failed ≡ false)
-            (λ e. (e ≡ Failed) × (self.now.has_failed ≡ true)) }
-    {
-        if self.has_failed {
-            Err(EncodeError::Failed)
-        } else {
-            Ok(())
-        }
-    }
-}
-
-impl Listener {
-    /// Opens a scope of any kind.
-    fn open_scope(&mut self, count: Option<usize>) -> Result<(), EncodeError>
-        ensures { (h : Head) → OpensScope (record {
-          wrote = λ _ _. ⊤;
-          failed = λ c. c.has_failed;
-          depth_left = λ c. c.depth;
-          rejects = λ _. ⊥;
-        }) self.old h self.new result }
-    {
-        self.may_write()?;
-        match self.depth.checked_sub(1) {
-            Some(depth) => {
-                self.depth = depth;
-                self.count = count;
-                Ok(())
-            }
-            None => {
-                self.has_failed = true;
-                Err(EncodeError::Depth)
-            }
-        }
+    pub(super) fn new(alloc: Global) -> Listener {
+        Listener { count: None, alloc }
     }
 }
 
 impl Encoder for Listener {
-    ghost writer = { record { wrote = λ _ _. ⊤; failed = λ c. c.has_failed; depth_left = λ c. c.depth; rejects = λ _. ⊥ } };
+    ghost writer = { record { wrote = λ _ _. ⊤; failed = λ _. true; depth_left = λ _. 0; rejects = λ _. ⊥ } };
 
     fn codec(&self) -> Codec {
         Codec::Other(2)
     }
 
     fn depth(&self) -> usize {
-        self.depth
+        0
     }
 
     fn global(&self) -> Global {
@@ -88,12 +41,7 @@ impl Encoder for Listener {
     }
 
     fn refuse_memory(&mut self) -> EncodeError {
-        if self.has_failed {
-            EncodeError::Failed
-        } else {
-            self.has_failed = true;
-            EncodeError::Memory
-        }
+        EncodeError::Failed
     }
 
     fn encode_bool(
@@ -102,11 +50,11 @@ impl Encoder for Listener {
         _value: bool,
         _name: Identifier,
     ) -> Result<(), EncodeError> {
-        self.may_write()
+        Err(EncodeError::Failed)
     }
 
     fn encode_null(&mut self, _tag: Tag, _name: Identifier) -> Result<(), EncodeError> {
-        self.may_write()
+        Err(EncodeError::Failed)
     }
 
     fn encode_enumerated_number<E: EnumeratedTable>(
@@ -115,7 +63,7 @@ impl Encoder for Listener {
         _number: isize,
         _name: Identifier,
     ) -> Result<(), EncodeError> {
-        self.may_write()
+        Err(EncodeError::Failed)
     }
 
     fn encode_object_identifier(
@@ -124,18 +72,17 @@ impl Encoder for Listener {
         _value: &[u32],
         _name: Identifier,
     ) -> Result<(), EncodeError> {
-        self.may_write()
+        Err(EncodeError::Failed)
     }
 
     fn encode_integer<T: IntegerType>(
         &mut self,
         _tag: Tag,
         _constraints: &Constraints<'_>,
-        value: &T,
+        _value: &T,
         _name: Identifier,
     ) -> Result<(), EncodeError> {
-        let _ = value.to_integer(self.alloc);
-        self.may_write()
+        Err(EncodeError::Failed)
     }
 
     fn encode_string<U, K: CodecString<U>>(
@@ -145,7 +92,7 @@ impl Encoder for Listener {
         _value: &[U],
         _name: Identifier,
     ) -> Result<(), EncodeError> {
-        self.may_write()
+        Err(EncodeError::Failed)
     }
 
     fn encode_any(
@@ -154,27 +101,27 @@ impl Encoder for Listener {
         _value: &Any,
         _name: Identifier,
     ) -> Result<(), EncodeError> {
-        self.may_write()
+        Err(EncodeError::Failed)
     }
 
     fn mark_present(&mut self, _tag: Tag) -> Result<(), EncodeError> {
-        self.may_write()
+        Err(EncodeError::Failed)
     }
 
     fn mark_absent(&mut self, _tag: Tag) -> Result<(), EncodeError> {
-        self.may_write()
+        Err(EncodeError::Failed)
     }
 
     fn mark_addition_present(&mut self, _tag: Tag) -> Result<(), EncodeError> {
-        self.may_write()
+        Err(EncodeError::Failed)
     }
 
     fn mark_addition_absent(&mut self, _tag: Tag) -> Result<(), EncodeError> {
-        self.may_write()
+        Err(EncodeError::Failed)
     }
 
     fn mark_group_absent(&mut self) -> Result<(), EncodeError> {
-        self.may_write()
+        Err(EncodeError::Failed)
     }
 
     fn open_sequence<C: FieldTable>(
@@ -182,11 +129,11 @@ impl Encoder for Listener {
         _tag: Tag,
         _name: Identifier,
     ) -> Result<(), EncodeError> {
-        self.open_scope(None)
+        Err(EncodeError::Failed)
     }
 
     fn open_set<C: FieldTable>(&mut self, _tag: Tag, _name: Identifier) -> Result<(), EncodeError> {
-        self.open_scope(None)
+        Err(EncodeError::Failed)
     }
 
     fn open_sequence_of(
@@ -196,7 +143,8 @@ impl Encoder for Listener {
         _name: Identifier,
         count: usize,
     ) -> Result<(), EncodeError> {
-        self.open_scope(Some(count))
+        self.count = Some(count);
+        Err(EncodeError::Failed)
     }
 
     fn open_set_of(
@@ -206,11 +154,12 @@ impl Encoder for Listener {
         _name: Identifier,
         count: usize,
     ) -> Result<(), EncodeError> {
-        self.open_scope(Some(count))
+        self.count = Some(count);
+        Err(EncodeError::Failed)
     }
 
     fn open_explicit_prefix(&mut self, _tag: Tag, _name: Identifier) -> Result<(), EncodeError> {
-        self.open_scope(None)
+        Err(EncodeError::Failed)
     }
 
     fn open_choice<T: Choice>(
@@ -219,29 +168,19 @@ impl Encoder for Listener {
         _constraints: &Constraints<'_>,
         _name: Identifier,
     ) -> Result<(), EncodeError> {
-        self.open_scope(None)
+        Err(EncodeError::Failed)
     }
 
     fn close(&mut self) -> Result<(), EncodeError> {
-        self.may_write()?;
-        match self.depth.checked_add(1) {
-            Some(depth) => {
-                self.depth = depth;
-                Ok(())
-            }
-            None => {
-                self.has_failed = true;
-                Err(EncodeError::Memory)
-            }
-        }
+        Err(EncodeError::Failed)
     }
 
     fn open_group<C: FieldTable>(&mut self) -> Result<(), EncodeError> {
-        self.may_write()
+        Err(EncodeError::Failed)
     }
 
     fn close_group(&mut self) -> Result<(), EncodeError> {
-        self.may_write()
+        Err(EncodeError::Failed)
     }
 
     ghost lawful = { record {

@@ -11,17 +11,17 @@ const NAME: Identifier = Identifier::EMPTY;
 
 /// Asserts that a list tells how many elements it has.
 fn assert_sequence_of(rt: &impl Abort, alloc: Global, bits: &[bool]) {
-    let mut listener = Listener::new(alloc, 1);
+    let mut listener = Listener::new(alloc);
     let answer = listener.encode_sequence_of(Tag::SEQUENCE, bits, &Constraints::NONE, NAME);
-    assert!(rt; answer.is_ok() && listener.count == Some(bits.len()));
+    assert!(rt; answer.is_err() && listener.count == Some(bits.len()));
 }
 
 /// Asserts that a set of elements does.
 fn assert_set_of(rt: &impl Abort, alloc: Global, octets: &[u8]) {
-    let mut listener = Listener::new(alloc, 1);
+    let mut listener = Listener::new(alloc);
     let elements = SetOf::from_vec(Vec::from_slice(alloc, octets).expect(rt, "memory"));
     let answer = listener.encode_set_of(Tag::SET, &elements, &Constraints::NONE, NAME);
-    assert!(rt; answer.is_ok() && listener.count == Some(octets.len()));
+    assert!(rt; answer.is_err() && listener.count == Some(octets.len()));
 }
 
 #[test]

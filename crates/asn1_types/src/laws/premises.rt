@@ -25,9 +25,11 @@ pub fn values_are_valid_as_their_contents<T: AsnType, V: AsnType>()
     ensures set { (accepts : List ℕ → Bool) (set : List V) →
         ⟦<SetOf<V> as AsnType>⟧.meaning.IsValid accepts set ↔ All (V.meaning.IsValid accepts) set }
     ensures implicit { (accepts : List ℕ → Bool) (v : Implicit T V) →
-        ⟦<Implicit<T, V> as AsnType>⟧.meaning.IsValid accepts v ↔ V.meaning.IsValid accepts v.value }
+        ⟦<Implicit<T, V> as AsnType>⟧.meaning.IsValid accepts v ↔
+            V.meaning.IsValid accepts v.value }
     ensures explicit { (accepts : List ℕ → Bool) (v : Explicit T V) →
-        ⟦<Explicit<T, V> as AsnType>⟧.meaning.IsValid accepts v ↔ V.meaning.IsValid accepts v.value }
+        ⟦<Explicit<T, V> as AsnType>⟧.meaning.IsValid accepts v ↔
+            V.meaning.IsValid accepts v.value }
     ensures instance { (accepts : List ℕ → Bool) (v : InstanceOf V) →
         ⟦<InstanceOf<V> as AsnType>⟧.meaning.IsValid accepts v ↔ V.meaning.IsValid accepts v.value }
 {}
