@@ -61,8 +61,8 @@ mod slotted;
 mod tagged;
 mod tagging;
 
-pub use by_place::DecodeByPlace;
-pub use calls::{addition, group, once, optional, required};
+pub use by_place::{DecodeByPlace, decode_fields_by_place, decode_sequence_by_place};
+pub use calls::{Decoded, addition, group, once, optional, required};
 pub use cases::{HasCases, alternative, alternative_with_constraints};
 pub use choice_by_place::DecodeChoiceByPlace;
 pub use constrained::{
