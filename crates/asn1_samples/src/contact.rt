@@ -1,11 +1,11 @@
 //! `[[ phone [3] NumericString OPTIONAL, mail [4] IA5String OPTIONAL ]]`: the group of additions of a `Profile`.
 ghost use Rattle.std.specs.Prelude.{[], ◌∷◌, codes};
-ghost use Rattle.asn1_slots.specs.Slots.{optional_slot, sequence_of_slots, slots_agree};
+ghost use Rattle.asn1_slots.specs.Slots.{optional_slot, sequence_of_slots};
 ghost use Rattle.asn1_types.specs.Words.{context, tagged, sequence};
 
 use asn1_dec::{DecodeError, DecodeFields, Decoder};
 use asn1_enc::{Encode, EncodeError, EncodeFields, Encoder};
-use asn1_slots::{DecodeByPlace, Slotted, Tagging, optional};
+use asn1_slots::{DecodeByPlace, Decoded, Tagging, decode_fields_by_place, optional};
 use asn1_strings::{Ia5String, NumericString};
 use asn1_types::{AsnType, Class, Field, FieldTable, Tag, TagTree};
 use std::alloc::Global;
@@ -32,7 +32,7 @@ const MAIL: Tag = Tag {
 /// The trees of the components, which are those of the group.
 pub(crate) const CONTACT: &[TagTree<'static>] = &[TagTree::Leaf(PHONE), TagTree::Leaf(MAIL)];
 
-impl Slotted for Contact {
+impl DecodeByPlace for Contact {
     type Slots = (Option<NumericString>, Option<Ia5String>);
 
     ghost layout = { optional_slot (codes "phone") (λ c. c.phone) (λ s. s.0)
@@ -46,10 +46,18 @@ impl Slotted for Contact {
             mail: slots.1,
         })
     }
+
+    fn decode_field<D: Decoder>(place: usize, slots: &mut Self::Slots, decoder: &mut D) -> Decoded {
+        match place {
+            0 => optional(&mut slots.0, decoder, Tagging::Tagged(PHONE)),
+            1 => optional(&mut slots.1, decoder, Tagging::Tagged(MAIL)),
+            _ => Ok(()),
+        }
+    }
 }
 
 impl FieldTable for Contact {
-    ghost components = { sequence_of_slots ⟦<Contact as Slotted>⟧.layout };
+    ghost components = { sequence_of_slots ⟦<Contact as DecodeByPlace>⟧.layout };
 
     fn field_count() -> usize {
         2
@@ -80,22 +88,6 @@ impl EncodeFields for Contact {
 
 impl DecodeFields for Contact {
     fn decode_fields<D: Decoder>(decoder: &mut D) -> Result<Contact, DecodeError> {
-        Contact::decode_by_place(decoder)
+        decode_fields_by_place(decoder)
     }
-}
-
-impl DecodeByPlace for Contact {
-    fn decode_field<D: Decoder>(
-        place: usize,
-        slots: &mut Self::Slots,
-        decoder: &mut D,
-    ) -> Result<(), DecodeError> {
-        match place {
-            0 => optional(&mut slots.0, decoder, Tagging::Tagged(PHONE)),
-            1 => optional(&mut slots.1, decoder, Tagging::Tagged(MAIL)),
-            _ => Ok(()),
-        }
-    }
-
-    ghost agrees = { slots_agree ⟦<Contact as FieldTable>⟧.components };
 }

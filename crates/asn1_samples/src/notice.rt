@@ -1,12 +1,14 @@
 //! `Notice ::= SEQUENCE { id [0] INTEGER (0..255), urgent [1] EXPLICIT BOOLEAN OPTIONAL, text [2] UTF8String }`
 ghost use Rattle.std.specs.Prelude.{◌≡◌, [], ◌∷◌, None, Some, true, pos, codes};
 ghost use Rattle.std.specs.String.{string_bytes};
-ghost use Rattle.asn1_slots.specs.Slots.{optional_slot, required_slot, sequence_of_slots, slots_agree};
+ghost use Rattle.asn1_slots.specs.Slots.{optional_slot, required_slot, sequence_of_slots};
 ghost use Rattle.asn1_types.specs.Words.{lines, in_root, context, universal, tagged, explicitly_tagged, constructed_type, constructed_agrees, IsWellTagged, own_records, holding, sequence_head, explicit_tag, scalar, presence_mark, absent, present, number, boolean, units, utf8, unconstrained, values_of, Range};
 
-use asn1_dec::{Decode, DecodeError, DecodeFields, Decoder};
+use asn1_dec::{Decode, DecodeError, Decoder};
 use asn1_enc::{Encode, EncodeError, EncodeFields, Encoder};
-use asn1_slots::{DecodeByPlace, Slotted, Tagging, filled, optional, required};
+use asn1_slots::{
+    DecodeByPlace, Decoded, Tagging, decode_sequence_by_place, filled, optional, required,
+};
 use asn1_strings::Utf8String;
 use asn1_types::{
     AsnType, Class, Constraints, ConstructedType, Field, FieldTable, Identifier, Tag, TypeTable,
@@ -39,7 +41,7 @@ const TEXT: Tag = Tag {
     value: 2,
 };
 
-impl Slotted for Notice {
+impl DecodeByPlace for Notice {
     type Slots = (Option<u8>, Option<bool>, Option<Utf8String>);
 
     ghost layout = { required_slot (codes "id") (λ n. n.id) (λ s. s.0)
@@ -56,10 +58,19 @@ impl Slotted for Notice {
             text: filled(slots.2, "text")?,
         })
     }
+
+    fn decode_field<D: Decoder>(place: usize, slots: &mut Self::Slots, decoder: &mut D) -> Decoded {
+        match place {
+            0 => required(&mut slots.0, decoder, Tagging::Tagged(ID)),
+            1 => optional(&mut slots.1, decoder, Tagging::Explicit(URGENT)),
+            2 => required(&mut slots.2, decoder, Tagging::Tagged(TEXT)),
+            _ => Ok(()),
+        }
+    }
 }
 
 impl FieldTable for Notice {
-    ghost components = { sequence_of_slots ⟦<Notice as Slotted>⟧.layout };
+    ghost components = { sequence_of_slots ⟦<Notice as DecodeByPlace>⟧.layout };
 
     fn field_count() -> usize {
         3
@@ -134,31 +145,8 @@ impl Decode for Notice {
         tag: Tag,
         _constraints: &Constraints<'_>,
     ) -> Result<Notice, DecodeError> {
-        decoder.decode_sequence(tag)
+        decode_sequence_by_place(decoder, tag)
     }
-}
-
-impl DecodeFields for Notice {
-    fn decode_fields<D: Decoder>(decoder: &mut D) -> Result<Notice, DecodeError> {
-        Notice::decode_by_place(decoder)
-    }
-}
-
-impl DecodeByPlace for Notice {
-    fn decode_field<D: Decoder>(
-        place: usize,
-        slots: &mut Self::Slots,
-        decoder: &mut D,
-    ) -> Result<(), DecodeError> {
-        match place {
-            0 => required(&mut slots.0, decoder, Tagging::Tagged(ID)),
-            1 => optional(&mut slots.1, decoder, Tagging::Explicit(URGENT)),
-            2 => required(&mut slots.2, decoder, Tagging::Tagged(TEXT)),
-            _ => Ok(()),
-        }
-    }
-
-    ghost agrees = { slots_agree ⟦<Notice as FieldTable>⟧.components };
 }
 
 /// What a notice is to every codec: `Notice { id: 7, urgent: Some(true), text: "Come" }` (`urgent`), and the same without

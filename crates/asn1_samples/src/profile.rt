@@ -11,15 +11,18 @@
 //! ```
 ghost use Rattle.std.specs.Prelude.{◌≡◌, [], ◌∷◌, None, Some, pos, codes};
 ghost use Rattle.std.specs.String.{string_bytes};
-ghost use Rattle.asn1_slots.specs.Slots.{default_slot, extensible_sequence_after, group_slot, optional_slot, required_slot, slots_agree};
+ghost use Rattle.asn1_slots.specs.Slots.{default_slot, extensible_sequence_after, group_slot, optional_slot, required_slot};
 ghost use Rattle.asn1_types.specs.Words.{lines, labels_of, in_root, context, universal, tagged, constructed_type, constructed_agrees, IsWellTagged, own_records, holding, sequence_head, scalar, presence_mark, absent, present, group_start, group_end, group_absent, number, discriminant, units, utf8, ia5, unconstrained, values_of, Range};
 ghost use Rattle.asn1_samples.specs.declared.color.Color.TheVariants.{Red, Blue};
 
 use crate::color::Color;
 use crate::contact::{CONTACT, Contact};
-use asn1_dec::{Decode, DecodeError, DecodeFields, Decoder};
+use asn1_dec::{Decode, DecodeError, Decoder};
 use asn1_enc::{Encode, EncodeError, EncodeFields, Encoder};
-use asn1_slots::{DecodeByPlace, Slotted, Tagging, filled, group, optional, or_default, required};
+use asn1_slots::{
+    DecodeByPlace, Decoded, Tagging, decode_sequence_by_place, filled, group, optional, or_default,
+    required,
+};
 use asn1_strings::{Ia5String, Utf8String};
 use asn1_types::{
     AsnType, Class, Constraints, ConstructedType, Field, FieldTable, Identifier, Tag, TypeTable,
@@ -54,7 +57,7 @@ const COLOR: Tag = Tag {
     value: 2,
 };
 
-impl Slotted for Profile {
+impl DecodeByPlace for Profile {
     type Slots = (
         Option<Utf8String>,
         Option<u8>,
@@ -79,10 +82,20 @@ impl Slotted for Profile {
             contact: slots.3,
         })
     }
+
+    fn decode_field<D: Decoder>(place: usize, slots: &mut Self::Slots, decoder: &mut D) -> Decoded {
+        match place {
+            0 => optional(&mut slots.0, decoder, Tagging::Tagged(NICK)),
+            1 => required(&mut slots.1, decoder, Tagging::Tagged(LEVEL)),
+            2 => optional(&mut slots.2, decoder, Tagging::Tagged(COLOR)),
+            3 => group(&mut slots.3, decoder),
+            _ => Ok(()),
+        }
+    }
 }
 
 impl FieldTable for Profile {
-    ghost components = { extensible_sequence_after 3 ⟦<Profile as Slotted>⟧.layout };
+    ghost components = { extensible_sequence_after 3 ⟦<Profile as DecodeByPlace>⟧.layout };
 
     fn field_count() -> usize {
         4
@@ -159,32 +172,8 @@ impl Decode for Profile {
         tag: Tag,
         _constraints: &Constraints<'_>,
     ) -> Result<Profile, DecodeError> {
-        decoder.decode_sequence(tag)
+        decode_sequence_by_place(decoder, tag)
     }
-}
-
-impl DecodeFields for Profile {
-    fn decode_fields<D: Decoder>(decoder: &mut D) -> Result<Profile, DecodeError> {
-        Profile::decode_by_place(decoder)
-    }
-}
-
-impl DecodeByPlace for Profile {
-    fn decode_field<D: Decoder>(
-        place: usize,
-        slots: &mut Self::Slots,
-        decoder: &mut D,
-    ) -> Result<(), DecodeError> {
-        match place {
-            0 => optional(&mut slots.0, decoder, Tagging::Tagged(NICK)),
-            1 => required(&mut slots.1, decoder, Tagging::Tagged(LEVEL)),
-            2 => optional(&mut slots.2, decoder, Tagging::Tagged(COLOR)),
-            3 => group(&mut slots.3, decoder),
-            _ => Ok(()),
-        }
-    }
-
-    ghost agrees = { slots_agree ⟦<Profile as FieldTable>⟧.components };
 }
 
 /// What a profile is to every codec: `Profile { nick: None, level: 7, color: Red, contact: None }` (`empty`), the same with a

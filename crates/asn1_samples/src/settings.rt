@@ -1,12 +1,12 @@
 //! `Settings ::= SEQUENCE { entry [0] Labelled DEFAULT { key 1, note 0 } }`
 ghost use Rattle.std.specs.Prelude.{◌≡◌, [], ◌∷◌, Some, pos, codes};
-ghost use Rattle.asn1_slots.specs.Slots.{default_slot, sequence_of_slots, slots_agree};
+ghost use Rattle.asn1_slots.specs.Slots.{default_slot, sequence_of_slots};
 ghost use Rattle.asn1_types.specs.Words.{lines, in_root, context, universal, tagged, constructed_type, constructed_agrees, IsWellTagged, own_records, holding, sequence_head, scalar, presence_mark, absent, present, number, values_of, Range};
 
 use crate::labelled::Labelled;
-use asn1_dec::{Decode, DecodeError, DecodeFields, Decoder};
+use asn1_dec::{Decode, DecodeError, Decoder};
 use asn1_enc::{Encode, EncodeError, EncodeFields, Encoder};
-use asn1_slots::{DecodeByPlace, Slotted, Tagging, optional, or_default};
+use asn1_slots::{DecodeByPlace, Decoded, Tagging, decode_sequence_by_place, optional, or_default};
 use asn1_types::{
     AsnType, Class, Constraints, ConstructedType, Field, FieldTable, Identifier, Tag, TypeTable,
 };
@@ -24,7 +24,7 @@ const ENTRY: Tag = Tag {
     value: 0,
 };
 
-impl Slotted for Settings {
+impl DecodeByPlace for Settings {
     type Slots = (Option<Labelled>,);
 
     ghost layout = { default_slot (codes "entry") (λ s. s.entry) (record { key = 1; note = 0 }) (λ s. s.0)
@@ -35,10 +35,17 @@ impl Slotted for Settings {
             entry: or_default(slots.0, Labelled { key: 1, note: 0 }),
         })
     }
+
+    fn decode_field<D: Decoder>(place: usize, slots: &mut Self::Slots, decoder: &mut D) -> Decoded {
+        match place {
+            0 => optional(&mut slots.0, decoder, Tagging::Tagged(ENTRY)),
+            _ => Ok(()),
+        }
+    }
 }
 
 impl FieldTable for Settings {
-    ghost components = { sequence_of_slots ⟦<Settings as Slotted>⟧.layout };
+    ghost components = { sequence_of_slots ⟦<Settings as DecodeByPlace>⟧.layout };
 
     fn field_count() -> usize {
         1
@@ -109,29 +116,8 @@ impl Decode for Settings {
         tag: Tag,
         _constraints: &Constraints<'_>,
     ) -> Result<Settings, DecodeError> {
-        decoder.decode_sequence(tag)
+        decode_sequence_by_place(decoder, tag)
     }
-}
-
-impl DecodeFields for Settings {
-    fn decode_fields<D: Decoder>(decoder: &mut D) -> Result<Settings, DecodeError> {
-        Settings::decode_by_place(decoder)
-    }
-}
-
-impl DecodeByPlace for Settings {
-    fn decode_field<D: Decoder>(
-        place: usize,
-        slots: &mut Self::Slots,
-        decoder: &mut D,
-    ) -> Result<(), DecodeError> {
-        match place {
-            0 => optional(&mut slots.0, decoder, Tagging::Tagged(ENTRY)),
-            _ => Ok(()),
-        }
-    }
-
-    ghost agrees = { slots_agree ⟦<Settings as FieldTable>⟧.components };
 }
 
 /// What settings are to every codec: an entry with the key 1 and the note 9, which equals the default (`default`), and one

@@ -10,13 +10,15 @@
 //! ```
 ghost use Rattle.std.specs.Prelude.{◌≡◌, [], ◌∷◌, None, Some, pos, codes};
 ghost use Rattle.std.specs.String.{string_bytes};
-ghost use Rattle.asn1_slots.specs.Slots.{addition_slot, extensible_sequence_after, group_slot, required_slot, slots_agree};
+ghost use Rattle.asn1_slots.specs.Slots.{addition_slot, extensible_sequence_after, group_slot, required_slot};
 ghost use Rattle.asn1_types.specs.Words.{lines, in_root, in_additions, context, universal, tagged, constructed_type, constructed_agrees, IsWellTagged, own_records, holding, sequence_head, scalar, presence_mark, absent, present, group_start, group_end, number, units, utf8, numeric, unconstrained, values_of, Range};
 
 use crate::contact::{CONTACT, Contact};
-use asn1_dec::{Decode, DecodeError, DecodeFields, Decoder};
+use asn1_dec::{Decode, DecodeError, Decoder};
 use asn1_enc::{Encode, EncodeError, EncodeFields, Encoder};
-use asn1_slots::{DecodeByPlace, Slotted, Tagging, addition, filled, group, required};
+use asn1_slots::{
+    DecodeByPlace, Decoded, Tagging, addition, decode_sequence_by_place, filled, group, required,
+};
 use asn1_strings::{NumericString, Utf8String};
 use asn1_types::{
     AsnType, Class, Constraints, ConstructedType, Field, FieldTable, Identifier, Tag, TypeTable,
@@ -44,7 +46,7 @@ const NOTE: Tag = Tag {
     value: 5,
 };
 
-impl Slotted for Visit {
+impl DecodeByPlace for Visit {
     type Slots = (Option<u16>, Option<Contact>, Option<Utf8String>);
 
     ghost layout = { required_slot (codes "day") (λ v. v.day) (λ s. s.0)
@@ -61,10 +63,19 @@ impl Slotted for Visit {
             note: slots.2,
         })
     }
+
+    fn decode_field<D: Decoder>(place: usize, slots: &mut Self::Slots, decoder: &mut D) -> Decoded {
+        match place {
+            0 => required(&mut slots.0, decoder, Tagging::Tagged(DAY)),
+            1 => group(&mut slots.1, decoder),
+            2 => addition(&mut slots.2, decoder, Tagging::Tagged(NOTE)),
+            _ => Ok(()),
+        }
+    }
 }
 
 impl FieldTable for Visit {
-    ghost components = { extensible_sequence_after 1 ⟦<Visit as Slotted>⟧.layout };
+    ghost components = { extensible_sequence_after 1 ⟦<Visit as DecodeByPlace>⟧.layout };
 
     fn field_count() -> usize {
         3
@@ -138,31 +149,8 @@ impl Decode for Visit {
         tag: Tag,
         _constraints: &Constraints<'_>,
     ) -> Result<Visit, DecodeError> {
-        decoder.decode_sequence(tag)
+        decode_sequence_by_place(decoder, tag)
     }
-}
-
-impl DecodeFields for Visit {
-    fn decode_fields<D: Decoder>(decoder: &mut D) -> Result<Visit, DecodeError> {
-        Visit::decode_by_place(decoder)
-    }
-}
-
-impl DecodeByPlace for Visit {
-    fn decode_field<D: Decoder>(
-        place: usize,
-        slots: &mut Self::Slots,
-        decoder: &mut D,
-    ) -> Result<(), DecodeError> {
-        match place {
-            0 => required(&mut slots.0, decoder, Tagging::Tagged(DAY)),
-            1 => group(&mut slots.1, decoder),
-            2 => addition(&mut slots.2, decoder, Tagging::Tagged(NOTE)),
-            _ => Ok(()),
-        }
-    }
-
-    ghost agrees = { slots_agree ⟦<Visit as FieldTable>⟧.components };
 }
 
 /// What a visit is to every codec: `Visit { day: 7, contact: Some(Contact { phone: Some("12"), mail: None }), note }`, of which the

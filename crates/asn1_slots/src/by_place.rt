@@ -1,5 +1,5 @@
 //! Types that are read by place.
-ghost use Rattle.asn1_codec.specs.DecodeErrors.{lacks_name, missing_field, reason};
+ghost use Rattle.asn1_codec.specs.DecodeErrors.{lacks_name, reason};
 ghost use Rattle.asn1_codec.specs.Reading.{KeepsDepth, NeedsDepth, ReadsValue};
 ghost use Rattle.asn1_codec.specs.ReadingTypes.{ReadsComponents, ReadsFields};
 ghost use Rattle.asn1_components.specs.Components.{is_sequence};

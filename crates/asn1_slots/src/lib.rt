@@ -57,7 +57,7 @@ mod constrained;
 mod errors;
 mod places;
 mod set_by_place;
-mod slotted;
+mod slot_values;
 mod tagged;
 mod tagging;
 
@@ -69,5 +69,5 @@ pub use constrained::{
     addition_with_constraints, optional_with_constraints, required_with_constraints,
 };
 pub use set_by_place::{DecodeSetByPlace, decode_set_by_place};
-pub use slotted::{Slotted, filled, or_default};
+pub use slot_values::{filled, or_default};
 pub use tagging::Tagging;

@@ -1,0 +1,25 @@
+//! What is in a slot.
+ghost use Rattle.asn1_slots.specs.Slots.{holds_or_default};
+ghost use Rattle.asn1_codec.specs.DecodeErrors.{missing_field, reason};
+ghost use Rattle.std.specs.Prelude.{◌≡◌, MatchOption, Ok, true};
+ghost use Rattle.std.specs.Result.{IsErrAnd};
+
+use asn1_codec::DecodeError;
+
+/// The component that is in a slot. Where there is none, the error is [`DecodeError::MissingField`], with the name.
+pub fn filled<T: Drop>(slot: Option<T>, name: &'static str) -> Result<T, DecodeError>
+    ensures { MatchOption slot (IsErrAnd result (λ error. reason error ≡ missing_field name.now))
+        (λ value. result ≡ Ok value) }
+{
+    match slot {
+        Some(value) => Ok(value),
+        None => Err(DecodeError::MissingField(name)),
+    }
+}
+
+/// The component that is in a slot, or the default where there is none.
+pub fn or_default<T: Eq + Drop>(slot: Option<T>, default_value: T) -> T
+    ensures { (v : T) → holds_or_default T.eq default_value slot v ≡ true → T.eq result v ≡ true }
+{
+    slot.unwrap_or(default_value)
+}
