@@ -63,8 +63,8 @@ mod tagging;
 
 pub use by_place::{DecodeByPlace, decode_fields_by_place, decode_sequence_by_place};
 pub use calls::{Decoded, addition, group, once, optional, required};
-pub use cases::{HasCases, alternative, alternative_with_constraints};
-pub use choice_by_place::DecodeChoiceByPlace;
+pub use cases::{alternative, alternative_with_constraints};
+pub use choice_by_place::{DecodeChoiceByPlace, from_tag_by_place, from_tag_by_table};
 pub use constrained::{
     addition_with_constraints, optional_with_constraints, required_with_constraints,
 };
