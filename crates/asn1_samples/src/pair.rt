@@ -8,8 +8,9 @@ use asn1_enc::{Encode, EncodeError, EncodeFields, Encoder};
 use asn1_slots::{
     DecodeByPlace, Decoded, Tagging, decode_sequence_by_place, filled, optional, required,
 };
+use asn1_tags::tag;
 use asn1_types::{
-    AsnType, Class, Constraints, ConstructedType, Field, FieldTable, Identifier, Tag, TypeTable,
+    AsnType, Constraints, ConstructedType, Field, FieldTable, Identifier, Tag, TypeTable,
 };
 use std::alloc::Global;
 
@@ -22,18 +23,11 @@ pub struct Pair<T, U> {
     pub second: Option<U>,
 }
 
-const SECOND: Tag = Tag {
-    class: Class::Context,
-    value: 0,
-};
-
 impl<T: Decode, U: Decode> DecodeByPlace for Pair<T, U> {
     type Slots = (Option<T>, Option<U>);
 
-    ghost layout = { required_slot (codes "first") (λ p. p.first) (λ s. s.0)
-        (untagged T.meaning) T.eq ∷
-        optional_slot (codes "second") (λ p. p.second) (λ s. s.1)
-        (tagged (context 0) U.meaning) U.eq ∷ [] };
+    ghost layout = { required_slot (codes "first") (λ p. p.first) (λ s. s.0) (untagged T.meaning) T.eq ∷
+        optional_slot (codes "second") (λ p. p.second) (λ s. s.1) (tagged (context 0) U.meaning) U.eq ∷ [] };
 
     fn from_slots(_alloc: Global, slots: Self::Slots) -> Result<Pair<T, U>, DecodeError> {
         Ok(Pair {
@@ -45,7 +39,7 @@ impl<T: Decode, U: Decode> DecodeByPlace for Pair<T, U> {
     fn decode_field<D: Decoder>(place: usize, slots: &mut Self::Slots, decoder: &mut D) -> Decoded {
         match place {
             0 => required(&mut slots.0, decoder, Tagging::Untagged),
-            1 => optional(&mut slots.1, decoder, Tagging::Tagged(SECOND)),
+            1 => optional(&mut slots.1, decoder, Tagging::Tagged(tag!(context 0))),
             _ => Ok(()),
         }
     }
@@ -63,7 +57,7 @@ impl<T: AsnType, U: AsnType> FieldTable for Pair<T, U> {
     fn field_at(place: usize) -> Option<Field<'static>> {
         match place {
             0 => Some(Field::new_required_type::<T>(0, "first")),
-            1 => Some(Field::new_optional_type_with_tag::<U>(1, SECOND, "second")),
+            1 => Some(Field::new_optional_type_with_tag::<U>(1, tag!(context 0), "second")),
             _ => None,
         }
     }
@@ -118,7 +112,7 @@ impl<T: Encode, U: Encode> EncodeFields for Pair<T, U> {
     fn encode_field<E: Encoder>(&self, place: usize, encoder: &mut E) -> Result<(), EncodeError> {
         match place {
             0 => self.first.encode(encoder),
-            1 => self.second.encode_with_tag(encoder, SECOND),
+            1 => self.second.encode_with_tag(encoder, tag!(context 0)),
             _ => Ok(()),
         }
     }

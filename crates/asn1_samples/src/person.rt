@@ -26,10 +26,8 @@ pub struct Person {
 impl DecodeByPlace for Person {
     type Slots = (Option<Integer>, Option<Utf8String>);
 
-    ghost layout = { required_slot (codes "age") (λ p. p.age) (λ s. s.0)
-        (untagged ⟦<Integer as AsnType>⟧.meaning) ⟦<Integer as PartialEq>⟧.eq ∷
-        required_slot (codes "name") (λ p. p.name) (λ s. s.1)
-        (untagged ⟦<Utf8String as AsnType>⟧.meaning) ⟦<Utf8String as PartialEq>⟧.eq ∷ [] };
+    ghost layout = { required_slot (codes "age") (λ p. p.age) (λ s. s.0) (untagged ⟦<Integer as AsnType>⟧.meaning) ⟦<Integer as PartialEq>⟧.eq ∷
+        required_slot (codes "name") (λ p. p.name) (λ s. s.1) (untagged ⟦<Utf8String as AsnType>⟧.meaning) ⟦<Utf8String as PartialEq>⟧.eq ∷ [] };
 
     fn from_slots(_alloc: Global, slots: Self::Slots) -> Result<Person, DecodeError> {
         Ok(Person {

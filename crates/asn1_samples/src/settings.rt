@@ -7,8 +7,9 @@ use crate::labelled::Labelled;
 use asn1_dec::{Decode, DecodeError, Decoder};
 use asn1_enc::{Encode, EncodeError, EncodeFields, Encoder};
 use asn1_slots::{DecodeByPlace, Decoded, Tagging, decode_sequence_by_place, optional, or_default};
+use asn1_tags::tag;
 use asn1_types::{
-    AsnType, Class, Constraints, ConstructedType, Field, FieldTable, Identifier, Tag, TypeTable,
+    AsnType, Constraints, ConstructedType, Field, FieldTable, Identifier, Tag, TypeTable,
 };
 use std::alloc::Global;
 
@@ -19,16 +20,10 @@ pub struct Settings {
     pub entry: Labelled,
 }
 
-const ENTRY: Tag = Tag {
-    class: Class::Context,
-    value: 0,
-};
-
 impl DecodeByPlace for Settings {
     type Slots = (Option<Labelled>,);
 
-    ghost layout = { default_slot (codes "entry") (λ s. s.entry) (record { key = 1; note = 0 }) (λ s. s.0)
-        (tagged (context 0) ⟦<Labelled as AsnType>⟧.meaning) ⟦<Labelled as PartialEq>⟧.eq ∷ [] };
+    ghost layout = { default_slot (codes "entry") (λ s. s.entry) (record { key = 1; note = 0 }) (λ s. s.0) (tagged (context 0) ⟦<Labelled as AsnType>⟧.meaning) ⟦<Labelled as PartialEq>⟧.eq ∷ [] };
 
     fn from_slots(_alloc: Global, slots: Self::Slots) -> Result<Settings, DecodeError> {
         Ok(Settings {
@@ -38,7 +33,7 @@ impl DecodeByPlace for Settings {
 
     fn decode_field<D: Decoder>(place: usize, slots: &mut Self::Slots, decoder: &mut D) -> Decoded {
         match place {
-            0 => optional(&mut slots.0, decoder, Tagging::Tagged(ENTRY)),
+            0 => optional(&mut slots.0, decoder, Tagging::Tagged(tag!(context 0))),
             _ => Ok(()),
         }
     }
@@ -53,7 +48,7 @@ impl FieldTable for Settings {
 
     fn field_at(place: usize) -> Option<Field<'static>> {
         match place {
-            0 => Some(Field::new_default_type_with_tag::<Labelled>(0, ENTRY, "entry")),
+            0 => Some(Field::new_default_type_with_tag::<Labelled>(0, tag!(context 0), "entry")),
             _ => None,
         }
     }
@@ -100,7 +95,7 @@ impl EncodeFields for Settings {
     fn encode_field<E: Encoder>(&self, place: usize, encoder: &mut E) -> Result<(), EncodeError> {
         match place {
             0 => encoder.encode_default_with_tag(
-                ENTRY,
+                tag!(context 0),
                 &self.entry,
                 |_| Ok(Labelled { key: 1, note: 0 }),
                 Labelled::identifier(),

@@ -20,8 +20,9 @@ use asn1_slots::{
     DecodeByPlace, Decoded, Tagging, addition, decode_sequence_by_place, filled, group, required,
 };
 use asn1_strings::{NumericString, Utf8String};
+use asn1_tags::tag;
 use asn1_types::{
-    AsnType, Class, Constraints, ConstructedType, Field, FieldTable, Identifier, Tag, TypeTable,
+    AsnType, Constraints, ConstructedType, Field, FieldTable, Identifier, Tag, TypeTable,
 };
 use std::alloc::Global;
 
@@ -36,25 +37,12 @@ pub struct Visit {
     pub note: Option<Utf8String>,
 }
 
-const DAY: Tag = Tag {
-    class: Class::Context,
-    value: 0,
-};
-
-const NOTE: Tag = Tag {
-    class: Class::Context,
-    value: 5,
-};
-
 impl DecodeByPlace for Visit {
     type Slots = (Option<u16>, Option<Contact>, Option<Utf8String>);
 
-    ghost layout = { required_slot (codes "day") (λ v. v.day) (λ s. s.0)
-        (tagged (context 0) ⟦<u16 as AsnType>⟧.meaning) ⟦<u16 as PartialEq>⟧.eq ∷
-        group_slot (codes "contact") (λ v. v.contact) (λ s. s.1)
-        ⟦<Contact as FieldTable>⟧.components ⟦<Contact as PartialEq>⟧.eq ∷
-        addition_slot (codes "note") (λ v. v.note) (λ s. s.2)
-        (tagged (context 5) ⟦<Utf8String as AsnType>⟧.meaning) ⟦<Utf8String as PartialEq>⟧.eq ∷ [] };
+    ghost layout = { required_slot (codes "day") (λ v. v.day) (λ s. s.0) (tagged (context 0) ⟦<u16 as AsnType>⟧.meaning) ⟦<u16 as PartialEq>⟧.eq ∷
+        group_slot (codes "contact") (λ v. v.contact) (λ s. s.1) ⟦<Contact as FieldTable>⟧.components ⟦<Contact as PartialEq>⟧.eq ∷
+        addition_slot (codes "note") (λ v. v.note) (λ s. s.2) (tagged (context 5) ⟦<Utf8String as AsnType>⟧.meaning) ⟦<Utf8String as PartialEq>⟧.eq ∷ [] };
 
     fn from_slots(_alloc: Global, slots: Self::Slots) -> Result<Visit, DecodeError> {
         Ok(Visit {
@@ -66,9 +54,9 @@ impl DecodeByPlace for Visit {
 
     fn decode_field<D: Decoder>(place: usize, slots: &mut Self::Slots, decoder: &mut D) -> Decoded {
         match place {
-            0 => required(&mut slots.0, decoder, Tagging::Tagged(DAY)),
+            0 => required(&mut slots.0, decoder, Tagging::Tagged(tag!(context 0))),
             1 => group(&mut slots.1, decoder),
-            2 => addition(&mut slots.2, decoder, Tagging::Tagged(NOTE)),
+            2 => addition(&mut slots.2, decoder, Tagging::Tagged(tag!(context 5))),
             _ => Ok(()),
         }
     }
@@ -83,9 +71,9 @@ impl FieldTable for Visit {
 
     fn field_at(place: usize) -> Option<Field<'static>> {
         match place {
-            0 => Some(Field::new_required_type_with_tag::<u16>(0, DAY, "day")),
+            0 => Some(Field::new_required_type_with_tag::<u16>(0, tag!(context 0), "day")),
             1 => Some(Field::new_group(1, CONTACT, "contact")),
-            2 => Some(Field::new_optional_type_with_tag::<Utf8String>(2, NOTE, "note")),
+            2 => Some(Field::new_optional_type_with_tag::<Utf8String>(2, tag!(context 5), "note")),
             _ => None,
         }
     }
@@ -131,10 +119,10 @@ impl Encode for Visit {
 impl EncodeFields for Visit {
     fn encode_field<E: Encoder>(&self, place: usize, encoder: &mut E) -> Result<(), EncodeError> {
         match place {
-            0 => self.day.encode_with_tag(encoder, DAY),
+            0 => self.day.encode_with_tag(encoder, tag!(context 0)),
             1 => encoder.encode_extension_addition_group(self.contact.as_ref(), Identifier::EMPTY),
             2 => encoder.encode_extension_addition_with_tag(
-                NOTE,
+                tag!(context 5),
                 self.note.as_ref(),
                 Utf8String::identifier(),
             ),
