@@ -5,6 +5,8 @@ use Rattle.asn1_choices.specs.Alternatives.{Alternative, Alternatives, OneOf, al
 use Rattle.asn1_codec.specs.Reading.{Reader}
 use Rattle.asn1_codec.specs.declared.decode_error.DecodeError.{DecodeError}
 use Rattle.asn1_model.specs.TaggedTypes.{TaggedType}
+use Rattle.asn1_tags.specs.Order.{structures_cmp}
+use Rattle.std.specs.Ordering.{is_eq}
 use Rattle.asn1_slots.specs.Filling.{ReadsComponent}
 
 -- A call that reads the value of an alternative: of each that is of the type and valid it answers
@@ -70,7 +72,7 @@ module _ {V : Type 0} where
   IsMade eq (h ∷ hs) (inl w) v = (h.make w ≡ v) × ((u : h.Value) → eq (h.make u) v ≡ h.eq u w)
   IsMade eq (h ∷ hs) (inr x) v = IsMade eq hs x v
 
-  -- The alternatives have the trees of these cases, in their order.
-  abbrev pub AreTreesOf : Alternatives → List (Case V) → Type 0
-  AreTreesOf alternatives cases =
-      trees_of (all_of alternatives) ≡ trees_of (alternatives_of cases)
+  -- whether the alternatives have the trees of these cases, in their order
+  abbrev pub are_of_cases : Alternatives → List (Case V) → Bool
+  are_of_cases alternatives cases =
+      is_eq (structures_cmp (trees_of (all_of alternatives)) (trees_of (alternatives_of cases)))

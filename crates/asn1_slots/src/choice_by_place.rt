@@ -3,7 +3,8 @@ ghost use Rattle.asn1_choices.specs.Alternatives.{Each, OneOf, all_of, trees_of}
 ghost use Rattle.asn1_choices.specs.ChosenTags.{LacksTag};
 ghost use Rattle.asn1_codec.specs.DecodeErrors.{no_memory, no_valid_choice, reason};
 ghost use Rattle.asn1_codec.specs.ReadingTypes.{ReadsChosen};
-ghost use Rattle.asn1_slots.specs.Cases.{AreTreesOf, Case, IsMade, ReadsCaseAt, alternatives_of, choice_of_cases};
+ghost use Rattle.asn1_components.specs.Following.{Where};
+ghost use Rattle.asn1_slots.specs.Cases.{Case, IsMade, ReadsCaseAt, alternatives_of, are_of_cases, choice_of_cases};
 ghost use Rattle.asn1_slots.specs.TagPlaces.{IsPlaceOf};
 ghost use Rattle.asn1_tags.specs.declared.tags.Tag.{Tag};
 ghost use Rattle.std.specs.Prelude.{◌≡◌, ◌≢◌, [], List, OnOk, unwrap_or};
@@ -71,8 +72,8 @@ pub fn from_tag_by_place<T: DecodeChoiceByPlace + ChoiceType, D: Decoder>(
     decoder: &mut D,
     tag: Tag,
 ) -> Result<T, DecodeError>
-    ensures read { AreTreesOf T.alternatives T.cases → ReadsChosen D.reader tag
-        (choice_of_cases T.cases) T.case_of T.eq decoder.old decoder.new result }
+    ensures read { Where (are_of_cases T.alternatives T.cases) (ReadsChosen D.reader tag
+        (choice_of_cases T.cases) T.case_of T.eq decoder.old decoder.new result) }
     ensures unknown { Each (LacksTag tag) (all_of T.alternatives) →
         IsErrAnd result (λ e. reason e ≡ no_valid_choice (unwrap_or T.meaning.name [])) }
     ensures same_depth { OnOk result (D.reader.depth_left decoder.new ≡
@@ -89,8 +90,8 @@ pub fn from_tag_by_table<T: DecodeChoiceByPlace + ChoiceType, D: Decoder>(
     tag: Tag,
     table: &[(Tag, usize)],
 ) -> Result<T, DecodeError>
-    ensures read { AreTreesOf T.alternatives T.cases → ReadsChosen D.reader tag
-        (choice_of_cases T.cases) T.case_of T.eq decoder.old decoder.new result }
+    ensures read { Where (are_of_cases T.alternatives T.cases) (ReadsChosen D.reader tag
+        (choice_of_cases T.cases) T.case_of T.eq decoder.old decoder.new result) }
     ensures unknown { Each (LacksTag tag) (all_of T.alternatives) →
         IsErrAnd result (λ e. reason e ≢ no_memory →
         reason e ≡ no_valid_choice (unwrap_or T.meaning.name [])) }
