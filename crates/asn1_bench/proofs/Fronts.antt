@@ -1,8 +1,6 @@
 -- Fronts of packed bytes: bytes behind change nothing, and what was written is one.
 use Rattle.std.proofs.Common.{◌≡◌, ℕ, Bool, true, false, List, [], ◌∷◌, ◌++◌, Some, ap, sym, subst, refl, ◌∙◌, arith, append-nil, length, length-append}
-use Rattle.std.proofs.Math.Seq.{take-length}
-use Rattle.std.proofs.lemmas.List.{take-append-le}
-use Rattle.asn1_bench.specs.Fronts.{IsCut, IsFrontOf, cut_within, packed_fronts}
+use Rattle.asn1_bench.specs.Fronts.{IsCut, cut_within, packed_fronts}
 use Rattle.asn1_bench.specs.declared.reader.BenchReader.{BenchReader}
 use Rattle.asn1_items.proofs.Items.{IsOneItem, content_item, extend, header_at-append, one_item, scope_item}
 use Rattle.asn1_items.specs.Contents.{content_kind}
@@ -10,14 +8,16 @@ use Rattle.asn1_items.specs.Headers.{Header, header_at, is_one_item, kind_of}
 use Rattle.asn1_items.specs.Items.{HasBytes, HaveBytes, packed_marks, written_with}
 use Rattle.asn1_model.proofs.SameRecords.{same-mark}
 use Rattle.asn1_model.proofs.SameUpToOrder.{same_as_cons, same_as_none}
-use Rattle.asn1_model.specs.Meaning.{Meaning, IsWellTagged, own_records}
+use Rattle.asn1_model.specs.Meaning.{Meaning, IsWellTagged}
 use Rattle.asn1_model.specs.Orders.{Same, SameRecords, equal}
 use Rattle.asn1_model.specs.Records.{Name, Record, held, is_presence_mark, presence_mark, more, none, open_type, scalar, scope}
 use Rattle.asn1_model.specs.Tags.{IsOneRecord, Tags, head_tag}
 use Rattle.asn1_model.specs.WellFormed.{AreWellFormed, IsWellFormed}
 use Rattle.asn1_packed.specs.Carried.{Carries, TakesBytes}
 use Rattle.asn1_packed.specs.Format.{packed_format}
+use Rattle.asn1_streams.proofs.ItemFronts.{belongs, steady}
 use Rattle.asn1_streams.specs.Fronts.{BelongsTo, IsSteady}
+use Rattle.asn1_streams.specs.ItemFronts.{CutsItems}
 
 -- bytes behind change nothing
 cut_remains : (bytes behind : List ℕ) (n : ℕ) → IsCut bytes n → IsCut (bytes ++ behind) n
@@ -28,26 +28,17 @@ cut_remains bytes behind n cut = record {
   long = omega (arith, cut.long, length-append cut.header.body behind, length-append bytes behind);
 }
 
-front_remains : {V : Type 0} (m : Meaning V) (bytes behind : List ℕ) (v : V) (n : ℕ) → IsFrontOf m bytes v n → IsFrontOf m (bytes ++ behind) v n
-front_remains m bytes behind v n front = record {
-  cut = cut_remains bytes behind n front.cut;
-  is_well_tagged = front.is_well_tagged;
-  of_type = front.of_type;
-  valid = front.valid;
-  carried = subst (λ l. Carries l (own_records m v)) (sym (take-append-le n bytes behind (cut_within bytes n front.cut))) front.carried;
-}
-
 -- and one input has one cut at most
-pub one_cut : (bytes : List ℕ) (m n : ℕ) → IsCut bytes m → IsCut bytes n → m ≡ n
+one_cut : (bytes : List ℕ) (m n : ℕ) → IsCut bytes m → IsCut bytes n → m ≡ n
 one_cut bytes m n a b =
     let found : Some a.header ≡ Some b.header = sym a.at ∙ b.at in
     let same : a.header ≡ b.header = cc in
     omega (arith, a.long, b.long, ap (λ (h : Header). length h.body) same, ap (λ (h : Header). h.size) same)
 
-pub steady : {V : Type 0} (m : Meaning V) (eq : V → V → Bool) (reader : BenchReader) → IsSteady (packed_fronts m eq) reader
-steady m eq reader = record {
-  cut_remains = λ bytes behind n cut. cut_remains bytes behind n cut;
-  front_remains = λ bytes behind v n front. front_remains m bytes behind v n front;
+cuts_items : CutsItems IsCut
+cuts_items = record {
+  within = λ bytes n cut. cut_within bytes n cut;
+  remains = λ bytes behind n cut. cut_remains bytes behind n cut;
   one_cut = λ bytes m n a b. one_cut bytes m n a b;
 }
 
@@ -99,18 +90,11 @@ cut_of_one bytes rs tags one well_formed carried =
     let alone : carried.exactly ≡ begins.first ∷ [] = begins.is ∙ ap (λ l. begins.first ∷ l) (same_as_none begins.others begins.same_others) in
     cut_alone begins.first one.item bytes begins.same_first one.no_mark well.0 (subst (λ l. HaveBytes (written_with packed_marks) (held l) bytes) alone carried.have_bytes)
 
-pub belongs : {V : Type 0} (m : Meaning V) (eq : V → V → Bool) (reader : BenchReader) → IsWellTagged m → BelongsTo (packed_fronts m eq) reader packed_format m eq
-belongs m eq reader can = record {
-  whole = λ output v of_type valid carried. record {
-    cut = cut_of_one output.items (own_records m v) _ (m.one_record v m.tag m.constraints m.name can.0 can.1) (m.well_formed (λ own. is_one_item own) v m.tag m.constraints m.name valid) carried;
-    is_well_tagged = can;
-    of_type = of_type;
-    valid = valid;
-    carried = subst (λ l. Carries l (own_records m v)) (sym (take-length output.items)) carried;
-  };
-  equal = λ w v same. same;
-  as_deep = λ v. omega arith;
-}
+pub packed_steady : {V : Type 0} (m : Meaning V) (eq : V → V → Bool) (reader : BenchReader) → IsSteady (packed_fronts m eq) reader
+packed_steady m eq reader = steady IsCut Carries (λ own. is_one_item own) (λ reader. reader.depth) m eq reader cuts_items
+
+pub packed_belongs : {V : Type 0} (m : Meaning V) (eq : V → V → Bool) (reader : BenchReader) → IsWellTagged m → BelongsTo (packed_fronts m eq) reader packed_format m eq
+packed_belongs m eq reader can = belongs IsCut Carries (λ own. is_one_item own) (λ reader. reader.depth) m eq reader packed_format.rejects can cut_of_one
 
 -- in the packed form each presence mark has a byte
 pub takes_bytes : (r : Record) → TakesBytes packed_marks r

@@ -1,12 +1,12 @@
 -- Fronts of packed bytes: the item with which they begin.
-use Rattle.std.specs.Prelude.{◌≡◌, ◌≤◌, ◌+◌, ℕ, Bool, List, Some, length, take}
+use Rattle.std.specs.Prelude.{◌≡◌, ◌≤◌, ◌+◌, ℕ, Bool, List, Some, length}
 use Rattle.std.proofs.Common.{arith}
 use Rattle.asn1_bench.specs.declared.reader.BenchReader.{BenchReader}
 use Rattle.asn1_items.specs.Headers.{Header, header_at, is_one_item}
-use Rattle.asn1_model.specs.Meaning.{Meaning, IsWellTagged, own_records}
-use Rattle.asn1_model.specs.Records.{highest}
+use Rattle.asn1_model.specs.Meaning.{Meaning}
 use Rattle.asn1_packed.specs.Carried.{Carries}
 use Rattle.asn1_streams.specs.Fronts.{Fronts}
+use Rattle.asn1_streams.specs.ItemFronts.{item_fronts}
 
 -- The bytes begin with an item of n bytes: with a header, after which all bytes are there that it says are inside.
 pub record IsCut (bytes : List ℕ) (n : ℕ) : Type 0 where
@@ -18,20 +18,6 @@ pub record IsCut (bytes : List ℕ) (n : ℕ) : Type 0 where
 pub cut_within : (bytes : List ℕ) (n : ℕ) → IsCut bytes n → n ≤ length bytes
 cut_within bytes n cut = omega (arith, cut.all_there, cut.long)
 
--- The item is that of a valid value, of a type that can be inside others.
-pub record IsFrontOf {V : Type 0} (m : Meaning V) (bytes : List ℕ) (v : V) (n : ℕ) : Type 0 where
-  pub cut : IsCut bytes n
-  pub is_well_tagged : IsWellTagged m
-  pub of_type : m.IsOfType v
-  pub valid : m.IsValid (λ own. is_one_item own) v
-  pub carried : Carries (take n bytes) (own_records m v)
-
 -- What a reader says of itself, for a type of this meaning and equality.
 abbrev pub packed_fronts : {V : Type 0} → Meaning V → (V → V → Bool) → Fronts BenchReader V
-packed_fronts m eq = record {
-  cut = λ reader bytes n. IsCut bytes n;
-  front = λ reader bytes v n. IsFrontOf m bytes v n;
-  same = eq;
-  height = λ v. highest (own_records m v);
-  depth = λ reader. reader.depth;
-}
+packed_fronts m eq = item_fronts IsCut Carries (λ own. is_one_item own) (λ reader. reader.depth) m eq

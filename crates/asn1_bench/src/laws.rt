@@ -11,7 +11,7 @@ ghost use Rattle.std.specs.Prelude.{◌≡◌, ◌↔◌, List, ℕ};
 use crate::reader::BenchReader;
 use crate::rules::BenchRules;
 use asn1_dec::Decode;
-use asn1_schema::Rules;
+use asn1_rules::Rules;
 use asn1_streams::FrontReader;
 
 /// A law of the codec: an output carries the records whose bytes it is, up to the order inside sets; one value of an open type
@@ -27,7 +27,7 @@ pub fn the_codec_rejects_what_is_too_long(output: &Vec<u8>)
 
 /// A law of the reader: bytes behind change nothing, and an input has one front at most (`steady`); and for each type that can
 /// be inside others, what the rules write is a front of the value that was written (`belongs`).
-#[tactic(auto, using(crate::proofs::Fronts::steady, crate::proofs::Fronts::belongs))]
+#[tactic(auto, using(crate::proofs::Fronts::packed_steady, crate::proofs::Fronts::packed_belongs))]
 pub fn the_reader_belongs_to_the_rules<T: Decode>(reader: &BenchReader)
     ensures steady { IsSteady ⟦<BenchReader as FrontReader<T>>⟧.fronts reader.now }
     ensures belongs { IsWellTagged T.meaning →

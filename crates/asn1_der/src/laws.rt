@@ -1,31 +1,45 @@
-//! Laws of what no other contract names: definitions, and what derives give.
-ghost use Rattle.asn1_der.specs.Bytes.{HasDer, HaveDer};
-ghost use Rattle.asn1_der_items.specs.Series.{IsElementOf};
-ghost use Rattle.asn1_model.specs.ConstraintSets.{ConstraintSet};
-ghost use Rattle.asn1_model.specs.Records.{Name, PresenceMark, Record, alternative, held, holding, presence_mark};
-ghost use Rattle.asn1_model.specs.Tables.{Line, Table};
-ghost use Rattle.asn1_tags.specs.Derives.{ClonesAll, ComparesAll};
-ghost use Rattle.asn1_tags.specs.declared.tags.Tag.{Tag};
-ghost use Rattle.std.specs.Prelude.{◌↔◌, ◌∷◌, List, ℕ};
+//! Laws of what no other contract names: what the codec and its reader come to, and what derives give.
+ghost use Rattle.asn1_der_records.specs.Bytes.{SomeHasNoDer};
+ghost use Rattle.asn1_der_encoder.specs.Format.{Carries};
+ghost use Rattle.asn1_der_items.specs.Series.{is_one_element};
+ghost use Rattle.asn1_der.specs.Outputs.{HaveNoDer};
+ghost use Rattle.asn1_model.specs.Meaning.{IsWellTagged};
+ghost use Rattle.asn1_model.specs.Records.{Record, held};
+ghost use Rattle.asn1_streams.specs.Fronts.{BelongsTo, IsSteady};
+ghost use Rattle.asn1_tags.specs.Derives.{ClonesAll};
+ghost use Rattle.std.specs.Prelude.{◌≡◌, ◌↔◌, List, ℕ};
 
-use crate::form::ScopeForm;
+use crate::reader::DerReader;
+use crate::rules::DerRules;
+use asn1_dec::Decode;
+use asn1_rules::Rules;
+use asn1_streams::FrontReader;
 
-/// A law of a CHOICE: it has the bytes of the chosen alternative, which are one element of the chosen tag, and no others.
-pub fn a_choice_has_no_element_of_its_own()
-    ensures { (t : Tag) (c : ConstraintSet) (table : Table Line) (n : Name) (rs : List Record)
-        (bytes : List ℕ) → HasDer (holding (alternative t c table n) rs) bytes ↔
-        (HaveDer (held rs) bytes × IsElementOf t bytes) }
+/// A law of the codec: an output carries the records whose DER it is, up to the order inside sets; one value of an open type is
+/// one element; and the records that have no DER are rejected, and no others.
+pub fn the_codec_rejects_what_has_no_der(output: &Vec<u8>)
+    ensures carries { (rs : List Record) →
+        ⟦<DerRules as Rules>⟧.format.carries output.now rs ↔ Carries output.now.items rs }
+    ensures accepts { (bytes : List ℕ) →
+        ⟦<DerRules as Rules>⟧.format.accepts bytes ≡ is_one_element bytes }
+    ensures rejects { (rs : List Record) → ⟦<DerRules as Rules>⟧.format.rejects rs ↔
+        HaveNoDer rs }
 {}
 
-/// A law of presence marks: with one in front, records have the same bytes.
-pub fn presence_marks_have_no_bytes()
-    ensures { (m : PresenceMark) (rs : List Record) (bytes : List ℕ) →
-        HaveDer (held (presence_mark m ∷ rs)) bytes ↔ HaveDer (held rs) bytes }
+/// A law of the reader: bytes behind change nothing, and an input has one front at most (`steady`); and for each type that can
+/// be inside others, what the rules write is a front of the value that was written (`belongs`).
+#[tactic(auto, using(crate::proofs::Cuts::der_steady, crate::proofs::Cuts::der_belongs))]
+pub fn the_reader_belongs_to_the_rules<T: Decode>(reader: &DerReader)
+    ensures steady { IsSteady ⟦<DerReader as FrontReader<T>>⟧.fronts reader.now }
+    ensures belongs { IsWellTagged T.meaning →
+        BelongsTo ⟦<DerReader as FrontReader<T>>⟧.fronts reader.now
+        ⟦<DerRules as Rules>⟧.format T.meaning T.eq }
 {}
 
-/// A law of the derives: two forms are equal if and only if they are the same, and clones are their sources.
-pub fn derives_keep_what_a_form_is()
-    ensures same { ComparesAll ⟦<ScopeForm as PartialEq>⟧.eq }
-    ensures clones { ClonesAll ⟦<ScopeForm as Clone>⟧.is_clone
-        ⟦<ScopeForm as Clone>⟧.is_infallible }
+/// A law of the derives: clones of the rules and of a reader are their sources.
+pub fn clones_are_their_sources()
+    ensures rules { ClonesAll ⟦<DerRules as Clone>⟧.is_clone
+        ⟦<DerRules as Clone>⟧.is_infallible }
+    ensures readers { ClonesAll ⟦<DerReader as Clone>⟧.is_clone
+        ⟦<DerReader as Clone>⟧.is_infallible }
 {}

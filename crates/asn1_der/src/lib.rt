@@ -1,21 +1,24 @@
-//! DER, the distinguished encoding of values (X.690).
+//! DER, the distinguished encoding of values (X.690), as a whole codec.
 //!
 //! | Item | What it is |
 //! |---|---|
-//! | [`ScopeForm`] | in which form the bytes of a record hold others |
-//! | [`laws`] | what no other contract names |
+//! | [`DerRules`] | the codec |
+//! | [`DerReader`] | reads values one after another from DER |
+//! | [`laws`] | what the codec and its reader come to, and what the derives give |
 //!
-//! What the contracts say, and the words that they use:
+//! What the contracts promise, and the words that they use:
 //!
-//! - The DER of a record is one element (`HasDer` of `specs/Bytes.antt`, over `asn1_der_items`): primitive of a content, and
-//!   constructed of what holds others. The components of a SET come by their tags, and the elements of a SET OF by their encodings. A
-//!   CHOICE has the bytes of its alternative and no others ([`laws::a_choice_has_no_element_of_its_own`]), and a presence mark has
-//!   none ([`laws::presence_marks_have_no_bytes`]).
-//! - A record has no DER (`HasNoDer`) where some arcs or units have no octets, a CHOICE is not one element of its tag, or an open
-//!   type is not one element.
+//! - [`DerRules`] keep the laws of every codec (`Rules` of `asn1_rules`), so that what is written is read back equal. Their format
+//!   is `der_format` of `asn1_der_encoder`: bytes carry the records whose DER they are, up to the order inside sets, and records
+//!   are rejected that have no DER, and no others.
+//! - [`DerReader`] is steady and belongs to these rules, so that values come out of a stream in the order in which they were
+//!   written, however the bytes are cut (`round_trip_in_pieces` of `asn1_streams`).
+//! - Of bytes that are not the DER of a value nothing is said but by tests.
 #![tactic(auto)]
 
-mod form;
 pub mod laws;
+mod reader;
+mod rules;
 
-pub use form::ScopeForm;
+pub use reader::DerReader;
+pub use rules::DerRules;

@@ -17,7 +17,7 @@ after_is : (n : ℕ) (ds : List ℕ) → number_from_digits_after 256 n ds ≡ n
 after_is n [] = omega arith
 after_is n (d ∷ ds) = rw pow-suc (omega (arith, after_is (n * 256 + d) ds, after_is (0 * 256 + d) ds))
 
-magnitude-cons : (d : ℕ) (ds : List ℕ) → magnitude (d ∷ ds) ≡ d * 256 ^ length ds + magnitude ds
+pub magnitude-cons : (d : ℕ) (ds : List ℕ) → magnitude (d ∷ ds) ≡ d * 256 ^ length ds + magnitude ds
 magnitude-cons d ds = after_is (0 * 256 + d) ds ∙ ap (λ k. k * 256 ^ length ds + magnitude ds) (omega arith)
 
 -- one octet of the complement

@@ -8,8 +8,8 @@ use Rattle.std.specs.Option.{option_and_then}
 use Rattle.asn1_values.specs.Numbers.{IsShortest, magnitude}
 use Rattle.asn1_tags.specs.Tags.{class_number}
 use Rattle.asn1_tags.specs.declared.classes.Class.{Class}
-use Rattle.asn1_tags.specs.declared.classes.Class.TheVariants.{Universal, Application, Context, Private}
 use Rattle.asn1_tags.specs.declared.tags.Tag.{Tag}
+use Rattle.asn1_items.proofs.Items.{class_at-number}
 use Rattle.asn1_items.specs.Headers.{class_at}
 use Rattle.asn1_der_items.specs.Base128.{base128_at}
 use Rattle.asn1_der_items.specs.Elements.{IsElement, element_at, of_identifier, of_length}
@@ -51,11 +51,8 @@ length-found n octets back (inr is) =
     ∙ ap (λ k. Some (record { number = k; rest = back })) is.value
 
 -- identifiers
-class_at-number : (class : Class) (k : ℕ) → k ≡ class_number class → class_at k ≡ Some class
-class_at-number Universal k e = ap class_at e
-class_at-number Application k e = ap class_at e
-class_at-number Context k e = ap class_at e
-class_at-number Private k e = ap class_at e
+class_found : (class : Class) (k : ℕ) → k ≡ class_number class → class_at k ≡ Some class
+class_found class k e = ap class_at e ∙ class_at-number class
 
 -- The first octet has three parts.
 pub record HasParts (class : Class) (constructed : Bool) (low o : ℕ) : Type 0 where
@@ -65,12 +62,12 @@ pub record HasParts (class : Class) (constructed : Bool) (low o : ℕ) : Type 0 
 
 parts : (class : Class) (constructed : Bool) (low : ℕ) → low < 32 → HasParts class constructed low (first_octet class constructed low)
 parts class true low small = record {
-  class_is = class_at-number class _ (omega arith);
+  class_is = class_found class _ (omega arith);
   form_is = eq-eqb _ 1 (omega arith);
   low_is = omega arith;
 }
 parts class false low small = record {
-  class_is = class_at-number class _ (omega arith);
+  class_is = class_found class _ (omega arith);
   form_is = ap (λ k. k == 1) (let zero : (class_number class * 64 + 0 + low) / 32 % 2 ≡ 0 = omega arith in zero);
   low_is = omega arith;
 }

@@ -1,6 +1,12 @@
 pub mod Behind
 mod Complements
+pub mod Encodings
 pub mod Found
+mod Narrow
+pub mod OneContents
+pub mod OneElement
 mod ReadingArcs
 mod Septets
+pub mod SomeEncoding
 mod Wrapping
+mod WritingArcs

@@ -1,5 +1,5 @@
 -- The contents octets of a content (X.690, 8.2 to 8.9 and 8.19 to 8.23, with 11.1 and 11.2), for each kind of content.
-use Rattle.std.specs.Prelude.{◌≡◌, ℕ, ◌<◌, ◌≤◌, List, [], ◌∷◌, All, Contains, FitsSigned, if◌then◌else◌}
+use Rattle.std.specs.Prelude.{◌≡◌, ℕ, ◌<◌, ◌≤◌, ◌^◌, ⊤, List, [], ◌∷◌, All, Contains, FitsSigned, if◌then◌else◌}
 use Rattle.std.specs.Int.{w64}
 use Rattle.asn1_items.specs.Bits.{AreBits}
 use Rattle.asn1_items.specs.Numbers.{AreTwos}
@@ -39,3 +39,22 @@ abbrev pub HasNoContents : Content → Type 0
 HasNoContents (arcs list) = HaveNoOctets list
 HasNoContents (units teletex list) = SomeIsWide list
 HasNoContents _ = ⊥
+
+-- A content has the contents octets of another: what are octets of it are octets of the other, and where it has none, neither has
+-- the other.
+pub record HasOctetsOf (x y : Content) : Type 0 where
+  pub octets : (own : List ℕ) → HasContents x own → HasContents y own
+  pub none : HasNoContents x → HasNoContents y
+
+-- The numbers of a content are those of the types that hold them: the number of an ENUMERATED value is one of 64 bits, an arc one of
+-- 32, and a unit of a string one of 8, of a BMPString one of 16.
+abbrev pub AreUnitsInRange : StringKind → List ℕ → Type 0
+AreUnitsInRange teletex list = ⊤
+AreUnitsInRange bmp list = All (λ unit. unit < 2 ^ 16) list
+AreUnitsInRange _ list = All (λ unit. unit < 256) list
+
+abbrev pub IsContentInRange : Content → Type 0
+IsContentInRange (discriminant labels z) = FitsSigned w64 z
+IsContentInRange (arcs list) = All (λ arc. arc < 2 ^ 32) list
+IsContentInRange (units kind list) = AreUnitsInRange kind list
+IsContentInRange _ = ⊤

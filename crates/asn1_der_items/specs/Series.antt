@@ -2,6 +2,7 @@
 use Rattle.std.specs.Prelude.{◌≡◌, ℕ, Bool, false, true, ◌&&◌, Option, None, Some, IsTrue, IsSorted, IsSortedByKey, List, [], ◌∷◌, All}
 use Rattle.std.specs.Cmp.Lexicographic.{slice_cmp}
 use Rattle.std.specs.List.{flat_map}
+use Rattle.std.specs.Int.Digits.{AllBelowBase}
 use Rattle.std.specs.Ordering.{nat_cmp}
 use Rattle.asn1_model.specs.Tags.{CHOICE}
 use Rattle.asn1_tags.specs.Tags.{tag_cmp, tag_eq}
@@ -54,3 +55,9 @@ RiseByTag elements = IsSortedByKey tag_of tag_cmp elements
 -- They do not fall as lists of octets (11.6). No element begins with another, so none has to be filled up to be compared.
 abbrev pub RiseByEncoding : List (List ℕ) → Type 0
 RiseByEncoding elements = IsSorted (slice_cmp nat_cmp) elements
+
+-- Octets of which this holds.
+pub record HasOctets (Are : List ℕ → Type 0) : Type 0 where
+  pub octets : List ℕ
+  pub are : Are octets
+  pub are_octets : AllBelowBase 256 octets

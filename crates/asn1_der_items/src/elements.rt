@@ -1,13 +1,19 @@
 //! An element: identifier octets, length octets and contents octets.
 ghost use Rattle.asn1_items.specs.Numbers.{Appended};
 ghost use Rattle.asn1_der_items.specs.Elements.{Element as Seen, IsElement, element_at};
-ghost use Rattle.asn1_items.specs.declared.error.BufferError.TheVariants.{Memory};
-ghost use Rattle.std.specs.Prelude.{◌≡◌, ◌++◌, IfOk, IsOk, List, MatchResult, Some, ℕ, length};
+ghost use Rattle.asn1_der_items.specs.Contents.{HasContents, HasNoContents};
+ghost use Rattle.asn1_der_items.specs.Series.{HoldsContents};
+ghost use Rattle.asn1_der_items.specs.declared.error.ElementError.TheVariants.{Memory};
+ghost use Rattle.asn1_items.specs.Contents.{content_of};
+ghost use Rattle.std.specs.Prelude.{◌≡◌, ◌≢◌, ◌++◌, IfErr, IfOk, IsOk, List, MatchResult, Some, ℕ, false, length};
 
+use crate::contents::append_contents;
+use crate::error::ElementError;
 use crate::identifiers::{append_identifier, read_identifier};
 use crate::lengths::{append_length, read_length};
-use asn1_items::{BufferError, ItemError};
+use asn1_items::{Content, ItemError};
 use asn1_tags::Tag;
+use std::alloc::Global;
 
 /// An element that was read.
 #[derive(Clone, Copy, Debug)]
@@ -54,14 +60,14 @@ pub fn find_element(bytes: &[u8]) -> Result<Element<'_>, ItemError>
 /// Makes an element of the bytes from a place on, which become its contents octets. They are moved once.
 ///
 /// # Errors
-/// [`BufferError::Memory`], and [`BufferError::NotOpen`] where there are fewer bytes. After an error nothing is promised about the
-/// bytes.
+/// [`ElementError::Memory`], and [`ElementError::NotOpen`] where there are fewer bytes. After an error nothing is promised about
+/// the bytes.
 pub fn wrap(
     bytes: &mut Vec<u8>,
     start: usize,
     tag: Tag,
     constructed: bool,
-) -> Result<(), BufferError>
+) -> Result<(), ElementError>
     ensures { (before contents : List ℕ) → bytes.old.items ≡ before ++ contents →
         start ≡ length before →
         MatchResult result
@@ -69,11 +75,32 @@ pub fn wrap(
         (λ e. e ≡ Memory) }
 {
     if bytes.len() < start {
-        return Err(BufferError::NotOpen);
+        return Err(ElementError::NotOpen);
     }
     let size = bytes.len() - start;
     append_identifier(bytes, tag, constructed)?;
     append_length(bytes, size)?;
     bytes[start..].rotate_left(size);
     Ok(())
+}
+
+/// Appends an element of a content: its tag, the length, and the contents octets.
+///
+/// # Errors
+/// [`ElementError::Memory`]; and [`ElementError::NoSuchArcs`] and [`ElementError::WideUnit`] for a content that has no contents
+/// octets. After an error nothing is promised about the bytes.
+pub fn append_primitive(
+    bytes: &mut Vec<u8>,
+    alloc: Global,
+    tag: Tag,
+    content: Content<'_>,
+) -> Result<(), ElementError>
+    ensures appended { IfOk result (λ _.
+        Appended (HoldsContents (HasContents (content_of content.entry)) tag false)
+        bytes.old.items bytes.new.items) }
+    ensures refused { IfErr result (λ e. e ≢ Memory → HasNoContents (content_of content.entry)) }
+{
+    let start = bytes.len();
+    append_contents(bytes, alloc, content)?;
+    wrap(bytes, start, tag, false)
 }

@@ -1,7 +1,7 @@
 //! Whole numbers in two's complement.
 ghost use Rattle.asn1_values.specs.Numbers.{IsShortest as BeginsWithDigit, magnitude, signed};
 ghost use Rattle.asn1_items.specs.Numbers.{Appended};
-ghost use Rattle.asn1_der_items.specs.Integers.{IsComplement, IsInteger, IsShortest};
+ghost use Rattle.asn1_der_items.specs.Integers.{IsComplement, IsInteger, IsShortest, twos_complement};
 ghost use Rattle.asn1_items.specs.declared.error.ItemError.TheVariants.{Memory};
 ghost use Rattle.std.specs.Bool.{Decides};
 ghost use Rattle.std.specs.Prelude.{◌≡◌, ◌↔◌, ◌-◌, ◌<◌, ◌<ℤ◌, ◌≤◌, ◌^◌, IfOk, IsTrue, List, MatchResult, ℕ, ℤ, false, length, neg_ℤ, pos, slice_index, true};
@@ -10,7 +10,8 @@ use asn1_items::ItemError;
 use asn1_values::Integer;
 use std::alloc::{AllocError, Global};
 
-/// Appends an integer: the contents octets of an INTEGER or an ENUMERATED (X.690, 8.3 and 8.4).
+/// Appends an integer: the contents octets of an INTEGER or an ENUMERATED (X.690, 8.3 and 8.4). Of a number that is no `i128` the
+/// magnitude is copied first.
 ///
 /// After an error there may be some of them.
 pub fn append_integer(
@@ -21,8 +22,34 @@ pub fn append_integer(
     ensures { IfOk result (λ _.
         Appended (IsInteger number.now) bytes.old.items bytes.new.items) }
 {
-    let (negative, digits) = number.sign_magnitude(alloc)?;
-    append_signed(bytes, negative, digits)
+    let Some(narrow) = number.to_i128() else {
+        let (negative, digits) = number.sign_magnitude(alloc)?;
+        return append_signed(bytes, negative, digits);
+    };
+    append_narrow(bytes, narrow)
+}
+
+/// Appends a number.
+pub(crate) fn append_narrow(bytes: &mut Vec<u8>, number: i128) -> Result<(), AllocError>
+    ensures { IfOk result (λ _. Appended (IsInteger number) bytes.old.items bytes.new.items) }
+{
+    let octets = number.to_be_bytes();
+    bytes.extend_from_slice(shortest(&octets))
+}
+
+/// The octets of the same number, as few as there can be.
+fn shortest(octets: &[u8]) -> &[u8]
+    ensures same { twos_complement result.now ≡ twos_complement octets.now }
+    ensures shortest { 0 < length octets.now → IsShortest result.now }
+{
+    let mut rest = octets;
+    while let [_, tail @ ..] = rest {
+        if is_shortest(rest) {
+            return rest;
+        }
+        rest = tail;
+    }
+    rest
 }
 
 /// Appends the number of this sign and these digits.

@@ -1,13 +1,13 @@
 //! The length octets of an element.
-ghost use Rattle.asn1_values.specs.Numbers.{IsMagnitude, magnitude};
+ghost use Rattle.asn1_values.specs.Numbers.{magnitude};
 ghost use Rattle.asn1_der_items.specs.Base128.{Front as Seen};
 ghost use Rattle.asn1_items.specs.Numbers.{Appended};
 ghost use Rattle.asn1_der_items.specs.Lengths.{IsLength, length_at};
 ghost use Rattle.std.specs.Option.{SomeIff};
-ghost use Rattle.std.specs.Prelude.{◌≡◌, ◌<◌, ◌≤◌, ◌^◌, IfOk, IsOk, Some, length};
+ghost use Rattle.std.specs.Prelude.{◌≡◌, ◌<◌, ◌^◌, IfOk, IsOk, Some};
 
 use crate::base128::Front;
-use asn1_items::ItemError;
+use asn1_items::{ItemError, significant};
 use std::alloc::AllocError;
 
 /// Appends a length.
@@ -19,22 +19,9 @@ pub(crate) fn append_length(bytes: &mut Vec<u8>, size: usize) -> Result<(), Allo
         return Ok(());
     }
     let octets = (size as u64).to_be_bytes();
-    let digits = without_leading_zeros(&octets);
+    let digits = significant(&octets);
     bytes.push(digits.len() as u8 + 128)?;
     bytes.extend_from_slice(digits)
-}
-
-/// The bytes from the first that is not zero on.
-fn without_leading_zeros(bytes: &[u8]) -> &[u8]
-    ensures number { magnitude result.now ≡ magnitude bytes.now }
-    ensures shortest { IsMagnitude result.now }
-    ensures no_longer { length result.now ≤ length bytes.now }
-{
-    let mut rest = bytes;
-    while let [0, tail @ ..] = rest {
-        rest = tail;
-    }
-    rest
 }
 
 /// Reads a length that is below 2^64.

@@ -4,11 +4,14 @@
 //! |---|---|
 //! | [`find_element`], [`Element`] | the element with which some bytes begin |
 //! | [`wrap`] | makes an element of the bytes from a place on |
+//! | [`append_primitive`], [`append_contents`] | writes an element of a content, and the contents octets alone |
 //! | [`append_integer`], [`read_integer`] | the contents octets of an INTEGER and an ENUMERATED |
-//! | [`read_arcs`] | the contents octets of an OBJECT IDENTIFIER |
+//! | [`append_arcs`], [`read_arcs`] | the contents octets of an OBJECT IDENTIFIER |
+//! | [`append_teletex`] | the contents octets of a TeletexString |
+//! | [`ElementError`] | why an element was not written |
 //! | [`laws`] | what no other contract names |
 //!
-//! The errors are those of `asn1_items`.
+//! The errors of reading, the contents that are written, and the octets of bits and of a BMPString are those of `asn1_items`.
 //!
 //! What the contracts promise, and the words that they use:
 //!
@@ -19,6 +22,9 @@
 //! - Which element bytes begin with is a function of the bytes (`element_at`). [`find_element`] answers it where there is one
 //!   (`found`), and nothing else (`only`). The bytes of an element are found as that element, whatever follows
 //!   ([`laws::elements_are_found`]).
+//! - Each kind of content has contents octets of its own (`HasContents` of `specs/Contents.antt`), and [`append_contents`] appends
+//!   them (`appended`). Arcs that are those of no object identifier and TeletexStrings with a unit above 255 have none
+//!   (`HasNoContents`): these are refused, and else a call fails only where memory runs out (`refused`).
 //! - An integer is in two's complement with the fewest octets (`IsInteger` of `specs/Integers.antt`). It is read from these octets
 //!   alone (`only`).
 //!
@@ -26,16 +32,24 @@
 #![tactic(auto)]
 
 mod arcs_read;
+mod arcs_written;
 mod base128;
+mod contents;
 mod elements;
+mod error;
 mod identifiers;
 mod integers;
 pub mod laws;
 mod lengths;
+mod teletex;
 
 pub use arcs_read::read_arcs;
-pub use elements::{Element, find_element, wrap};
+pub use arcs_written::append_arcs;
+pub use contents::append_contents;
+pub use elements::{Element, append_primitive, find_element, wrap};
+pub use error::ElementError;
 pub use integers::{append_integer, read_integer};
+pub use teletex::append_teletex;
 
 #[cfg(test)]
 mod tests;

@@ -1,6 +1,10 @@
-use crate::{append_integer, find_element, read_integer, wrap};
-use asn1_items::ItemError;
+use crate::{
+    ElementError, append_contents, append_integer, append_primitive, find_element, read_integer,
+    wrap,
+};
+use asn1_items::{Content, ItemError};
 use asn1_tags::Tag;
+use asn1_types::{AnyStr, OctetKind};
 use asn1_values::Integer;
 use std::alloc::Global;
 use std::process::Abort;
@@ -188,4 +192,120 @@ fn integers_with_an_octet_too_many_are_refused(rt: HostRuntime) {
     assert_no_integer(&rt, alloc, &[0, 0x7f]);
     assert_no_integer(&rt, alloc, &[0xff, 0x80]);
     assert_no_integer(&rt, alloc, &[0, 0]);
+}
+
+/// Asserts that the element of a content under the tag is these bytes.
+fn assert_primitive(rt: &impl Abort, alloc: Global, tag: Tag, content: Content<'_>, bytes: &[u8]) {
+    let mut written = Vec::new(alloc);
+    append_primitive(&mut written, alloc, tag, content).expect(rt, "a content with octets");
+    assert!(rt; written.as_slice() == bytes);
+}
+
+// openssl asn1parse -genstr BOOL:TRUE, NULL and ENUM:-129
+#[test]
+fn contents_are_those_of_openssl(rt: HostRuntime) {
+    let alloc = rt.alloc();
+    let low = Content::Discriminant(-129);
+    assert_primitive(&rt, alloc, Tag::BOOL, Content::Boolean(true), &[1, 1, 0xff]);
+    assert_primitive(&rt, alloc, Tag::BOOL, Content::Boolean(false), &[1, 1, 0]);
+    assert_primitive(&rt, alloc, Tag::NULL, Content::Null, &[5, 0]);
+    assert_primitive(&rt, alloc, Tag::ENUMERATED, low, &[0x0a, 2, 0xff, 0x7f]);
+}
+
+/// Asserts that the element of these arcs is these bytes.
+fn assert_arcs(rt: &impl Abort, alloc: Global, arcs: &[u32], bytes: &[u8]) {
+    let content = Content::Arcs(arcs);
+    assert_primitive(rt, alloc, Tag::OBJECT_IDENTIFIER, content, bytes);
+}
+
+// X.690, 8.19.5 has 2.100.3; and openssl asn1parse -genstr OID:..
+#[test]
+fn arcs_are_those_of_x690(rt: HostRuntime) {
+    let alloc = rt.alloc();
+    let rsa = [6, 6, 0x2a, 0x86, 0x48, 0x86, 0xf7, 0x0d];
+    let high = [6, 6, 0x78, 0x8f, 0xff, 0xff, 0xff, 0x7f];
+    let second = [6, 5, 0x90, 0x80, 0x80, 0x80, 0x4f];
+    assert_arcs(&rt, alloc, &[2, 100, 3], &[6, 3, 0x81, 0x34, 3]);
+    assert_arcs(&rt, alloc, &[1, 2, 840, 113549], &rsa);
+    assert_arcs(&rt, alloc, &[1, 39], &[6, 1, 0x4f]);
+    assert_arcs(&rt, alloc, &[2, 40, 0xffff_ffff], &high);
+    assert_arcs(&rt, alloc, &[2, 0xffff_ffff], &second);
+}
+
+/// Asserts that the element of a string under the tag is these bytes.
+fn assert_string(rt: &impl Abort, alloc: Global, tag: Tag, string: AnyStr<'_>, bytes: &[u8]) {
+    assert_primitive(rt, alloc, tag, Content::String(string), bytes);
+}
+
+// What `openssl asn1parse -genstr` makes of a string of each of these kinds.
+#[test]
+fn strings_are_those_of_openssl(rt: HostRuntime) {
+    let alloc = rt.alloc();
+    let octets = AnyStr::Octets(OctetKind::OctetString, b"abc");
+    let utf8 = AnyStr::Octets(OctetKind::Utf8, b"a");
+    let numeric = AnyStr::Octets(OctetKind::Numeric, b"12");
+    let teletex = AnyStr::Teletex(&[0x4a, 0x6f, 0x6e, 0x65, 0x73]);
+    let bmp = AnyStr::Bmp(&[0x61, 0xe9]);
+    let jones = [0x14, 5, 0x4a, 0x6f, 0x6e, 0x65, 0x73];
+    assert_string(
+        &rt,
+        alloc,
+        Tag::OCTET_STRING,
+        octets,
+        &[4, 3, 0x61, 0x62, 0x63],
+    );
+    assert_string(&rt, alloc, Tag::UTF8_STRING, utf8, &[0x0c, 1, 0x61]);
+    assert_string(
+        &rt,
+        alloc,
+        Tag::NUMERIC_STRING,
+        numeric,
+        &[0x12, 2, 0x31, 0x32],
+    );
+    assert_string(&rt, alloc, Tag::TELETEX_STRING, teletex, &jones);
+    assert_string(
+        &rt,
+        alloc,
+        Tag::BMP_STRING,
+        bmp,
+        &[0x1e, 4, 0, 0x61, 0, 0xe9],
+    );
+}
+
+// The bits of 0A3B5F291CD, from the highest of the first digit on.
+const BITS: &[bool] = &[
+    false, false, false, false, true, false, true, false, false, false, true, true, true, false,
+    true, true, false, true, false, true, true, true, true, true, false, false, true, false, true,
+    false, false, true, false, false, false, true, true, true, false, false, true, true, false,
+    true,
+];
+
+// X.690, 8.6.4.2
+#[test]
+fn bits_are_those_of_x690(rt: HostRuntime) {
+    let alloc = rt.alloc();
+    let bytes = [3, 7, 4, 0x0a, 0x3b, 0x5f, 0x29, 0x1c, 0xd0];
+    assert_string(&rt, alloc, Tag::BIT_STRING, AnyStr::Bits(BITS), &bytes);
+    assert_string(&rt, alloc, Tag::BIT_STRING, AnyStr::Bits(&[]), &[3, 1, 0]);
+}
+
+/// Asserts by which error a content is refused.
+fn assert_unwritten(rt: &impl Abort, alloc: Global, content: Content<'_>, error: ElementError) {
+    let mut written = Vec::new(alloc);
+    match append_contents(&mut written, alloc, content) {
+        Ok(()) => assert!(rt; false),
+        Err(refused) => assert!(rt; refused == error),
+    }
+}
+
+#[test]
+fn contents_with_no_octets_are_refused(rt: HostRuntime) {
+    let alloc = rt.alloc();
+    let none = ElementError::NoSuchArcs;
+    let wide = Content::String(AnyStr::Teletex(&[0x61, 256]));
+    assert_unwritten(&rt, alloc, Content::Arcs(&[]), none);
+    assert_unwritten(&rt, alloc, Content::Arcs(&[1]), none);
+    assert_unwritten(&rt, alloc, Content::Arcs(&[3, 1]), none);
+    assert_unwritten(&rt, alloc, Content::Arcs(&[1, 40]), none);
+    assert_unwritten(&rt, alloc, wide, ElementError::WideUnit);
 }

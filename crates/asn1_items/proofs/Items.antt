@@ -15,7 +15,7 @@ use Rattle.asn1_model.specs.Tags.{head_tag}
 use Rattle.asn1_items.specs.Headers.{Header, class_at, number_at, from_size, from_content, of_kind, from_class, header_at, is_one, is_one_item, kind_of}
 use Rattle.asn1_items.specs.Numbers.{four_bytes}
 use Rattle.asn1_items.specs.Items.{IsItem}
-use Rattle.asn1_items.proofs.Headers.{class_at-number}
+pub use Rattle.asn1_items.proofs.Headers.{class_at-number}
 
 -- the number of the four bytes of a number
 abbrev pub number_at_four : ℕ → ℕ

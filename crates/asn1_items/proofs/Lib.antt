@@ -1,4 +1,5 @@
 mod Fours
+mod GroupTags
 mod Headers
 pub mod Items
 mod Lists

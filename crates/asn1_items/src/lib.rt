@@ -3,10 +3,11 @@
 //! | Item | What it is |
 //! |---|---|
 //! | [`Content`], [`FromContent`], [`StringOf`] | the content of an item, as it is written and as it is read |
-//! | [`read_bits`], [`read_twos`] | what other codecs read alike: bits, and numbers of two bytes each |
+//! | [`read_bits`], [`read_twos`], [`significant`] | what other codecs have alike: bits, numbers of two bytes each, and numbers without leading zeros |
 //! | [`Header`], [`Wanted`], [`find_header`] | what an item begins with, and what it has to be that is read |
 //! | [`Buffer`] | the bytes that are written, with a frame for each scope and group that is open |
 //! | [`Slices`], [`Item`] | the bytes that are read, list by list |
+//! | [`can_begin_with`], [`group_can_begin_with`] | whether something is there, by the tag that is next |
 //! | [`ItemError`], [`BufferError`] | why an item was not read, or not written |
 //! | [`laws`] | what the derives give |
 //!
@@ -44,6 +45,7 @@ mod header;
 pub mod laws;
 mod numbers;
 mod slices;
+mod tags;
 
 pub use bits::read_bits;
 pub use buffer::Buffer;
@@ -51,5 +53,6 @@ pub use content::Content;
 pub use error::{BufferError, ItemError};
 pub use from_content::{FromContent, StringOf};
 pub use header::{Header, Wanted, find_header};
-pub use numbers::read_twos;
+pub use numbers::{read_twos, significant};
 pub use slices::{Item, Slices};
+pub use tags::{can_begin_with, group_can_begin_with};

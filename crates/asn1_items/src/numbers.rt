@@ -1,8 +1,8 @@
 //! Numbers as bytes, the highest first.
 ghost use Rattle.asn1_items.specs.declared.error.ItemError.TheVariants.{Memory};
 ghost use Rattle.asn1_items.specs.Numbers.{Appended, AreFours, AreTwos, IsInteger};
-ghost use Rattle.asn1_values.specs.Numbers.{IsShortest, magnitude, signed};
-ghost use Rattle.std.specs.Prelude.{◌≡◌, ◌↔◌, ◌<ℤ◌, IfOk, IsTrue, List, MatchResult, ℕ, ℤ, pos, unsigned_abs};
+ghost use Rattle.asn1_values.specs.Numbers.{IsMagnitude, IsShortest, magnitude, signed};
+ghost use Rattle.std.specs.Prelude.{◌≡◌, ◌↔◌, ◌<ℤ◌, ◌≤◌, IfOk, IsTrue, List, MatchResult, ℕ, ℤ, length, pos, unsigned_abs};
 
 use crate::error::ItemError;
 use asn1_values::Integer;
@@ -53,14 +53,16 @@ fn append_signed(bytes: &mut Vec<u8>, negative: bool, digits: &[u8]) -> Result<(
 }
 
 /// The bytes from the first that is not 0 on.
-fn significant(bytes: &[u8]) -> &[u8]
+pub fn significant(bytes: &[u8]) -> &[u8]
     ensures number { magnitude result.now ≡ magnitude bytes.now }
-    ensures shortest { IsShortest result.now }
+    ensures shortest { IsMagnitude result.now }
+    ensures no_longer { length result.now ≤ length bytes.now }
 {
-    match bytes {
-        [0, rest @ ..] => significant(rest),
-        _ => bytes,
+    let mut rest = bytes;
+    while let [0, tail @ ..] = rest {
+        rest = tail;
     }
+    rest
 }
 
 /// Appends numbers of two bytes each.

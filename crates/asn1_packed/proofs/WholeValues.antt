@@ -1,24 +1,18 @@
--- A value as a whole, written and read.
+-- A value as a whole, as it is read.
 use Rattle.std.proofs.Common.{◌≡◌, ◌⊎◌, ℕ, false, List, [], ◌∷◌, ◌++◌, inl, inr, refl, sym, subst, ◌∙◌, append-nil}
 use Rattle.asn1_codec.proofs.ReadingUpToOrder.{at_the_end}
 use Rattle.asn1_codec.proofs.Remaining.{same_as_record}
 use Rattle.asn1_codec.specs.Reading.{IsOwnError, MayFail, Outside, Reader}
 use Rattle.asn1_codec.specs.declared.decode_error.DecodeError.{DecodeError}
-use Rattle.asn1_codec.specs.declared.encode_error.EncodeError.{EncodeError}
-use Rattle.asn1_codec.specs.Writing.{Fails, outermost}
 use Rattle.asn1_items.specs.Items.{HaveBytes, MarkBytes, read_with}
 use Rattle.asn1_model.proofs.SameRecords.{same-mark}
 use Rattle.asn1_model.proofs.SameUpToOrder.{same_as_mark}
 use Rattle.asn1_model.specs.Orders.{Same}
 use Rattle.asn1_model.specs.Records.{Record, held, is_presence_mark, scalar, scope, open_type, presence_mark}
-use Rattle.asn1_schema.specs.Rules.{IsNotWritten}
-use Rattle.asn1_packed.proofs.Remaining.{not_both, some_left}
+use Rattle.asn1_packed.proofs.Remaining.{some_left}
 use Rattle.asn1_packed.specs.Carried.{TakesBytes}
 use Rattle.asn1_packed.specs.Decoder.{Remains, in_one_order}
-use Rattle.asn1_packed.specs.Encoder.{item_writer}
-use Rattle.asn1_packed.specs.Format.{item_format}
 use Rattle.asn1_packed.specs.declared.decoder.ItemDecoder.{ItemDecoder}
-use Rattle.asn1_packed.specs.declared.encoder.ItemEncoder.{ItemEncoder}
 
 -- records that are alone remain before nothing
 pub before_nothing : {D : Type 0} (R : Reader D) (d : D) (rs : List Record) → R.remains d (rs, []) → R.remains d (rs ++ [], [])
@@ -54,15 +48,6 @@ some_bytes marks (open_type n own) rest bytes accepts p none = some_left marks (
 some_bytes marks (presence_mark m) rest bytes accepts p none = accepts (sym p.is_first ∙ nothing_first p.first p.others (sym p.are ∙ none))
 
 module _ {P : Type 0} (marks : MarkBytes) where
-  -- why a value was not written
-  pub not_written : (old new : ItemEncoder P) (rs : List Record) (depth : ℕ) (e : EncodeError) →
-      (item_writer marks).wrote old (outermost []) → (item_writer marks).depth_left old ≡ depth → (item_writer marks).failed old ≡ false → Fails (item_writer marks) old rs new e → IsNotWritten (item_format P marks) rs depth e
-  not_written old new rs depth e began allowed was fails = record {
-    too_deep = λ is. rw (← allowed) (fails.too_deep is);
-    rejected = λ is. fails.rejected is (outermost []) began;
-    not_failed = λ is. not_both ((item_writer marks).failed old) was (fails.error.failed_before.0 is);
-  }
-
   -- a record that is left is not the end
   pub not_at_end : (d : ItemDecoder P) (r : Record) (rest : List Record) → TakesBytes marks r → Remains marks d (r ∷ rest, []) → Remains marks d ([], []) → ⊥
   not_at_end d r rest accepts at end =

@@ -1,5 +1,5 @@
 pub mod Carried
 pub mod Decoder
-pub mod Encoder
 pub mod Format
 pub mod Presence
+pub mod Written

@@ -4,18 +4,8 @@ use Rattle.asn1_items.specs.Items.{HaveBytes, MarkBytes, read_with}
 use Rattle.asn1_items.specs.Slices.{left_inside, left_outside, open_lists}
 use Rattle.asn1_items.specs.declared.error.ItemError.{ItemError}
 use Rattle.asn1_items.specs.declared.slices.Slices.{Slices}
-use Rattle.asn1_model.specs.Records.{PresenceMark, Record, absent, group_absent, group_end, group_start, held, presence_mark, present}
+use Rattle.asn1_model.specs.Records.{PresenceMark, Record, held, presence_mark}
 use Rattle.asn1_model.specs.Tags.{Tags, BeginsWithin, ShareNone, first_tags}
-use Rattle.asn1_packed.specs.declared.presence.MarkKind.{MarkKind}
-use Rattle.asn1_packed.specs.declared.presence.MarkKind.TheVariants.{Present, Absent, GroupStart, GroupAbsent, GroupEnd}
-
--- the kind of a presence mark
-abbrev pub kind_of_mark : PresenceMark → MarkKind
-kind_of_mark (present side t) = Present
-kind_of_mark (absent side t) = Absent
-kind_of_mark (group_start table) = GroupStart
-kind_of_mark group_absent = GroupAbsent
-kind_of_mark group_end = GroupEnd
 
 -- The lists outside the innermost one are as they were.
 pub record KeepsOutside (old new : Slices) : Type 0 where

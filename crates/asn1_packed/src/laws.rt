@@ -1,4 +1,4 @@
-//! Laws of what no other contract names: what the codec is as types see it, and what derives give.
+//! Laws of what no other contract names: what the codec is as types see it.
 ghost use Rattle.asn1_bounds.specs.declared.codec.Codec.TheVariants.{Other};
 ghost use Rattle.asn1_codec.specs.Reading.{Remaining};
 ghost use Rattle.asn1_codec.specs.Writing.{Written};
@@ -6,22 +6,24 @@ ghost use Rattle.asn1_items.specs.Headers.{is_one_item};
 ghost use Rattle.asn1_items.specs.Items.{packed_marks};
 ghost use Rattle.asn1_model.specs.Records.{PresenceMark, Record};
 ghost use Rattle.asn1_packed.specs.Decoder.{Remains};
-ghost use Rattle.asn1_packed.specs.Encoder.{item_writer};
-ghost use Rattle.asn1_tags.specs.Derives.{ClonesAll};
+ghost use Rattle.asn1_packed.specs.Written.{item_writer};
 ghost use Rattle.std.specs.Prelude.{◌≡◌, ◌↔◌, List, ℕ};
 
 use crate::decoder::ItemDecoder;
-use crate::encoder::ItemEncoder;
+use crate::item_buffer::ItemBuffer;
 use crate::marks::PresenceMarks;
-use crate::presence::{MarkKind, Presence};
+use crate::presence::Presence;
+use asn1_buffers::BufferEncoder;
 use asn1_dec::Decoder;
 use asn1_enc::Encoder;
 
 /// A law of the encoder: what types see that it has written (`wrote`) and rejects (`rejects`).
-pub fn the_encoder_writes_items<P: Presence>(encoder: &ItemEncoder<P>)
-    ensures wrote { (w : Written) → ⟦<ItemEncoder<P> as Encoder>⟧.writer.wrote encoder.now w ↔
+pub fn the_encoder_writes_items<P: Presence>(encoder: &BufferEncoder<ItemBuffer<P>>)
+    ensures wrote { (w : Written) →
+        ⟦<BufferEncoder<ItemBuffer<P>> as Encoder>⟧.writer.wrote encoder.now w ↔
         (item_writer P.mark_bytes).wrote encoder.now w }
-    ensures rejects { (rs : List Record) → ⟦<ItemEncoder<P> as Encoder>⟧.writer.rejects rs ↔
+    ensures rejects { (rs : List Record) →
+        ⟦<BufferEncoder<ItemBuffer<P>> as Encoder>⟧.writer.rejects rs ↔
         (item_writer {P = P} P.mark_bytes).rejects rs }
 {}
 
@@ -40,10 +42,4 @@ pub fn the_packed_codec_has_presence_marks()
     ensures marks { (m : PresenceMark) → ⟦<PresenceMarks as Presence>⟧.mark_bytes m ≡
         packed_marks m }
     ensures codec { ⟦<PresenceMarks as Presence>⟧.own_codec ≡ Other 0 }
-{}
-
-/// A law of the derives: clones are their sources.
-pub fn clones_are_their_sources()
-    ensures kinds_of_marks { ClonesAll ⟦<MarkKind as Clone>⟧.is_clone
-        ⟦<MarkKind as Clone>⟧.is_infallible }
 {}

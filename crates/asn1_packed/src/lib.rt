@@ -3,21 +3,21 @@
 //!
 //! | Item | What it is |
 //! |---|---|
-//! | [`PackedEncoder`], [`PackedDecoder`] | the encoder and the decoder of packed bytes |
+//! | [`PackedEncoder`], [`PackedDecoder`], [`PackedBuffer`] | the encoder and the decoder of packed bytes |
 //! | [`write_whole`], [`read_whole`], [`WholeDecoder`] | a value and all of its bytes |
 //! | [`Presence`], [`MarkKind`] | how a codec over items tells what may be absent |
 //! | [`PresenceMarks`] | how the packed codec tells it: by marks of one byte each |
-//! | [`ItemEncoder`], [`ItemDecoder`] | the encoder and the decoder of any codec over items |
-//! | [`laws`] | what types see of these, and what the derives give |
+//! | [`ItemBuffer`], [`ItemEncoder`], [`ItemDecoder`] | the buffer, the encoder and the decoder of any codec over items |
+//! | [`laws`] | what types see of these |
 //!
 //! `asn1_items` has the bytes of items. What differs between codecs over items is [`Presence`] alone: the bytes of presence marks,
 //! and how a decoder finds what they tell.
 //!
 //! What the contracts promise, and the words that they use:
 //!
-//! - The encoder keeps the laws of every encoder (`Encoder`). What it has written are the bytes of the records that it was given
+//! - The encoder is that of `asn1_buffers`, over a buffer of items. What has been written are the bytes of the records
 //!   (`HasWritten` of `asn1_items`), in the scopes and groups that are open. As types see it, the order inside sets means nothing
-//!   (`item_writer` of `specs/Encoder.antt`).
+//!   (`item_writer` of `specs/Written.antt`).
 //! - It rejects the records that are too long, with 2^32 bytes or more inside an item (`IsTooLong` of `asn1_items`), and no
 //!   others. So an error of a type's writing is `Memory`, `Depth`, `Custom` with the text `item too long` or, after another
 //!   error, `Failed`; another `Custom` comes only where a scope or a group is closed and no such is innermost.
@@ -37,20 +37,28 @@
 #![tactic(auto)]
 
 mod decoder;
-mod encoder;
+mod item_buffer;
 pub mod laws;
 mod marks;
 mod presence;
 mod whole;
 
+use asn1_buffers::BufferEncoder;
+pub use asn1_buffers::{MarkKind, write_whole};
 pub use decoder::ItemDecoder;
-pub use encoder::ItemEncoder;
+pub use item_buffer::ItemBuffer;
 pub use marks::PresenceMarks;
-pub use presence::{MarkKind, Presence};
-pub use whole::{WholeDecoder, read_whole, write_whole};
+pub use presence::Presence;
+pub use whole::{WholeDecoder, read_whole};
+
+/// An encoder that writes items.
+pub type ItemEncoder<P> = BufferEncoder<ItemBuffer<P>>;
+
+/// A buffer of packed bytes.
+pub type PackedBuffer = ItemBuffer<PresenceMarks>;
 
 /// An encoder that writes packed bytes.
-pub type PackedEncoder = ItemEncoder<PresenceMarks>;
+pub type PackedEncoder = BufferEncoder<PackedBuffer>;
 
 /// A decoder that reads packed bytes.
 pub type PackedDecoder<'a> = ItemDecoder<'a, PresenceMarks>;

@@ -5,8 +5,9 @@ ghost use Rattle.asn1_items.specs.Items.{mark_byte, packed_marks};
 ghost use Rattle.asn1_packed.specs.Presence.{FindsPresence, KeepsOutside};
 ghost use Rattle.std.specs.Prelude.{◌≡◌, ◌≢◌};
 
-use crate::presence::{MarkKind, Presence};
+use crate::presence::Presence;
 use asn1_bounds::Codec;
+use asn1_buffers::MarkKind;
 use asn1_components::FieldTable;
 use asn1_items::{ItemError, Slices};
 use asn1_tags::TagTree;

@@ -1,5 +1,6 @@
 //! How what may be absent is told.
 ghost use Rattle.asn1_bounds.specs.declared.codec.Codec.{Codec};
+ghost use Rattle.asn1_buffers.specs.Kinds.{kind_of_mark};
 ghost use Rattle.asn1_codec.specs.Reading.{marks_passed};
 ghost use Rattle.asn1_components.specs.ComponentLists.{trees_of};
 ghost use Rattle.asn1_components.specs.Components.{all_components, lines};
@@ -7,30 +8,16 @@ ghost use Rattle.asn1_items.specs.Items.{HaveBytes, MarkBytes, read_with};
 ghost use Rattle.asn1_items.specs.Slices.{left_inside};
 ghost use Rattle.asn1_model.specs.Records.{PresenceMark, Record, Side, absent, group_absent, group_end, group_start, held, present};
 ghost use Rattle.asn1_model.specs.Tags.{tree_tags};
-ghost use Rattle.asn1_packed.specs.Presence.{FindsPresence, KeepsOutside, PassesMark, kind_of_mark};
+ghost use Rattle.asn1_packed.specs.Presence.{FindsPresence, KeepsOutside, PassesMark};
 ghost use Rattle.asn1_tags.specs.Trees.{choice, shape};
 ghost use Rattle.asn1_tags.specs.declared.tags.Tag.{Tag};
 ghost use Rattle.std.specs.Prelude.{◌≡◌, ⊤, List};
 
 use asn1_bounds::Codec;
+use asn1_buffers::MarkKind;
 use asn1_components::FieldTable;
 use asn1_items::{ItemError, Slices};
 use asn1_tags::TagTree;
-
-/// A kind of presence mark.
-#[derive(Clone, Copy, Debug)]
-pub enum MarkKind {
-    /// A component is there.
-    Present,
-    /// A component is absent.
-    Absent,
-    /// A group of additions is there, and begins.
-    GroupStart,
-    /// A group of additions is absent.
-    GroupAbsent,
-    /// A group of additions ends.
-    GroupEnd,
-}
 
 /// How a codec over items tells whether what may be absent is there: by presence marks, or by the item that is next.
 pub trait Presence {

@@ -1,35 +1,13 @@
-//! A value and all of its bytes.
+//! A value that is read of all of its bytes.
 ghost use Rattle.asn1_model.specs.Meaning.{IsWellTagged, own_records};
 ghost use Rattle.asn1_model.specs.Records as model;
 ghost use Rattle.asn1_model.specs.Records.{highest};
-ghost use Rattle.asn1_packed.specs.Format.{item_format};
-ghost use Rattle.asn1_schema.specs.Rules.{ReadsWhole, RefusesWhole, WritesWhole};
+ghost use Rattle.asn1_rules.specs.Rules.{ReadsWhole, RefusesWhole};
 ghost use Rattle.std.specs.Prelude.{◌≡◌, ◌↔◌, ◌++◌, [], IsErr, IsOk, List, true};
 
 use crate::decoder::ItemDecoder;
-use crate::encoder::ItemEncoder;
 use crate::presence::Presence;
 use asn1_dec::{Decode, DecodeError, Decoder};
-use asn1_enc::{Encode, EncodeError};
-use std::alloc::Global;
-
-/// Writes a value under its type's own tag, constraints and name, with at most this many nested scopes.
-///
-/// # Errors
-/// [`EncodeError::Depth`] only where the value's records are nested deeper than the depth, [`EncodeError::Custom`] with the text
-/// `item too long` only where 2^32 bytes or more are inside an item, and else [`EncodeError::Memory`].
-pub fn write_whole<P: Presence, T: Encode>(
-    alloc: Global,
-    value: &T,
-    depth: usize,
-) -> Result<Vec<u8>, EncodeError>
-    ensures { WritesWhole (item_format P P.mark_bytes) (own_records T.meaning value.now)
-        (T.meaning.IsOfType value.now) depth result }
-{
-    let mut encoder = ItemEncoder::<P>::new(alloc, depth);
-    value.encode(&mut encoder)?;
-    Ok(encoder.finish())
-}
 
 /// A decoder of a whole input, which can tell that all was read.
 pub trait WholeDecoder: Decoder + Drop + Sized {

@@ -1,4 +1,4 @@
--- Filter ::= CHOICE { and [0] SET OF Filter, or [1] SET OF Filter, not [2] Filter, present [7] OCTET STRING }
+-- The filters of LDAP: what their ten alternatives mean (RFC 4511, 4.5.1).
 use Rattle.std.specs.Prelude.{◌↔◌, ℕ, List, [], ◌∷◌, ◌++◌, Some, All, codes, refl}
 use Rattle.std.proofs.Common.{ap, inl, inr}
 use Rattle.std.proofs.lemmas.List.Elements.{All-nil, All-cons, All-head, All-tail}
@@ -14,22 +14,31 @@ use Rattle.asn1_model.specs.Tables.{Line, Table}
 use Rattle.asn1_model.specs.WellFormed.{well_formed_append, well_formed_elements}
 use Rattle.asn1_model.specs.TaggedTypes.{tagged}
 use Rattle.asn1_model.specs.Tags.{CHOICE, context}
-use Rattle.asn1_choices.specs.Alternatives.{Alternatives, OneOf, SaysTheSame, ValueMeaning, all_of, alternative, chosen_meaning, closed, none_say, says_itself, value_meaning}
+use Rattle.asn1_choices.specs.Alternatives.{Alternatives, OneOf, SaysTheSame, ValueMeaning, all_of, alternative, chosen_meaning, extensible, none_say, says_itself, value_meaning}
 use Rattle.asn1_choices.specs.ChoiceTypes.{alternatives_with_itself, choice_holding_itself, inside_itself, itself_under, table_with_itself}
 use Rattle.asn1_types.specs.Kinds.{set_of_type}
-use Rattle.asn1_recursive.specs.declared.filter.Filter.{Filter, And', Or', Not', Present, Row_of-Filter, end_of-Filter, more_of-Filter, items-the_row-Filter}
+use Rattle.asn1_recursive.specs.contracts.attribute_value_assertion.AttributeValueAssertionAsnType.TheImpl.{ghosts as assertion}
+use Rattle.asn1_recursive.specs.contracts.matching_rule_assertion.MatchingRuleAssertionAsnType.TheImpl.{ghosts as matching_rule}
+use Rattle.asn1_recursive.specs.contracts.substring_filter.SubstringFilterAsnType.TheImpl.{ghosts as substring_filter}
+use Rattle.asn1_recursive.specs.declared.filter.Filter.{Filter, And', Or', Not', EqualityMatch, Substrings, GreaterOrEqual, LessOrEqual, Present, ApproxMatch, ExtensibleMatch, Row_of-Filter, end_of-Filter, more_of-Filter, items-the_row-Filter}
 
--- what the name of an attribute means
+-- what an OCTET STRING means
 abbrev pub octet_string : Meaning (List ℕ)
 octet_string = string_type octets.own_tag octets.own_name octet.IsInRange octets.content
 
 -- the alternatives, beside what a filter is to them
 abbrev pub filter_alternatives_with : Meaning Filter → Alternatives
-filter_alternatives_with itself = closed (
+filter_alternatives_with itself = extensible (
     alternative (codes "and") (tagged (context 0) (set_of_type (λ filters. filters) itself)) ∷
     alternative (codes "or") (tagged (context 1) (set_of_type (λ filters. filters) itself)) ∷
     alternative (codes "not") (tagged (context 2) itself) ∷
-    alternative (codes "present") (tagged (context 7) octet_string) ∷ [])
+    alternative (codes "equalityMatch") (tagged (context 3) assertion.meaning) ∷
+    alternative (codes "substrings") (tagged (context 4) substring_filter.meaning) ∷
+    alternative (codes "greaterOrEqual") (tagged (context 5) assertion.meaning) ∷
+    alternative (codes "lessOrEqual") (tagged (context 6) assertion.meaning) ∷
+    alternative (codes "present") (tagged (context 7) octet_string) ∷
+    alternative (codes "approxMatch") (tagged (context 8) assertion.meaning) ∷
+    alternative (codes "extensibleMatch") (tagged (context 9) matching_rule.meaning) ∷ []) []
 
 abbrev pub filter_table : Table Line
 filter_table = table_with_itself (codes "Filter") filter_alternatives_with
@@ -58,7 +67,13 @@ abbrev mutual
   filter_means (Or' shape filters) = set_says (context 1) (filters_mean filters)
   filter_means (Not' place inner) = itself_under (codes "Filter") filter_table (context 2)
       (filter_means inner)
+  filter_means (EqualityMatch said) = value_meaning (tagged (context 3) assertion.meaning) said
+  filter_means (Substrings said) = value_meaning (tagged (context 4) substring_filter.meaning) said
+  filter_means (GreaterOrEqual said) = value_meaning (tagged (context 5) assertion.meaning) said
+  filter_means (LessOrEqual said) = value_meaning (tagged (context 6) assertion.meaning) said
   filter_means (Present name) = value_meaning (tagged (context 7) octet_string) name
+  filter_means (ApproxMatch said) = value_meaning (tagged (context 8) assertion.meaning) said
+  filter_means (ExtensibleMatch said) = value_meaning (tagged (context 9) matching_rule.meaning) said
 
   pub filters_mean : {m : _} → Row_of-Filter m → ValueMeaning
   filters_mean end_of-Filter = none_say
@@ -77,7 +92,13 @@ abbrev pub filter_pick : Filter → OneOf (all_of filter_alternatives)
 filter_pick (And' shape filters) = inl (items-the_row-Filter _ filters)
 filter_pick (Or' shape filters) = inr (inl (items-the_row-Filter _ filters))
 filter_pick (Not' place inner) = inr (inr (inl inner))
-filter_pick (Present name) = inr (inr (inr (inl name)))
+filter_pick (EqualityMatch said) = inr (inr (inr (inl said)))
+filter_pick (Substrings said) = inr (inr (inr (inr (inl said))))
+filter_pick (GreaterOrEqual said) = inr (inr (inr (inr (inr (inl said)))))
+filter_pick (LessOrEqual said) = inr (inr (inr (inr (inr (inr (inl said))))))
+filter_pick (Present name) = inr (inr (inr (inr (inr (inr (inr (inl name)))))))
+filter_pick (ApproxMatch said) = inr (inr (inr (inr (inr (inr (inr (inr (inl said))))))))
+filter_pick (ExtensibleMatch said) = inr (inr (inr (inr (inr (inr (inr (inr (inr (inl said)))))))))
 
 -- what a list of filters says together
 abbrev together : List Filter → ValueMeaning
@@ -119,7 +140,13 @@ filter_agrees (Or' shape filters) =
     let same = set_agrees (context 1) filters in
     record { records = same.records; of_type = same.of_type; valid = same.valid }
 filter_agrees (Not' place inner) = says_itself
+filter_agrees (EqualityMatch said) = says_itself
+filter_agrees (Substrings said) = says_itself
+filter_agrees (GreaterOrEqual said) = says_itself
+filter_agrees (LessOrEqual said) = says_itself
 filter_agrees (Present name) = says_itself
+filter_agrees (ApproxMatch said) = says_itself
+filter_agrees (ExtensibleMatch said) = says_itself
 
 -- What a filter means.
 abbrev pub filter_meaning : Meaning Filter

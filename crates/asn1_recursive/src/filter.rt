@@ -1,11 +1,18 @@
-//! The filters of LDAP (RFC 4511, 4.5.1), cut down.
+//! The filters of LDAP (RFC 4511, 4.5.1).
 //!
 //! ```text
 //! Filter ::= CHOICE {
-//!     and     [0] SET OF filter Filter,
-//!     or      [1] SET OF filter Filter,
-//!     not     [2] Filter,
-//!     present [7] OCTET STRING
+//!     and             [0] SET SIZE (1..MAX) OF filter Filter,
+//!     or              [1] SET SIZE (1..MAX) OF filter Filter,
+//!     not             [2] Filter,
+//!     equalityMatch   [3] AttributeValueAssertion,
+//!     substrings      [4] SubstringFilter,
+//!     greaterOrEqual  [5] AttributeValueAssertion,
+//!     lessOrEqual     [6] AttributeValueAssertion,
+//!     present         [7] AttributeDescription,
+//!     approxMatch     [8] AttributeValueAssertion,
+//!     extensibleMatch [9] MatchingRuleAssertion,
+//!     ...
 //! }
 //! ```
 ghost use Rattle.std.specs.Prelude.{Bool, List, ℕ};
@@ -13,7 +20,10 @@ ghost use Rattle.asn1_model.specs.Meaning.{IsWellTagged};
 ghost use Rattle.asn1_choices.specs.ChoiceTypes.{itself_agrees};
 ghost use Rattle.asn1_recursive.specs.FilterAlternatives.{filter_alternatives, filter_pick, filter_meaning, filter_agrees};
 
+use crate::attribute_value_assertion::AttributeValueAssertion;
 use crate::filter_reader::{read_alternative, read_filter};
+use crate::matching_rule_assertion::MatchingRuleAssertion;
+use crate::substring_filter::SubstringFilter;
 use asn1_dec::{Decode, DecodeChoice, DecodeError, Decoder};
 use asn1_enc::{Encode, EncodeChoice, EncodeError, Encoder};
 use asn1_strings::OctetString;
@@ -24,14 +34,26 @@ use asn1_types::{
 /// Which entries a search finds: a CHOICE that holds itself, and sets of itself.
 #[derive(PartialEq, Eq, Debug, Drop)]
 pub enum Filter {
-    /// `and [0] SET OF filter Filter`
+    /// `and [0] SET SIZE (1..MAX) OF filter Filter`
     And(SetOf<Filter>),
-    /// `or [1] SET OF filter Filter`
+    /// `or [1] SET SIZE (1..MAX) OF filter Filter`
     Or(SetOf<Filter>),
     /// `not [2] Filter`
     Not(Box<Filter>),
-    /// `present [7] OCTET STRING`
+    /// `equalityMatch [3] AttributeValueAssertion`
+    EqualityMatch(AttributeValueAssertion),
+    /// `substrings [4] SubstringFilter`
+    Substrings(SubstringFilter),
+    /// `greaterOrEqual [5] AttributeValueAssertion`
+    GreaterOrEqual(AttributeValueAssertion),
+    /// `lessOrEqual [6] AttributeValueAssertion`
+    LessOrEqual(AttributeValueAssertion),
+    /// `present [7] AttributeDescription`, which is an OCTET STRING
     Present(OctetString),
+    /// `approxMatch [8] AttributeValueAssertion`
+    ApproxMatch(AttributeValueAssertion),
+    /// `extensibleMatch [9] MatchingRuleAssertion`
+    ExtensibleMatch(MatchingRuleAssertion),
 }
 
 pub(crate) const AND: Tag = Tag {
@@ -49,16 +71,52 @@ pub(crate) const NOT: Tag = Tag {
     value: 2,
 };
 
+pub(crate) const EQUALITY_MATCH: Tag = Tag {
+    class: Class::Context,
+    value: 3,
+};
+
+pub(crate) const SUBSTRINGS: Tag = Tag {
+    class: Class::Context,
+    value: 4,
+};
+
+pub(crate) const GREATER_OR_EQUAL: Tag = Tag {
+    class: Class::Context,
+    value: 5,
+};
+
+pub(crate) const LESS_OR_EQUAL: Tag = Tag {
+    class: Class::Context,
+    value: 6,
+};
+
 pub(crate) const PRESENT: Tag = Tag {
     class: Class::Context,
     value: 7,
+};
+
+pub(crate) const APPROX_MATCH: Tag = Tag {
+    class: Class::Context,
+    value: 8,
+};
+
+pub(crate) const EXTENSIBLE_MATCH: Tag = Tag {
+    class: Class::Context,
+    value: 9,
 };
 
 const FILTER: &[TagTree<'static>] = &[
     TagTree::Leaf(AND),
     TagTree::Leaf(OR),
     TagTree::Leaf(NOT),
+    TagTree::Leaf(EQUALITY_MATCH),
+    TagTree::Leaf(SUBSTRINGS),
+    TagTree::Leaf(GREATER_OR_EQUAL),
+    TagTree::Leaf(LESS_OR_EQUAL),
     TagTree::Leaf(PRESENT),
+    TagTree::Leaf(APPROX_MATCH),
+    TagTree::Leaf(EXTENSIBLE_MATCH),
 ];
 
 impl Choice for Filter {
@@ -71,11 +129,22 @@ impl Choice for Filter {
     }
 
     fn extended_variants() -> Option<&'static [TagTree<'static>]> {
-        None
+        Some(&[])
     }
 
     fn identifiers() -> &'static [&'static str] {
-        &["and", "or", "not", "present"]
+        &[
+            "and",
+            "or",
+            "not",
+            "equalityMatch",
+            "substrings",
+            "greaterOrEqual",
+            "lessOrEqual",
+            "present",
+            "approxMatch",
+            "extensibleMatch",
+        ]
     }
 }
 
@@ -125,7 +194,13 @@ impl EncodeChoice for Filter {
             Filter::And(_) => AND,
             Filter::Or(_) => OR,
             Filter::Not(_) => NOT,
+            Filter::EqualityMatch(_) => EQUALITY_MATCH,
+            Filter::Substrings(_) => SUBSTRINGS,
+            Filter::GreaterOrEqual(_) => GREATER_OR_EQUAL,
+            Filter::LessOrEqual(_) => LESS_OR_EQUAL,
             Filter::Present(_) => PRESENT,
+            Filter::ApproxMatch(_) => APPROX_MATCH,
+            Filter::ExtensibleMatch(_) => EXTENSIBLE_MATCH,
         }
     }
 
@@ -135,7 +210,13 @@ impl EncodeChoice for Filter {
             Filter::And(filters) => filters.encode_with_tag(encoder, AND),
             Filter::Or(filters) => filters.encode_with_tag(encoder, OR),
             Filter::Not(inner) => inner.encode_with_tag(encoder, NOT),
+            Filter::EqualityMatch(said) => said.encode_with_tag(encoder, EQUALITY_MATCH),
+            Filter::Substrings(said) => said.encode_with_tag(encoder, SUBSTRINGS),
+            Filter::GreaterOrEqual(said) => said.encode_with_tag(encoder, GREATER_OR_EQUAL),
+            Filter::LessOrEqual(said) => said.encode_with_tag(encoder, LESS_OR_EQUAL),
             Filter::Present(name) => name.encode_with_tag(encoder, PRESENT),
+            Filter::ApproxMatch(said) => said.encode_with_tag(encoder, APPROX_MATCH),
+            Filter::ExtensibleMatch(said) => said.encode_with_tag(encoder, EXTENSIBLE_MATCH),
         }
     }
 }

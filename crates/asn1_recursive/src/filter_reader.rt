@@ -16,7 +16,13 @@ ghost use Rattle.std.specs.List.{flat_map};
 ghost use Rattle.std.specs.Prelude.{◌≡◌, ◌≤◌, [], ◌∷◌, All, List, OnErr, OnOk, codes, length, true};
 ghost use Rattle.std.specs.Result.{IsErrAnd};
 
-use crate::filter::{AND, Filter, NOT, OR, PRESENT};
+use crate::attribute_value_assertion::AttributeValueAssertion;
+use crate::filter::{
+    AND, APPROX_MATCH, EQUALITY_MATCH, EXTENSIBLE_MATCH, Filter, GREATER_OR_EQUAL, LESS_OR_EQUAL,
+    NOT, OR, PRESENT, SUBSTRINGS,
+};
+use crate::matching_rule_assertion::MatchingRuleAssertion;
+use crate::substring_filter::SubstringFilter;
 use asn1_dec::{Decode, DecodeError, Decoder};
 use asn1_strings::OctetString;
 use asn1_types::{Constraints, SetOf, Tag};
@@ -87,9 +93,33 @@ pub(crate) fn read_alternative<D: Decoder>(decoder: &mut D, tag: Tag) -> Result<
                 Err(_) => Err(DecodeError::Memory),
             }
         }
+        EQUALITY_MATCH => {
+            let said = AttributeValueAssertion::decode_with_tag(decoder, EQUALITY_MATCH)?;
+            Ok(Filter::EqualityMatch(said))
+        }
+        SUBSTRINGS => {
+            let said = SubstringFilter::decode_with_tag(decoder, SUBSTRINGS)?;
+            Ok(Filter::Substrings(said))
+        }
+        GREATER_OR_EQUAL => {
+            let said = AttributeValueAssertion::decode_with_tag(decoder, GREATER_OR_EQUAL)?;
+            Ok(Filter::GreaterOrEqual(said))
+        }
+        LESS_OR_EQUAL => {
+            let said = AttributeValueAssertion::decode_with_tag(decoder, LESS_OR_EQUAL)?;
+            Ok(Filter::LessOrEqual(said))
+        }
         PRESENT => {
             let name = OctetString::decode_with_tag(decoder, PRESENT)?;
             Ok(Filter::Present(name))
+        }
+        APPROX_MATCH => {
+            let said = AttributeValueAssertion::decode_with_tag(decoder, APPROX_MATCH)?;
+            Ok(Filter::ApproxMatch(said))
+        }
+        EXTENSIBLE_MATCH => {
+            let said = MatchingRuleAssertion::decode_with_tag(decoder, EXTENSIBLE_MATCH)?;
+            Ok(Filter::ExtensibleMatch(said))
         }
         _ => Err(DecodeError::NoValidChoice("Filter")),
     }

@@ -21,7 +21,9 @@ pub fn components_have_their_names()
 /// A law of the tables: the names of the alternatives of a CHOICE.
 pub fn alternatives_have_their_names()
     ensures filter { names_of (all_of ⟦<Filter as Choice>⟧.alternatives) ≡
-        codes "and" ∷ codes "or" ∷ codes "not" ∷ codes "present" ∷ [] }
+        codes "and" ∷ codes "or" ∷ codes "not" ∷ codes "equalityMatch" ∷ codes "substrings" ∷
+        codes "greaterOrEqual" ∷ codes "lessOrEqual" ∷ codes "present" ∷ codes "approxMatch" ∷
+        codes "extensibleMatch" ∷ [] }
     ensures nested { names_of (all_of ⟦<Nested as Choice>⟧.alternatives) ≡
         codes "null" ∷ codes "flag" ∷ codes "inner" ∷ [] }
 {}

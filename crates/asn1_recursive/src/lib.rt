@@ -3,7 +3,8 @@
 //! | Item | What it is |
 //! |---|---|
 //! | [`Node`] | a SEQUENCE with a list of its own type inside; it is written and read |
-//! | [`Filter`] | a CHOICE with sets of its own type inside: the filters of LDAP, cut down; it is written and read |
+//! | [`Filter`] | a CHOICE with sets of its own type inside: the filters of LDAP; it is written and read |
+//! | [`AttributeValueAssertion`], [`SubstringFilter`], [`Substring`], [`MatchingRuleAssertion`] | what filters say of attributes |
 //! | [`Nested`] | a CHOICE with its own type inside, under a tag; it is written and read |
 //! | [`laws`] | the names of components and of alternatives, and which nodes are equal |
 //!
@@ -27,17 +28,27 @@
 //! and reading for the labels and the lists of children.
 #![tactic(auto, using(asn1_tags::proofs::Leaves::tree_shapes))]
 
+mod attribute_value_assertion;
 mod filter;
 mod filter_reader;
 pub mod laws;
+mod matching_rule_assertion;
 mod nested;
 mod nested_reader;
 mod node;
 mod node_reader;
+mod substring;
+mod substring_filter;
 
+pub use attribute_value_assertion::{
+    AttributeValueAssertion, attribute_value_assertion_is_well_tagged,
+};
 pub use filter::{Filter, each_filter_is_valid, filter_is_well_tagged};
+pub use matching_rule_assertion::{MatchingRuleAssertion, matching_rule_assertion_is_well_tagged};
 pub use nested::{Nested, each_nested_is_valid, nested_is_well_tagged};
 pub use node::{
     Node, each_node_is_valid, node_is_two_higher_than_its_children, node_is_well_tagged,
     node_records,
 };
+pub use substring::{Substring, substring_is_well_tagged};
+pub use substring_filter::{SubstringFilter, Substrings, substring_filter_is_well_tagged};

@@ -1,5 +1,6 @@
 -- The components of a SEQUENCE or a group, each read into a slot of its own.
-use Rattle.std.specs.Prelude.{◌≡◌, ◌≢◌, ◌≤◌, ◌&&◌, ℕ, zero, suc, ⊤, Bool, true, false, List, [], ◌∷◌, drop, length, take, Option, None, Some, IfSome, Result, Err, MatchResult, is_some, if◌then◌else◌, refl}
+use Rattle.std.specs.Prelude.{◌≡◌, ◌≢◌, ◌≤◌, ◌&&◌, ℕ, zero, suc, ⊤, Bool, true, false, List, [], ◌∷◌, drop, length, take, Option, None, Some, IfSome, Result, Err, MatchResult, Vec, is_some, if◌then◌else◌, refl}
+use Rattle.std.specs.Cmp.Lexicographic.{pointwise}
 use Rattle.std.specs.Option.{option_eq}
 use Rattle.std.specs.Result.{IsErrAnd}
 use Rattle.asn1_components.specs.Components.{Components, all_components, extensible_sequence, extensible_set, group, sequence, set}
@@ -59,33 +60,41 @@ pub record Slot (S V : Type 0) : Type 1 where
       unmarked (component.records v) ≡ [] → holds s v ≡ true
 
 -- The slot of a component with a default: it has what the value has, or it is empty, and the value
--- has the default.
-abbrev pub holds_or_default : {W : Type 0} → (W → W → Bool) → W → Option W → W → Bool
-holds_or_default eq default_value None w = eq w default_value
-holds_or_default eq default_value (Some x) w = eq x w
+-- passes the test for the default.
+abbrev pub holds_or_passes : {W : Type 0} → (W → W → Bool) → (W → Bool) → Option W → W → Bool
+holds_or_passes eq test None w = test w
+holds_or_passes eq test (Some x) w = eq x w
 
-holds_default : {W : Type 0} (eq : W → W → Bool) (default_value w : W) (slot : Option W) (is_default : Bool) →
-    eq w default_value ≡ is_default → option_eq eq slot (unless_default is_default w) ≡ true →
-    holds_or_default eq default_value slot w ≡ true
-holds_default eq default_value w None true is same = is
-holds_default eq default_value w None false is same = cc
-holds_default eq default_value w (Some x) true is same = cc
-holds_default eq default_value w (Some x) false is same = same
+-- the test of one value
+abbrev pub holds_or_default : {W : Type 0} → (W → W → Bool) → W → Option W → W → Bool
+holds_or_default eq default_value slot w = holds_or_passes eq (λ v. eq v default_value) slot w
+
+-- the test for the empty list, by the equality of the elements
+abbrev pub is_empty_list : {T A : Type 0} → (T → T → Bool) → Vec T A → Bool
+is_empty_list eq list = pointwise eq list.items []
+
+holds_default : {W : Type 0} (eq : W → W → Bool) (test : W → Bool) (w : W) (slot : Option W) (is_default : Bool) →
+    test w ≡ is_default → option_eq eq slot (unless_default is_default w) ≡ true →
+    holds_or_passes eq test slot w ≡ true
+holds_default eq test w None true is same = is
+holds_default eq test w None false is same = cc
+holds_default eq test w (Some x) true is same = cc
+holds_default eq test w (Some x) false is same = same
 
 -- the slot of a component with a default is filled as that of one that may be absent
 pub reads_default : {D A W : Type 0} (R : Reader D) (side : Side) (type : TaggedType W) (eq : W → W → Bool)
-    (default_value : W) (old new : D) (slot : Option W) (result : Result A DecodeError) →
+    (test : W → Bool) (old new : D) (slot : Option W) (result : Result A DecodeError) →
     FillsOptional R side type eq old new slot result → (w : W) (rest : List Record)
     (outer : Outside) (is_default : Bool) →
-    eq w default_value ≡ is_default → type.IsWellTagged → (is_default ≡ false → type.IsOfType w) →
+    test w ≡ is_default → type.IsWellTagged → (is_default ≡ false → type.IsOfType w) →
     (is_default ≡ false → type.IsValid R.accepts w) → BeginsApart type.tree rest →
     ReadsBack R old new (default_records side is_default type.tag (type.records w)) rest outer
-    (λ _. holds_or_default eq default_value slot w ≡ true) result
-reads_default R side type eq default_value old new slot result fills w rest outer true is can of_type valid apart =
-    in_other_words R old new _ _ _ result (λ _ same. holds_default eq default_value w slot true is same)
+    (λ _. holds_or_passes eq test slot w ≡ true) result
+reads_default R side type eq test old new slot result fills w rest outer true is can of_type valid apart =
+    in_other_words R old new _ _ _ result (λ _ same. holds_default eq test w slot true is same)
     (fills.reads None rest outer can tt tt apart)
-reads_default R side type eq default_value old new slot result fills w rest outer false is can of_type valid apart =
-    in_other_words R old new _ _ _ result (λ _ same. holds_default eq default_value w slot false is same)
+reads_default R side type eq test old new slot result fills w rest outer false is can of_type valid apart =
+    in_other_words R old new _ _ _ result (λ _ same. holds_default eq test w slot false is same)
     (fills.reads (Some w) rest outer can (of_type refl) (valid refl) apart)
 
 -- what is asked of a value that is not the default
@@ -95,9 +104,9 @@ if_not_default P true w holds = tt
 if_not_default P false w holds = holds refl
 
 -- and of its slot
-pub default_is_read : {W : Type 0} (eq : W → W → Bool) (default_value w : W) (slot : Option W) →
-    option_eq eq slot (unless_default (eq w default_value) w) ≡ true → holds_or_default eq default_value slot w ≡ true
-default_is_read eq default_value w slot same = holds_default eq default_value w slot (eq w default_value) refl same
+pub default_is_read : {W : Type 0} (eq : W → W → Bool) (test : W → Bool) (w : W) (slot : Option W) →
+    option_eq eq slot (unless_default (test w) w) ≡ true → holds_or_passes eq test slot w ≡ true
+default_is_read eq test w slot same = holds_default eq test w slot (test w) refl same
 
 -- which no group is
 pub no_group : {P : Type 0} → false ≡ true → P
@@ -153,38 +162,46 @@ module _ {S V W : Type 0} (name : List ℕ) where
   abbrev pub addition_slot : (V → Option W) → (S → Option W) → TaggedType W → (W → W → Bool) → Slot S V
   addition_slot = optional_slot_in in_additions
 
-  -- of one with a default, on this side, which a value has where the slot is empty
-  abbrev default_slot_in : Side → (V → W) → W → (S → Option W) → TaggedType W → (W → W → Bool) → Slot S V
-  default_slot_in side get default_value slot type eq = record {
-    component = default_in side name get (λ v. eq (get v) default_value) type;
+  -- of one with a default, on this side: where the slot is empty, the value passes the test for it
+  abbrev default_slot_by_in : Side → (V → W) → (W → Bool) → (S → Option W) → TaggedType W → (W → W → Bool) → Slot S V
+  default_slot_by_in side get test slot type eq = record {
+    component = default_in side name get (λ v. test (get v)) type;
     is_single = true;
     IsEmpty = λ s. slot s ≡ None;
     is_filled = λ s. true;
-    holds = λ s v. holds_or_default eq default_value (slot s) (get v);
+    holds = λ s v. holds_or_passes eq test (slot s) (get v);
     Reads = λ R old new s result. FillsOptional R side type eq old new (slot s) result;
     reads = λ R old new s result fills v rest outer can of_type valid apart.
-        reads_default R side type eq default_value old new (slot s) result fills (get v) rest outer (eq (get v) default_value)
+        reads_default R side type eq test old new (slot s) result fills (get v) rest outer (test (get v))
         refl can of_type valid apart;
     ReadsOnce = λ R old new before after result.
         FillsOnce R name type eq old new (slot before) (slot after) result;
-    is_one = λ single can v. one_default type can side (eq (get v) default_value) (get v);
+    is_one = λ single can v. one_default type can side (test (get v)) (get v);
     reads_once = λ R old new before after result single fills empty v rest outer can of_type valid some.
-        in_other_words R old new _ _ _ result (λ _ same. default_is_read eq default_value (get v) (slot after) same)
+        in_other_words R old new _ _ _ result (λ _ same. default_is_read eq test (get v) (slot after) same)
         (slot_of_present type R name eq old new (slot before) (slot after) result fills empty
-        (unless_default (eq (get v) default_value) (get v)) _ rest outer can (if_not_default _ (eq (get v) default_value) (get v) of_type)
-        (if_not_default _ (eq (get v) default_value) (get v) valid)
-        (written_default type can side (eq (get v) default_value) (get v)) some);
-    is_absent = λ single s v can empty none. default_is_read eq default_value (get v) (slot s)
-        (slot_of_absent type can eq (slot s) (unless_default (eq (get v) default_value) (get v)) _
-        (written_default type can side (eq (get v) default_value) (get v)) empty none);
+        (unless_default (test (get v)) (get v)) _ rest outer can (if_not_default _ (test (get v)) (get v) of_type)
+        (if_not_default _ (test (get v)) (get v) valid)
+        (written_default type can side (test (get v)) (get v)) some);
+    is_absent = λ single s v can empty none. default_is_read eq test (get v) (slot s)
+        (slot_of_absent type can eq (slot s) (unless_default (test (get v)) (get v)) _
+        (written_default type can side (test (get v)) (get v)) empty none);
   }
 
   -- of the root, and of the additions
+  abbrev pub default_slot_by : (V → W) → (W → Bool) → (S → Option W) → TaggedType W → (W → W → Bool) → Slot S V
+  default_slot_by = default_slot_by_in in_root
+
+  abbrev pub addition_with_default_slot_by : (V → W) → (W → Bool) → (S → Option W) → TaggedType W → (W → W → Bool) → Slot S V
+  addition_with_default_slot_by = default_slot_by_in in_additions
+
+  -- of one default value
   abbrev pub default_slot : (V → W) → W → (S → Option W) → TaggedType W → (W → W → Bool) → Slot S V
-  default_slot = default_slot_in in_root
+  default_slot get default_value slot type eq = default_slot_by get (λ w. eq w default_value) slot type eq
 
   abbrev pub addition_with_default_slot : (V → W) → W → (S → Option W) → TaggedType W → (W → W → Bool) → Slot S V
-  addition_with_default_slot = default_slot_in in_additions
+  addition_with_default_slot get default_value slot type eq =
+      addition_with_default_slot_by get (λ w. eq w default_value) slot type eq
 
   -- of a group of additions, which is in no SET that is read into slots
   abbrev pub group_slot : (V → Option W) → (S → Option W) → Components W → (W → W → Bool) → Slot S V

@@ -1,10 +1,11 @@
 //! What is in a slot.
-ghost use Rattle.asn1_slots.specs.Slots.{holds_or_default};
+ghost use Rattle.asn1_slots.specs.Slots.{holds_or_default, holds_or_passes, is_empty_list};
 ghost use Rattle.asn1_codec.specs.DecodeErrors.{missing_field, reason};
-ghost use Rattle.std.specs.Prelude.{◌≡◌, MatchOption, Ok, true};
+ghost use Rattle.std.specs.Prelude.{◌≡◌, MatchOption, Ok, Vec, true};
 ghost use Rattle.std.specs.Result.{IsErrAnd};
 
 use asn1_codec::DecodeError;
+use std::alloc::Global;
 
 /// The component that is in a slot. Where there is none, the error is [`DecodeError::MissingField`], with the name.
 pub fn filled<T: Drop>(slot: Option<T>, name: &'static str) -> Result<T, DecodeError>
@@ -22,4 +23,16 @@ pub fn or_default<T: Eq + Drop>(slot: Option<T>, default_value: T) -> T
     ensures { (v : T) → holds_or_default T.eq default_value slot v ≡ true → T.eq result v ≡ true }
 {
     slot.unwrap_or(default_value)
+}
+
+/// The list that is in a slot, or the empty list where there is none: a component with `DEFAULT {}`.
+pub fn or_empty<T: Eq + Drop>(alloc: Global, slot: Option<Vec<T>>) -> Vec<T>
+    ensures { (v : Vec T Global) →
+        holds_or_passes ⟦<Vec<T> as PartialEq>⟧.eq (is_empty_list T.eq) slot v ≡ true →
+        ⟦<Vec<T> as PartialEq>⟧.eq result v ≡ true }
+{
+    match slot {
+        Some(list) => list,
+        None => Vec::new(alloc),
+    }
 }

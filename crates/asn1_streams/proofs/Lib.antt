@@ -1,3 +1,4 @@
+pub mod ItemFronts
 pub mod Outputs
 pub mod PiecesRead
 pub mod Remaining

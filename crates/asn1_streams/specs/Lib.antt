@@ -1,5 +1,6 @@
 pub mod Bytes
 pub mod Fronts
+pub mod ItemFronts
 pub mod Iters
 pub mod NoRules
 pub mod Outputs

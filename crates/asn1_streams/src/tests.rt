@@ -4,7 +4,9 @@ ghost use Rattle.std.proofs.Common.{rules};
 ghost use Rattle.asn1_streams.specs.NoRules.{no_format, no_format_is_lawful};
 
 use crate::{FrontReader, Iter, iter_of, read_pieces, round_trip_in_pieces, write_list};
-use asn1_schema::{Decode, DecodeError, Encode, EncodeError, Needed, RoundTripError, Rules};
+use asn1_dec::{Decode, DecodeError, Needed};
+use asn1_enc::{Encode, EncodeError};
+use asn1_rules::{RoundTripError, Rules};
 use std::alloc::Global;
 use std::process::Abort;
 
@@ -70,6 +72,21 @@ fn append(rt: &impl Abort, iter: &mut Iter<'_, u8, ByteReader>, piece: &[u8]) {
     iter.append_bytes(piece).expect(rt, "memory");
 }
 
+/// Appends the piece. Where there is no room for it, what is unread stays as it was, and it is appended again.
+fn append_again(
+    rt: &impl Abort,
+    iter: &mut Iter<'_, u8, ByteReader>,
+    piece: &[u8],
+    before: &[u8],
+    after: &[u8],
+) {
+    if iter.append_bytes(piece).is_err() {
+        assert!(rt; iter.unread() == before);
+        append(rt, iter, piece);
+    }
+    assert!(rt; iter.unread() == after);
+}
+
 /// What is read of these pieces, when `n` values are asked for.
 fn assert_read(
     rt: &impl Abort,
@@ -101,6 +118,22 @@ fn borrowed_bytes_are_copied_at_the_first_append(rt: HostRuntime) {
     append(&rt, &mut iter, &[3]);
     assert!(rt; iter.unread() == [2, 3].as_slice());
     assert!(rt; iter.consumed() == 1 && iter.shifted() == 0);
+}
+
+/// Under `rt try --test --fail-alloc N` the Nth growth is refused.
+#[test]
+fn a_piece_without_room_changes_nothing(rt: HostRuntime) {
+    let mut iter = Iter::new(rt.alloc(), &[1, 2], ByteReader);
+    assert_next(&rt, &mut iter, 1, 1, 0);
+    append_again(&rt, &mut iter, &[3, 4], &[2], &[2, 3, 4]);
+    append_again(
+        &rt,
+        &mut iter,
+        &[5; 8],
+        &[2, 3, 4],
+        &[2, 3, 4, 5, 5, 5, 5, 5, 5, 5, 5],
+    );
+    assert_next(&rt, &mut iter, 2, 2, 0);
 }
 
 #[test]

@@ -1,2 +1,1 @@
-mod GroupTags
 mod Telling

@@ -5,6 +5,7 @@ use Rattle.asn1_codec.proofs.MarksPassed.{first_left, none_left}
 use Rattle.asn1_codec.specs.Reading.{marks_passed}
 use Rattle.asn1_items.specs.Headers.{Header, header_at}
 use Rattle.asn1_items.specs.Items.{HaveBytes, read_with}
+use Rattle.asn1_items.specs.NextTags.{IsNext}
 use Rattle.asn1_items.specs.Slices.{left_inside}
 use Rattle.asn1_items.specs.declared.error.ItemError.{ItemError}
 use Rattle.asn1_items.specs.declared.slices.Slices.{Slices}
@@ -14,7 +15,7 @@ use Rattle.asn1_model.specs.Tags.{Tags, Has, first_tags, record_tags}
 use Rattle.asn1_model.proofs.TagSets.{lies_has}
 use Rattle.asn1_packed.proofs.NextTags.{next_header, none_next}
 use Rattle.asn1_packed.specs.Presence.{FindsPresence}
-use Rattle.asn1_tagform.specs.Next.{AreLeft, IsNext, no_marks}
+use Rattle.asn1_tagform.specs.Next.{AreLeft, no_marks}
 use Rattle.asn1_tags.specs.declared.tags.Tag.{Tag}
 
 -- a presence mark has no bytes

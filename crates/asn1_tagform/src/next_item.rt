@@ -1,12 +1,12 @@
 //! The item that is next.
+ghost use Rattle.asn1_items.specs.NextTags.{IsNext};
 ghost use Rattle.asn1_model.specs.Records.{Record};
-ghost use Rattle.asn1_tagform.specs.Next.{AreLeft, IsNext};
+ghost use Rattle.asn1_tagform.specs.Next.{AreLeft};
 ghost use Rattle.std.specs.Prelude.{List, MatchResult};
 
-use crate::tags::{can_begin_with, group_can_begin_with};
 use asn1_bounds::Codec;
 use asn1_components::FieldTable;
-use asn1_items::{ItemError, Slices};
+use asn1_items::{ItemError, Slices, can_begin_with, group_can_begin_with};
 use asn1_packed::{MarkKind, Presence};
 use asn1_tags::{Tag, TagTree};
 

@@ -2,8 +2,8 @@
 use crate::next_item::NextItem;
 use asn1_dec::{Decode, DecodeError};
 use asn1_enc::{Encode, EncodeError};
-use asn1_packed::{ItemDecoder, read_whole, write_whole};
-use asn1_schema::Rules;
+use asn1_packed::{ItemBuffer, ItemDecoder, read_whole, write_whole};
+use asn1_rules::Rules;
 use std::alloc::Global;
 
 /// The rules of the tag form: a value becomes the bytes of its items, without presence marks.
@@ -40,7 +40,7 @@ impl Rules for TagRules {
     ghost format = { tag_format };
 
     fn write_value<T: Encode>(&self, value: &T, depth: usize) -> Result<Vec<u8>, EncodeError> {
-        write_whole::<NextItem, T>(self.alloc, value, depth)
+        write_whole::<ItemBuffer<NextItem>, T>(self.alloc, value, depth)
     }
 
     fn read_value<T: Decode>(&self, output: &Vec<u8>, depth: usize) -> Result<T, DecodeError> {

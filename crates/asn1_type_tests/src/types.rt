@@ -114,6 +114,15 @@ fn put(rt: &impl Abort, numbers: &mut SetOf<u8>, number: u8) {
     }
 }
 
+/// Puts the number into the set. Where there is no room for it, it comes back, and the set has what it had; then it is put again.
+fn put_again(rt: &impl Abort, numbers: &mut SetOf<u8>, number: u8, before: &[u8], after: &[u8]) {
+    if let Err(back) = numbers.insert(number) {
+        assert!(rt; back == number && numbers.eq_slice(before));
+        put(rt, numbers, back);
+    }
+    assert!(rt; numbers.eq_slice(after));
+}
+
 /// Asserts how many elements a copy of the set has, and a list of them.
 fn assert_copied(rt: &impl Abort, alloc: Global, set: &SetOf<u8>, count: usize) {
     let copy = set.try_clone(alloc).expect(rt, "memory");
@@ -128,6 +137,17 @@ fn sets_are_made_and_copied(rt: HostRuntime) {
     put(&rt, &mut numbers, 3);
     put(&rt, &mut numbers, 1);
     assert_copied(&rt, rt.alloc(), &numbers, 2);
+}
+
+/// Under `rt try --test --fail-alloc N` the Nth growth is refused.
+#[test]
+fn a_number_without_room_comes_back(rt: HostRuntime) {
+    let mut numbers = SetOf::new(rt.alloc());
+    put_again(&rt, &mut numbers, 3, &[], &[3]);
+    put(&rt, &mut numbers, 1);
+    put(&rt, &mut numbers, 4);
+    put(&rt, &mut numbers, 1);
+    put_again(&rt, &mut numbers, 5, &[3, 1, 4, 1], &[3, 1, 4, 1, 5]);
 }
 
 #[test]

@@ -1,8 +1,11 @@
 //! `Filter` and `Nested`.
 use asn1_codec_tests::made::units;
 use asn1_codec_tests::{Failure, comes_back, made_comes_back, needs_depth};
-use asn1_recursive::{Filter, Nested};
-use asn1_schema::{Rules, SetOf};
+use asn1_recursive::{
+    AttributeValueAssertion, Filter, MatchingRuleAssertion, Nested, Substring, SubstringFilter,
+};
+use asn1_rules::Rules;
+use asn1_types::SetOf;
 use std::alloc::Global;
 
 pub(super) fn present(alloc: Global, name: &[u8]) -> Result<Filter, Failure> {
@@ -14,6 +17,62 @@ fn not(alloc: Global, filter: Filter) -> Result<Filter, Failure> {
         Ok(filter) => Ok(Filter::Not(filter)),
         Err(_) => Err(Failure::Memory),
     }
+}
+
+fn assertion(alloc: Global) -> Result<AttributeValueAssertion, Failure> {
+    let attribute = units(alloc, b"cn")?;
+    let value = units(alloc, b"Ann")?;
+    Ok(AttributeValueAssertion { attribute, value })
+}
+
+fn push(parts: &mut Vec<Substring>, part: Result<Substring, Failure>) -> Result<(), Failure> {
+    match parts.push(part?) {
+        Ok(()) => Ok(()),
+        Err(_) => Err(Failure::Memory),
+    }
+}
+
+/// `A*n*n`
+fn parts(alloc: Global) -> Result<Vec<Substring>, Failure> {
+    let mut parts = Vec::new(alloc);
+    push(&mut parts, units(alloc, b"A").map(Substring::Initial))?;
+    push(&mut parts, units(alloc, b"n").map(Substring::Any))?;
+    push(&mut parts, units(alloc, b"n").map(Substring::Final))?;
+    Ok(parts)
+}
+
+/// `cn=A*n*n`
+fn substrings(alloc: Global) -> Result<SubstringFilter, Failure> {
+    let attribute = units(alloc, b"cn")?;
+    let substrings = parts(alloc)?;
+    Ok(SubstringFilter {
+        attribute,
+        substrings,
+    })
+}
+
+/// `cn:dn:2.5.13.2:=Ann`
+fn whole_match(alloc: Global) -> Result<MatchingRuleAssertion, Failure> {
+    let rule = units(alloc, b"2.5.13.2")?;
+    let attribute = units(alloc, b"cn")?;
+    let value = units(alloc, b"Ann")?;
+    Ok(MatchingRuleAssertion {
+        matching_rule: Some(rule),
+        attribute: Some(attribute),
+        value,
+        dn_attributes: true,
+    })
+}
+
+/// The value of that alone.
+fn bare_match(alloc: Global) -> Result<MatchingRuleAssertion, Failure> {
+    let value = units(alloc, b"Ann")?;
+    Ok(MatchingRuleAssertion {
+        matching_rule: None,
+        attribute: None,
+        value,
+        dn_attributes: false,
+    })
 }
 
 /// The set of a name that is there and of one that is not.
@@ -38,6 +97,22 @@ pub fn filters_come_back<R: Rules>(rules: &R, alloc: Global) -> Result<(), Failu
     made_comes_back(rules, present(alloc, b"cn"))
         .and(filter_needs_depth(rules, names(alloc).map(Filter::Or), 5))
         .and(filter_needs_depth(rules, names(alloc).map(Filter::And), 5))
+        .and(assertions_come_back(rules, alloc))
+        .and(matches_come_back(rules, alloc))
+}
+
+/// The four alternatives that say the same of an attribute.
+fn assertions_come_back<R: Rules>(rules: &R, alloc: Global) -> Result<(), Failure> {
+    made_comes_back(rules, assertion(alloc).map(Filter::EqualityMatch))
+        .and(made_comes_back(rules, assertion(alloc).map(Filter::GreaterOrEqual)))
+        .and(made_comes_back(rules, assertion(alloc).map(Filter::LessOrEqual)))
+        .and(made_comes_back(rules, assertion(alloc).map(Filter::ApproxMatch)))
+}
+
+fn matches_come_back<R: Rules>(rules: &R, alloc: Global) -> Result<(), Failure> {
+    filter_needs_depth(rules, substrings(alloc).map(Filter::Substrings), 4)
+        .and(made_comes_back(rules, whole_match(alloc).map(Filter::ExtensibleMatch)))
+        .and(made_comes_back(rules, bare_match(alloc).map(Filter::ExtensibleMatch)))
 }
 
 fn filter_needs_depth<R: Rules>(

@@ -1,5 +1,4 @@
 use Rattle.std.proofs.Common.{◌≡◌, ◌∙◌, ap, sym, arith}
-use Rattle.std.specs.Prelude.{unsigned_abs}
 use Rattle.asn1_values.specs.Numbers.{magnitude, signed}
 use Rattle.asn1_values.proofs.Digits.{magnitude-bytes_high_first}
 use Rattle.asn1_values.proofs.Signs.{signed-unsigned_abs}
@@ -8,4 +7,4 @@ use Rattle.asn1_items.proofs.numbers.append_absolute.Goals as goal
 pub returns : goal.returns
 returns c = λ z absolute sign.
     let digits : magnitude c.significant.result.now ≡ c.args.absolute = c.significant.ensures.number ∙ ap magnitude c.to_be_bytes-digits.ensures ∙ magnitude-bytes_high_first 16 c.args.absolute (omega arith) in
-    c.append_signed.ensures z (ap (signed c.args.negative) (digits ∙ sym absolute) ∙ signed-unsigned_abs c.args.negative z sign) c.significant.ensures.shortest sign
+    c.append_signed.ensures z (ap (signed c.args.negative) (digits ∙ sym absolute) ∙ signed-unsigned_abs c.args.negative z sign) c.significant.ensures.shortest.shortest sign

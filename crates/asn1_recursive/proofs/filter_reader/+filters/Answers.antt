@@ -1,4 +1,4 @@
-use Rattle.std.proofs.Common.{[], ◌∷◌, ◌∙◌, ap, arith, inl, length, length-append, refl, sym}
+use Rattle.std.proofs.Common.{◌≡◌, [], ◌∷◌, ◌∙◌, ap, arith, inl, length, length-append, refl, rules, sym}
 use Rattle.std.specs.List.{flat_map}
 use Rattle.std.specs.Prelude.{Some, codes}
 use Rattle.std.proofs.lemmas.Result.{err_from_is_err_and}
@@ -14,11 +14,15 @@ use Rattle.asn1_model.specs.Tags.{context}
 use Rattle.asn1_codec.proofs.ReadingChoices.{alternative_not_read, as_without_tag, choice_after_tag_not_closed, choice_after_tag_not_read, choice_after_tag_read, choice_not_closed, choice_not_opened, choice_read, chosen_not_read, chosen_read, tag_not_read}
 use Rattle.asn1_types.specs.Kinds.{set_of_type}
 use Rattle.asn1_types.specs.MultisetLaws.{same_counts-SameElements}
-use Rattle.asn1_recursive.proofs.FilterLaws.{and_equal, and_says, filter_can, filter_law, not_equal, of_number, or_equal, or_says, present_equal}
+use Rattle.asn1_recursive.proofs.FilterLaws.{and_equal, and_says, approx_equal, equality_equal, extensible_equal, filter_can, filter_law, greater_equal, is_had, less_equal, not_equal, of_number, or_equal, or_says, present_equal, substrings_equal}
 use Rattle.asn1_recursive.specs.FilterAlternatives.{filter_alternatives, filter_meaning, filter_pick, inner_filter, octet_string}
+use Rattle.asn1_recursive.specs.contracts.attribute_value_assertion.AttributeValueAssertionAsnType.TheImpl.{ghosts as assertion}
 use Rattle.asn1_recursive.specs.contracts.filter.FilterPartialEq.TheImpl.{ghosts}
 use Rattle.asn1_recursive.specs.contracts.filter.FilterPartialEq.TheImpl.Laws.{lawful}
-use Rattle.asn1_recursive.specs.declared.filter.Filter.TheVariants.{And, Or, Not, Present}
+use Rattle.asn1_recursive.specs.contracts.matching_rule_assertion.MatchingRuleAssertionAsnType.TheImpl.{ghosts as matching_rule}
+use Rattle.asn1_recursive.specs.contracts.substring_filter.SubstringFilterAsnType.TheImpl.{ghosts as substring_filter}
+use Rattle.asn1_recursive.specs.declared.filter.Filter.{And', Or', Not'}
+use Rattle.asn1_recursive.specs.declared.filter.Filter.TheVariants.{And, Or, Not, EqualityMatch, Substrings, GreaterOrEqual, LessOrEqual, Present, ApproxMatch, ExtensibleMatch}
 use Rattle.asn1_recursive.proofs.filter_reader.+filters.Goals as goal
 
 pub read_filter-returns-then-is_choice-clause-read : goal.read_filter-returns-then-is_choice-clause-read
@@ -98,6 +102,115 @@ pub read_alternative-returns-in-PRESENT-clause-read : goal.read_alternative-retu
 read_alternative-returns-in-PRESENT-clause-read g t c =
     chosen_read g.D.Decoder.reader filter_alternatives filter_pick ghosts.eq Present (value_meaning (tagged (context 7) octet_string)) (λ w. refl) c.args.tag (of_number 7 c.args.tag (omega arith)) _ _ _ (λ w rest outer of_type valid at. moved_as g.D.Decoder.reader (c.in_ok-name-in-PRESENT.ensures.read w (Some (codes "OCTET_STRING")) rest outer refl of_type valid (inl tt) at) (present_equal c.in_ok-name-in-PRESENT.name w))
 
+pub read_alternative-returns-in_err-said-in-EQUALITY_MATCH-clause-read : goal.read_alternative-returns-in_err-said-in-EQUALITY_MATCH-clause-read
+read_alternative-returns-in_err-said-in-EQUALITY_MATCH-clause-read g t c = λ v rest outer distinct can.
+    let p = err_from_is_err_and c.from_residual-in_err-said-in-EQUALITY_MATCH.result c.from_residual-in_err-said-in-EQUALITY_MATCH.ensures.1 in
+    rw (p.1, p.2) (chosen_not_read g.D.Decoder.reader filter_alternatives filter_pick ghosts.eq EqualityMatch (value_meaning (tagged (context 3) assertion.meaning)) (λ w. refl) c.args.tag (of_number 3 c.args.tag (omega arith)) _ c.args.decoder.now (λ w rest outer of_type valid. c.in_err-said-in-EQUALITY_MATCH.ensures.read w (Some (codes "AttributeValueAssertion")) rest outer can.1.1.1.0.0.1 of_type valid (inl can.1.1.1.0.0.0)) v rest outer distinct can)
+
+pub read_alternative-returns-in-EQUALITY_MATCH-clause-read : goal.read_alternative-returns-in-EQUALITY_MATCH-clause-read
+read_alternative-returns-in-EQUALITY_MATCH-clause-read g t c = λ v rest outer distinct can.
+    chosen_read g.D.Decoder.reader filter_alternatives filter_pick ghosts.eq EqualityMatch (value_meaning (tagged (context 3) assertion.meaning)) (λ w. refl) c.args.tag (of_number 3 c.args.tag (omega arith)) _ _ _ (λ w rest outer of_type valid at. moved_as g.D.Decoder.reader (c.in_ok-said-in-EQUALITY_MATCH.ensures.read w (Some (codes "AttributeValueAssertion")) rest outer can.1.1.1.0.0.1 of_type valid (inl can.1.1.1.0.0.0) at) (equality_equal c.in_ok-said-in-EQUALITY_MATCH.said w)) v rest outer distinct can
+
+pub read_alternative-returns-in_err-said-in-SUBSTRINGS-clause-read : goal.read_alternative-returns-in_err-said-in-SUBSTRINGS-clause-read
+read_alternative-returns-in_err-said-in-SUBSTRINGS-clause-read g t c = λ v rest outer distinct can.
+    let p = err_from_is_err_and c.from_residual-in_err-said-in-SUBSTRINGS.result c.from_residual-in_err-said-in-SUBSTRINGS.ensures.1 in
+    rw (p.1, p.2) (chosen_not_read g.D.Decoder.reader filter_alternatives filter_pick ghosts.eq Substrings (value_meaning (tagged (context 4) substring_filter.meaning)) (λ w. refl) c.args.tag (of_number 4 c.args.tag (omega arith)) _ c.args.decoder.now (λ w rest outer of_type valid. c.in_err-said-in-SUBSTRINGS.ensures.read w (Some (codes "SubstringFilter")) rest outer can.1.1.1.1.0.0.1 of_type valid (inl can.1.1.1.1.0.0.0)) v rest outer distinct can)
+
+pub read_alternative-returns-in-SUBSTRINGS-clause-read : goal.read_alternative-returns-in-SUBSTRINGS-clause-read
+read_alternative-returns-in-SUBSTRINGS-clause-read g t c = λ v rest outer distinct can.
+    chosen_read g.D.Decoder.reader filter_alternatives filter_pick ghosts.eq Substrings (value_meaning (tagged (context 4) substring_filter.meaning)) (λ w. refl) c.args.tag (of_number 4 c.args.tag (omega arith)) _ _ _ (λ w rest outer of_type valid at. moved_as g.D.Decoder.reader (c.in_ok-said-in-SUBSTRINGS.ensures.read w (Some (codes "SubstringFilter")) rest outer can.1.1.1.1.0.0.1 of_type valid (inl can.1.1.1.1.0.0.0) at) (substrings_equal c.in_ok-said-in-SUBSTRINGS.said w)) v rest outer distinct can
+
+pub read_alternative-returns-in_err-said-in-GREATER_OR_EQUAL-clause-read : goal.read_alternative-returns-in_err-said-in-GREATER_OR_EQUAL-clause-read
+read_alternative-returns-in_err-said-in-GREATER_OR_EQUAL-clause-read g t c = λ v rest outer distinct can.
+    let p = err_from_is_err_and c.from_residual-in_err-said-in-GREATER_OR_EQUAL.result c.from_residual-in_err-said-in-GREATER_OR_EQUAL.ensures.1 in
+    rw (p.1, p.2) (chosen_not_read g.D.Decoder.reader filter_alternatives filter_pick ghosts.eq GreaterOrEqual (value_meaning (tagged (context 5) assertion.meaning)) (λ w. refl) c.args.tag (of_number 5 c.args.tag (omega arith)) _ c.args.decoder.now (λ w rest outer of_type valid. c.in_err-said-in-GREATER_OR_EQUAL.ensures.read w (Some (codes "AttributeValueAssertion")) rest outer can.1.1.1.1.1.0.0.1 of_type valid (inl can.1.1.1.1.1.0.0.0)) v rest outer distinct can)
+
+pub read_alternative-returns-in-GREATER_OR_EQUAL-clause-read : goal.read_alternative-returns-in-GREATER_OR_EQUAL-clause-read
+read_alternative-returns-in-GREATER_OR_EQUAL-clause-read g t c = λ v rest outer distinct can.
+    chosen_read g.D.Decoder.reader filter_alternatives filter_pick ghosts.eq GreaterOrEqual (value_meaning (tagged (context 5) assertion.meaning)) (λ w. refl) c.args.tag (of_number 5 c.args.tag (omega arith)) _ _ _ (λ w rest outer of_type valid at. moved_as g.D.Decoder.reader (c.in_ok-said-in-GREATER_OR_EQUAL.ensures.read w (Some (codes "AttributeValueAssertion")) rest outer can.1.1.1.1.1.0.0.1 of_type valid (inl can.1.1.1.1.1.0.0.0) at) (greater_equal c.in_ok-said-in-GREATER_OR_EQUAL.said w)) v rest outer distinct can
+
+pub read_alternative-returns-in_err-said-in-LESS_OR_EQUAL-clause-read : goal.read_alternative-returns-in_err-said-in-LESS_OR_EQUAL-clause-read
+read_alternative-returns-in_err-said-in-LESS_OR_EQUAL-clause-read g t c = λ v rest outer distinct can.
+    let p = err_from_is_err_and c.from_residual-in_err-said-in-LESS_OR_EQUAL.result c.from_residual-in_err-said-in-LESS_OR_EQUAL.ensures.1 in
+    rw (p.1, p.2) (chosen_not_read g.D.Decoder.reader filter_alternatives filter_pick ghosts.eq LessOrEqual (value_meaning (tagged (context 6) assertion.meaning)) (λ w. refl) c.args.tag (of_number 6 c.args.tag (omega arith)) _ c.args.decoder.now (λ w rest outer of_type valid. c.in_err-said-in-LESS_OR_EQUAL.ensures.read w (Some (codes "AttributeValueAssertion")) rest outer can.1.1.1.1.1.1.0.0.1 of_type valid (inl can.1.1.1.1.1.1.0.0.0)) v rest outer distinct can)
+
+pub read_alternative-returns-in-LESS_OR_EQUAL-clause-read : goal.read_alternative-returns-in-LESS_OR_EQUAL-clause-read
+read_alternative-returns-in-LESS_OR_EQUAL-clause-read g t c = λ v rest outer distinct can.
+    chosen_read g.D.Decoder.reader filter_alternatives filter_pick ghosts.eq LessOrEqual (value_meaning (tagged (context 6) assertion.meaning)) (λ w. refl) c.args.tag (of_number 6 c.args.tag (omega arith)) _ _ _ (λ w rest outer of_type valid at. moved_as g.D.Decoder.reader (c.in_ok-said-in-LESS_OR_EQUAL.ensures.read w (Some (codes "AttributeValueAssertion")) rest outer can.1.1.1.1.1.1.0.0.1 of_type valid (inl can.1.1.1.1.1.1.0.0.0) at) (less_equal c.in_ok-said-in-LESS_OR_EQUAL.said w)) v rest outer distinct can
+
+pub read_alternative-returns-in_err-said-in-APPROX_MATCH-clause-read : goal.read_alternative-returns-in_err-said-in-APPROX_MATCH-clause-read
+read_alternative-returns-in_err-said-in-APPROX_MATCH-clause-read g t c = λ v rest outer distinct can.
+    let p = err_from_is_err_and c.from_residual-in_err-said-in-APPROX_MATCH.result c.from_residual-in_err-said-in-APPROX_MATCH.ensures.1 in
+    rw (p.1, p.2) (chosen_not_read g.D.Decoder.reader filter_alternatives filter_pick ghosts.eq ApproxMatch (value_meaning (tagged (context 8) assertion.meaning)) (λ w. refl) c.args.tag (of_number 8 c.args.tag (omega arith)) _ c.args.decoder.now (λ w rest outer of_type valid. c.in_err-said-in-APPROX_MATCH.ensures.read w (Some (codes "AttributeValueAssertion")) rest outer can.1.1.1.1.1.1.1.1.0.0.1 of_type valid (inl can.1.1.1.1.1.1.1.1.0.0.0)) v rest outer distinct can)
+
+pub read_alternative-returns-in-APPROX_MATCH-clause-read : goal.read_alternative-returns-in-APPROX_MATCH-clause-read
+read_alternative-returns-in-APPROX_MATCH-clause-read g t c = λ v rest outer distinct can.
+    chosen_read g.D.Decoder.reader filter_alternatives filter_pick ghosts.eq ApproxMatch (value_meaning (tagged (context 8) assertion.meaning)) (λ w. refl) c.args.tag (of_number 8 c.args.tag (omega arith)) _ _ _ (λ w rest outer of_type valid at. moved_as g.D.Decoder.reader (c.in_ok-said-in-APPROX_MATCH.ensures.read w (Some (codes "AttributeValueAssertion")) rest outer can.1.1.1.1.1.1.1.1.0.0.1 of_type valid (inl can.1.1.1.1.1.1.1.1.0.0.0) at) (approx_equal c.in_ok-said-in-APPROX_MATCH.said w)) v rest outer distinct can
+
+pub read_alternative-returns-in_err-said-in-EXTENSIBLE_MATCH-clause-read : goal.read_alternative-returns-in_err-said-in-EXTENSIBLE_MATCH-clause-read
+read_alternative-returns-in_err-said-in-EXTENSIBLE_MATCH-clause-read g t c = λ v rest outer distinct can.
+    let p = err_from_is_err_and c.from_residual-in_err-said-in-EXTENSIBLE_MATCH.result c.from_residual-in_err-said-in-EXTENSIBLE_MATCH.ensures.1 in
+    rw (p.1, p.2) (chosen_not_read g.D.Decoder.reader filter_alternatives filter_pick ghosts.eq ExtensibleMatch (value_meaning (tagged (context 9) matching_rule.meaning)) (λ w. refl) c.args.tag (of_number 9 c.args.tag (omega arith)) _ c.args.decoder.now (λ w rest outer of_type valid. c.in_err-said-in-EXTENSIBLE_MATCH.ensures.read w (Some (codes "MatchingRuleAssertion")) rest outer can.1.1.1.1.1.1.1.1.1.0.0.1 of_type valid (inl can.1.1.1.1.1.1.1.1.1.0.0.0)) v rest outer distinct can)
+
+pub read_alternative-returns-in-EXTENSIBLE_MATCH-clause-read : goal.read_alternative-returns-in-EXTENSIBLE_MATCH-clause-read
+read_alternative-returns-in-EXTENSIBLE_MATCH-clause-read g t c = λ v rest outer distinct can.
+    chosen_read g.D.Decoder.reader filter_alternatives filter_pick ghosts.eq ExtensibleMatch (value_meaning (tagged (context 9) matching_rule.meaning)) (λ w. refl) c.args.tag (of_number 9 c.args.tag (omega arith)) _ _ _ (λ w rest outer of_type valid at. moved_as g.D.Decoder.reader (c.in_ok-said-in-EXTENSIBLE_MATCH.ensures.read w (Some (codes "MatchingRuleAssertion")) rest outer can.1.1.1.1.1.1.1.1.1.0.0.1 of_type valid (inl can.1.1.1.1.1.1.1.1.1.0.0.0) at) (extensible_equal c.in_ok-said-in-EXTENSIBLE_MATCH.said w)) v rest outer distinct can
+
+pub read_alternative-returns-in_err-filters-in-AND-clause-unknown : goal.read_alternative-returns-in_err-filters-in-AND-clause-unknown
+read_alternative-returns-in_err-filters-in-AND-clause-unknown g t c =
+    let is : c.args.tag ≡ context 0 = search rules in λ lacks. absurd (lacks.0 (is_had 0 c.args.tag is))
+
+pub read_alternative-returns-in-AND-clause-unknown : goal.read_alternative-returns-in-AND-clause-unknown
+read_alternative-returns-in-AND-clause-unknown g t c =
+    let is : c.args.tag ≡ context 0 = search rules in λ lacks. absurd (lacks.0 (is_had 0 c.args.tag is))
+
+pub read_alternative-returns-in_err-filters-in-OR-clause-unknown : goal.read_alternative-returns-in_err-filters-in-OR-clause-unknown
+read_alternative-returns-in_err-filters-in-OR-clause-unknown g t c =
+    let is : c.args.tag ≡ context 1 = search rules in λ lacks. absurd (lacks.1.0 (is_had 1 c.args.tag is))
+
+pub read_alternative-returns-in-OR-clause-unknown : goal.read_alternative-returns-in-OR-clause-unknown
+read_alternative-returns-in-OR-clause-unknown g t c =
+    let is : c.args.tag ≡ context 1 = search rules in λ lacks. absurd (lacks.1.0 (is_had 1 c.args.tag is))
+
+pub read_alternative-returns-in_err-inner-in-NOT-clause-unknown : goal.read_alternative-returns-in_err-inner-in-NOT-clause-unknown
+read_alternative-returns-in_err-inner-in-NOT-clause-unknown g t c =
+    let is : c.args.tag ≡ context 2 = search rules in λ lacks. absurd (lacks.1.1.0 (is_had 2 c.args.tag is))
+
+pub read_alternative-returns-in-Ok-clause-unknown : goal.read_alternative-returns-in-Ok-clause-unknown
+read_alternative-returns-in-Ok-clause-unknown g t c =
+    let is : c.args.tag ≡ context 2 = search rules in λ lacks. absurd (lacks.1.1.0 (is_had 2 c.args.tag is))
+
+pub read_alternative-returns-in-NOT-clause-unknown : goal.read_alternative-returns-in-NOT-clause-unknown
+read_alternative-returns-in-NOT-clause-unknown g t c =
+    let is : c.args.tag ≡ context 2 = search rules in λ lacks. absurd (lacks.1.1.0 (is_had 2 c.args.tag is))
+
+pub read_alternative-returns-in_err-said-in-EQUALITY_MATCH-clause-unknown : goal.read_alternative-returns-in_err-said-in-EQUALITY_MATCH-clause-unknown
+read_alternative-returns-in_err-said-in-EQUALITY_MATCH-clause-unknown g t c =
+    let is : c.args.tag ≡ context 3 = search rules in λ lacks. absurd (lacks.1.1.1.0 (is_had 3 c.args.tag is))
+
+pub read_alternative-returns-in-EQUALITY_MATCH-clause-unknown : goal.read_alternative-returns-in-EQUALITY_MATCH-clause-unknown
+read_alternative-returns-in-EQUALITY_MATCH-clause-unknown g t c =
+    let is : c.args.tag ≡ context 3 = search rules in λ lacks. absurd (lacks.1.1.1.0 (is_had 3 c.args.tag is))
+
+pub read_alternative-returns-in-SUBSTRINGS-clause-unknown : goal.read_alternative-returns-in-SUBSTRINGS-clause-unknown
+read_alternative-returns-in-SUBSTRINGS-clause-unknown g t c =
+    let is : c.args.tag ≡ context 4 = search rules in λ lacks. absurd (lacks.1.1.1.1.0 (is_had 4 c.args.tag is))
+
+pub read_alternative-returns-clause-read : goal.read_alternative-returns-clause-read
+read_alternative-returns-clause-read g t c =
+    elim [
+      | And' shape filters ↦ search rules
+      | Or' shape filters ↦ search rules
+      | Not' place inner ↦ search rules
+      | EqualityMatch said ↦ search rules
+      | Substrings said ↦ search rules
+      | GreaterOrEqual said ↦ search rules
+      | LessOrEqual said ↦ search rules
+      | Present name ↦ search rules
+      | ApproxMatch said ↦ search rules
+      | ExtensibleMatch said ↦ search rules
+    ]
+
 pub read_set-returns-in_err-filters-clause-read : goal.read_set-returns-in_err-filters-clause-read
 read_set-returns-in_err-filters-clause-read g t c =
     λ vs n rest outer of_type valid at.
@@ -171,6 +284,9 @@ read_filters-returns-in_err-filter-clause-read g t c = λ vs scope outer of_type
     let a = another g.D.Decoder.reader filter_meaning ghosts.eq filter_can _ mid c.in_ok-more.ensures.read c.if-not-branch.false c.in_ok-more.ensures.opens_nothing.keeps_depth.same_depth in
     let r = c.in_err-filter.ensures.read a.next filter_meaning.name (flat_map (own_records filter_meaning) a.todo) (scope ∷ outer) filter_can.1 a.next_of_type a.next_valid (inl tt) a.at in
     rw (p.1, p.2) (fails_below _ _ _ (omega (arith, c.loop-index.invariant.kept, c.in_ok-more.ensures.opens_nothing.keeps_depth.same_depth)) (no_higher (own_records filter_meaning) a.done a.todo a.next vs a.split) r)
+
+pub read_filters-returns-in-Err-clause-read : goal.read_filters-returns-in-Err-clause-read
+read_filters-returns-in-Err-clause-read g t c = λ vs scope outer of_type valid few at. inl c.refuse.ensures.same
 
 pub read_filters-returns-clause-read : goal.read_filters-returns-clause-read
 read_filters-returns-clause-read g t c = λ vs scope outer of_type valid few at.

@@ -1,4 +1,4 @@
-use Rattle.std.proofs.Common.{refl, sym}
+use Rattle.std.proofs.Common.{sym}
 use Rattle.asn1_items.proofs.Writing.{mark_appended}
 use Rattle.asn1_items.proofs.buffer.Buffer.append_mark.Goals as goal
 

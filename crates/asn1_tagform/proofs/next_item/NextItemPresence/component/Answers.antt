@@ -3,7 +3,7 @@ use Rattle.std.proofs.lemmas.Result.{err_from_is_err_and}
 use Rattle.asn1_model.specs.Records.{present, absent}
 use Rattle.asn1_model.specs.Tags.{tree_tags}
 use Rattle.asn1_tags.specs.Trees.{shape}
-use Rattle.asn1_tagform.specs.Next.{IsNext}
+use Rattle.asn1_items.specs.NextTags.{IsNext}
 use Rattle.asn1_tagform.proofs.Telling.{not_told, told, told_none}
 use Rattle.asn1_tagform.proofs.next_item.NextItemPresence.component.Goals as goal
 

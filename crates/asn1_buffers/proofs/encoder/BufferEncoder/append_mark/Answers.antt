@@ -1,0 +1,16 @@
+use Rattle.std.proofs.Common.{refl}
+use Rattle.asn1_buffers.proofs.Written.{appended, not_appended}
+use Rattle.asn1_buffers.specs.Encoder.{in_one_order}
+use Rattle.asn1_codec.proofs.WritingUpToOrder.{appends, fails}
+use Rattle.asn1_model.specs.Records.{presence_mark}
+use Rattle.asn1_buffers.proofs.encoder.BufferEncoder.append_mark.Goals as goal
+
+pub returns-in-Ok : goal.returns-in-Ok
+returns-in-Ok g c = λ m is.
+    let F = g.B.RecordBuffer.form in
+    appends (in_one_order F) (appended F _ _ (presence_mark m) refl (c.in-Ok.ensures m is) refl refl c.if-self.false c.if-self.false)
+
+pub returns-in-Err : goal.returns-in-Err
+returns-in-Err g c = λ m is.
+    let F = g.B.RecordBuffer.form in
+    fails (in_one_order F) (not_appended F _ _ (presence_mark m) c.refuse.result (λ custom. c.in-Err.ensures m is (c.refuse.ensures.custom custom)) c.refuse.ensures.not_too_deep c.refuse.ensures.not_failed c.if-self.false c.refuse.ensures.has_failed)

@@ -1,0 +1,8 @@
+use Rattle.std.proofs.Common.{[], refl}
+use Rattle.asn1_buffers.specs.Encoder.{in_one_order}
+use Rattle.asn1_codec.proofs.WritingUpToOrder.{wrote_exactly}
+use Rattle.asn1_codec.specs.Writing.{outermost}
+use Rattle.asn1_buffers.proofs.encoder.BufferEncoder.new.Goals as goal
+
+pub returns-clause-nothing_written : goal.returns-clause-nothing_written
+returns-clause-nothing_written g c = wrote_exactly (in_one_order g.B.RecordBuffer.form) _ (outermost []) (c.new.ensures, refl)

@@ -1,0 +1,34 @@
+-- What an encoder over a buffer has written, and what it rejects.
+use Rattle.std.specs.Prelude.{◌≡◌, ℕ, suc, List}
+use Rattle.asn1_buffers.specs.Buffers.{BufferForm}
+use Rattle.asn1_buffers.specs.declared.encoder.BufferEncoder.{BufferEncoder}
+use Rattle.asn1_codec.specs.Writing.{Writer, Written, in_group, in_scope, outermost}
+use Rattle.asn1_codec.specs.WritingUpToOrder.{up_to_order}
+use Rattle.asn1_model.specs.Orders.{SameRecords}
+use Rattle.asn1_model.specs.Records.{Record}
+
+-- how many of the lists that are open are scopes
+abbrev pub scopes_in : Written → ℕ
+scopes_in (outermost rs) = 0
+scopes_in (in_scope h rs w) = suc (scopes_in w)
+scopes_in (in_group table rs w) = scopes_in w
+
+-- The bytes are those of these records by a relation, up to the order inside sets.
+pub record CarriesUpToOrder (HaveBytes : List Record → List ℕ → Type 0) (bytes : List ℕ) (rs : List Record) : Type 0 where
+  pub exactly : List Record
+  pub have_bytes : HaveBytes exactly bytes
+  pub same : SameRecords exactly rs
+
+module _ {B : Type 0} (F : BufferForm B) where
+  -- The encoder in the order in which it writes: its buffer has written the records, and it has counted the scopes.
+  abbrev pub in_one_order : Writer (BufferEncoder B)
+  in_one_order = record {
+    wrote = λ e w. F.wrote e.buffer w × (e.open_scopes ≡ scopes_in w);
+    failed = λ e. e.failed;
+    depth_left = λ e. e.depth_left;
+    rejects = λ rs. F.rejects rs;
+  }
+
+  -- the encoder as types see it: the order inside sets means nothing
+  abbrev pub buffer_writer : Writer (BufferEncoder B)
+  buffer_writer = up_to_order in_one_order

@@ -1,0 +1,4 @@
+pub mod Buffers
+pub mod Encoder
+pub mod Format
+pub mod Kinds

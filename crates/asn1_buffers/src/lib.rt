@@ -1,0 +1,39 @@
+//! Encoders that write bytes: one encoder, over any buffer in which the bytes of records are put together.
+//!
+//! | Item | What it is |
+//! |---|---|
+//! | [`RecordBuffer`] | a buffer of the bytes of records, in the form of a codec |
+//! | [`BufferEncoder`] | the encoder over it |
+//! | [`write_whole`] | a value and all of its bytes |
+//! | [`MarkKind`], [`ScopeKind`] | the kinds of presence marks and of scopes, by which a buffer is told them |
+//! | [`WriteError`] | why something was not written |
+//! | [`laws`] | what types see of the encoder, and what the derives give |
+//!
+//! A buffer says what has been written in it, in the order of the records (`BufferForm` of `specs/Buffers.antt`), and nothing of
+//! the depth, of what follows an error, or of orders that mean the same; these are the encoder's.
+//!
+//! What the contracts promise, and the words that they use:
+//!
+//! - The encoder keeps the laws of every encoder (`Encoder`). It has written what its buffer has; as types see it, the order
+//!   inside sets means nothing (`buffer_writer` of `specs/Encoder.antt`). It rejects the records that the buffer rejects, up to
+//!   order, and no others. So an error of a type's writing is `Memory`, `Depth`, `Custom` with a text of the buffer or, after
+//!   another error, `Failed`; another `Custom`, with the text `nothing is open`, comes only where a scope is closed and none is
+//!   open.
+//! - Scopes may come back in another order than they were written: a buffer may sort what is in a set when the set ends
+//!   (`ScopeIsHeld`).
+//! - The format of a codec that writes in a buffer (`buffer_format` of `specs/Format.antt`) keeps to its law, and
+//!   [`write_whole`] writes by it.
+#![tactic(auto)]
+
+mod buffer;
+mod encoder;
+mod error;
+mod kinds;
+pub mod laws;
+mod whole;
+
+pub use buffer::RecordBuffer;
+pub use encoder::BufferEncoder;
+pub use error::WriteError;
+pub use kinds::{MarkKind, ScopeKind};
+pub use whole::write_whole;

@@ -1,0 +1,88 @@
+//! Values at the front of bytes of DER.
+ghost use Rattle.asn1_der.specs.Cuts.{IsCut};
+ghost use Rattle.std.specs.Prelude.{MatchOption, ℕ};
+
+use asn1_dec::{Decode, DecodeError};
+use asn1_der_decoder::DerDecoder;
+use asn1_der_items::find_element;
+use asn1_packed::read_whole;
+use asn1_streams::FrontReader;
+use std::alloc::Global;
+
+/// Reads values from the front of bytes of DER, each with at most this many nested scopes.
+///
+/// The element with which an input begins is found by its identifier and its length, and is read as a whole. Where not all of it
+/// is there, or the input does not begin with an element, the bytes are read as they are, and the error is that of `read_value`
+/// of [`DerRules`](crate::DerRules); or [`DecodeError::Custom`] with the text `bad item`, where they are a value of a type that is
+/// no element, as an `Option` that is absent.
+#[derive(Clone, Copy, Debug, Drop)]
+pub struct DerReader {
+    alloc: Global,
+    depth: usize,
+}
+
+impl DerReader {
+    ghost use Rattle.asn1_der_encoder.specs.Format.{Carries};
+    ghost use Rattle.asn1_der_items.specs.Series.{is_one_element};
+    ghost use Rattle.asn1_model.specs.Meaning.{IsWellTagged, own_records};
+    ghost use Rattle.asn1_model.specs.Records.{highest};
+    ghost use Rattle.asn1_rules.specs.Rules.{ReadsWhole};
+    ghost use Rattle.std.specs.Prelude.{◌≡◌, true};
+
+    /// A reader that may open this many nested scopes, with the allocator that values are made by.
+    pub fn new(alloc: Global, depth: usize) -> DerReader
+        ensures alloc { result.alloc ≡ alloc }
+        ensures depth { result.depth ≡ depth }
+    {
+        DerReader { alloc, depth }
+    }
+
+    /// Reads the value whose bytes these are.
+    fn read<D: Decode>(&self, bytes: &[u8]) -> Result<D, DecodeError>
+        ensures { (v : D) → IsWellTagged D.meaning → D.meaning.IsOfType v →
+            D.meaning.IsValid (λ own. is_one_element own) v →
+            Carries bytes.now (own_records D.meaning v) →
+            ReadsWhole (highest (own_records D.meaning v)) self.now.depth
+            (λ w. D.eq w v ≡ true) result }
+    {
+        let decoder = DerDecoder::new(self.alloc, bytes, self.depth);
+        read_whole(decoder)
+    }
+
+    /// Why bytes are not read that begin with no whole element.
+    fn fault<D: Decode>(&self, input: &[u8]) -> DecodeError {
+        match self.read::<D>(input) {
+            Ok(_no_element) => DecodeError::Custom("bad item"),
+            Err(error) => error,
+        }
+    }
+}
+
+impl<D: Decode> FrontReader<D> for DerReader {
+    ghost use Rattle.asn1_der.specs.Cuts.{cut_within, der_fronts};
+
+    ghost fronts = { der_fronts D.meaning D.eq };
+
+    fn read_front(&self, input: &[u8]) -> Result<(D, usize), DecodeError> {
+        let Some(length) = element_length(input) else {
+            return Err(self.fault::<D>(input));
+        };
+        let value = self.read(&input[..length])?;
+        Ok((value, length))
+    }
+
+    ghost lawful = { record {
+      is_cut = λ reader bytes v n front. front.cut;
+      within = λ reader bytes n cut. cut_within bytes n cut;
+    } };
+}
+
+/// How long the element is with which the bytes begin, where all of it is there.
+fn element_length(bytes: &[u8]) -> Option<usize>
+    ensures { MatchOption result ((n : ℕ) → ¬ IsCut bytes.now n) (IsCut bytes.now) }
+{
+    match find_element(bytes) {
+        Ok(element) => Some(bytes.len() - element.rest.len()),
+        Err(_) => None,
+    }
+}

@@ -1,0 +1,54 @@
+//! The codec DER as a whole.
+use asn1_buffers::write_whole;
+use asn1_dec::{Decode, DecodeError};
+use asn1_der_decoder::DerDecoder;
+use asn1_der_encoder::DerBuffer;
+use asn1_enc::{Encode, EncodeError};
+use asn1_packed::read_whole;
+use asn1_rules::Rules;
+use std::alloc::Global;
+
+/// The rules of DER (X.690): a value becomes its one encoding.
+///
+/// They reject the records that have no DER, and take one element as one value of an open type. So `write_value` fails if memory
+/// runs out, where the value's records are nested deeper than the depth, or where they have no DER, by [`EncodeError::Custom`]
+/// with a text that says why; and for no other reason.
+///
+/// Of bytes that are not the DER of a value of the type, `read_value` answers an error or a value. [`DecodeError::Incomplete`]
+/// comes where bytes are missing outside all scopes, with how many of the part that is read, and [`DecodeError::Custom`], with
+/// the text `bad item`, where the bytes are not what is asked for or some are left. An error of the type's own is answered as it
+/// is. No memory is taken by a length that the bytes tell, but by those that are there.
+#[derive(Clone, Copy, Debug)]
+pub struct DerRules {
+    alloc: Global,
+}
+
+impl DerRules {
+    ghost use Rattle.std.specs.Prelude.{◌≡◌};
+
+    /// The rules, with the allocator that bytes and values are made by.
+    pub fn new(alloc: Global) -> DerRules
+        ensures { result.alloc ≡ alloc }
+    {
+        DerRules { alloc }
+    }
+}
+
+impl Rules for DerRules {
+    ghost use Rattle.asn1_der_encoder.specs.Format.{der_format, der_is_lawful};
+
+    type Output = Vec<u8>;
+
+    ghost format = { der_format };
+
+    fn write_value<T: Encode>(&self, value: &T, depth: usize) -> Result<Vec<u8>, EncodeError> {
+        write_whole::<DerBuffer, T>(self.alloc, value, depth)
+    }
+
+    fn read_value<T: Decode>(&self, output: &Vec<u8>, depth: usize) -> Result<T, DecodeError> {
+        let decoder = DerDecoder::new(self.alloc, output.as_slice(), depth);
+        read_whole(decoder)
+    }
+
+    ghost lawful = { der_is_lawful };
+}

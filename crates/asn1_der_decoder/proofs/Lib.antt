@@ -1,0 +1,5 @@
+mod InOrder
+mod Inside
+mod Taking
+mod Telling
+pub mod Remaining

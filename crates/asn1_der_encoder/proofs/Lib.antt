@@ -1,0 +1,5 @@
+mod Arranging
+mod Cuts
+mod Ordering
+mod Pieces
+mod Written

@@ -1,0 +1,4 @@
+pub mod Format
+pub mod Outputs
+pub mod Sorting
+pub mod Written

@@ -1,0 +1,10 @@
+-- What the tag that is next tells, where there are no presence marks.
+use Rattle.std.specs.Prelude.{◌≡◌, true, List, Option, None, Some}
+use Rattle.asn1_model.specs.Records.{Record, presence_marks_alone}
+use Rattle.asn1_model.specs.Tags.{Has, first_tags}
+use Rattle.asn1_tags.specs.declared.tags.Tag.{Tag}
+
+-- The tag that is next is one with which the records begin, presence marks apart; where none is next, they are marks alone.
+pub record IsNext (rs : List Record) (next : Option Tag) : Type 0 where
+  pub none : next ≡ None → presence_marks_alone rs ≡ true
+  pub some : (t : Tag) → next ≡ Some t → Has (first_tags rs) t

@@ -1,0 +1,32 @@
+//! Whether what may be absent can begin with a tag.
+ghost use Rattle.asn1_components.specs.ComponentLists.{trees_of};
+ghost use Rattle.asn1_components.specs.Components.{all_components};
+ghost use Rattle.asn1_model.specs.Tags.{Has, tree_tags};
+ghost use Rattle.asn1_tags.specs.Trees.{choice, shape};
+ghost use Rattle.std.specs.Prelude.{◌↔◌, IsTrue};
+
+use asn1_components::FieldTable;
+use asn1_tags::{Tag, TagTree};
+
+/// Whether what has this tree can begin with the tag.
+pub fn can_begin_with(tree: TagTree<'static>, tag: Tag) -> bool
+    ensures { IsTrue result ↔ Has (tree_tags (shape tree.entry)) tag }
+{
+    tree.has_empty_choice() || TagTree::tag_contains(&tag, &[tree])
+}
+
+/// Whether a group with the components of this table can begin with the tag: one of them can, or there are none.
+pub fn group_can_begin_with<C: FieldTable>(tag: Tag) -> bool
+    ensures { IsTrue result ↔
+        Has (tree_tags (choice (trees_of (all_components C.components)))) tag }
+{
+    let count = C::field_count();
+    for place in 0..count {
+        if let Some(field) = C::field_at(place) {
+            if can_begin_with(field.tag_tree, tag) {
+                return true;
+            }
+        }
+    }
+    count == 0
+}

@@ -1,0 +1,25 @@
+-- What is read by one codec and written by another.
+use Rattle.std.specs.Prelude.{◌≡◌, ◌⊎◌, ⊤, ℕ, Bool, true, ◌<◌, List}
+use Rattle.asn1_codec.specs.declared.decode_error.DecodeError.TheVariants.{Memory, Depth}
+use Rattle.asn1_model.specs.Meaning.{Meaning, own_records}
+use Rattle.asn1_model.specs.Records.{highest}
+use Rattle.asn1_rules.specs.Rules.{Format, IsWritten, IsNotWritten}
+use Rattle.asn1_rules.specs.declared.recoding.RecodeError.{RecodeError}
+use Rattle.asn1_rules.specs.declared.recoding.RecodeError.TheVariants.{Read, Write}
+
+module _ {O V : Type 0} (F : Format O) (m : Meaning V) where
+  -- The output carries the own records of a value that is equal to this one, as one that was written does.
+  abbrev pub IsRecoded : (V → V → Bool) → V → ℕ → O → Type 0
+  IsRecoded eq v depth output =
+      (w : V) × (eq w v ≡ true) × IsWritten F (own_records m w) (m.IsOfType w) depth output
+
+  -- Reading failed, because memory ran out, or since the value's records are nested deeper than the depth; or writing a value
+  -- that is equal failed, as it may.
+  abbrev pub RecodingFails : (V → V → Bool) → V → ℕ → RecodeError → Type 0
+  RecodingFails eq v depth (Read e) = (e ≡ Memory) ⊎ ((e ≡ Depth) × (depth < highest (own_records m v)))
+  RecodingFails eq v depth (Write e) = (w : V) × (eq w v ≡ true) × IsNotWritten F (own_records m w) depth e
+
+  -- Whatever the input was: where writing failed, it was as it may for some value.
+  abbrev pub WritingFailsAsItMay : ℕ → RecodeError → Type 0
+  WritingFailsAsItMay depth (Read e) = ⊤
+  WritingFailsAsItMay depth (Write e) = (w : V) × IsNotWritten F (own_records m w) depth e

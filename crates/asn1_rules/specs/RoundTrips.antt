@@ -1,0 +1,20 @@
+-- Why a value was not written and read back.
+use Rattle.std.specs.Prelude.{◌≡◌, ◌⊎◌, ℕ, ◌≤◌, ◌<◌, List, Result, Ok, Err}
+use Rattle.asn1_codec.specs.declared.decode_error.DecodeError.TheVariants.{Memory, Depth}
+use Rattle.asn1_model.specs.Records.{Record, highest}
+use Rattle.asn1_rules.specs.Rules.{Format, IsNotWritten}
+use Rattle.asn1_rules.specs.declared.round_trips.RoundTripError.{RoundTripError}
+use Rattle.asn1_rules.specs.declared.round_trips.RoundTripError.TheVariants.{Writing, Reading}
+
+-- Writing failed as it may, or reading did, because memory ran out, or since the records are nested deeper than its depth: nothing else
+-- keeps a value that was written from being read back.
+abbrev pub FailsAs : {O : Type 0} → Format O → List Record → ℕ → ℕ → RoundTripError → Type 0
+FailsAs F rs write_depth read_depth (Writing e) = IsNotWritten F rs write_depth e
+FailsAs F rs write_depth read_depth (Reading e) = (e ≡ Memory) ⊎ ((e ≡ Depth) × (read_depth < highest rs))
+
+-- What is known of every value, also of one that is not valid: it was written, no higher than the depth of writing, or writing
+-- failed, as it may.
+abbrev pub WritesFirst : {O V : Type 0} → Format O → List Record → ℕ → Result V RoundTripError → Type 0
+WritesFirst F rs write_depth (Ok w) = highest rs ≤ write_depth
+WritesFirst F rs write_depth (Err (Writing e)) = IsNotWritten F rs write_depth e
+WritesFirst F rs write_depth (Err (Reading e)) = highest rs ≤ write_depth

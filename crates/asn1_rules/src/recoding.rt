@@ -1,0 +1,46 @@
+//! From one codec to another.
+ghost use Rattle.asn1_model.specs.Meaning.{IsWellTagged, own_records};
+ghost use Rattle.asn1_rules.specs.Recoding.{IsRecoded, RecodingFails, WritingFailsAsItMay};
+ghost use Rattle.std.specs.Prelude.{IfErr, MatchResult};
+
+use crate::rules::Rules;
+use asn1_dec::{Decode, DecodeError};
+use asn1_enc::{Encode, EncodeError};
+use thiserror::Error;
+
+/// Which of the two failed.
+#[derive(Clone, Copy, Debug, Drop, PartialEq, Eq, Error)]
+pub enum RecodeError {
+    /// The input was not read.
+    #[error("not read: {0}")]
+    Read(DecodeError),
+    /// The value that was read was not written.
+    #[error("not written: {0}")]
+    Write(EncodeError),
+}
+
+/// Reads a value by the rules of one codec and writes it by those of another, each with at most this many nested scopes.
+///
+/// Where the input carries the own records of a valid value of a type that is well tagged, the output carries those of a value
+/// that is equal, by the type's own equality (`recoded`). Of any other input only this is promised, that writing fails as it may
+/// (`writing`).
+///
+/// # Errors
+/// [`RecodeError::Read`] with the error of reading: of such an input [`DecodeError::Depth`] only where the value's records are
+/// nested deeper than the depth, and else [`DecodeError::Memory`]. [`RecodeError::Write`] with the error of writing the value that
+/// was read.
+pub fn recode<T: Encode + Decode, A: Rules, B: Rules>(
+    from: &A,
+    input: &A::Output,
+    to: &B,
+    depth: usize,
+) -> Result<B::Output, RecodeError>
+    ensures recoded { (v : T) → IsWellTagged T.meaning → T.meaning.IsOfType v →
+        T.meaning.IsValid A.format.accepts v → A.format.carries input.now (own_records T.meaning v) →
+        MatchResult result (IsRecoded B.format T.meaning T.eq v depth)
+        (RecodingFails B.format T.meaning T.eq v depth) }
+    ensures writing { IfErr result (WritingFailsAsItMay B.format T.meaning depth) }
+{
+    let value: T = from.read_value(input, depth).map_err(RecodeError::Read)?;
+    to.write_value(&value, depth).map_err(RecodeError::Write)
+}

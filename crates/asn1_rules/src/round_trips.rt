@@ -1,0 +1,50 @@
+//! What was written is read back.
+ghost use Rattle.asn1_model.specs.Meaning.{IsWellTagged, own_records};
+ghost use Rattle.asn1_model.specs.Records.{highest};
+ghost use Rattle.asn1_rules.specs.RoundTrips.{FailsAs, WritesFirst};
+ghost use Rattle.std.specs.Prelude.{◌≡◌, ◌≤◌, true, MatchResult};
+
+use crate::rules::Rules;
+use asn1_dec::{Decode, DecodeError};
+use asn1_enc::{Encode, EncodeError};
+use thiserror::Error;
+
+/// Which of the two failed.
+#[derive(Clone, Copy, Debug, Drop, PartialEq, Eq, Error)]
+pub enum RoundTripError {
+    /// The value was not written.
+    #[error("not written: {0}")]
+    Writing(EncodeError),
+    /// What was written was not read.
+    #[error("not read back: {0}")]
+    Reading(DecodeError),
+}
+
+/// Writes a value and reads it back.
+///
+/// The round trip: for every codec, and every type that is well tagged, a valid value whose writing succeeds is read back
+/// equal, by the type's own equality, unless memory is short or the value's records are nested deeper than the depth of reading
+/// (`back`). Whatever the type and the value, one that was written is no higher than the depth of writing, and writing fails as
+/// it may (`written`).
+///
+/// # Errors
+/// [`RoundTripError::Writing`] with the error of writing, and [`RoundTripError::Reading`] with that of reading.
+pub fn round_trip<R: Rules, T: Encode + Decode>(
+    rules: &R,
+    value: &T,
+    write_depth: usize,
+    read_depth: usize,
+) -> Result<T, RoundTripError>
+    ensures back { IsWellTagged T.meaning → T.meaning.IsValid R.format.accepts value.now →
+        MatchResult result
+        (λ w. (T.eq w value.now ≡ true) × (highest (own_records T.meaning value.now) ≤ read_depth))
+        (FailsAs R.format (own_records T.meaning value.now) write_depth read_depth) }
+    ensures written { WritesFirst R.format (own_records T.meaning value.now) write_depth result }
+{
+    let output = rules
+        .write_value(value, write_depth)
+        .map_err(RoundTripError::Writing)?;
+    rules
+        .read_value(&output, read_depth)
+        .map_err(RoundTripError::Reading)
+}

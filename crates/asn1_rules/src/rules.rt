@@ -1,0 +1,49 @@
+//! A codec as a whole.
+ghost use Rattle.asn1_model.specs.Meaning.{IsWellTagged, own_records};
+ghost use Rattle.asn1_model.specs.Records.{Record, highest};
+ghost use Rattle.asn1_model.specs.WellFormed.{AreWellFormed};
+ghost use Rattle.asn1_rules.specs.Rules.{Format, IsLawful, ReadsWhole, RefusesWhole, WritesWhole};
+ghost use Rattle.std.specs.Prelude.{◌≡◌, List, true};
+
+use asn1_dec::{Decode, DecodeError};
+use asn1_enc::{Encode, EncodeError};
+
+/// The rules by which values become outputs and outputs are read: a codec as a whole.
+///
+/// An output carries lists of records. What `write_value` gives carries the value's own records, and of an output that carries
+/// the own records of a valid value of a well-tagged type `read_value` makes an equal value. Well-formed records that a type refuses
+/// by an error of its own, `read_value` refuses by that error.
+pub trait Rules {
+    /// What a value becomes.
+    type Output: Drop;
+
+    // What outputs are.
+    ghost format: { Format Self.Output };
+
+    /// Writes a value under its type's own tag, constraints and name, with at most this many nested scopes.
+    ///
+    /// # Errors
+    /// [`EncodeError::Depth`] only where the value's records are nested deeper than the depth, [`EncodeError::Custom`] only where the
+    /// codec rejects them, and else [`EncodeError::Memory`].
+    fn write_value<T: Encode>(&self, value: &T, depth: usize) -> Result<Self::Output, EncodeError>
+        ensures { WritesWhole format (own_records T.meaning value.now)
+            (T.meaning.IsOfType value.now) depth result };
+
+    /// Reads a value, with at most this many nested scopes.
+    ///
+    /// # Errors
+    /// Where the output carries the own records of a valid value of a well-tagged type, [`DecodeError::Depth`] only where these
+    /// are nested deeper than the depth, and else [`DecodeError::Memory`]. Where it carries well-formed records that the type refuses, the error of
+    /// the type, or one of these two in the same way. Of other outputs nothing is said.
+    fn read_value<T: Decode>(&self, output: &Self::Output, depth: usize) -> Result<T, DecodeError>
+        ensures read { (v : T) → IsWellTagged T.meaning → T.meaning.IsOfType v →
+            T.meaning.IsValid format.accepts v → format.carries output.now (own_records T.meaning v) →
+            ReadsWhole (highest (own_records T.meaning v)) depth (λ w. T.eq w v ≡ true) result }
+        ensures refuses { (rs : List Record) (error : _) →
+            T.refusals format.accepts T.meaning.tag T.meaning.constraints rs error →
+            AreWellFormed format.accepts rs → format.carries output.now rs →
+            RefusesWhole (highest rs) depth error result };
+
+    // The law of a codec.
+    ghost lawful: { IsLawful format };
+}
