@@ -9,6 +9,7 @@
 //! | [`Encode`] | a type whose values are written, by seven entry points; one of them is the type's own |
 //! | [`EncodeFields`] | a type whose components are written, each by its place: a SEQUENCE, a SET or a group of additions |
 //! | [`EncodeChoice`] | a CHOICE whose chosen alternative is written |
+//! | [`encode_explicit_optional`] | writes a field that is an option, after an explicit tag |
 //! | [`EncodeError`] | why a value was not written |
 //!
 //! The types of the lower crates and of the language are written: `()`, `bool`, the built-in integers, `Integer`,
@@ -47,8 +48,10 @@ mod defaults;
 mod encode;
 mod encoder;
 mod impls;
+mod optionals;
 mod own_constraints;
 
 pub use asn1_codec::EncodeError;
 pub use encode::{Encode, EncodeChoice, EncodeFields};
 pub use encoder::Encoder;
+pub use optionals::encode_explicit_optional;

@@ -9,7 +9,7 @@
 //! What the contracts promise:
 //!
 //! - Each type can be inside other types (`name_is_well_tagged` and the like). Tables, meaning and writer are proved to say the
-//!   same. The types are not read yet.
+//!   same. The types of [`ldap`] and [`personnel`] are read too.
 //! - A component that is its default is written as absent (`first_version_is_absent` of [`x509`], `no_children_are_absent` of
 //!   [`personnel`]), and a type with a tag of its own is under it (`bind_request_records` of [`ldap`]).
 #![tactic(auto, using(asn1_schema::proofs::Trees::tree_shapes))]

@@ -1,12 +1,12 @@
 //! `AttributeValueAssertion ::= SEQUENCE { attributeDesc AttributeDescription, assertionValue AssertionValue }` (RFC 4511, 4.1.6), of
 //! which both are an OCTET STRING.
 ghost use Rattle.std.specs.Prelude.{[], codes, ◌∷◌};
-ghost use Rattle.asn1_slots.specs.Slots.{required_slot, sequence_of_slots, slots_agree};
+ghost use Rattle.asn1_slots.specs.Slots.{required_slot, sequence_of_slots};
 ghost use Rattle.asn1_types.specs.Words.{IsWellTagged, constructed_agrees, constructed_type, untagged};
 
-use asn1_dec::{Decode, DecodeError, DecodeFields, Decoder};
+use asn1_dec::{Decode, DecodeError, Decoder};
 use asn1_enc::{Encode, EncodeError, EncodeFields, Encoder};
-use asn1_slots::{DecodeByPlace, Slotted, Tagging, filled, required};
+use asn1_slots::{DecodeByPlace, Decoded, Tagging, decode_sequence_by_place, filled, required};
 use asn1_strings::OctetString;
 use asn1_types::{
     AsnType, Constraints, ConstructedType, Field, FieldTable, Identifier, Tag, TypeTable,
@@ -22,7 +22,7 @@ pub struct AttributeValueAssertion {
     pub value: OctetString,
 }
 
-impl Slotted for AttributeValueAssertion {
+impl DecodeByPlace for AttributeValueAssertion {
     type Slots = (Option<OctetString>, Option<OctetString>);
 
     ghost layout = { required_slot (codes "attributeDesc") (λ v. v.attribute) (λ s. s.0)
@@ -39,10 +39,18 @@ impl Slotted for AttributeValueAssertion {
             value: filled(slots.1, "assertionValue")?,
         })
     }
+
+    fn decode_field<D: Decoder>(place: usize, slots: &mut Self::Slots, decoder: &mut D) -> Decoded {
+        match place {
+            0 => required(&mut slots.0, decoder, Tagging::Untagged),
+            1 => required(&mut slots.1, decoder, Tagging::Untagged),
+            _ => Ok(()),
+        }
+    }
 }
 
 impl FieldTable for AttributeValueAssertion {
-    ghost components = { sequence_of_slots ⟦<AttributeValueAssertion as Slotted>⟧.layout };
+    ghost components = { sequence_of_slots ⟦<AttributeValueAssertion as DecodeByPlace>⟧.layout };
 
     fn field_count() -> usize {
         2
@@ -110,28 +118,6 @@ impl Decode for AttributeValueAssertion {
         tag: Tag,
         _constraints: &Constraints<'_>,
     ) -> Result<AttributeValueAssertion, DecodeError> {
-        decoder.decode_sequence(tag)
+        decode_sequence_by_place(decoder, tag)
     }
-}
-
-impl DecodeFields for AttributeValueAssertion {
-    fn decode_fields<D: Decoder>(decoder: &mut D) -> Result<AttributeValueAssertion, DecodeError> {
-        AttributeValueAssertion::decode_by_place(decoder)
-    }
-}
-
-impl DecodeByPlace for AttributeValueAssertion {
-    fn decode_field<D: Decoder>(
-        place: usize,
-        slots: &mut Self::Slots,
-        decoder: &mut D,
-    ) -> Result<(), DecodeError> {
-        match place {
-            0 => required(&mut slots.0, decoder, Tagging::Untagged),
-            1 => required(&mut slots.1, decoder, Tagging::Untagged),
-            _ => Ok(()),
-        }
-    }
-
-    ghost agrees = { slots_agree ⟦<AttributeValueAssertion as FieldTable>⟧.components };
 }

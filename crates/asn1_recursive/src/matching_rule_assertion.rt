@@ -9,12 +9,15 @@
 //! }
 //! ```
 ghost use Rattle.std.specs.Prelude.{[], codes, false, ◌∷◌};
-ghost use Rattle.asn1_slots.specs.Slots.{default_slot, optional_slot, required_slot, sequence_of_slots, slots_agree};
+ghost use Rattle.asn1_slots.specs.Slots.{default_slot, optional_slot, required_slot, sequence_of_slots};
 ghost use Rattle.asn1_types.specs.Words.{IsWellTagged, constructed_agrees, constructed_type, context, tagged};
 
-use asn1_dec::{Decode, DecodeError, DecodeFields, Decoder};
+use asn1_dec::{Decode, DecodeError, Decoder};
 use asn1_enc::{Encode, EncodeError, EncodeFields, Encoder};
-use asn1_slots::{DecodeByPlace, Slotted, Tagging, filled, optional, or_default, required};
+use asn1_slots::{
+    DecodeByPlace, Decoded, Tagging, decode_sequence_by_place, filled, optional, or_default,
+    required,
+};
 use asn1_strings::OctetString;
 use asn1_types::{
     AsnType, Class, Constraints, ConstructedType, Field, FieldTable, Identifier, Tag, TypeTable,
@@ -54,7 +57,7 @@ const DN_ATTRIBUTES: Tag = Tag {
     value: 4,
 };
 
-impl Slotted for MatchingRuleAssertion {
+impl DecodeByPlace for MatchingRuleAssertion {
     type Slots = (
         Option<OctetString>,
         Option<OctetString>,
@@ -82,10 +85,20 @@ impl Slotted for MatchingRuleAssertion {
             dn_attributes: or_default(slots.3, false),
         })
     }
+
+    fn decode_field<D: Decoder>(place: usize, slots: &mut Self::Slots, decoder: &mut D) -> Decoded {
+        match place {
+            0 => optional(&mut slots.0, decoder, Tagging::Tagged(MATCHING_RULE)),
+            1 => optional(&mut slots.1, decoder, Tagging::Tagged(ATTRIBUTE)),
+            2 => required(&mut slots.2, decoder, Tagging::Tagged(VALUE)),
+            3 => optional(&mut slots.3, decoder, Tagging::Tagged(DN_ATTRIBUTES)),
+            _ => Ok(()),
+        }
+    }
 }
 
 impl FieldTable for MatchingRuleAssertion {
-    ghost components = { sequence_of_slots ⟦<MatchingRuleAssertion as Slotted>⟧.layout };
+    ghost components = { sequence_of_slots ⟦<MatchingRuleAssertion as DecodeByPlace>⟧.layout };
 
     fn field_count() -> usize {
         4
@@ -166,30 +179,6 @@ impl Decode for MatchingRuleAssertion {
         tag: Tag,
         _constraints: &Constraints<'_>,
     ) -> Result<MatchingRuleAssertion, DecodeError> {
-        decoder.decode_sequence(tag)
+        decode_sequence_by_place(decoder, tag)
     }
-}
-
-impl DecodeFields for MatchingRuleAssertion {
-    fn decode_fields<D: Decoder>(decoder: &mut D) -> Result<MatchingRuleAssertion, DecodeError> {
-        MatchingRuleAssertion::decode_by_place(decoder)
-    }
-}
-
-impl DecodeByPlace for MatchingRuleAssertion {
-    fn decode_field<D: Decoder>(
-        place: usize,
-        slots: &mut Self::Slots,
-        decoder: &mut D,
-    ) -> Result<(), DecodeError> {
-        match place {
-            0 => optional(&mut slots.0, decoder, Tagging::Tagged(MATCHING_RULE)),
-            1 => optional(&mut slots.1, decoder, Tagging::Tagged(ATTRIBUTE)),
-            2 => required(&mut slots.2, decoder, Tagging::Tagged(VALUE)),
-            3 => optional(&mut slots.3, decoder, Tagging::Tagged(DN_ATTRIBUTES)),
-            _ => Ok(()),
-        }
-    }
-
-    ghost agrees = { slots_agree ⟦<MatchingRuleAssertion as FieldTable>⟧.components };
 }

@@ -1,12 +1,12 @@
 //! `CHOICE { initial [0] AssertionValue, any [1] AssertionValue, final [2] AssertionValue }` (RFC 4511, 4.5.1)
 ghost use Rattle.std.specs.Prelude.{[], codes, refl, ◌∷◌};
-ghost use Rattle.asn1_slots.specs.Cases.{cases_agree, choice_of_cases, variant};
+ghost use Rattle.asn1_slots.specs.Cases.{choice_of_cases, variant};
 ghost use Rattle.asn1_types.specs.Words.{IsWellTagged, choice_agrees, choice_of, context, inl, inr, tagged};
 ghost use Rattle.asn1_recursive.specs.declared.substring.Substring.TheVariants.{Initial, Any, Final};
 
 use asn1_dec::{Decode, DecodeChoice, DecodeError, Decoder};
 use asn1_enc::{Encode, EncodeChoice, EncodeError, Encoder};
-use asn1_slots::{DecodeChoiceByPlace, HasCases, Tagging, alternative};
+use asn1_slots::{DecodeChoiceByPlace, Tagging, alternative, from_tag_by_place};
 use asn1_strings::OctetString;
 use asn1_types::{
     AsnType, Choice, ChoiceType, Class, Constraints, Identifier, Tag, TagTree, TypeTable,
@@ -45,18 +45,29 @@ const SUBSTRING: &[TagTree<'static>] = &[
     TagTree::Leaf(FINAL),
 ];
 
-impl HasCases for Substring {
+impl DecodeChoiceByPlace for Substring {
     ghost cases = { variant (codes "initial") Initial (tagged (context 0) ⟦<OctetString as AsnType>⟧.meaning) ⟦<OctetString as PartialEq>⟧.eq ∷
         variant (codes "any") Any (tagged (context 1) ⟦<OctetString as AsnType>⟧.meaning) ⟦<OctetString as PartialEq>⟧.eq ∷
         variant (codes "final") Final (tagged (context 2) ⟦<OctetString as AsnType>⟧.meaning) ⟦<OctetString as PartialEq>⟧.eq ∷ [] };
 
     ghost case_of = { elim [ Initial part ↦ inl part | Any part ↦ inr (inl part) | Final part ↦ inr (inr (inl part)) ] };
+
+    fn decode_alternative<D: Decoder>(place: usize, decoder: &mut D) -> Result<Self, DecodeError> {
+        match place {
+            0 => Ok(Substring::Initial(alternative(decoder, Tagging::Tagged(INITIAL))?)),
+            1 => Ok(Substring::Any(alternative(decoder, Tagging::Tagged(ANY))?)),
+            2 => Ok(Substring::Final(alternative(decoder, Tagging::Tagged(FINAL))?)),
+            _ => Err(DecodeError::NoValidChoice("substring")),
+        }
+    }
+
+    ghost made = { elim [ Initial part ↦ (refl, λ _. refl) | Any part ↦ (refl, λ _. refl) | Final part ↦ (refl, λ _. refl) ] };
 }
 
 impl Choice for Substring {
-    ghost alternatives = { choice_of_cases ⟦<Substring as HasCases>⟧.cases };
+    ghost alternatives = { choice_of_cases ⟦<Substring as DecodeChoiceByPlace>⟧.cases };
 
-    ghost pick = { ⟦<Substring as HasCases>⟧.case_of };
+    ghost pick = { ⟦<Substring as DecodeChoiceByPlace>⟧.case_of };
 
     fn variants() -> &'static [TagTree<'static>] {
         SUBSTRING
@@ -134,24 +145,6 @@ impl Decode for Substring {
 
 impl DecodeChoice for Substring {
     fn from_tag<D: Decoder>(decoder: &mut D, tag: Tag) -> Result<Substring, DecodeError> {
-        Substring::from_tag_by_place(decoder, tag)
+        from_tag_by_place(decoder, tag)
     }
-}
-
-impl DecodeChoiceByPlace for Substring {
-    fn decode_alternative<D: Decoder>(
-        place: usize,
-        decoder: &mut D,
-    ) -> Result<Substring, DecodeError> {
-        match place {
-            0 => Ok(Substring::Initial(alternative(decoder, Tagging::Tagged(INITIAL))?)),
-            1 => Ok(Substring::Any(alternative(decoder, Tagging::Tagged(ANY))?)),
-            2 => Ok(Substring::Final(alternative(decoder, Tagging::Tagged(FINAL))?)),
-            _ => Err(DecodeError::NoValidChoice("substring")),
-        }
-    }
-
-    ghost agrees = { λ part. cases_agree ⟦<Substring as HasCases>⟧.cases (⟦<Substring as HasCases>⟧.case_of part) };
-
-    ghost made = { elim [ Initial part ↦ (refl, λ _. refl) | Any part ↦ (refl, λ _. refl) | Final part ↦ (refl, λ _. refl) ] };
 }

@@ -1,13 +1,13 @@
 //! `SubstringFilter ::= SEQUENCE { type AttributeDescription, substrings SEQUENCE SIZE (1..MAX) OF substring CHOICE { .. } }` (RFC
 //! 4511, 4.5.1)
 ghost use Rattle.std.specs.Prelude.{[], codes, ◌∷◌};
-ghost use Rattle.asn1_slots.specs.Slots.{required_slot, sequence_of_slots, slots_agree};
+ghost use Rattle.asn1_slots.specs.Slots.{required_slot, sequence_of_slots};
 ghost use Rattle.asn1_types.specs.Words.{IsWellTagged, constructed_agrees, constructed_type, untagged};
 
 use crate::substring::Substring;
-use asn1_dec::{Decode, DecodeError, DecodeFields, Decoder};
+use asn1_dec::{Decode, DecodeError, Decoder};
 use asn1_enc::{Encode, EncodeError, EncodeFields, Encoder};
-use asn1_slots::{DecodeByPlace, Slotted, Tagging, filled, required};
+use asn1_slots::{DecodeByPlace, Decoded, Tagging, decode_sequence_by_place, filled, required};
 use asn1_strings::OctetString;
 use asn1_types::{
     AsnType, Constraints, ConstructedType, Field, FieldTable, Identifier, Tag, TypeTable,
@@ -26,7 +26,7 @@ pub struct SubstringFilter {
     pub substrings: Substrings,
 }
 
-impl Slotted for SubstringFilter {
+impl DecodeByPlace for SubstringFilter {
     type Slots = (Option<OctetString>, Option<Substrings>);
 
     ghost layout = { required_slot (codes "type") (λ v. v.attribute) (λ s. s.0)
@@ -40,10 +40,18 @@ impl Slotted for SubstringFilter {
             substrings: filled(slots.1, "substrings")?,
         })
     }
+
+    fn decode_field<D: Decoder>(place: usize, slots: &mut Self::Slots, decoder: &mut D) -> Decoded {
+        match place {
+            0 => required(&mut slots.0, decoder, Tagging::Untagged),
+            1 => required(&mut slots.1, decoder, Tagging::Untagged),
+            _ => Ok(()),
+        }
+    }
 }
 
 impl FieldTable for SubstringFilter {
-    ghost components = { sequence_of_slots ⟦<SubstringFilter as Slotted>⟧.layout };
+    ghost components = { sequence_of_slots ⟦<SubstringFilter as DecodeByPlace>⟧.layout };
 
     fn field_count() -> usize {
         2
@@ -111,28 +119,6 @@ impl Decode for SubstringFilter {
         tag: Tag,
         _constraints: &Constraints<'_>,
     ) -> Result<SubstringFilter, DecodeError> {
-        decoder.decode_sequence(tag)
+        decode_sequence_by_place(decoder, tag)
     }
-}
-
-impl DecodeFields for SubstringFilter {
-    fn decode_fields<D: Decoder>(decoder: &mut D) -> Result<SubstringFilter, DecodeError> {
-        SubstringFilter::decode_by_place(decoder)
-    }
-}
-
-impl DecodeByPlace for SubstringFilter {
-    fn decode_field<D: Decoder>(
-        place: usize,
-        slots: &mut Self::Slots,
-        decoder: &mut D,
-    ) -> Result<(), DecodeError> {
-        match place {
-            0 => required(&mut slots.0, decoder, Tagging::Untagged),
-            1 => required(&mut slots.1, decoder, Tagging::Untagged),
-            _ => Ok(()),
-        }
-    }
-
-    ghost agrees = { slots_agree ⟦<SubstringFilter as FieldTable>⟧.components };
 }

@@ -1,13 +1,14 @@
 //! `[[ phone [3] NumericString OPTIONAL, mail [4] IA5String OPTIONAL ]]`: the group of additions of a `Profile`.
 ghost use Rattle.std.specs.Prelude.{[], ◌∷◌, codes};
-ghost use Rattle.asn1_slots.specs.Slots.{optional_slot, sequence_of_slots, slots_agree};
+ghost use Rattle.asn1_slots.specs.Slots.{optional_slot, sequence_of_slots};
 ghost use Rattle.asn1_types.specs.Words.{context, tagged, sequence};
 
 use asn1_dec::{DecodeError, DecodeFields, Decoder};
 use asn1_enc::{Encode, EncodeError, EncodeFields, Encoder};
-use asn1_slots::{DecodeByPlace, Slotted, Tagging, optional};
+use asn1_slots::{DecodeByPlace, Decoded, Tagging, decode_fields_by_place, optional};
 use asn1_strings::{Ia5String, NumericString};
-use asn1_types::{AsnType, Class, Field, FieldTable, Tag, TagTree};
+use asn1_tags::tag;
+use asn1_types::{AsnType, Field, FieldTable, Tag, TagTree};
 use std::alloc::Global;
 
 /// How to reach someone: a group of additions, which has no tag of its own.
@@ -19,26 +20,17 @@ pub struct Contact {
     pub mail: Option<Ia5String>,
 }
 
-const PHONE: Tag = Tag {
-    class: Class::Context,
-    value: 3,
-};
-
-const MAIL: Tag = Tag {
-    class: Class::Context,
-    value: 4,
-};
-
 /// The trees of the components, which are those of the group.
-pub(crate) const CONTACT: &[TagTree<'static>] = &[TagTree::Leaf(PHONE), TagTree::Leaf(MAIL)];
+pub(crate) const CONTACT: &[TagTree<'static>] = &[
+    TagTree::Leaf(tag!(context 3)),
+    TagTree::Leaf(tag!(context 4)),
+];
 
-impl Slotted for Contact {
+impl DecodeByPlace for Contact {
     type Slots = (Option<NumericString>, Option<Ia5String>);
 
-    ghost layout = { optional_slot (codes "phone") (λ c. c.phone) (λ s. s.0)
-        (tagged (context 3) ⟦<NumericString as AsnType>⟧.meaning) ⟦<NumericString as PartialEq>⟧.eq ∷
-        optional_slot (codes "mail") (λ c. c.mail) (λ s. s.1)
-        (tagged (context 4) ⟦<Ia5String as AsnType>⟧.meaning) ⟦<Ia5String as PartialEq>⟧.eq ∷ [] };
+    ghost layout = { optional_slot (codes "phone") (λ c. c.phone) (λ s. s.0) (tagged (context 3) ⟦<NumericString as AsnType>⟧.meaning) ⟦<NumericString as PartialEq>⟧.eq ∷
+        optional_slot (codes "mail") (λ c. c.mail) (λ s. s.1) (tagged (context 4) ⟦<Ia5String as AsnType>⟧.meaning) ⟦<Ia5String as PartialEq>⟧.eq ∷ [] };
 
     fn from_slots(_alloc: Global, slots: Self::Slots) -> Result<Contact, DecodeError> {
         Ok(Contact {
@@ -46,10 +38,18 @@ impl Slotted for Contact {
             mail: slots.1,
         })
     }
+
+    fn decode_field<D: Decoder>(place: usize, slots: &mut Self::Slots, decoder: &mut D) -> Decoded {
+        match place {
+            0 => optional(&mut slots.0, decoder, Tagging::Tagged(tag!(context 3))),
+            1 => optional(&mut slots.1, decoder, Tagging::Tagged(tag!(context 4))),
+            _ => Ok(()),
+        }
+    }
 }
 
 impl FieldTable for Contact {
-    ghost components = { sequence_of_slots ⟦<Contact as Slotted>⟧.layout };
+    ghost components = { sequence_of_slots ⟦<Contact as DecodeByPlace>⟧.layout };
 
     fn field_count() -> usize {
         2
@@ -57,8 +57,12 @@ impl FieldTable for Contact {
 
     fn field_at(place: usize) -> Option<Field<'static>> {
         match place {
-            0 => Some(Field::new_optional_type_with_tag::<NumericString>(0, PHONE, "phone")),
-            1 => Some(Field::new_optional_type_with_tag::<Ia5String>(1, MAIL, "mail")),
+            0 => Some(Field::new_optional_type_with_tag::<NumericString>(
+                0,
+                tag!(context 3),
+                "phone",
+            )),
+            1 => Some(Field::new_optional_type_with_tag::<Ia5String>(1, tag!(context 4), "mail")),
             _ => None,
         }
     }
@@ -71,8 +75,8 @@ impl FieldTable for Contact {
 impl EncodeFields for Contact {
     fn encode_field<E: Encoder>(&self, place: usize, encoder: &mut E) -> Result<(), EncodeError> {
         match place {
-            0 => self.phone.encode_with_tag(encoder, PHONE),
-            1 => self.mail.encode_with_tag(encoder, MAIL),
+            0 => self.phone.encode_with_tag(encoder, tag!(context 3)),
+            1 => self.mail.encode_with_tag(encoder, tag!(context 4)),
             _ => Ok(()),
         }
     }
@@ -80,22 +84,6 @@ impl EncodeFields for Contact {
 
 impl DecodeFields for Contact {
     fn decode_fields<D: Decoder>(decoder: &mut D) -> Result<Contact, DecodeError> {
-        Contact::decode_by_place(decoder)
+        decode_fields_by_place(decoder)
     }
-}
-
-impl DecodeByPlace for Contact {
-    fn decode_field<D: Decoder>(
-        place: usize,
-        slots: &mut Self::Slots,
-        decoder: &mut D,
-    ) -> Result<(), DecodeError> {
-        match place {
-            0 => optional(&mut slots.0, decoder, Tagging::Tagged(PHONE)),
-            1 => optional(&mut slots.1, decoder, Tagging::Tagged(MAIL)),
-            _ => Ok(()),
-        }
-    }
-
-    ghost agrees = { slots_agree ⟦<Contact as FieldTable>⟧.components };
 }

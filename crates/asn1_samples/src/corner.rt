@@ -1,12 +1,12 @@
 //! `Corner ::= CHOICE { left BOOLEAN, right OCTET STRING }`
 ghost use Rattle.std.specs.Prelude.{◌≡◌, [], ◌∷◌, Some, true, codes, refl};
-ghost use Rattle.asn1_slots.specs.Cases.{cases_agree, choice_of_cases, variant};
+ghost use Rattle.asn1_slots.specs.Cases.{choice_of_cases, variant};
 ghost use Rattle.asn1_types.specs.Words.{table_of, universal, untagged, inl, inr, choice_of, choice_agrees, IsWellTagged, own_records, holding, alternative_head, scalar, boolean, unconstrained};
 ghost use Rattle.asn1_samples.specs.declared.corner.Corner.TheVariants.{Left, Right};
 
 use asn1_dec::{Decode, DecodeChoice, DecodeError, Decoder};
 use asn1_enc::{Encode, EncodeChoice, EncodeError, Encoder};
-use asn1_slots::{DecodeChoiceByPlace, HasCases, Tagging, alternative};
+use asn1_slots::{DecodeChoiceByPlace, Tagging, alternative, from_tag_by_place};
 use asn1_strings::OctetString;
 use asn1_types::{AsnType, Choice, ChoiceType, Constraints, Identifier, Tag, TagTree, TypeTable};
 
@@ -25,17 +25,27 @@ pub(crate) const CORNER: &[TagTree<'static>] = &[
     TagTree::Leaf(Tag::OCTET_STRING),
 ];
 
-impl HasCases for Corner {
+impl DecodeChoiceByPlace for Corner {
     ghost cases = { variant (codes "left") Left (untagged ⟦<bool as AsnType>⟧.meaning) ⟦<bool as PartialEq>⟧.eq ∷
         variant (codes "right") Right (untagged ⟦<OctetString as AsnType>⟧.meaning) ⟦<OctetString as PartialEq>⟧.eq ∷ [] };
 
     ghost case_of = { elim [ Left flag ↦ inl flag | Right octets ↦ inr (inl octets) ] };
+
+    fn decode_alternative<D: Decoder>(place: usize, decoder: &mut D) -> Result<Self, DecodeError> {
+        match place {
+            0 => Ok(Corner::Left(alternative(decoder, Tagging::Untagged)?)),
+            1 => Ok(Corner::Right(alternative(decoder, Tagging::Untagged)?)),
+            _ => Err(DecodeError::NoValidChoice("Corner")),
+        }
+    }
+
+    ghost made = { elim [ Left flag ↦ (refl, λ _. refl) | Right octets ↦ (refl, λ _. refl) ] };
 }
 
 impl Choice for Corner {
-    ghost alternatives = { choice_of_cases ⟦<Corner as HasCases>⟧.cases };
+    ghost alternatives = { choice_of_cases ⟦<Corner as DecodeChoiceByPlace>⟧.cases };
 
-    ghost pick = { ⟦<Corner as HasCases>⟧.case_of };
+    ghost pick = { ⟦<Corner as DecodeChoiceByPlace>⟧.case_of };
 
     fn variants() -> &'static [TagTree<'static>] {
         CORNER
@@ -111,22 +121,8 @@ impl Decode for Corner {
 
 impl DecodeChoice for Corner {
     fn from_tag<D: Decoder>(decoder: &mut D, tag: Tag) -> Result<Corner, DecodeError> {
-        Corner::from_tag_by_place(decoder, tag)
+        from_tag_by_place(decoder, tag)
     }
-}
-
-impl DecodeChoiceByPlace for Corner {
-    fn decode_alternative<D: Decoder>(place: usize, decoder: &mut D) -> Result<Self, DecodeError> {
-        match place {
-            0 => Ok(Corner::Left(alternative(decoder, Tagging::Untagged)?)),
-            1 => Ok(Corner::Right(alternative(decoder, Tagging::Untagged)?)),
-            _ => Err(DecodeError::NoValidChoice("Corner")),
-        }
-    }
-
-    ghost agrees = { λ corner. cases_agree ⟦<Corner as HasCases>⟧.cases (⟦<Corner as HasCases>⟧.case_of corner) };
-
-    ghost made = { elim [ Left flag ↦ (refl, λ _. refl) | Right octets ↦ (refl, λ _. refl) ] };
 }
 
 /// What `Corner::Left(true)` is to every codec.

@@ -4,14 +4,15 @@ ghost use Rattle.std.specs.Cmp.{nat_eq_equiv, on_equiv, on_per, partial_equiv_fr
 ghost use Rattle.std.specs.Hash as fed;
 ghost use Rattle.std.specs.Hash.{on_Alike, same_Alike};
 ghost use Rattle.std.specs.Ordering.{on};
-ghost use Rattle.asn1_slots.specs.Slots.{required_slot, sequence_of_slots, slots_agree};
+ghost use Rattle.asn1_slots.specs.Slots.{required_slot, sequence_of_slots};
 ghost use Rattle.asn1_types.specs.Words.{lines, context, universal, tagged, constructed_type, constructed_agrees, IsWellTagged, own_records, holding, sequence_head, scalar, number, values_of, Range};
 
-use asn1_dec::{Decode, DecodeError, DecodeFields, Decoder};
+use asn1_dec::{Decode, DecodeError, Decoder};
 use asn1_enc::{Encode, EncodeError, EncodeFields, Encoder};
-use asn1_slots::{DecodeByPlace, Slotted, Tagging, filled, required};
+use asn1_slots::{DecodeByPlace, Decoded, Tagging, decode_sequence_by_place, filled, required};
+use asn1_tags::tag;
 use asn1_types::{
-    AsnType, Class, Constraints, ConstructedType, Field, FieldTable, Identifier, Tag, TypeTable,
+    AsnType, Constraints, ConstructedType, Field, FieldTable, Identifier, Tag, TypeTable,
 };
 use std::alloc::Global;
 use std::hash::{Hash, Hasher};
@@ -49,23 +50,11 @@ impl Hash for Labelled {
     }
 }
 
-const KEY: Tag = Tag {
-    class: Class::Context,
-    value: 0,
-};
-
-const NOTE: Tag = Tag {
-    class: Class::Context,
-    value: 1,
-};
-
-impl Slotted for Labelled {
+impl DecodeByPlace for Labelled {
     type Slots = (Option<u8>, Option<u8>);
 
-    ghost layout = { required_slot (codes "key") (λ l. l.key) (λ s. s.0)
-        (tagged (context 0) ⟦<u8 as AsnType>⟧.meaning) ⟦<u8 as PartialEq>⟧.eq ∷
-        required_slot (codes "note") (λ l. l.note) (λ s. s.1)
-        (tagged (context 1) ⟦<u8 as AsnType>⟧.meaning) ⟦<u8 as PartialEq>⟧.eq ∷ [] };
+    ghost layout = { required_slot (codes "key") (λ l. l.key) (λ s. s.0) (tagged (context 0) ⟦<u8 as AsnType>⟧.meaning) ⟦<u8 as PartialEq>⟧.eq ∷
+        required_slot (codes "note") (λ l. l.note) (λ s. s.1) (tagged (context 1) ⟦<u8 as AsnType>⟧.meaning) ⟦<u8 as PartialEq>⟧.eq ∷ [] };
 
     fn from_slots(_alloc: Global, slots: Self::Slots) -> Result<Labelled, DecodeError> {
         Ok(Labelled {
@@ -73,10 +62,18 @@ impl Slotted for Labelled {
             note: filled(slots.1, "note")?,
         })
     }
+
+    fn decode_field<D: Decoder>(place: usize, slots: &mut Self::Slots, decoder: &mut D) -> Decoded {
+        match place {
+            0 => required(&mut slots.0, decoder, Tagging::Tagged(tag!(context 0))),
+            1 => required(&mut slots.1, decoder, Tagging::Tagged(tag!(context 1))),
+            _ => Ok(()),
+        }
+    }
 }
 
 impl FieldTable for Labelled {
-    ghost components = { sequence_of_slots ⟦<Labelled as Slotted>⟧.layout };
+    ghost components = { sequence_of_slots ⟦<Labelled as DecodeByPlace>⟧.layout };
 
     fn field_count() -> usize {
         2
@@ -84,8 +81,8 @@ impl FieldTable for Labelled {
 
     fn field_at(place: usize) -> Option<Field<'static>> {
         match place {
-            0 => Some(Field::new_required_type_with_tag::<u8>(0, KEY, "key")),
-            1 => Some(Field::new_required_type_with_tag::<u8>(1, NOTE, "note")),
+            0 => Some(Field::new_required_type_with_tag::<u8>(0, tag!(context 0), "key")),
+            1 => Some(Field::new_required_type_with_tag::<u8>(1, tag!(context 1), "note")),
             _ => None,
         }
     }
@@ -131,8 +128,8 @@ impl Encode for Labelled {
 impl EncodeFields for Labelled {
     fn encode_field<E: Encoder>(&self, place: usize, encoder: &mut E) -> Result<(), EncodeError> {
         match place {
-            0 => self.key.encode_with_tag(encoder, KEY),
-            1 => self.note.encode_with_tag(encoder, NOTE),
+            0 => self.key.encode_with_tag(encoder, tag!(context 0)),
+            1 => self.note.encode_with_tag(encoder, tag!(context 1)),
             _ => Ok(()),
         }
     }
@@ -144,30 +141,8 @@ impl Decode for Labelled {
         tag: Tag,
         _constraints: &Constraints<'_>,
     ) -> Result<Labelled, DecodeError> {
-        decoder.decode_sequence(tag)
+        decode_sequence_by_place(decoder, tag)
     }
-}
-
-impl DecodeFields for Labelled {
-    fn decode_fields<D: Decoder>(decoder: &mut D) -> Result<Labelled, DecodeError> {
-        Labelled::decode_by_place(decoder)
-    }
-}
-
-impl DecodeByPlace for Labelled {
-    fn decode_field<D: Decoder>(
-        place: usize,
-        slots: &mut Self::Slots,
-        decoder: &mut D,
-    ) -> Result<(), DecodeError> {
-        match place {
-            0 => required(&mut slots.0, decoder, Tagging::Tagged(KEY)),
-            1 => required(&mut slots.1, decoder, Tagging::Tagged(NOTE)),
-            _ => Ok(()),
-        }
-    }
-
-    ghost agrees = { slots_agree ⟦<Labelled as FieldTable>⟧.components };
 }
 
 /// What `Labelled { key: 1, note: 9 }` is to every codec: the note is written too.

@@ -1,15 +1,18 @@
 //! `Notice ::= SEQUENCE { id [0] INTEGER (0..255), urgent [1] EXPLICIT BOOLEAN OPTIONAL, text [2] UTF8String }`
 ghost use Rattle.std.specs.Prelude.{◌≡◌, [], ◌∷◌, None, Some, true, pos, codes};
 ghost use Rattle.std.specs.String.{string_bytes};
-ghost use Rattle.asn1_slots.specs.Slots.{optional_slot, required_slot, sequence_of_slots, slots_agree};
+ghost use Rattle.asn1_slots.specs.Slots.{optional_slot, required_slot, sequence_of_slots};
 ghost use Rattle.asn1_types.specs.Words.{lines, in_root, context, universal, tagged, explicitly_tagged, constructed_type, constructed_agrees, IsWellTagged, own_records, holding, sequence_head, explicit_tag, scalar, presence_mark, absent, present, number, boolean, units, utf8, unconstrained, values_of, Range};
 
-use asn1_dec::{Decode, DecodeError, DecodeFields, Decoder};
-use asn1_enc::{Encode, EncodeError, EncodeFields, Encoder};
-use asn1_slots::{DecodeByPlace, Slotted, Tagging, filled, optional, required};
+use asn1_dec::{Decode, DecodeError, Decoder};
+use asn1_enc::{Encode, EncodeError, EncodeFields, Encoder, encode_explicit_optional};
+use asn1_slots::{
+    DecodeByPlace, Decoded, Tagging, decode_sequence_by_place, filled, optional, required,
+};
 use asn1_strings::Utf8String;
+use asn1_tags::tag;
 use asn1_types::{
-    AsnType, Class, Constraints, ConstructedType, Field, FieldTable, Identifier, Tag, TypeTable,
+    AsnType, Constraints, ConstructedType, Field, FieldTable, Identifier, Tag, TypeTable,
 };
 use std::alloc::Global;
 
@@ -24,30 +27,12 @@ pub struct Notice {
     pub text: Utf8String,
 }
 
-const ID: Tag = Tag {
-    class: Class::Context,
-    value: 0,
-};
-
-const URGENT: Tag = Tag {
-    class: Class::Context,
-    value: 1,
-};
-
-const TEXT: Tag = Tag {
-    class: Class::Context,
-    value: 2,
-};
-
-impl Slotted for Notice {
+impl DecodeByPlace for Notice {
     type Slots = (Option<u8>, Option<bool>, Option<Utf8String>);
 
-    ghost layout = { required_slot (codes "id") (λ n. n.id) (λ s. s.0)
-        (tagged (context 0) ⟦<u8 as AsnType>⟧.meaning) ⟦<u8 as PartialEq>⟧.eq ∷
-        optional_slot (codes "urgent") (λ n. n.urgent) (λ s. s.1)
-        (explicitly_tagged (context 1) ⟦<bool as AsnType>⟧.meaning) ⟦<bool as PartialEq>⟧.eq ∷
-        required_slot (codes "text") (λ n. n.text) (λ s. s.2)
-        (tagged (context 2) ⟦<Utf8String as AsnType>⟧.meaning) ⟦<Utf8String as PartialEq>⟧.eq ∷ [] };
+    ghost layout = { required_slot (codes "id") (λ n. n.id) (λ s. s.0) (tagged (context 0) ⟦<u8 as AsnType>⟧.meaning) ⟦<u8 as PartialEq>⟧.eq ∷
+        optional_slot (codes "urgent") (λ n. n.urgent) (λ s. s.1) (explicitly_tagged (context 1) ⟦<bool as AsnType>⟧.meaning) ⟦<bool as PartialEq>⟧.eq ∷
+        required_slot (codes "text") (λ n. n.text) (λ s. s.2) (tagged (context 2) ⟦<Utf8String as AsnType>⟧.meaning) ⟦<Utf8String as PartialEq>⟧.eq ∷ [] };
 
     fn from_slots(_alloc: Global, slots: Self::Slots) -> Result<Notice, DecodeError> {
         Ok(Notice {
@@ -56,10 +41,19 @@ impl Slotted for Notice {
             text: filled(slots.2, "text")?,
         })
     }
+
+    fn decode_field<D: Decoder>(place: usize, slots: &mut Self::Slots, decoder: &mut D) -> Decoded {
+        match place {
+            0 => required(&mut slots.0, decoder, Tagging::Tagged(tag!(context 0))),
+            1 => optional(&mut slots.1, decoder, Tagging::Explicit(tag!(context 1))),
+            2 => required(&mut slots.2, decoder, Tagging::Tagged(tag!(context 2))),
+            _ => Ok(()),
+        }
+    }
 }
 
 impl FieldTable for Notice {
-    ghost components = { sequence_of_slots ⟦<Notice as Slotted>⟧.layout };
+    ghost components = { sequence_of_slots ⟦<Notice as DecodeByPlace>⟧.layout };
 
     fn field_count() -> usize {
         3
@@ -67,9 +61,9 @@ impl FieldTable for Notice {
 
     fn field_at(place: usize) -> Option<Field<'static>> {
         match place {
-            0 => Some(Field::new_required_type_with_tag::<u8>(0, ID, "id")),
-            1 => Some(Field::new_optional_explicit(1, URGENT, "urgent")),
-            2 => Some(Field::new_required_type_with_tag::<Utf8String>(2, TEXT, "text")),
+            0 => Some(Field::new_required_type_with_tag::<u8>(0, tag!(context 0), "id")),
+            1 => Some(Field::new_optional_explicit(1, tag!(context 1), "urgent")),
+            2 => Some(Field::new_required_type_with_tag::<Utf8String>(2, tag!(context 2), "text")),
             _ => None,
         }
     }
@@ -115,14 +109,9 @@ impl Encode for Notice {
 impl EncodeFields for Notice {
     fn encode_field<E: Encoder>(&self, place: usize, encoder: &mut E) -> Result<(), EncodeError> {
         match place {
-            0 => self.id.encode_with_tag(encoder, ID),
-            1 => match &self.urgent {
-                None => encoder.encode_none_with_tag(URGENT, bool::identifier()),
-                Some(urgent) => {
-                    encoder.encode_some_with_explicit_prefix(URGENT, urgent, bool::identifier())
-                }
-            },
-            2 => self.text.encode_with_tag(encoder, TEXT),
+            0 => self.id.encode_with_tag(encoder, tag!(context 0)),
+            1 => encode_explicit_optional(encoder, tag!(context 1), &self.urgent),
+            2 => self.text.encode_with_tag(encoder, tag!(context 2)),
             _ => Ok(()),
         }
     }
@@ -134,31 +123,8 @@ impl Decode for Notice {
         tag: Tag,
         _constraints: &Constraints<'_>,
     ) -> Result<Notice, DecodeError> {
-        decoder.decode_sequence(tag)
+        decode_sequence_by_place(decoder, tag)
     }
-}
-
-impl DecodeFields for Notice {
-    fn decode_fields<D: Decoder>(decoder: &mut D) -> Result<Notice, DecodeError> {
-        Notice::decode_by_place(decoder)
-    }
-}
-
-impl DecodeByPlace for Notice {
-    fn decode_field<D: Decoder>(
-        place: usize,
-        slots: &mut Self::Slots,
-        decoder: &mut D,
-    ) -> Result<(), DecodeError> {
-        match place {
-            0 => required(&mut slots.0, decoder, Tagging::Tagged(ID)),
-            1 => optional(&mut slots.1, decoder, Tagging::Explicit(URGENT)),
-            2 => required(&mut slots.2, decoder, Tagging::Tagged(TEXT)),
-            _ => Ok(()),
-        }
-    }
-
-    ghost agrees = { slots_agree ⟦<Notice as FieldTable>⟧.components };
 }
 
 /// What a notice is to every codec: `Notice { id: 7, urgent: Some(true), text: "Come" }` (`urgent`), and the same without

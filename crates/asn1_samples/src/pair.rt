@@ -1,13 +1,16 @@
 //! `Pair{T, U} ::= SEQUENCE { first T, second [0] U OPTIONAL }`
 ghost use Rattle.std.specs.Prelude.{◌≡◌, ◌↔◌, ℕ, Bool, List, [], ◌∷◌, None, Some, IfSome, true, pos, codes};
-ghost use Rattle.asn1_slots.specs.Slots.{optional_slot, required_slot, slots_agree};
+ghost use Rattle.asn1_slots.specs.Slots.{optional_slot, required_slot};
 ghost use Rattle.asn1_types.specs.Words.{lines, in_root, context, universal, tagged, untagged, required, optional, sequence, constructed_type, constructed_agrees, IsWellTagged, IsWellTaggedUnder, own_records, holding, sequence_head, scalar, presence_mark, absent, present, number, boolean, unconstrained, values_of, Range};
 
-use asn1_dec::{Decode, DecodeError, DecodeFields, Decoder};
+use asn1_dec::{Decode, DecodeError, Decoder};
 use asn1_enc::{Encode, EncodeError, EncodeFields, Encoder};
-use asn1_slots::{DecodeByPlace, Slotted, Tagging, filled, optional, required};
+use asn1_slots::{
+    DecodeByPlace, Decoded, Tagging, decode_sequence_by_place, filled, optional, required,
+};
+use asn1_tags::tag;
 use asn1_types::{
-    AsnType, Class, Constraints, ConstructedType, Field, FieldTable, Identifier, Tag, TypeTable,
+    AsnType, Constraints, ConstructedType, Field, FieldTable, Identifier, Tag, TypeTable,
 };
 use std::alloc::Global;
 
@@ -20,24 +23,25 @@ pub struct Pair<T, U> {
     pub second: Option<U>,
 }
 
-const SECOND: Tag = Tag {
-    class: Class::Context,
-    value: 0,
-};
-
-impl<T: Decode, U: Decode> Slotted for Pair<T, U> {
+impl<T: Decode, U: Decode> DecodeByPlace for Pair<T, U> {
     type Slots = (Option<T>, Option<U>);
 
-    ghost layout = { required_slot (codes "first") (λ p. p.first) (λ s. s.0)
-        (untagged T.meaning) T.eq ∷
-        optional_slot (codes "second") (λ p. p.second) (λ s. s.1)
-        (tagged (context 0) U.meaning) U.eq ∷ [] };
+    ghost layout = { required_slot (codes "first") (λ p. p.first) (λ s. s.0) (untagged T.meaning) T.eq ∷
+        optional_slot (codes "second") (λ p. p.second) (λ s. s.1) (tagged (context 0) U.meaning) U.eq ∷ [] };
 
     fn from_slots(_alloc: Global, slots: Self::Slots) -> Result<Pair<T, U>, DecodeError> {
         Ok(Pair {
             first: filled(slots.0, "first")?,
             second: slots.1,
         })
+    }
+
+    fn decode_field<D: Decoder>(place: usize, slots: &mut Self::Slots, decoder: &mut D) -> Decoded {
+        match place {
+            0 => required(&mut slots.0, decoder, Tagging::Untagged),
+            1 => optional(&mut slots.1, decoder, Tagging::Tagged(tag!(context 0))),
+            _ => Ok(()),
+        }
     }
 }
 
@@ -53,7 +57,7 @@ impl<T: AsnType, U: AsnType> FieldTable for Pair<T, U> {
     fn field_at(place: usize) -> Option<Field<'static>> {
         match place {
             0 => Some(Field::new_required_type::<T>(0, "first")),
-            1 => Some(Field::new_optional_type_with_tag::<U>(1, SECOND, "second")),
+            1 => Some(Field::new_optional_type_with_tag::<U>(1, tag!(context 0), "second")),
             _ => None,
         }
     }
@@ -108,7 +112,7 @@ impl<T: Encode, U: Encode> EncodeFields for Pair<T, U> {
     fn encode_field<E: Encoder>(&self, place: usize, encoder: &mut E) -> Result<(), EncodeError> {
         match place {
             0 => self.first.encode(encoder),
-            1 => self.second.encode_with_tag(encoder, SECOND),
+            1 => self.second.encode_with_tag(encoder, tag!(context 0)),
             _ => Ok(()),
         }
     }
@@ -120,30 +124,8 @@ impl<T: Decode, U: Decode> Decode for Pair<T, U> {
         tag: Tag,
         _constraints: &Constraints<'_>,
     ) -> Result<Pair<T, U>, DecodeError> {
-        decoder.decode_sequence(tag)
+        decode_sequence_by_place(decoder, tag)
     }
-}
-
-impl<T: Decode, U: Decode> DecodeFields for Pair<T, U> {
-    fn decode_fields<D: Decoder>(decoder: &mut D) -> Result<Pair<T, U>, DecodeError> {
-        Pair::decode_by_place(decoder)
-    }
-}
-
-impl<T: Decode, U: Decode> DecodeByPlace for Pair<T, U> {
-    fn decode_field<D: Decoder>(
-        place: usize,
-        slots: &mut Self::Slots,
-        decoder: &mut D,
-    ) -> Result<(), DecodeError> {
-        match place {
-            0 => required(&mut slots.0, decoder, Tagging::Untagged),
-            1 => optional(&mut slots.1, decoder, Tagging::Tagged(SECOND)),
-            _ => Ok(()),
-        }
-    }
-
-    ghost agrees = { slots_agree ⟦<Pair<T, U> as FieldTable>⟧.components };
 }
 
 /// What a pair of a number and a truth value is to every codec: `Pair { first: 7, second: Some(true) }` (`both`), and

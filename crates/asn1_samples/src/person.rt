@@ -1,12 +1,12 @@
 //! `Person ::= SEQUENCE { age INTEGER, name UTF8String }`
 ghost use Rattle.std.specs.Prelude.{◌≡◌, [], ◌∷◌, Some, pos, codes};
 ghost use Rattle.std.specs.String.{string_bytes};
-ghost use Rattle.asn1_slots.specs.Slots.{required_slot, sequence_of_slots, slots_agree};
+ghost use Rattle.asn1_slots.specs.Slots.{required_slot, sequence_of_slots};
 ghost use Rattle.asn1_types.specs.Words.{lines, universal, untagged, constructed_type, constructed_agrees, IsWellTagged, own_records, holding, sequence_head, scalar, number, units, utf8, unconstrained};
 
-use asn1_dec::{Decode, DecodeError, DecodeFields, Decoder};
+use asn1_dec::{Decode, DecodeError, Decoder};
 use asn1_enc::{Encode, EncodeError, EncodeFields, Encoder};
-use asn1_slots::{DecodeByPlace, Slotted, Tagging, filled, required};
+use asn1_slots::{DecodeByPlace, Decoded, Tagging, decode_sequence_by_place, filled, required};
 use asn1_strings::Utf8String;
 use asn1_types::{
     AsnType, Constraints, ConstructedType, Field, FieldTable, Identifier, Tag, TypeTable,
@@ -23,13 +23,11 @@ pub struct Person {
     pub name: Utf8String,
 }
 
-impl Slotted for Person {
+impl DecodeByPlace for Person {
     type Slots = (Option<Integer>, Option<Utf8String>);
 
-    ghost layout = { required_slot (codes "age") (λ p. p.age) (λ s. s.0)
-        (untagged ⟦<Integer as AsnType>⟧.meaning) ⟦<Integer as PartialEq>⟧.eq ∷
-        required_slot (codes "name") (λ p. p.name) (λ s. s.1)
-        (untagged ⟦<Utf8String as AsnType>⟧.meaning) ⟦<Utf8String as PartialEq>⟧.eq ∷ [] };
+    ghost layout = { required_slot (codes "age") (λ p. p.age) (λ s. s.0) (untagged ⟦<Integer as AsnType>⟧.meaning) ⟦<Integer as PartialEq>⟧.eq ∷
+        required_slot (codes "name") (λ p. p.name) (λ s. s.1) (untagged ⟦<Utf8String as AsnType>⟧.meaning) ⟦<Utf8String as PartialEq>⟧.eq ∷ [] };
 
     fn from_slots(_alloc: Global, slots: Self::Slots) -> Result<Person, DecodeError> {
         Ok(Person {
@@ -37,10 +35,18 @@ impl Slotted for Person {
             name: filled(slots.1, "name")?,
         })
     }
+
+    fn decode_field<D: Decoder>(place: usize, slots: &mut Self::Slots, decoder: &mut D) -> Decoded {
+        match place {
+            0 => required(&mut slots.0, decoder, Tagging::Untagged),
+            1 => required(&mut slots.1, decoder, Tagging::Untagged),
+            _ => Ok(()),
+        }
+    }
 }
 
 impl FieldTable for Person {
-    ghost components = { sequence_of_slots ⟦<Person as Slotted>⟧.layout };
+    ghost components = { sequence_of_slots ⟦<Person as DecodeByPlace>⟧.layout };
 
     fn field_count() -> usize {
         2
@@ -108,30 +114,8 @@ impl Decode for Person {
         tag: Tag,
         _constraints: &Constraints<'_>,
     ) -> Result<Person, DecodeError> {
-        decoder.decode_sequence(tag)
+        decode_sequence_by_place(decoder, tag)
     }
-}
-
-impl DecodeFields for Person {
-    fn decode_fields<D: Decoder>(decoder: &mut D) -> Result<Person, DecodeError> {
-        Person::decode_by_place(decoder)
-    }
-}
-
-impl DecodeByPlace for Person {
-    fn decode_field<D: Decoder>(
-        place: usize,
-        slots: &mut Self::Slots,
-        decoder: &mut D,
-    ) -> Result<(), DecodeError> {
-        match place {
-            0 => required(&mut slots.0, decoder, Tagging::Untagged),
-            1 => required(&mut slots.1, decoder, Tagging::Untagged),
-            _ => Ok(()),
-        }
-    }
-
-    ghost agrees = { slots_agree ⟦<Person as FieldTable>⟧.components };
 }
 
 /// What `Person { age: 30, name: "Ann" }` is to every codec.

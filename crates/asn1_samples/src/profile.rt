@@ -11,18 +11,22 @@
 //! ```
 ghost use Rattle.std.specs.Prelude.{◌≡◌, [], ◌∷◌, None, Some, pos, codes};
 ghost use Rattle.std.specs.String.{string_bytes};
-ghost use Rattle.asn1_slots.specs.Slots.{default_slot, extensible_sequence_after, group_slot, optional_slot, required_slot, slots_agree};
+ghost use Rattle.asn1_slots.specs.Slots.{default_slot, extensible_sequence_after, group_slot, optional_slot, required_slot};
 ghost use Rattle.asn1_types.specs.Words.{lines, labels_of, in_root, context, universal, tagged, constructed_type, constructed_agrees, IsWellTagged, own_records, holding, sequence_head, scalar, presence_mark, absent, present, group_start, group_end, group_absent, number, discriminant, units, utf8, ia5, unconstrained, values_of, Range};
 ghost use Rattle.asn1_samples.specs.declared.color.Color.TheVariants.{Red, Blue};
 
 use crate::color::Color;
 use crate::contact::{CONTACT, Contact};
-use asn1_dec::{Decode, DecodeError, DecodeFields, Decoder};
+use asn1_dec::{Decode, DecodeError, Decoder};
 use asn1_enc::{Encode, EncodeError, EncodeFields, Encoder};
-use asn1_slots::{DecodeByPlace, Slotted, Tagging, filled, group, optional, or_default, required};
+use asn1_slots::{
+    DecodeByPlace, Decoded, Tagging, decode_sequence_by_place, filled, group, optional, or_default,
+    required,
+};
 use asn1_strings::{Ia5String, Utf8String};
+use asn1_tags::tag;
 use asn1_types::{
-    AsnType, Class, Constraints, ConstructedType, Field, FieldTable, Identifier, Tag, TypeTable,
+    AsnType, Constraints, ConstructedType, Field, FieldTable, Identifier, Tag, TypeTable,
 };
 use std::alloc::Global;
 
@@ -39,22 +43,7 @@ pub struct Profile {
     pub contact: Option<Contact>,
 }
 
-const NICK: Tag = Tag {
-    class: Class::Context,
-    value: 0,
-};
-
-const LEVEL: Tag = Tag {
-    class: Class::Context,
-    value: 1,
-};
-
-const COLOR: Tag = Tag {
-    class: Class::Context,
-    value: 2,
-};
-
-impl Slotted for Profile {
+impl DecodeByPlace for Profile {
     type Slots = (
         Option<Utf8String>,
         Option<u8>,
@@ -62,14 +51,10 @@ impl Slotted for Profile {
         Option<Contact>,
     );
 
-    ghost layout = { optional_slot (codes "nick") (λ p. p.nick) (λ s. s.0)
-        (tagged (context 0) ⟦<Utf8String as AsnType>⟧.meaning) ⟦<Utf8String as PartialEq>⟧.eq ∷
-        required_slot (codes "level") (λ p. p.level) (λ s. s.1)
-        (tagged (context 1) ⟦<u8 as AsnType>⟧.meaning) ⟦<u8 as PartialEq>⟧.eq ∷
-        default_slot (codes "color") (λ p. p.color) Red (λ s. s.2)
-        (tagged (context 2) ⟦<Color as AsnType>⟧.meaning) ⟦<Color as PartialEq>⟧.eq ∷
-        group_slot (codes "contact") (λ p. p.contact) (λ s. s.3)
-        ⟦<Contact as FieldTable>⟧.components ⟦<Contact as PartialEq>⟧.eq ∷ [] };
+    ghost layout = { optional_slot (codes "nick") (λ p. p.nick) (λ s. s.0) (tagged (context 0) ⟦<Utf8String as AsnType>⟧.meaning) ⟦<Utf8String as PartialEq>⟧.eq ∷
+        required_slot (codes "level") (λ p. p.level) (λ s. s.1) (tagged (context 1) ⟦<u8 as AsnType>⟧.meaning) ⟦<u8 as PartialEq>⟧.eq ∷
+        default_slot (codes "color") (λ p. p.color) Red (λ s. s.2) (tagged (context 2) ⟦<Color as AsnType>⟧.meaning) ⟦<Color as PartialEq>⟧.eq ∷
+        group_slot (codes "contact") (λ p. p.contact) (λ s. s.3) ⟦<Contact as FieldTable>⟧.components ⟦<Contact as PartialEq>⟧.eq ∷ [] };
 
     fn from_slots(_alloc: Global, slots: Self::Slots) -> Result<Profile, DecodeError> {
         Ok(Profile {
@@ -79,10 +64,20 @@ impl Slotted for Profile {
             contact: slots.3,
         })
     }
+
+    fn decode_field<D: Decoder>(place: usize, slots: &mut Self::Slots, decoder: &mut D) -> Decoded {
+        match place {
+            0 => optional(&mut slots.0, decoder, Tagging::Tagged(tag!(context 0))),
+            1 => required(&mut slots.1, decoder, Tagging::Tagged(tag!(context 1))),
+            2 => optional(&mut slots.2, decoder, Tagging::Tagged(tag!(context 2))),
+            3 => group(&mut slots.3, decoder),
+            _ => Ok(()),
+        }
+    }
 }
 
 impl FieldTable for Profile {
-    ghost components = { extensible_sequence_after 3 ⟦<Profile as Slotted>⟧.layout };
+    ghost components = { extensible_sequence_after 3 ⟦<Profile as DecodeByPlace>⟧.layout };
 
     fn field_count() -> usize {
         4
@@ -90,9 +85,9 @@ impl FieldTable for Profile {
 
     fn field_at(place: usize) -> Option<Field<'static>> {
         match place {
-            0 => Some(Field::new_optional_type_with_tag::<Utf8String>(0, NICK, "nick")),
-            1 => Some(Field::new_required_type_with_tag::<u8>(1, LEVEL, "level")),
-            2 => Some(Field::new_default_type_with_tag::<Color>(2, COLOR, "color")),
+            0 => Some(Field::new_optional_type_with_tag::<Utf8String>(0, tag!(context 0), "nick")),
+            1 => Some(Field::new_required_type_with_tag::<u8>(1, tag!(context 1), "level")),
+            2 => Some(Field::new_default_type_with_tag::<Color>(2, tag!(context 2), "color")),
             3 => Some(Field::new_group(3, CONTACT, "contact")),
             _ => None,
         }
@@ -139,10 +134,10 @@ impl Encode for Profile {
 impl EncodeFields for Profile {
     fn encode_field<E: Encoder>(&self, place: usize, encoder: &mut E) -> Result<(), EncodeError> {
         match place {
-            0 => self.nick.encode_with_tag(encoder, NICK),
-            1 => self.level.encode_with_tag(encoder, LEVEL),
+            0 => self.nick.encode_with_tag(encoder, tag!(context 0)),
+            1 => self.level.encode_with_tag(encoder, tag!(context 1)),
             2 => encoder.encode_default_with_tag(
-                COLOR,
+                tag!(context 2),
                 &self.color,
                 |_| Ok(Color::Red),
                 Color::identifier(),
@@ -159,32 +154,8 @@ impl Decode for Profile {
         tag: Tag,
         _constraints: &Constraints<'_>,
     ) -> Result<Profile, DecodeError> {
-        decoder.decode_sequence(tag)
+        decode_sequence_by_place(decoder, tag)
     }
-}
-
-impl DecodeFields for Profile {
-    fn decode_fields<D: Decoder>(decoder: &mut D) -> Result<Profile, DecodeError> {
-        Profile::decode_by_place(decoder)
-    }
-}
-
-impl DecodeByPlace for Profile {
-    fn decode_field<D: Decoder>(
-        place: usize,
-        slots: &mut Self::Slots,
-        decoder: &mut D,
-    ) -> Result<(), DecodeError> {
-        match place {
-            0 => optional(&mut slots.0, decoder, Tagging::Tagged(NICK)),
-            1 => required(&mut slots.1, decoder, Tagging::Tagged(LEVEL)),
-            2 => optional(&mut slots.2, decoder, Tagging::Tagged(COLOR)),
-            3 => group(&mut slots.3, decoder),
-            _ => Ok(()),
-        }
-    }
-
-    ghost agrees = { slots_agree ⟦<Profile as FieldTable>⟧.components };
 }
 
 /// What a profile is to every codec: `Profile { nick: None, level: 7, color: Red, contact: None }` (`empty`), the same with a

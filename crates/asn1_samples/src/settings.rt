@@ -1,14 +1,15 @@
 //! `Settings ::= SEQUENCE { entry [0] Labelled DEFAULT { key 1, note 0 } }`
 ghost use Rattle.std.specs.Prelude.{◌≡◌, [], ◌∷◌, Some, pos, codes};
-ghost use Rattle.asn1_slots.specs.Slots.{default_slot, sequence_of_slots, slots_agree};
+ghost use Rattle.asn1_slots.specs.Slots.{default_slot, sequence_of_slots};
 ghost use Rattle.asn1_types.specs.Words.{lines, in_root, context, universal, tagged, constructed_type, constructed_agrees, IsWellTagged, own_records, holding, sequence_head, scalar, presence_mark, absent, present, number, values_of, Range};
 
 use crate::labelled::Labelled;
-use asn1_dec::{Decode, DecodeError, DecodeFields, Decoder};
+use asn1_dec::{Decode, DecodeError, Decoder};
 use asn1_enc::{Encode, EncodeError, EncodeFields, Encoder};
-use asn1_slots::{DecodeByPlace, Slotted, Tagging, optional, or_default};
+use asn1_slots::{DecodeByPlace, Decoded, Tagging, decode_sequence_by_place, optional, or_default};
+use asn1_tags::tag;
 use asn1_types::{
-    AsnType, Class, Constraints, ConstructedType, Field, FieldTable, Identifier, Tag, TypeTable,
+    AsnType, Constraints, ConstructedType, Field, FieldTable, Identifier, Tag, TypeTable,
 };
 use std::alloc::Global;
 
@@ -19,26 +20,27 @@ pub struct Settings {
     pub entry: Labelled,
 }
 
-const ENTRY: Tag = Tag {
-    class: Class::Context,
-    value: 0,
-};
-
-impl Slotted for Settings {
+impl DecodeByPlace for Settings {
     type Slots = (Option<Labelled>,);
 
-    ghost layout = { default_slot (codes "entry") (λ s. s.entry) (record { key = 1; note = 0 }) (λ s. s.0)
-        (tagged (context 0) ⟦<Labelled as AsnType>⟧.meaning) ⟦<Labelled as PartialEq>⟧.eq ∷ [] };
+    ghost layout = { default_slot (codes "entry") (λ s. s.entry) (record { key = 1; note = 0 }) (λ s. s.0) (tagged (context 0) ⟦<Labelled as AsnType>⟧.meaning) ⟦<Labelled as PartialEq>⟧.eq ∷ [] };
 
     fn from_slots(_alloc: Global, slots: Self::Slots) -> Result<Settings, DecodeError> {
         Ok(Settings {
             entry: or_default(slots.0, Labelled { key: 1, note: 0 }),
         })
     }
+
+    fn decode_field<D: Decoder>(place: usize, slots: &mut Self::Slots, decoder: &mut D) -> Decoded {
+        match place {
+            0 => optional(&mut slots.0, decoder, Tagging::Tagged(tag!(context 0))),
+            _ => Ok(()),
+        }
+    }
 }
 
 impl FieldTable for Settings {
-    ghost components = { sequence_of_slots ⟦<Settings as Slotted>⟧.layout };
+    ghost components = { sequence_of_slots ⟦<Settings as DecodeByPlace>⟧.layout };
 
     fn field_count() -> usize {
         1
@@ -46,7 +48,7 @@ impl FieldTable for Settings {
 
     fn field_at(place: usize) -> Option<Field<'static>> {
         match place {
-            0 => Some(Field::new_default_type_with_tag::<Labelled>(0, ENTRY, "entry")),
+            0 => Some(Field::new_default_type_with_tag::<Labelled>(0, tag!(context 0), "entry")),
             _ => None,
         }
     }
@@ -93,7 +95,7 @@ impl EncodeFields for Settings {
     fn encode_field<E: Encoder>(&self, place: usize, encoder: &mut E) -> Result<(), EncodeError> {
         match place {
             0 => encoder.encode_default_with_tag(
-                ENTRY,
+                tag!(context 0),
                 &self.entry,
                 |_| Ok(Labelled { key: 1, note: 0 }),
                 Labelled::identifier(),
@@ -109,29 +111,8 @@ impl Decode for Settings {
         tag: Tag,
         _constraints: &Constraints<'_>,
     ) -> Result<Settings, DecodeError> {
-        decoder.decode_sequence(tag)
+        decode_sequence_by_place(decoder, tag)
     }
-}
-
-impl DecodeFields for Settings {
-    fn decode_fields<D: Decoder>(decoder: &mut D) -> Result<Settings, DecodeError> {
-        Settings::decode_by_place(decoder)
-    }
-}
-
-impl DecodeByPlace for Settings {
-    fn decode_field<D: Decoder>(
-        place: usize,
-        slots: &mut Self::Slots,
-        decoder: &mut D,
-    ) -> Result<(), DecodeError> {
-        match place {
-            0 => optional(&mut slots.0, decoder, Tagging::Tagged(ENTRY)),
-            _ => Ok(()),
-        }
-    }
-
-    ghost agrees = { slots_agree ⟦<Settings as FieldTable>⟧.components };
 }
 
 /// What settings are to every codec: an entry with the key 1 and the note 9, which equals the default (`default`), and one

@@ -1,6 +1,6 @@
 //! `Shape ::= CHOICE { dot NULL, ring [0] INTEGER (0..65535), inner Corner }`
 ghost use Rattle.std.specs.Prelude.{◌≡◌, [], ◌∷◌, Some, true, pos, codes, refl};
-ghost use Rattle.asn1_slots.specs.Cases.{cases_agree, choice_of_cases, variant};
+ghost use Rattle.asn1_slots.specs.Cases.{choice_of_cases, variant};
 ghost use Rattle.asn1_types.specs.Words.{table_of, context, universal, untagged, tagged, inl, inr, choice_of, choice_agrees, IsWellTagged, own_records, holding, alternative_head, scalar, number, boolean, unconstrained, values_of, Range};
 ghost use Rattle.asn1_samples.specs.declared.corner.Corner.TheVariants as corner;
 ghost use Rattle.asn1_samples.specs.declared.shape.Shape.TheVariants.{Dot, Ring, Inner};
@@ -8,10 +8,9 @@ ghost use Rattle.asn1_samples.specs.declared.shape.Shape.TheVariants.{Dot, Ring,
 use crate::corner::{CORNER, Corner};
 use asn1_dec::{Decode, DecodeChoice, DecodeError, Decoder};
 use asn1_enc::{Encode, EncodeChoice, EncodeError, Encoder};
-use asn1_slots::{DecodeChoiceByPlace, HasCases, Tagging, alternative};
-use asn1_types::{
-    AsnType, Choice, ChoiceType, Class, Constraints, Identifier, Tag, TagTree, TypeTable,
-};
+use asn1_slots::{DecodeChoiceByPlace, Tagging, alternative, from_tag_by_table};
+use asn1_tags::tag;
+use asn1_types::{AsnType, Choice, ChoiceType, Constraints, Identifier, Tag, TagTree, TypeTable};
 
 /// A figure: a CHOICE with an untagged CHOICE among its alternatives.
 #[derive(PartialEq, Eq, Debug, Drop)]
@@ -24,10 +23,7 @@ pub enum Shape {
     Inner(Corner),
 }
 
-const RING: Tag = Tag {
-    class: Class::Context,
-    value: 0,
-};
+const RING: Tag = tag!(context 0);
 
 const SHAPE: &[TagTree<'static>] = &[
     TagTree::Leaf(Tag::NULL),
@@ -35,18 +31,29 @@ const SHAPE: &[TagTree<'static>] = &[
     TagTree::Choice(CORNER),
 ];
 
-impl HasCases for Shape {
+impl DecodeChoiceByPlace for Shape {
     ghost cases = { variant (codes "dot") Dot (untagged ⟦<() as AsnType>⟧.meaning) ⟦<() as PartialEq>⟧.eq ∷
         variant (codes "ring") Ring (tagged (context 0) ⟦<u16 as AsnType>⟧.meaning) ⟦<u16 as PartialEq>⟧.eq ∷
         variant (codes "inner") Inner (untagged ⟦<Corner as AsnType>⟧.meaning) ⟦<Corner as PartialEq>⟧.eq ∷ [] };
 
     ghost case_of = { elim [ Dot u ↦ inl u | Ring n ↦ inr (inl n) | Inner c ↦ inr (inr (inl c)) ] };
+
+    fn decode_alternative<D: Decoder>(place: usize, decoder: &mut D) -> Result<Shape, DecodeError> {
+        match place {
+            0 => Ok(Shape::Dot(alternative(decoder, Tagging::Untagged)?)),
+            1 => Ok(Shape::Ring(alternative(decoder, Tagging::Tagged(RING))?)),
+            2 => Ok(Shape::Inner(alternative(decoder, Tagging::Untagged)?)),
+            _ => Err(DecodeError::NoValidChoice("Shape")),
+        }
+    }
+
+    ghost made = { elim [ Dot u ↦ (refl, λ _. refl) | Ring n ↦ (refl, λ _. refl) | Inner c ↦ (refl, λ _. refl) ] };
 }
 
 impl Choice for Shape {
-    ghost alternatives = { choice_of_cases ⟦<Shape as HasCases>⟧.cases };
+    ghost alternatives = { choice_of_cases ⟦<Shape as DecodeChoiceByPlace>⟧.cases };
 
-    ghost pick = { ⟦<Shape as HasCases>⟧.case_of };
+    ghost pick = { ⟦<Shape as DecodeChoiceByPlace>⟧.case_of };
 
     fn variants() -> &'static [TagTree<'static>] {
         SHAPE
@@ -133,23 +140,8 @@ const LEAVES: &[(Tag, usize)] = &[
 
 impl DecodeChoice for Shape {
     fn from_tag<D: Decoder>(decoder: &mut D, tag: Tag) -> Result<Shape, DecodeError> {
-        Shape::from_tag_by_table(decoder, tag, LEAVES)
+        from_tag_by_table(decoder, tag, LEAVES)
     }
-}
-
-impl DecodeChoiceByPlace for Shape {
-    fn decode_alternative<D: Decoder>(place: usize, decoder: &mut D) -> Result<Shape, DecodeError> {
-        match place {
-            0 => Ok(Shape::Dot(alternative(decoder, Tagging::Untagged)?)),
-            1 => Ok(Shape::Ring(alternative(decoder, Tagging::Tagged(RING))?)),
-            2 => Ok(Shape::Inner(alternative(decoder, Tagging::Untagged)?)),
-            _ => Err(DecodeError::NoValidChoice("Shape")),
-        }
-    }
-
-    ghost agrees = { λ shape. cases_agree ⟦<Shape as HasCases>⟧.cases (⟦<Shape as HasCases>⟧.case_of shape) };
-
-    ghost made = { elim [ Dot u ↦ (refl, λ _. refl) | Ring n ↦ (refl, λ _. refl) | Inner c ↦ (refl, λ _. refl) ] };
 }
 
 /// What a shape is to every codec: `Shape::Ring(300)` (`ring`), and `Shape::Inner(Corner::Left(true))`, of which the chosen

@@ -1,16 +1,17 @@
 //! `Ticket ::= SET { seat [0] INTEGER (0..65535), name [1] UTF8String OPTIONAL, paid [2] BOOLEAN DEFAULT FALSE }`
 ghost use Rattle.std.specs.Prelude.{◌≡◌, [], ◌∷◌, None, Some, false, pos, codes, refl};
-ghost use Rattle.asn1_slots.specs.Slots.{default_slot, optional_slot, required_slot, set_of_slots, slots_agree};
+ghost use Rattle.asn1_slots.specs.Slots.{default_slot, optional_slot, required_slot, set_of_slots};
 ghost use Rattle.asn1_types.specs.Words.{lines, in_root, context, universal, tagged, constructed_type, constructed_agrees, IsWellTagged, own_records, holding, set_head, scalar, presence_mark, absent, number, values_of, Range};
 
 use asn1_dec::{Decode, DecodeError, Decoder};
 use asn1_enc::{Encode, EncodeError, EncodeFields, Encoder};
 use asn1_slots::{
-    DecodeSetByPlace, Slotted, Tagging, decode_set_by_place, filled, once, or_default,
+    DecodeSetByPlace, Decoded, Tagging, decode_set_by_place, filled, once, or_default,
 };
 use asn1_strings::Utf8String;
+use asn1_tags::tag;
 use asn1_types::{
-    AsnType, Class, Constraints, ConstructedType, Field, FieldTable, Identifier, Tag, TypeTable,
+    AsnType, Constraints, ConstructedType, Field, FieldTable, Identifier, Tag, TypeTable,
 };
 use std::alloc::Global;
 
@@ -25,30 +26,18 @@ pub struct Ticket {
     pub paid: bool,
 }
 
-const SEAT: Tag = Tag {
-    class: Class::Context,
-    value: 0,
-};
+const SEAT: Tag = tag!(context 0);
 
-const NAME: Tag = Tag {
-    class: Class::Context,
-    value: 1,
-};
+const NAME: Tag = tag!(context 1);
 
-const PAID: Tag = Tag {
-    class: Class::Context,
-    value: 2,
-};
+const PAID: Tag = tag!(context 2);
 
-impl Slotted for Ticket {
+impl DecodeSetByPlace for Ticket {
     type Slots = (Option<u16>, Option<Utf8String>, Option<bool>);
 
-    ghost layout = { required_slot (codes "seat") (λ t. t.seat) (λ s. s.0)
-        (tagged (context 0) ⟦<u16 as AsnType>⟧.meaning) ⟦<u16 as PartialEq>⟧.eq ∷
-        optional_slot (codes "name") (λ t. t.name) (λ s. s.1)
-        (tagged (context 1) ⟦<Utf8String as AsnType>⟧.meaning) ⟦<Utf8String as PartialEq>⟧.eq ∷
-        default_slot (codes "paid") (λ t. t.paid) false (λ s. s.2)
-        (tagged (context 2) ⟦<bool as AsnType>⟧.meaning) ⟦<bool as PartialEq>⟧.eq ∷ [] };
+    ghost layout = { required_slot (codes "seat") (λ t. t.seat) (λ s. s.0) (tagged (context 0) ⟦<u16 as AsnType>⟧.meaning) ⟦<u16 as PartialEq>⟧.eq ∷
+        optional_slot (codes "name") (λ t. t.name) (λ s. s.1) (tagged (context 1) ⟦<Utf8String as AsnType>⟧.meaning) ⟦<Utf8String as PartialEq>⟧.eq ∷
+        default_slot (codes "paid") (λ t. t.paid) false (λ s. s.2) (tagged (context 2) ⟦<bool as AsnType>⟧.meaning) ⟦<bool as PartialEq>⟧.eq ∷ [] };
 
     fn from_slots(_alloc: Global, slots: Self::Slots) -> Result<Ticket, DecodeError> {
         Ok(Ticket {
@@ -57,10 +46,23 @@ impl Slotted for Ticket {
             paid: or_default(slots.2, false),
         })
     }
+
+    fn decode_field<D: Decoder>(place: usize, slots: &mut Self::Slots, decoder: &mut D) -> Decoded {
+        match place {
+            0 => once(&mut slots.0, decoder, Tagging::Tagged(SEAT), "seat"),
+            1 => once(&mut slots.1, decoder, Tagging::Tagged(NAME), "name"),
+            2 => once(&mut slots.2, decoder, Tagging::Tagged(PAID), "paid"),
+            _ => Ok(()),
+        }
+    }
+
+    ghost no_group = { refl };
+
+    ghost empty_at_first = { λ slots empty. (empty.0, (empty.1, empty.2)) };
 }
 
 impl FieldTable for Ticket {
-    ghost components = { set_of_slots ⟦<Ticket as Slotted>⟧.layout };
+    ghost components = { set_of_slots ⟦<Ticket as DecodeSetByPlace>⟧.layout };
 
     fn field_count() -> usize {
         3
@@ -137,27 +139,6 @@ impl Decode for Ticket {
     ) -> Result<Ticket, DecodeError> {
         decode_set_by_place(decoder, tag)
     }
-}
-
-impl DecodeSetByPlace for Ticket {
-    fn decode_field<D: Decoder>(
-        place: usize,
-        slots: &mut Self::Slots,
-        decoder: &mut D,
-    ) -> Result<(), DecodeError> {
-        match place {
-            0 => once(&mut slots.0, decoder, Tagging::Tagged(SEAT), "seat"),
-            1 => once(&mut slots.1, decoder, Tagging::Tagged(NAME), "name"),
-            2 => once(&mut slots.2, decoder, Tagging::Tagged(PAID), "paid"),
-            _ => Ok(()),
-        }
-    }
-
-    ghost agrees = { slots_agree ⟦<Ticket as FieldTable>⟧.components };
-
-    ghost no_group = { refl };
-
-    ghost empty_at_first = { λ slots empty. (empty.0, (empty.1, empty.2)) };
 }
 
 /// What `Ticket { seat: 7, name: None, paid: false }` is to every codec: the default is not written.

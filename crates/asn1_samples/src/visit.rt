@@ -10,16 +10,19 @@
 //! ```
 ghost use Rattle.std.specs.Prelude.{◌≡◌, [], ◌∷◌, None, Some, pos, codes};
 ghost use Rattle.std.specs.String.{string_bytes};
-ghost use Rattle.asn1_slots.specs.Slots.{addition_slot, extensible_sequence_after, group_slot, required_slot, slots_agree};
+ghost use Rattle.asn1_slots.specs.Slots.{addition_slot, extensible_sequence_after, group_slot, required_slot};
 ghost use Rattle.asn1_types.specs.Words.{lines, in_root, in_additions, context, universal, tagged, constructed_type, constructed_agrees, IsWellTagged, own_records, holding, sequence_head, scalar, presence_mark, absent, present, group_start, group_end, number, units, utf8, numeric, unconstrained, values_of, Range};
 
 use crate::contact::{CONTACT, Contact};
-use asn1_dec::{Decode, DecodeError, DecodeFields, Decoder};
+use asn1_dec::{Decode, DecodeError, Decoder};
 use asn1_enc::{Encode, EncodeError, EncodeFields, Encoder};
-use asn1_slots::{DecodeByPlace, Slotted, Tagging, addition, filled, group, required};
+use asn1_slots::{
+    DecodeByPlace, Decoded, Tagging, addition, decode_sequence_by_place, filled, group, required,
+};
 use asn1_strings::{NumericString, Utf8String};
+use asn1_tags::tag;
 use asn1_types::{
-    AsnType, Class, Constraints, ConstructedType, Field, FieldTable, Identifier, Tag, TypeTable,
+    AsnType, Constraints, ConstructedType, Field, FieldTable, Identifier, Tag, TypeTable,
 };
 use std::alloc::Global;
 
@@ -34,25 +37,12 @@ pub struct Visit {
     pub note: Option<Utf8String>,
 }
 
-const DAY: Tag = Tag {
-    class: Class::Context,
-    value: 0,
-};
-
-const NOTE: Tag = Tag {
-    class: Class::Context,
-    value: 5,
-};
-
-impl Slotted for Visit {
+impl DecodeByPlace for Visit {
     type Slots = (Option<u16>, Option<Contact>, Option<Utf8String>);
 
-    ghost layout = { required_slot (codes "day") (λ v. v.day) (λ s. s.0)
-        (tagged (context 0) ⟦<u16 as AsnType>⟧.meaning) ⟦<u16 as PartialEq>⟧.eq ∷
-        group_slot (codes "contact") (λ v. v.contact) (λ s. s.1)
-        ⟦<Contact as FieldTable>⟧.components ⟦<Contact as PartialEq>⟧.eq ∷
-        addition_slot (codes "note") (λ v. v.note) (λ s. s.2)
-        (tagged (context 5) ⟦<Utf8String as AsnType>⟧.meaning) ⟦<Utf8String as PartialEq>⟧.eq ∷ [] };
+    ghost layout = { required_slot (codes "day") (λ v. v.day) (λ s. s.0) (tagged (context 0) ⟦<u16 as AsnType>⟧.meaning) ⟦<u16 as PartialEq>⟧.eq ∷
+        group_slot (codes "contact") (λ v. v.contact) (λ s. s.1) ⟦<Contact as FieldTable>⟧.components ⟦<Contact as PartialEq>⟧.eq ∷
+        addition_slot (codes "note") (λ v. v.note) (λ s. s.2) (tagged (context 5) ⟦<Utf8String as AsnType>⟧.meaning) ⟦<Utf8String as PartialEq>⟧.eq ∷ [] };
 
     fn from_slots(_alloc: Global, slots: Self::Slots) -> Result<Visit, DecodeError> {
         Ok(Visit {
@@ -61,10 +51,19 @@ impl Slotted for Visit {
             note: slots.2,
         })
     }
+
+    fn decode_field<D: Decoder>(place: usize, slots: &mut Self::Slots, decoder: &mut D) -> Decoded {
+        match place {
+            0 => required(&mut slots.0, decoder, Tagging::Tagged(tag!(context 0))),
+            1 => group(&mut slots.1, decoder),
+            2 => addition(&mut slots.2, decoder, Tagging::Tagged(tag!(context 5))),
+            _ => Ok(()),
+        }
+    }
 }
 
 impl FieldTable for Visit {
-    ghost components = { extensible_sequence_after 1 ⟦<Visit as Slotted>⟧.layout };
+    ghost components = { extensible_sequence_after 1 ⟦<Visit as DecodeByPlace>⟧.layout };
 
     fn field_count() -> usize {
         3
@@ -72,9 +71,9 @@ impl FieldTable for Visit {
 
     fn field_at(place: usize) -> Option<Field<'static>> {
         match place {
-            0 => Some(Field::new_required_type_with_tag::<u16>(0, DAY, "day")),
+            0 => Some(Field::new_required_type_with_tag::<u16>(0, tag!(context 0), "day")),
             1 => Some(Field::new_group(1, CONTACT, "contact")),
-            2 => Some(Field::new_optional_type_with_tag::<Utf8String>(2, NOTE, "note")),
+            2 => Some(Field::new_optional_type_with_tag::<Utf8String>(2, tag!(context 5), "note")),
             _ => None,
         }
     }
@@ -120,10 +119,10 @@ impl Encode for Visit {
 impl EncodeFields for Visit {
     fn encode_field<E: Encoder>(&self, place: usize, encoder: &mut E) -> Result<(), EncodeError> {
         match place {
-            0 => self.day.encode_with_tag(encoder, DAY),
+            0 => self.day.encode_with_tag(encoder, tag!(context 0)),
             1 => encoder.encode_extension_addition_group(self.contact.as_ref(), Identifier::EMPTY),
             2 => encoder.encode_extension_addition_with_tag(
-                NOTE,
+                tag!(context 5),
                 self.note.as_ref(),
                 Utf8String::identifier(),
             ),
@@ -138,31 +137,8 @@ impl Decode for Visit {
         tag: Tag,
         _constraints: &Constraints<'_>,
     ) -> Result<Visit, DecodeError> {
-        decoder.decode_sequence(tag)
+        decode_sequence_by_place(decoder, tag)
     }
-}
-
-impl DecodeFields for Visit {
-    fn decode_fields<D: Decoder>(decoder: &mut D) -> Result<Visit, DecodeError> {
-        Visit::decode_by_place(decoder)
-    }
-}
-
-impl DecodeByPlace for Visit {
-    fn decode_field<D: Decoder>(
-        place: usize,
-        slots: &mut Self::Slots,
-        decoder: &mut D,
-    ) -> Result<(), DecodeError> {
-        match place {
-            0 => required(&mut slots.0, decoder, Tagging::Tagged(DAY)),
-            1 => group(&mut slots.1, decoder),
-            2 => addition(&mut slots.2, decoder, Tagging::Tagged(NOTE)),
-            _ => Ok(()),
-        }
-    }
-
-    ghost agrees = { slots_agree ⟦<Visit as FieldTable>⟧.components };
 }
 
 /// What a visit is to every codec: `Visit { day: 7, contact: Some(Contact { phone: Some("12"), mail: None }), note }`, of which the

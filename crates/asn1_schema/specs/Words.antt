@@ -13,8 +13,8 @@ pub use Rattle.asn1_slots.specs.Slots.{sequence_of_slots, extensible_sequence_af
 pub use Rattle.asn1_types.specs.Words.{constructed_type, constructed_type_under, constructed_agrees}
 -- the alternatives of a CHOICE (29), and which of them a value is
 pub use Rattle.asn1_types.specs.Words.{table_of, inl, inr, alternative, closed_choice, extensible_choice, choice_of, choice_agrees}
--- the same, each with how a value is made of it
-pub use Rattle.asn1_slots.specs.Cases.{variant, choice_of_cases, extensible_choice_after, cases_agree}
+-- the same, each with the variant that makes a value of it
+pub use Rattle.asn1_slots.specs.Cases.{variant, choice_of_cases, extensible_choice_after}
 -- the items of an ENUMERATED type (20)
 pub use Rattle.asn1_types.specs.Words.{item, by_test, closed_enumeration, extensible_enumeration, labels_of, enumeration_type, enumeration_agrees}
 -- that a type can be inside others, and the records of a value

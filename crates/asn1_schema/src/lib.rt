@@ -4,12 +4,12 @@
 //! |---|---|
 //! | [`Rules`], [`round_trip`], [`recode`] | a codec as a whole, and the theorem: of `asn1_rules` |
 //! | [`FrontReader`], [`Iter`], [`write_list`], [`read_pieces`] | values one after another: of `asn1_streams` |
-//! | [`Encode`], [`Decode`], [`Slotted`] and the rest | how a type is written and read: of the crates below |
+//! | [`Encode`], [`Decode`], [`DecodeByPlace`] and the rest | how a type is written and read: of the crates below |
 //! | [`UniversalString`], [`UtcTime`], [`GeneralizedTime`], [`ObjectDescriptor`] | the kinds of string that are another kind under a tag |
 //! | [`laws`] | which kind of string each name is |
 //!
 //! It is the one crate that an author of types or of a codec names in crates.txt, but that theorems about a CHOICE want `asn1_tags`
-//! there too. Each public name of the crates below is re-exported, but for the macro `item!`, which is of `asn1_enumerations`. The crates stand here under the names of their subjects
+//! there too. Each public name of the crates below is re-exported, but for the macros `tag!` of `asn1_tags` and `item!` of `asn1_enumerations`. The crates stand here under the names of their subjects
 //! too (`types`, `strings`, `codec` and so on), in code, and so do their definitions and their lemmas: `specs/Lib.antt` and
 //! `proofs/Lib.antt` pass them on. The words with which an author says what a type means are `Rattle.asn1_schema.specs.Words`.
 #![tactic(auto)]
@@ -45,6 +45,7 @@ pub use asn1_enc::EncodeChoice;
 pub use asn1_enc::EncodeError;
 pub use asn1_enc::EncodeFields;
 pub use asn1_enc::Encoder;
+pub use asn1_enc::encode_explicit_optional;
 pub use asn1_enumerations as enumerations;
 pub use asn1_enumerations::EnumeratedTable;
 pub use asn1_enumerations::item;
@@ -66,15 +67,18 @@ pub use asn1_slots as slots;
 pub use asn1_slots::DecodeByPlace;
 pub use asn1_slots::DecodeChoiceByPlace;
 pub use asn1_slots::DecodeSetByPlace;
-pub use asn1_slots::HasCases;
-pub use asn1_slots::Slotted;
+pub use asn1_slots::Decoded;
 pub use asn1_slots::Tagging;
 pub use asn1_slots::addition;
 pub use asn1_slots::addition_with_constraints;
 pub use asn1_slots::alternative;
 pub use asn1_slots::alternative_with_constraints;
+pub use asn1_slots::decode_fields_by_place;
+pub use asn1_slots::decode_sequence_by_place;
 pub use asn1_slots::decode_set_by_place;
 pub use asn1_slots::filled;
+pub use asn1_slots::from_tag_by_place;
+pub use asn1_slots::from_tag_by_table;
 pub use asn1_slots::group;
 pub use asn1_slots::once;
 pub use asn1_slots::optional;

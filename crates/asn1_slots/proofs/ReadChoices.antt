@@ -1,5 +1,5 @@
 -- How a CHOICE is read by the place of its alternative.
-use Rattle.std.proofs.Common.{◌≡◌, ℕ, zero, suc, Bool, true, List, [], ◌∷◌, Result, Ok, Err, inl, inr, sym, ◌∙◌, subst}
+use Rattle.std.proofs.Common.{◌≡◌, ℕ, zero, suc, Bool, true, List, [], ◌∷◌, Result, Ok, Err, inl, inr, ◌∙◌, subst}
 use Rattle.std.specs.Prelude.{⊤}
 use Rattle.asn1_choices.specs.Alternatives.{Alternative, CanBeChosen, Each, HaveDistinctTags, OneOf, chosen, chosen_meaning, trees_of}
 use Rattle.asn1_choices.specs.ChosenTags.{LacksTag}
@@ -12,7 +12,7 @@ use Rattle.asn1_tags.proofs.Distinct.{apart-from_distinct, distinct-after}
 use Rattle.asn1_tags.specs.Trees.{leaves, leaves_of}
 use Rattle.asn1_tags.specs.declared.tags.Tag.{Tag}
 use Rattle.asn1_slots.proofs.TreesWithTags.{is_leaf}
-use Rattle.asn1_slots.specs.Cases.{Case, FailsAt, HasReadAt, IsMade, IsSameChoice, ReadsCaseAt, alternatives_of}
+use Rattle.asn1_slots.specs.Cases.{Case, FailsAt, HasReadAt, IsMade, ReadsCaseAt, alternatives_of}
 use Rattle.asn1_slots.specs.TagPlaces.{BeginsAt}
 
 -- the place of the chosen alternative
@@ -56,53 +56,45 @@ lacks (a ∷ alts) (suc place) t none at = lacks alts place t none.1 at
 
 module _ {D V : Type 0} (R : Reader D) (eq : V → V → Bool) (old new : D) (v : V) (rest : List Record) (outer : Outside) where
   -- the chosen alternative was read, and a value was made of what came
-  has_read : (u : V) (alts : List Alternative) (x : OneOf alts) (hs : List (Case V)) (y z : OneOf (alternatives_of hs)) (place : ℕ) →
-      IsSameChoice alts x hs y → IsMade eq hs y v → IsMade eq hs z u → IsAt alts x place → Each CanBeChosen alts →
-      (chosen_meaning alts x).IsOfType → (chosen_meaning alts x).IsValid R.accepts → HasReadAt R hs place old new z →
-      ReadsBack R old new (chosen_meaning alts x).records rest outer (λ w. eq w v ≡ true) (Ok u)
-  has_read u [] x hs y z place same made made_u at can of_type valid read = absurd x
-  has_read u (a ∷ alts) x [] y z place same made made_u at can of_type valid read = absurd y
-  has_read u (a ∷ alts) (inl w) (h ∷ hs) (inr y) z place same made made_u at can of_type valid read = absurd same
-  has_read u (a ∷ alts) (inr x) (h ∷ hs) (inl c) z place same made made_u at can of_type valid read = absurd same
-  has_read u (a ∷ alts) (inl w) (h ∷ hs) (inl c) z (suc place) same made made_u at can of_type valid read = absurd at
-  has_read u (a ∷ alts) (inr x) (h ∷ hs) (inr y) z zero same made made_u at can of_type valid read = absurd at
-  has_read u (a ∷ alts) (inl w) (h ∷ hs) (inl c) (inr z) zero same made made_u at can of_type valid read = absurd read
-  has_read u (a ∷ alts) (inr x) (h ∷ hs) (inr y) (inl d) (suc place) same made made_u at can of_type valid read = absurd read
-  has_read u (a ∷ alts) (inl w) (h ∷ hs) (inl c) (inl d) zero same made made_u at can of_type valid read =
-      subst (λ rs. ReadsBack R old new rs rest outer (λ x. eq x v ≡ true) (Ok u)) (sym same.1.records) (λ remains.
-      let r = read.reads c rest outer (same.0 can.0.0) (same.1.of_type.0 of_type) ((same.1.valid R.accepts).0 valid) remains in
+  has_read : (u : V) (hs : List (Case V)) (x y : OneOf (alternatives_of hs)) (place : ℕ) → IsMade eq hs x v → IsMade eq hs y u →
+      IsAt (alternatives_of hs) x place → Each CanBeChosen (alternatives_of hs) → (chosen_meaning (alternatives_of hs) x).IsOfType →
+      (chosen_meaning (alternatives_of hs) x).IsValid R.accepts → HasReadAt R hs place old new y →
+      ReadsBack R old new (chosen_meaning (alternatives_of hs) x).records rest outer (λ w. eq w v ≡ true) (Ok u)
+  has_read u [] x y place made made_u at can of_type valid read = absurd x
+  has_read u (h ∷ hs) (inl w) y (suc place) made made_u at can of_type valid read = absurd at
+  has_read u (h ∷ hs) (inr x) y zero made made_u at can of_type valid read = absurd at
+  has_read u (h ∷ hs) (inl w) (inr y) zero made made_u at can of_type valid read = absurd read
+  has_read u (h ∷ hs) (inr x) (inl d) (suc place) made made_u at can of_type valid read = absurd read
+  has_read u (h ∷ hs) (inl w) (inl d) zero made made_u at can of_type valid read = λ remains.
+      let r = read.reads w rest outer can.0.0 of_type valid remains in
       record {
         answer = subst (λ x. eq x v ≡ true) made_u.0 (made.1 d ∙ r.answer);
         at = r.at;
         within_depth_left = r.within_depth_left;
-      })
-  has_read u (a ∷ alts) (inr x) (h ∷ hs) (inr y) (inr z) (suc place) same made made_u at can of_type valid read =
-      has_read u alts x hs y z place same made made_u at can.1 of_type valid read
+      }
+  has_read u (h ∷ hs) (inr x) (inr y) (suc place) made made_u at can of_type valid read =
+      has_read u hs x y place made made_u at can.1 of_type valid read
 
   -- it was not
-  has_failed : (e : DecodeError) (alts : List Alternative) (x : OneOf alts) (hs : List (Case V)) (y : OneOf (alternatives_of hs)) (place : ℕ) →
-      IsSameChoice alts x hs y → IsAt alts x place → Each CanBeChosen alts → (chosen_meaning alts x).IsOfType →
-      (chosen_meaning alts x).IsValid R.accepts → FailsAt R hs place old new e →
-      ReadsBack R old new (chosen_meaning alts x).records rest outer (λ w. eq w v ≡ true) (Err e)
-  has_failed e [] x hs y place same at can of_type valid fails = absurd x
-  has_failed e (a ∷ alts) x [] y place same at can of_type valid fails = absurd y
-  has_failed e (a ∷ alts) (inl w) (h ∷ hs) (inr y) place same at can of_type valid fails = absurd same
-  has_failed e (a ∷ alts) (inr x) (h ∷ hs) (inl c) place same at can of_type valid fails = absurd same
-  has_failed e (a ∷ alts) (inl w) (h ∷ hs) (inl c) (suc place) same at can of_type valid fails = absurd at
-  has_failed e (a ∷ alts) (inr x) (h ∷ hs) (inr y) zero same at can of_type valid fails = absurd at
-  has_failed e (a ∷ alts) (inl w) (h ∷ hs) (inl c) zero same at can of_type valid fails =
-      subst (λ rs. ReadsBack R old new rs rest outer (λ x. eq x v ≡ true) (Err e)) (sym same.1.records)
-      (λ remains. fails.reads c rest outer (same.0 can.0.0) (same.1.of_type.0 of_type) ((same.1.valid R.accepts).0 valid) remains)
-  has_failed e (a ∷ alts) (inr x) (h ∷ hs) (inr y) (suc place) same at can of_type valid fails =
-      has_failed e alts x hs y place same at can.1 of_type valid fails
+  has_failed : (e : DecodeError) (hs : List (Case V)) (x : OneOf (alternatives_of hs)) (place : ℕ) → IsAt (alternatives_of hs) x place →
+      Each CanBeChosen (alternatives_of hs) → (chosen_meaning (alternatives_of hs) x).IsOfType →
+      (chosen_meaning (alternatives_of hs) x).IsValid R.accepts → FailsAt R hs place old new e →
+      ReadsBack R old new (chosen_meaning (alternatives_of hs) x).records rest outer (λ w. eq w v ≡ true) (Err e)
+  has_failed e [] x place at can of_type valid fails = absurd x
+  has_failed e (h ∷ hs) (inl w) (suc place) at can of_type valid fails = absurd at
+  has_failed e (h ∷ hs) (inr x) zero at can of_type valid fails = absurd at
+  has_failed e (h ∷ hs) (inl w) zero at can of_type valid fails = λ remains.
+      fails.reads w rest outer can.0.0 of_type valid remains
+  has_failed e (h ∷ hs) (inr x) (suc place) at can of_type valid fails = has_failed e hs x place at can.1 of_type valid fails
 
-  -- what reads the alternative at its place reads the value
-  pub reads_chosen : (alts : List Alternative) (x : OneOf alts) (hs : List (Case V)) (case_of : V → OneOf (alternatives_of hs)) (place : ℕ)
-      (result : Result V DecodeError) → IsSameChoice alts x hs (case_of v) → ((u : V) → IsMade eq hs (case_of u) u) → IsAt alts x place →
-      Each CanBeChosen alts → (chosen_meaning alts x).IsOfType → (chosen_meaning alts x).IsValid R.accepts →
+  -- what reads the alternative at the place of its tag reads the value
+  pub reads_chosen : (hs : List (Case V)) (case_of : V → OneOf (alternatives_of hs)) (place : ℕ) (result : Result V DecodeError) →
+      ((u : V) → IsMade eq hs (case_of u) u) → (t : Tag) → HaveDistinctTags (alternatives_of hs) → Each CanBeChosen (alternatives_of hs) →
+      Has (tree_tags (chosen (alternatives_of hs) (case_of v)).type.tree) t → BeginsAt (trees_of (alternatives_of hs)) place t →
+      (chosen_meaning (alternatives_of hs) (case_of v)).IsOfType → (chosen_meaning (alternatives_of hs) (case_of v)).IsValid R.accepts →
       ReadsCaseAt R hs case_of place old new result →
-      ReadsBack R old new (chosen_meaning alts x).records rest outer (λ w. eq w v ≡ true) result
-  reads_chosen alts x hs case_of place (Ok u) same made at can of_type valid reads =
-      has_read u alts x hs (case_of v) (case_of u) place same (made v) (made u) at can of_type valid reads
-  reads_chosen alts x hs case_of place (Err e) same made at can of_type valid reads =
-      has_failed e alts x hs (case_of v) place same at can of_type valid reads
+      ReadsBack R old new (chosen_meaning (alternatives_of hs) (case_of v)).records rest outer (λ w. eq w v ≡ true) result
+  reads_chosen hs case_of place (Ok u) made t distinct can has at of_type valid reads =
+      has_read u hs (case_of v) (case_of u) place (made v) (made u) (only_place (alternatives_of hs) (case_of v) place t distinct can has at) can of_type valid reads
+  reads_chosen hs case_of place (Err e) made t distinct can has at of_type valid reads =
+      has_failed e hs (case_of v) place (only_place (alternatives_of hs) (case_of v) place t distinct can has at) can of_type valid reads

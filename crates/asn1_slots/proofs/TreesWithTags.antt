@@ -22,6 +22,13 @@ use Rattle.asn1_tags.specs.Tags.{has, position_of, tag_eq}
 use Rattle.asn1_tags.specs.Trees.{Trees, none, more, choice, leaf, leaves, leaves_of, shape, shapes}
 use Rattle.asn1_tags.specs.declared.tags.Tag.{Tag}
 use Rattle.asn1_tags.specs.declared.trees.TagTree.{TagTree}
+use Rattle.asn1_components.specs.Following.{Where}
+use Rattle.asn1_tags.specs.Order.{structures_cmp}
+use Rattle.asn1_tags.specs.OrderLaws.{structure_cmp-Equal}
+use Rattle.std.specs.Ordering.{is_eq}
+use Rattle.std.specs.declared.cmp.Ordering.{Ordering}
+use Rattle.std.specs.declared.cmp.Ordering.TheVariants.{Less, Equal, Greater}
+use Rattle.asn1_slots.specs.Cases.{Case, alternatives_of, are_of_cases}
 use Rattle.asn1_slots.specs.TagPlaces.{BeginsAt, IsPlaceOf}
 
 -- the leaves of a tree alone
@@ -183,3 +190,17 @@ not_found trees tags t all missing k at =
     let has : has t tags ≡ true = subst (λ ts. has t ts ≡ true) (sym all) (has-from_Contains t (leaves_of (shapes trees)) (is_leaf (shapes trees) k t at)) in
     let wrong = missing ∙ position_of-some t tags has in
     cc
+
+-- what is said where the alternatives are those of the cases
+pub where_they_are : {V : Type 0} (P : Type 0) (alternatives : Alternatives) (cases : List (Case V)) →
+    (trees_of (all_of alternatives) ≡ trees_of (alternatives_of cases) → P) → Where (are_of_cases alternatives cases) P
+where_they_are P alternatives cases holds =
+    by_order (structures_cmp (trees_of (all_of alternatives)) (trees_of (alternatives_of cases))) (λ same.
+    let equal = structure_cmp-Equal (choice (trees_of (all_of alternatives))) (choice (trees_of (alternatives_of cases))) same in
+    let trees : trees_of (all_of alternatives) ≡ trees_of (alternatives_of cases) = cc in
+    holds trees)
+  where
+    by_order : (o : Ordering) → (o ≡ Equal → P) → Where (is_eq o) P
+    by_order Less f = tt
+    by_order Equal f = f refl
+    by_order Greater f = tt

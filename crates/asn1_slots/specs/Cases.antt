@@ -1,10 +1,12 @@
 -- The cases of a CHOICE: its alternatives, each with the values that are made of it.
 use Rattle.std.specs.Prelude.{◌≡◌, ℕ, zero, suc, ⊤, Bool, true, List, [], ◌∷◌, drop, take, Result, Ok, Err}
 use Rattle.std.proofs.Common.{inl, inr}
-use Rattle.asn1_choices.specs.Alternatives.{Alternative, Alternatives, OneOf, SaysTheSame, alternative, closed, extensible, says_itself, value_meaning}
+use Rattle.asn1_choices.specs.Alternatives.{Alternative, Alternatives, OneOf, alternative, all_of, closed, extensible, trees_of}
 use Rattle.asn1_codec.specs.Reading.{Reader}
 use Rattle.asn1_codec.specs.declared.decode_error.DecodeError.{DecodeError}
 use Rattle.asn1_model.specs.TaggedTypes.{TaggedType}
+use Rattle.asn1_tags.specs.Order.{structures_cmp}
+use Rattle.std.specs.Ordering.{is_eq}
 use Rattle.asn1_slots.specs.Filling.{ReadsComponent}
 
 -- A call that reads the value of an alternative: of each that is of the type and valid it answers
@@ -70,21 +72,7 @@ module _ {V : Type 0} where
   IsMade eq (h ∷ hs) (inl w) v = (h.make w ≡ v) × ((u : h.Value) → eq (h.make u) v ≡ h.eq u w)
   IsMade eq (h ∷ hs) (inr x) v = IsMade eq hs x v
 
-  -- what is chosen of the first is what is chosen of the second, to a reader
-  abbrev pub IsSameChoice : (alts : List Alternative) → OneOf alts → (cases : List (Case V)) →
-      OneOf (alternatives_of cases) → Type 0
-  IsSameChoice [] x hs y = absurd x
-  IsSameChoice (a ∷ alts) x [] y = absurd y
-  IsSameChoice (a ∷ alts) (inl w) (h ∷ hs) (inl u) =
-      (a.type.IsWellTagged → h.type.IsWellTagged)
-      × SaysTheSame (value_meaning a.type w) (value_meaning h.type u)
-  IsSameChoice (a ∷ alts) (inl w) (h ∷ hs) (inr y) = ⊥
-  IsSameChoice (a ∷ alts) (inr x) (h ∷ hs) (inl u) = ⊥
-  IsSameChoice (a ∷ alts) (inr x) (h ∷ hs) (inr y) = IsSameChoice alts x hs y
-
-  -- so it is for each CHOICE whose alternatives are stated by its cases
-  pub cases_agree : (cases : List (Case V)) (x : OneOf (alternatives_of cases)) →
-      IsSameChoice (alternatives_of cases) x cases x
-  cases_agree [] x = absurd x
-  cases_agree (h ∷ hs) (inl w) = ((λ can. can), says_itself)
-  cases_agree (h ∷ hs) (inr x) = cases_agree hs x
+  -- whether the alternatives have the trees of these cases, in their order
+  abbrev pub are_of_cases : Alternatives → List (Case V) → Bool
+  are_of_cases alternatives cases =
+      is_eq (structures_cmp (trees_of (all_of alternatives)) (trees_of (alternatives_of cases)))

@@ -329,6 +329,10 @@ AreSlotsOf [] (h ∷ hs) = ⊥
 AreSlotsOf (c ∷ cs) [] = ⊥
 AreSlotsOf (c ∷ cs) (h ∷ hs) = SameComponent c h.component × AreSlotsOf cs hs
 
+-- so of the components of a type
+abbrev pub IsLayoutOf : {S V : Type 0} → Components V → List (Slot S V) → Type 0
+IsLayoutOf components layout = AreSlotsOf (all_components components) layout
+
 abbrev SameAll : {V : Type 0} → List (ComponentType V) → Type 0
 SameAll [] = ⊤
 SameAll (c ∷ cs) = SameComponent c c × SameAll cs

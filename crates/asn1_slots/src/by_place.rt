@@ -1,51 +1,100 @@
 //! Types that are read by place.
-ghost use Rattle.asn1_codec.specs.ReadingTypes.{ReadsFields};
-ghost use Rattle.asn1_components.specs.Components.{all_components};
 ghost use Rattle.asn1_codec.specs.DecodeErrors.{lacks_name, reason};
-ghost use Rattle.asn1_slots.specs.Slots.{AreSlotsOf, HoldBefore, IsOfSlots, ReadsAt};
-ghost use Rattle.std.specs.Prelude.{◌≡◌, IfErr, OnOk, true};
+ghost use Rattle.asn1_codec.specs.Reading.{KeepsDepth, NeedsDepth, ReadsValue};
+ghost use Rattle.asn1_codec.specs.ReadingTypes.{ReadsComponents, ReadsFields};
+ghost use Rattle.asn1_components.specs.Components.{is_sequence};
+ghost use Rattle.asn1_model.specs.ConstraintSets.{ConstraintSet};
+ghost use Rattle.asn1_slots.specs.Slots.{HoldBefore, IsLayoutOf, IsOfSlots, MakesValue, ReadsAt, RefusesMissing, Slot};
+ghost use Rattle.std.specs.Prelude.{◌≡◌, IfErr, List, OnOk, true};
 
+use crate::calls::Decoded;
 use crate::errors::in_component;
-use crate::slotted::Slotted;
 use asn1_codec::DecodeError;
-use asn1_components::FieldTable;
+use asn1_components::{ConstructedType, FieldTable};
 use asn1_dec::Decoder;
+use asn1_tags::Tag;
+use std::alloc::Global;
 
 /// A type whose components are read one by one, each by its place in the definition, into slots: a SEQUENCE or a group of
 /// additions.
-pub trait DecodeByPlace: FieldTable + Slotted + Drop {
+pub trait DecodeByPlace: Eq + Sized + Drop {
+    /// The slots: an option for each component.
+    type Slots: Default + Drop;
+
+    // The components, each with its slot, in the order of the definition.
+    ghost layout: { List (Slot Self.Slots Self) };
+
+    /// The value of these slots. Where a component is missing that is always there, the error is
+    /// [`DecodeError::MissingField`], with the name of the first. Of the slots of a value it fails only if memory runs out.
+    fn from_slots(alloc: Global, slots: Self::Slots) -> Result<Self, DecodeError>
+        ensures made { MakesValue layout Self.eq slots result }
+        ensures missing { RefusesMissing layout slots result };
+
     /// Reads the component at a place into its slot, and leaves the slots before it. At the places after the last component it
     /// does nothing.
-    fn decode_field<D: Decoder>(
-        place: usize,
-        slots: &mut Self::Slots,
-        decoder: &mut D,
-    ) -> Result<(), DecodeError>
-        ensures read { ReadsAt D.reader Self.layout place decoder.old decoder.new slots.new result }
-        ensures kept { (v : Self) → HoldBefore Self.layout place slots.old v →
-            HoldBefore Self.layout place slots.new v }
+    fn decode_field<D: Decoder>(place: usize, slots: &mut Self::Slots, decoder: &mut D) -> Decoded
+        ensures read { ReadsAt D.reader layout place decoder.old decoder.new slots.new result }
+        ensures kept { (v : Self) → HoldBefore layout place slots.old v →
+            HoldBefore layout place slots.new v }
         ensures same_depth { OnOk result (D.reader.depth_left decoder.new ≡
             D.reader.depth_left decoder.old) };
+}
 
-    // The law: these are the slots of the components.
-    ghost agrees: { AreSlotsOf (all_components Self.FieldTable.components) Self.Slotted.layout };
-
-    /// Reads all components: what [`asn1_dec::DecodeFields::decode_fields`] of the type calls. An error of a component is answered
-    /// with its name ([`DecodeError::in_field`]); another that lacks a name is one of [`Slotted::from_slots`].
-    final fn decode_by_place<D: Decoder>(decoder: &mut D) -> Result<Self, DecodeError>
-        ensures read { ReadsFields D.reader Self.components Self.eq decoder.old decoder.new result }
-        ensures same_depth { OnOk result (D.reader.depth_left decoder.new ≡
-            D.reader.depth_left decoder.old) }
-        ensures named { IfErr result (λ error. lacks_name (reason error) ≡ true →
-            IsOfSlots Self.layout Self.eq error) }
-    {
-        let mut slots = Self::Slots::default();
-        for place in 0..Self::field_count() {
-            match Self::decode_field(place, &mut slots, decoder) {
-                Ok(()) => {}
-                Err(error) => return Err(in_component::<Self>(place, error)),
-            }
+/// Reads all components: what [`asn1_dec::DecodeFields::decode_fields`] of a group of additions calls, where the layout is that of
+/// its components. An error of a component is answered with its name ([`DecodeError::in_field`]); another that lacks a name is one
+/// of [`DecodeByPlace::from_slots`].
+pub fn decode_fields_by_place<C: DecodeByPlace + FieldTable, D: Decoder>(
+    decoder: &mut D,
+) -> Result<C, DecodeError>
+    ensures read { IsLayoutOf C.components C.layout →
+        ReadsFields D.reader C.components C.eq decoder.old decoder.new result }
+    ensures same_depth { OnOk result (D.reader.depth_left decoder.new ≡
+        D.reader.depth_left decoder.old) }
+    ensures named { IfErr result (λ error. lacks_name (reason error) ≡ true →
+        IsOfSlots C.layout C.eq error) }
+{
+    let mut slots = C::Slots::default();
+    for place in 0..C::field_count() {
+        match C::decode_field(place, &mut slots, decoder) {
+            Ok(()) => {}
+            Err(error) => return Err(in_component::<C>(place, error)),
         }
-        Self::from_slots(decoder.global(), slots)
     }
+    C::from_slots(decoder.global(), slots)
+}
+
+/// A SEQUENCE under a tag.
+fn read_sequence<S: DecodeByPlace + FieldTable, D: Decoder>(
+    decoder: &mut D,
+    tag: Tag,
+) -> Result<S, DecodeError>
+    ensures read { IsLayoutOf S.components S.layout →
+        ReadsComponents D.reader is_sequence tag S.components S.eq decoder.old decoder.new result }
+    ensures depth_first { NeedsDepth D.reader decoder.old result }
+    ensures keeps_depth { KeepsDepth D.reader decoder.old decoder.new result }
+{
+    decoder.open_sequence::<S>(tag)?;
+    let value = match decode_fields_by_place(decoder) {
+        Ok(value) => value,
+        Err(error) => return Err(decoder.refuse(error)),
+    };
+    decoder.close()?;
+    Ok(value)
+}
+
+/// Reads a SEQUENCE, by its components, one after another, where the layout is that of these. Of a type that is one it reads a
+/// value of the type, under whatever constraints. An error of a component is answered with its name.
+pub fn decode_sequence_by_place<S: DecodeByPlace + ConstructedType, D: Decoder>(
+    decoder: &mut D,
+    tag: Tag,
+) -> Result<S, DecodeError>
+    ensures components { IsLayoutOf S.components S.layout →
+        ReadsComponents D.reader is_sequence tag S.components S.eq decoder.old decoder.new result }
+    ensures as_meant { IsLayoutOf S.components S.layout → S.components.kind ≡ is_sequence →
+        (c : ConstraintSet) →
+        ReadsValue D.reader S.meaning S.eq tag c decoder.old decoder.new result }
+    ensures depth_first { NeedsDepth D.reader decoder.old result }
+    ensures keeps_depth { KeepsDepth D.reader decoder.old decoder.new result }
+{
+    read_sequence(decoder, tag)
 }

@@ -10,12 +10,15 @@ use crate::tagging::Tagging;
 use asn1_codec::DecodeError;
 use asn1_dec::{Decode, DecodeFields, Decoder};
 
+/// What a call answers that reads a component into its slot.
+pub type Decoded = Result<(), DecodeError>;
+
 /// Reads a component that is always there.
 pub fn required<T: Decode, D: Decoder>(
     slot: &mut Option<T>,
     decoder: &mut D,
     tagging: Tagging,
-) -> Result<(), DecodeError>
+) -> Decoded
     ensures read { Fills D.reader (under tagging T.meaning) T.eq decoder.old decoder.new slot.new
         result }
     ensures same_depth { OnOk result (D.reader.depth_left decoder.new ≡
@@ -30,7 +33,7 @@ pub fn optional<T: Decode, D: Decoder>(
     slot: &mut Option<T>,
     decoder: &mut D,
     tagging: Tagging,
-) -> Result<(), DecodeError>
+) -> Decoded
     ensures read { FillsOptional D.reader in_root (under tagging T.meaning) T.eq decoder.old
         decoder.new slot.new result }
     ensures same_depth { OnOk result (D.reader.depth_left decoder.new ≡
@@ -45,7 +48,7 @@ pub fn addition<T: Decode, D: Decoder>(
     slot: &mut Option<T>,
     decoder: &mut D,
     tagging: Tagging,
-) -> Result<(), DecodeError>
+) -> Decoded
     ensures read { FillsOptional D.reader in_additions (under tagging T.meaning) T.eq decoder.old
         decoder.new slot.new result }
     ensures same_depth { OnOk result (D.reader.depth_left decoder.new ≡
@@ -56,10 +59,7 @@ pub fn addition<T: Decode, D: Decoder>(
 }
 
 /// Reads a group of additions, which may be absent.
-pub fn group<C: DecodeFields, D: Decoder>(
-    slot: &mut Option<C>,
-    decoder: &mut D,
-) -> Result<(), DecodeError>
+pub fn group<C: DecodeFields, D: Decoder>(slot: &mut Option<C>, decoder: &mut D) -> Decoded
     ensures read { FillsGroup D.reader C.components C.eq decoder.old decoder.new slot.new result }
     ensures same_depth { OnOk result (D.reader.depth_left decoder.new ≡
         D.reader.depth_left decoder.old) }
@@ -75,7 +75,7 @@ pub fn once<T: Decode, D: Decoder>(
     decoder: &mut D,
     tagging: Tagging,
     name: &'static str,
-) -> Result<(), DecodeError>
+) -> Decoded
     ensures read { FillsOnce D.reader name.now (under tagging T.meaning) T.eq decoder.old
         decoder.new slot.old slot.new result }
     ensures same_depth { OnOk result (D.reader.depth_left decoder.new ≡

@@ -1,9 +1,8 @@
 //! The values of the alternatives of a CHOICE.
-ghost use Rattle.asn1_choices.specs.Alternatives.{OneOf};
 ghost use Rattle.asn1_model.specs.ConstraintSets.{constraint_set};
-ghost use Rattle.asn1_slots.specs.Cases.{Case, ReadsValueOf, alternatives_of};
+ghost use Rattle.asn1_slots.specs.Cases.{ReadsValueOf};
 ghost use Rattle.asn1_slots.specs.Taggings.{under, under_constraints};
-ghost use Rattle.std.specs.Prelude.{◌≡◌, List, OnOk};
+ghost use Rattle.std.specs.Prelude.{◌≡◌, OnOk};
 
 use crate::tagged::read_component;
 use crate::tagging::Tagging;
@@ -11,15 +10,6 @@ use asn1_bounds::Constraints;
 use asn1_codec::DecodeError;
 use asn1_dec::{Decode, Decoder};
 use asn1_tags::Tag;
-
-/// A CHOICE by its cases: the alternatives, and how a value is made of each.
-pub trait HasCases {
-    // The alternatives, in the order of the definition.
-    ghost cases: { List (Case Self) };
-
-    // Which of them a value is.
-    ghost case_of: { Self → OneOf (alternatives_of cases) };
-}
 
 /// Reads the value of an alternative.
 pub fn alternative<T: Decode, D: Decoder>(

@@ -1,25 +1,27 @@
 //! Reading by place: a type whose components are read into slots, or whose alternatives are read each by its place, with no proof
 //! of its own.
 //!
-//! A type of components has a slot for each of them, an option that is empty at first ([`Slotted`]). It states the list of its
-//! components once, each with its slot, and says in one line for each place how that component is read into the slot. The
-//! rest is here, and is proved once: the components are read one after another, what follows each is told apart by its tags,
-//! and of full slots the value is made.
+//! A type of components has a slot for each of them, an option that is empty at first. It states the list of its components once,
+//! each with its slot, and says in one line for each place how that component is read into the slot. The rest is here, and is
+//! proved once: the components are read one after another, what follows each is told apart by its tags, and of full slots the
+//! value is made.
 //!
-//! A CHOICE states its cases once: each alternative, and the variant that makes a value of it ([`HasCases`]). It says in one line
-//! for each place how that alternative is read. Which alternative can begin with a tag is looked for in the trees of the type,
-//! or in a table of their leaves.
+//! A CHOICE states its cases once: each alternative, and the variant that makes a value of it. It says in one line for each place
+//! how that alternative is read. Which alternative can begin with a tag is looked for in the trees of the type, or in a table of
+//! their leaves.
 //!
 //! | Item | What it is |
 //! |---|---|
-//! | [`Slotted`], [`filled`], [`or_default`], [`or_empty`] | a type with a slot for each component, and what is in a slot |
-//! | [`DecodeByPlace`] | a SEQUENCE or a group of additions whose components are read into slots |
-//! | [`DecodeSetByPlace`], [`decode_set_by_place`] | a SET whose components are read into slots, in whatever order they come |
-//! | [`required`], [`optional`], [`addition`], [`group`], [`once`] | the calls that read a component into its slot |
+//! | [`DecodeByPlace`] | a SEQUENCE or a group of additions: its slots, and how its components are read into them |
+//! | [`decode_sequence_by_place`], [`decode_fields_by_place`] | read a SEQUENCE, and the components of a group |
+//! | [`DecodeSetByPlace`], [`decode_set_by_place`] | the same of a SET, whose components come in any order |
+//! | [`required`], [`optional`], [`addition`], [`group`], [`once`] | the calls that read a component into its slot, which answer [`Decoded`] |
 //! | [`required_with_constraints`], [`optional_with_constraints`], [`addition_with_constraints`] | the same under constraints of the component's own |
-//! | [`HasCases`], [`DecodeChoiceByPlace`] | a CHOICE by its cases, and one whose alternatives are read by place |
+//! | [`filled`], [`or_default`], [`or_empty`] | what is in a slot |
+//! | [`DecodeChoiceByPlace`] | a CHOICE: its cases, and how its alternatives are read |
+//! | [`from_tag_by_place`], [`from_tag_by_table`] | read the alternative that can begin with a tag |
 //! | [`alternative`], [`alternative_with_constraints`] | the calls that read the value of an alternative |
-//! | [`Tagging`] | how the type of a component is tagged: as its list of components says |
+//! | [`Tagging`] | how the type of a component or an alternative is tagged: as the type's list says |
 //!
 //! What the contracts promise, and the words that they use:
 //!
@@ -35,19 +37,19 @@
 //! - Of slots that hold what a value has an equal value is made (`MakesValue`). Where a component is missing that is always
 //!   there, the error says which is the first (`RefusesMissing`).
 //! - An error of a component is answered with the component's name, unless it has one already, or is about more than the component
-//!   (`named` of `decode_by_place` and of [`once`]).
-//! - So `decode_by_place` reads a SEQUENCE or a group as `decode_fields` of `asn1_dec` has to, and [`decode_set_by_place`] reads
-//!   a SET as `decode_set` of `Decoder` does.
-//!
+//!   (`named` of [`decode_fields_by_place`] and of [`once`]).
+//! - So [`decode_fields_by_place`] reads a group as `decode_fields` of `asn1_dec` has to, and [`decode_sequence_by_place`] and
+//!   [`decode_set_by_place`] read a SEQUENCE and a SET as `decode_sequence` and `decode_set` of `Decoder` do, where the layout is
+//!   that of the type's components (`IsLayoutOf`), which the check finds.
 //! - An alternative and its variant are a `Case` (`specs/Cases.antt`), made by `variant`; of the list of these are made the
 //!   alternatives of the type, by `choice_of_cases` and `extensible_choice_after`. At each place of a CHOICE its call has to
 //!   promise that it reads the alternative's value and makes of it what `case_of` says (`ReadsCaseAt`).
 //! - The alternative of a tag is found by its place (`IsPlaceOf` of `specs/TagPlaces.antt`), and where no alternative has the
-//!   tag the error is `NoValidChoice` with the name of the type. So [`DecodeChoiceByPlace::from_tag_by_place`] and
-//!   [`DecodeChoiceByPlace::from_tag_by_table`] read a CHOICE as `from_tag` of `asn1_dec` has to.
+//!   tag the error is `NoValidChoice` with the name of the type. So [`from_tag_by_place`] and [`from_tag_by_table`] read a CHOICE
+//!   as `from_tag` of `asn1_dec` has to, where the type's trees are those of its cases (`are_of_cases`, which the check computes).
 //!
-//! The other words are those of `asn1_codec` and of the crates below it. The calls take memory as the types of the components do; `from_tag_by_table`
-//! takes some for the table too.
+//! The other words are those of `asn1_codec` and of the crates below it. The calls take memory as the types of the components and
+//! alternatives do, and [`from_tag_by_table`] for its table.
 #![tactic(auto)]
 
 mod by_place;
@@ -58,17 +60,17 @@ mod constrained;
 mod errors;
 mod places;
 mod set_by_place;
-mod slotted;
+mod slot_values;
 mod tagged;
 mod tagging;
 
-pub use by_place::DecodeByPlace;
-pub use calls::{addition, group, once, optional, required};
-pub use cases::{HasCases, alternative, alternative_with_constraints};
-pub use choice_by_place::DecodeChoiceByPlace;
+pub use by_place::{DecodeByPlace, decode_fields_by_place, decode_sequence_by_place};
+pub use calls::{Decoded, addition, group, once, optional, required};
+pub use cases::{alternative, alternative_with_constraints};
+pub use choice_by_place::{DecodeChoiceByPlace, from_tag_by_place, from_tag_by_table};
 pub use constrained::{
     addition_with_constraints, optional_with_constraints, required_with_constraints,
 };
 pub use set_by_place::{DecodeSetByPlace, decode_set_by_place};
-pub use slotted::{Slotted, filled, or_default, or_empty};
+pub use slot_values::{filled, or_default, or_empty};
 pub use tagging::Tagging;

@@ -1,47 +1,53 @@
 //! SET types that are read by place.
 ghost use Rattle.asn1_codec.specs.Reading.{KeepsDepth, NeedsDepth, ReadsValue};
 ghost use Rattle.asn1_codec.specs.ReadingTypes.{ReadsComponents};
-ghost use Rattle.asn1_components.specs.Components.{all_components, is_set};
+ghost use Rattle.asn1_components.specs.Components.{is_set};
 ghost use Rattle.asn1_model.specs.ConstraintSets.{ConstraintSet};
-ghost use Rattle.asn1_slots.specs.Slots.{AreEmpty, AreSlotsOf, OthersAreKept, ReadsOnceAt, ReadsSlotsLeft, has_no_group};
-ghost use Rattle.std.specs.Prelude.{◌≡◌, OnErr, OnOk, true};
+ghost use Rattle.asn1_slots.specs.Slots.{AreEmpty, IsLayoutOf, MakesValue, OthersAreKept, ReadsOnceAt, ReadsSlotsLeft, RefusesMissing, Slot, has_no_group};
+ghost use Rattle.std.specs.Prelude.{◌≡◌, List, OnErr, OnOk, true};
 
-use crate::slotted::Slotted;
+use crate::calls::Decoded;
 use asn1_codec::DecodeError;
 use asn1_components::{ConstructedType, FieldTable};
 use asn1_dec::{Decoder, component_with_tag};
 use asn1_tags::Tag;
+use std::alloc::Global;
 
 /// A SET whose components are read in whatever order they come, each by its place in the definition, into slots.
-pub trait DecodeSetByPlace: FieldTable + Slotted + Drop {
+pub trait DecodeSetByPlace: Eq + Sized + Drop {
+    /// The slots: an option for each component.
+    type Slots: Default + Drop;
+
+    // The components, each with its slot, in the order of the definition.
+    ghost layout: { List (Slot Self.Slots Self) };
+
+    /// The value of these slots, as [`crate::DecodeByPlace::from_slots`] makes it.
+    fn from_slots(alloc: Global, slots: Self::Slots) -> Result<Self, DecodeError>
+        ensures made { MakesValue layout Self.eq slots result }
+        ensures missing { RefusesMissing layout slots result };
+
     /// Reads the component at a place of the definition into its slot, and leaves the other slots. Where it was read before, the
     /// error is [`DecodeError::DuplicateField`], with its name.
-    fn decode_field<D: Decoder>(
-        place: usize,
-        slots: &mut Self::Slots,
-        decoder: &mut D,
-    ) -> Result<(), DecodeError>
-        ensures read { ReadsOnceAt D.reader Self.layout place decoder.old decoder.new slots.old
-            slots.new result }
-        ensures kept { (v : Self) → OthersAreKept Self.layout place slots.old slots.new v }
+    fn decode_field<D: Decoder>(place: usize, slots: &mut Self::Slots, decoder: &mut D) -> Decoded
+        ensures read { ReadsOnceAt D.reader layout place decoder.old decoder.new slots.old slots.new
+            result }
+        ensures kept { (v : Self) → OthersAreKept layout place slots.old slots.new v }
         ensures same_depth { OnOk result (D.reader.depth_left decoder.new ≡
             D.reader.depth_left decoder.old) };
 
-    // The laws: these are the slots of the components, none of which is a group; and they are empty at first.
-    ghost agrees: { AreSlotsOf (all_components Self.FieldTable.components) Self.Slotted.layout };
+    // The laws: none of the components is a group, and the slots are empty at first.
+    ghost no_group: { has_no_group layout ≡ true };
 
-    ghost no_group: { has_no_group Self.Slotted.layout ≡ true };
-
-    ghost empty_at_first: { (s : Self.Slots) → Self.Slots.Default.is_default s → AreEmpty Self.Slotted.layout s };
+    ghost empty_at_first: { (s : Self.Slots) → Self.Slots.Default.is_default s → AreEmpty layout s };
 }
 
 /// The slots of the components that are left in a SET, of which there are at most this many records.
-fn read_slots<S: DecodeSetByPlace, D: Decoder>(
+fn read_slots<S: DecodeSetByPlace + FieldTable, D: Decoder>(
     decoder: &mut D,
     bound: usize,
 ) -> Result<S::Slots, DecodeError>
-    ensures read { ReadsSlotsLeft D.reader bound S.components S.layout decoder.old decoder.new
-        result }
+    ensures read { IsLayoutOf S.components S.layout →
+        ReadsSlotsLeft D.reader bound S.components S.layout decoder.old decoder.new result }
     ensures same_depth { OnOk result (D.reader.depth_left decoder.new ≡
         D.reader.depth_left decoder.old) }
     ensures has_failed { OnErr result (D.reader.failed decoder.new ≡ true) }
@@ -66,12 +72,12 @@ fn read_slots<S: DecodeSetByPlace, D: Decoder>(
 }
 
 /// A SET under a tag.
-fn read_components<S: DecodeSetByPlace, D: Decoder>(
+fn read_components<S: DecodeSetByPlace + FieldTable, D: Decoder>(
     decoder: &mut D,
     tag: Tag,
 ) -> Result<S, DecodeError>
-    ensures read { ReadsComponents D.reader is_set tag S.components S.eq decoder.old decoder.new
-        result }
+    ensures read { IsLayoutOf S.components S.layout →
+        ReadsComponents D.reader is_set tag S.components S.eq decoder.old decoder.new result }
     ensures depth_first { NeedsDepth D.reader decoder.old result }
     ensures keeps_depth { KeepsDepth D.reader decoder.old decoder.new result }
 {
@@ -85,17 +91,17 @@ fn read_components<S: DecodeSetByPlace, D: Decoder>(
     Ok(value)
 }
 
-/// Reads a SET, by its components, in whatever order they come. Of a type that is one it reads a value of the type, under
-/// whatever constraints. A record whose tag no component has is refused with [`DecodeError::UnknownField`], by its place among the
+/// Reads a SET, by its components, in whatever order they come, where the layout is that of these. Of a type that is one it reads a
+/// value of the type, under whatever constraints. A record whose tag no component has is refused with [`DecodeError::UnknownField`], by its place among the
 /// records; a component that comes twice, or is missing, as the type refuses it.
 pub fn decode_set_by_place<S: DecodeSetByPlace + ConstructedType, D: Decoder>(
     decoder: &mut D,
     tag: Tag,
 ) -> Result<S, DecodeError>
-    ensures components { ReadsComponents D.reader is_set tag S.components S.eq decoder.old
-        decoder.new
-        result }
-    ensures as_meant { S.components.kind ≡ is_set → (c : ConstraintSet) →
+    ensures components { IsLayoutOf S.components S.layout →
+        ReadsComponents D.reader is_set tag S.components S.eq decoder.old decoder.new result }
+    ensures as_meant { IsLayoutOf S.components S.layout → S.components.kind ≡ is_set →
+        (c : ConstraintSet) →
         ReadsValue D.reader S.meaning S.eq tag c decoder.old decoder.new result }
     ensures depth_first { NeedsDepth D.reader decoder.old result }
     ensures keeps_depth { KeepsDepth D.reader decoder.old decoder.new result }

@@ -1,12 +1,14 @@
 //! `BindRequest ::= [APPLICATION 0] SEQUENCE { version INTEGER (1..127), name LDAPDN, simple [0] OCTET STRING }` (RFC 4511, 4.2),
 //! of whose kinds of authentication only one is here.
 ghost use Rattle.std.specs.Prelude.{Some, [], codes, pos, ◌∷◌, ◌≡◌};
-ghost use Rattle.asn1_schema.specs.Words.{IsWellTagged, Range, application, constructed_agrees, constructed_type_under, context, holding, lines, number, octet, own_records, required, scalar, sequence, sequence_head, tagged, unconstrained, units, universal, untagged, values_of};
+ghost use Rattle.asn1_schema.specs.Words.{IsWellTagged, Range, application, constructed_agrees, constructed_type_under, context, holding, lines, number, octet, own_records, required_slot, scalar, sequence_head, sequence_of_slots, tagged, unconstrained, units, universal, untagged, values_of};
 
 use asn1_schema::{
-    AsnType, Class, ConstrainedInteger, Constraints, ConstructedType, Encode, EncodeError,
-    EncodeFields, Encoder, Field, FieldTable, Identifier, OctetString, Tag, TypeTable,
+    AsnType, Class, ConstrainedInteger, Constraints, ConstructedType, Decode, DecodeByPlace,
+    DecodeError, Decoded, Decoder, Encode, EncodeError, EncodeFields, Encoder, Field, FieldTable,
+    Identifier, OctetString, Tag, Tagging, TypeTable, decode_sequence_by_place, filled, required,
 };
+use std::alloc::Global;
 
 /// `INTEGER (1..127)`
 pub type Version = ConstrainedInteger<1, 127>;
@@ -33,14 +35,36 @@ const SIMPLE: Tag = Tag {
     value: 0,
 };
 
+impl DecodeByPlace for BindRequest {
+    type Slots = (Option<Version>, Option<OctetString>, Option<OctetString>);
+
+    ghost layout = { required_slot (codes "version") (λ v. v.version) (λ s. s.0)
+        (untagged ⟦<Version as AsnType>⟧.meaning) ⟦<Version as PartialEq>⟧.eq ∷
+        required_slot (codes "name") (λ v. v.name) (λ s. s.1)
+        (untagged ⟦<OctetString as AsnType>⟧.meaning) ⟦<OctetString as PartialEq>⟧.eq ∷
+        required_slot (codes "simple") (λ v. v.simple) (λ s. s.2)
+        (tagged (context 0) ⟦<OctetString as AsnType>⟧.meaning) ⟦<OctetString as PartialEq>⟧.eq ∷ [] };
+
+    fn from_slots(_alloc: Global, slots: Self::Slots) -> Result<BindRequest, DecodeError> {
+        Ok(BindRequest {
+            version: filled(slots.0, "version")?,
+            name: filled(slots.1, "name")?,
+            simple: filled(slots.2, "simple")?,
+        })
+    }
+
+    fn decode_field<D: Decoder>(place: usize, slots: &mut Self::Slots, decoder: &mut D) -> Decoded {
+        match place {
+            0 => required(&mut slots.0, decoder, Tagging::Untagged),
+            1 => required(&mut slots.1, decoder, Tagging::Untagged),
+            2 => required(&mut slots.2, decoder, Tagging::Tagged(SIMPLE)),
+            _ => Ok(()),
+        }
+    }
+}
+
 impl FieldTable for BindRequest {
-    ghost components = { sequence (
-        required (codes "version") (λ v. v.version)
-        (untagged ⟦<Version as AsnType>⟧.meaning) ∷
-        required (codes "name") (λ v. v.name)
-        (untagged ⟦<OctetString as AsnType>⟧.meaning) ∷
-        required (codes "simple") (λ v. v.simple)
-        (tagged (context 0) ⟦<OctetString as AsnType>⟧.meaning) ∷ []) };
+    ghost components = { sequence_of_slots ⟦<BindRequest as DecodeByPlace>⟧.layout };
 
     fn field_count() -> usize {
         3
@@ -101,6 +125,16 @@ impl EncodeFields for BindRequest {
             2 => self.simple.encode_with_tag(encoder, SIMPLE),
             _ => Ok(()),
         }
+    }
+}
+
+impl Decode for BindRequest {
+    fn decode_with_tag_and_constraints<D: Decoder>(
+        decoder: &mut D,
+        tag: Tag,
+        _constraints: &Constraints<'_>,
+    ) -> Result<BindRequest, DecodeError> {
+        decode_sequence_by_place(decoder, tag)
     }
 }
 

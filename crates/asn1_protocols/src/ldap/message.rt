@@ -1,12 +1,14 @@
 //! `LDAPMessage ::= SEQUENCE { messageID INTEGER (0..2147483647), protocolOp ProtocolOp }` (RFC 4511, 4.1.1), without controls.
 ghost use Rattle.std.specs.Prelude.{[], codes, ◌∷◌};
-ghost use Rattle.asn1_schema.specs.Words.{IsWellTagged, constructed_agrees, constructed_type, required, sequence, untagged};
+ghost use Rattle.asn1_schema.specs.Words.{IsWellTagged, constructed_agrees, constructed_type, required_slot, sequence_of_slots, untagged};
 
 use crate::ldap::ProtocolOp;
 use asn1_schema::{
-    AsnType, ConstrainedInteger, Constraints, ConstructedType, Encode, EncodeError, EncodeFields,
-    Encoder, Field, FieldTable, Identifier, Tag, TypeTable,
+    AsnType, ConstrainedInteger, Constraints, ConstructedType, Decode, DecodeByPlace, DecodeError,
+    Decoded, Decoder, Encode, EncodeError, EncodeFields, Encoder, Field, FieldTable, Identifier,
+    Tag, Tagging, TypeTable, decode_sequence_by_place, filled, required,
 };
+use std::alloc::Global;
 
 /// `MessageID ::= INTEGER (0..2147483647)`
 pub type MessageId = ConstrainedInteger<0, 2147483647>;
@@ -20,12 +22,32 @@ pub struct LdapMessage {
     pub operation: ProtocolOp,
 }
 
+impl DecodeByPlace for LdapMessage {
+    type Slots = (Option<MessageId>, Option<ProtocolOp>);
+
+    ghost layout = { required_slot (codes "messageID") (λ v. v.id) (λ s. s.0)
+        (untagged ⟦<MessageId as AsnType>⟧.meaning) ⟦<MessageId as PartialEq>⟧.eq ∷
+        required_slot (codes "protocolOp") (λ v. v.operation) (λ s. s.1)
+        (untagged ⟦<ProtocolOp as AsnType>⟧.meaning) ⟦<ProtocolOp as PartialEq>⟧.eq ∷ [] };
+
+    fn from_slots(_alloc: Global, slots: Self::Slots) -> Result<LdapMessage, DecodeError> {
+        Ok(LdapMessage {
+            id: filled(slots.0, "messageID")?,
+            operation: filled(slots.1, "protocolOp")?,
+        })
+    }
+
+    fn decode_field<D: Decoder>(place: usize, slots: &mut Self::Slots, decoder: &mut D) -> Decoded {
+        match place {
+            0 => required(&mut slots.0, decoder, Tagging::Untagged),
+            1 => required(&mut slots.1, decoder, Tagging::Untagged),
+            _ => Ok(()),
+        }
+    }
+}
+
 impl FieldTable for LdapMessage {
-    ghost components = { sequence (
-        required (codes "messageID") (λ v. v.id)
-        (untagged ⟦<MessageId as AsnType>⟧.meaning) ∷
-        required (codes "protocolOp") (λ v. v.operation)
-        (untagged ⟦<ProtocolOp as AsnType>⟧.meaning) ∷ []) };
+    ghost components = { sequence_of_slots ⟦<LdapMessage as DecodeByPlace>⟧.layout };
 
     fn field_count() -> usize {
         2
@@ -84,5 +106,15 @@ impl EncodeFields for LdapMessage {
             1 => self.operation.encode(encoder),
             _ => Ok(()),
         }
+    }
+}
+
+impl Decode for LdapMessage {
+    fn decode_with_tag_and_constraints<D: Decoder>(
+        decoder: &mut D,
+        tag: Tag,
+        _constraints: &Constraints<'_>,
+    ) -> Result<LdapMessage, DecodeError> {
+        decode_sequence_by_place(decoder, tag)
     }
 }

@@ -7,15 +7,16 @@
 //!     delRequest    [APPLICATION 10] LDAPDN
 //! }
 //! ```
-ghost use Rattle.std.specs.Prelude.{[], codes, ◌∷◌};
-ghost use Rattle.asn1_schema.specs.Words.{IsWellTagged, alternative, application, choice_agrees, choice_of, closed_choice, inl, inr, tagged, untagged};
+ghost use Rattle.std.specs.Prelude.{[], codes, refl, ◌∷◌};
+ghost use Rattle.asn1_schema.specs.Words.{IsWellTagged, application, choice_agrees, choice_of, choice_of_cases, inl, inr, tagged, untagged, variant};
 ghost use Rattle.asn1_protocols.specs.declared.ldap.protocol_op.ProtocolOp.TheVariants.{Bind, Unbind, Delete};
 
 use crate::ldap::BindRequest;
 use crate::ldap::bind_request::BIND_REQUEST;
 use asn1_schema::{
-    AsnType, Choice, ChoiceType, Class, Constraints, Encode, EncodeChoice, EncodeError, Encoder,
-    Identifier, OctetString, Tag, TagTree, TypeTable,
+    AsnType, Choice, ChoiceType, Class, Constraints, Decode, DecodeChoice, DecodeChoiceByPlace,
+    DecodeError, Decoder, Encode, EncodeChoice, EncodeError, Encoder, Identifier, OctetString, Tag,
+    TagTree, Tagging, TypeTable, alternative, from_tag_by_place,
 };
 
 /// What is asked.
@@ -46,13 +47,29 @@ const PROTOCOL_OP: &[TagTree<'static>] = &[
     TagTree::Leaf(DELETE_REQUEST),
 ];
 
-impl Choice for ProtocolOp {
-    ghost alternatives = { closed_choice (
-        alternative (codes "bindRequest") (untagged ⟦<BindRequest as AsnType>⟧.meaning) ∷
-        alternative (codes "unbindRequest") (tagged (application 2) ⟦<() as AsnType>⟧.meaning) ∷
-        alternative (codes "delRequest") (tagged (application 10) ⟦<OctetString as AsnType>⟧.meaning) ∷ []) };
+impl DecodeChoiceByPlace for ProtocolOp {
+    ghost cases = { variant (codes "bindRequest") Bind (untagged ⟦<BindRequest as AsnType>⟧.meaning) ⟦<BindRequest as PartialEq>⟧.eq ∷
+        variant (codes "unbindRequest") Unbind (tagged (application 2) ⟦<() as AsnType>⟧.meaning) ⟦<() as PartialEq>⟧.eq ∷
+        variant (codes "delRequest") Delete (tagged (application 10) ⟦<OctetString as AsnType>⟧.meaning) ⟦<OctetString as PartialEq>⟧.eq ∷ [] };
 
-    ghost pick = { elim [ Bind request ↦ inl request | Unbind nothing ↦ inr (inl nothing) | Delete entry ↦ inr (inr (inl entry)) ] };
+    ghost case_of = { elim [ Bind request ↦ inl request | Unbind nothing ↦ inr (inl nothing) | Delete entry ↦ inr (inr (inl entry)) ] };
+
+    fn decode_alternative<D: Decoder>(place: usize, decoder: &mut D) -> Result<Self, DecodeError> {
+        match place {
+            0 => Ok(ProtocolOp::Bind(alternative(decoder, Tagging::Untagged)?)),
+            1 => Ok(ProtocolOp::Unbind(alternative(decoder, Tagging::Tagged(UNBIND_REQUEST))?)),
+            2 => Ok(ProtocolOp::Delete(alternative(decoder, Tagging::Tagged(DELETE_REQUEST))?)),
+            _ => Err(DecodeError::NoValidChoice("protocolOp")),
+        }
+    }
+
+    ghost made = { elim [ Bind request ↦ (refl, λ _. refl) | Unbind nothing ↦ (refl, λ _. refl) | Delete entry ↦ (refl, λ _. refl) ] };
+}
+
+impl Choice for ProtocolOp {
+    ghost alternatives = { choice_of_cases ⟦<ProtocolOp as DecodeChoiceByPlace>⟧.cases };
+
+    ghost pick = { ⟦<ProtocolOp as DecodeChoiceByPlace>⟧.case_of };
 
     fn variants() -> &'static [TagTree<'static>] {
         PROTOCOL_OP
@@ -115,5 +132,21 @@ impl EncodeChoice for ProtocolOp {
             ProtocolOp::Unbind(nothing) => nothing.encode_with_tag(encoder, UNBIND_REQUEST),
             ProtocolOp::Delete(entry) => entry.encode_with_tag(encoder, DELETE_REQUEST),
         }
+    }
+}
+
+impl Decode for ProtocolOp {
+    fn decode_with_tag_and_constraints<D: Decoder>(
+        decoder: &mut D,
+        tag: Tag,
+        constraints: &Constraints<'_>,
+    ) -> Result<ProtocolOp, DecodeError> {
+        decoder.decode_choice_with_tag(tag, constraints)
+    }
+}
+
+impl DecodeChoice for ProtocolOp {
+    fn from_tag<D: Decoder>(decoder: &mut D, tag: Tag) -> Result<ProtocolOp, DecodeError> {
+        from_tag_by_place(decoder, tag)
     }
 }

@@ -1,12 +1,14 @@
 //! `ChildInformation ::= SET { name Name, dateOfBirth [0] Date }`
-ghost use Rattle.std.specs.Prelude.{[], codes, ◌∷◌};
-ghost use Rattle.asn1_schema.specs.Words.{IsWellTagged, constructed_agrees, constructed_type, context, explicitly_tagged, required, set, untagged};
+ghost use Rattle.std.specs.Prelude.{[], codes, refl, ◌∷◌};
+ghost use Rattle.asn1_schema.specs.Words.{IsWellTagged, constructed_agrees, constructed_type, context, explicitly_tagged, required_slot, set_of_slots, untagged};
 
 use crate::personnel::{Date, Name};
 use asn1_schema::{
-    AsnType, Class, Constraints, ConstructedType, Encode, EncodeError, EncodeFields, Encoder,
-    Field, FieldTable, Identifier, Tag, TypeTable,
+    AsnType, Class, Constraints, ConstructedType, Decode, DecodeError, DecodeSetByPlace, Decoded,
+    Decoder, Encode, EncodeError, EncodeFields, Encoder, Field, FieldTable, Identifier, Tag,
+    Tagging, TypeTable, decode_set_by_place, filled, once,
 };
+use std::alloc::Global;
 
 /// A child: a SET of two components.
 #[derive(PartialEq, Eq, Debug, Drop)]
@@ -22,12 +24,41 @@ const DATE_OF_BIRTH: Tag = Tag {
     value: 0,
 };
 
+impl DecodeSetByPlace for ChildInformation {
+    type Slots = (Option<Name>, Option<Date>);
+
+    ghost layout = { required_slot (codes "name") (λ v. v.name) (λ s. s.0)
+        (untagged ⟦<Name as AsnType>⟧.meaning) ⟦<Name as PartialEq>⟧.eq ∷
+        required_slot (codes "dateOfBirth") (λ v. v.date_of_birth) (λ s. s.1)
+        (explicitly_tagged (context 0) ⟦<Date as AsnType>⟧.meaning) ⟦<Date as PartialEq>⟧.eq ∷ [] };
+
+    fn from_slots(_alloc: Global, slots: Self::Slots) -> Result<ChildInformation, DecodeError> {
+        Ok(ChildInformation {
+            name: filled(slots.0, "name")?,
+            date_of_birth: filled(slots.1, "dateOfBirth")?,
+        })
+    }
+
+    fn decode_field<D: Decoder>(place: usize, slots: &mut Self::Slots, decoder: &mut D) -> Decoded {
+        match place {
+            0 => once(&mut slots.0, decoder, Tagging::Untagged, "name"),
+            1 => once(
+                &mut slots.1,
+                decoder,
+                Tagging::Explicit(DATE_OF_BIRTH),
+                "dateOfBirth",
+            ),
+            _ => Ok(()),
+        }
+    }
+
+    ghost no_group = { refl };
+
+    ghost empty_at_first = { λ slots empty. (empty.0, empty.1) };
+}
+
 impl FieldTable for ChildInformation {
-    ghost components = { set (
-        required (codes "name") (λ v. v.name)
-        (untagged ⟦<Name as AsnType>⟧.meaning) ∷
-        required (codes "dateOfBirth") (λ v. v.date_of_birth)
-        (explicitly_tagged (context 0) ⟦<Date as AsnType>⟧.meaning) ∷ []) };
+    ghost components = { set_of_slots ⟦<ChildInformation as DecodeSetByPlace>⟧.layout };
 
     fn field_count() -> usize {
         2
@@ -90,5 +121,15 @@ impl EncodeFields for ChildInformation {
             ),
             _ => Ok(()),
         }
+    }
+}
+
+impl Decode for ChildInformation {
+    fn decode_with_tag_and_constraints<D: Decoder>(
+        decoder: &mut D,
+        tag: Tag,
+        _constraints: &Constraints<'_>,
+    ) -> Result<ChildInformation, DecodeError> {
+        decode_set_by_place(decoder, tag)
     }
 }

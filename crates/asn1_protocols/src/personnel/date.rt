@@ -5,8 +5,8 @@ ghost use Rattle.asn1_schema.specs.model.Kinds.{scalar_type, under_own_name};
 ghost use Rattle.asn1_schema.specs.strings.Alphabets.{is_visible};
 
 use asn1_schema::{
-    AsnType, Class, Constraints, Encode, EncodeError, Encoder, Identifier, Tag, TypeTable,
-    VisibleString,
+    AsnType, Class, Constraints, Decode, DecodeError, Decoder, Encode, EncodeError, Encoder,
+    Identifier, Tag, TypeTable, VisibleString,
 };
 
 /// A day. That its text is one is left to whoever makes it.
@@ -46,6 +46,17 @@ impl Encode for Date {
         name: Identifier,
     ) -> Result<(), EncodeError> {
         encoder.encode_visible_string(tag, constraints, &self.0, name.or(Self::identifier()))
+    }
+}
+
+impl Decode for Date {
+    fn decode_with_tag_and_constraints<D: Decoder>(
+        decoder: &mut D,
+        tag: Tag,
+        constraints: &Constraints<'_>,
+    ) -> Result<Date, DecodeError> {
+        let text = decoder.decode_visible_string(tag, constraints)?;
+        Ok(Date(text))
     }
 }
 

@@ -1,11 +1,13 @@
 //! `Name ::= [APPLICATION 1] IMPLICIT SEQUENCE { givenName VisibleString, initial VisibleString, familyName VisibleString }`
 ghost use Rattle.std.specs.Prelude.{[], codes, ◌∷◌};
-ghost use Rattle.asn1_schema.specs.Words.{IsWellTagged, application, constructed_agrees, constructed_type_under, required, sequence, untagged};
+ghost use Rattle.asn1_schema.specs.Words.{IsWellTagged, application, constructed_agrees, constructed_type_under, required_slot, sequence_of_slots, untagged};
 
 use asn1_schema::{
-    AsnType, Class, Constraints, ConstructedType, Encode, EncodeError, EncodeFields, Encoder,
-    Field, FieldTable, Identifier, Tag, TypeTable, VisibleString,
+    AsnType, Class, Constraints, ConstructedType, Decode, DecodeByPlace, DecodeError, Decoded,
+    Decoder, Encode, EncodeError, EncodeFields, Encoder, Field, FieldTable, Identifier, Tag,
+    Tagging, TypeTable, VisibleString, decode_sequence_by_place, filled, required,
 };
+use std::alloc::Global;
 
 /// What someone is called.
 #[derive(PartialEq, Eq, Debug, Drop)]
@@ -24,14 +26,40 @@ const NAME: Tag = Tag {
     value: 1,
 };
 
+impl DecodeByPlace for Name {
+    type Slots = (
+        Option<VisibleString>,
+        Option<VisibleString>,
+        Option<VisibleString>,
+    );
+
+    ghost layout = { required_slot (codes "givenName") (λ v. v.given_name) (λ s. s.0)
+        (untagged ⟦<VisibleString as AsnType>⟧.meaning) ⟦<VisibleString as PartialEq>⟧.eq ∷
+        required_slot (codes "initial") (λ v. v.initial) (λ s. s.1)
+        (untagged ⟦<VisibleString as AsnType>⟧.meaning) ⟦<VisibleString as PartialEq>⟧.eq ∷
+        required_slot (codes "familyName") (λ v. v.family_name) (λ s. s.2)
+        (untagged ⟦<VisibleString as AsnType>⟧.meaning) ⟦<VisibleString as PartialEq>⟧.eq ∷ [] };
+
+    fn from_slots(_alloc: Global, slots: Self::Slots) -> Result<Name, DecodeError> {
+        Ok(Name {
+            given_name: filled(slots.0, "givenName")?,
+            initial: filled(slots.1, "initial")?,
+            family_name: filled(slots.2, "familyName")?,
+        })
+    }
+
+    fn decode_field<D: Decoder>(place: usize, slots: &mut Self::Slots, decoder: &mut D) -> Decoded {
+        match place {
+            0 => required(&mut slots.0, decoder, Tagging::Untagged),
+            1 => required(&mut slots.1, decoder, Tagging::Untagged),
+            2 => required(&mut slots.2, decoder, Tagging::Untagged),
+            _ => Ok(()),
+        }
+    }
+}
+
 impl FieldTable for Name {
-    ghost components = { sequence (
-        required (codes "givenName") (λ v. v.given_name)
-        (untagged ⟦<VisibleString as AsnType>⟧.meaning) ∷
-        required (codes "initial") (λ v. v.initial)
-        (untagged ⟦<VisibleString as AsnType>⟧.meaning) ∷
-        required (codes "familyName") (λ v. v.family_name)
-        (untagged ⟦<VisibleString as AsnType>⟧.meaning) ∷ []) };
+    ghost components = { sequence_of_slots ⟦<Name as DecodeByPlace>⟧.layout };
 
     fn field_count() -> usize {
         3
@@ -92,5 +120,15 @@ impl EncodeFields for Name {
             2 => self.family_name.encode(encoder),
             _ => Ok(()),
         }
+    }
+}
+
+impl Decode for Name {
+    fn decode_with_tag_and_constraints<D: Decoder>(
+        decoder: &mut D,
+        tag: Tag,
+        _constraints: &Constraints<'_>,
+    ) -> Result<Name, DecodeError> {
+        decode_sequence_by_place(decoder, tag)
     }
 }

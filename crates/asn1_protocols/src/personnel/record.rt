@@ -11,15 +11,16 @@
 //! }
 //! EmployeeNumber ::= [APPLICATION 2] IMPLICIT INTEGER
 //! ```
-ghost use Rattle.std.specs.Cmp.Lexicographic.{pointwise};
-ghost use Rattle.std.specs.Prelude.{Some, [], codes, ◌++◌, ◌∷◌, ◌≡◌};
-ghost use Rattle.asn1_schema.specs.Words.{IsWellTagged, absent, application, constructed_agrees, constructed_type_under, context, explicitly_tagged, holding, in_root, lines, presence_mark, number, own_records, explicit_tag, required, scalar, set, set_head, tagged, unconstrained, units, universal, untagged, visible, with_default};
+ghost use Rattle.std.specs.Prelude.{Some, [], codes, refl, ◌++◌, ◌∷◌, ◌≡◌};
+ghost use Rattle.asn1_schema.specs.Words.{IsWellTagged, absent, application, constructed_agrees, constructed_type_under, context, default_slot_by, explicit_tag, explicitly_tagged, holding, in_root, is_empty_list, lines, number, own_records, presence_mark, required_slot, scalar, set_head, set_of_slots, tagged, unconstrained, units, universal, untagged, visible};
 
 use crate::personnel::{ChildInformation, Date, Name};
 use asn1_schema::{
-    AsnType, Class, Constraints, ConstructedType, Encode, EncodeError, EncodeFields, Encoder,
-    Field, FieldTable, Identifier, Integer, Tag, TypeTable, VisibleString,
+    AsnType, Class, Constraints, ConstructedType, Decode, DecodeError, DecodeSetByPlace, Decoded,
+    Decoder, Encode, EncodeError, EncodeFields, Encoder, Field, FieldTable, Identifier, Integer,
+    Tag, Tagging, TypeTable, VisibleString, decode_set_by_place, filled, once, or_empty,
 };
+use std::alloc::Global;
 
 /// `SEQUENCE OF ChildInformation`
 pub type Children = Vec<ChildInformation>;
@@ -71,20 +72,75 @@ const CHILDREN: Tag = Tag {
     value: 3,
 };
 
+impl DecodeSetByPlace for PersonnelRecord {
+    type Slots = (
+        Option<Name>,
+        Option<VisibleString>,
+        Option<Integer>,
+        Option<Date>,
+        Option<Name>,
+        Option<Children>,
+    );
+
+    ghost layout = { required_slot (codes "name") (λ v. v.name) (λ s. s.0)
+        (untagged ⟦<Name as AsnType>⟧.meaning) ⟦<Name as PartialEq>⟧.eq ∷
+        required_slot (codes "title") (λ v. v.title) (λ s. s.1)
+        (explicitly_tagged (context 0) ⟦<VisibleString as AsnType>⟧.meaning) ⟦<VisibleString as PartialEq>⟧.eq ∷
+        required_slot (codes "number") (λ v. v.number) (λ s. s.2)
+        (tagged (application 2) ⟦<Integer as AsnType>⟧.meaning) ⟦<Integer as PartialEq>⟧.eq ∷
+        required_slot (codes "dateOfHire") (λ v. v.date_of_hire) (λ s. s.3)
+        (explicitly_tagged (context 1) ⟦<Date as AsnType>⟧.meaning) ⟦<Date as PartialEq>⟧.eq ∷
+        required_slot (codes "nameOfSpouse") (λ v. v.name_of_spouse) (λ s. s.4)
+        (explicitly_tagged (context 2) ⟦<Name as AsnType>⟧.meaning) ⟦<Name as PartialEq>⟧.eq ∷
+        default_slot_by (codes "children") (λ v. v.children)
+        (is_empty_list ⟦<ChildInformation as PartialEq>⟧.eq) (λ s. s.5)
+        (tagged (context 3) ⟦<Children as AsnType>⟧.meaning) ⟦<Children as PartialEq>⟧.eq ∷ [] };
+
+    fn from_slots(alloc: Global, slots: Self::Slots) -> Result<PersonnelRecord, DecodeError> {
+        Ok(PersonnelRecord {
+            name: filled(slots.0, "name")?,
+            title: filled(slots.1, "title")?,
+            number: filled(slots.2, "number")?,
+            date_of_hire: filled(slots.3, "dateOfHire")?,
+            name_of_spouse: filled(slots.4, "nameOfSpouse")?,
+            children: or_empty(alloc, slots.5),
+        })
+    }
+
+    fn decode_field<D: Decoder>(place: usize, slots: &mut Self::Slots, decoder: &mut D) -> Decoded {
+        match place {
+            0 => once(&mut slots.0, decoder, Tagging::Untagged, "name"),
+            1 => once(&mut slots.1, decoder, Tagging::Explicit(TITLE), "title"),
+            2 => once(
+                &mut slots.2,
+                decoder,
+                Tagging::Tagged(EMPLOYEE_NUMBER),
+                "number",
+            ),
+            3 => once(
+                &mut slots.3,
+                decoder,
+                Tagging::Explicit(DATE_OF_HIRE),
+                "dateOfHire",
+            ),
+            4 => once(
+                &mut slots.4,
+                decoder,
+                Tagging::Explicit(NAME_OF_SPOUSE),
+                "nameOfSpouse",
+            ),
+            5 => once(&mut slots.5, decoder, Tagging::Tagged(CHILDREN), "children"),
+            _ => Ok(()),
+        }
+    }
+
+    ghost no_group = { refl };
+
+    ghost empty_at_first = { λ slots empty. (empty.0, (empty.1, (empty.2, (empty.3, (empty.4, empty.5))))) };
+}
+
 impl FieldTable for PersonnelRecord {
-    ghost components = { set (
-        required (codes "name") (λ v. v.name)
-        (untagged ⟦<Name as AsnType>⟧.meaning) ∷
-        required (codes "title") (λ v. v.title)
-        (explicitly_tagged (context 0) ⟦<VisibleString as AsnType>⟧.meaning) ∷
-        required (codes "number") (λ v. v.number)
-        (tagged (application 2) ⟦<Integer as AsnType>⟧.meaning) ∷
-        required (codes "dateOfHire") (λ v. v.date_of_hire)
-        (explicitly_tagged (context 1) ⟦<Date as AsnType>⟧.meaning) ∷
-        required (codes "nameOfSpouse") (λ v. v.name_of_spouse)
-        (explicitly_tagged (context 2) ⟦<Name as AsnType>⟧.meaning) ∷
-        with_default (codes "children") (λ v. v.children) (λ v. pointwise ⟦<ChildInformation as PartialEq>⟧.eq v.children.items [])
-        (tagged (context 3) ⟦<Children as AsnType>⟧.meaning) ∷ []) };
+    ghost components = { set_of_slots ⟦<PersonnelRecord as DecodeSetByPlace>⟧.layout };
 
     fn field_count() -> usize {
         6
@@ -164,6 +220,16 @@ impl EncodeFields for PersonnelRecord {
             ),
             _ => Ok(()),
         }
+    }
+}
+
+impl Decode for PersonnelRecord {
+    fn decode_with_tag_and_constraints<D: Decoder>(
+        decoder: &mut D,
+        tag: Tag,
+        _constraints: &Constraints<'_>,
+    ) -> Result<PersonnelRecord, DecodeError> {
+        decode_set_by_place(decoder, tag)
     }
 }
 

@@ -7,6 +7,7 @@ use Rattle.asn1_codec.specs.Reading.{Outside, records_in}
 use Rattle.asn1_model.specs.Records.{Name, Record, highest, set}
 use Rattle.asn1_codec.specs.SetParts.{CanBeInSet}
 use Rattle.asn1_slots.proofs.ReadInSets.{SlotsMidway}
+use Rattle.asn1_slots.specs.Slots.{AreSlotsOf}
 use Rattle.asn1_slots.proofs.set_by_place.read_slots.Given as goal
 
 abbrev pub invariant-loop-count : goal.invariant-loop-count
@@ -14,8 +15,8 @@ invariant-loop-count g l =
     let cs = all_components g.S.FieldTable.components in
     record {
       kept : g.D.Decoder.reader.depth_left l.decoder ≡ g.D.Decoder.reader.depth_left l.fn.decoder;
-      so_far : (v : _) (tag : Tag) (n : Name) (items rest : List Record) (outer : Outside) → CanBeInSet cs → EachIsOfType cs v → EachIsValid cs g.D.Decoder.reader.accepts v →
+      so_far : AreSlotsOf cs g.S.DecodeSetByPlace.layout → (v : _) (tag : Tag) (n : Name) (items rest : List Record) (outer : Outside) → CanBeInSet cs → EachIsOfType cs v → EachIsValid cs g.D.Decoder.reader.accepts v →
           IsPermutation items (component_records g.S.FieldTable.components v) → records_in items ≤ l.bound → g.D.Decoder.reader.remains l.fn.decoder (items, (set tag (lines g.S.FieldTable.components) n, rest) ∷ outer) →
-          SlotsMidway g.D.Decoder.reader cs g.S.Slotted.layout v l.decoder l.slots (highest items)
+          SlotsMidway g.D.Decoder.reader cs g.S.DecodeSetByPlace.layout v l.decoder l.slots (highest items)
           ((set tag (lines g.S.FieldTable.components) n, rest) ∷ outer) l.count l.bound;
     }

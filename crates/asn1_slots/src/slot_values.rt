@@ -1,26 +1,11 @@
-//! Types with a slot for each component.
-ghost use Rattle.asn1_slots.specs.Slots.{MakesValue, RefusesMissing, Slot, holds_or_default, holds_or_passes, is_empty_list};
+//! What is in a slot.
+ghost use Rattle.asn1_slots.specs.Slots.{holds_or_default, holds_or_passes, is_empty_list};
 ghost use Rattle.asn1_codec.specs.DecodeErrors.{missing_field, reason};
-ghost use Rattle.std.specs.Prelude.{◌≡◌, List, MatchOption, Ok, Vec, true};
+ghost use Rattle.std.specs.Prelude.{◌≡◌, MatchOption, Ok, Vec, true};
 ghost use Rattle.std.specs.Result.{IsErrAnd};
 
 use asn1_codec::DecodeError;
 use std::alloc::Global;
-
-/// A type with a slot for each component, into which the component is read.
-pub trait Slotted: Eq + Sized {
-    /// The slots: an option for each component.
-    type Slots: Default + Drop;
-
-    // The components, each with its slot, in the order of the definition.
-    ghost layout: { List (Slot Self.Slots Self) };
-
-    /// The value of these slots. Where a component is missing that is always there, the error is
-    /// [`DecodeError::MissingField`], with the name of the first. Of the slots of a value it fails only if memory runs out.
-    fn from_slots(alloc: Global, slots: Self::Slots) -> Result<Self, DecodeError>
-        ensures made { MakesValue layout Self.eq slots result }
-        ensures missing { RefusesMissing layout slots result };
-}
 
 /// The component that is in a slot. Where there is none, the error is [`DecodeError::MissingField`], with the name.
 pub fn filled<T: Drop>(slot: Option<T>, name: &'static str) -> Result<T, DecodeError>

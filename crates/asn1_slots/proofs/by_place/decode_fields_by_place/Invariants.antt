@@ -5,15 +5,16 @@ use Rattle.asn1_components.specs.Following.{EndsApart}
 use Rattle.asn1_codec.specs.Reading.{Outside}
 use Rattle.asn1_model.specs.Records.{Record}
 use Rattle.asn1_slots.proofs.ReadByPlace.{ReadUpTo}
-use Rattle.asn1_slots.proofs.by_place.DecodeByPlace.decode_by_place.Given as goal
+use Rattle.asn1_slots.specs.Slots.{AreSlotsOf}
+use Rattle.asn1_slots.proofs.by_place.decode_fields_by_place.Given as goal
 
 abbrev pub invariant-loop-place : goal.invariant-loop-place
 invariant-loop-place g l =
     let R = g.D.Decoder.reader in
-    let cs = all_components g.Self.FieldTable.components in
+    let cs = all_components g.C.FieldTable.components in
     record {
       same_depth : R.depth_left l.decoder ≡ R.depth_left l.fn.decoder;
-      way : (v : _) (rest : List Record) (outer : Outside) → CanBeInSequence cs → EachIsOfType cs v → EachIsValid cs R.accepts v → EndsApart cs rest →
+      way : AreSlotsOf cs g.C.DecodeByPlace.layout → (v : _) (rest : List Record) (outer : Outside) → CanBeInSequence cs → EachIsOfType cs v → EachIsValid cs R.accepts v → EndsApart cs rest →
           R.remains l.fn.decoder (all_records cs v ++ rest, outer) →
-          ReadUpTo R cs g.Self.Slotted.layout l.place l.fn.decoder l.decoder l.slots v rest outer;
+          ReadUpTo R cs g.C.DecodeByPlace.layout l.place l.fn.decoder l.decoder l.slots v rest outer;
     }

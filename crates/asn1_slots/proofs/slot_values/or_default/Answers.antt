@@ -2,7 +2,7 @@ use Rattle.std.proofs.Common.{◌≡◌, Bool, true, Option, None, Some, sym, �
 use Rattle.std.specs.Cmp.{IsEquivalence}
 use Rattle.std.specs.Option.{unwrap_or}
 use Rattle.asn1_slots.specs.Slots.{holds_or_default}
-use Rattle.asn1_slots.proofs.slotted.or_default.Goals as goal
+use Rattle.asn1_slots.proofs.slot_values.or_default.Goals as goal
 
 is_right : {W : Type 0} (eq : W → W → Bool) (law : IsEquivalence eq) (slot : Option W) (default_value v : W) →
     holds_or_default eq default_value slot v ≡ true → eq (unwrap_or slot default_value) v ≡ true
