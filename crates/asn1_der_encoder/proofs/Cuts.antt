@@ -8,7 +8,7 @@ use Rattle.asn1_der_items.specs.Elements.{Element, element_at}
 use Rattle.asn1_der_items.specs.Series.{ends, is_one_element, is_whole, tag_found, tag_of}
 use Rattle.asn1_tags.specs.declared.tags.Tag.{Tag}
 
-nothing_left : (rest : List ℕ) → ends rest ≡ true → rest ≡ []
+pub nothing_left : (rest : List ℕ) → ends rest ≡ true → rest ≡ []
 nothing_left [] e = refl
 nothing_left (byte ∷ rest) e = cc
 

@@ -1,14 +1,18 @@
 -- Pieces, from their bytes to their order.
-use Rattle.std.proofs.Common.{◌≡◌, ℕ, ◌+◌, ◌<◌, Bool, true, false, List, [], ◌∷◌, ◌++◌, map, length, get_or, refl, sym, ap, subst, ◌∙◌, arith, append_assoc, append-nil}
+use Rattle.std.proofs.Common.{◌≡◌, ℕ, ◌+◌, ◌<◌, Bool, true, false, List, [], ◌∷◌, ◌++◌, map, length, get_or, refl, sym, ap, subst, ◌∙◌, arith, append_assoc, append-nil, inl, inr}
 use Rattle.std.proofs.lemmas.List.{map-append}
 use Rattle.std.proofs.lemmas.List.Elements.{All-append, All-cons, All-head, All-nil, All-tail}
+use Rattle.std.proofs.lemmas.List.Sorted.{IsPermutation-refl}
 use Rattle.std.specs.List.{flat_map}
-use Rattle.std.specs.Prelude.{All, IsTrue}
-use Rattle.asn1_der_encoder.specs.Sorting.{AreJoined, ArePieces, IsCutAs, key_of}
+use Rattle.std.specs.Prelude.{◌⊎◌, All, IsTrue}
+use Rattle.asn1_der_encoder.proofs.Cuts.{found_in_front, nothing_left, whole_by}
+use Rattle.asn1_der_encoder.specs.Sorting.{AreJoined, ArePieces, AreSorted, IsCutAs, key_of}
 use Rattle.asn1_der_encoder.specs.declared.sorting.Cut.{Cut}
 use Rattle.asn1_der_encoder.specs.declared.sorting.Order.{Order}
+use Rattle.asn1_der_encoder.specs.declared.sorting.Order.TheVariants.{Tags, Encodings}
 use Rattle.asn1_der_encoder.specs.declared.sorting.Piece.{Piece}
-use Rattle.asn1_der_items.specs.Series.{is_one_element, tag_of}
+use Rattle.asn1_der_items.specs.Elements.{element_at}
+use Rattle.asn1_der_items.specs.Series.{ends, is_one_element, tag_of}
 
 -- the bytes of pieces, one after another
 pub bytes_of_pieces : (pieces : List Piece) → flat_map (λ p. p.bytes.now) pieces ≡ flat_map (λ e. e) (map (λ p. p.bytes.now) pieces)
@@ -80,3 +84,25 @@ all_cut order elements pieces left none so_far = by so_far.todo so_far.are so_fa
     by [] are joined = subst (λ es. ArePieces order es pieces) (sym (are ∙ append-nil so_far.done)) so_far.pieces_are
     by (own ∷ todo) are joined =
         absurd (nothing_is_no_element own (flat_map (λ e. e) todo) (All-head (λ e. IsTrue (is_one_element e)) own todo joined.each) (sym joined.are ∙ none))
+
+-- What is in order as it is: no element, and one.
+none_sorted : (order : Order) → AreSorted order [] []
+none_sorted Tags = record { sorted = []; moved = IsPermutation-refl []; in_order = λ k d low high. absurd (omega (arith, high)); are = refl }
+none_sorted Encodings = record { sorted = []; moved = IsPermutation-refl []; in_order = λ k d low high. absurd (omega (arith, high)); are = refl }
+
+one_sorted : (order : Order) (own : List ℕ) → AreSorted order (own ∷ []) (own ++ [])
+one_sorted Tags own = record { sorted = own ∷ []; moved = IsPermutation-refl (own ∷ []); in_order = λ k d low high. absurd (omega (arith, high)); are = refl }
+one_sorted Encodings own = record { sorted = own ∷ []; moved = IsPermutation-refl (own ∷ []); in_order = λ k d low high. absurd (omega (arith, high)); are = refl }
+
+-- bytes that are at most one element consist of at most one
+pub few_sorted : (order : Order) (elements : List (List ℕ)) (inside : List ℕ) → (inside ≡ []) ⊎ IsTrue (is_one_element inside) → AreJoined elements inside → AreSorted order elements inside
+few_sorted order [] inside few joined = subst (λ l. AreSorted order [] l) (sym joined.are) (none_sorted order)
+few_sorted order (own ∷ []) inside few joined = subst (λ l. AreSorted order (own ∷ []) l) (sym joined.are) (one_sorted order own)
+few_sorted order (own ∷ other ∷ more) inside (inl none) joined =
+    absurd (nothing_is_no_element own (flat_map (λ e. e) (other ∷ more)) (All-head (λ e. IsTrue (is_one_element e)) own (other ∷ more) joined.each) (sym joined.are ∙ none))
+few_sorted order (own ∷ other ∷ more) inside (inr one) joined =
+    let each = joined.each in
+    let back = flat_map (λ e. e) (other ∷ more) in
+    let found = found_in_front own back (All-head (λ e. IsTrue (is_one_element e)) own (other ∷ more) each) in
+    let ended : ends found.element.rest ≡ true = sym (whole_by inside found.element (ap element_at joined.are ∙ found.at)) ∙ one in
+    absurd (nothing_is_no_element other (flat_map (λ e. e) more) (All-head (λ e. IsTrue (is_one_element e)) other more (All-tail (λ e. IsTrue (is_one_element e)) own (other ∷ more) each)) (sym found.rest ∙ nothing_left found.element.rest ended))

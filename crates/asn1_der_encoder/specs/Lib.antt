@@ -1,4 +1,3 @@
 pub mod Format
-pub mod Outputs
 pub mod Sorting
 pub mod Written

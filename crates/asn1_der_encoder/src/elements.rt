@@ -1,6 +1,6 @@
 //! Whether bytes are one element, and the bytes from a place on.
 ghost use Rattle.asn1_der_items.specs.Series.{IsElementOf, is_one_element};
-ghost use Rattle.std.specs.Prelude.{◌≡◌, ◌↔◌, ◌++◌, IsSomeAnd, IsTrue, List, length, ℕ};
+ghost use Rattle.std.specs.Prelude.{◌≡◌, ◌↔◌, ◌⊎◌, ◌++◌, [], IsSomeAnd, IsTrue, List, length, ℕ};
 
 use asn1_der_items::find_element;
 use asn1_tags::Tag;
@@ -24,6 +24,13 @@ pub(crate) fn is_one_element(bytes: &[u8]) -> bool
         Ok(element) => element.rest.is_empty(),
         Err(_) => false,
     }
+}
+
+/// Whether there are no bytes, or they are one element.
+pub(crate) fn is_at_most_one(bytes: &[u8]) -> bool
+    ensures { IsTrue result → (bytes.now ≡ []) ⊎ IsTrue (is_one_element bytes.now) }
+{
+    bytes.is_empty() || is_one_element(bytes)
 }
 
 /// Whether the bytes are one element of this tag.

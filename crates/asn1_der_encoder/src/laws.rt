@@ -1,11 +1,8 @@
-//! Laws of what no other contract names: what the encoder and its format are.
+//! Laws of what no other contract names: what the buffer and the encoder are.
 ghost use Rattle.asn1_bounds.specs.declared.codec.Codec.TheVariants.{Der};
 ghost use Rattle.asn1_codec.specs.Writing.{Written};
 ghost use Rattle.asn1_der_records.specs.Bytes.{HaveDer, SomeHasNoDer};
-ghost use Rattle.asn1_der_encoder.specs.Format.{der_format};
-ghost use Rattle.asn1_der_encoder.specs.Outputs.{HasNoOutput, IsDerOf};
 ghost use Rattle.asn1_der_encoder.specs.Written.{der_writer};
-ghost use Rattle.asn1_der_items.specs.Series.{is_one_element};
 ghost use Rattle.asn1_model.specs.Records.{Record, held};
 ghost use Rattle.std.specs.Prelude.{◌≡◌, ◌↔◌, List, ℕ};
 
@@ -28,14 +25,4 @@ pub fn the_encoder_writes_der(encoder: &BufferEncoder<DerBuffer>)
     ensures { (w : Written) →
         ⟦<BufferEncoder<DerBuffer> as Encoder>⟧.writer.wrote encoder.now w ↔
         der_writer.wrote encoder.now w }
-{}
-
-/// A law of the format: an output carries the records whose DER it is, up to the order inside sets (`carries`); the records are
-/// rejected of which one has no DER, in some order inside sets (`rejects`); and one value of an open type is one element
-/// (`accepts`).
-pub fn the_format_is_der(output: &Vec<u8>)
-    ensures carries { (rs : List Record) →
-        der_format.carries output.now rs ↔ IsDerOf output.now.items rs }
-    ensures rejects { (rs : List Record) → der_format.rejects rs ↔ HasNoOutput rs }
-    ensures accepts { (bytes : List ℕ) → der_format.accepts bytes ≡ is_one_element bytes }
 {}

@@ -4,7 +4,7 @@
 //! |---|---|
 //! | [`DerEncoder`] | the encoder |
 //! | [`DerBuffer`] | the buffer in which it writes |
-//! | [`laws`] | what the encoder and its format are |
+//! | [`laws`] | what the buffer and the encoder are |
 //!
 //! The encoder is that of `asn1_buffers`, over a buffer of DER. What is inside a scope is written first; when the scope ends it
 //! is sorted, if it is a set, and gets its identifier and its length, so each byte is moved once for each element that it is in. A
@@ -22,7 +22,7 @@
 //!   `unit above 255`, `an open type is not one element` or `a choice is not one element of its tag`; `Custom` with the text
 //!   `nothing is open` comes only where a scope is closed and none is open.
 //! - The format of DER (`der_format` of `specs/Format.antt`) keeps to its law, and `write_whole` of `asn1_buffers` writes by it. An
-//!   output carries the records whose DER it is ([`laws::the_format_is_der`]).
+//!   output carries the records whose DER it is, up to the order inside sets (`Carries`).
 #![tactic(auto)]
 
 mod buffer;

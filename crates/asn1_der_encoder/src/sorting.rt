@@ -6,7 +6,7 @@ ghost use Rattle.asn1_items.specs.Numbers.{Appended};
 ghost use Rattle.std.specs.List.{flat_map};
 ghost use Rattle.std.specs.Prelude.{◌≡◌, ◌++◌, ◌<◌, IfOk, IfSome, IsSomeAnd, IsTrue, List, MatchResult, length, ℕ};
 
-use crate::elements::bytes_from;
+use crate::elements::{bytes_from, is_at_most_one};
 use asn1_buffers::WriteError;
 use asn1_der_items::find_element;
 use asn1_tags::Tag;
@@ -35,7 +35,7 @@ struct Cut<'a> {
     rest: &'a [u8],
 }
 
-/// Sorts the elements of which the bytes consist from a place on.
+/// Sorts the elements of which the bytes consist from a place on. One element takes no memory.
 ///
 /// # Errors
 /// [`WriteError::Memory`]; and [`WriteError::Rejected`] where there are no such elements. After an error nothing is promised about
@@ -54,6 +54,9 @@ pub(crate) fn sort_elements(
     let Some(inside) = bytes_from(bytes, start) else {
         return Err(WriteError::Rejected("nothing is open"));
     };
+    if is_at_most_one(inside) {
+        return Ok(());
+    }
     let sorted = sorted_elements(alloc, inside, order)?;
     bytes.truncate(start);
     bytes.extend_from_slice(&sorted)?;
