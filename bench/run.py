@@ -1,15 +1,25 @@
 #!/usr/bin/env python3
-"""Times asn1_check on inputs of 1, 10 and 100 MB, and measures its peak memory; or compares it with plain Rust.
+"""Times asn1_check on inputs of 1, 10 and 100 MB, and measures its peak memory; or compares it with plain Rust; or does the same
+with the codecs over bytes, of which asn1_trials is the program.
 
     python3 bench/run.py
     python3 bench/run.py --plain
+    python3 bench/run.py --codecs
+    python3 bench/run.py --stack
 
 proves and builds the program first. The first prints a line for each kind of input and size: the rate in MB (10^6 bytes) a
 second, the best of three runs, and the peak memory of the process in MB. The second builds bench/plain.rs, a program in plain
 Rust that does the same job, by `rustc -O`, and prints the seconds of processor time that both take for 20 MB, the best of five.
+
+The third builds bench/plain_codecs.rs, and prints for lists of 10^5 values and a chain of nodes, in both forms and both ways: the
+rate in MB a second, that of plain Rust, and the ratio of the times; the same with instructions, if valgrind is there; and the peak
+memory of both. The time is that of the processor, the best of five, less what it takes to make the values.
+
+The fourth prints for each type that holds itself how many levels a stack of 8 MiB holds in making, writing, reading and dropping.
 """
 import os
 import resource
+import shutil
 import subprocess
 import sys
 import tempfile
@@ -18,6 +28,8 @@ import time
 ROOT = os.path.dirname(os.path.dirname(os.path.abspath(__file__)))
 CRATE = os.path.join(ROOT, "crates", "asn1_check")
 PROGRAM = os.path.join(CRATE, "out", "asn1_check")
+TRIALS = os.path.join(ROOT, "crates", "asn1_trials")
+TRIALS_PROGRAM = os.path.join(TRIALS, "out", "asn1_trials")
 
 
 def wide_tree(step):
@@ -80,6 +92,14 @@ def write_lines(source, line, megabytes):
     source.flush()
 
 
+def build_plain(folder, name):
+    """Builds a program in plain Rust, and gives its path."""
+    plain = os.path.join(folder, name)
+    source = os.path.join(ROOT, "bench", name + ".rs")
+    subprocess.run(["rustc", "-O", "--edition", "2024", source, "-o", plain], check=True)
+    return plain
+
+
 def processor_seconds(program, path):
     """The least processor time in seconds that a program takes for a file in five runs."""
     least = float("inf")
@@ -95,8 +115,7 @@ def processor_seconds(program, path):
 def compare_with_plain():
     """Prints the processor time of asn1_check and of bench/plain.rs for 20 MB of each kind."""
     with tempfile.TemporaryDirectory() as folder:
-        plain = os.path.join(folder, "plain")
-        subprocess.run(["rustc", "-O", os.path.join(ROOT, "bench", "plain.rs"), "-o", plain], check=True)
+        plain = build_plain(folder, "plain")
         for kind, line in KINDS.items():
             with tempfile.NamedTemporaryFile() as source:
                 write_lines(source, line, 20)
@@ -104,7 +123,99 @@ def compare_with_plain():
             print(f"{kind}: {ours:.3f} s, plain Rust {theirs:.3f} s, ratio {ours / theirs:.2f}")
 
 
+def answer(command, line, **options):
+    """What a command writes to standard output for one line."""
+    return subprocess.run(command, input=line.encode(), stdout=subprocess.PIPE, **options).stdout.decode()
+
+
+def seconds_of(program, folder, line):
+    """The least processor time in seconds that a program takes for a line in five runs."""
+    path = os.path.join(folder, "line")
+    with open(path, "w") as source:
+        source.write(line)
+    return processor_seconds(program, path)
+
+
+def instructions_of(program, folder, line):
+    """How many instructions a program takes for a line."""
+    log = os.path.join(folder, "callgrind")
+    words = ["valgrind", "--tool=callgrind", f"--callgrind-out-file={log}", program]
+    answer(words, line, stderr=subprocess.DEVNULL)
+    with open(log) as lines:
+        return next(int(line.split()[1]) for line in lines if line.startswith("totals:"))
+
+
+def memory_of(program, line):
+    """The peak memory of a program for a line in MB."""
+    words = [sys.executable, "-c", PEAK, program, line]
+    return int(subprocess.run(words, stdout=subprocess.PIPE, check=True).stdout) / 1000
+
+
+# Prints the peak memory of a program in KB, of which a process of its own is asked.
+PEAK = """import resource, subprocess, sys
+subprocess.run([sys.argv[1]], input=sys.argv[2].encode(), stdout=subprocess.DEVNULL)
+print(resource.getrusage(resource.RUSAGE_CHILDREN).ru_maxrss)"""
+
+
+def cost(measure, program, folder, job, times):
+    """What one time of a job costs by a measure, less what is done before it."""
+    return (measure(program, folder, f"{job} {times}\n") - measure(program, folder, f"{job} 0\n")) / times
+
+
+def compare_codecs():
+    """Prints rates, instructions and memory of the codecs over bytes, and of plain Rust."""
+    with tempfile.TemporaryDirectory() as folder:
+        plain = build_plain(folder, "plain_codecs")
+        for form in ("packed", "tag"):
+            for name, count in (("person", 10**5), ("profile", 10**5), ("badge", 10**5), ("node", 2000)):
+                for action in ("write", "read"):
+                    compare_job(folder, plain, f"{name} {form} {action} {count}", count)
+
+
+def compare_job(folder, plain, job, count):
+    """Prints what a job costs, and what it costs plain Rust."""
+    said = [answer([program], f"{job} 1\n") for program in (TRIALS_PROGRAM, plain)]
+    if said[0] != said[1]:
+        sys.exit(f"{job}: {said[0]} but plain Rust: {said[1]}")
+    megabytes = int(said[0].split()[0]) / 10**6
+    ours, theirs = (cost(seconds_of, program, folder, job, 20 if count > 5000 else 2000) for program in (TRIALS_PROGRAM, plain))
+    text = f"{job}: {megabytes / ours:.0f} MB/s, plain Rust {megabytes / theirs:.0f} MB/s, ratio {ours / theirs:.2f}"
+    if shutil.which("valgrind"):
+        ours, theirs = (cost(instructions_of, program, folder, job, 2) for program in (TRIALS_PROGRAM, plain))
+        text += f", instructions {ours / 10**6:.1f} and {theirs / 10**6:.1f} million, ratio {ours / theirs:.2f}"
+    ours, theirs = (memory_of(program, f"{job} 1\n") for program in (TRIALS_PROGRAM, plain))
+    print(f"{text}, peak memory {ours:.1f} and {theirs:.1f} MB", flush=True)
+
+
+def reaches(name, form, levels, step):
+    """Whether a value of so many levels gets past a step on a stack of 8 MiB."""
+    limit = lambda: resource.setrlimit(resource.RLIMIT_STACK, (8 << 20, 8 << 20))
+    return step in answer([TRIALS_PROGRAM], f"{name} {form} deep {levels}\n", preexec_fn=limit)
+
+
+def most_levels(name, form, step):
+    """The most levels that get past a step."""
+    low, high = 1, 2
+    while reaches(name, form, high, step):
+        low, high = high, 2 * high
+    while high - low > max(1, low // 200):
+        middle = (low + high) // 2
+        low, high = (middle, high) if reaches(name, form, middle, step) else (low, middle)
+    return low
+
+
+def measure_stack():
+    """Prints how many levels of each type that holds itself a stack of 8 MiB holds."""
+    for name in ("node", "filter", "nested", "open"):
+        for form in ("packed", "tag"):
+            levels = {step: most_levels(name, form, step) for step in ("written", "read", "dropped")}
+            print(f"{name} {form}: {levels}", flush=True)
+
+
 def main():
+    if "--codecs" in sys.argv or "--stack" in sys.argv:
+        subprocess.run(["rt", "run"], cwd=TRIALS, stdin=subprocess.DEVNULL, check=True)
+        return compare_codecs() if "--codecs" in sys.argv else measure_stack()
     subprocess.run(["rt", "run"], cwd=CRATE, stdin=subprocess.DEVNULL, check=True)
     print(f"cores: {os.cpu_count()}")
     if "--plain" in sys.argv:
