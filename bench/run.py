@@ -6,16 +6,18 @@ with the codecs over bytes, of which asn1_trials is the program.
     python3 bench/run.py --plain
     python3 bench/run.py --codecs
     python3 bench/run.py --stack
+    python3 bench/run.py --damage SECONDS
 
 proves and builds the program first. The first prints a line for each kind of input and size: the rate in MB (10^6 bytes) a
 second, the best of three runs, and the peak memory of the process in MB. The second builds bench/plain.rs, a program in plain
 Rust that does the same job, by `rustc -O`, and prints the seconds of processor time that both take for 20 MB, the best of five.
 
-The third builds bench/plain_codecs.rs, and prints for lists of 10^5 values and a chain of nodes, in both forms and both ways: the
-rate in MB a second, that of plain Rust, and the ratio of the times; the same with instructions, if valgrind is there; and the peak
-memory of both. The time is that of the processor, the best of five, less what it takes to make the values.
+The third builds bench/plain_codecs.rs, and prints for lists of values and chains of nodes, by each codec and both ways: the rate in
+MB a second, that of plain Rust, and the ratio of the times; the instructions for each byte, if valgrind is there; and the peak memory of
+both. The time is that of the processor, the best of five, less what it takes to make the values.
 
-The fourth prints for each type that holds itself how many levels a stack of 8 MiB holds in making, writing, reading and dropping.
+The fourth prints for each type that holds itself how many nested scopes a stack of 8 MiB holds in writing, reading and dropping. The
+last damages the bytes of a value of each sample type for this long, by one seed after another.
 """
 import os
 import resource
@@ -123,98 +125,128 @@ def compare_with_plain():
             print(f"{kind}: {ours:.3f} s, plain Rust {theirs:.3f} s, ratio {ours / theirs:.2f}")
 
 
-def answer(command, line, **options):
-    """What a command writes to standard output for one line."""
-    return subprocess.run(command, input=line.encode(), stdout=subprocess.PIPE, **options).stdout.decode()
+def answer(words, **options):
+    """What a program writes to standard output."""
+    return subprocess.run(words, stdin=subprocess.DEVNULL, stdout=subprocess.PIPE, **options).stdout.decode()
 
 
-def seconds_of(program, folder, line):
-    """The least processor time in seconds that a program takes for a line in five runs."""
-    path = os.path.join(folder, "line")
-    with open(path, "w") as source:
-        source.write(line)
-    return processor_seconds(program, path)
+def seconds_of(words, folder):
+    """The least processor time in seconds that a program takes in five runs."""
+    least = float("inf")
+    for _ in range(5):
+        before = resource.getrusage(resource.RUSAGE_CHILDREN)
+        answer(words)
+        after = resource.getrusage(resource.RUSAGE_CHILDREN)
+        least = min(least, after.ru_utime + after.ru_stime - before.ru_utime - before.ru_stime)
+    return least
 
 
-def instructions_of(program, folder, line):
-    """How many instructions a program takes for a line."""
+def instructions_of(words, folder):
+    """How many instructions a program takes."""
     log = os.path.join(folder, "callgrind")
-    words = ["valgrind", "--tool=callgrind", f"--callgrind-out-file={log}", program]
-    answer(words, line, stderr=subprocess.DEVNULL)
+    answer(["valgrind", "--tool=callgrind", f"--callgrind-out-file={log}", *words], stderr=subprocess.DEVNULL)
     with open(log) as lines:
         return next(int(line.split()[1]) for line in lines if line.startswith("totals:"))
 
 
-def memory_of(program, line):
-    """The peak memory of a program for a line in MB."""
-    words = [sys.executable, "-c", PEAK, program, line]
-    return int(subprocess.run(words, stdout=subprocess.PIPE, check=True).stdout) / 1000
-
-
 # Prints the peak memory of a program in KB, of which a process of its own is asked.
 PEAK = """import resource, subprocess, sys
-subprocess.run([sys.argv[1]], input=sys.argv[2].encode(), stdout=subprocess.DEVNULL)
+subprocess.run(sys.argv[1:], stdout=subprocess.DEVNULL)
 print(resource.getrusage(resource.RUSAGE_CHILDREN).ru_maxrss)"""
 
 
-def cost(measure, program, folder, job, times):
+def memory_of(words):
+    """The peak memory of a program in MB."""
+    return int(answer([sys.executable, "-c", PEAK, *words])) / 1000
+
+
+def cost(measure, folder, words, times):
     """What one time of a job costs by a measure, less what is done before it."""
-    return (measure(program, folder, f"{job} {times}\n") - measure(program, folder, f"{job} 0\n")) / times
+    return (measure([*words, str(times)], folder) - measure([*words, "0"], folder)) / times
 
 
 def compare_codecs():
     """Prints rates, instructions and memory of the codecs over bytes, and of plain Rust."""
     with tempfile.TemporaryDirectory() as folder:
         plain = build_plain(folder, "plain_codecs")
-        for form in ("packed", "tag"):
-            for name, count in (("person", 10**5), ("profile", 10**5), ("badge", 10**5), ("node", 2000)):
+        for codec in CODECS:
+            for name, counts in LISTS.items():
                 for action in ("write", "read"):
-                    compare_job(folder, plain, f"{name} {form} {action} {count}", count)
+                    for count in counts:
+                        compare_job(folder, plain, [codec, action, name, str(count)])
 
 
-def compare_job(folder, plain, job, count):
+# The codecs that bench/plain_codecs.rs has, and the lists with their lengths; of nodes the length of the chain.
+CODECS = ("packed", "tag")
+LISTS = {"person": (10**4, 10**5), "profile": (10**4, 10**5), "badge": (10**4, 10**5), "node": (500, 2000)}
+
+
+def compare_job(folder, plain, job):
     """Prints what a job costs, and what it costs plain Rust."""
-    said = [answer([program], f"{job} 1\n") for program in (TRIALS_PROGRAM, plain)]
+    programs = [[TRIALS_PROGRAM, *job], [plain, *job]]
+    said = [answer([*words, "1"]) for words in programs]
     if said[0] != said[1]:
         sys.exit(f"{job}: {said[0]} but plain Rust: {said[1]}")
     megabytes = int(said[0].split()[0]) / 10**6
-    ours, theirs = (cost(seconds_of, program, folder, job, 20 if count > 5000 else 2000) for program in (TRIALS_PROGRAM, plain))
-    text = f"{job}: {megabytes / ours:.0f} MB/s, plain Rust {megabytes / theirs:.0f} MB/s, ratio {ours / theirs:.2f}"
+    times = max(1, round(100 / megabytes))
+    ours, theirs = (cost(seconds_of, folder, words, times) for words in programs)
+    text = f"{' '.join(job)}: {megabytes / ours:.0f} MB/s, plain Rust {megabytes / theirs:.0f} MB/s, ratio {ours / theirs:.2f}"
     if shutil.which("valgrind"):
-        ours, theirs = (cost(instructions_of, program, folder, job, 2) for program in (TRIALS_PROGRAM, plain))
-        text += f", instructions {ours / 10**6:.1f} and {theirs / 10**6:.1f} million, ratio {ours / theirs:.2f}"
-    ours, theirs = (memory_of(program, f"{job} 1\n") for program in (TRIALS_PROGRAM, plain))
+        ours, theirs = (cost(instructions_of, folder, words, 1) / 10**6 / megabytes for words in programs)
+        text += f", {ours:.1f} and {theirs:.1f} instructions a byte, ratio {ours / theirs:.2f}"
+    ours, theirs = (memory_of([*words, "1"]) for words in programs)
     print(f"{text}, peak memory {ours:.1f} and {theirs:.1f} MB", flush=True)
 
 
-def reaches(name, form, levels, step):
-    """Whether a value of so many levels gets past a step on a stack of 8 MiB."""
+def reaches(words, step):
+    """Whether a program gets past a step on a stack of 8 MiB."""
     limit = lambda: resource.setrlimit(resource.RLIMIT_STACK, (8 << 20, 8 << 20))
-    return step in answer([TRIALS_PROGRAM], f"{name} {form} deep {levels}\n", preexec_fn=limit)
+    return step in answer([TRIALS_PROGRAM, *words], preexec_fn=limit)
 
 
-def most_levels(name, form, step):
-    """The most levels that get past a step."""
+def most_levels(words, step):
+    """The most levels that get past a step, of which up to one in a thousand is missing."""
     low, high = 1, 2
-    while reaches(name, form, high, step):
+    while reaches([*words, str(high)], step):
         low, high = high, 2 * high
-    while high - low > max(1, low // 200):
+    while high - low > max(1, low // 1000):
         middle = (low + high) // 2
-        low, high = (middle, high) if reaches(name, form, middle, step) else (low, middle)
+        low, high = (middle, high) if reaches([*words, str(middle)], step) else (low, middle)
     return low
 
 
+# How many nested scopes each level takes of the types that hold themselves, and how many the innermost takes.
+SCOPES = {"node": (2, 2), "not": (2, 1), "and": (2, 1), "nested": (2, 1), "open": (3, 1)}
+
+
 def measure_stack():
-    """Prints how many levels of each type that holds itself a stack of 8 MiB holds."""
-    for name in ("node", "filter", "nested", "open"):
-        for form in ("packed", "tag"):
-            levels = {step: most_levels(name, form, step) for step in ("written", "read", "dropped")}
-            print(f"{name} {form}: {levels}", flush=True)
+    """Prints how many nested scopes of each type that holds itself a stack of 8 MiB holds."""
+    for name, (each, innermost) in SCOPES.items():
+        for codec in CODECS:
+            steps = {step: most_levels([codec, "nest", name], step) for step in ("written", "read")}
+            steps["dropped"] = most_levels([codec, "drop", name], "dropped")
+            text = ", ".join(f"{step} {each * levels + innermost}" for step, levels in steps.items())
+            print(f"{name} {codec}: {text}", flush=True)
+
+
+def damage(seconds):
+    """Damages bytes by one seed after another until the time is over, and stops where the program says anything else than that
+    what was read comes back."""
+    end, seed = time.monotonic() + seconds, 0
+    while time.monotonic() < end:
+        seed += 1
+        process = subprocess.run([TRIALS_PROGRAM, "each", "damage", str(seed), "10000"], stdout=subprocess.PIPE)
+        said = process.stdout.decode()
+        if process.returncode != 0 or any(not line.endswith(": what was read comes back") for line in said.splitlines()):
+            sys.exit(f"seed {seed}: status {process.returncode}, {said}")
+    print(f"{seed} seeds")
 
 
 def main():
-    if "--codecs" in sys.argv or "--stack" in sys.argv:
+    if {"--codecs", "--stack", "--damage"} & set(sys.argv):
         subprocess.run(["rt", "run"], cwd=TRIALS, stdin=subprocess.DEVNULL, check=True)
+        if "--damage" in sys.argv:
+            return damage(float(sys.argv[-1]))
         return compare_codecs() if "--codecs" in sys.argv else measure_stack()
     subprocess.run(["rt", "run"], cwd=CRATE, stdin=subprocess.DEVNULL, check=True)
     print(f"cores: {os.cpu_count()}")
