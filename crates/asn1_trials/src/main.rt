@@ -25,13 +25,9 @@ mod request;
 mod source;
 
 use request::Request;
-use std::env;
-use std::io;
+use std::{env, io};
 
 fn main(rt: HostRuntime) -> io::Result<()> {
-    let mut words = Vec::new(rt.alloc());
-    for word in env::args(&rt)?.skip(1) {
-        words.push(word)?;
-    }
+    let words: Vec<String> = env::args(&rt)?.skip(1).collect(rt.alloc())?;
     codecs::run(&rt, rt.alloc(), &Request { words: &words })
 }

@@ -20,7 +20,12 @@ pub(crate) fn run<R: Rules<Output = Vec<u8>>>(
 ) -> io::Result<()> {
     let levels = request.number(3) as usize;
     match request.word(2) {
-        "node" => go(rt, rules, node_chain(alloc, levels).map_err(Failure::from), request),
+        "node" => go(
+            rt,
+            rules,
+            node_chain(alloc, levels).map_err(Failure::from),
+            request,
+        ),
         "not" => go(rt, rules, nots(alloc, levels), request),
         "and" => go(rt, rules, ands(alloc, levels), request),
         "nested" => go(rt, rules, flag_inside(alloc, levels), request),
