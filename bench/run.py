@@ -1,15 +1,27 @@
 #!/usr/bin/env python3
-"""Times asn1_check on inputs of 1, 10 and 100 MB, and measures its peak memory; or compares it with plain Rust.
+"""Times asn1_check on inputs of 1, 10 and 100 MB, and measures its peak memory; or compares it with plain Rust; or does the same
+with the codecs over bytes, of which asn1_trials is the program.
 
     python3 bench/run.py
     python3 bench/run.py --plain
+    python3 bench/run.py --codecs
+    python3 bench/run.py --stack
+    python3 bench/run.py --damage SECONDS
 
 proves and builds the program first. The first prints a line for each kind of input and size: the rate in MB (10^6 bytes) a
 second, the best of three runs, and the peak memory of the process in MB. The second builds bench/plain.rs, a program in plain
 Rust that does the same job, by `rustc -O`, and prints the seconds of processor time that both take for 20 MB, the best of five.
+
+The third builds bench/plain_codecs.rs, and prints for lists of values and chains of nodes, by each codec and both ways: the rate in
+MB a second, that of plain Rust, and the ratio of the times; the instructions for each byte, if valgrind is there; and the peak memory of
+both. The time is that of the processor, the best of five, less what it takes to make the values.
+
+The fourth prints for each type that holds itself how many nested scopes a stack of 8 MiB holds in writing, reading and dropping. The
+last damages the bytes of a value of each sample type for this long, by one seed after another.
 """
 import os
 import resource
+import shutil
 import subprocess
 import sys
 import tempfile
@@ -18,6 +30,8 @@ import time
 ROOT = os.path.dirname(os.path.dirname(os.path.abspath(__file__)))
 CRATE = os.path.join(ROOT, "crates", "asn1_check")
 PROGRAM = os.path.join(CRATE, "out", "asn1_check")
+TRIALS = os.path.join(ROOT, "crates", "asn1_trials")
+TRIALS_PROGRAM = os.path.join(TRIALS, "out", "asn1_trials")
 
 
 def wide_tree(step):
@@ -80,6 +94,14 @@ def write_lines(source, line, megabytes):
     source.flush()
 
 
+def build_plain(folder, name):
+    """Builds a program in plain Rust, and gives its path."""
+    plain = os.path.join(folder, name)
+    source = os.path.join(ROOT, "bench", name + ".rs")
+    subprocess.run(["rustc", "-O", "--edition", "2024", source, "-o", plain], check=True)
+    return plain
+
+
 def processor_seconds(program, path):
     """The least processor time in seconds that a program takes for a file in five runs."""
     least = float("inf")
@@ -95,8 +117,7 @@ def processor_seconds(program, path):
 def compare_with_plain():
     """Prints the processor time of asn1_check and of bench/plain.rs for 20 MB of each kind."""
     with tempfile.TemporaryDirectory() as folder:
-        plain = os.path.join(folder, "plain")
-        subprocess.run(["rustc", "-O", os.path.join(ROOT, "bench", "plain.rs"), "-o", plain], check=True)
+        plain = build_plain(folder, "plain")
         for kind, line in KINDS.items():
             with tempfile.NamedTemporaryFile() as source:
                 write_lines(source, line, 20)
@@ -104,7 +125,129 @@ def compare_with_plain():
             print(f"{kind}: {ours:.3f} s, plain Rust {theirs:.3f} s, ratio {ours / theirs:.2f}")
 
 
+def answer(words, **options):
+    """What a program writes to standard output."""
+    return subprocess.run(words, stdin=subprocess.DEVNULL, stdout=subprocess.PIPE, **options).stdout.decode()
+
+
+def seconds_of(words, folder):
+    """The least processor time in seconds that a program takes in five runs."""
+    least = float("inf")
+    for _ in range(5):
+        before = resource.getrusage(resource.RUSAGE_CHILDREN)
+        answer(words)
+        after = resource.getrusage(resource.RUSAGE_CHILDREN)
+        least = min(least, after.ru_utime + after.ru_stime - before.ru_utime - before.ru_stime)
+    return least
+
+
+def instructions_of(words, folder):
+    """How many instructions a program takes."""
+    log = os.path.join(folder, "callgrind")
+    answer(["valgrind", "--tool=callgrind", f"--callgrind-out-file={log}", *words], stderr=subprocess.DEVNULL)
+    with open(log) as lines:
+        return next(int(line.split()[1]) for line in lines if line.startswith("totals:"))
+
+
+# Prints the peak memory of a program in KB, of which a process of its own is asked.
+PEAK = """import resource, subprocess, sys
+subprocess.run(sys.argv[1:], stdout=subprocess.DEVNULL)
+print(resource.getrusage(resource.RUSAGE_CHILDREN).ru_maxrss)"""
+
+
+def memory_of(words):
+    """The peak memory of a program in MB."""
+    return int(answer([sys.executable, "-c", PEAK, *words])) / 1000
+
+
+def cost(measure, folder, words, times):
+    """What one time of a job costs by a measure, less what is done before it."""
+    return (measure([*words, str(times)], folder) - measure([*words, "0"], folder)) / times
+
+
+def compare_codecs():
+    """Prints rates, instructions and memory of the codecs over bytes, and of plain Rust."""
+    with tempfile.TemporaryDirectory() as folder:
+        plain = build_plain(folder, "plain_codecs")
+        for codec in CODECS:
+            for name, counts in LISTS.items():
+                for action in ("write", "read"):
+                    for count in counts:
+                        compare_job(folder, plain, [codec, action, name, str(count)])
+
+
+# The codecs that bench/plain_codecs.rs has, and the lists with their lengths; of nodes the length of the chain.
+CODECS = ("packed", "tag")
+LISTS = {"person": (10**4, 10**5), "profile": (10**4, 10**5), "badge": (10**4, 10**5), "node": (500, 2000)}
+
+
+def compare_job(folder, plain, job):
+    """Prints what a job costs, and what it costs plain Rust."""
+    programs = [[TRIALS_PROGRAM, *job], [plain, *job]]
+    said = [answer([*words, "1"]) for words in programs]
+    if said[0] != said[1]:
+        sys.exit(f"{job}: {said[0]} but plain Rust: {said[1]}")
+    megabytes = int(said[0].split()[0]) / 10**6
+    times = max(1, round(100 / megabytes))
+    ours, theirs = (cost(seconds_of, folder, words, times) for words in programs)
+    text = f"{' '.join(job)}: {megabytes / ours:.0f} MB/s, plain Rust {megabytes / theirs:.0f} MB/s, ratio {ours / theirs:.2f}"
+    if shutil.which("valgrind"):
+        ours, theirs = (cost(instructions_of, folder, words, 1) / 10**6 / megabytes for words in programs)
+        text += f", {ours:.1f} and {theirs:.1f} instructions a byte, ratio {ours / theirs:.2f}"
+    ours, theirs = (memory_of([*words, "1"]) for words in programs)
+    print(f"{text}, peak memory {ours:.1f} and {theirs:.1f} MB", flush=True)
+
+
+def reaches(words, step):
+    """Whether a program gets past a step on a stack of 8 MiB."""
+    limit = lambda: resource.setrlimit(resource.RLIMIT_STACK, (8 << 20, 8 << 20))
+    return step in answer([TRIALS_PROGRAM, *words], preexec_fn=limit)
+
+
+def most_levels(words, step):
+    """The most levels that get past a step, of which up to one in a thousand is missing."""
+    low, high = 1, 2
+    while reaches([*words, str(high)], step):
+        low, high = high, 2 * high
+    while high - low > max(1, low // 1000):
+        middle = (low + high) // 2
+        low, high = (middle, high) if reaches([*words, str(middle)], step) else (low, middle)
+    return low
+
+
+# How many nested scopes each level takes of the types that hold themselves, and how many the innermost takes.
+SCOPES = {"node": (2, 2), "not": (2, 1), "and": (2, 1), "nested": (2, 1), "open": (3, 1)}
+
+
+def measure_stack():
+    """Prints how many nested scopes of each type that holds itself a stack of 8 MiB holds."""
+    for name, (each, innermost) in SCOPES.items():
+        for codec in CODECS:
+            steps = {step: most_levels([codec, "nest", name], step) for step in ("written", "read")}
+            steps["dropped"] = most_levels([codec, "drop", name], "dropped")
+            text = ", ".join(f"{step} {each * levels + innermost}" for step, levels in steps.items())
+            print(f"{name} {codec}: {text}", flush=True)
+
+
+def damage(seconds):
+    """Damages bytes by one seed after another until the time is over, and stops where the program says anything else than that
+    what was read comes back."""
+    end, seed = time.monotonic() + seconds, 0
+    while time.monotonic() < end:
+        seed += 1
+        process = subprocess.run([TRIALS_PROGRAM, "each", "damage", str(seed), "10000"], stdout=subprocess.PIPE)
+        said = process.stdout.decode()
+        if process.returncode != 0 or any(not line.endswith(": what was read comes back") for line in said.splitlines()):
+            sys.exit(f"seed {seed}: status {process.returncode}, {said}")
+    print(f"{seed} seeds")
+
+
 def main():
+    if {"--codecs", "--stack", "--damage"} & set(sys.argv):
+        subprocess.run(["rt", "run"], cwd=TRIALS, stdin=subprocess.DEVNULL, check=True)
+        if "--damage" in sys.argv:
+            return damage(float(sys.argv[-1]))
+        return compare_codecs() if "--codecs" in sys.argv else measure_stack()
     subprocess.run(["rt", "run"], cwd=CRATE, stdin=subprocess.DEVNULL, check=True)
     print(f"cores: {os.cpu_count()}")
     if "--plain" in sys.argv:

@@ -1,24 +1,30 @@
-//! Each call of the encoder and of the decoder.
+//! Each call of the encoder and of the decoder, over the packed codec and over the tag form.
 use crate::tests::cases::passes;
 use asn1_bounds::Codec;
 use asn1_codec_tests::{CallRules, Calls, Failure, calls};
 use asn1_dec::{DecodeError, Decoder};
 use asn1_enc::{EncodeError, Encoder};
-use asn1_packed::{PackedDecoder, PackedEncoder};
+use asn1_packed::{
+    ItemDecoder, ItemEncoder, PackedDecoder, PackedEncoder, Presence, PresenceMarks,
+};
 use asn1_sample_tests::{calls as sample_calls, sets};
+use asn1_tagform::NextItem;
 use std::alloc::Global;
+use std::marker::PhantomData;
+use std::process::Abort;
 
-/// The encoder and the decoder of the packed codec.
+/// The encoder and the decoder of a codec over items.
 #[derive(Drop)]
-struct BenchCalls {
+struct ItemCalls<P> {
     alloc: Global,
+    presence: PhantomData<P>,
 }
 
-impl CallRules for BenchCalls {
+impl<P: Presence> CallRules for ItemCalls<P> {
     type Output = Vec<u8>;
 
     fn write_calls<C: Calls>(&self, calls: &C, depth: usize) -> Result<Vec<u8>, EncodeError> {
-        let mut encoder = PackedEncoder::new(self.alloc, depth);
+        let mut encoder = ItemEncoder::<P>::new(self.alloc, depth);
         calls.write(&mut encoder)?;
         Ok(encoder.finish())
     }
@@ -29,104 +35,112 @@ impl CallRules for BenchCalls {
         output: &Vec<u8>,
         depth: usize,
     ) -> Result<(), Failure> {
-        let mut decoder = PackedDecoder::new(self.alloc, output.as_slice(), depth);
+        let mut decoder = ItemDecoder::<P>::new(self.alloc, output.as_slice(), depth);
         calls.read(&mut decoder)?;
         decoder.finish().map_err(Failure::of_reading)
     }
 }
 
-#[test]
-fn kinds_come_back_under_a_tag(rt: HostRuntime) {
-    let alloc = rt.alloc();
-    let rules = BenchCalls { alloc };
+fn kinds_come_back_under_a_tag<R: CallRules>(rt: &impl Abort, alloc: Global, rules: &R) {
     passes(
-        &rt,
+        rt,
         "scalars",
-        calls::scalars_come_back_under_a_tag(&rules, alloc),
+        calls::scalars_come_back_under_a_tag(rules, alloc),
     );
     passes(
-        &rt,
+        rt,
         "strings",
-        calls::strings_come_back_under_a_tag(&rules, alloc),
+        calls::strings_come_back_under_a_tag(rules, alloc),
     );
     passes(
-        &rt,
+        rt,
         "scopes",
-        calls::scopes_come_back_under_a_tag(&rules, alloc),
+        calls::scopes_come_back_under_a_tag(rules, alloc),
     );
-    passes(&rt, "items", sample_calls::items_come_back(&rules));
+    passes(rt, "items", sample_calls::items_come_back(rules));
     passes(
-        &rt,
+        rt,
         "choices",
-        sample_calls::choices_come_back_under_a_tag(&rules),
+        sample_calls::choices_come_back_under_a_tag(rules),
     );
 }
 
-#[test]
-fn each_call_reads_what_was_written(rt: HostRuntime) {
-    let alloc = rt.alloc();
-    let rules = BenchCalls { alloc };
+fn each_call_reads_what_was_written<R: CallRules>(rt: &impl Abort, alloc: Global, rules: &R) {
     passes(
-        &rt,
+        rt,
         "entry points",
-        calls::entry_points_come_back(&rules, alloc),
+        calls::entry_points_come_back(rules, alloc),
     );
     passes(
-        &rt,
+        rt,
         "explicit tags",
-        calls::explicit_tags_come_back(&rules, alloc),
+        calls::explicit_tags_come_back(rules, alloc),
     );
-    passes(&rt, "options", calls::options_come_back(&rules, alloc));
-    passes(&rt, "defaults", calls::defaults_come_back(&rules, alloc));
+    passes(rt, "options", calls::options_come_back(rules, alloc));
+    passes(rt, "defaults", calls::defaults_come_back(rules, alloc));
     passes(
-        &rt,
+        rt,
         "no default",
-        calls::a_default_without_memory_is_an_error(&rules),
+        calls::a_default_without_memory_is_an_error(rules),
     );
 }
 
-#[test]
-fn an_error_of_a_type_is_answered_as_it_is(rt: HostRuntime) {
-    let rules = BenchCalls { alloc: rt.alloc() };
+fn an_error_of_a_type_is_answered_as_it_is<R: CallRules>(rt: &impl Abort, rules: &R) {
     passes(
-        &rt,
+        rt,
         "eleven",
-        calls::own_errors_are_answered_as_they_are(&rules),
+        calls::own_errors_are_answered_as_they_are(rules),
     );
 }
 
-#[test]
-fn additions_and_groups_come_back(rt: HostRuntime) {
-    let alloc = rt.alloc();
-    let rules = BenchCalls { alloc };
-    passes(&rt, "additions", calls::additions_come_back(&rules));
+fn additions_and_groups_come_back<R: CallRules>(rt: &impl Abort, alloc: Global, rules: &R) {
+    passes(rt, "additions", calls::additions_come_back(rules));
     passes(
-        &rt,
+        rt,
         "with defaults",
-        calls::additions_with_defaults_come_back(&rules),
+        calls::additions_with_defaults_come_back(rules),
     );
-    passes(&rt, "groups", sample_calls::groups_come_back(&rules, alloc));
+    passes(rt, "groups", sample_calls::groups_come_back(rules, alloc));
+}
+
+fn sets_come_back_in_any_order<R: CallRules>(rt: &impl Abort, alloc: Global, rules: &R) {
+    passes(
+        rt,
+        "elements",
+        calls::sets_of_come_back_in_any_order(rules, alloc),
+    );
+    passes(
+        rt,
+        "components",
+        sets::badges_come_back_in_any_order(rules, alloc),
+    );
+    passes(
+        rt,
+        "no badge",
+        sets::what_is_no_badge_is_refused(rules, alloc),
+    );
+}
+
+fn each_call_comes_back<P: Presence>(rt: &impl Abort, alloc: Global) {
+    let rules = ItemCalls::<P> {
+        alloc,
+        presence: PhantomData,
+    };
+    kinds_come_back_under_a_tag(rt, alloc, &rules);
+    each_call_reads_what_was_written(rt, alloc, &rules);
+    an_error_of_a_type_is_answered_as_it_is(rt, &rules);
+    additions_and_groups_come_back(rt, alloc, &rules);
+    sets_come_back_in_any_order(rt, alloc, &rules);
 }
 
 #[test]
-fn sets_come_back_in_any_order(rt: HostRuntime) {
-    let alloc = rt.alloc();
-    let rules = BenchCalls { alloc };
-    passes(
-        &rt,
-        "elements",
-        calls::sets_of_come_back_in_any_order(&rules, alloc),
-    );
-    passes(
-        &rt,
-        "components",
-        sets::badges_come_back_in_any_order(&rules, alloc),
-    );
-    passes(
-        &rt,
-        "no badge",
-        sets::what_is_no_badge_is_refused(&rules, alloc),
-    );
+fn calls_come_back(rt: HostRuntime) {
+    each_call_comes_back::<PresenceMarks>(&rt, rt.alloc());
+}
+
+#[test]
+fn calls_come_back_without_presence_marks(rt: HostRuntime) {
+    each_call_comes_back::<NextItem>(&rt, rt.alloc());
 }
 
 #[test]

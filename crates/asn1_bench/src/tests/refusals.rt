@@ -2,12 +2,11 @@
 use crate::reader::BenchReader;
 use crate::rules::BenchRules;
 use crate::tests::bytes::{BADGE, OPEN, PERSON, PROFILE, TRUE};
-use crate::tests::cases::passes;
+use crate::tests::cases::{passes, why_not_read};
 use asn1_codec_tests::is_not_read;
 use asn1_codec_tests::made::list;
 use asn1_dec::{Decode, DecodeError, Needed};
 use asn1_open::Open;
-use asn1_rules::Rules;
 use asn1_samples::{Badge, Color, Corner, Person, Profile, Shape};
 use asn1_streams::FrontReader;
 use asn1_strings::{BitString, BmpString, Ia5String, ObjectIdentifier, VisibleString};
@@ -166,6 +165,18 @@ fn another_spelling_of_a_number_is_refused(rt: HostRuntime) {
         "no item",
         &[1, 0, 0, 0, 0, 10, 3, 0, 0, 0, 2, 0, 2],
     );
+    is_bad::<Color>(
+        &rt,
+        alloc,
+        "a zero of an item",
+        &[1, 0, 0, 0, 0, 10, 3, 0, 0, 0, 2, 0, 0],
+    );
+    is_bad::<Color>(
+        &rt,
+        alloc,
+        "a negative zero of an item",
+        &[1, 0, 0, 0, 0, 10, 3, 0, 0, 0, 1, 1],
+    );
 }
 
 #[test]
@@ -323,8 +334,7 @@ fn a_number_outside_its_limits_is_refused(rt: HostRuntime) {
 
 /// Whether the bytes end before a value does, by the reader as by the rules.
 fn is_too_short<T: Decode>(rt: &impl Abort, alloc: Global, bytes: &[u8]) -> bool {
-    let whole = list(alloc, bytes).expect(rt, "memory");
-    let error = BenchRules::new(alloc).read_value::<T>(&whole, 4).err();
+    let error = why_not_read::<T, BenchRules>(rt, alloc, &BenchRules::new(alloc), bytes);
     let front: Result<(T, usize), _> = BenchReader::new(alloc, 4).read_front(bytes);
     front.err() == error && matches!(error, Some(DecodeError::Incomplete(Needed::Size(_))))
 }

@@ -1,9 +1,10 @@
 //! The tag form: the bytes of worked values, which were made by hand, and what is refused.
 use crate::tests::bytes::{assert_node, assert_plate, assert_reached, assert_settings, profile};
-use crate::tests::cases::{passes, writes};
+use crate::tests::cases::{passes, why_not_read, writes};
 use asn1_codec_tests::is_not_read;
 use asn1_codec_tests::made::list;
-use asn1_dec::{DecodeError, Needed};
+use asn1_dec::{Decode, DecodeError, Needed};
+use asn1_recursive::Node;
 use asn1_samples::{Contact, Profile};
 use asn1_tagform::TagRules;
 use std::alloc::Global;
@@ -83,4 +84,25 @@ fn what_is_no_profile_is_refused(rt: HostRuntime) {
     refused(&rt, alloc, "late", LATE, bad_item);
     let missing = DecodeError::Incomplete(Needed::Size(3));
     refused(&rt, alloc, "cut", CUT, missing);
+}
+
+/// Asserts that the bytes end before a value does.
+fn assert_too_short<T: Decode>(rt: &impl Abort, alloc: Global, bytes: &[u8]) {
+    let error = why_not_read::<T, TagRules>(rt, alloc, &TagRules::new(alloc), bytes);
+    assert!(rt; matches!(error, Some(DecodeError::Incomplete(Needed::Size(_)))));
+}
+
+fn assert_each_beginning<T: Decode>(rt: &impl Abort, alloc: Global, bytes: &[u8]) {
+    for end in 0..bytes.len() {
+        if let Some((begun, _rest)) = bytes.split_at_checked(end) {
+            assert_too_short::<T>(rt, alloc, begun);
+        }
+    }
+}
+
+#[test]
+fn each_beginning_is_too_short(rt: HostRuntime) {
+    assert_each_beginning::<Profile>(&rt, rt.alloc(), PROFILE);
+    assert_each_beginning::<Profile>(&rt, rt.alloc(), REACHED);
+    assert_each_beginning::<Node>(&rt, rt.alloc(), NODE);
 }

@@ -125,7 +125,10 @@ fn filter_needs_depth<R: Rules>(
 }
 
 /// A flag with this many values around it, one in another.
-fn flag_inside(alloc: Global, around: usize) -> Result<Nested, Failure> {
+///
+/// # Errors
+/// [`Failure::Memory`].
+pub fn flag_inside(alloc: Global, around: usize) -> Result<Nested, Failure> {
     let mut value = Nested::Flag(true);
     for _index in 0..around {
         value = match Box::new(alloc, value) {

@@ -1,0 +1,591 @@
+//! What `asn1_trials` does with lists and chains, in plain Rust, for comparing times: the same values and bytes, the same refusals,
+//! and no proof. Its arguments are as there: `packed write person 100000 10`.
+//!
+//!     rustc -O --edition 2024 bench/plain_codecs.rs -o plain_codecs && ./plain_codecs packed read person 100000 10
+
+use std::env;
+
+#[derive(Clone, Copy, PartialEq, Eq)]
+struct Tag {
+    class: u8,
+    number: u32,
+}
+
+const fn universal(number: u32) -> Tag {
+    Tag { class: 0, number }
+}
+
+const fn context(number: u32) -> Tag {
+    Tag { class: 2, number }
+}
+
+const BOOLEAN: Tag = universal(1);
+const INTEGER: Tag = universal(2);
+const OCTET_STRING: Tag = universal(4);
+const NULL: Tag = universal(5);
+const UTF8_STRING: Tag = universal(12);
+const SEQUENCE: Tag = universal(16);
+const SET: Tag = universal(17);
+const VISIBLE_STRING: Tag = universal(26);
+
+#[derive(Clone, Copy, Debug)]
+enum Error {
+    TooDeep,
+    TooLong,
+    Missing(usize),
+    Malformed,
+}
+
+/// An INTEGER of any size: an `i128` where it fits.
+enum Integer {
+    Narrow(i128),
+    Wide { negative: bool, magnitude: Vec<u8> },
+}
+
+/// A value that is written and read in a form with presence marks or without.
+trait Value: Sized {
+    fn write<const MARKS: bool>(&self, writer: &mut Writer<MARKS>) -> Result<(), Error>;
+    fn read<const MARKS: bool>(reader: &mut Reader<'_, MARKS>) -> Result<Self, Error>;
+}
+
+struct Writer<const MARKS: bool> {
+    bytes: Vec<u8>,
+    depth_left: usize,
+}
+
+impl<const MARKS: bool> Writer<MARKS> {
+    fn scalar(&mut self, tag: Tag, kind: u8, content: &[u8]) -> Result<(), Error> {
+        let [a, b, c, d] = tag.number.to_be_bytes();
+        let size = u32::try_from(content.len()).map_err(|_| Error::TooLong)?;
+        let [e, f, g, h] = size.to_be_bytes();
+        self.bytes.extend_from_slice(&[1, tag.class, a, b, c, d, kind, e, f, g, h]);
+        self.bytes.extend_from_slice(content);
+        Ok(())
+    }
+
+    fn number(&mut self, tag: Tag, kind: u8, number: i128) -> Result<(), Error> {
+        let absolute = number.unsigned_abs();
+        let zeros = absolute.leading_zeros() as usize / 8;
+        let mut content = [0; 17];
+        content[0] = u8::from(number < 0);
+        content[1..17 - zeros].copy_from_slice(&absolute.to_be_bytes()[zeros..]);
+        self.scalar(tag, kind, &content[..17 - zeros])
+    }
+
+    fn integer(&mut self, tag: Tag, number: &Integer) -> Result<(), Error> {
+        match number {
+            Integer::Narrow(number) => self.number(tag, 2, *number),
+            Integer::Wide { negative, magnitude } => {
+                let mut content = vec![u8::from(*negative)];
+                content.extend_from_slice(magnitude);
+                self.scalar(tag, 2, &content)
+            }
+        }
+    }
+
+    fn scope(
+        &mut self,
+        kind: u8,
+        tag: Tag,
+        inside: impl FnOnce(&mut Self) -> Result<(), Error>,
+    ) -> Result<(), Error> {
+        self.depth_left = self.depth_left.checked_sub(1).ok_or(Error::TooDeep)?;
+        let [a, b, c, d] = tag.number.to_be_bytes();
+        self.bytes.extend_from_slice(&[kind, tag.class, a, b, c, d, 0, 0, 0, 0]);
+        let start = self.bytes.len();
+        inside(self)?;
+        let size = u32::try_from(self.bytes.len() - start).map_err(|_| Error::TooLong)?;
+        self.bytes[start - 4..start].copy_from_slice(&size.to_be_bytes());
+        self.depth_left += 1;
+        Ok(())
+    }
+
+    fn mark(&mut self, byte: u8) {
+        if MARKS {
+            self.bytes.push(byte);
+        }
+    }
+
+    fn optional_string(&mut self, tag: Tag, kind: u8, units: Option<&[u8]>) -> Result<(), Error> {
+        match units {
+            Some(units) => {
+                self.mark(0x10);
+                self.scalar(tag, kind, units)
+            }
+            None => {
+                self.mark(0x11);
+                Ok(())
+            }
+        }
+    }
+}
+
+#[derive(Clone, Copy)]
+struct Header<'a> {
+    kind: u8,
+    tag: Tag,
+    content: u8,
+    size: usize,
+    body: &'a [u8],
+}
+
+struct Reader<'a, const MARKS: bool> {
+    left: &'a [u8],
+    depth_left: usize,
+}
+
+impl<'a, const MARKS: bool> Reader<'a, MARKS> {
+    fn header(&self) -> Result<Header<'a>, Error> {
+        let [kind, rest @ ..] = self.left else {
+            return Err(Error::Missing(1));
+        };
+        let (class, number, content, size, body) = match (*kind, rest) {
+            (1, [class, a, b, c, d, content, e, f, g, h, body @ ..]) => {
+                (*class, [*a, *b, *c, *d], *content, [*e, *f, *g, *h], body)
+            }
+            (2..=7, [class, a, b, c, d, e, f, g, h, body @ ..]) => {
+                (*class, [*a, *b, *c, *d], 0, [*e, *f, *g, *h], body)
+            }
+            (1, _) => return Err(Error::Missing(10 - rest.len())),
+            (2..=7, _) => return Err(Error::Missing(9 - rest.len())),
+            _ => return Err(Error::Malformed),
+        };
+        if class > 3 {
+            return Err(Error::Malformed);
+        }
+        let tag = Tag { class, number: u32::from_be_bytes(number) };
+        let size = u32::from_be_bytes(size) as usize;
+        Ok(Header { kind: *kind, tag, content, size, body })
+    }
+
+    fn take(&mut self, is_wanted: impl FnOnce(Header<'a>) -> bool) -> Result<(Tag, &'a [u8]), Error> {
+        let header = self.header()?;
+        if !is_wanted(header) {
+            return Err(Error::Malformed);
+        }
+        let Some((inside, rest)) = header.body.split_at_checked(header.size) else {
+            return Err(Error::Missing(header.size - header.body.len()));
+        };
+        self.left = rest;
+        Ok((header.tag, inside))
+    }
+
+    fn scalar(&mut self, tag: Tag, kind: u8) -> Result<&'a [u8], Error> {
+        let (_, inside) = self.take(|h| h.kind == 1 && h.tag == tag && h.content == kind)?;
+        Ok(inside)
+    }
+
+    fn integer(&mut self, tag: Tag, kind: u8) -> Result<Integer, Error> {
+        let [sign, digits @ ..] = self.scalar(tag, kind)? else {
+            return Err(Error::Malformed);
+        };
+        let negative = *sign == 1;
+        if *sign > 1 || digits.first() == Some(&0) || (negative && digits.is_empty()) {
+            return Err(Error::Malformed);
+        }
+        let wide = || Integer::Wide { negative, magnitude: digits.to_vec() };
+        if digits.len() > 16 {
+            return Ok(wide());
+        }
+        let absolute = digits.iter().fold(0u128, |number, digit| number << 8 | u128::from(*digit));
+        let number = if negative {
+            0i128.checked_sub_unsigned(absolute)
+        } else {
+            0i128.checked_add_unsigned(absolute)
+        };
+        Ok(number.map_or_else(wide, Integer::Narrow))
+    }
+
+    fn small<T: TryFrom<i128>>(&mut self, tag: Tag, kind: u8) -> Result<T, Error> {
+        match self.integer(tag, kind)? {
+            Integer::Narrow(number) => T::try_from(number).map_err(|_| Error::Malformed),
+            Integer::Wide { .. } => Err(Error::Malformed),
+        }
+    }
+
+    fn text(&mut self, tag: Tag) -> Result<String, Error> {
+        let units = self.scalar(tag, 8)?;
+        Ok(std::str::from_utf8(units).map_err(|_| Error::Malformed)?.to_owned())
+    }
+
+    fn letters(&mut self, tag: Tag, kind: u8, is_allowed: fn(u8) -> bool) -> Result<Vec<u8>, Error> {
+        let units = self.scalar(tag, kind)?;
+        if units.iter().all(|unit| is_allowed(*unit)) { Ok(units.to_vec()) } else { Err(Error::Malformed) }
+    }
+
+    fn scope<T>(
+        &mut self,
+        is_wanted: impl FnOnce(Header<'a>) -> bool,
+        inside: impl FnOnce(&mut Self, Tag) -> Result<T, Error>,
+    ) -> Result<T, Error> {
+        let depth_left = self.depth_left.checked_sub(1).ok_or(Error::TooDeep)?;
+        let (tag, body) = self.take(is_wanted)?;
+        let outer = std::mem::replace(&mut self.left, body);
+        self.depth_left = depth_left;
+        let value = inside(self, tag)?;
+        if !self.left.is_empty() {
+            return Err(Error::Malformed);
+        }
+        self.left = outer;
+        self.depth_left += 1;
+        Ok(value)
+    }
+
+    fn told(&mut self, there: u8, away: u8, tags: &[Tag]) -> Result<bool, Error> {
+        if MARKS {
+            let [byte, rest @ ..] = self.left else {
+                return Err(Error::Missing(1));
+            };
+            self.left = rest;
+            return match *byte {
+                byte if byte == there => Ok(true),
+                byte if byte == away => Ok(false),
+                _ => Err(Error::Malformed),
+            };
+        }
+        Ok(!self.left.is_empty() && tags.contains(&self.header()?.tag))
+    }
+
+    fn is_present(&mut self, tag: Tag) -> Result<bool, Error> {
+        self.told(0x10, 0x11, &[tag])
+    }
+
+    fn skip_marks(&mut self) {
+        while let (true, [0x10..=0x14, rest @ ..]) = (MARKS, self.left) {
+            self.left = rest;
+        }
+    }
+}
+
+fn is_scope(kind: u8, tag: Tag) -> impl Fn(Header<'_>) -> bool {
+    move |header| header.kind == kind && header.tag == tag
+}
+
+impl<T: Value> Value for Vec<T> {
+    fn write<const MARKS: bool>(&self, writer: &mut Writer<MARKS>) -> Result<(), Error> {
+        writer.scope(4, SEQUENCE, |writer| self.iter().try_for_each(|value| value.write(writer)))
+    }
+
+    fn read<const MARKS: bool>(reader: &mut Reader<'_, MARKS>) -> Result<Self, Error> {
+        reader.scope(is_scope(4, SEQUENCE), |reader, _| {
+            let mut list = Vec::new();
+            while !reader.left.is_empty() {
+                list.push(T::read(reader)?);
+            }
+            Ok(list)
+        })
+    }
+}
+
+struct Person {
+    age: Integer,
+    name: String,
+}
+
+impl Value for Person {
+    fn write<const MARKS: bool>(&self, writer: &mut Writer<MARKS>) -> Result<(), Error> {
+        writer.scope(2, SEQUENCE, |writer| {
+            writer.integer(INTEGER, &self.age)?;
+            writer.scalar(UTF8_STRING, 8, self.name.as_bytes())
+        })
+    }
+
+    fn read<const MARKS: bool>(reader: &mut Reader<'_, MARKS>) -> Result<Self, Error> {
+        reader.scope(is_scope(2, SEQUENCE), |reader, _| {
+            Ok(Person { age: reader.integer(INTEGER, 2)?, name: reader.text(UTF8_STRING)? })
+        })
+    }
+}
+
+#[derive(Clone, Copy, PartialEq, Eq)]
+enum Color {
+    Red = 0,
+    Green = 1,
+    Blue = 5,
+}
+
+struct Contact {
+    phone: Option<Vec<u8>>,
+    mail: Option<Vec<u8>>,
+}
+
+struct Profile {
+    nick: Option<String>,
+    level: u8,
+    color: Color,
+    contact: Option<Contact>,
+}
+
+const PHONE: Tag = context(3);
+const MAIL: Tag = context(4);
+
+impl Value for Profile {
+    fn write<const MARKS: bool>(&self, writer: &mut Writer<MARKS>) -> Result<(), Error> {
+        writer.scope(2, SEQUENCE, |writer| {
+            writer.optional_string(context(0), 8, self.nick.as_ref().map(|nick| nick.as_bytes()))?;
+            writer.number(context(1), 2, i128::from(self.level))?;
+            if self.color == Color::Red {
+                writer.mark(0x11);
+            } else {
+                writer.mark(0x10);
+                writer.number(context(2), 3, self.color as i128)?;
+            }
+            match &self.contact {
+                Some(contact) if contact.phone.is_some() || contact.mail.is_some() => {
+                    writer.mark(0x12);
+                    writer.optional_string(PHONE, 13, contact.phone.as_deref())?;
+                    writer.optional_string(MAIL, 11, contact.mail.as_deref())?;
+                    writer.mark(0x14);
+                }
+                _ => writer.mark(0x13),
+            }
+            Ok(())
+        })
+    }
+
+    fn read<const MARKS: bool>(reader: &mut Reader<'_, MARKS>) -> Result<Self, Error> {
+        reader.scope(is_scope(2, SEQUENCE), |reader, _| {
+            let nick = reader.is_present(context(0))?.then(|| reader.text(context(0))).transpose()?;
+            let level = reader.small(context(1), 2)?;
+            let mut color = Color::Red;
+            if reader.is_present(context(2))? {
+                color = match reader.small::<isize>(context(2), 3)? {
+                    0 => Color::Red,
+                    1 => Color::Green,
+                    5 => Color::Blue,
+                    _ => return Err(Error::Malformed),
+                };
+            }
+            let contact = reader.told(0x12, 0x13, &[PHONE, MAIL])?.then(|| read_contact(reader)).transpose()?;
+            Ok(Profile { nick, level, color, contact })
+        })
+    }
+}
+
+fn read_contact<const MARKS: bool>(reader: &mut Reader<'_, MARKS>) -> Result<Contact, Error> {
+    let mut contact = Contact { phone: None, mail: None };
+    if reader.is_present(PHONE)? {
+        contact.phone = Some(reader.letters(PHONE, 13, |unit| unit == b' ' || unit.is_ascii_digit())?);
+    }
+    if reader.is_present(MAIL)? {
+        contact.mail = Some(reader.letters(MAIL, 11, |unit| unit.is_ascii())?);
+    }
+    if MARKS {
+        let [0x14, rest @ ..] = reader.left else {
+            return Err(Error::Malformed);
+        };
+        reader.left = rest;
+    }
+    Ok(contact)
+}
+
+enum Corner {
+    Left(bool),
+    Right(Vec<u8>),
+}
+
+enum Shape {
+    Dot,
+    Ring(u16),
+    Inner(Corner),
+}
+
+impl Value for Corner {
+    fn write<const MARKS: bool>(&self, writer: &mut Writer<MARKS>) -> Result<(), Error> {
+        match self {
+            Corner::Left(left) => {
+                writer.scope(7, BOOLEAN, |writer| writer.scalar(BOOLEAN, 1, &[u8::from(*left)]))
+            }
+            Corner::Right(right) => {
+                writer.scope(7, OCTET_STRING, |writer| writer.scalar(OCTET_STRING, 6, right))
+            }
+        }
+    }
+
+    fn read<const MARKS: bool>(reader: &mut Reader<'_, MARKS>) -> Result<Self, Error> {
+        reader.scope(|header| header.kind == 7, |reader, tag| match tag {
+            BOOLEAN => match reader.scalar(BOOLEAN, 1)? {
+                [0] => Ok(Corner::Left(false)),
+                [1] => Ok(Corner::Left(true)),
+                _ => Err(Error::Malformed),
+            },
+            OCTET_STRING => Ok(Corner::Right(reader.scalar(OCTET_STRING, 6)?.to_vec())),
+            _ => Err(Error::Malformed),
+        })
+    }
+}
+
+impl Value for Shape {
+    fn write<const MARKS: bool>(&self, writer: &mut Writer<MARKS>) -> Result<(), Error> {
+        match self {
+            Shape::Dot => writer.scope(7, NULL, |writer| writer.scalar(NULL, 4, &[])),
+            Shape::Ring(ring) => {
+                writer.scope(7, context(0), |writer| writer.number(context(0), 2, i128::from(*ring)))
+            }
+            Shape::Inner(corner) => {
+                let tag = if let Corner::Left(_) = corner { BOOLEAN } else { OCTET_STRING };
+                writer.scope(7, tag, |writer| corner.write(writer))
+            }
+        }
+    }
+
+    fn read<const MARKS: bool>(reader: &mut Reader<'_, MARKS>) -> Result<Self, Error> {
+        reader.scope(|header| header.kind == 7, |reader, tag| match tag {
+            NULL => match reader.scalar(NULL, 4)? {
+                [] => Ok(Shape::Dot),
+                _ => Err(Error::Malformed),
+            },
+            BOOLEAN | OCTET_STRING => Ok(Shape::Inner(Corner::read(reader)?)),
+            tag if tag == context(0) => Ok(Shape::Ring(reader.small(tag, 2)?)),
+            _ => Err(Error::Malformed),
+        })
+    }
+}
+
+struct Badge {
+    id: u32,
+    label: Option<Vec<u8>>,
+    shape: Shape,
+}
+
+impl Value for Badge {
+    fn write<const MARKS: bool>(&self, writer: &mut Writer<MARKS>) -> Result<(), Error> {
+        writer.scope(3, SET, |writer| {
+            writer.number(INTEGER, 2, i128::from(self.id))?;
+            writer.optional_string(VISIBLE_STRING, 9, self.label.as_deref())?;
+            self.shape.write(writer)
+        })
+    }
+
+    fn read<const MARKS: bool>(reader: &mut Reader<'_, MARKS>) -> Result<Self, Error> {
+        reader.scope(is_scope(3, SET), |reader, _| {
+            let (mut id, mut label, mut shape) = (None, None, None);
+            loop {
+                reader.skip_marks();
+                if reader.left.is_empty() {
+                    break;
+                }
+                match reader.header()?.tag {
+                    INTEGER if id.is_none() => id = Some(reader.small(INTEGER, 2)?),
+                    VISIBLE_STRING if label.is_none() => {
+                        let is_visible = |unit: u8| (0x20..0x7f).contains(&unit);
+                        label = Some(reader.letters(VISIBLE_STRING, 9, is_visible)?);
+                    }
+                    _ if shape.is_none() => shape = Some(Shape::read(reader)?),
+                    _ => return Err(Error::Malformed),
+                }
+            }
+            match (id, shape) {
+                (Some(id), Some(shape)) => Ok(Badge { id, label, shape }),
+                _ => Err(Error::Malformed),
+            }
+        })
+    }
+}
+
+struct Node {
+    label: Option<String>,
+    children: Vec<Node>,
+}
+
+impl Value for Node {
+    fn write<const MARKS: bool>(&self, writer: &mut Writer<MARKS>) -> Result<(), Error> {
+        writer.scope(2, SEQUENCE, |writer| {
+            writer.optional_string(UTF8_STRING, 8, self.label.as_ref().map(|label| label.as_bytes()))?;
+            self.children.write(writer)
+        })
+    }
+
+    fn read<const MARKS: bool>(reader: &mut Reader<'_, MARKS>) -> Result<Self, Error> {
+        reader.scope(is_scope(2, SEQUENCE), |reader, _| {
+            let label = reader.is_present(UTF8_STRING)?.then(|| reader.text(UTF8_STRING)).transpose()?;
+            Ok(Node { label, children: Vec::read(reader)? })
+        })
+    }
+}
+
+fn name_of(number: u32) -> &'static str {
+    match number % 4 {
+        0 => "Ann",
+        1 => "Bartholomew",
+        2 => "",
+        _ => "Christina of Sweden",
+    }
+}
+
+fn person(number: u32) -> Person {
+    Person { age: Integer::Narrow(i128::from(number)), name: name_of(number).to_owned() }
+}
+
+fn profile(number: u32) -> Profile {
+    let level = number as u8;
+    if number % 2 == 0 {
+        let contact = Contact { phone: Some(b"0123".to_vec()), mail: Some(b"a@b.org".to_vec()) };
+        return Profile { nick: None, level, color: Color::Blue, contact: Some(contact) };
+    }
+    Profile { nick: Some(name_of(number).to_owned()), level, color: Color::Red, contact: None }
+}
+
+fn badge(number: u32) -> Badge {
+    if number % 2 == 0 {
+        return Badge { id: number, label: None, shape: Shape::Ring(number as u16) };
+    }
+    let shape = Shape::Inner(Corner::Left(true));
+    Badge { id: number, label: Some(b"visitor".to_vec()), shape }
+}
+
+fn node(levels: u32) -> Node {
+    let leaf = Node { label: Some("a".to_owned()), children: Vec::new() };
+    (0..levels).fold(leaf, |node, _| Node { label: None, children: vec![node] })
+}
+
+fn bytes_of<const MARKS: bool, T: Value>(value: &T) -> Result<Vec<u8>, Error> {
+    let mut writer = Writer::<MARKS> { bytes: Vec::new(), depth_left: usize::MAX };
+    value.write(&mut writer)?;
+    Ok(writer.bytes)
+}
+
+fn value_of<const MARKS: bool, T: Value>(bytes: &[u8]) -> Result<T, Error> {
+    let mut reader = Reader::<MARKS> { left: bytes, depth_left: usize::MAX };
+    let value = T::read(&mut reader)?;
+    if reader.left.is_empty() { Ok(value) } else { Err(Error::Malformed) }
+}
+
+fn run<const MARKS: bool, T: Value>(value: &T, action: &str, times: u32) -> Result<(), Error> {
+    let bytes = bytes_of::<MARKS, T>(value)?;
+    for _ in 0..times {
+        match action {
+            "read" => drop(value_of::<MARKS, T>(&bytes)?),
+            _ => drop(bytes_of::<MARKS, T>(value)?),
+        }
+    }
+    let checksum = bytes.iter().fold(0u32, |sum, byte| sum.wrapping_mul(31).wrapping_add(u32::from(*byte)));
+    println!("{} bytes, checksum {checksum}", bytes.len());
+    Ok(())
+}
+
+fn work<const MARKS: bool>(action: &str, name: &str, count: u32, times: u32) -> Result<(), Error> {
+    match name {
+        "person" => run::<MARKS, _>(&(0..count).map(person).collect::<Vec<_>>(), action, times),
+        "profile" => run::<MARKS, _>(&(0..count).map(profile).collect::<Vec<_>>(), action, times),
+        "badge" => run::<MARKS, _>(&(0..count).map(badge).collect::<Vec<_>>(), action, times),
+        _ => run::<MARKS, _>(&node(count), action, times),
+    }
+}
+
+fn main() {
+    let words: Vec<String> = env::args().skip(1).collect();
+    let [form, action, name, count, times] = &words[..] else {
+        return println!("not understood");
+    };
+    let (count, times) = (count.parse().unwrap_or(0), times.parse().unwrap_or(0));
+    let done = match form.as_str() {
+        "packed" => work::<true>(action, name, count, times),
+        _ => work::<false>(action, name, count, times),
+    };
+    match done {
+        Ok(()) => {}
+        Err(Error::Missing(count)) => println!("{count} bytes are missing"),
+        Err(error) => println!("{error:?}"),
+    }
+}
