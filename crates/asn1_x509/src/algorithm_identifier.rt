@@ -1,11 +1,13 @@
 //! `AlgorithmIdentifier ::= SEQUENCE { algorithm OBJECT IDENTIFIER, parameters ANY DEFINED BY algorithm OPTIONAL }`
 ghost use Rattle.std.specs.Prelude.{Bool, IfSome, IsTrue, List, [], codes, ℕ, ◌↔◌, ◌∷◌};
-ghost use Rattle.asn1_schema.specs.Words.{IsWellTagged, constructed_agrees, constructed_type, optional, required, sequence, untagged};
+ghost use Rattle.asn1_schema.specs.Words.{IsWellTagged, constructed_agrees, constructed_type, optional_slot, required_slot, sequence_of_slots, slots_agree, untagged};
 
 use asn1_schema::{
-    Any, AsnType, Constraints, ConstructedType, Encode, EncodeError, EncodeFields, Encoder, Field,
-    FieldTable, Identifier, ObjectIdentifier, Tag, TypeTable,
+    Any, AsnType, Constraints, ConstructedType, Decode, DecodeByPlace, DecodeError, DecodeFields,
+    Decoder, Encode, EncodeError, EncodeFields, Encoder, Field, FieldTable, Identifier,
+    ObjectIdentifier, Slotted, Tag, Tagging, TypeTable, filled, optional, required,
 };
+use std::alloc::Global;
 
 /// An algorithm, and its parameters where it has any: an open type that may be absent.
 #[derive(PartialEq, Eq, Debug, Drop)]
@@ -16,12 +18,24 @@ pub struct AlgorithmIdentifier {
     pub parameters: Option<Any>,
 }
 
+impl Slotted for AlgorithmIdentifier {
+    type Slots = (Option<ObjectIdentifier>, Option<Any>);
+
+    ghost layout = { required_slot (codes "algorithm") (λ v. v.algorithm) (λ s. s.0)
+        (untagged ⟦<ObjectIdentifier as AsnType>⟧.meaning) ⟦<ObjectIdentifier as PartialEq>⟧.eq ∷
+        optional_slot (codes "parameters") (λ v. v.parameters) (λ s. s.1)
+        (untagged ⟦<Any as AsnType>⟧.meaning) ⟦<Any as PartialEq>⟧.eq ∷ [] };
+
+    fn from_slots(_alloc: Global, slots: Self::Slots) -> Result<AlgorithmIdentifier, DecodeError> {
+        Ok(AlgorithmIdentifier {
+            algorithm: filled(slots.0, "algorithm")?,
+            parameters: slots.1,
+        })
+    }
+}
+
 impl FieldTable for AlgorithmIdentifier {
-    ghost components = { sequence (
-        required (codes "algorithm") (λ v. v.algorithm)
-        (untagged ⟦<ObjectIdentifier as AsnType>⟧.meaning) ∷
-        optional (codes "parameters") (λ v. v.parameters)
-        (untagged ⟦<Any as AsnType>⟧.meaning) ∷ []) };
+    ghost components = { sequence_of_slots ⟦<AlgorithmIdentifier as Slotted>⟧.layout };
 
     fn field_count() -> usize {
         2
@@ -81,6 +95,38 @@ impl EncodeFields for AlgorithmIdentifier {
             _ => Ok(()),
         }
     }
+}
+
+impl Decode for AlgorithmIdentifier {
+    fn decode_with_tag_and_constraints<D: Decoder>(
+        decoder: &mut D,
+        tag: Tag,
+        _constraints: &Constraints<'_>,
+    ) -> Result<AlgorithmIdentifier, DecodeError> {
+        decoder.decode_sequence(tag)
+    }
+}
+
+impl DecodeFields for AlgorithmIdentifier {
+    fn decode_fields<D: Decoder>(decoder: &mut D) -> Result<AlgorithmIdentifier, DecodeError> {
+        AlgorithmIdentifier::decode_by_place(decoder)
+    }
+}
+
+impl DecodeByPlace for AlgorithmIdentifier {
+    fn decode_field<D: Decoder>(
+        place: usize,
+        slots: &mut Self::Slots,
+        decoder: &mut D,
+    ) -> Result<(), DecodeError> {
+        match place {
+            0 => required(&mut slots.0, decoder, Tagging::Untagged),
+            1 => optional(&mut slots.1, decoder, Tagging::Untagged),
+            _ => Ok(()),
+        }
+    }
+
+    ghost agrees = { slots_agree ⟦<AlgorithmIdentifier as FieldTable>⟧.components };
 }
 
 /// An `AlgorithmIdentifier` is valid if and only if the codec takes its parameters as one value, where there are any.

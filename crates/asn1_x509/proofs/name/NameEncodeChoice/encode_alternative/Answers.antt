@@ -1,7 +1,7 @@
 use Rattle.std.proofs.Common.{◌≡◌, refl}
-use Rattle.asn1_protocols.specs.declared.x509.name.Name.{Name}
-use Rattle.asn1_protocols.specs.declared.x509.name.Name.TheVariants.{Rdns}
-use Rattle.asn1_protocols.proofs.x509.name.NameEncodeChoice.encode_alternative.Goals as goal
+use Rattle.asn1_x509.specs.declared.name.Name.{Name}
+use Rattle.asn1_x509.specs.declared.name.Name.TheVariants.{Rdns}
+use Rattle.asn1_x509.proofs.name.NameEncodeChoice.encode_alternative.Goals as goal
 
 -- one alternative, so the match tells nothing of the value
 known : (v : Name) → (rdns : _) × (v ≡ Rdns rdns)

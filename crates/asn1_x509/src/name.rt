@@ -1,15 +1,15 @@
 //! `Name ::= CHOICE { rdnSequence RDNSequence }`
 ghost use Rattle.std.specs.Prelude.{[], codes, ◌∷◌};
 ghost use Rattle.asn1_schema.specs.Words.{IsWellTagged, alternative, choice_agrees, choice_of, closed_choice, inl, untagged};
-ghost use Rattle.asn1_protocols.specs.declared.x509.name.Name.TheVariants.{Rdns};
+ghost use Rattle.asn1_x509.specs.declared.name.Name.TheVariants.{Rdns};
 
-use crate::x509::AttributeTypeAndValue;
+use crate::attribute::AttributeTypeAndValue;
 use asn1_schema::{
-    AsnType, Choice, ChoiceType, Constraints, Encode, EncodeChoice, EncodeError, Encoder,
-    Identifier, SetOf, Tag, TagTree, TypeTable,
+    AsnType, Choice, ChoiceType, Constraints, Decode, DecodeChoice, DecodeError, Decoder, Encode,
+    EncodeChoice, EncodeError, Encoder, Identifier, SetOf, Tag, TagTree, TypeTable,
 };
 
-/// `RelativeDistinguishedName ::= SET SIZE (1..MAX) OF AttributeTypeAndValue`
+/// `RelativeDistinguishedName ::= SET SIZE (1..MAX) OF AttributeTypeAndValue`. That there is one is the caller's to see.
 pub type RelativeDistinguishedName = SetOf<AttributeTypeAndValue>;
 
 /// `RDNSequence ::= SEQUENCE OF RelativeDistinguishedName`
@@ -87,6 +87,28 @@ impl EncodeChoice for Name {
     fn encode_alternative<E: Encoder>(&self, encoder: &mut E) -> Result<(), EncodeError> {
         match self {
             Name::Rdns(rdns) => rdns.encode(encoder),
+        }
+    }
+}
+
+impl Decode for Name {
+    fn decode_with_tag_and_constraints<D: Decoder>(
+        decoder: &mut D,
+        tag: Tag,
+        constraints: &Constraints<'_>,
+    ) -> Result<Name, DecodeError> {
+        decoder.decode_choice_with_tag(tag, constraints)
+    }
+}
+
+impl DecodeChoice for Name {
+    fn from_tag<D: Decoder>(decoder: &mut D, tag: Tag) -> Result<Name, DecodeError> {
+        match tag {
+            Tag::SEQUENCE => {
+                let rdns = RdnSequence::decode(decoder)?;
+                Ok(Name::Rdns(rdns))
+            }
+            _ => Err(DecodeError::NoValidChoice("Name")),
         }
     }
 }
