@@ -1,0 +1,6 @@
+pub mod Addresses
+pub mod Bits
+pub mod Escapes
+pub mod MomentTexts
+pub mod Moments
+pub mod Octets
