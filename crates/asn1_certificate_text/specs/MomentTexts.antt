@@ -1,9 +1,9 @@
 -- Moments, and the texts of which they are read (RFC 5280, 4.1.2.5).
-use Rattle.std.specs.Prelude.{◌≤◌, ◌<◌, ℕ, ◌/◌, ◌%◌, List, [], ◌∷◌, ◌++◌}
+use Rattle.std.specs.Prelude.{◌≤◌, ◌<◌, ℕ, ◌/◌, List, [], ◌∷◌, ◌++◌, codes}
 use Rattle.asn1_certificate_text.specs.declared.moment.Moment.{Moment}
 use Rattle.asn1_certificate_text.specs.Moments.{days_in_month, two_digits}
 
--- there is such a day, and such a second in it
+-- there is such a day, of a year of four digits, and such a second in it
 pub record IsInCalendar (m : Moment) : Type 0 where
   pub year : m.year < 10000
   pub month_from : 1 ≤ m.month
@@ -18,15 +18,18 @@ pub record IsInCalendar (m : Moment) : Type 0 where
 abbrev pub IsOfUtcTime : Moment → Type 0
 IsOfUtcTime m = (1950 ≤ m.year) × (m.year < 2050)
 
--- month, day, hour, minute and second, and a Z
-abbrev pub fields_text : Moment → List ℕ
-fields_text m = two_digits m.month ++ (two_digits m.day ++ (two_digits m.hour ++
-    (two_digits m.minute ++ (two_digits m.second ++ 90 ∷ []))))
-
 -- YYMMDDHHMMSSZ
 abbrev pub utc_time : Moment → List ℕ
-utc_time m = two_digits (m.year % 100) ++ fields_text m
+utc_time m = two_digits m.year ++ (two_digits m.month ++ (two_digits m.day ++
+    (two_digits m.hour ++ (two_digits m.minute ++ (two_digits m.second ++ codes "Z")))))
 
 -- YYYYMMDDHHMMSSZ
 abbrev pub generalized_time : Moment → List ℕ
-generalized_time m = two_digits (m.year / 100) ++ (two_digits (m.year % 100) ++ fields_text m)
+generalized_time m = two_digits (m.year / 100) ++ utc_time m
+
+-- YYYY-MM-DD HH:MM:SS UTC
+abbrev pub moment_text : Moment → List ℕ
+moment_text m = two_digits (m.year / 100) ++ (two_digits m.year ++ (codes "-" ++
+    (two_digits m.month ++ (codes "-" ++ (two_digits m.day ++ (codes " " ++
+    (two_digits m.hour ++ (codes ":" ++ (two_digits m.minute ++ (codes ":" ++
+    (two_digits m.second ++ codes " UTC")))))))))))

@@ -1,7 +1,7 @@
 -- The calendar, and numbers of two digits.
 use Rattle.std.specs.Prelude.{ℕ, ◌+◌, ◌/◌, ◌%◌, ◌==◌, Bool, not, ◌&&◌, ◌||◌, List, [], ◌∷◌, if◌then◌else◌}
 
--- the two decimal digits of a number below 100
+-- the last two decimal digits of a number
 abbrev pub two_digits : ℕ → List ℕ
 two_digits n = 48 + n / 10 % 10 ∷ 48 + n % 10 ∷ []
 

@@ -1,5 +1,5 @@
 //! Bits: the size of a number, and what a key may be used for.
-ghost use Rattle.std.specs.Prelude.{◌≡◌, ◌++◌, OnOk};
+ghost use Rattle.std.specs.Prelude.{◌≡◌, ◌<◌, ◌++◌, OnOk};
 ghost use Rattle.std.specs.String.{string_bytes};
 ghost use Rattle.asn1_values.specs.Numbers.{IsShortest, magnitude};
 ghost use Rattle.asn1_certificate_text.specs.Bits.{IsBitLength, usage_name, usages_text};
@@ -39,6 +39,7 @@ pub fn push_usages(text: &mut String, bits: &[bool]) -> Result<(), AllocError>
 
 /// The name of the usage whose bit has this number.
 fn usage_name(number: usize) -> &'static str
+    requires { number < 9 }
     ensures { result.now ≡ usage_name number }
 {
     match number {
@@ -50,6 +51,7 @@ fn usage_name(number: usize) -> &'static str
         5 => "keyCertSign",
         6 => "cRLSign",
         7 => "encipherOnly",
-        _ => "decipherOnly",
+        8 => "decipherOnly",
+        _ => unreachable!(),
     }
 }

@@ -1,5 +1,5 @@
 //! Moments, as certificates have them.
-ghost use Rattle.std.specs.Prelude.{◌≡◌, ◌≤◌, ◌<◌, ◌↔◌, ◌∷◌, [], IfSome, IsTrue, Some};
+ghost use Rattle.std.specs.Prelude.{◌≡◌, ◌<◌, ◌∷◌, [], ℕ, Some};
 ghost use Rattle.asn1_certificate_text.specs.Moments.{days_in_month, is_leap_year, two_digits};
 
 use std::fmt;
@@ -22,6 +22,7 @@ pub struct Moment {
 }
 
 impl Moment {
+    ghost use Rattle.std.specs.Prelude.{◌↔◌, IfSome, IsTrue};
     ghost use Rattle.asn1_certificate_text.specs.MomentTexts.{IsInCalendar, IsOfUtcTime, generalized_time, utc_time};
 
     /// The moment of a UTCTime as RFC 5280 has it (4.1.2.5.1), `YYMMDDHHMMSSZ`, of the years from 1950 to 2049.
@@ -31,12 +32,11 @@ impl Moment {
         ensures only { IfSome result (λ m.
             IsInCalendar m × IsOfUtcTime m × (text.now ≡ utc_time m)) }
     {
-        let [y, z, rest @ ..] = text else {
+        let [y, z, a, b, c, d, e, f, g, h, i, j, k] = text else {
             return None;
         };
-        let in_century = number(*y, *z)?;
-        let century = if in_century < 50 { 20 } else { 19 };
-        of_fields(century, in_century, rest)
+        let [w, x] = if number(*y, *z) < 50 { *b"20" } else { *b"19" };
+        Moment::from_generalized_time(&[w, x, *y, *z, *a, *b, *c, *d, *e, *f, *g, *h, *i, *j, *k])
     }
 
     /// The moment of a GeneralizedTime as RFC 5280 has it (4.1.2.5.2), `YYYYMMDDHHMMSSZ`.
@@ -45,67 +45,84 @@ impl Moment {
             result ≡ Some m }
         ensures only { IfSome result (λ m. IsInCalendar m × (text.now ≡ generalized_time m)) }
     {
-        let [w, x, y, z, rest @ ..] = text else {
+        let moment = Moment::of_digits(text)?;
+        if moment.is_in_calendar() && text == moment.generalized_time().as_slice() {
+            Some(moment)
+        } else {
+            None
+        }
+    }
+
+    /// The numbers of the digits of a GeneralizedTime, if these are digits.
+    fn of_digits(text: &[u8]) -> Option<Moment>
+        ensures { (m : Moment) → IsInCalendar m → text.now ≡ generalized_time m → result ≡ Some m }
+    {
+        let [w, x, y, z, a, b, c, d, e, f, g, h, i, j, _] = text else {
             return None;
         };
-        let century = number(*w, *x)?;
-        let in_century = number(*y, *z)?;
-        of_fields(century, in_century, rest)
+        Some(Moment {
+            year: u16::from(number(*w, *x)) * 100 + u16::from(number(*y, *z)),
+            month: number(*a, *b),
+            day: number(*c, *d),
+            hour: number(*e, *f),
+            minute: number(*g, *h),
+            second: number(*i, *j),
+        })
+    }
+
+    /// Whether there is such a day, of a year below 10000, and such a second in it. No second is put in.
+    fn is_in_calendar(&self) -> bool
+        ensures { IsTrue result ↔ IsInCalendar self.now }
+    {
+        self.year < 10000
+            && 1 <= self.month
+            && self.month <= 12
+            && 1 <= self.day
+            && self.day <= days_in_month(self.year, self.month)
+            && self.hour < 24
+            && self.minute < 60
+            && self.second < 60
+    }
+
+    /// Its text as a GeneralizedTime.
+    fn generalized_time(&self) -> [u8; 15]
+        ensures { result ≡ generalized_time self.now }
+    {
+        let [w, x] = digits(self.year / 100);
+        let [y, z] = digits(self.year);
+        let [a, b] = digits(u16::from(self.month));
+        let [c, d] = digits(u16::from(self.day));
+        let [e, f] = digits(u16::from(self.hour));
+        let [g, h] = digits(u16::from(self.minute));
+        let [i, j] = digits(u16::from(self.second));
+        [w, x, y, z, a, b, c, d, e, f, g, h, i, j, b'Z']
     }
 }
 
-/// The moment of a year, by its century and its place in that, whose month, day, hour, minute and second are in a text of two
-/// digits each, with a `Z` behind them.
-fn of_fields(century: u8, in_century: u8, text: &[u8]) -> Option<Moment> {
-    let [a, b, c, d, e, f, g, h, i, j, b'Z'] = text else {
-        return None;
-    };
-    let moment = Moment {
-        year: u16::from(century) * 100 + u16::from(in_century),
-        month: number(*a, *b)?,
-        day: number(*c, *d)?,
-        hour: number(*e, *f)?,
-        minute: number(*g, *h)?,
-        second: number(*i, *j)?,
-    };
-    if is_in_calendar(&moment) {
-        Some(moment)
-    } else {
-        None
-    }
-}
-
-/// The number of two decimal digits.
-fn number(tens: u8, ones: u8) -> Option<u8>
-    ensures read { (n : _) → n < 100 → tens ∷ ones ∷ [] ≡ two_digits n → result ≡ Some n }
-    ensures only { IfSome result (λ n. (n < 100) × (tens ∷ ones ∷ [] ≡ two_digits n)) }
+/// The number of two decimal digits. Of others it is some number.
+fn number(tens: u8, ones: u8) -> u8
+    ensures { (n : ℕ) → n < 100 → tens ∷ ones ∷ [] ≡ two_digits n → result ≡ n }
 {
-    if tens.is_ascii_digit() && ones.is_ascii_digit() {
-        Some((tens - b'0') * 10 + (ones - b'0'))
-    } else {
-        None
-    }
+    tens % 16 * 10 + ones % 16
 }
 
-/// Whether there is such a day, and such a second in it. Seconds that were put in are left out, as by RFC 5280's syntax.
-fn is_in_calendar(moment: &Moment) -> bool {
-    (1..=12).contains(&moment.month)
-        && 1 <= moment.day
-        && moment.day <= days_in_month(moment.year, moment.month)
-        && moment.hour < 24
-        && moment.minute < 60
-        && moment.second < 60
+/// The last two decimal digits of a number.
+fn digits(number: u16) -> [u8; 2]
+    ensures { result ≡ two_digits number }
+{
+    [b'0' + (number / 10 % 10) as u8, b'0' + (number % 10) as u8]
 }
 
 /// How many days a month has.
 fn days_in_month(year: u16, month: u8) -> u8
     ensures { result ≡ days_in_month year month }
 {
-    match month {
-        4 | 6 | 9 | 11 => 30,
-        2 if is_leap_year(year) => 29,
-        2 => 28,
-        _ => 31,
+    if month == 4 || month == 6 || month == 9 || month == 11 {
+        30
+    } else if month == 2 {
+        if is_leap_year(year) { 29 } else { 28 }
+    } else {
+        31
     }
 }
 
@@ -116,26 +133,35 @@ fn is_leap_year(year: u16) -> bool
     year % 4 == 0 && (year % 100 != 0 || year % 400 == 0)
 }
 
-/// Two digits of a number below 100.
+/// As `2025-06-01 12:00:00 UTC`.
+impl fmt::Display for Moment {
+    ghost use Rattle.asn1_certificate_text.specs.MomentTexts.{moment_text};
+
+    ghost output = { λ m. Some (moment_text m) };
+
+    fn fmt<W: fmt::Write>(&self, f: &mut fmt::Formatter<W>) -> fmt::Result {
+        write!(
+            f,
+            "{}{}-{}-{} {}:{}:{} UTC",
+            TwoDigits(self.year / 100),
+            TwoDigits(self.year),
+            TwoDigits(u16::from(self.month)),
+            TwoDigits(u16::from(self.day)),
+            TwoDigits(u16::from(self.hour)),
+            TwoDigits(u16::from(self.minute)),
+            TwoDigits(u16::from(self.second))
+        )
+    }
+}
+
+/// The last two decimal digits of a number.
 #[derive(Clone, Copy)]
-struct TwoDigits(u8);
+struct TwoDigits(u16);
 
 impl fmt::Display for TwoDigits {
     ghost output = { λ n. Some (two_digits n.0) };
 
     fn fmt<W: fmt::Write>(&self, f: &mut fmt::Formatter<W>) -> fmt::Result {
-        f.write_char(char::from(b'0' + self.0 / 10 % 10))?;
-        f.write_char(char::from(b'0' + self.0 % 10))
-    }
-}
-
-/// As `2025-06-01 12:00:00 UTC`.
-impl fmt::Display for Moment {
-    fn fmt<W: fmt::Write>(&self, f: &mut fmt::Formatter<W>) -> fmt::Result {
-        write!(
-            f,
-            "{:04}-{:02}-{:02} {:02}:{:02}:{:02} UTC",
-            self.year, self.month, self.day, self.hour, self.minute, self.second
-        )
+        write!(f, "{}{}", self.0 / 10 % 10, self.0 % 10)
     }
 }

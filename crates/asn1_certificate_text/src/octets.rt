@@ -1,19 +1,30 @@
 //! Octets in hexadecimal.
-ghost use Rattle.std.specs.Prelude.{◌≡◌, ◌<◌, ◌++◌, OnOk};
+ghost use Rattle.std.specs.Prelude.{◌≡◌, ◌++◌, OnOk};
 ghost use Rattle.std.specs.String.{string_bytes};
-ghost use Rattle.asn1_certificate_text.specs.Octets.{digit, octet_text, octets_text};
+ghost use Rattle.asn1_values.specs.Text.{byte_text};
+ghost use Rattle.asn1_certificate_text.specs.Octets.{after_colons, octets_text};
 
 use std::alloc::AllocError;
+use std::fmt::Write;
 
 /// Appends the octets in hexadecimal, two digits each, with a colon between each two.
 pub fn push_octets(text: &mut String, octets: &[u8]) -> Result<(), AllocError>
     ensures { OnOk result (string_bytes text.new ≡ string_bytes text.old ++ octets_text octets.now) }
 {
-    let [first, rest @ ..] = octets else {
-        return Ok(());
-    };
-    push_octet(text, *first)?;
-    for octet in rest {
+    match octets {
+        [] => Ok(()),
+        [first, rest @ ..] => {
+            push_octet(text, *first)?;
+            push_after_colons(text, rest)
+        }
+    }
+}
+
+/// Appends the octets with a colon before each.
+fn push_after_colons(text: &mut String, octets: &[u8]) -> Result<(), AllocError>
+    ensures { OnOk result (string_bytes text.new ≡ string_bytes text.old ++ after_colons octets.now) }
+{
+    for octet in octets {
         text.push_str(":")?;
         push_octet(text, *octet)?;
     }
@@ -22,20 +33,7 @@ pub fn push_octets(text: &mut String, octets: &[u8]) -> Result<(), AllocError>
 
 /// Appends an octet as two digits.
 pub(crate) fn push_octet(text: &mut String, octet: u8) -> Result<(), AllocError>
-    ensures { OnOk result (string_bytes text.new ≡ string_bytes text.old ++ octet_text octet) }
+    ensures { OnOk result (string_bytes text.new ≡ string_bytes text.old ++ byte_text octet) }
 {
-    text.push(hexadecimal(octet / 16))?;
-    text.push(hexadecimal(octet % 16))
-}
-
-/// The digit of a number below 16.
-fn hexadecimal(number: u8) -> char
-    requires { number < 16 }
-    ensures { result ≡ digit number }
-{
-    if number < 10 {
-        char::from(b'0' + number)
-    } else {
-        char::from(b'a' + (number - 10))
-    }
+    write!(text, "{:x}{:x}", octet / 16, octet % 16)
 }
