@@ -29,22 +29,12 @@ pub struct Curve {
 pub fn object_named(arcs: &[u32]) -> Option<&'static NamedObject>
     ensures found { IfSome result (λ object. object.now.arcs.now ≡ arcs.now) }
 {
-    for object in OBJECTS {
-        if object.arcs == arcs {
-            return Some(object);
-        }
-    }
-    None
+    OBJECTS.iter().find(|object| object.arcs == arcs)
 }
 
 /// The curve of these arcs, where it is in the table.
 pub fn curve_of(arcs: &[u32]) -> Option<&'static Curve>
     ensures found { IfSome result (λ curve. curve.now.arcs.now ≡ arcs.now) }
 {
-    for curve in CURVES {
-        if curve.arcs == arcs {
-            return Some(curve);
-        }
-    }
-    None
+    CURVES.iter().find(|curve| curve.arcs == arcs)
 }
