@@ -18,10 +18,14 @@ pub record IsInCalendar (m : Moment) : Type 0 where
 abbrev pub IsOfUtcTime : Moment → Type 0
 IsOfUtcTime m = (1950 ≤ m.year) × (m.year < 2050)
 
+-- MMDDHHMMSSZ
+abbrev pub time_in_year : Moment → List ℕ
+time_in_year m = two_digits m.month ++ (two_digits m.day ++ (two_digits m.hour ++
+    (two_digits m.minute ++ (two_digits m.second ++ codes "Z"))))
+
 -- YYMMDDHHMMSSZ
 abbrev pub utc_time : Moment → List ℕ
-utc_time m = two_digits m.year ++ (two_digits m.month ++ (two_digits m.day ++
-    (two_digits m.hour ++ (two_digits m.minute ++ (two_digits m.second ++ codes "Z")))))
+utc_time m = two_digits m.year ++ time_in_year m
 
 -- YYYYMMDDHHMMSSZ
 abbrev pub generalized_time : Moment → List ℕ

@@ -3,7 +3,7 @@ use Rattle.std.specs.Prelude.{ℕ, ◌+◌, ◌/◌, ◌%◌, ◌==◌, Bool, no
 
 -- the last two decimal digits of a number
 abbrev pub two_digits : ℕ → List ℕ
-two_digits n = 48 + n / 10 % 10 ∷ 48 + n % 10 ∷ []
+two_digits n = (48 + n / 10 % 10) ∷ (48 + n % 10) ∷ []
 
 -- whether a year has a 29th of February
 abbrev pub is_leap_year : ℕ → Bool

@@ -1,5 +1,5 @@
 //! Moments, as certificates have them.
-ghost use Rattle.std.specs.Prelude.{◌≡◌, ◌<◌, ◌∷◌, [], ℕ, Some};
+ghost use Rattle.std.specs.Prelude.{◌≡◌, ◌<◌, ◌≤◌, ◌%◌, ◌∷◌, [], ℕ, Some};
 ghost use Rattle.asn1_certificate_text.specs.Moments.{days_in_month, is_leap_year, two_digits};
 
 use std::fmt;
@@ -23,7 +23,7 @@ pub struct Moment {
 
 impl Moment {
     ghost use Rattle.std.specs.Prelude.{◌↔◌, IfSome, IsTrue};
-    ghost use Rattle.asn1_certificate_text.specs.MomentTexts.{IsInCalendar, IsOfUtcTime, generalized_time, utc_time};
+    ghost use Rattle.asn1_certificate_text.specs.MomentTexts.{IsInCalendar, IsOfUtcTime, generalized_time, time_in_year, utc_time};
 
     /// The moment of a UTCTime as RFC 5280 has it (4.1.2.5.1), `YYMMDDHHMMSSZ`, of the years from 1950 to 2049.
     pub fn from_utc_time(text: &[u8]) -> Option<Moment>
@@ -32,11 +32,15 @@ impl Moment {
         ensures only { IfSome result (λ m.
             IsInCalendar m × IsOfUtcTime m × (text.now ≡ utc_time m)) }
     {
-        let [y, z, a, b, c, d, e, f, g, h, i, j, k] = text else {
+        let [y, z, rest @ ..] = text else {
             return None;
         };
-        let [w, x] = if number(*y, *z) < 50 { *b"20" } else { *b"19" };
-        Moment::from_generalized_time(&[w, x, *y, *z, *a, *b, *c, *d, *e, *f, *g, *h, *i, *j, *k])
+        let moment = Moment::of_year(full_year(number(*y, *z)), rest)?;
+        if moment.is_of_utc_time() && text == &moment.generalized_time()[2..] {
+            Some(moment)
+        } else {
+            None
+        }
     }
 
     /// The moment of a GeneralizedTime as RFC 5280 has it (4.1.2.5.2), `YYYYMMDDHHMMSSZ`.
@@ -45,7 +49,11 @@ impl Moment {
             result ≡ Some m }
         ensures only { IfSome result (λ m. IsInCalendar m × (text.now ≡ generalized_time m)) }
     {
-        let moment = Moment::of_digits(text)?;
+        let [w, x, y, z, rest @ ..] = text else {
+            return None;
+        };
+        let year = u16::from(number(*w, *x)) * 100 + u16::from(number(*y, *z));
+        let moment = Moment::of_year(year, rest)?;
         if moment.is_in_calendar() && text == moment.generalized_time().as_slice() {
             Some(moment)
         } else {
@@ -53,21 +61,29 @@ impl Moment {
         }
     }
 
-    /// The numbers of the digits of a GeneralizedTime, if these are digits.
-    fn of_digits(text: &[u8]) -> Option<Moment>
-        ensures { (m : Moment) → IsInCalendar m → text.now ≡ generalized_time m → result ≡ Some m }
+    /// The moment in a year that two digits each say, if these are digits and say one.
+    fn of_year(year: u16, text: &[u8]) -> Option<Moment>
+        ensures { (m : Moment) → IsInCalendar m → year ≡ m.year → text.now ≡ time_in_year m →
+            result ≡ Some m }
     {
-        let [w, x, y, z, a, b, c, d, e, f, g, h, i, j, _] = text else {
+        let [a, b, c, d, e, f, g, h, i, j, _] = text else {
             return None;
         };
         Some(Moment {
-            year: u16::from(number(*w, *x)) * 100 + u16::from(number(*y, *z)),
+            year,
             month: number(*a, *b),
             day: number(*c, *d),
             hour: number(*e, *f),
             minute: number(*g, *h),
             second: number(*i, *j),
         })
+    }
+
+    /// Whether it is in the calendar, and of the years that a UTCTime says.
+    fn is_of_utc_time(&self) -> bool
+        ensures { IsTrue result ↔ (IsInCalendar self.now × IsOfUtcTime self.now) }
+    {
+        self.is_in_calendar() && 1950 <= self.year && self.year < 2050
     }
 
     /// Whether there is such a day, of a year below 10000, and such a second in it. No second is put in.
@@ -96,6 +112,17 @@ impl Moment {
         let [g, h] = digits(u16::from(self.minute));
         let [i, j] = digits(u16::from(self.second));
         [w, x, y, z, a, b, c, d, e, f, g, h, i, j, b'Z']
+    }
+}
+
+/// The year of which these are the last two digits, from 1950 to 2049.
+fn full_year(in_century: u8) -> u16
+    ensures { (year : ℕ) → 1950 ≤ year → year < 2050 → in_century ≡ year % 100 → result ≡ year }
+{
+    if in_century < 50 {
+        2000 + u16::from(in_century)
+    } else {
+        1900 + u16::from(in_century)
     }
 }
 
