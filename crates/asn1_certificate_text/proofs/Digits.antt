@@ -2,7 +2,7 @@
 use Rattle.std.proofs.Common.{◌≡◌, ℕ, ◌+◌, ◌*◌, ◌/◌, ◌%◌, ◌<◌, ◌≤◌, List, [], ◌∷◌, ◌++◌, refl, arith}
 use Rattle.std.specs.Fmt.{decimal}
 use Rattle.std.proofs.lemmas.Fmt.{decimal_digit}
-use Rattle.asn1_certificate_text.specs.Moments.{two_digits}
+use Rattle.asn1_certificate_text.specs.Moments.{days_in_month, two_digits}
 
 -- the number of the two digits of a number
 pub number_of_digits : (n tens ones : ℕ) → n < 100 → tens ∷ ones ∷ [] ≡ two_digits n → tens % 16 * 10 + ones % 16 ≡ n
@@ -24,3 +24,7 @@ last_digits n =
     let first : n / 10 % 10 ≡ n % 100 / 10 % 10 = omega arith in
     let second : n % 10 ≡ n % 100 % 10 = omega arith in
     cc
+
+-- no month has more than 31 days
+pub days_in_month-le : (year month : ℕ) → days_in_month year month ≤ 31
+days_in_month-le year month = grind arith

@@ -30,17 +30,15 @@ impl Moment {
         ensures read { (m : Moment) → IsInCalendar m → IsOfUtcTime m → text.now ≡ utc_time m →
             result ≡ Some m }
         ensures only { IfSome result (λ m.
-            IsInCalendar m × IsOfUtcTime m × (text.now ≡ utc_time m)) }
+            IsInCalendar m × (IsOfUtcTime m × (text.now ≡ utc_time m))) }
     {
-        let [y, z, rest @ ..] = text else {
+        let Some(moment) = Moment::of_utc_digits(text) else {
             return None;
         };
-        let moment = Moment::of_year(full_year(number(*y, *z)), rest)?;
-        if moment.is_of_utc_time() && text == &moment.generalized_time()[2..] {
-            Some(moment)
-        } else {
-            None
+        if moment.has_utc_time(text) {
+            return Some(moment);
         }
+        None
     }
 
     /// The moment of a GeneralizedTime as RFC 5280 has it (4.1.2.5.2), `YYYYMMDDHHMMSSZ`.
@@ -49,16 +47,35 @@ impl Moment {
             result ≡ Some m }
         ensures only { IfSome result (λ m. IsInCalendar m × (text.now ≡ generalized_time m)) }
     {
+        let Some(moment) = Moment::of_generalized_digits(text) else {
+            return None;
+        };
+        if moment.has_generalized_time(text) {
+            return Some(moment);
+        }
+        None
+    }
+
+    /// The numbers of the digits of a UTCTime, if these are digits.
+    fn of_utc_digits(text: &[u8]) -> Option<Moment>
+        ensures { (m : Moment) → IsInCalendar m → IsOfUtcTime m → text.now ≡ utc_time m →
+            result ≡ Some m }
+    {
+        let [y, z, rest @ ..] = text else {
+            return None;
+        };
+        Moment::of_year(full_year(number(*y, *z)), rest)
+    }
+
+    /// The numbers of the digits of a GeneralizedTime, if these are digits.
+    fn of_generalized_digits(text: &[u8]) -> Option<Moment>
+        ensures { (m : Moment) → IsInCalendar m → text.now ≡ generalized_time m → result ≡ Some m }
+    {
         let [w, x, y, z, rest @ ..] = text else {
             return None;
         };
-        let year = u16::from(number(*w, *x)) * 100 + u16::from(number(*y, *z));
-        let moment = Moment::of_year(year, rest)?;
-        if moment.is_in_calendar() && text == moment.generalized_time().as_slice() {
-            Some(moment)
-        } else {
-            None
-        }
+        let century = u16::from(number(*w, *x));
+        Moment::of_year(century * 100 + u16::from(number(*y, *z)), rest)
     }
 
     /// The moment in a year that two digits each say, if these are digits and say one.
@@ -79,11 +96,22 @@ impl Moment {
         })
     }
 
-    /// Whether it is in the calendar, and of the years that a UTCTime says.
-    fn is_of_utc_time(&self) -> bool
-        ensures { IsTrue result ↔ (IsInCalendar self.now × IsOfUtcTime self.now) }
+    /// Whether it is of the years that a UTCTime says, and this is its text.
+    fn has_utc_time(&self, text: &[u8]) -> bool
+        ensures { IsTrue result ↔ (IsInCalendar self.now ×
+            (IsOfUtcTime self.now × (text.now ≡ utc_time self.now))) }
     {
-        self.is_in_calendar() && 1950 <= self.year && self.year < 2050
+        self.is_in_calendar()
+            && 1950 <= self.year
+            && self.year < 2050
+            && text == &self.generalized_time()[2..]
+    }
+
+    /// Whether it is in the calendar, and this is its text.
+    fn has_generalized_time(&self, text: &[u8]) -> bool
+        ensures { IsTrue result ↔ (IsInCalendar self.now × (text.now ≡ generalized_time self.now)) }
+    {
+        self.is_in_calendar() && text == self.generalized_time().as_slice()
     }
 
     /// Whether there is such a day, of a year below 10000, and such a second in it. No second is put in.

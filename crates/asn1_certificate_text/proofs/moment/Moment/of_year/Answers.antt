@@ -1,5 +1,6 @@
 use Rattle.std.proofs.Common.{◌≡◌, ℕ, [], ◌∷◌, Some, ap, arith, get_or, length, refl}
 use Rattle.asn1_certificate_text.specs.declared.moment.Moment.{Moment}
+use Rattle.asn1_certificate_text.proofs.Digits.{days_in_month-le}
 use Rattle.asn1_certificate_text.proofs.moment.Moment.of_year.Goals as goal
 
 -- a moment of its fields
@@ -20,7 +21,7 @@ pub returns : goal.returns
 returns c = λ m is year same.
     ap Some (of_fields m _ _ _ _ _ _ year
     (c.number.ensures m.month (omega arith) (ap (λ t. get_or t 0 0 ∷ get_or t 1 0 ∷ []) same))
-    (c.number-2.ensures m.day ? (ap (λ t. get_or t 2 0 ∷ get_or t 3 0 ∷ []) same))
+    (c.number-2.ensures m.day (omega (arith, days_in_month-le m.year m.month)) (ap (λ t. get_or t 2 0 ∷ get_or t 3 0 ∷ []) same))
     (c.number-3.ensures m.hour (omega arith) (ap (λ t. get_or t 4 0 ∷ get_or t 5 0 ∷ []) same))
     (c.number-4.ensures m.minute (omega arith) (ap (λ t. get_or t 6 0 ∷ get_or t 7 0 ∷ []) same))
     (c.number-5.ensures m.second (omega arith) (ap (λ t. get_or t 8 0 ∷ get_or t 9 0 ∷ []) same)))
