@@ -4,3 +4,4 @@ pub mod Escapes
 pub mod MomentTexts
 pub mod Moments
 pub mod Octets
+pub mod Pem

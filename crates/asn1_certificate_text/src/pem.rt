@@ -1,5 +1,8 @@
 //! A certificate in a text (RFC 7468).
-ghost use Rattle.std.specs.Prelude.{◌≡◌, IfOk};
+ghost use Rattle.std.specs.Prelude.{◌≡◌, IfOk, Ok, filter};
+ghost use Rattle.base64.specs.Engines.{standard};
+ghost use Rattle.base64.specs.GeneralPurpose.{decode_of};
+ghost use Rattle.asn1_certificate_text.specs.Pem.{Encloses, HoldsCertificate, is_symbol};
 
 use base64::engine::general_purpose::STANDARD;
 use base64::{DecodeAllocError, DecodeError};
@@ -48,19 +51,35 @@ pub fn is_pem(input: &[u8]) -> bool {
 ///
 /// # Errors
 /// Each but [`PemError::Memory`] says which byte of the text it is about.
-pub fn pem_octets(alloc: Global, text: &[u8]) -> Result<Vec<u8>, PemError> {
+pub fn pem_octets(alloc: Global, text: &[u8]) -> Result<Vec<u8>, PemError>
+    ensures { IfOk result (λ octets. HoldsCertificate text.now octets.items) }
+{
+    match enclosed(text) {
+        Ok((start, body)) => body_octets(alloc, start, body),
+        Err(error) => Err(error),
+    }
+}
+
+/// What is between the first line before a certificate and the next line after one, and where it begins.
+fn enclosed(text: &[u8]) -> Result<(usize, &[u8]), PemError>
+    ensures { IfOk result (λ found. Encloses text.now found.1.now) }
+{
     let Some(begin) = memmem::find(text, BEGIN) else {
         return Err(PemError::NoBegin);
     };
     let start = begin + BEGIN.len();
-    let Some(length) = memmem::find(&text[start..], END) else {
+    let rest = &text[start..];
+    let Some(length) = memmem::find(rest, END) else {
         return Err(PemError::NoEnd(start));
     };
-    body_octets(alloc, start, &text[start..start + length])
+    Ok((start, &rest[..length]))
 }
 
 /// The octets that base64 says, which begins at this place of the text.
-fn body_octets(alloc: Global, start: usize, body: &[u8]) -> Result<Vec<u8>, PemError> {
+fn body_octets(alloc: Global, start: usize, body: &[u8]) -> Result<Vec<u8>, PemError>
+    ensures { IfOk result (λ octets. decode_of standard (filter is_symbol body.now) ≡
+        Ok octets.items) }
+{
     let symbols = symbols_of(alloc, body)?;
     match STANDARD.decode(alloc, symbols.as_slice()) {
         Ok(octets) => Ok(octets),
@@ -70,7 +89,9 @@ fn body_octets(alloc: Global, start: usize, body: &[u8]) -> Result<Vec<u8>, PemE
 }
 
 /// The bytes that are not white space.
-fn symbols_of(alloc: Global, body: &[u8]) -> Result<Vec<u8>, AllocError> {
+fn symbols_of(alloc: Global, body: &[u8]) -> Result<Vec<u8>, AllocError>
+    ensures { IfOk result (λ symbols. symbols.items ≡ filter is_symbol body.now) }
+{
     body.iter()
         .copied()
         .filter(|byte| !byte.is_ascii_whitespace())

@@ -9,5 +9,5 @@ returns-in_default c = λ m is of_utc same.
 pub returns : goal.returns
 returns c = λ m is of_utc same.
     let in_century : c.number.result ≡ m.year % 100 =
-        c.number.ensures (m.year % 100) (omega arith) (ap (λ t. get_or t 0 0 ∷ get_or t 1 0 ∷ []) same ∙ last_digits m.year) in
+    c.number.ensures (m.year % 100) (omega arith) (ap (λ t. get_or t 0 0 ∷ get_or t 1 0 ∷ []) same ∙ last_digits m.year) in
     c.of_year.ensures m is (c.full_year.ensures m.year of_utc.0 of_utc.1 in_century) (ap (λ t. take (length t - 2) (drop 2 t)) same)
