@@ -5,3 +5,4 @@ pub mod MomentTexts
 pub mod Moments
 pub mod Octets
 pub mod Pem
+pub mod PemRefusals

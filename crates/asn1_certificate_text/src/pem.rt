@@ -1,8 +1,10 @@
 //! A certificate in a text (RFC 7468).
-ghost use Rattle.std.specs.Prelude.{◌≡◌, IfOk, Ok, filter};
+ghost use Rattle.std.specs.Prelude.{◌≡◌, IfErr, IfOk, Ok, filter};
 ghost use Rattle.base64.specs.Engines.{standard};
 ghost use Rattle.base64.specs.GeneralPurpose.{decode_of};
 ghost use Rattle.asn1_certificate_text.specs.Pem.{Encloses, HoldsCertificate, is_symbol};
+ghost use Rattle.asn1_certificate_text.specs.declared.pem.PemError.TheVariants.{Memory};
+ghost use Rattle.asn1_certificate_text.specs.PemRefusals.{IsAboutBase64, IsRefusal, IsRefusalOfBody};
 
 use base64::engine::general_purpose::STANDARD;
 use base64::{DecodeAllocError, DecodeError};
@@ -37,6 +39,8 @@ pub enum PemError {
 }
 
 impl From<AllocError> for PemError {
+    ghost from_gives = { λ _ e. e ≡ Memory };
+
     fn from(_refused: AllocError) -> PemError {
         PemError::Memory
     }
@@ -52,7 +56,8 @@ pub fn is_pem(input: &[u8]) -> bool {
 /// # Errors
 /// Each but [`PemError::Memory`] says which byte of the text it is about.
 pub fn pem_octets(alloc: Global, text: &[u8]) -> Result<Vec<u8>, PemError>
-    ensures { IfOk result (λ octets. HoldsCertificate text.now octets.items) }
+    ensures read { IfOk result (λ octets. HoldsCertificate text.now octets.items) }
+    ensures refused { IfErr result (IsRefusal text.now) }
 {
     match enclosed(text) {
         Ok((start, body)) => body_octets(alloc, start, body),
@@ -62,7 +67,8 @@ pub fn pem_octets(alloc: Global, text: &[u8]) -> Result<Vec<u8>, PemError>
 
 /// What is between the first line before a certificate and the next line after one, and where it begins.
 fn enclosed(text: &[u8]) -> Result<(usize, &[u8]), PemError>
-    ensures { IfOk result (λ found. Encloses text.now found.1.now) }
+    ensures found { IfOk result (λ found. Encloses text.now found.1.now) }
+    ensures refused { IfErr result (IsRefusal text.now) }
 {
     let Some(begin) = memmem::find(text, BEGIN) else {
         return Err(PemError::NoBegin);
@@ -77,8 +83,9 @@ fn enclosed(text: &[u8]) -> Result<(usize, &[u8]), PemError>
 
 /// The octets that base64 says, which begins at this place of the text.
 fn body_octets(alloc: Global, start: usize, body: &[u8]) -> Result<Vec<u8>, PemError>
-    ensures { IfOk result (λ octets. decode_of standard (filter is_symbol body.now) ≡
+    ensures read { IfOk result (λ octets. decode_of standard (filter is_symbol body.now) ≡
         Ok octets.items) }
+    ensures refused { IfErr result (IsRefusalOfBody body.now) }
 {
     let symbols = symbols_of(alloc, body)?;
     match STANDARD.decode(alloc, symbols.as_slice()) {
@@ -99,7 +106,9 @@ fn symbols_of(alloc: Global, body: &[u8]) -> Result<Vec<u8>, AllocError>
 }
 
 /// The error about symbols as one about the text in which they are.
-fn error_at(start: usize, body: &[u8], error: DecodeError) -> PemError {
+fn error_at(start: usize, body: &[u8], error: DecodeError) -> PemError
+    ensures { IsAboutBase64 result }
+{
     let end = start.saturating_add(body.len());
     match error {
         DecodeError::InvalidByte(symbol, _) => {

@@ -1,7 +1,7 @@
-use Rattle.std.proofs.Common.{◌≡◌, ℕ, ◌+◌, ◌-◌, ◌≤◌, List, ◌++◌, length, take, drop, sym, ap, ◌∙◌, arith, length-drop, take-append-drop}
+use Rattle.std.proofs.Common.{◌≡◌, ℕ, ◌+◌, ◌-◌, ◌≤◌, List, ◌++◌, length, take, drop, sym, ap, subst, None, ◌∙◌, arith, length-drop, take-append-drop}
 use Rattle.std.specs.Prelude.{codes}
 use Rattle.std.proofs.lemmas.List.{take_all}
-use Rattle.memchr.specs.Find.{OccursAt}
+use Rattle.memchr.specs.Find.{FindsNeedle, OccursAt}
 use Rattle.memchr.proofs.lemmas.MatchLemmas.{OccursAt-split}
 use Rattle.asn1_certificate_text.specs.Pem.{Encloses}
 use Rattle.asn1_certificate_text.proofs.pem.enclosed.Goals as goal
@@ -17,8 +17,8 @@ encloses : (text rest begin end : List ℕ) (k size : ℕ) → rest ≡ drop (k 
 encloses text rest begin end k size is first second =
     cut_at text begin k first ∙ ap (λ l. take k text ++ (begin ++ l)) (sym is ∙ cut_at rest end size second)
 
-pub returns : goal.returns
-returns c =
+pub returns-clause-found : goal.returns-clause-found
+returns-clause-found c =
     let text = c.args.text.now in
     let behind = drop (c.in-Some.begin + 27) text in
     let few : length behind ≤ length text - (c.in-Some.begin + 27) = omega (arith, length-drop (c.in-Some.begin + 27) text) in
@@ -28,3 +28,11 @@ returns c =
       parts = encloses text _ (codes "-----BEGIN CERTIFICATE-----") (codes "-----END CERTIFICATE-----") c.in-Some.begin c.in-Some-find.length
           (take_all (length text - (c.in-Some.begin + 27)) behind few) c.in-Some.ensures.1 c.in-Some-find.ensures.1;
     }
+
+pub returns-in_default-find-clause-refused : goal.returns-in_default-find-clause-refused
+returns-in_default-find-clause-refused c =
+    let text = c.args.text.now in
+    let behind = drop (c.in-Some.begin + 27) text in
+    let few : length behind ≤ length text - (c.in-Some.begin + 27) = omega (arith, length-drop (c.in-Some.begin + 27) text) in
+    subst (λ rest. FindsNeedle rest (codes "-----END CERTIFICATE-----") 0 None) (take_all (length text - (c.in-Some.begin + 27)) behind few)
+    c.in_default-find.ensures
