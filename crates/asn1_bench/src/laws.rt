@@ -11,7 +11,7 @@ ghost use Rattle.std.specs.Prelude.{◌≡◌, ◌↔◌, List, ℕ};
 use crate::reader::BenchReader;
 use crate::rules::BenchRules;
 use asn1_dec::Decode;
-use asn1_schema::Rules;
+use asn1_rules::Rules;
 use asn1_streams::FrontReader;
 
 /// A law of the codec: an output carries the records whose bytes it is, up to the order inside sets; one value of an open type

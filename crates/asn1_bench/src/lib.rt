@@ -8,7 +8,7 @@
 //! | [`laws`] | what the codec and its reader come to |
 //!
 //! `asn1_items` has the bytes of items, and `asn1_packed` the encoder and the decoder. What holds of all codecs holds of this
-//! one: see `Rules` and `round_trip` of `asn1_schema`, and `round_trip_in_pieces` of `asn1_streams`.
+//! one: see `Rules` and `round_trip` of `asn1_rules`, and `round_trip_in_pieces` of `asn1_streams`.
 //!
 //! What the contracts promise, and the words that they use:
 //!

@@ -25,7 +25,7 @@ impl BenchReader {
     ghost use Rattle.asn1_model.specs.Meaning.{IsWellTagged, own_records};
     ghost use Rattle.asn1_model.specs.Records.{highest};
     ghost use Rattle.asn1_packed.specs.Carried.{Carries};
-    ghost use Rattle.asn1_schema.specs.Rules.{ReadsWhole};
+    ghost use Rattle.asn1_rules.specs.Rules.{ReadsWhole};
     ghost use Rattle.std.specs.Prelude.{◌≡◌, true};
 
     /// A reader that may open this many nested scopes, with the allocator that values are made by.

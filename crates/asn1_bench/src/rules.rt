@@ -2,7 +2,7 @@
 use asn1_dec::{Decode, DecodeError};
 use asn1_enc::{Encode, EncodeError};
 use asn1_packed::{PackedDecoder, PresenceMarks, read_whole, write_whole};
-use asn1_schema::Rules;
+use asn1_rules::Rules;
 use std::alloc::Global;
 
 /// The rules of the packed codec: a value becomes the bytes of its records.
@@ -37,7 +37,7 @@ impl Rules for BenchRules {
     ghost use Rattle.asn1_model.specs.Records as model;
     ghost use Rattle.asn1_model.specs.Records.{highest};
     ghost use Rattle.asn1_model.specs.WellFormed.{AreWellFormed};
-    ghost use Rattle.asn1_schema.specs.Rules.{ReadsWhole, RefusesWhole};
+    ghost use Rattle.asn1_rules.specs.Rules.{ReadsWhole, RefusesWhole};
     ghost use Rattle.std.specs.Prelude.{◌≡◌, ◌∷◌, ◌++◌, IsErr, List, true};
 
     type Output = Vec<u8>;

@@ -7,7 +7,7 @@ use crate::failure::Failure;
 use crate::round_trips::{is_not_read, is_same};
 use asn1_dec::{Decode, DecodeError};
 use asn1_enc::{Encode, EncodeError};
-use asn1_schema::Rules;
+use asn1_rules::Rules;
 use std::alloc::Global;
 
 /// Whether a value is written and read with this many nested scopes, at least one, and neither with one less.

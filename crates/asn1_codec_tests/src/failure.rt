@@ -6,7 +6,7 @@ ghost use Rattle.std.specs.Prelude.{◌≡◌, ◌≢◌};
 
 use asn1_dec::DecodeError;
 use asn1_enc::EncodeError;
-use asn1_schema::{RecodeError, RoundTripError};
+use asn1_rules::{RecodeError, RoundTripError};
 use std::alloc::AllocError;
 
 /// Why a case of a codec fails.

@@ -1,6 +1,6 @@
 //! Tests of a codec, written once for every codec.
 //!
-//! A case is a function over any [`Rules`](asn1_schema::Rules), or over any [`CallRules`] where calls of an encoder and of a
+//! A case is a function over any [`Rules`](asn1_rules::Rules), or over any [`CallRules`] where calls of an encoder and of a
 //! decoder are made by themselves. It answers `Ok`, or why it failed; a codec's tests call each case and assert what it answers.
 //!
 //! | Item | What it is |

@@ -4,7 +4,7 @@ use crate::failure::Failure;
 use crate::round_trips::DEPTH;
 use asn1_dec::Decode;
 use asn1_enc::Encode;
-use asn1_schema::{RecodeError, Rules, recode};
+use asn1_rules::{RecodeError, Rules, recode};
 
 /// Whether a value goes from one codec to the other and back, and is read there as it was.
 ///

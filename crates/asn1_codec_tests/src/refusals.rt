@@ -2,7 +2,8 @@
 use crate::failure::Failure;
 use crate::round_trips::is_refused;
 use asn1_dec::DecodeError;
-use asn1_schema::{Array, Rules};
+use asn1_rules::Rules;
+use asn1_types::Array;
 use asn1_values::ConstrainedInteger;
 use std::alloc::Global;
 

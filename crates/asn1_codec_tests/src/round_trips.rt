@@ -7,7 +7,7 @@ ghost use Rattle.std.specs.Prelude.{◌≡◌, ◌≢◌, ◌≤◌, Err, IsOk, 
 use crate::failure::Failure;
 use asn1_dec::{Decode, DecodeError};
 use asn1_enc::{Encode, EncodeError};
-use asn1_schema::{Rules, round_trip};
+use asn1_rules::{Rules, round_trip};
 
 /// How many nested scopes a case may open, where nothing else is said.
 pub const DEPTH: usize = 4;

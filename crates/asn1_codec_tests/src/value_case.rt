@@ -3,7 +3,7 @@ use crate::failure::Failure;
 use crate::recoding::goes_there_and_back;
 use asn1_dec::Decode;
 use asn1_enc::Encode;
-use asn1_schema::Rules;
+use asn1_rules::Rules;
 
 /// What is tried of values of many types.
 pub trait ValueCase {

@@ -11,7 +11,7 @@ use Rattle.asn1_model.proofs.SameRecords.{same-mark}
 use Rattle.asn1_model.proofs.SameUpToOrder.{same_as_mark}
 use Rattle.asn1_model.specs.Orders.{Same}
 use Rattle.asn1_model.specs.Records.{Record, held, is_presence_mark, scalar, scope, open_type, presence_mark}
-use Rattle.asn1_schema.specs.Rules.{IsNotWritten}
+use Rattle.asn1_rules.specs.Rules.{IsNotWritten}
 use Rattle.asn1_packed.proofs.Remaining.{not_both, some_left}
 use Rattle.asn1_packed.specs.Carried.{TakesBytes}
 use Rattle.asn1_packed.specs.Decoder.{Remains, in_one_order}

@@ -8,7 +8,7 @@ use Rattle.asn1_model.proofs.SameUpToOrder.{SameAll-trans}
 use Rattle.asn1_packed.specs.Carried.{CarriesWith}
 use Rattle.asn1_packed.specs.Encoder.{in_one_order, item_writer, rejects_by_parts}
 use Rattle.asn1_packed.specs.declared.marks.PresenceMarks.{PresenceMarks}
-use Rattle.asn1_schema.specs.Rules.{Format, IsLawful}
+use Rattle.asn1_rules.specs.Rules.{Format, IsLawful}
 
 -- The format of a codec over items, with presence marks of these bytes. Records are rejected that are too long, and an open
 -- type is one item.

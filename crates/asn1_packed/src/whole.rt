@@ -3,7 +3,7 @@ ghost use Rattle.asn1_model.specs.Meaning.{IsWellTagged, own_records};
 ghost use Rattle.asn1_model.specs.Records as model;
 ghost use Rattle.asn1_model.specs.Records.{highest};
 ghost use Rattle.asn1_packed.specs.Format.{item_format};
-ghost use Rattle.asn1_schema.specs.Rules.{ReadsWhole, RefusesWhole, WritesWhole};
+ghost use Rattle.asn1_rules.specs.Rules.{ReadsWhole, RefusesWhole, WritesWhole};
 ghost use Rattle.std.specs.Prelude.{◌≡◌, ◌↔◌, ◌++◌, [], IsErr, IsOk, List, true};
 
 use crate::decoder::ItemDecoder;

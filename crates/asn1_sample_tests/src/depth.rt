@@ -1,8 +1,8 @@
 //! How many scopes the values take.
 use crate::samples::node_chain;
 use asn1_codec_tests::{Failure, needs_depth};
+use asn1_rules::Rules;
 use asn1_samples::{Corner, Shape};
-use asn1_schema::Rules;
 use std::alloc::Global;
 
 /// Whether a CHOICE in another takes two scopes, and a node two more than its child: a hundred around another 202. None is

@@ -1,6 +1,3 @@
-pub mod Rules
-pub mod Recoding
-pub mod RoundTrips
 pub mod TaggedStrings
 pub mod TagClasses
 pub mod Words
@@ -14,7 +11,9 @@ pub use Rattle.asn1_fields.specs as fields
 pub use Rattle.asn1_model.specs as model
 pub use Rattle.asn1_open.specs as open_values
 pub use Rattle.asn1_ranges.specs as ranges
+pub use Rattle.asn1_rules.specs as rules
 pub use Rattle.asn1_slots.specs as slots
+pub use Rattle.asn1_streams.specs as streams
 pub use Rattle.asn1_strings.specs as strings
 pub use Rattle.asn1_tags.specs as tags
 pub use Rattle.asn1_types.specs as types

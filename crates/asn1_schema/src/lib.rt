@@ -1,40 +1,20 @@
-//! ASN.1 types, written and read by any codec: codecs as a whole, the round trip, and the names of the layer.
+//! ASN.1 types, written and read by any codec: the names of the layer, all from one crate.
 //!
 //! | Item | What it is |
 //! |---|---|
-//! | [`Rules`] | a codec as a whole: what a value becomes, and how that is read |
-//! | [`round_trip`] | writes a value and reads it back |
-//! | [`RoundTripError`] | which of the two failed |
-//! | [`recode`], [`RecodeError`] | reads a value by one codec and writes it by another |
+//! | [`Rules`], [`round_trip`], [`recode`] | a codec as a whole, and the theorem: of `asn1_rules` |
+//! | [`FrontReader`], [`Iter`], [`write_list`], [`read_pieces`] | values one after another: of `asn1_streams` |
+//! | [`Encode`], [`Decode`], [`Slotted`] and the rest | how a type is written and read: of the crates below |
 //! | [`UniversalString`], [`UtcTime`], [`GeneralizedTime`], [`ObjectDescriptor`] | the kinds of string that are another kind under a tag |
-//! | [`laws`] | what the derives of the errors give, and which kind of string each name is |
+//! | [`laws`] | which kind of string each name is |
 //!
 //! It is the one crate that an author of types or of a codec names in crates.txt, but that theorems about a CHOICE want `asn1_tags`
 //! there too. Each public name of the crates below is re-exported, but for the macro `item!`, which is of `asn1_enumerations`. The crates stand here under the names of their subjects
 //! too (`types`, `strings`, `codec` and so on), in code, and so do their definitions and their lemmas: `specs/Lib.antt` and
 //! `proofs/Lib.antt` pass them on. The words with which an author says what a type means are `Rattle.asn1_schema.specs.Words`.
-//!
-//! What the contracts promise, and the words that they use:
-//!
-//! - An output carries lists of records (`Format` of `specs/Rules.antt`). `write_value` answers an output that carries the
-//!   value's own records, which are nested no deeper than the depth, and tells that the value has what each value of its type has
-//!   (`IsWritten`); it fails as `IsNotWritten` says. Of an output that carries the own records of a valid value of a type that
-//!   can be inside others, `read_value` makes an equal value; it fails only if memory runs out, or where the records are
-//!   higher than the depth (`ReadsWhole`). An error by which a type states to refuse what it has read is answered as it
-//!   is, unless memory is short or the depth too little (`RefusesWhole`).
-//! - `round_trip` is the theorem (`back`): for every codec that keeps these laws and every such type, a valid value whose
-//!   writing succeeds is read back equal, unless memory is short or the depth of reading too little (`FailsAs` of
-//!   `specs/RoundTrips.antt`). Its premises are that the type's tags are distinct, and that the value is valid: open types in
-//!   it hold one value each, a group that is there writes a component, numbers are within their limits. Of every other value too,
-//!   one that was written is no higher than the depth of writing, and writing fails as it may (`written`).
-//! - `recode` goes from any codec to any other: of an input that carries the own records of a valid value of such a type it makes an
-//!   output that carries those of an equal value (`recoded`), and it fails as reading and writing may (`specs/Recoding.antt`).
 #![tactic(auto)]
 
 pub mod laws;
-mod recoding;
-mod round_trips;
-mod rules;
 mod tagged_strings;
 
 pub use asn1_bounds as bounds;
@@ -76,6 +56,12 @@ pub use asn1_open::an_instance_is_three_deeper_than_its_value;
 pub use asn1_open::each_open_is_valid;
 pub use asn1_open::open_is_well_tagged;
 pub use asn1_ranges as ranges;
+pub use asn1_rules as rules;
+pub use asn1_rules::RecodeError;
+pub use asn1_rules::RoundTripError;
+pub use asn1_rules::Rules;
+pub use asn1_rules::recode;
+pub use asn1_rules::round_trip;
 pub use asn1_slots as slots;
 pub use asn1_slots::DecodeByPlace;
 pub use asn1_slots::DecodeSetByPlace;
@@ -92,6 +78,15 @@ pub use asn1_slots::optional_with_constraints;
 pub use asn1_slots::or_default;
 pub use asn1_slots::required;
 pub use asn1_slots::required_with_constraints;
+pub use asn1_streams as streams;
+pub use asn1_streams::FrontReader;
+pub use asn1_streams::Iter;
+pub use asn1_streams::Pieces;
+pub use asn1_streams::iter_of;
+pub use asn1_streams::outputs_are_fronts;
+pub use asn1_streams::read_pieces;
+pub use asn1_streams::round_trip_in_pieces;
+pub use asn1_streams::write_list;
 pub use asn1_strings as strings;
 pub use asn1_strings::Alphabet;
 pub use asn1_strings::AlphabetError;
@@ -187,11 +182,6 @@ pub use asn1_values::IntegerType;
 pub use asn1_values::LimitedInteger;
 pub use asn1_values::Limits;
 pub use asn1_values::OutOfRangeError;
-pub use recoding::RecodeError;
-pub use recoding::recode;
-pub use round_trips::RoundTripError;
-pub use round_trips::round_trip;
-pub use rules::Rules;
 pub use tagged_strings::GeneralizedTime;
 pub use tagged_strings::ObjectDescriptor;
 pub use tagged_strings::UniversalString;

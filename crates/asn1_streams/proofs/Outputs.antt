@@ -9,7 +9,7 @@ use Rattle.asn1_codec.specs.declared.encode_error.EncodeError.{EncodeError}
 use Rattle.asn1_codec.specs.declared.encode_error.EncodeError.TheVariants.{Memory, Depth, Failed}
 use Rattle.asn1_model.specs.Meaning.{Meaning, own_records}
 use Rattle.asn1_model.specs.Records.{Record}
-use Rattle.asn1_schema.specs.Rules.{Format, IsWritten, IsNotWritten}
+use Rattle.asn1_rules.specs.Rules.{Format, IsWritten, IsNotWritten}
 use Rattle.asn1_streams.specs.Outputs.{AreOutputs, no_output, output_and, OneIsNotWritten}
 
 module _ {V : Type 0} (format : Format (Vec ℕ Global)) (m : Meaning V) (depth : ℕ) where

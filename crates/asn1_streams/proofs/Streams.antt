@@ -8,9 +8,9 @@ use Rattle.asn1_codec.specs.declared.decode_error.DecodeError.{DecodeError}
 use Rattle.asn1_codec.specs.Reading.{MayFail}
 use Rattle.asn1_model.specs.Meaning.{Meaning, own_records}
 use Rattle.asn1_model.specs.Records.{highest}
-use Rattle.asn1_schema.specs.Rules.{Format}
+use Rattle.asn1_rules.specs.Rules.{Format}
 use Rattle.asn1_codec.specs.declared.encode_error.EncodeError.{EncodeError}
-use Rattle.asn1_schema.specs.declared.round_trips.RoundTripError.{RoundTripError}
+use Rattle.asn1_rules.specs.declared.round_trips.RoundTripError.{RoundTripError}
 use Rattle.asn1_streams.specs.declared.pieces.Pieces.{Pieces}
 use Rattle.asn1_streams.specs.Fronts.{BelongsTo, Fronts, IsSteady}
 use Rattle.asn1_streams.specs.Outputs.{AreOutputs, no_output, output_and}

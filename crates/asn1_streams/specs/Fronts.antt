@@ -5,7 +5,7 @@ use Rattle.asn1_codec.specs.declared.decode_error.DecodeError.{DecodeError}
 use Rattle.asn1_codec.specs.Reading.{MayFail}
 use Rattle.asn1_model.specs.Meaning.{Meaning, own_records}
 use Rattle.asn1_model.specs.Records.{highest}
-use Rattle.asn1_schema.specs.Rules.{Format}
+use Rattle.asn1_rules.specs.Rules.{Format}
 
 -- What a reader says of itself. `cut reader bytes n`: the first n bytes are those of one value.
 -- `front reader bytes v n`: they are those of the value v. `same`: an answer is as good as the

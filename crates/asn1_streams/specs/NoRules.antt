@@ -1,7 +1,7 @@
 -- Outputs that carry nothing, for tests: every list of records is rejected.
 use Rattle.std.specs.Prelude.{ℕ, ⊤, false, Vec}
 use Rattle.std.specs.declared.alloc.Global.{Global}
-use Rattle.asn1_schema.specs.Rules.{Format, IsLawful}
+use Rattle.asn1_rules.specs.Rules.{Format, IsLawful}
 
 abbrev pub no_format : Format (Vec ℕ Global)
 no_format = record { carries = λ output rs. ⊥; rejects = λ rs. ⊤; accepts = λ bytes. false }

@@ -3,7 +3,7 @@ use Rattle.std.specs.Prelude.{ℕ, List, [], ◌∷◌, ◌++◌, Contains, Vec}
 use Rattle.std.specs.declared.alloc.Global.{Global}
 use Rattle.asn1_codec.specs.declared.encode_error.EncodeError.{EncodeError}
 use Rattle.asn1_model.specs.Meaning.{Meaning, own_records}
-use Rattle.asn1_schema.specs.Rules.{Format, IsWritten, IsNotWritten}
+use Rattle.asn1_rules.specs.Rules.{Format, IsWritten, IsNotWritten}
 
 module _ {V : Type 0} (format : Format (Vec ℕ Global)) (m : Meaning V) (depth : ℕ) where
   -- The bytes are outputs of these values, one after another.

@@ -3,9 +3,9 @@ use Rattle.std.specs.Prelude.{◌≡◌, ℕ, List, Vec}
 use Rattle.std.specs.declared.alloc.Global.{Global}
 use Rattle.asn1_codec.specs.declared.decode_error.DecodeError.TheVariants.{Memory}
 use Rattle.asn1_model.specs.Meaning.{Meaning}
-use Rattle.asn1_schema.specs.Rules.{Format}
-use Rattle.asn1_schema.specs.declared.round_trips.RoundTripError.{RoundTripError}
-use Rattle.asn1_schema.specs.declared.round_trips.RoundTripError.TheVariants.{Writing, Reading}
+use Rattle.asn1_rules.specs.Rules.{Format}
+use Rattle.asn1_rules.specs.declared.round_trips.RoundTripError.{RoundTripError}
+use Rattle.asn1_rules.specs.declared.round_trips.RoundTripError.TheVariants.{Writing, Reading}
 use Rattle.asn1_streams.specs.Outputs.{OneIsNotWritten}
 
 -- One of the values was not written, or there was no memory for a piece or for a value that was

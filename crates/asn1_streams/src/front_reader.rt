@@ -1,7 +1,7 @@
 //! Readers of the front of an input.
 ghost use Rattle.asn1_streams.specs.Fronts.{Fronts, IsLawful, ReadsFront};
 
-use asn1_schema::DecodeError;
+use asn1_dec::DecodeError;
 
 /// Reads one value at the front of an input, and tells how many bytes it is.
 ///

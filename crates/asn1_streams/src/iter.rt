@@ -6,7 +6,7 @@ ghost use Rattle.std.specs.Prelude.{◌≡◌, ◌≤◌, length, IfSome, OnErr,
 
 use crate::front_reader::FrontReader;
 use crate::source::Source;
-use asn1_schema::DecodeError;
+use asn1_dec::DecodeError;
 use std::alloc::{AllocError, Global};
 use std::marker::PhantomData;
 

@@ -2,7 +2,8 @@
 ghost use Rattle.asn1_streams.specs.Outputs.{AreOutputs, OneIsNotWritten};
 ghost use Rattle.std.specs.Prelude.{IfErr, IfOk};
 
-use asn1_schema::{Encode, EncodeError, Rules};
+use asn1_enc::{Encode, EncodeError};
+use asn1_rules::Rules;
 use std::alloc::Global;
 
 /// Writes values one after another, each with at most `depth` nested scopes, and answers their

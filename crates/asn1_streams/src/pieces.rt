@@ -8,7 +8,7 @@ ghost use Rattle.std.specs.Prelude.{◌≡◌, ◌≤◌, ◌<◌, ◌↔◌, �
 
 use crate::front_reader::FrontReader;
 use crate::iter::Iter;
-use asn1_schema::DecodeError;
+use asn1_dec::DecodeError;
 use std::alloc::Global;
 
 /// What was read of pieces.

@@ -10,7 +10,9 @@ ghost use Rattle.std.specs.Prelude.{◌≡◌, ◌≤◌, ◌<◌, ◌↔◌, Al
 use crate::front_reader::FrontReader;
 use crate::lists::write_list;
 use crate::pieces::{Pieces, read_pieces};
-use asn1_schema::{DecodeError, Encode, RoundTripError, Rules};
+use asn1_dec::DecodeError;
+use asn1_enc::Encode;
+use asn1_rules::{RoundTripError, Rules};
 use std::alloc::{AllocError, Global};
 
 /// Writes values one after another, cuts the bytes into pieces of these lengths and a last one, and

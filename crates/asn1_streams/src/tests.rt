@@ -4,7 +4,9 @@ ghost use Rattle.std.proofs.Common.{rules};
 ghost use Rattle.asn1_streams.specs.NoRules.{no_format, no_format_is_lawful};
 
 use crate::{FrontReader, Iter, iter_of, read_pieces, round_trip_in_pieces, write_list};
-use asn1_schema::{Decode, DecodeError, Encode, EncodeError, Needed, RoundTripError, Rules};
+use asn1_dec::{Decode, DecodeError, Needed};
+use asn1_enc::{Encode, EncodeError};
+use asn1_rules::{RoundTripError, Rules};
 use std::alloc::Global;
 use std::process::Abort;
 

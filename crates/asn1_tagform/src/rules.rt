@@ -3,7 +3,7 @@ use crate::next_item::NextItem;
 use asn1_dec::{Decode, DecodeError};
 use asn1_enc::{Encode, EncodeError};
 use asn1_packed::{ItemDecoder, read_whole, write_whole};
-use asn1_schema::Rules;
+use asn1_rules::Rules;
 use std::alloc::Global;
 
 /// The rules of the tag form: a value becomes the bytes of its items, without presence marks.

@@ -1,7 +1,7 @@
 //! What is asserted of a case, and of the bytes of a value.
 use asn1_codec_tests::Failure;
 use asn1_enc::Encode;
-use asn1_schema::Rules;
+use asn1_rules::Rules;
 use std::process::Abort;
 
 /// Asserts that a case passes.

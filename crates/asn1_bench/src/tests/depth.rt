@@ -3,8 +3,8 @@ use crate::rules::BenchRules;
 use asn1_dec::{Decode, DecodeError, Decoder};
 use asn1_enc::Encode;
 use asn1_packed::PackedDecoder;
+use asn1_rules::Rules;
 use asn1_sample_tests::samples::{bare_chain, null_inside_instances};
-use asn1_schema::Rules;
 use std::alloc::Global;
 use std::process::Abort;
 

@@ -1,7 +1,7 @@
 //! The texts of errors.
 use asn1_dec::{DecodeError, Needed};
 use asn1_enc::EncodeError;
-use asn1_schema::RoundTripError;
+use asn1_rules::RoundTripError;
 use asn1_tags::Tag;
 use std::alloc::Global;
 use std::process::Abort;

@@ -4,7 +4,7 @@ ghost use Rattle.std.specs.Prelude.{true};
 use asn1_codec_tests::{Failure, comes_back, comes_back_as, is_refused, needs_depth};
 use asn1_dec::{Decode, DecodeError};
 use asn1_enc::{Encode, EncodeError};
-use asn1_schema::Rules;
+use asn1_rules::Rules;
 use std::process::Abort;
 
 /// Rules of a codec that has no memory.

@@ -2,8 +2,8 @@
 use crate::rules::BenchRules;
 use crate::tests::bytes::NULL;
 use crate::tests::cases::passes;
+use asn1_rules::Rules;
 use asn1_sample_tests::{depth, samples};
-use asn1_schema::Rules;
 use asn1_tagform::TagRules;
 use std::alloc::Global;
 use std::process::Abort;

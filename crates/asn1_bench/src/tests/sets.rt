@@ -3,8 +3,8 @@ use crate::rules::BenchRules;
 use crate::tests::refusals::refused;
 use asn1_codec_tests::made::list;
 use asn1_dec::DecodeError;
+use asn1_rules::Rules;
 use asn1_samples::Ticket;
-use asn1_schema::Rules;
 use std::alloc::Global;
 use std::process::Abort;
 

@@ -2,8 +2,8 @@
 use crate::failure::Failure;
 use crate::made::list;
 use crate::round_trips::{comes_back, made_comes_back};
-use asn1_schema::{Array, Rules};
-use asn1_types::SetOf;
+use asn1_rules::Rules;
+use asn1_types::{Array, SetOf};
 use std::alloc::Global;
 
 /// Whether a list and a set come back.

@@ -1,7 +1,7 @@
 //! NULL, BOOLEAN and INTEGER.
 use crate::failure::Failure;
 use crate::round_trips::comes_back;
-use asn1_schema::Rules;
+use asn1_rules::Rules;
 use asn1_values::{ConstrainedInteger, Integer, IntegerType};
 use std::alloc::Global;
 

@@ -2,7 +2,7 @@
 use crate::failure::Failure;
 use crate::made::{letters, list, text, units};
 use crate::round_trips::made_comes_back;
-use asn1_schema::Rules;
+use asn1_rules::Rules;
 use asn1_strings::{
     BitString, BmpString, GeneralString, GraphicString, Ia5String, NumericString, ObjectIdentifier,
     OctetString, PrintableString, TeletexString, VisibleString,

@@ -2,7 +2,8 @@
 use crate::failure::Failure;
 use crate::made::{text, units};
 use crate::round_trips::{comes_back, made_comes_back};
-use asn1_schema::{Rules, UniversalString};
+use asn1_rules::Rules;
+use asn1_strings::Utf8String;
 use asn1_types::{Explicit, Implicit, InstanceOf, tag};
 use std::alloc::Global;
 use std::borrow::Cow;
@@ -41,7 +42,10 @@ pub fn options_come_back_by_themselves<R: Rules>(rules: &R) -> Result<(), Failur
 pub fn tagged_values_come_back<R: Rules>(rules: &R, alloc: Global) -> Result<(), Failure> {
     comes_back(rules, &Implicit::<tag::BOOL, u8>::new(7))
         .and(comes_back(rules, &Explicit::<tag::BOOL, u8>::new(7)))
-        .and(made_comes_back(rules, text(alloc, "Ann").map(UniversalString::new)))
+        .and(made_comes_back(
+            rules,
+            text(alloc, "Ann").map(Implicit::<tag::UNIVERSAL_STRING, Utf8String>::new),
+        ))
 }
 
 /// Whether an INSTANCE OF comes back.

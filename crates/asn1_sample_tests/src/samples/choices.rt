@@ -1,8 +1,8 @@
 //! `Shape` and `Corner`, and `Badge`, which has one of them.
 use asn1_codec_tests::made::{letters, units};
 use asn1_codec_tests::{Failure, comes_back, made_comes_back};
+use asn1_rules::Rules;
 use asn1_samples::{Badge, Corner, Shape};
-use asn1_schema::Rules;
 use std::alloc::Global;
 
 /// Whether each alternative of each CHOICE comes back.

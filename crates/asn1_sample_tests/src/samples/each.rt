@@ -5,8 +5,8 @@ use crate::samples::{
 use asn1_codec_tests::made::letters;
 use asn1_codec_tests::{Failure, ThereAndBack, ValueCase};
 use asn1_recursive::Nested;
+use asn1_rules::Rules;
 use asn1_samples::{Color, Corner, Labelled, Pair, Plate, Settings, Shape};
-use asn1_schema::Rules;
 use std::alloc::Global;
 
 /// Whether a case passes of a value of each sample type. The open type in one has these bytes, which are one value of it.

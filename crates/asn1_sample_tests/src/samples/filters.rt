@@ -2,7 +2,8 @@
 use asn1_codec_tests::made::units;
 use asn1_codec_tests::{Failure, comes_back, made_comes_back, needs_depth};
 use asn1_recursive::{Filter, Nested};
-use asn1_schema::{Rules, SetOf};
+use asn1_rules::Rules;
+use asn1_types::SetOf;
 use std::alloc::Global;
 
 pub(super) fn present(alloc: Global, name: &[u8]) -> Result<Filter, Failure> {

@@ -1,7 +1,7 @@
 //! `Node`.
 use asn1_codec_tests::{Failure, made_comes_back};
 use asn1_recursive::Node;
-use asn1_schema::Rules;
+use asn1_rules::Rules;
 use std::alloc::{AllocError, Global};
 
 /// A node with a label and without children, with so many nodes around it, one in another.

@@ -2,7 +2,9 @@
 use asn1_codec_tests::made::{letters, text, units};
 use asn1_codec_tests::{Failure, comes_back, made_comes_back, needs_depth};
 use asn1_open::Open;
-use asn1_schema::{Implicit, InstanceOf, Integer, Rules};
+use asn1_rules::Rules;
+use asn1_types::{Implicit, InstanceOf};
+use asn1_values::Integer;
 use std::alloc::Global;
 
 /// A NULL with this many INSTANCE OF around it, one in another, each of the identifier 1, 3.

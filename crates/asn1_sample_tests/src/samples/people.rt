@@ -1,8 +1,8 @@
 //! `Person` and `Profile`.
 use asn1_codec_tests::made::{letters, text};
 use asn1_codec_tests::{Failure, comes_back_as, made_comes_back};
+use asn1_rules::Rules;
 use asn1_samples::{Color, Contact, Person, Profile};
-use asn1_schema::Rules;
 use asn1_strings::{Alphabet, AlphabetString};
 use asn1_values::Integer;
 use std::alloc::{AllocError, Global};

@@ -2,8 +2,8 @@
 use asn1_codec_tests::made::{letters, list, text};
 use asn1_codec_tests::{Failure, comes_back, is_refused, is_same, made_comes_back};
 use asn1_dec::{Decode, DecodeError};
+use asn1_rules::{Rules, round_trip};
 use asn1_samples::{Envelope, Labelled, Notice, Pair, Plate, Settings};
-use asn1_schema::{Rules, round_trip};
 use asn1_types::Any;
 use asn1_values::ConstrainedInteger;
 use std::alloc::Global;

@@ -1,8 +1,8 @@
 //! `Ticket`.
 use asn1_codec_tests::made::text;
 use asn1_codec_tests::{Failure, comes_back, made_comes_back};
+use asn1_rules::Rules;
 use asn1_samples::Ticket;
-use asn1_schema::Rules;
 use std::alloc::Global;
 
 /// Whether tickets come back, with a name and without.

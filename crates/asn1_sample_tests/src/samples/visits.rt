@@ -2,8 +2,8 @@
 use crate::samples::contact;
 use asn1_codec_tests::made::text;
 use asn1_codec_tests::{Failure, made_comes_back};
+use asn1_rules::Rules;
 use asn1_samples::{Contact, Visit};
-use asn1_schema::Rules;
 use std::alloc::Global;
 
 /// Whether visits come back: without any addition, and with a group whose last component is absent and the addition after it.

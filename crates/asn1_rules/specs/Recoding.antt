@@ -3,9 +3,9 @@ use Rattle.std.specs.Prelude.{◌≡◌, ◌⊎◌, ⊤, ℕ, Bool, true, ◌<�
 use Rattle.asn1_codec.specs.declared.decode_error.DecodeError.TheVariants.{Memory, Depth}
 use Rattle.asn1_model.specs.Meaning.{Meaning, own_records}
 use Rattle.asn1_model.specs.Records.{highest}
-use Rattle.asn1_schema.specs.Rules.{Format, IsWritten, IsNotWritten}
-use Rattle.asn1_schema.specs.declared.recoding.RecodeError.{RecodeError}
-use Rattle.asn1_schema.specs.declared.recoding.RecodeError.TheVariants.{Read, Write}
+use Rattle.asn1_rules.specs.Rules.{Format, IsWritten, IsNotWritten}
+use Rattle.asn1_rules.specs.declared.recoding.RecodeError.{RecodeError}
+use Rattle.asn1_rules.specs.declared.recoding.RecodeError.TheVariants.{Read, Write}
 
 module _ {O V : Type 0} (F : Format O) (m : Meaning V) where
   -- The output carries the own records of a value that is equal to this one, as one that was written does.

@@ -1,6 +1,6 @@
 //! From one codec to another.
 ghost use Rattle.asn1_model.specs.Meaning.{IsWellTagged, own_records};
-ghost use Rattle.asn1_schema.specs.Recoding.{IsRecoded, RecodingFails, WritingFailsAsItMay};
+ghost use Rattle.asn1_rules.specs.Recoding.{IsRecoded, RecodingFails, WritingFailsAsItMay};
 ghost use Rattle.std.specs.Prelude.{IfErr, MatchResult};
 
 use crate::rules::Rules;

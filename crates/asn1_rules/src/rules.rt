@@ -2,7 +2,7 @@
 ghost use Rattle.asn1_model.specs.Meaning.{IsWellTagged, own_records};
 ghost use Rattle.asn1_model.specs.Records.{Record, highest};
 ghost use Rattle.asn1_model.specs.WellFormed.{AreWellFormed};
-ghost use Rattle.asn1_schema.specs.Rules.{Format, IsLawful, ReadsWhole, RefusesWhole, WritesWhole};
+ghost use Rattle.asn1_rules.specs.Rules.{Format, IsLawful, ReadsWhole, RefusesWhole, WritesWhole};
 ghost use Rattle.std.specs.Prelude.{◌≡◌, List, true};
 
 use asn1_dec::{Decode, DecodeError};

@@ -2,9 +2,9 @@
 use Rattle.std.specs.Prelude.{◌≡◌, ◌⊎◌, ℕ, ◌≤◌, ◌<◌, List, Result, Ok, Err}
 use Rattle.asn1_codec.specs.declared.decode_error.DecodeError.TheVariants.{Memory, Depth}
 use Rattle.asn1_model.specs.Records.{Record, highest}
-use Rattle.asn1_schema.specs.Rules.{Format, IsNotWritten}
-use Rattle.asn1_schema.specs.declared.round_trips.RoundTripError.{RoundTripError}
-use Rattle.asn1_schema.specs.declared.round_trips.RoundTripError.TheVariants.{Writing, Reading}
+use Rattle.asn1_rules.specs.Rules.{Format, IsNotWritten}
+use Rattle.asn1_rules.specs.declared.round_trips.RoundTripError.{RoundTripError}
+use Rattle.asn1_rules.specs.declared.round_trips.RoundTripError.TheVariants.{Writing, Reading}
 
 -- Writing failed as it may, or reading did, because memory ran out, or since the records are nested deeper than its depth: nothing else
 -- keeps a value that was written from being read back.

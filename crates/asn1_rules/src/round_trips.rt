@@ -1,7 +1,7 @@
 //! What was written is read back.
 ghost use Rattle.asn1_model.specs.Meaning.{IsWellTagged, own_records};
 ghost use Rattle.asn1_model.specs.Records.{highest};
-ghost use Rattle.asn1_schema.specs.RoundTrips.{FailsAs, WritesFirst};
+ghost use Rattle.asn1_rules.specs.RoundTrips.{FailsAs, WritesFirst};
 ghost use Rattle.std.specs.Prelude.{◌≡◌, ◌≤◌, true, MatchResult};
 
 use crate::rules::Rules;
