@@ -1,10 +1,12 @@
 //! `Corner ::= CHOICE { left BOOLEAN, right OCTET STRING }`
-ghost use Rattle.std.specs.Prelude.{◌≡◌, [], ◌∷◌, Some, true, codes};
-ghost use Rattle.asn1_types.specs.Words.{table_of, universal, untagged, inl, inr, alternative, closed_choice, choice_of, choice_agrees, IsWellTagged, own_records, holding, alternative_head, scalar, boolean, unconstrained};
+ghost use Rattle.std.specs.Prelude.{◌≡◌, [], ◌∷◌, Some, true, codes, refl};
+ghost use Rattle.asn1_slots.specs.Cases.{cases_agree, choice_of_cases, variant};
+ghost use Rattle.asn1_types.specs.Words.{table_of, universal, untagged, inl, inr, choice_of, choice_agrees, IsWellTagged, own_records, holding, alternative_head, scalar, boolean, unconstrained};
 ghost use Rattle.asn1_samples.specs.declared.corner.Corner.TheVariants.{Left, Right};
 
 use asn1_dec::{Decode, DecodeChoice, DecodeError, Decoder};
 use asn1_enc::{Encode, EncodeChoice, EncodeError, Encoder};
+use asn1_slots::{DecodeChoiceByPlace, HasCases, Tagging, alternative};
 use asn1_strings::OctetString;
 use asn1_types::{AsnType, Choice, ChoiceType, Constraints, Identifier, Tag, TagTree, TypeTable};
 
@@ -23,12 +25,17 @@ pub(crate) const CORNER: &[TagTree<'static>] = &[
     TagTree::Leaf(Tag::OCTET_STRING),
 ];
 
-impl Choice for Corner {
-    ghost alternatives = { closed_choice (
-        alternative (codes "left") (untagged ⟦<bool as AsnType>⟧.meaning) ∷
-        alternative (codes "right") (untagged ⟦<OctetString as AsnType>⟧.meaning) ∷ []) };
+impl HasCases for Corner {
+    ghost cases = { variant (codes "left") Left (untagged ⟦<bool as AsnType>⟧.meaning) ⟦<bool as PartialEq>⟧.eq ∷
+        variant (codes "right") Right (untagged ⟦<OctetString as AsnType>⟧.meaning) ⟦<OctetString as PartialEq>⟧.eq ∷ [] };
 
-    ghost pick = { elim [ Left flag ↦ inl flag | Right octets ↦ inr (inl octets) ] };
+    ghost case_of = { elim [ Left flag ↦ inl flag | Right octets ↦ inr (inl octets) ] };
+}
+
+impl Choice for Corner {
+    ghost alternatives = { choice_of_cases ⟦<Corner as HasCases>⟧.cases };
+
+    ghost pick = { ⟦<Corner as HasCases>⟧.case_of };
 
     fn variants() -> &'static [TagTree<'static>] {
         CORNER
@@ -104,18 +111,22 @@ impl Decode for Corner {
 
 impl DecodeChoice for Corner {
     fn from_tag<D: Decoder>(decoder: &mut D, tag: Tag) -> Result<Corner, DecodeError> {
-        match tag {
-            Tag::BOOL => {
-                let flag = bool::decode(decoder)?;
-                Ok(Corner::Left(flag))
-            }
-            Tag::OCTET_STRING => {
-                let octets = OctetString::decode(decoder)?;
-                Ok(Corner::Right(octets))
-            }
+        Corner::from_tag_by_place(decoder, tag)
+    }
+}
+
+impl DecodeChoiceByPlace for Corner {
+    fn decode_alternative<D: Decoder>(place: usize, decoder: &mut D) -> Result<Self, DecodeError> {
+        match place {
+            0 => Ok(Corner::Left(alternative(decoder, Tagging::Untagged)?)),
+            1 => Ok(Corner::Right(alternative(decoder, Tagging::Untagged)?)),
             _ => Err(DecodeError::NoValidChoice("Corner")),
         }
     }
+
+    ghost agrees = { λ corner. cases_agree ⟦<Corner as HasCases>⟧.cases (⟦<Corner as HasCases>⟧.case_of corner) };
+
+    ghost made = { elim [ Left flag ↦ (refl, λ _. refl) | Right octets ↦ (refl, λ _. refl) ] };
 }
 
 /// What `Corner::Left(true)` is to every codec.

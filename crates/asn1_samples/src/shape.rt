@@ -1,12 +1,14 @@
 //! `Shape ::= CHOICE { dot NULL, ring [0] INTEGER (0..65535), inner Corner }`
-ghost use Rattle.std.specs.Prelude.{◌≡◌, [], ◌∷◌, Some, true, pos, codes};
-ghost use Rattle.asn1_types.specs.Words.{table_of, context, universal, untagged, tagged, inl, inr, alternative, closed_choice, choice_of, choice_agrees, IsWellTagged, own_records, holding, alternative_head, scalar, number, boolean, unconstrained, values_of, Range};
+ghost use Rattle.std.specs.Prelude.{◌≡◌, [], ◌∷◌, Some, true, pos, codes, refl};
+ghost use Rattle.asn1_slots.specs.Cases.{cases_agree, choice_of_cases, variant};
+ghost use Rattle.asn1_types.specs.Words.{table_of, context, universal, untagged, tagged, inl, inr, choice_of, choice_agrees, IsWellTagged, own_records, holding, alternative_head, scalar, number, boolean, unconstrained, values_of, Range};
 ghost use Rattle.asn1_samples.specs.declared.corner.Corner.TheVariants as corner;
 ghost use Rattle.asn1_samples.specs.declared.shape.Shape.TheVariants.{Dot, Ring, Inner};
 
 use crate::corner::{CORNER, Corner};
 use asn1_dec::{Decode, DecodeChoice, DecodeError, Decoder};
 use asn1_enc::{Encode, EncodeChoice, EncodeError, Encoder};
+use asn1_slots::{DecodeChoiceByPlace, HasCases, Tagging, alternative};
 use asn1_types::{
     AsnType, Choice, ChoiceType, Class, Constraints, Identifier, Tag, TagTree, TypeTable,
 };
@@ -33,13 +35,18 @@ const SHAPE: &[TagTree<'static>] = &[
     TagTree::Choice(CORNER),
 ];
 
-impl Choice for Shape {
-    ghost alternatives = { closed_choice (
-        alternative (codes "dot") (untagged ⟦<() as AsnType>⟧.meaning) ∷
-        alternative (codes "ring") (tagged (context 0) ⟦<u16 as AsnType>⟧.meaning) ∷
-        alternative (codes "inner") (untagged ⟦<Corner as AsnType>⟧.meaning) ∷ []) };
+impl HasCases for Shape {
+    ghost cases = { variant (codes "dot") Dot (untagged ⟦<() as AsnType>⟧.meaning) ⟦<() as PartialEq>⟧.eq ∷
+        variant (codes "ring") Ring (tagged (context 0) ⟦<u16 as AsnType>⟧.meaning) ⟦<u16 as PartialEq>⟧.eq ∷
+        variant (codes "inner") Inner (untagged ⟦<Corner as AsnType>⟧.meaning) ⟦<Corner as PartialEq>⟧.eq ∷ [] };
 
-    ghost pick = { elim [ Dot u ↦ inl u | Ring n ↦ inr (inl n) | Inner c ↦ inr (inr (inl c)) ] };
+    ghost case_of = { elim [ Dot u ↦ inl u | Ring n ↦ inr (inl n) | Inner c ↦ inr (inr (inl c)) ] };
+}
+
+impl Choice for Shape {
+    ghost alternatives = { choice_of_cases ⟦<Shape as HasCases>⟧.cases };
+
+    ghost pick = { ⟦<Shape as HasCases>⟧.case_of };
 
     fn variants() -> &'static [TagTree<'static>] {
         SHAPE
@@ -115,24 +122,34 @@ impl Decode for Shape {
     }
 }
 
+/// The leaves of the alternatives in ascending order, each with its place among all: that of an octet string is the last, the
+/// second of `inner`.
+const LEAVES: &[(Tag, usize)] = &[
+    (Tag::BOOL, 2),
+    (Tag::OCTET_STRING, 3),
+    (Tag::NULL, 0),
+    (RING, 1),
+];
+
 impl DecodeChoice for Shape {
     fn from_tag<D: Decoder>(decoder: &mut D, tag: Tag) -> Result<Shape, DecodeError> {
-        match tag {
-            Tag::NULL => {
-                let dot = <()>::decode(decoder)?;
-                Ok(Shape::Dot(dot))
-            }
-            RING => {
-                let width = u16::decode_with_tag(decoder, RING)?;
-                Ok(Shape::Ring(width))
-            }
-            Tag::BOOL | Tag::OCTET_STRING => {
-                let corner = Corner::decode(decoder)?;
-                Ok(Shape::Inner(corner))
-            }
+        Shape::from_tag_by_table(decoder, tag, LEAVES)
+    }
+}
+
+impl DecodeChoiceByPlace for Shape {
+    fn decode_alternative<D: Decoder>(place: usize, decoder: &mut D) -> Result<Shape, DecodeError> {
+        match place {
+            0 => Ok(Shape::Dot(alternative(decoder, Tagging::Untagged)?)),
+            1 => Ok(Shape::Ring(alternative(decoder, Tagging::Tagged(RING))?)),
+            2 => Ok(Shape::Inner(alternative(decoder, Tagging::Untagged)?)),
             _ => Err(DecodeError::NoValidChoice("Shape")),
         }
     }
+
+    ghost agrees = { λ shape. cases_agree ⟦<Shape as HasCases>⟧.cases (⟦<Shape as HasCases>⟧.case_of shape) };
+
+    ghost made = { elim [ Dot u ↦ (refl, λ _. refl) | Ring n ↦ (refl, λ _. refl) | Inner c ↦ (refl, λ _. refl) ] };
 }
 
 /// What a shape is to every codec: `Shape::Ring(300)` (`ring`), and `Shape::Inner(Corner::Left(true))`, of which the chosen

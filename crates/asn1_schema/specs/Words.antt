@@ -7,6 +7,7 @@ pub use Rattle.asn1_schema.specs.TagClasses.{application, private}
 pub use Rattle.asn1_types.specs.Words.{required, optional, with_default, addition, addition_with_default}
 pub use Rattle.asn1_types.specs.Words.{lines, group, sequence, extensible_sequence, set, extensible_set}
 -- the same, each with the slot into which it is read
+pub use Rattle.asn1_slots.specs.Cases.{variant, choice_of_cases, extensible_choice_after, cases_agree}
 pub use Rattle.asn1_slots.specs.Slots.{required_slot, optional_slot, default_slot, addition_slot, addition_with_default_slot, group_slot}
 pub use Rattle.asn1_slots.specs.Slots.{sequence_of_slots, extensible_sequence_after, set_of_slots, extensible_set_after, slots_agree}
 -- its meaning; one whose own tag is not that of its kind, as [APPLICATION 0] SEQUENCE, is `constructed_type_under` that tag

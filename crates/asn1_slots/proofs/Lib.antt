@@ -1,3 +1,5 @@
 mod NamedErrors
 mod ReadByPlace
+mod ReadChoices
 mod ReadInSets
+mod TreesWithTags

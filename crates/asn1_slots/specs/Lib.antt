@@ -1,4 +1,6 @@
+pub mod Cases
 pub mod Filling
 pub mod InSets
 pub mod Slots
+pub mod TagPlaces
 pub mod Taggings

@@ -16,7 +16,6 @@ use Rattle.asn1_fields.specs.Entries.{may_be_absent}
 use Rattle.asn1_model.specs.Composites.{default_records}
 use Rattle.asn1_model.specs.Records.{Record, Side, in_additions, in_root}
 use Rattle.asn1_model.specs.TaggedTypes.{TaggedType}
-use Rattle.asn1_tags.specs.declared.tags.Tag.{Tag}
 use Rattle.asn1_slots.specs.Filling.{Fills, FillsGroup, FillsOnce, FillsOptional}
 use Rattle.asn1_slots.specs.InSets.{one_default, one_optional, one_required, slot_of_absent, slot_of_present, unless_default, written_default, written_optional, written_required}
 

@@ -1,9 +1,14 @@
-//! Reading by place: a type whose components are read into slots, with no proof of its own.
+//! Reading by place: a type whose components are read into slots, or whose alternatives are read each by its place, with no proof
+//! of its own.
 //!
 //! A type of components has a slot for each of them, an option that is empty at first ([`Slotted`]). It states the list of its
 //! components once, each with its slot, and says in one line for each place how that component is read into the slot. The
 //! rest is here, and is proved once: the components are read one after another, what follows each is told apart by its tags,
 //! and of full slots the value is made.
+//!
+//! A CHOICE states its cases once: each alternative, and the variant that makes a value of it ([`HasCases`]). It says in one line
+//! for each place how that alternative is read. Which alternative can begin with a tag is looked for in the trees of the type,
+//! or in a table of their leaves.
 //!
 //! | Item | What it is |
 //! |---|---|
@@ -12,6 +17,8 @@
 //! | [`DecodeSetByPlace`], [`decode_set_by_place`] | a SET whose components are read into slots, in whatever order they come |
 //! | [`required`], [`optional`], [`addition`], [`group`], [`once`] | the calls that read a component into its slot |
 //! | [`required_with_constraints`], [`optional_with_constraints`], [`addition_with_constraints`] | the same under constraints of the component's own |
+//! | [`HasCases`], [`DecodeChoiceByPlace`] | a CHOICE by its cases, and one whose alternatives are read by place |
+//! | [`alternative`], [`alternative_with_constraints`] | the calls that read the value of an alternative |
 //! | [`Tagging`] | how the type of a component is tagged: as its list of components says |
 //!
 //! What the contracts promise, and the words that they use:
@@ -31,13 +38,24 @@
 //! - So `decode_by_place` reads a SEQUENCE or a group as `decode_fields` of `asn1_dec` has to, and [`decode_set_by_place`] reads
 //!   a SET as `decode_set` of `Decoder` does.
 //!
-//! The other words are those of `asn1_codec` and of the crates below it. The calls take memory as the types of the components do.
+//! - An alternative and its variant are a `Case` (`specs/Cases.antt`), made by `variant`; of the list of these are made the
+//!   alternatives of the type, by `choice_of_cases` and `extensible_choice_after`. At each place of a CHOICE its call has to
+//!   promise that it reads the alternative's value and makes of it what `case_of` says (`ReadsCaseAt`).
+//! - The alternative of a tag is found by its place (`IsPlaceOf` of `specs/TagPlaces.antt`), and where no alternative has the
+//!   tag the error is `NoValidChoice` with the name of the type. So [`DecodeChoiceByPlace::from_tag_by_place`] and
+//!   [`DecodeChoiceByPlace::from_tag_by_table`] read a CHOICE as `from_tag` of `asn1_dec` has to.
+//!
+//! The other words are those of `asn1_codec` and of the crates below it. The calls take memory as the types of the components do; `from_tag_by_table`
+//! takes some for the table too.
 #![tactic(auto)]
 
 mod by_place;
 mod calls;
+mod cases;
+mod choice_by_place;
 mod constrained;
 mod errors;
+mod places;
 mod set_by_place;
 mod slotted;
 mod tagged;
@@ -45,6 +63,8 @@ mod tagging;
 
 pub use by_place::DecodeByPlace;
 pub use calls::{addition, group, once, optional, required};
+pub use cases::{HasCases, alternative, alternative_with_constraints};
+pub use choice_by_place::DecodeChoiceByPlace;
 pub use constrained::{
     addition_with_constraints, optional_with_constraints, required_with_constraints,
 };

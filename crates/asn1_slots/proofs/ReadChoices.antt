@@ -1,0 +1,108 @@
+-- How a CHOICE is read by the place of its alternative.
+use Rattle.std.proofs.Common.{◌≡◌, ℕ, zero, suc, Bool, true, List, [], ◌∷◌, Result, Ok, Err, inl, inr, sym, ◌∙◌, subst}
+use Rattle.std.specs.Prelude.{⊤}
+use Rattle.asn1_choices.specs.Alternatives.{Alternative, CanBeChosen, Each, HaveDistinctTags, OneOf, chosen, chosen_meaning, trees_of}
+use Rattle.asn1_choices.specs.ChosenTags.{LacksTag}
+use Rattle.asn1_codec.specs.Reading.{Outside, Reader, ReadsBack}
+use Rattle.asn1_codec.specs.declared.decode_error.DecodeError.{DecodeError}
+use Rattle.asn1_model.proofs.TagSets.{has_leaf, leaf_has}
+use Rattle.asn1_model.specs.Records.{Record}
+use Rattle.asn1_model.specs.Tags.{Has, tree_tags}
+use Rattle.asn1_tags.proofs.Distinct.{apart-from_distinct, distinct-after}
+use Rattle.asn1_tags.specs.Trees.{leaves, leaves_of}
+use Rattle.asn1_tags.specs.declared.tags.Tag.{Tag}
+use Rattle.asn1_slots.proofs.TreesWithTags.{is_leaf}
+use Rattle.asn1_slots.specs.Cases.{Case, FailsAt, HasReadAt, IsMade, IsSameChoice, ReadsCaseAt, alternatives_of}
+use Rattle.asn1_slots.specs.TagPlaces.{BeginsAt}
+
+-- the place of the chosen alternative
+abbrev pub place_of : (alts : List Alternative) → OneOf alts → ℕ
+place_of [] x = absurd x
+place_of (a ∷ alts) (inl w) = zero
+place_of (a ∷ alts) (inr x) = suc (place_of alts x)
+
+-- which has each tag that it can begin with
+pub its_place : (alts : List Alternative) (x : OneOf alts) (t : Tag) → Each CanBeChosen alts → Has (tree_tags (chosen alts x).type.tree) t →
+    BeginsAt (trees_of alts) (place_of alts x) t
+its_place [] x t can has = absurd x
+its_place (a ∷ alts) (inl w) t can has = leaf_has a.type.tree t can.0.1 has
+its_place (a ∷ alts) (inr x) t can has = its_place alts x t can.1 has
+
+-- this alternative is chosen
+abbrev pub IsAt : (alts : List Alternative) → OneOf alts → ℕ → Type 0
+IsAt [] x place = absurd x
+IsAt (a ∷ alts) (inl w) zero = ⊤
+IsAt (a ∷ alts) (inl w) (suc place) = ⊥
+IsAt (a ∷ alts) (inr x) zero = ⊥
+IsAt (a ∷ alts) (inr x) (suc place) = IsAt alts x place
+
+-- where the tags are distinct, the place of a tag is that of its alternative
+pub only_place : (alts : List Alternative) (x : OneOf alts) (place : ℕ) (t : Tag) → HaveDistinctTags alts → Each CanBeChosen alts →
+    Has (tree_tags (chosen alts x).type.tree) t → BeginsAt (trees_of alts) place t → IsAt alts x place
+only_place [] x place t distinct can has at = absurd x
+only_place (a ∷ alts) (inl w) zero t distinct can has at = tt
+only_place (a ∷ alts) (inl w) (suc place) t distinct can has at =
+    apart-from_distinct (leaves a.type.tree) (leaves_of (trees_of alts)) distinct t (leaf_has a.type.tree t can.0.1 has) (is_leaf (trees_of alts) place t at)
+only_place (a ∷ alts) (inr x) zero t distinct can has at =
+    apart-from_distinct (leaves a.type.tree) (leaves_of (trees_of alts)) distinct t at (is_leaf (trees_of alts) (place_of alts x) t (its_place alts x t can.1 has))
+only_place (a ∷ alts) (inr x) (suc place) t distinct can has at =
+    only_place alts x place t (distinct-after (leaves a.type.tree) (leaves_of (trees_of alts)) distinct) can.1 has at
+
+-- a tag that no alternative can begin with is at no place
+pub lacks : (alts : List Alternative) (place : ℕ) (t : Tag) → Each (LacksTag t) alts → BeginsAt (trees_of alts) place t → ⊥
+lacks [] place t none at = at
+lacks (a ∷ alts) zero t none at = none.0 (has_leaf a.type.tree t at)
+lacks (a ∷ alts) (suc place) t none at = lacks alts place t none.1 at
+
+module _ {D V : Type 0} (R : Reader D) (eq : V → V → Bool) (old new : D) (v : V) (rest : List Record) (outer : Outside) where
+  -- the chosen alternative was read, and a value was made of what came
+  has_read : (u : V) (alts : List Alternative) (x : OneOf alts) (hs : List (Case V)) (y z : OneOf (alternatives_of hs)) (place : ℕ) →
+      IsSameChoice alts x hs y → IsMade eq hs y v → IsMade eq hs z u → IsAt alts x place → Each CanBeChosen alts →
+      (chosen_meaning alts x).IsOfType → (chosen_meaning alts x).IsValid R.accepts → HasReadAt R hs place old new z →
+      ReadsBack R old new (chosen_meaning alts x).records rest outer (λ w. eq w v ≡ true) (Ok u)
+  has_read u [] x hs y z place same made made_u at can of_type valid read = absurd x
+  has_read u (a ∷ alts) x [] y z place same made made_u at can of_type valid read = absurd y
+  has_read u (a ∷ alts) (inl w) (h ∷ hs) (inr y) z place same made made_u at can of_type valid read = absurd same
+  has_read u (a ∷ alts) (inr x) (h ∷ hs) (inl c) z place same made made_u at can of_type valid read = absurd same
+  has_read u (a ∷ alts) (inl w) (h ∷ hs) (inl c) z (suc place) same made made_u at can of_type valid read = absurd at
+  has_read u (a ∷ alts) (inr x) (h ∷ hs) (inr y) z zero same made made_u at can of_type valid read = absurd at
+  has_read u (a ∷ alts) (inl w) (h ∷ hs) (inl c) (inr z) zero same made made_u at can of_type valid read = absurd read
+  has_read u (a ∷ alts) (inr x) (h ∷ hs) (inr y) (inl d) (suc place) same made made_u at can of_type valid read = absurd read
+  has_read u (a ∷ alts) (inl w) (h ∷ hs) (inl c) (inl d) zero same made made_u at can of_type valid read =
+      subst (λ rs. ReadsBack R old new rs rest outer (λ x. eq x v ≡ true) (Ok u)) (sym same.1.records) (λ remains.
+      let r = read.reads c rest outer (same.0 can.0.0) (same.1.of_type.0 of_type) ((same.1.valid R.accepts).0 valid) remains in
+      record {
+        answer = subst (λ x. eq x v ≡ true) made_u.0 (made.1 d ∙ r.answer);
+        at = r.at;
+        within_depth_left = r.within_depth_left;
+      })
+  has_read u (a ∷ alts) (inr x) (h ∷ hs) (inr y) (inr z) (suc place) same made made_u at can of_type valid read =
+      has_read u alts x hs y z place same made made_u at can.1 of_type valid read
+
+  -- it was not
+  has_failed : (e : DecodeError) (alts : List Alternative) (x : OneOf alts) (hs : List (Case V)) (y : OneOf (alternatives_of hs)) (place : ℕ) →
+      IsSameChoice alts x hs y → IsAt alts x place → Each CanBeChosen alts → (chosen_meaning alts x).IsOfType →
+      (chosen_meaning alts x).IsValid R.accepts → FailsAt R hs place old new e →
+      ReadsBack R old new (chosen_meaning alts x).records rest outer (λ w. eq w v ≡ true) (Err e)
+  has_failed e [] x hs y place same at can of_type valid fails = absurd x
+  has_failed e (a ∷ alts) x [] y place same at can of_type valid fails = absurd y
+  has_failed e (a ∷ alts) (inl w) (h ∷ hs) (inr y) place same at can of_type valid fails = absurd same
+  has_failed e (a ∷ alts) (inr x) (h ∷ hs) (inl c) place same at can of_type valid fails = absurd same
+  has_failed e (a ∷ alts) (inl w) (h ∷ hs) (inl c) (suc place) same at can of_type valid fails = absurd at
+  has_failed e (a ∷ alts) (inr x) (h ∷ hs) (inr y) zero same at can of_type valid fails = absurd at
+  has_failed e (a ∷ alts) (inl w) (h ∷ hs) (inl c) zero same at can of_type valid fails =
+      subst (λ rs. ReadsBack R old new rs rest outer (λ x. eq x v ≡ true) (Err e)) (sym same.1.records)
+      (λ remains. fails.reads c rest outer (same.0 can.0.0) (same.1.of_type.0 of_type) ((same.1.valid R.accepts).0 valid) remains)
+  has_failed e (a ∷ alts) (inr x) (h ∷ hs) (inr y) (suc place) same at can of_type valid fails =
+      has_failed e alts x hs y place same at can.1 of_type valid fails
+
+  -- what reads the alternative at its place reads the value
+  pub reads_chosen : (alts : List Alternative) (x : OneOf alts) (hs : List (Case V)) (case_of : V → OneOf (alternatives_of hs)) (place : ℕ)
+      (result : Result V DecodeError) → IsSameChoice alts x hs (case_of v) → ((u : V) → IsMade eq hs (case_of u) u) → IsAt alts x place →
+      Each CanBeChosen alts → (chosen_meaning alts x).IsOfType → (chosen_meaning alts x).IsValid R.accepts →
+      ReadsCaseAt R hs case_of place old new result →
+      ReadsBack R old new (chosen_meaning alts x).records rest outer (λ w. eq w v ≡ true) result
+  reads_chosen alts x hs case_of place (Ok u) same made at can of_type valid reads =
+      has_read u alts x hs (case_of v) (case_of u) place same (made v) (made u) at can of_type valid reads
+  reads_chosen alts x hs case_of place (Err e) same made at can of_type valid reads =
+      has_failed e alts x hs (case_of v) place same at can of_type valid reads

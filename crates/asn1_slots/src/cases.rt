@@ -1,0 +1,51 @@
+//! The values of the alternatives of a CHOICE.
+ghost use Rattle.asn1_choices.specs.Alternatives.{OneOf};
+ghost use Rattle.asn1_model.specs.ConstraintSets.{constraint_set};
+ghost use Rattle.asn1_slots.specs.Cases.{Case, ReadsValueOf, alternatives_of};
+ghost use Rattle.asn1_slots.specs.Taggings.{under, under_constraints};
+ghost use Rattle.std.specs.Prelude.{◌≡◌, List, OnOk};
+
+use crate::tagged::read_component;
+use crate::tagging::Tagging;
+use asn1_bounds::Constraints;
+use asn1_codec::DecodeError;
+use asn1_dec::{Decode, Decoder};
+use asn1_tags::Tag;
+
+/// A CHOICE by its cases: the alternatives, and how a value is made of each.
+pub trait HasCases {
+    // The alternatives, in the order of the definition.
+    ghost cases: { List (Case Self) };
+
+    // Which of them a value is.
+    ghost case_of: { Self → OneOf (alternatives_of cases) };
+}
+
+/// Reads the value of an alternative.
+pub fn alternative<T: Decode, D: Decoder>(
+    decoder: &mut D,
+    tagging: Tagging,
+) -> Result<T, DecodeError>
+    ensures read { ReadsValueOf D.reader (under tagging T.meaning) T.eq decoder.old decoder.new
+        result }
+    ensures same_depth { OnOk result (D.reader.depth_left decoder.new ≡
+        D.reader.depth_left decoder.old) }
+{
+    read_component(decoder, tagging)
+}
+
+/// Reads the value of an alternative under these constraints, and a tag, or the type's own where none is given.
+pub fn alternative_with_constraints<T: Decode, D: Decoder>(
+    decoder: &mut D,
+    tag: Option<Tag>,
+    constraints: &Constraints<'_>,
+) -> Result<T, DecodeError>
+    ensures read { ReadsValueOf D.reader
+        (under_constraints tag (constraint_set constraints.now) T.meaning) T.eq decoder.old
+        decoder.new result }
+    ensures same_depth { OnOk result (D.reader.depth_left decoder.new ≡
+        D.reader.depth_left decoder.old) }
+{
+    let tag = tag.unwrap_or(T::tag());
+    T::decode_with_tag_and_constraints(decoder, tag, constraints)
+}

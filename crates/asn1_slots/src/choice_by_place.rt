@@ -1,0 +1,100 @@
+//! CHOICE types that are read by place.
+ghost use Rattle.asn1_choices.specs.Alternatives.{Each, all_of, trees_of};
+ghost use Rattle.asn1_choices.specs.ChosenTags.{LacksTag};
+ghost use Rattle.asn1_codec.specs.DecodeErrors.{no_memory, no_valid_choice, reason};
+ghost use Rattle.asn1_codec.specs.ReadingTypes.{ReadsChosen};
+ghost use Rattle.asn1_slots.specs.Cases.{IsMade, IsSameChoice, ReadsCaseAt};
+ghost use Rattle.asn1_slots.specs.TagPlaces.{IsPlaceOf};
+ghost use Rattle.asn1_tags.specs.declared.tags.Tag.{Tag};
+ghost use Rattle.std.specs.Prelude.{◌≡◌, ◌≢◌, [], OnOk, unwrap_or};
+ghost use Rattle.std.specs.Result.{IsErrAnd};
+
+use crate::cases::HasCases;
+use crate::places::{place_in_table, place_of_tag};
+use asn1_choices::ChoiceType;
+use asn1_codec::DecodeError;
+use asn1_dec::Decoder;
+use asn1_model::AsnType;
+use asn1_tags::Tag;
+
+/// A CHOICE whose alternatives are read each by its place in the definition.
+pub trait DecodeChoiceByPlace: ChoiceType + HasCases + Eq + Sized + Drop {
+    /// Reads the alternative at a place, and makes the value of it. After the last alternative there is none, and it answers
+    /// an error.
+    fn decode_alternative<D: Decoder>(place: usize, decoder: &mut D) -> Result<Self, DecodeError>
+        ensures read { ReadsCaseAt D.reader Self.cases Self.case_of place decoder.old decoder.new
+            result }
+        ensures same_depth { OnOk result (D.reader.depth_left decoder.new ≡
+            D.reader.depth_left decoder.old) };
+
+    // The laws: these are the alternatives of the CHOICE, and a value is what is made of the chosen one.
+    ghost agrees: { (v : Self) → IsSameChoice (all_of Self.Choice.alternatives) (Self.Choice.pick v)
+        Self.HasCases.cases (Self.HasCases.case_of v) };
+
+    ghost made: { (v : Self) → IsMade Self.PartialEq.eq Self.HasCases.cases
+        (Self.HasCases.case_of v) v };
+
+    /// Reads the alternative that can begin with the tag: what [`asn1_dec::DecodeChoice::from_tag`] of the type calls. It takes
+    /// no memory beside what the alternative takes.
+    final fn from_tag_by_place<D: Decoder>(decoder: &mut D, tag: Tag) -> Result<Self, DecodeError>
+        ensures read { ReadsChosen D.reader tag Self.alternatives Self.pick Self.eq decoder.old
+            decoder.new result }
+        ensures unknown { Each (LacksTag tag) (all_of Self.alternatives) →
+            IsErrAnd result (λ e. reason e ≡ no_valid_choice (unwrap_or Self.meaning.name [])) }
+        ensures same_depth { OnOk result (D.reader.depth_left decoder.new ≡
+            D.reader.depth_left decoder.old) }
+    {
+        read_at(decoder, place_of_tag::<Self>(tag))
+    }
+
+    /// The same, where the alternative is looked for in a table of all leaves of the alternatives, as
+    /// [`asn1_tags::Variants::with_table`] takes it: so many tags are compared as the number of leaves has binary digits. A
+    /// table that does not fit is left aside. Where there is no memory for the table, the error is [`DecodeError::Memory`].
+    final fn from_tag_by_table<D: Decoder>(
+        decoder: &mut D,
+        tag: Tag,
+        table: &[(Tag, usize)],
+    ) -> Result<Self, DecodeError>
+        ensures read { ReadsChosen D.reader tag Self.alternatives Self.pick Self.eq decoder.old
+            decoder.new result }
+        ensures unknown { Each (LacksTag tag) (all_of Self.alternatives) →
+            IsErrAnd result (λ e. reason e ≢ no_memory →
+            reason e ≡ no_valid_choice (unwrap_or Self.meaning.name [])) }
+        ensures same_depth { OnOk result (D.reader.depth_left decoder.new ≡
+            D.reader.depth_left decoder.old) }
+    {
+        match place_in_table::<Self>(decoder.global(), table, tag) {
+            Ok(place) => read_at(decoder, place),
+            Err(_) => Err(DecodeError::Memory),
+        }
+    }
+}
+
+/// Reads the alternative at the place of a tag, if there is one.
+fn read_at<T: DecodeChoiceByPlace, D: Decoder>(
+    decoder: &mut D,
+    place: Option<usize>,
+) -> Result<T, DecodeError>
+    ensures read { (t : Tag) → IsPlaceOf t (trees_of (all_of T.alternatives)) place →
+        ReadsChosen D.reader t T.alternatives T.pick T.eq decoder.old decoder.new result }
+    ensures unknown { (t : Tag) → IsPlaceOf t (trees_of (all_of T.alternatives)) place →
+        Each (LacksTag t) (all_of T.alternatives) →
+        IsErrAnd result (λ e. reason e ≡ no_valid_choice (unwrap_or T.meaning.name [])) }
+    ensures same_depth { OnOk result (D.reader.depth_left decoder.new ≡
+        D.reader.depth_left decoder.old) }
+{
+    match place {
+        Some(place) => T::decode_alternative(place, decoder),
+        None => Err(no_alternative::<T>()),
+    }
+}
+
+/// The error that no alternative of the type has the tag.
+fn no_alternative<T: AsnType>() -> DecodeError
+    ensures { reason result ≡ no_valid_choice (unwrap_or T.meaning.name []) }
+{
+    match T::identifier().0 {
+        Some(name) => DecodeError::NoValidChoice(name),
+        None => DecodeError::NoValidChoice(""),
+    }
+}

@@ -1,0 +1,101 @@
+//! The place of the alternative that can begin with a tag.
+ghost use Rattle.asn1_choices.specs.Alternatives.{all_of, trees_of};
+ghost use Rattle.asn1_slots.specs.TagPlaces.{BeginsAt, IsPlaceOf};
+ghost use Rattle.asn1_tags.specs.Trees.{leaves_of, shapes};
+ghost use Rattle.asn1_tags.specs.declared.tags.Tag.{Tag};
+ghost use Rattle.std.specs.Prelude.{◌≡◌, IfOk, MatchOption, Some, slice_get};
+
+use asn1_choices::ChoiceType;
+use asn1_model::TreeForm;
+use asn1_tags::{Tag, TagTree, Variants, VariantsError};
+use std::alloc::{AllocError, Global};
+use std::slice;
+
+/// The place of the first tree that has the tag as a leaf.
+fn first_with_leaf(trees: &[TagTree<'static>], tag: Tag) -> Option<usize>
+    ensures { IsPlaceOf tag (shapes trees.now) result }
+{
+    for place in 0..trees.len() {
+        if TagTree::tag_contains(&tag, slice::from_ref(&trees[place])) {
+            return Some(place);
+        }
+    }
+    None
+}
+
+/// The place of the tree that has the leaf at this position of all leaves.
+fn place_of_leaf(trees: &[TagTree<'static>], position: usize) -> Option<usize>
+    ensures { (t : Tag) → slice_get (leaves_of (shapes trees.now)) position ≡ Some t →
+        MatchOption result ⊥ (λ k. BeginsAt (shapes trees.now) k t) }
+{
+    let mut left = position;
+    for place in 0..trees.len() {
+        match TagTree::leaf_count(slice::from_ref(&trees[place])) {
+            Some(count) => {
+                if left < count {
+                    return Some(place);
+                }
+                left -= count;
+            }
+            None => return Some(place),
+        }
+    }
+    None
+}
+
+/// The leaves of the trees with this table, or with none where it does not fit.
+fn variants_with(
+    alloc: Global,
+    trees: &[TagTree<'static>],
+    table: &[(Tag, usize)],
+) -> Result<Variants, AllocError>
+    ensures { IfOk result (λ variants. variants.tags ≡ leaves_of (shapes trees.now)) }
+{
+    match Variants::with_table(alloc, trees, Vec::from_slice(alloc, table)?) {
+        Ok(variants) => Ok(variants),
+        Err(VariantsError::Memory) => Err(AllocError),
+        Err(VariantsError::TableMismatch(_)) => Variants::new(alloc, trees),
+    }
+}
+
+/// The place of a tree that has the tag as a leaf, which is looked for in a table of the leaves.
+fn find_in_table(
+    alloc: Global,
+    trees: &[TagTree<'static>],
+    table: &[(Tag, usize)],
+    tag: Tag,
+) -> Result<Option<usize>, AllocError>
+    ensures { IfOk result (λ place. IsPlaceOf tag (shapes trees.now) place) }
+{
+    let variants = variants_with(alloc, trees, table)?;
+    match variants.position_of(&tag) {
+        Some(position) => Ok(place_of_leaf(trees, position)),
+        None => Ok(None),
+    }
+}
+
+/// The place of the alternative that can begin with the tag, in the order of the definition.
+pub(crate) fn place_of_tag<T: ChoiceType>(tag: Tag) -> Option<usize>
+    ensures { IsPlaceOf tag (trees_of (all_of T.alternatives)) result }
+{
+    match T::table().tree {
+        TreeForm::Choice(trees) => first_with_leaf(trees, tag),
+        TreeForm::Leaf => None,
+        TreeForm::Open => None,
+    }
+}
+
+/// The same, where the tag is looked for in a table of the leaves of all alternatives.
+pub(crate) fn place_in_table<T: ChoiceType>(
+    alloc: Global,
+    table: &[(Tag, usize)],
+    tag: Tag,
+) -> Result<Option<usize>, AllocError>
+    ensures { IfOk result (λ place. IsPlaceOf tag (trees_of (all_of T.alternatives)) place) }
+{
+    match T::table().tree {
+        TreeForm::Choice(trees) => find_in_table(alloc, trees, table, tag),
+        TreeForm::Leaf => Ok(None),
+        TreeForm::Open => Ok(None),
+    }
+}
