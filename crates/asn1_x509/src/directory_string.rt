@@ -9,14 +9,15 @@
 //!     bmpString       BMPString (SIZE (1..MAX))
 //! }
 //! ```
-ghost use Rattle.std.specs.Prelude.{[], codes, ◌∷◌};
-ghost use Rattle.asn1_schema.specs.Words.{IsWellTagged, alternative, choice_agrees, choice_of, closed_choice, inl, inr, untagged};
+ghost use Rattle.std.specs.Prelude.{[], codes, refl, ◌∷◌};
+ghost use Rattle.asn1_schema.specs.Words.{IsWellTagged, cases_agree, choice_agrees, choice_of, choice_of_cases, inl, inr, untagged, variant};
 ghost use Rattle.asn1_x509.specs.declared.directory_string.DirectoryString.TheVariants.{Teletex, Printable, Universal, Utf8, Bmp};
 
 use asn1_schema::{
-    AsnType, BmpString, Choice, ChoiceType, Constraints, Decode, DecodeChoice, DecodeError,
-    Decoder, Encode, EncodeChoice, EncodeError, Encoder, Identifier, PrintableString, Tag, TagTree,
-    TeletexString, TypeTable, UniversalString, Utf8String,
+    AsnType, BmpString, Choice, ChoiceType, Constraints, Decode, DecodeChoice, DecodeChoiceByPlace,
+    DecodeError, Decoder, Encode, EncodeChoice, EncodeError, Encoder, HasCases, Identifier,
+    PrintableString, Tag, TagTree, Tagging, TeletexString, TypeTable, UniversalString, Utf8String,
+    alternative,
 };
 
 /// A text in one of five kinds of string. That it is not empty is the caller's to see.
@@ -43,15 +44,25 @@ const DIRECTORY_STRING: &[TagTree<'static>] = &[
     TagTree::Leaf(Tag::BMP_STRING),
 ];
 
-impl Choice for DirectoryString {
-    ghost alternatives = { closed_choice (
-        alternative (codes "teletexString") (untagged ⟦<TeletexString as AsnType>⟧.meaning) ∷
-        alternative (codes "printableString") (untagged ⟦<PrintableString as AsnType>⟧.meaning) ∷
-        alternative (codes "universalString") (untagged ⟦<UniversalString as AsnType>⟧.meaning) ∷
-        alternative (codes "utf8String") (untagged ⟦<Utf8String as AsnType>⟧.meaning) ∷
-        alternative (codes "bmpString") (untagged ⟦<BmpString as AsnType>⟧.meaning) ∷ []) };
+impl HasCases for DirectoryString {
+    ghost cases = { variant (codes "teletexString") Teletex (untagged ⟦<TeletexString as AsnType>⟧.meaning)
+        ⟦<TeletexString as PartialEq>⟧.eq ∷
+        variant (codes "printableString") Printable (untagged ⟦<PrintableString as AsnType>⟧.meaning)
+        ⟦<PrintableString as PartialEq>⟧.eq ∷
+        variant (codes "universalString") Universal (untagged ⟦<UniversalString as AsnType>⟧.meaning)
+        ⟦<UniversalString as PartialEq>⟧.eq ∷
+        variant (codes "utf8String") Utf8 (untagged ⟦<Utf8String as AsnType>⟧.meaning)
+        ⟦<Utf8String as PartialEq>⟧.eq ∷
+        variant (codes "bmpString") Bmp (untagged ⟦<BmpString as AsnType>⟧.meaning)
+        ⟦<BmpString as PartialEq>⟧.eq ∷ [] };
 
-    ghost pick = { elim [ Teletex teletex ↦ inl teletex | Printable printable ↦ inr (inl printable) | Universal universal ↦ inr (inr (inl universal)) | Utf8 utf8 ↦ inr (inr (inr (inl utf8))) | Bmp bmp ↦ inr (inr (inr (inr (inl bmp)))) ] };
+    ghost case_of = { elim [ Teletex teletex ↦ inl teletex | Printable printable ↦ inr (inl printable) | Universal universal ↦ inr (inr (inl universal)) | Utf8 utf8 ↦ inr (inr (inr (inl utf8))) | Bmp bmp ↦ inr (inr (inr (inr (inl bmp)))) ] };
+}
+
+impl Choice for DirectoryString {
+    ghost alternatives = { choice_of_cases ⟦<DirectoryString as HasCases>⟧.cases };
+
+    ghost pick = { ⟦<DirectoryString as HasCases>⟧.case_of };
 
     fn variants() -> &'static [TagTree<'static>] {
         DIRECTORY_STRING
@@ -139,28 +150,23 @@ impl Decode for DirectoryString {
 
 impl DecodeChoice for DirectoryString {
     fn from_tag<D: Decoder>(decoder: &mut D, tag: Tag) -> Result<DirectoryString, DecodeError> {
-        match tag {
-            Tag::TELETEX_STRING => {
-                let teletex = TeletexString::decode(decoder)?;
-                Ok(DirectoryString::Teletex(teletex))
-            }
-            Tag::PRINTABLE_STRING => {
-                let printable = PrintableString::decode(decoder)?;
-                Ok(DirectoryString::Printable(printable))
-            }
-            Tag::UNIVERSAL_STRING => {
-                let universal = UniversalString::decode(decoder)?;
-                Ok(DirectoryString::Universal(universal))
-            }
-            Tag::UTF8_STRING => {
-                let utf8 = Utf8String::decode(decoder)?;
-                Ok(DirectoryString::Utf8(utf8))
-            }
-            Tag::BMP_STRING => {
-                let bmp = BmpString::decode(decoder)?;
-                Ok(DirectoryString::Bmp(bmp))
-            }
+        DirectoryString::from_tag_by_place(decoder, tag)
+    }
+}
+
+impl DecodeChoiceByPlace for DirectoryString {
+    fn decode_alternative<D: Decoder>(place: usize, decoder: &mut D) -> Result<Self, DecodeError> {
+        match place {
+            0 => Ok(DirectoryString::Teletex(alternative(decoder, Tagging::Untagged)?)),
+            1 => Ok(DirectoryString::Printable(alternative(decoder, Tagging::Untagged)?)),
+            2 => Ok(DirectoryString::Universal(alternative(decoder, Tagging::Untagged)?)),
+            3 => Ok(DirectoryString::Utf8(alternative(decoder, Tagging::Untagged)?)),
+            4 => Ok(DirectoryString::Bmp(alternative(decoder, Tagging::Untagged)?)),
             _ => Err(DecodeError::NoValidChoice("DirectoryString")),
         }
     }
+
+    ghost agrees = { λ v. cases_agree ⟦<DirectoryString as HasCases>⟧.cases (⟦<DirectoryString as HasCases>⟧.case_of v) };
+
+    ghost made = { elim [ Teletex x ↦ (refl, λ _. refl) | Printable x ↦ (refl, λ _. refl) | Universal x ↦ (refl, λ _. refl) | Utf8 x ↦ (refl, λ _. refl) | Bmp x ↦ (refl, λ _. refl) ] };
 }

@@ -7,7 +7,7 @@
 //! | [`Name`], [`RelativeDistinguishedName`], [`AttributeTypeAndValue`] | whose certificate it is, and who issued it |
 //! | [`DirectoryString`] | a text in one of five kinds of string |
 //! | [`Validity`], [`Time`] | from when to when a certificate is valid |
-//! | [`AlgorithmIdentifier`], [`SubjectPublicKeyInfo`] | an algorithm, and a public key |
+//! | [`AlgorithmIdentifier`], [`SubjectPublicKeyInfo`], [`RsaPublicKey`] | an algorithm, and a public key, with what RSA has in it |
 //! | [`Extension`], [`Extensions`] | what else a certificate says |
 //!
 //! What the contracts promise:
@@ -28,6 +28,7 @@ mod certificate;
 mod directory_string;
 mod extension;
 mod name;
+mod rsa_public_key;
 mod signed;
 mod subject_public_key_info;
 mod tbs_certificate;
@@ -42,6 +43,7 @@ pub use certificate::{Certificate, certificate_is_well_tagged};
 pub use directory_string::{DirectoryString, directory_string_is_well_tagged};
 pub use extension::{Extension, Extensions, extension_is_well_tagged};
 pub use name::{Name, RdnSequence, RelativeDistinguishedName, name_is_well_tagged};
+pub use rsa_public_key::{RsaPublicKey, rsa_public_key_is_well_tagged};
 pub use signed::{Signed, signed_is_valid, signed_is_well_tagged};
 pub use subject_public_key_info::{SubjectPublicKeyInfo, subject_public_key_info_is_well_tagged};
 pub use tbs_certificate::{

@@ -13,16 +13,17 @@
 //!     registeredID              [8] OBJECT IDENTIFIER
 //! }
 //! ```
-ghost use Rattle.std.specs.Prelude.{[], codes, ◌∷◌};
-ghost use Rattle.asn1_schema.specs.Words.{IsWellTagged, alternative, choice_agrees, choice_of, closed_choice, context, inl, inr, tagged};
+ghost use Rattle.std.specs.Prelude.{[], codes, refl, ◌∷◌};
+ghost use Rattle.asn1_schema.specs.Words.{IsWellTagged, cases_agree, choice_agrees, choice_of, choice_of_cases, context, inl, inr, tagged, variant};
 ghost use Rattle.asn1_x509_extensions.specs.declared.general_name.GeneralName.TheVariants.{Other, Rfc822, Dns, X400, Directory, EdiParty, Uri, IpAddress, RegisteredId};
 
 use crate::another_name::AnotherName;
 use crate::edi_party_name::EdiPartyName;
 use asn1_schema::{
-    Any, AsnType, Choice, ChoiceType, Class, Constraints, Decode, DecodeChoice, DecodeError, Decoder,
-    Encode, EncodeChoice, EncodeError, Encoder, Ia5String, Identifier, ObjectIdentifier,
-    OctetString, Tag, TagTree, TypeTable,
+    Any, AsnType, Choice, ChoiceType, Class, Constraints, Decode, DecodeChoice,
+    DecodeChoiceByPlace, DecodeError, Decoder, Encode, EncodeChoice, EncodeError, Encoder,
+    HasCases, Ia5String, Identifier, ObjectIdentifier, OctetString, Tag, TagTree, Tagging,
+    TypeTable, alternative,
 };
 use asn1_x509::Name;
 
@@ -116,19 +117,33 @@ const GENERAL_NAME: &[TagTree<'static>] = &[
     TagTree::Leaf(REGISTERED_ID),
 ];
 
-impl Choice for GeneralName {
-    ghost alternatives = { closed_choice (
-        alternative (codes "otherName") (tagged (context 0) ⟦<AnotherName as AsnType>⟧.meaning) ∷
-        alternative (codes "rfc822Name") (tagged (context 1) ⟦<Ia5String as AsnType>⟧.meaning) ∷
-        alternative (codes "dNSName") (tagged (context 2) ⟦<Ia5String as AsnType>⟧.meaning) ∷
-        alternative (codes "x400Address") (tagged (context 3) ⟦<Vec<Any> as AsnType>⟧.meaning) ∷
-        alternative (codes "directoryName") (tagged (context 4) ⟦<Name as AsnType>⟧.meaning) ∷
-        alternative (codes "ediPartyName") (tagged (context 5) ⟦<EdiPartyName as AsnType>⟧.meaning) ∷
-        alternative (codes "uniformResourceIdentifier") (tagged (context 6) ⟦<Ia5String as AsnType>⟧.meaning) ∷
-        alternative (codes "iPAddress") (tagged (context 7) ⟦<OctetString as AsnType>⟧.meaning) ∷
-        alternative (codes "registeredID") (tagged (context 8) ⟦<ObjectIdentifier as AsnType>⟧.meaning) ∷ []) };
+impl HasCases for GeneralName {
+    ghost cases = { variant (codes "otherName") Other (tagged (context 0) ⟦<AnotherName as AsnType>⟧.meaning)
+        ⟦<AnotherName as PartialEq>⟧.eq ∷
+        variant (codes "rfc822Name") Rfc822 (tagged (context 1) ⟦<Ia5String as AsnType>⟧.meaning)
+        ⟦<Ia5String as PartialEq>⟧.eq ∷
+        variant (codes "dNSName") Dns (tagged (context 2) ⟦<Ia5String as AsnType>⟧.meaning)
+        ⟦<Ia5String as PartialEq>⟧.eq ∷
+        variant (codes "x400Address") X400 (tagged (context 3) ⟦<Vec<Any> as AsnType>⟧.meaning)
+        ⟦<Vec<Any> as PartialEq>⟧.eq ∷
+        variant (codes "directoryName") Directory (tagged (context 4) ⟦<Name as AsnType>⟧.meaning)
+        ⟦<Name as PartialEq>⟧.eq ∷
+        variant (codes "ediPartyName") EdiParty (tagged (context 5) ⟦<EdiPartyName as AsnType>⟧.meaning)
+        ⟦<EdiPartyName as PartialEq>⟧.eq ∷
+        variant (codes "uniformResourceIdentifier") Uri (tagged (context 6) ⟦<Ia5String as AsnType>⟧.meaning)
+        ⟦<Ia5String as PartialEq>⟧.eq ∷
+        variant (codes "iPAddress") IpAddress (tagged (context 7) ⟦<OctetString as AsnType>⟧.meaning)
+        ⟦<OctetString as PartialEq>⟧.eq ∷
+        variant (codes "registeredID") RegisteredId (tagged (context 8) ⟦<ObjectIdentifier as AsnType>⟧.meaning)
+        ⟦<ObjectIdentifier as PartialEq>⟧.eq ∷ [] };
 
-    ghost pick = { elim [ Other other ↦ inl other | Rfc822 mailbox ↦ inr (inl mailbox) | Dns host ↦ inr (inr (inl host)) | X400 address ↦ inr (inr (inr (inl address))) | Directory name ↦ inr (inr (inr (inr (inl name)))) | EdiParty party ↦ inr (inr (inr (inr (inr (inl party))))) | Uri uri ↦ inr (inr (inr (inr (inr (inr (inl uri)))))) | IpAddress octets ↦ inr (inr (inr (inr (inr (inr (inr (inl octets))))))) | RegisteredId identifier ↦ inr (inr (inr (inr (inr (inr (inr (inr (inl identifier)))))))) ] };
+    ghost case_of = { elim [ Other other ↦ inl other | Rfc822 mailbox ↦ inr (inl mailbox) | Dns host ↦ inr (inr (inl host)) | X400 address ↦ inr (inr (inr (inl address))) | Directory name ↦ inr (inr (inr (inr (inl name)))) | EdiParty party ↦ inr (inr (inr (inr (inr (inl party))))) | Uri uri ↦ inr (inr (inr (inr (inr (inr (inl uri)))))) | IpAddress octets ↦ inr (inr (inr (inr (inr (inr (inr (inl octets))))))) | RegisteredId identifier ↦ inr (inr (inr (inr (inr (inr (inr (inr (inl identifier)))))))) ] };
+}
+
+impl Choice for GeneralName {
+    ghost alternatives = { choice_of_cases ⟦<GeneralName as HasCases>⟧.cases };
+
+    ghost pick = { ⟦<GeneralName as HasCases>⟧.case_of };
 
     fn variants() -> &'static [TagTree<'static>] {
         GENERAL_NAME
@@ -231,44 +246,33 @@ impl Decode for GeneralName {
 
 impl DecodeChoice for GeneralName {
     fn from_tag<D: Decoder>(decoder: &mut D, tag: Tag) -> Result<GeneralName, DecodeError> {
-        match tag {
-            OTHER_NAME => {
-                let other = AnotherName::decode_with_tag(decoder, OTHER_NAME)?;
-                Ok(GeneralName::Other(other))
-            }
-            RFC822_NAME => {
-                let mailbox = Ia5String::decode_with_tag(decoder, RFC822_NAME)?;
-                Ok(GeneralName::Rfc822(mailbox))
-            }
-            DNS_NAME => {
-                let host = Ia5String::decode_with_tag(decoder, DNS_NAME)?;
-                Ok(GeneralName::Dns(host))
-            }
-            X400_ADDRESS => {
-                let address = Vec::<Any>::decode_with_tag(decoder, X400_ADDRESS)?;
-                Ok(GeneralName::X400(address))
-            }
-            DIRECTORY_NAME => {
-                let name = Name::decode_with_tag(decoder, DIRECTORY_NAME)?;
-                Ok(GeneralName::Directory(name))
-            }
-            EDI_PARTY_NAME => {
-                let party = EdiPartyName::decode_with_tag(decoder, EDI_PARTY_NAME)?;
-                Ok(GeneralName::EdiParty(party))
-            }
-            UNIFORM_RESOURCE_IDENTIFIER => {
-                let uri = Ia5String::decode_with_tag(decoder, UNIFORM_RESOURCE_IDENTIFIER)?;
-                Ok(GeneralName::Uri(uri))
-            }
-            IP_ADDRESS => {
-                let octets = OctetString::decode_with_tag(decoder, IP_ADDRESS)?;
-                Ok(GeneralName::IpAddress(octets))
-            }
-            REGISTERED_ID => {
-                let identifier = ObjectIdentifier::decode_with_tag(decoder, REGISTERED_ID)?;
-                Ok(GeneralName::RegisteredId(identifier))
-            }
+        GeneralName::from_tag_by_place(decoder, tag)
+    }
+}
+
+impl DecodeChoiceByPlace for GeneralName {
+    fn decode_alternative<D: Decoder>(place: usize, decoder: &mut D) -> Result<Self, DecodeError> {
+        match place {
+            0 => Ok(GeneralName::Other(alternative(decoder, Tagging::Tagged(OTHER_NAME))?)),
+            1 => Ok(GeneralName::Rfc822(alternative(decoder, Tagging::Tagged(RFC822_NAME))?)),
+            2 => Ok(GeneralName::Dns(alternative(decoder, Tagging::Tagged(DNS_NAME))?)),
+            3 => Ok(GeneralName::X400(alternative(decoder, Tagging::Tagged(X400_ADDRESS))?)),
+            4 => Ok(GeneralName::Directory(alternative(decoder, Tagging::Tagged(DIRECTORY_NAME))?)),
+            5 => Ok(GeneralName::EdiParty(alternative(decoder, Tagging::Tagged(EDI_PARTY_NAME))?)),
+            6 => Ok(GeneralName::Uri(alternative(
+                decoder,
+                Tagging::Tagged(UNIFORM_RESOURCE_IDENTIFIER),
+            )?)),
+            7 => Ok(GeneralName::IpAddress(alternative(decoder, Tagging::Tagged(IP_ADDRESS))?)),
+            8 => Ok(GeneralName::RegisteredId(alternative(
+                decoder,
+                Tagging::Tagged(REGISTERED_ID),
+            )?)),
             _ => Err(DecodeError::NoValidChoice("GeneralName")),
         }
     }
+
+    ghost agrees = { λ v. cases_agree ⟦<GeneralName as HasCases>⟧.cases (⟦<GeneralName as HasCases>⟧.case_of v) };
+
+    ghost made = { elim [ Other x ↦ (refl, λ _. refl) | Rfc822 x ↦ (refl, λ _. refl) | Dns x ↦ (refl, λ _. refl) | X400 x ↦ (refl, λ _. refl) | Directory x ↦ (refl, λ _. refl) | EdiParty x ↦ (refl, λ _. refl) | Uri x ↦ (refl, λ _. refl) | IpAddress x ↦ (refl, λ _. refl) | RegisteredId x ↦ (refl, λ _. refl) ] };
 }
