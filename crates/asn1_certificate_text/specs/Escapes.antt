@@ -15,6 +15,12 @@ abbrev pub control_text : ℕ → List ℕ
 control_text c =
     if nat_le 128 c then codes "\\c2\\" ++ byte_text c else codes "\\" ++ byte_text c
 
+-- a character as it is shown outside names: controls by their octets, and a backslash twice
+abbrev pub shown : ℕ → List ℕ
+shown c =
+    if is_control c then control_text c
+    else (if c == 92 then codes "\\\\" else encode_utf8 c)
+
 -- whether a character is special, or a space at an end
 abbrev pub says_something_else : Bool → ℕ → Bool
 says_something_else at_end c = is_special c || (at_end && c == 32)

@@ -1,7 +1,8 @@
 //! The values of attributes in the text of a name (RFC 4514, 2.4).
 ghost use Rattle.std.specs.Prelude.{◌≡◌, ◌<◌, ◌++◌, OnOk, true};
+ghost use Rattle.std.specs.List.{flat_map};
 ghost use Rattle.std.specs.String.{string_bytes};
-ghost use Rattle.asn1_certificate_text.specs.Escapes.{control_text, escaped, escaped_text, is_control, is_end, is_special, says_something_else};
+ghost use Rattle.asn1_certificate_text.specs.Escapes.{control_text, escaped, escaped_text, is_control, is_end, is_special, says_something_else, shown};
 
 use crate::octets::push_octet;
 use std::alloc::AllocError;
@@ -16,6 +17,30 @@ pub fn push_escaped(text: &mut String, characters: &[char]) -> Result<(), AllocE
         push_character(text, is_end(i, characters.len()), characters[i])?;
     }
     Ok(())
+}
+
+/// Appends characters as they are, but control characters as their octets, and a backslash with another before it.
+pub fn push_shown(text: &mut String, characters: &[char]) -> Result<(), AllocError>
+    ensures { OnOk result (string_bytes text.new ≡
+        string_bytes text.old ++ flat_map shown characters.now) }
+{
+    for character in characters {
+        push_shown_character(text, *character)?;
+    }
+    Ok(())
+}
+
+/// Appends a character as it is shown.
+fn push_shown_character(text: &mut String, character: char) -> Result<(), AllocError>
+    ensures { OnOk result (string_bytes text.new ≡ string_bytes text.old ++ shown character) }
+{
+    if is_control(character) {
+        return push_control(text, character);
+    }
+    if character == '\\' {
+        return text.push_str("\\\\");
+    }
+    text.push(character)
 }
 
 /// Whether it is the place of the first or the last of so many characters.

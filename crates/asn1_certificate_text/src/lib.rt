@@ -3,8 +3,8 @@
 //! | Item | What it is |
 //! |---|---|
 //! | [`is_pem`], [`pem_octets`], [`PemError`] | a certificate between two lines, in base64 (RFC 7468) |
-//! | [`push_escaped`] | the value of an attribute of a name (RFC 4514) |
-//! | [`push_octets`] | octets in hexadecimal |
+//! | [`push_escaped`], [`push_shown`] | the value of an attribute of a name (RFC 4514), and other texts |
+//! | [`push_octets`], [`push_digits`] | octets in hexadecimal, with colons and without |
 //! | [`Moment`] | a moment, of the two kinds of time that a certificate has (RFC 5280, 4.1.2.5) |
 //! | [`push_address`] | an IP address |
 //! | [`object_named`], [`NamedObject`], [`curve_of`], [`Curve`] | object identifiers by name, and curves with their sizes |
@@ -35,8 +35,8 @@ mod tests;
 
 pub use address::push_address;
 pub use bits::{bit_length, push_usages};
-pub use escapes::push_escaped;
+pub use escapes::{push_escaped, push_shown};
 pub use moment::Moment;
 pub use objects::{Curve, NamedObject, curve_of, object_named};
-pub use octets::push_octets;
+pub use octets::{push_digits, push_octets};
 pub use pem::{PemError, is_pem, pem_octets};

@@ -1,5 +1,6 @@
 //! Octets in hexadecimal.
 ghost use Rattle.std.specs.Prelude.{◌≡◌, ◌++◌, OnOk};
+ghost use Rattle.std.specs.List.{flat_map};
 ghost use Rattle.std.specs.String.{string_bytes};
 ghost use Rattle.asn1_values.specs.Text.{byte_text};
 ghost use Rattle.asn1_certificate_text.specs.Octets.{after_colons, octets_text};
@@ -18,6 +19,17 @@ pub fn push_octets(text: &mut String, octets: &[u8]) -> Result<(), AllocError>
             push_after_colons(text, rest)
         }
     }
+}
+
+/// Appends the octets in hexadecimal, two digits each, with nothing between them.
+pub fn push_digits(text: &mut String, octets: &[u8]) -> Result<(), AllocError>
+    ensures { OnOk result (string_bytes text.new ≡
+        string_bytes text.old ++ flat_map byte_text octets.now) }
+{
+    for octet in octets {
+        push_octet(text, *octet)?;
+    }
+    Ok(())
 }
 
 /// Appends the octets with a colon before each.
