@@ -2,18 +2,15 @@
 //!
 //! | Module | What it has | Kinds of type that no other sample has |
 //! |---|---|---|
-//! | [`x509`] | parts of certificates (RFC 5280) | an open type that is OPTIONAL, a DEFAULT after an explicit tag, a CHOICE of one alternative |
 //! | [`ldap`] | messages of LDAP (RFC 4511), cut down | types with a tag of their own, and tags of the class APPLICATION |
 //! | [`personnel`] | the record of X.690, annex A | a SET with a tag of its own and a DEFAULT, components of a SET after explicit tags |
 //!
 //! What the contracts promise:
 //!
-//! - Each type can be inside other types (`name_is_well_tagged` and the like). Tables, meaning and writer are proved to say the
-//!   same. The types of [`ldap`] and [`personnel`] are read too.
-//! - A component that is its default is written as absent (`first_version_is_absent` of [`x509`], `no_children_are_absent` of
-//!   [`personnel`]), and a type with a tag of its own is under it (`bind_request_records` of [`ldap`]).
+//! - Each type can be inside other types (`ldap_message_is_well_tagged` and the like). Tables, meaning and writer are proved to say the
+//!   same. The types are read too.
+//! - A component that is its default is written as absent (`no_children_are_absent` of [`personnel`]), and a type with a tag of its own is under it (`bind_request_records` of [`ldap`]).
 #![tactic(auto, using(asn1_schema::proofs::Trees::tree_shapes))]
 
 pub mod ldap;
 pub mod personnel;
-pub mod x509;

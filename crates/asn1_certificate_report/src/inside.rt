@@ -1,0 +1,21 @@
+//! What is inside open types and octets.
+use asn1_schema::{Decode, DecodeError, Rules};
+use std::alloc::{AllocError, Global};
+
+/// How deep certificates may be nested. The deepest that RFC 5280 allows are less than half as deep, unless a name in a name says
+/// more.
+pub const MAX_DEPTH: usize = 64;
+
+/// Reads a value that is all of these octets. What is not one is an error of the codec, but memory is one of its own.
+pub(crate) fn read_inside<R: Rules<Output = Vec<u8>>, T: Decode>(
+    rules: &R,
+    alloc: Global,
+    octets: &[u8],
+) -> Result<Result<T, DecodeError>, AllocError> {
+    let owned = Vec::from_slice(alloc, octets)?;
+    match rules.read_value(&owned, MAX_DEPTH) {
+        Ok(value) => Ok(Ok(value)),
+        Err(DecodeError::Memory) => Err(AllocError),
+        Err(error) => Ok(Err(error)),
+    }
+}

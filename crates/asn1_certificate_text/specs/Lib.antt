@@ -1,0 +1,8 @@
+pub mod Addresses
+pub mod Bits
+pub mod Escapes
+pub mod MomentTexts
+pub mod Moments
+pub mod Octets
+pub mod Pem
+pub mod PemRefusals

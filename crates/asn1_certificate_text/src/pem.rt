@@ -1,0 +1,136 @@
+//! A certificate in a text (RFC 7468).
+ghost use Rattle.std.specs.Prelude.{◌≡◌, IfErr, IfOk, Ok, filter};
+ghost use Rattle.base64.specs.Engines.{standard};
+ghost use Rattle.base64.specs.GeneralPurpose.{decode_of};
+ghost use Rattle.asn1_certificate_text.specs.Pem.{Encloses, HoldsCertificate, is_symbol};
+ghost use Rattle.asn1_certificate_text.specs.declared.pem.PemError.TheVariants.{Memory};
+ghost use Rattle.asn1_certificate_text.specs.PemRefusals.{IsAboutBase64, IsRefusal, IsRefusalOfBody};
+
+use base64::engine::general_purpose::STANDARD;
+use base64::{DecodeAllocError, DecodeError};
+use memchr::memmem;
+use std::alloc::{AllocError, Global};
+use thiserror::Error;
+
+/// The line before a certificate.
+const BEGIN: &[u8] = b"-----BEGIN CERTIFICATE-----";
+
+/// The line after it.
+const END: &[u8] = b"-----END CERTIFICATE-----";
+
+/// Why a text has no certificate. Places are those of bytes in the text, from 0.
+#[derive(Clone, Copy, Debug, Drop, PartialEq, Eq, Error)]
+pub enum PemError {
+    /// There is no line before a certificate.
+    #[error("there is no line -----BEGIN CERTIFICATE-----")]
+    NoBegin,
+    /// From this place on there is no line after it.
+    #[error("there is no line -----END CERTIFICATE----- after byte {0}")]
+    NoEnd(usize),
+    /// What is at this place is not what base64 has there.
+    #[error("byte {0} is not base64")]
+    BadSymbol(usize),
+    /// What ends at this place is no whole base64.
+    #[error("the base64 before byte {0} is not whole")]
+    NotWhole(usize),
+    /// There was no memory.
+    #[error("no memory")]
+    Memory,
+}
+
+impl From<AllocError> for PemError {
+    ghost from_gives = { λ _ e. e ≡ Memory };
+
+    fn from(_refused: AllocError) -> PemError {
+        PemError::Memory
+    }
+}
+
+/// Whether there is a line before a certificate.
+pub fn is_pem(input: &[u8]) -> bool {
+    memmem::find(input, BEGIN).is_some()
+}
+
+/// The octets of the first certificate in a text. White space in its base64 is left out.
+///
+/// # Errors
+/// Each but [`PemError::Memory`] says which byte of the text it is about.
+pub fn pem_octets(alloc: Global, text: &[u8]) -> Result<Vec<u8>, PemError>
+    ensures read { IfOk result (λ octets. HoldsCertificate text.now octets.items) }
+    ensures refused { IfErr result (IsRefusal text.now) }
+{
+    match enclosed(text) {
+        Ok((start, body)) => body_octets(alloc, start, body),
+        Err(error) => Err(error),
+    }
+}
+
+/// What is between the first line before a certificate and the next line after one, and where it begins.
+fn enclosed(text: &[u8]) -> Result<(usize, &[u8]), PemError>
+    ensures found { IfOk result (λ found. Encloses text.now found.1.now) }
+    ensures refused { IfErr result (IsRefusal text.now) }
+{
+    let Some(begin) = memmem::find(text, BEGIN) else {
+        return Err(PemError::NoBegin);
+    };
+    let start = begin + BEGIN.len();
+    let rest = &text[start..];
+    let Some(length) = memmem::find(rest, END) else {
+        return Err(PemError::NoEnd(start));
+    };
+    Ok((start, &rest[..length]))
+}
+
+/// The octets that base64 says, which begins at this place of the text.
+fn body_octets(alloc: Global, start: usize, body: &[u8]) -> Result<Vec<u8>, PemError>
+    ensures read { IfOk result (λ octets. decode_of standard (filter is_symbol body.now) ≡
+        Ok octets.items) }
+    ensures refused { IfErr result (IsRefusalOfBody body.now) }
+{
+    let symbols = symbols_of(alloc, body)?;
+    match STANDARD.decode(alloc, symbols.as_slice()) {
+        Ok(octets) => Ok(octets),
+        Err(DecodeAllocError::OutOfMemory) => Err(PemError::Memory),
+        Err(DecodeAllocError::DecodeError(error)) => Err(error_at(start, body, error)),
+    }
+}
+
+/// The bytes that are not white space.
+fn symbols_of(alloc: Global, body: &[u8]) -> Result<Vec<u8>, AllocError>
+    ensures { IfOk result (λ symbols. symbols.items ≡ filter is_symbol body.now) }
+{
+    body.iter()
+        .copied()
+        .filter(|byte| !byte.is_ascii_whitespace())
+        .collect(alloc)
+}
+
+/// The error about symbols as one about the text in which they are.
+fn error_at(start: usize, body: &[u8], error: DecodeError) -> PemError
+    ensures { IsAboutBase64 result }
+{
+    let end = start.saturating_add(body.len());
+    match error {
+        DecodeError::InvalidByte(symbol, _) => {
+            PemError::BadSymbol(start.saturating_add(place_of_symbol(body, symbol)))
+        }
+        DecodeError::InvalidLastSymbol { offset, .. } => {
+            PemError::BadSymbol(start.saturating_add(place_of_symbol(body, offset)))
+        }
+        DecodeError::InvalidLength(_) | DecodeError::InvalidPadding => PemError::NotWhole(end),
+    }
+}
+
+/// The place of the symbol before which there are this many: the length where there are no more.
+fn place_of_symbol(body: &[u8], before: usize) -> usize {
+    let mut left = before;
+    for (place, byte) in body.iter().enumerate() {
+        if !byte.is_ascii_whitespace() {
+            if left == 0 {
+                return place;
+            }
+            left -= 1;
+        }
+    }
+    body.len()
+}

@@ -1,0 +1,194 @@
+//! Texts that others wrote: OpenSSL's, and those of the standards.
+use crate::{
+    Moment, PemError, bit_length, curve_of, is_pem, object_named, pem_octets, push_address,
+    push_escaped, push_octets, push_usages,
+};
+use std::alloc::Global;
+use std::process::Abort;
+
+/// What a call appends to an empty text.
+fn assert_text(rt: &impl Abort, text: &String, expected: &str) {
+    assert_eq!(rt; text.as_str(), expected);
+}
+
+/// The value of an attribute in the text of a name.
+fn assert_escaped(rt: &impl Abort, alloc: Global, value: &str, expected: &str) {
+    let mut text = String::new(alloc);
+    let characters: Vec<char> = value.chars().collect(alloc).expect(rt, "memory");
+    push_escaped(&mut text, characters.as_slice()).expect(rt, "memory");
+    assert_text(rt, &text, expected);
+}
+
+// The examples of RFC 4514, 4, and what OpenSSL writes of controls.
+#[test]
+fn values_are_escaped(rt: HostRuntime) {
+    let alloc = rt.alloc();
+    assert_escaped(&rt, alloc, "", "");
+    assert_escaped(&rt, alloc, "Sales", "Sales");
+    assert_escaped(
+        &rt,
+        alloc,
+        "James \"Jim\" Smith, III",
+        "James \\\"Jim\\\" Smith\\, III",
+    );
+    assert_escaped(&rt, alloc, "Before\rAfter", "Before\\0dAfter");
+    assert_escaped(&rt, alloc, "Lučić", "Lučić");
+    assert_escaped(&rt, alloc, " a b ", "\\ a b\\ ");
+    assert_escaped(&rt, alloc, " ", "\\ ");
+    assert_escaped(&rt, alloc, "#1", "\\#1");
+    assert_escaped(&rt, alloc, "a+b;c<d>e\\f=g", "a\\+b\\;c\\<d\\>e\\\\f=g");
+    assert_escaped(&rt, alloc, "\u{9b}1m\u{7f}", "\\c2\\9b1m\\7f");
+}
+
+fn assert_octets(rt: &impl Abort, alloc: Global, octets: &[u8], expected: &str) {
+    let mut text = String::new(alloc);
+    push_octets(&mut text, octets).expect(rt, "memory");
+    assert_text(rt, &text, expected);
+}
+
+fn assert_address(rt: &impl Abort, alloc: Global, octets: &[u8], expected: &str) {
+    let mut text = String::new(alloc);
+    push_address(&mut text, octets).expect(rt, "memory");
+    assert_text(rt, &text, expected);
+}
+
+#[test]
+fn octets_are_written(rt: HostRuntime) {
+    let alloc = rt.alloc();
+    assert_octets(&rt, alloc, &[], "");
+    assert_octets(&rt, alloc, &[0], "00");
+    assert_octets(&rt, alloc, &[1, 0x9a, 0xff], "01:9a:ff");
+    assert_address(&rt, alloc, &[192, 0, 2, 1], "192.0.2.1");
+    let sixteen = [0x20, 1, 0xd, 0xb8, 0, 0, 0, 0, 0, 0, 0, 0, 0, 0, 0, 1];
+    assert_address(&rt, alloc, &sixteen, "2001:db8::1");
+    assert_address(&rt, alloc, &[1, 2, 3], "01:02:03");
+}
+
+fn assert_usages(rt: &impl Abort, alloc: Global, bits: &[bool], expected: &str) {
+    let mut text = String::new(alloc);
+    push_usages(&mut text, bits).expect(rt, "memory");
+    assert_text(rt, &text, expected);
+}
+
+#[test]
+fn usages_are_named(rt: HostRuntime) {
+    let alloc = rt.alloc();
+    assert_usages(&rt, alloc, &[], "");
+    assert_usages(
+        &rt,
+        alloc,
+        &[true, false, true],
+        "digitalSignature, keyEncipherment",
+    );
+    assert_usages(
+        &rt,
+        alloc,
+        &[false, true, false, true, true, true, true, true, true, true],
+        "nonRepudiation, dataEncipherment, keyAgreement, keyCertSign, cRLSign, encipherOnly, decipherOnly",
+    );
+}
+
+#[test]
+fn numbers_have_their_sizes(rt: HostRuntime) {
+    assert!(rt; bit_length(&[]) == 0 && bit_length(&[1]) == 1 && bit_length(&[0x80]) == 8);
+    assert!(rt; bit_length(&[1, 0]) == 9 && bit_length(&[0xff, 0xff, 0]) == 24);
+}
+
+fn assert_moment(rt: &impl Abort, alloc: Global, moment: Option<Moment>, expected: &str) {
+    match moment {
+        Some(moment) => {
+            let text = format!(in alloc; "{moment}").expect(rt, "memory");
+            assert_text(rt, &text, expected);
+        }
+        None => assert_eq!(rt; expected, "none"),
+    }
+}
+
+fn assert_utc(rt: &impl Abort, alloc: Global, text: &str, expected: &str) {
+    assert_moment(rt, alloc, Moment::from_utc_time(text.as_bytes()), expected);
+}
+
+fn assert_generalized(rt: &impl Abort, alloc: Global, text: &str, expected: &str) {
+    assert_moment(
+        rt,
+        alloc,
+        Moment::from_generalized_time(text.as_bytes()),
+        expected,
+    );
+}
+
+#[test]
+fn times_are_moments(rt: HostRuntime) {
+    let alloc = rt.alloc();
+    assert_utc(&rt, alloc, "250601120000Z", "2025-06-01 12:00:00 UTC");
+    assert_utc(&rt, alloc, "491231235959Z", "2049-12-31 23:59:59 UTC");
+    assert_utc(&rt, alloc, "500101000000Z", "1950-01-01 00:00:00 UTC");
+    assert_utc(&rt, alloc, "000229000000Z", "2000-02-29 00:00:00 UTC");
+    assert_utc(&rt, alloc, "010229000000Z", "none");
+    assert_utc(&rt, alloc, "251301000000Z", "none");
+    assert_utc(&rt, alloc, "250001000000Z", "none");
+    assert_utc(&rt, alloc, "250631000000Z", "none");
+    assert_utc(&rt, alloc, "250601240000Z", "none");
+    assert_utc(&rt, alloc, "250601126000Z", "none");
+    assert_utc(&rt, alloc, "250601120060Z", "none");
+    assert_utc(&rt, alloc, "2506011200Z", "none");
+    assert_utc(&rt, alloc, "250601120000+0000", "none");
+    assert_utc(&rt, alloc, "25060112000xZ", "none");
+    assert_generalized(&rt, alloc, "20520101000000Z", "2052-01-01 00:00:00 UTC");
+    assert_generalized(&rt, alloc, "99991231235959Z", "9999-12-31 23:59:59 UTC");
+    assert_generalized(&rt, alloc, "19000229000000Z", "none");
+    assert_generalized(&rt, alloc, "20520101000000.5Z", "none");
+    assert_generalized(&rt, alloc, "520101000000Z", "none");
+}
+
+#[test]
+fn objects_have_names(rt: HostRuntime) {
+    assert!(rt; object_named(&[2, 5, 4, 3]).map(|object| object.name) == Some("CN"));
+    assert!(rt;
+        object_named(&[1, 3, 6, 1, 5, 5, 7, 3, 1]).map(|object| object.name) == Some("serverAuth")
+    );
+    assert!(rt; object_named(&[1, 2, 3]).is_none() && curve_of(&[2, 5, 4, 3]).is_none());
+    assert!(rt; curve_of(&[1, 2, 840, 10045, 3, 1, 7]).map(|curve| curve.bits) == Some(256));
+}
+
+/// What is in a text between the two lines.
+fn assert_pem(rt: &impl Abort, alloc: Global, text: &[u8], expected: Result<&[u8], PemError>) {
+    match (pem_octets(alloc, text), expected) {
+        (Ok(octets), Ok(expected)) => assert_eq!(rt; octets.as_slice(), expected),
+        (Err(error), Err(expected)) => assert_eq!(rt; error, expected),
+        _ => assert!(rt; false),
+    }
+}
+
+#[test]
+fn texts_have_certificates(rt: HostRuntime) {
+    let alloc = rt.alloc();
+    let whole = b"x\n-----BEGIN CERTIFICATE-----\r\nMAMC\r\n AQE=\n-----END CERTIFICATE-----\n";
+    assert!(rt; is_pem(whole) && !is_pem(&[0x30, 3, 2, 1, 1]));
+    assert_pem(&rt, alloc, whole, Ok(&[0x30, 3, 2, 1, 1]));
+    assert_pem(
+        &rt,
+        alloc,
+        b"-----BEGIN CERTIFICATE----------END CERTIFICATE-----",
+        Ok(&[]),
+    );
+    assert_pem(&rt, alloc, b"-----BEGIN X-----", Err(PemError::NoBegin));
+    assert_pem(
+        &rt,
+        alloc,
+        b"-----BEGIN CERTIFICATE-----\nMA==\n",
+        Err(PemError::NoEnd(27)),
+    );
+    assert_pem(
+        &rt,
+        alloc,
+        b"-----BEGIN CERTIFICATE-----\nMA%=\n-----END CERTIFICATE-----",
+        Err(PemError::BadSymbol(30)),
+    );
+    assert_pem(
+        &rt,
+        alloc,
+        b"-----BEGIN CERTIFICATE-----\nMAMCA\n-----END CERTIFICATE-----",
+        Err(PemError::NotWhole(34)),
+    );
+}

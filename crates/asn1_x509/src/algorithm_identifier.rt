@@ -1,0 +1,137 @@
+//! `AlgorithmIdentifier ::= SEQUENCE { algorithm OBJECT IDENTIFIER, parameters ANY DEFINED BY algorithm OPTIONAL }`
+ghost use Rattle.std.specs.Prelude.{Bool, IfSome, IsTrue, List, [], codes, ℕ, ◌↔◌, ◌∷◌};
+ghost use Rattle.asn1_schema.specs.Words.{IsWellTagged, constructed_agrees, constructed_type, optional_slot, required_slot, sequence_of_slots, slots_agree, untagged};
+
+use asn1_schema::{
+    Any, AsnType, Constraints, ConstructedType, Decode, DecodeByPlace, DecodeError, DecodeFields,
+    Decoder, Encode, EncodeError, EncodeFields, Encoder, Field, FieldTable, Identifier,
+    ObjectIdentifier, Slotted, Tag, Tagging, TypeTable, filled, optional, required,
+};
+use std::alloc::Global;
+
+/// An algorithm, and its parameters where it has any: an open type that may be absent.
+#[derive(PartialEq, Eq, Debug, Drop)]
+pub struct AlgorithmIdentifier {
+    /// `algorithm OBJECT IDENTIFIER`
+    pub algorithm: ObjectIdentifier,
+    /// `parameters ANY DEFINED BY algorithm OPTIONAL`
+    pub parameters: Option<Any>,
+}
+
+impl Slotted for AlgorithmIdentifier {
+    type Slots = (Option<ObjectIdentifier>, Option<Any>);
+
+    ghost layout = { required_slot (codes "algorithm") (λ v. v.algorithm) (λ s. s.0)
+        (untagged ⟦<ObjectIdentifier as AsnType>⟧.meaning) ⟦<ObjectIdentifier as PartialEq>⟧.eq ∷
+        optional_slot (codes "parameters") (λ v. v.parameters) (λ s. s.1)
+        (untagged ⟦<Any as AsnType>⟧.meaning) ⟦<Any as PartialEq>⟧.eq ∷ [] };
+
+    fn from_slots(_alloc: Global, slots: Self::Slots) -> Result<AlgorithmIdentifier, DecodeError> {
+        Ok(AlgorithmIdentifier {
+            algorithm: filled(slots.0, "algorithm")?,
+            parameters: slots.1,
+        })
+    }
+}
+
+impl FieldTable for AlgorithmIdentifier {
+    ghost components = { sequence_of_slots ⟦<AlgorithmIdentifier as Slotted>⟧.layout };
+
+    fn field_count() -> usize {
+        2
+    }
+
+    fn field_at(place: usize) -> Option<Field<'static>> {
+        match place {
+            0 => Some(Field::new_required_type::<ObjectIdentifier>(0, "algorithm")),
+            1 => Some(Field::new_optional_type::<Any>(1, "parameters")),
+            _ => None,
+        }
+    }
+
+    fn marker_place() -> Option<usize> {
+        None
+    }
+}
+
+impl AsnType for AlgorithmIdentifier {
+    ghost meaning = { constructed_type (codes "AlgorithmIdentifier") ⟦<AlgorithmIdentifier as FieldTable>⟧.components };
+
+    fn table() -> TypeTable {
+        TypeTable::new(Tag::SEQUENCE, Identifier(Some("AlgorithmIdentifier")))
+    }
+
+    fn is_present(&self) -> bool {
+        true
+    }
+}
+
+impl ConstructedType for AlgorithmIdentifier {
+    ghost agrees = { constructed_agrees };
+}
+
+/// An `AlgorithmIdentifier` can be inside other types: nothing follows the open type.
+pub fn algorithm_identifier_is_well_tagged()
+    ensures { IsWellTagged ⟦<AlgorithmIdentifier as AsnType>⟧.meaning }
+{}
+
+impl Encode for AlgorithmIdentifier {
+    fn encode_with_tag_and_constraints<E: Encoder>(
+        &self,
+        encoder: &mut E,
+        tag: Tag,
+        _constraints: &Constraints<'_>,
+        name: Identifier,
+    ) -> Result<(), EncodeError> {
+        encoder.encode_sequence(tag, self, name)
+    }
+}
+
+impl EncodeFields for AlgorithmIdentifier {
+    fn encode_field<E: Encoder>(&self, place: usize, encoder: &mut E) -> Result<(), EncodeError> {
+        match place {
+            0 => self.algorithm.encode(encoder),
+            1 => self.parameters.encode(encoder),
+            _ => Ok(()),
+        }
+    }
+}
+
+impl Decode for AlgorithmIdentifier {
+    fn decode_with_tag_and_constraints<D: Decoder>(
+        decoder: &mut D,
+        tag: Tag,
+        _constraints: &Constraints<'_>,
+    ) -> Result<AlgorithmIdentifier, DecodeError> {
+        decoder.decode_sequence(tag)
+    }
+}
+
+impl DecodeFields for AlgorithmIdentifier {
+    fn decode_fields<D: Decoder>(decoder: &mut D) -> Result<AlgorithmIdentifier, DecodeError> {
+        AlgorithmIdentifier::decode_by_place(decoder)
+    }
+}
+
+impl DecodeByPlace for AlgorithmIdentifier {
+    fn decode_field<D: Decoder>(
+        place: usize,
+        slots: &mut Self::Slots,
+        decoder: &mut D,
+    ) -> Result<(), DecodeError> {
+        match place {
+            0 => required(&mut slots.0, decoder, Tagging::Untagged),
+            1 => optional(&mut slots.1, decoder, Tagging::Untagged),
+            _ => Ok(()),
+        }
+    }
+
+    ghost agrees = { slots_agree ⟦<AlgorithmIdentifier as FieldTable>⟧.components };
+}
+
+/// An `AlgorithmIdentifier` is valid if and only if the codec takes its parameters as one value, where there are any.
+pub fn algorithm_identifier_is_valid(algorithm: &AlgorithmIdentifier)
+    ensures { (accepts : List ℕ → Bool) →
+        ⟦<AlgorithmIdentifier as AsnType>⟧.meaning.IsValid accepts algorithm.now ↔
+        IfSome algorithm.now.parameters (λ parameters. IsTrue (accepts parameters)) }
+{}

@@ -1,0 +1,133 @@
+//! `AttributeTypeAndValue ::= SEQUENCE { type OBJECT IDENTIFIER, value ANY DEFINED BY type }`
+ghost use Rattle.std.specs.Prelude.{[], codes, ◌∷◌};
+ghost use Rattle.asn1_schema.specs.Words.{IsWellTagged, constructed_agrees, constructed_type, required_slot, sequence_of_slots, slots_agree, untagged};
+
+use asn1_schema::{
+    Any, AsnType, Constraints, ConstructedType, Decode, DecodeByPlace, DecodeError, DecodeFields,
+    Decoder, Encode, EncodeError, EncodeFields, Encoder, Field, FieldTable, Identifier,
+    ObjectIdentifier, Slotted, Tag, Tagging, TypeTable, filled, required,
+};
+use std::alloc::Global;
+
+/// One attribute of a name, as its country.
+#[derive(PartialEq, Eq, Debug, Drop)]
+pub struct AttributeTypeAndValue {
+    /// `type OBJECT IDENTIFIER`
+    pub attribute: ObjectIdentifier,
+    /// `value ANY DEFINED BY type`
+    pub value: Any,
+}
+
+impl Slotted for AttributeTypeAndValue {
+    type Slots = (Option<ObjectIdentifier>, Option<Any>);
+
+    ghost layout = { required_slot (codes "type") (λ v. v.attribute) (λ s. s.0)
+        (untagged ⟦<ObjectIdentifier as AsnType>⟧.meaning) ⟦<ObjectIdentifier as PartialEq>⟧.eq ∷
+        required_slot (codes "value") (λ v. v.value) (λ s. s.1)
+        (untagged ⟦<Any as AsnType>⟧.meaning) ⟦<Any as PartialEq>⟧.eq ∷ [] };
+
+    fn from_slots(
+        _alloc: Global,
+        slots: Self::Slots,
+    ) -> Result<AttributeTypeAndValue, DecodeError> {
+        Ok(AttributeTypeAndValue {
+            attribute: filled(slots.0, "type")?,
+            value: filled(slots.1, "value")?,
+        })
+    }
+}
+
+impl FieldTable for AttributeTypeAndValue {
+    ghost components = { sequence_of_slots ⟦<AttributeTypeAndValue as Slotted>⟧.layout };
+
+    fn field_count() -> usize {
+        2
+    }
+
+    fn field_at(place: usize) -> Option<Field<'static>> {
+        match place {
+            0 => Some(Field::new_required_type::<ObjectIdentifier>(0, "type")),
+            1 => Some(Field::new_required_type::<Any>(1, "value")),
+            _ => None,
+        }
+    }
+
+    fn marker_place() -> Option<usize> {
+        None
+    }
+}
+
+impl AsnType for AttributeTypeAndValue {
+    ghost meaning = { constructed_type (codes "AttributeTypeAndValue") ⟦<AttributeTypeAndValue as FieldTable>⟧.components };
+
+    fn table() -> TypeTable {
+        TypeTable::new(Tag::SEQUENCE, Identifier(Some("AttributeTypeAndValue")))
+    }
+
+    fn is_present(&self) -> bool {
+        true
+    }
+}
+
+impl ConstructedType for AttributeTypeAndValue {
+    ghost agrees = { constructed_agrees };
+}
+
+/// An `AttributeTypeAndValue` can be inside other types.
+pub fn attribute_type_and_value_is_well_tagged()
+    ensures { IsWellTagged ⟦<AttributeTypeAndValue as AsnType>⟧.meaning }
+{}
+
+impl Encode for AttributeTypeAndValue {
+    fn encode_with_tag_and_constraints<E: Encoder>(
+        &self,
+        encoder: &mut E,
+        tag: Tag,
+        _constraints: &Constraints<'_>,
+        name: Identifier,
+    ) -> Result<(), EncodeError> {
+        encoder.encode_sequence(tag, self, name)
+    }
+}
+
+impl EncodeFields for AttributeTypeAndValue {
+    fn encode_field<E: Encoder>(&self, place: usize, encoder: &mut E) -> Result<(), EncodeError> {
+        match place {
+            0 => self.attribute.encode(encoder),
+            1 => self.value.encode(encoder),
+            _ => Ok(()),
+        }
+    }
+}
+
+impl Decode for AttributeTypeAndValue {
+    fn decode_with_tag_and_constraints<D: Decoder>(
+        decoder: &mut D,
+        tag: Tag,
+        _constraints: &Constraints<'_>,
+    ) -> Result<AttributeTypeAndValue, DecodeError> {
+        decoder.decode_sequence(tag)
+    }
+}
+
+impl DecodeFields for AttributeTypeAndValue {
+    fn decode_fields<D: Decoder>(decoder: &mut D) -> Result<AttributeTypeAndValue, DecodeError> {
+        AttributeTypeAndValue::decode_by_place(decoder)
+    }
+}
+
+impl DecodeByPlace for AttributeTypeAndValue {
+    fn decode_field<D: Decoder>(
+        place: usize,
+        slots: &mut Self::Slots,
+        decoder: &mut D,
+    ) -> Result<(), DecodeError> {
+        match place {
+            0 => required(&mut slots.0, decoder, Tagging::Untagged),
+            1 => required(&mut slots.1, decoder, Tagging::Untagged),
+            _ => Ok(()),
+        }
+    }
+
+    ghost agrees = { slots_agree ⟦<AttributeTypeAndValue as FieldTable>⟧.components };
+}

@@ -1,0 +1,142 @@
+//! `Extension ::= SEQUENCE { extnID OBJECT IDENTIFIER, critical BOOLEAN DEFAULT FALSE, extnValue OCTET STRING }`
+ghost use Rattle.std.specs.Prelude.{[], codes, false, ◌∷◌};
+ghost use Rattle.asn1_schema.specs.Words.{IsWellTagged, constructed_agrees, constructed_type, default_slot, required_slot, sequence_of_slots, slots_agree, untagged};
+
+use asn1_schema::{
+    AsnType, Constraints, ConstructedType, Decode, DecodeByPlace, DecodeError, DecodeFields,
+    Decoder, Encode, EncodeError, EncodeFields, Encoder, Field, FieldTable, Identifier,
+    ObjectIdentifier, OctetString, Slotted, Tag, Tagging, TypeTable, filled, optional, or_default,
+    required,
+};
+use std::alloc::Global;
+
+/// `Extensions ::= SEQUENCE SIZE (1..MAX) OF Extension`. That there is one is the caller's to see.
+pub type Extensions = Vec<Extension>;
+
+/// What else a certificate says: the name of a kind of extension, and the bytes of its value.
+#[derive(PartialEq, Eq, Debug, Drop)]
+pub struct Extension {
+    /// `extnID OBJECT IDENTIFIER`
+    pub extension_id: ObjectIdentifier,
+    /// `critical BOOLEAN DEFAULT FALSE`
+    pub critical: bool,
+    /// `extnValue OCTET STRING`
+    pub value: OctetString,
+}
+
+impl Slotted for Extension {
+    type Slots = (Option<ObjectIdentifier>, Option<bool>, Option<OctetString>);
+
+    ghost layout = { required_slot (codes "extnID") (λ v. v.extension_id) (λ s. s.0)
+        (untagged ⟦<ObjectIdentifier as AsnType>⟧.meaning) ⟦<ObjectIdentifier as PartialEq>⟧.eq ∷
+        default_slot (codes "critical") (λ v. v.critical) false (λ s. s.1)
+        (untagged ⟦<bool as AsnType>⟧.meaning) ⟦<bool as PartialEq>⟧.eq ∷
+        required_slot (codes "extnValue") (λ v. v.value) (λ s. s.2)
+        (untagged ⟦<OctetString as AsnType>⟧.meaning) ⟦<OctetString as PartialEq>⟧.eq ∷ [] };
+
+    fn from_slots(_alloc: Global, slots: Self::Slots) -> Result<Extension, DecodeError> {
+        Ok(Extension {
+            extension_id: filled(slots.0, "extnID")?,
+            critical: or_default(slots.1, false),
+            value: filled(slots.2, "extnValue")?,
+        })
+    }
+}
+
+impl FieldTable for Extension {
+    ghost components = { sequence_of_slots ⟦<Extension as Slotted>⟧.layout };
+
+    fn field_count() -> usize {
+        3
+    }
+
+    fn field_at(place: usize) -> Option<Field<'static>> {
+        match place {
+            0 => Some(Field::new_required_type::<ObjectIdentifier>(0, "extnID")),
+            1 => Some(Field::new_default_type::<bool>(1, "critical")),
+            2 => Some(Field::new_required_type::<OctetString>(2, "extnValue")),
+            _ => None,
+        }
+    }
+
+    fn marker_place() -> Option<usize> {
+        None
+    }
+}
+
+impl AsnType for Extension {
+    ghost meaning = { constructed_type (codes "Extension") ⟦<Extension as FieldTable>⟧.components };
+
+    fn table() -> TypeTable {
+        TypeTable::new(Tag::SEQUENCE, Identifier(Some("Extension")))
+    }
+
+    fn is_present(&self) -> bool {
+        true
+    }
+}
+
+impl ConstructedType for Extension {
+    ghost agrees = { constructed_agrees };
+}
+
+/// An `Extension` can be inside other types.
+pub fn extension_is_well_tagged()
+    ensures { IsWellTagged ⟦<Extension as AsnType>⟧.meaning }
+{}
+
+impl Encode for Extension {
+    fn encode_with_tag_and_constraints<E: Encoder>(
+        &self,
+        encoder: &mut E,
+        tag: Tag,
+        _constraints: &Constraints<'_>,
+        name: Identifier,
+    ) -> Result<(), EncodeError> {
+        encoder.encode_sequence(tag, self, name)
+    }
+}
+
+impl EncodeFields for Extension {
+    fn encode_field<E: Encoder>(&self, place: usize, encoder: &mut E) -> Result<(), EncodeError> {
+        match place {
+            0 => self.extension_id.encode(encoder),
+            1 => encoder.encode_default(&self.critical, |_| Ok(false), bool::identifier()),
+            2 => self.value.encode(encoder),
+            _ => Ok(()),
+        }
+    }
+}
+
+impl Decode for Extension {
+    fn decode_with_tag_and_constraints<D: Decoder>(
+        decoder: &mut D,
+        tag: Tag,
+        _constraints: &Constraints<'_>,
+    ) -> Result<Extension, DecodeError> {
+        decoder.decode_sequence(tag)
+    }
+}
+
+impl DecodeFields for Extension {
+    fn decode_fields<D: Decoder>(decoder: &mut D) -> Result<Extension, DecodeError> {
+        Extension::decode_by_place(decoder)
+    }
+}
+
+impl DecodeByPlace for Extension {
+    fn decode_field<D: Decoder>(
+        place: usize,
+        slots: &mut Self::Slots,
+        decoder: &mut D,
+    ) -> Result<(), DecodeError> {
+        match place {
+            0 => required(&mut slots.0, decoder, Tagging::Untagged),
+            1 => optional(&mut slots.1, decoder, Tagging::Untagged),
+            2 => required(&mut slots.2, decoder, Tagging::Untagged),
+            _ => Ok(()),
+        }
+    }
+
+    ghost agrees = { slots_agree ⟦<Extension as FieldTable>⟧.components };
+}

@@ -1,0 +1,54 @@
+//! Certificates (RFC 5280): their types, written and read by any codec. Code and clauses name `asn1_schema` alone.
+//!
+//! | Item | What it is |
+//! |---|---|
+//! | [`Certificate`], [`TbsCertificate`] | a certificate, and the part of it that is signed |
+//! | [`Signed`] | what is signed, of any type, with its signature |
+//! | [`Name`], [`RelativeDistinguishedName`], [`AttributeTypeAndValue`] | whose certificate it is, and who issued it |
+//! | [`DirectoryString`] | a text in one of five kinds of string |
+//! | [`Validity`], [`Time`] | from when to when a certificate is valid |
+//! | [`AlgorithmIdentifier`], [`SubjectPublicKeyInfo`], [`RsaPublicKey`] | an algorithm, and a public key, with what RSA has in it |
+//! | [`Extension`], [`Extensions`] | what else a certificate says |
+//!
+//! What the contracts promise:
+//!
+//! - Each type states its components or its alternatives once, and its tables, meaning, writer and reader are proved to say
+//!   the same. Components are read by place, each into a slot of its own. So a valid value comes back equal (`round_trip` of
+//!   `asn1_schema`).
+//! - Each type can be inside other types (`certificate_is_well_tagged` and the like): no tag is where another is expected.
+//! - A component that is its default is written as absent (`first_version_is_absent`).
+//! - The parameters of an algorithm are an open type, which may be absent (`algorithm_identifier_is_valid`).
+//!
+//! What a schema asks beyond that is left to whoever makes a value: that a list has an element, that a text is a time.
+#![tactic(auto, using(asn1_schema::proofs::Trees::tree_shapes))]
+
+mod algorithm_identifier;
+mod attribute;
+mod certificate;
+mod directory_string;
+mod extension;
+mod name;
+mod rsa_public_key;
+mod signed;
+mod subject_public_key_info;
+mod tbs_certificate;
+mod time;
+mod validity;
+
+pub use algorithm_identifier::{
+    AlgorithmIdentifier, algorithm_identifier_is_valid, algorithm_identifier_is_well_tagged,
+};
+pub use attribute::{AttributeTypeAndValue, attribute_type_and_value_is_well_tagged};
+pub use certificate::{Certificate, certificate_is_well_tagged};
+pub use directory_string::{DirectoryString, directory_string_is_well_tagged};
+pub use extension::{Extension, Extensions, extension_is_well_tagged};
+pub use name::{Name, RdnSequence, RelativeDistinguishedName, name_is_well_tagged};
+pub use rsa_public_key::{RsaPublicKey, rsa_public_key_is_well_tagged};
+pub use signed::{Signed, signed_is_valid, signed_is_well_tagged};
+pub use subject_public_key_info::{SubjectPublicKeyInfo, subject_public_key_info_is_well_tagged};
+pub use tbs_certificate::{
+    CertificateSerialNumber, TbsCertificate, UniqueIdentifier, Version, first_version_is_absent,
+    tbs_certificate_is_well_tagged,
+};
+pub use time::{Time, time_is_well_tagged};
+pub use validity::{Validity, validity_is_well_tagged};

@@ -1,0 +1,128 @@
+//! `Name ::= CHOICE { rdnSequence RDNSequence }`
+ghost use Rattle.std.specs.Prelude.{[], codes, refl, ◌∷◌};
+ghost use Rattle.asn1_schema.specs.Words.{IsWellTagged, cases_agree, choice_agrees, choice_of, choice_of_cases, inl, untagged, variant};
+ghost use Rattle.asn1_x509.specs.declared.name.Name.TheVariants.{Rdns};
+
+use crate::attribute::AttributeTypeAndValue;
+use asn1_schema::{
+    AsnType, Choice, ChoiceType, Constraints, Decode, DecodeChoice, DecodeChoiceByPlace,
+    DecodeError, Decoder, Encode, EncodeChoice, EncodeError, Encoder, HasCases, Identifier, SetOf,
+    Tag, TagTree, Tagging, TypeTable, alternative,
+};
+
+/// `RelativeDistinguishedName ::= SET SIZE (1..MAX) OF AttributeTypeAndValue`. That there is one is the caller's to see.
+pub type RelativeDistinguishedName = SetOf<AttributeTypeAndValue>;
+
+/// `RDNSequence ::= SEQUENCE OF RelativeDistinguishedName`
+pub type RdnSequence = Vec<RelativeDistinguishedName>;
+
+/// Whose certificate it is, and who issued it: a CHOICE of one alternative.
+#[derive(PartialEq, Eq, Debug, Drop)]
+pub enum Name {
+    /// `rdnSequence RDNSequence`
+    Rdns(RdnSequence),
+}
+
+/// The trees of the alternatives.
+const NAME: &[TagTree<'static>] = &[TagTree::Leaf(Tag::SEQUENCE)];
+
+impl HasCases for Name {
+    ghost cases = { variant (codes "rdnSequence") Rdns (untagged ⟦<RdnSequence as AsnType>⟧.meaning)
+        ⟦<RdnSequence as PartialEq>⟧.eq ∷ [] };
+
+    ghost case_of = { elim [ Rdns rdns ↦ inl rdns ] };
+}
+
+impl Choice for Name {
+    ghost alternatives = { choice_of_cases ⟦<Name as HasCases>⟧.cases };
+
+    ghost pick = { ⟦<Name as HasCases>⟧.case_of };
+
+    fn variants() -> &'static [TagTree<'static>] {
+        NAME
+    }
+
+    fn extended_variants() -> Option<&'static [TagTree<'static>]> {
+        None
+    }
+
+    fn identifiers() -> &'static [&'static str] {
+        &["rdnSequence"]
+    }
+}
+
+impl AsnType for Name {
+    ghost meaning = { choice_of (codes "Name") ⟦<Name as Choice>⟧.alternatives ⟦<Name as Choice>⟧.pick };
+
+    fn table() -> TypeTable {
+        TypeTable::choice(Identifier(Some("Name")), NAME)
+    }
+
+    fn is_present(&self) -> bool {
+        true
+    }
+}
+
+impl ChoiceType for Name {
+    ghost agrees = { choice_agrees };
+}
+
+/// A `Name` can be inside other types.
+pub fn name_is_well_tagged()
+    ensures { IsWellTagged ⟦<Name as AsnType>⟧.meaning }
+{}
+
+impl Encode for Name {
+    fn encode_with_tag_and_constraints<E: Encoder>(
+        &self,
+        encoder: &mut E,
+        tag: Tag,
+        constraints: &Constraints<'_>,
+        name: Identifier,
+    ) -> Result<(), EncodeError> {
+        encoder.encode_choice_with_tag(tag, constraints, self, name)
+    }
+}
+
+impl EncodeChoice for Name {
+    fn chosen_tag(&self) -> Tag {
+        match self {
+            Name::Rdns(_) => Tag::SEQUENCE,
+        }
+    }
+
+    fn encode_alternative<E: Encoder>(&self, encoder: &mut E) -> Result<(), EncodeError> {
+        match self {
+            Name::Rdns(rdns) => rdns.encode(encoder),
+        }
+    }
+}
+
+impl Decode for Name {
+    fn decode_with_tag_and_constraints<D: Decoder>(
+        decoder: &mut D,
+        tag: Tag,
+        constraints: &Constraints<'_>,
+    ) -> Result<Name, DecodeError> {
+        decoder.decode_choice_with_tag(tag, constraints)
+    }
+}
+
+impl DecodeChoice for Name {
+    fn from_tag<D: Decoder>(decoder: &mut D, tag: Tag) -> Result<Name, DecodeError> {
+        Name::from_tag_by_place(decoder, tag)
+    }
+}
+
+impl DecodeChoiceByPlace for Name {
+    fn decode_alternative<D: Decoder>(place: usize, decoder: &mut D) -> Result<Self, DecodeError> {
+        match place {
+            0 => Ok(Name::Rdns(alternative(decoder, Tagging::Untagged)?)),
+            _ => Err(DecodeError::NoValidChoice("Name")),
+        }
+    }
+
+    ghost agrees = { λ v. cases_agree ⟦<Name as HasCases>⟧.cases (⟦<Name as HasCases>⟧.case_of v) };
+
+    ghost made = { elim [ Rdns x ↦ (refl, λ _. refl) ] };
+}

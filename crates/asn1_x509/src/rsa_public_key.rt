@@ -1,0 +1,130 @@
+//! `RSAPublicKey ::= SEQUENCE { modulus INTEGER, publicExponent INTEGER }` (RFC 3279, 2.3.1)
+ghost use Rattle.std.specs.Prelude.{[], codes, ◌∷◌};
+ghost use Rattle.asn1_schema.specs.Words.{IsWellTagged, constructed_agrees, constructed_type, required_slot, sequence_of_slots, slots_agree, untagged};
+
+use asn1_schema::{
+    AsnType, Constraints, ConstructedType, Decode, DecodeByPlace, DecodeError, DecodeFields,
+    Decoder, Encode, EncodeError, EncodeFields, Encoder, Field, FieldTable, Identifier, Integer,
+    Slotted, Tag, Tagging, TypeTable, filled, required,
+};
+use std::alloc::Global;
+
+/// A key of RSA, which is inside the bits of a public key.
+#[derive(PartialEq, Eq, Debug, Drop)]
+pub struct RsaPublicKey {
+    /// `modulus INTEGER`
+    pub modulus: Integer,
+    /// `publicExponent INTEGER`
+    pub public_exponent: Integer,
+}
+
+impl Slotted for RsaPublicKey {
+    type Slots = (Option<Integer>, Option<Integer>);
+
+    ghost layout = { required_slot (codes "modulus") (λ v. v.modulus) (λ s. s.0)
+        (untagged ⟦<Integer as AsnType>⟧.meaning) ⟦<Integer as PartialEq>⟧.eq ∷
+        required_slot (codes "publicExponent") (λ v. v.public_exponent) (λ s. s.1)
+        (untagged ⟦<Integer as AsnType>⟧.meaning) ⟦<Integer as PartialEq>⟧.eq ∷ [] };
+
+    fn from_slots(_alloc: Global, slots: Self::Slots) -> Result<RsaPublicKey, DecodeError> {
+        Ok(RsaPublicKey {
+            modulus: filled(slots.0, "modulus")?,
+            public_exponent: filled(slots.1, "publicExponent")?,
+        })
+    }
+}
+
+impl FieldTable for RsaPublicKey {
+    ghost components = { sequence_of_slots ⟦<RsaPublicKey as Slotted>⟧.layout };
+
+    fn field_count() -> usize {
+        2
+    }
+
+    fn field_at(place: usize) -> Option<Field<'static>> {
+        match place {
+            0 => Some(Field::new_required_type::<Integer>(0, "modulus")),
+            1 => Some(Field::new_required_type::<Integer>(1, "publicExponent")),
+            _ => None,
+        }
+    }
+
+    fn marker_place() -> Option<usize> {
+        None
+    }
+}
+
+impl AsnType for RsaPublicKey {
+    ghost meaning = { constructed_type (codes "RSAPublicKey") ⟦<RsaPublicKey as FieldTable>⟧.components };
+
+    fn table() -> TypeTable {
+        TypeTable::new(Tag::SEQUENCE, Identifier(Some("RSAPublicKey")))
+    }
+
+    fn is_present(&self) -> bool {
+        true
+    }
+}
+
+impl ConstructedType for RsaPublicKey {
+    ghost agrees = { constructed_agrees };
+}
+
+/// A `RsaPublicKey` can be inside other types.
+pub fn rsa_public_key_is_well_tagged()
+    ensures { IsWellTagged ⟦<RsaPublicKey as AsnType>⟧.meaning }
+{}
+
+impl Encode for RsaPublicKey {
+    fn encode_with_tag_and_constraints<E: Encoder>(
+        &self,
+        encoder: &mut E,
+        tag: Tag,
+        _constraints: &Constraints<'_>,
+        name: Identifier,
+    ) -> Result<(), EncodeError> {
+        encoder.encode_sequence(tag, self, name)
+    }
+}
+
+impl EncodeFields for RsaPublicKey {
+    fn encode_field<E: Encoder>(&self, place: usize, encoder: &mut E) -> Result<(), EncodeError> {
+        match place {
+            0 => self.modulus.encode(encoder),
+            1 => self.public_exponent.encode(encoder),
+            _ => Ok(()),
+        }
+    }
+}
+
+impl Decode for RsaPublicKey {
+    fn decode_with_tag_and_constraints<D: Decoder>(
+        decoder: &mut D,
+        tag: Tag,
+        _constraints: &Constraints<'_>,
+    ) -> Result<RsaPublicKey, DecodeError> {
+        decoder.decode_sequence(tag)
+    }
+}
+
+impl DecodeFields for RsaPublicKey {
+    fn decode_fields<D: Decoder>(decoder: &mut D) -> Result<RsaPublicKey, DecodeError> {
+        RsaPublicKey::decode_by_place(decoder)
+    }
+}
+
+impl DecodeByPlace for RsaPublicKey {
+    fn decode_field<D: Decoder>(
+        place: usize,
+        slots: &mut Self::Slots,
+        decoder: &mut D,
+    ) -> Result<(), DecodeError> {
+        match place {
+            0 => required(&mut slots.0, decoder, Tagging::Untagged),
+            1 => required(&mut slots.1, decoder, Tagging::Untagged),
+            _ => Ok(()),
+        }
+    }
+
+    ghost agrees = { slots_agree ⟦<RsaPublicKey as FieldTable>⟧.components };
+}

@@ -1,0 +1,154 @@
+//! `SIGNED{ToBeSigned} ::= SEQUENCE { toBeSigned ToBeSigned, algorithmIdentifier AlgorithmIdentifier, encrypted BIT STRING }`
+//! (X.509, 6.2.1)
+ghost use Rattle.std.specs.Prelude.{Bool, IsTrue, IfSome, List, [], codes, ℕ, ◌↔◌, ◌∷◌};
+ghost use Rattle.asn1_schema.specs.Words.{IsWellTagged, constructed_agrees, constructed_type, required, required_slot, sequence, slots_agree, untagged};
+
+use crate::algorithm_identifier::AlgorithmIdentifier;
+use asn1_schema::{
+    AsnType, BitString, Constraints, ConstructedType, Decode, DecodeByPlace, DecodeError,
+    DecodeFields, Decoder, Encode, EncodeError, EncodeFields, Encoder, Field, FieldTable,
+    Identifier, Slotted, Tag, Tagging, TypeTable, filled, required,
+};
+use std::alloc::Global;
+
+/// What is signed, of any type, with its signature.
+#[derive(PartialEq, Eq, Debug, Drop)]
+pub struct Signed<T> {
+    /// `toBeSigned ToBeSigned`
+    pub to_be_signed: T,
+    /// `algorithmIdentifier AlgorithmIdentifier`
+    pub algorithm_identifier: AlgorithmIdentifier,
+    /// `encrypted BIT STRING`
+    pub encrypted: BitString,
+}
+
+impl<T: Decode> Slotted for Signed<T> {
+    type Slots = (Option<T>, Option<AlgorithmIdentifier>, Option<BitString>);
+
+    ghost layout = { required_slot (codes "toBeSigned") (λ v. v.to_be_signed) (λ s. s.0)
+        (untagged T.meaning) T.eq ∷
+        required_slot (codes "algorithmIdentifier") (λ v. v.algorithm_identifier) (λ s. s.1)
+        (untagged ⟦<AlgorithmIdentifier as AsnType>⟧.meaning)
+        ⟦<AlgorithmIdentifier as PartialEq>⟧.eq ∷
+        required_slot (codes "encrypted") (λ v. v.encrypted) (λ s. s.2)
+        (untagged ⟦<BitString as AsnType>⟧.meaning) ⟦<BitString as PartialEq>⟧.eq ∷ [] };
+
+    fn from_slots(_alloc: Global, slots: Self::Slots) -> Result<Signed<T>, DecodeError> {
+        Ok(Signed {
+            to_be_signed: filled(slots.0, "toBeSigned")?,
+            algorithm_identifier: filled(slots.1, "algorithmIdentifier")?,
+            encrypted: filled(slots.2, "encrypted")?,
+        })
+    }
+}
+
+impl<T: AsnType> FieldTable for Signed<T> {
+    ghost components = { sequence (
+        required (codes "toBeSigned") (λ v. v.to_be_signed) (untagged T.meaning) ∷
+        required (codes "algorithmIdentifier") (λ v. v.algorithm_identifier)
+        (untagged ⟦<AlgorithmIdentifier as AsnType>⟧.meaning) ∷
+        required (codes "encrypted") (λ v. v.encrypted)
+        (untagged ⟦<BitString as AsnType>⟧.meaning) ∷ []) };
+
+    fn field_count() -> usize {
+        3
+    }
+
+    fn field_at(place: usize) -> Option<Field<'static>> {
+        match place {
+            0 => Some(Field::new_required_type::<T>(0, "toBeSigned")),
+            1 => Some(Field::new_required_type::<AlgorithmIdentifier>(1, "algorithmIdentifier")),
+            2 => Some(Field::new_required_type::<BitString>(2, "encrypted")),
+            _ => None,
+        }
+    }
+
+    fn marker_place() -> Option<usize> {
+        None
+    }
+}
+
+impl<T: AsnType> AsnType for Signed<T> {
+    ghost meaning = { constructed_type (codes "SIGNED") ⟦<Signed<T> as FieldTable>⟧.components };
+
+    fn table() -> TypeTable {
+        TypeTable::new(Tag::SEQUENCE, Identifier(Some("SIGNED")))
+    }
+
+    fn is_present(&self) -> bool {
+        true
+    }
+}
+
+impl<T: AsnType> ConstructedType for Signed<T> {
+    ghost agrees = { constructed_agrees };
+}
+
+/// A `Signed` can be inside other types where what is signed can be a component.
+pub fn signed_is_well_tagged<T: AsnType>()
+    ensures { IsWellTagged T.meaning → IsWellTagged ⟦<Signed<T> as AsnType>⟧.meaning }
+{}
+
+/// A `Signed` is valid if and only if what is signed is, and the algorithm.
+pub fn signed_is_valid<T: AsnType>(signed: &Signed<T>)
+    ensures { (accepts : List ℕ → Bool) →
+        ⟦<Signed<T> as AsnType>⟧.meaning.IsValid accepts signed.now ↔
+        (T.meaning.IsValid accepts signed.now.to_be_signed ×
+        IfSome signed.now.algorithm_identifier.parameters (λ parameters. IsTrue (accepts parameters))) }
+{}
+
+impl<T: Encode> Encode for Signed<T> {
+    fn encode_with_tag_and_constraints<E: Encoder>(
+        &self,
+        encoder: &mut E,
+        tag: Tag,
+        _constraints: &Constraints<'_>,
+        name: Identifier,
+    ) -> Result<(), EncodeError> {
+        encoder.encode_sequence(tag, self, name)
+    }
+}
+
+impl<T: Encode> EncodeFields for Signed<T> {
+    fn encode_field<E: Encoder>(&self, place: usize, encoder: &mut E) -> Result<(), EncodeError> {
+        match place {
+            0 => self.to_be_signed.encode(encoder),
+            1 => self.algorithm_identifier.encode(encoder),
+            2 => self.encrypted.encode(encoder),
+            _ => Ok(()),
+        }
+    }
+}
+
+impl<T: Decode> Decode for Signed<T> {
+    fn decode_with_tag_and_constraints<D: Decoder>(
+        decoder: &mut D,
+        tag: Tag,
+        _constraints: &Constraints<'_>,
+    ) -> Result<Signed<T>, DecodeError> {
+        decoder.decode_sequence(tag)
+    }
+}
+
+impl<T: Decode> DecodeFields for Signed<T> {
+    fn decode_fields<D: Decoder>(decoder: &mut D) -> Result<Signed<T>, DecodeError> {
+        Signed::<T>::decode_by_place(decoder)
+    }
+}
+
+impl<T: Decode> DecodeByPlace for Signed<T> {
+    fn decode_field<D: Decoder>(
+        place: usize,
+        slots: &mut Self::Slots,
+        decoder: &mut D,
+    ) -> Result<(), DecodeError> {
+        match place {
+            0 => required(&mut slots.0, decoder, Tagging::Untagged),
+            1 => required(&mut slots.1, decoder, Tagging::Untagged),
+            2 => required(&mut slots.2, decoder, Tagging::Untagged),
+            _ => Ok(()),
+        }
+    }
+
+    ghost agrees = { slots_agree ⟦<Signed<T> as FieldTable>⟧.components };
+}

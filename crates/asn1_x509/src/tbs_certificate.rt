@@ -1,0 +1,296 @@
+//! The part of a certificate that is signed (RFC 5280, 4.1).
+//!
+//! ```text
+//! TBSCertificate ::= SEQUENCE {
+//!     version              [0] EXPLICIT Version DEFAULT v1,
+//!     serialNumber         CertificateSerialNumber,
+//!     signature            AlgorithmIdentifier,
+//!     issuer               Name,
+//!     validity             Validity,
+//!     subject              Name,
+//!     subjectPublicKeyInfo SubjectPublicKeyInfo,
+//!     issuerUniqueID       [1] IMPLICIT UniqueIdentifier OPTIONAL,
+//!     subjectUniqueID      [2] IMPLICIT UniqueIdentifier OPTIONAL,
+//!     extensions           [3] EXPLICIT Extensions OPTIONAL
+//! }
+//! Version ::= INTEGER { v1(0), v2(1), v3(2) }
+//! CertificateSerialNumber ::= INTEGER
+//! UniqueIdentifier ::= BIT STRING
+//! ```
+ghost use Rattle.std.specs.Prelude.{None, Some, [], codes, pos, ◌++◌, ◌∷◌, ◌≡◌};
+ghost use Rattle.asn1_schema.specs.Words.{IsWellTagged, absent, constructed_agrees, constructed_type, context, default_slot, explicitly_tagged, holding, in_root, lines, optional_slot, own_records, presence_mark, required_slot, sequence_head, sequence_of_slots, slots_agree, tagged, universal, untagged};
+
+use crate::algorithm_identifier::AlgorithmIdentifier;
+use crate::extension::Extensions;
+use crate::name::Name;
+use crate::subject_public_key_info::SubjectPublicKeyInfo;
+use crate::validity::Validity;
+use asn1_schema::{
+    AsnType, BitString, Class, Constraints, ConstructedType, Decode, DecodeByPlace, DecodeError,
+    DecodeFields, Decoder, Encode, EncodeError, EncodeFields, Encoder, Field, FieldTable,
+    Identifier, Integer, Slotted, Tag, Tagging, TypeTable, filled, optional, or_default, required,
+};
+use std::alloc::Global;
+
+/// `Version ::= INTEGER { v1(0), v2(1), v3(2) }`
+pub type Version = Integer;
+
+/// `CertificateSerialNumber ::= INTEGER`
+pub type CertificateSerialNumber = Integer;
+
+/// `UniqueIdentifier ::= BIT STRING`
+pub type UniqueIdentifier = BitString;
+
+/// What is signed. Its first component has a default, after an explicit tag.
+#[derive(PartialEq, Eq, Debug, Drop)]
+pub struct TbsCertificate {
+    /// `version [0] EXPLICIT Version DEFAULT v1`
+    pub version: Version,
+    /// `serialNumber CertificateSerialNumber`
+    pub serial_number: CertificateSerialNumber,
+    /// `signature AlgorithmIdentifier`
+    pub signature: AlgorithmIdentifier,
+    /// `issuer Name`
+    pub issuer: Name,
+    /// `validity Validity`
+    pub validity: Validity,
+    /// `subject Name`
+    pub subject: Name,
+    /// `subjectPublicKeyInfo SubjectPublicKeyInfo`
+    pub subject_public_key_info: SubjectPublicKeyInfo,
+    /// `issuerUniqueID [1] IMPLICIT UniqueIdentifier OPTIONAL`
+    pub issuer_unique_id: Option<UniqueIdentifier>,
+    /// `subjectUniqueID [2] IMPLICIT UniqueIdentifier OPTIONAL`
+    pub subject_unique_id: Option<UniqueIdentifier>,
+    /// `extensions [3] EXPLICIT Extensions OPTIONAL`
+    pub extensions: Option<Extensions>,
+}
+
+const VERSION: Tag = Tag {
+    class: Class::Context,
+    value: 0,
+};
+
+const ISSUER_UNIQUE_ID: Tag = Tag {
+    class: Class::Context,
+    value: 1,
+};
+
+const SUBJECT_UNIQUE_ID: Tag = Tag {
+    class: Class::Context,
+    value: 2,
+};
+
+const EXTENSIONS: Tag = Tag {
+    class: Class::Context,
+    value: 3,
+};
+
+impl Slotted for TbsCertificate {
+    type Slots = (
+        Option<Version>,
+        Option<CertificateSerialNumber>,
+        Option<AlgorithmIdentifier>,
+        Option<Name>,
+        Option<Validity>,
+        Option<Name>,
+        Option<SubjectPublicKeyInfo>,
+        Option<UniqueIdentifier>,
+        Option<UniqueIdentifier>,
+        Option<Extensions>,
+    );
+
+    ghost layout = { default_slot (codes "version") (λ v. v.version) (pos 0) (λ s. s.0)
+        (explicitly_tagged (context 0) ⟦<Version as AsnType>⟧.meaning) ⟦<Version as PartialEq>⟧.eq ∷
+        required_slot (codes "serialNumber") (λ v. v.serial_number) (λ s. s.1)
+        (untagged ⟦<CertificateSerialNumber as AsnType>⟧.meaning) ⟦<CertificateSerialNumber as PartialEq>⟧.eq ∷
+        required_slot (codes "signature") (λ v. v.signature) (λ s. s.2)
+        (untagged ⟦<AlgorithmIdentifier as AsnType>⟧.meaning) ⟦<AlgorithmIdentifier as PartialEq>⟧.eq ∷
+        required_slot (codes "issuer") (λ v. v.issuer) (λ s. s.3)
+        (untagged ⟦<Name as AsnType>⟧.meaning) ⟦<Name as PartialEq>⟧.eq ∷
+        required_slot (codes "validity") (λ v. v.validity) (λ s. s.4)
+        (untagged ⟦<Validity as AsnType>⟧.meaning) ⟦<Validity as PartialEq>⟧.eq ∷
+        required_slot (codes "subject") (λ v. v.subject) (λ s. s.5)
+        (untagged ⟦<Name as AsnType>⟧.meaning) ⟦<Name as PartialEq>⟧.eq ∷
+        required_slot (codes "subjectPublicKeyInfo") (λ v. v.subject_public_key_info) (λ s. s.6)
+        (untagged ⟦<SubjectPublicKeyInfo as AsnType>⟧.meaning) ⟦<SubjectPublicKeyInfo as PartialEq>⟧.eq ∷
+        optional_slot (codes "issuerUniqueID") (λ v. v.issuer_unique_id) (λ s. s.7)
+        (tagged (context 1) ⟦<UniqueIdentifier as AsnType>⟧.meaning) ⟦<UniqueIdentifier as PartialEq>⟧.eq ∷
+        optional_slot (codes "subjectUniqueID") (λ v. v.subject_unique_id) (λ s. s.8)
+        (tagged (context 2) ⟦<UniqueIdentifier as AsnType>⟧.meaning) ⟦<UniqueIdentifier as PartialEq>⟧.eq ∷
+        optional_slot (codes "extensions") (λ v. v.extensions) (λ s. s.9)
+        (explicitly_tagged (context 3) ⟦<Extensions as AsnType>⟧.meaning) ⟦<Extensions as PartialEq>⟧.eq ∷ [] };
+
+    fn from_slots(_alloc: Global, slots: Self::Slots) -> Result<TbsCertificate, DecodeError> {
+        Ok(TbsCertificate {
+            version: or_default(slots.0, Integer::from_i128(0)),
+            serial_number: filled(slots.1, "serialNumber")?,
+            signature: filled(slots.2, "signature")?,
+            issuer: filled(slots.3, "issuer")?,
+            validity: filled(slots.4, "validity")?,
+            subject: filled(slots.5, "subject")?,
+            subject_public_key_info: filled(slots.6, "subjectPublicKeyInfo")?,
+            issuer_unique_id: slots.7,
+            subject_unique_id: slots.8,
+            extensions: slots.9,
+        })
+    }
+}
+
+impl FieldTable for TbsCertificate {
+    ghost components = { sequence_of_slots ⟦<TbsCertificate as Slotted>⟧.layout };
+
+    fn field_count() -> usize {
+        10
+    }
+
+    fn field_at(place: usize) -> Option<Field<'static>> {
+        match place {
+            0 => Some(Field::new_default_explicit(0, VERSION, "version")),
+            1 => Some(Field::new_required_type::<CertificateSerialNumber>(1, "serialNumber")),
+            2 => Some(Field::new_required_type::<AlgorithmIdentifier>(2, "signature")),
+            3 => Some(Field::new_required_type::<Name>(3, "issuer")),
+            4 => Some(Field::new_required_type::<Validity>(4, "validity")),
+            5 => Some(Field::new_required_type::<Name>(5, "subject")),
+            6 => Some(Field::new_required_type::<SubjectPublicKeyInfo>(6, "subjectPublicKeyInfo")),
+            7 => Some(Field::new_optional_type_with_tag::<UniqueIdentifier>(
+                7,
+                ISSUER_UNIQUE_ID,
+                "issuerUniqueID",
+            )),
+            8 => Some(Field::new_optional_type_with_tag::<UniqueIdentifier>(
+                8,
+                SUBJECT_UNIQUE_ID,
+                "subjectUniqueID",
+            )),
+            9 => Some(Field::new_optional_explicit(9, EXTENSIONS, "extensions")),
+            _ => None,
+        }
+    }
+
+    fn marker_place() -> Option<usize> {
+        None
+    }
+}
+
+impl AsnType for TbsCertificate {
+    ghost meaning = { constructed_type (codes "TBSCertificate") ⟦<TbsCertificate as FieldTable>⟧.components };
+
+    fn table() -> TypeTable {
+        TypeTable::new(Tag::SEQUENCE, Identifier(Some("TBSCertificate")))
+    }
+
+    fn is_present(&self) -> bool {
+        true
+    }
+}
+
+impl ConstructedType for TbsCertificate {
+    ghost agrees = { constructed_agrees };
+}
+
+/// A `TbsCertificate` can be inside other types: what follows a component that may be absent begins with another tag.
+pub fn tbs_certificate_is_well_tagged()
+    ensures { IsWellTagged ⟦<TbsCertificate as AsnType>⟧.meaning }
+{}
+
+impl Encode for TbsCertificate {
+    fn encode_with_tag_and_constraints<E: Encoder>(
+        &self,
+        encoder: &mut E,
+        tag: Tag,
+        _constraints: &Constraints<'_>,
+        name: Identifier,
+    ) -> Result<(), EncodeError> {
+        encoder.encode_sequence(tag, self, name)
+    }
+}
+
+impl EncodeFields for TbsCertificate {
+    fn encode_field<E: Encoder>(&self, place: usize, encoder: &mut E) -> Result<(), EncodeError> {
+        match place {
+            0 => encoder.encode_default_with_explicit_prefix(
+                VERSION,
+                &self.version,
+                |_| Ok(Integer::from_i128(0)),
+                Version::identifier(),
+            ),
+            1 => self.serial_number.encode(encoder),
+            2 => self.signature.encode(encoder),
+            3 => self.issuer.encode(encoder),
+            4 => self.validity.encode(encoder),
+            5 => self.subject.encode(encoder),
+            6 => self.subject_public_key_info.encode(encoder),
+            7 => self
+                .issuer_unique_id
+                .encode_with_tag(encoder, ISSUER_UNIQUE_ID),
+            8 => self
+                .subject_unique_id
+                .encode_with_tag(encoder, SUBJECT_UNIQUE_ID),
+            9 => encoder.encode_optional_with_explicit_prefix(
+                EXTENSIONS,
+                self.extensions.as_ref(),
+                Extensions::identifier(),
+            ),
+            _ => Ok(()),
+        }
+    }
+}
+
+impl Decode for TbsCertificate {
+    fn decode_with_tag_and_constraints<D: Decoder>(
+        decoder: &mut D,
+        tag: Tag,
+        _constraints: &Constraints<'_>,
+    ) -> Result<TbsCertificate, DecodeError> {
+        decoder.decode_sequence(tag)
+    }
+}
+
+impl DecodeFields for TbsCertificate {
+    fn decode_fields<D: Decoder>(decoder: &mut D) -> Result<TbsCertificate, DecodeError> {
+        TbsCertificate::decode_by_place(decoder)
+    }
+}
+
+impl DecodeByPlace for TbsCertificate {
+    fn decode_field<D: Decoder>(
+        place: usize,
+        slots: &mut Self::Slots,
+        decoder: &mut D,
+    ) -> Result<(), DecodeError> {
+        match place {
+            0 => optional(&mut slots.0, decoder, Tagging::Explicit(VERSION)),
+            1 => required(&mut slots.1, decoder, Tagging::Untagged),
+            2 => required(&mut slots.2, decoder, Tagging::Untagged),
+            3 => required(&mut slots.3, decoder, Tagging::Untagged),
+            4 => required(&mut slots.4, decoder, Tagging::Untagged),
+            5 => required(&mut slots.5, decoder, Tagging::Untagged),
+            6 => required(&mut slots.6, decoder, Tagging::Untagged),
+            7 => optional(&mut slots.7, decoder, Tagging::Tagged(ISSUER_UNIQUE_ID)),
+            8 => optional(&mut slots.8, decoder, Tagging::Tagged(SUBJECT_UNIQUE_ID)),
+            9 => optional(&mut slots.9, decoder, Tagging::Explicit(EXTENSIONS)),
+            _ => Ok(()),
+        }
+    }
+
+    ghost agrees = { slots_agree ⟦<TbsCertificate as FieldTable>⟧.components };
+}
+
+/// What a certificate of the first version without unique names and extensions is to every codec: none of the four is written.
+pub fn first_version_is_absent(certificate: &TbsCertificate)
+    ensures { certificate.now.version ≡ pos 0 → certificate.now.issuer_unique_id ≡ None →
+        certificate.now.subject_unique_id ≡ None → certificate.now.extensions ≡ None →
+        own_records ⟦<TbsCertificate as AsnType>⟧.meaning certificate.now ≡
+        holding (sequence_head (universal 16) (lines ⟦<TbsCertificate as FieldTable>⟧.components)
+        (Some (codes "TBSCertificate"))) (presence_mark (absent in_root (context 0)) ∷
+        (own_records ⟦<Integer as AsnType>⟧.meaning certificate.now.serial_number ++
+        (own_records ⟦<AlgorithmIdentifier as AsnType>⟧.meaning certificate.now.signature ++
+        (own_records ⟦<Name as AsnType>⟧.meaning certificate.now.issuer ++
+        (own_records ⟦<Validity as AsnType>⟧.meaning certificate.now.validity ++
+        (own_records ⟦<Name as AsnType>⟧.meaning certificate.now.subject ++
+        (own_records ⟦<SubjectPublicKeyInfo as AsnType>⟧.meaning
+        certificate.now.subject_public_key_info ++
+        (presence_mark (absent in_root (context 1)) ∷ presence_mark (absent in_root (context 2)) ∷
+        presence_mark (absent in_root (context 3)) ∷ [])))))))) ∷ [] }
+{}

@@ -1,0 +1,131 @@
+//! `Time ::= CHOICE { utcTime UTCTime, generalTime GeneralizedTime }`
+ghost use Rattle.std.specs.Prelude.{[], codes, refl, ◌∷◌};
+ghost use Rattle.asn1_schema.specs.Words.{IsWellTagged, cases_agree, choice_agrees, choice_of, choice_of_cases, inl, inr, untagged, variant};
+ghost use Rattle.asn1_x509.specs.declared.time.Time.TheVariants.{Utc, General};
+
+use asn1_schema::{
+    AsnType, Choice, ChoiceType, Constraints, Decode, DecodeChoice, DecodeChoiceByPlace,
+    DecodeError, Decoder, Encode, EncodeChoice, EncodeError, Encoder, GeneralizedTime, HasCases,
+    Identifier, Tag, TagTree, Tagging, TypeTable, UtcTime, alternative,
+};
+
+/// A point in time, in one of two kinds of text.
+#[derive(PartialEq, Eq, Debug, Drop)]
+pub enum Time {
+    /// `utcTime UTCTime`
+    Utc(UtcTime),
+    /// `generalTime GeneralizedTime`
+    General(GeneralizedTime),
+}
+
+/// The trees of the alternatives.
+const TIME: &[TagTree<'static>] = &[
+    TagTree::Leaf(Tag::UTC_TIME),
+    TagTree::Leaf(Tag::GENERALIZED_TIME),
+];
+
+impl HasCases for Time {
+    ghost cases = { variant (codes "utcTime") Utc (untagged ⟦<UtcTime as AsnType>⟧.meaning)
+        ⟦<UtcTime as PartialEq>⟧.eq ∷
+        variant (codes "generalTime") General (untagged ⟦<GeneralizedTime as AsnType>⟧.meaning)
+        ⟦<GeneralizedTime as PartialEq>⟧.eq ∷ [] };
+
+    ghost case_of = { elim [ Utc utc ↦ inl utc | General general ↦ inr (inl general) ] };
+}
+
+impl Choice for Time {
+    ghost alternatives = { choice_of_cases ⟦<Time as HasCases>⟧.cases };
+
+    ghost pick = { ⟦<Time as HasCases>⟧.case_of };
+
+    fn variants() -> &'static [TagTree<'static>] {
+        TIME
+    }
+
+    fn extended_variants() -> Option<&'static [TagTree<'static>]> {
+        None
+    }
+
+    fn identifiers() -> &'static [&'static str] {
+        &["utcTime", "generalTime"]
+    }
+}
+
+impl AsnType for Time {
+    ghost meaning = { choice_of (codes "Time") ⟦<Time as Choice>⟧.alternatives ⟦<Time as Choice>⟧.pick };
+
+    fn table() -> TypeTable {
+        TypeTable::choice(Identifier(Some("Time")), TIME)
+    }
+
+    fn is_present(&self) -> bool {
+        true
+    }
+}
+
+impl ChoiceType for Time {
+    ghost agrees = { choice_agrees };
+}
+
+/// A `Time` can be inside other types: the tags of its alternatives are distinct.
+pub fn time_is_well_tagged()
+    ensures { IsWellTagged ⟦<Time as AsnType>⟧.meaning }
+{}
+
+impl Encode for Time {
+    fn encode_with_tag_and_constraints<E: Encoder>(
+        &self,
+        encoder: &mut E,
+        tag: Tag,
+        constraints: &Constraints<'_>,
+        name: Identifier,
+    ) -> Result<(), EncodeError> {
+        encoder.encode_choice_with_tag(tag, constraints, self, name)
+    }
+}
+
+impl EncodeChoice for Time {
+    fn chosen_tag(&self) -> Tag {
+        match self {
+            Time::Utc(_) => Tag::UTC_TIME,
+            Time::General(_) => Tag::GENERALIZED_TIME,
+        }
+    }
+
+    fn encode_alternative<E: Encoder>(&self, encoder: &mut E) -> Result<(), EncodeError> {
+        match self {
+            Time::Utc(utc) => utc.encode(encoder),
+            Time::General(general) => general.encode(encoder),
+        }
+    }
+}
+
+impl Decode for Time {
+    fn decode_with_tag_and_constraints<D: Decoder>(
+        decoder: &mut D,
+        tag: Tag,
+        constraints: &Constraints<'_>,
+    ) -> Result<Time, DecodeError> {
+        decoder.decode_choice_with_tag(tag, constraints)
+    }
+}
+
+impl DecodeChoice for Time {
+    fn from_tag<D: Decoder>(decoder: &mut D, tag: Tag) -> Result<Time, DecodeError> {
+        Time::from_tag_by_place(decoder, tag)
+    }
+}
+
+impl DecodeChoiceByPlace for Time {
+    fn decode_alternative<D: Decoder>(place: usize, decoder: &mut D) -> Result<Self, DecodeError> {
+        match place {
+            0 => Ok(Time::Utc(alternative(decoder, Tagging::Untagged)?)),
+            1 => Ok(Time::General(alternative(decoder, Tagging::Untagged)?)),
+            _ => Err(DecodeError::NoValidChoice("Time")),
+        }
+    }
+
+    ghost agrees = { λ v. cases_agree ⟦<Time as HasCases>⟧.cases (⟦<Time as HasCases>⟧.case_of v) };
+
+    ghost made = { elim [ Utc x ↦ (refl, λ _. refl) | General x ↦ (refl, λ _. refl) ] };
+}

@@ -1,0 +1,131 @@
+//! `Validity ::= SEQUENCE { notBefore Time, notAfter Time }`
+ghost use Rattle.std.specs.Prelude.{[], codes, ◌∷◌};
+ghost use Rattle.asn1_schema.specs.Words.{IsWellTagged, constructed_agrees, constructed_type, required_slot, sequence_of_slots, slots_agree, untagged};
+
+use crate::time::Time;
+use asn1_schema::{
+    AsnType, Constraints, ConstructedType, Decode, DecodeByPlace, DecodeError, DecodeFields,
+    Decoder, Encode, EncodeError, EncodeFields, Encoder, Field, FieldTable, Identifier, Slotted,
+    Tag, Tagging, TypeTable, filled, required,
+};
+use std::alloc::Global;
+
+/// From when to when a certificate is valid.
+#[derive(PartialEq, Eq, Debug, Drop)]
+pub struct Validity {
+    /// `notBefore Time`
+    pub not_before: Time,
+    /// `notAfter Time`
+    pub not_after: Time,
+}
+
+impl Slotted for Validity {
+    type Slots = (Option<Time>, Option<Time>);
+
+    ghost layout = { required_slot (codes "notBefore") (λ v. v.not_before) (λ s. s.0)
+        (untagged ⟦<Time as AsnType>⟧.meaning) ⟦<Time as PartialEq>⟧.eq ∷
+        required_slot (codes "notAfter") (λ v. v.not_after) (λ s. s.1)
+        (untagged ⟦<Time as AsnType>⟧.meaning) ⟦<Time as PartialEq>⟧.eq ∷ [] };
+
+    fn from_slots(_alloc: Global, slots: Self::Slots) -> Result<Validity, DecodeError> {
+        Ok(Validity {
+            not_before: filled(slots.0, "notBefore")?,
+            not_after: filled(slots.1, "notAfter")?,
+        })
+    }
+}
+
+impl FieldTable for Validity {
+    ghost components = { sequence_of_slots ⟦<Validity as Slotted>⟧.layout };
+
+    fn field_count() -> usize {
+        2
+    }
+
+    fn field_at(place: usize) -> Option<Field<'static>> {
+        match place {
+            0 => Some(Field::new_required_type::<Time>(0, "notBefore")),
+            1 => Some(Field::new_required_type::<Time>(1, "notAfter")),
+            _ => None,
+        }
+    }
+
+    fn marker_place() -> Option<usize> {
+        None
+    }
+}
+
+impl AsnType for Validity {
+    ghost meaning = { constructed_type (codes "Validity") ⟦<Validity as FieldTable>⟧.components };
+
+    fn table() -> TypeTable {
+        TypeTable::new(Tag::SEQUENCE, Identifier(Some("Validity")))
+    }
+
+    fn is_present(&self) -> bool {
+        true
+    }
+}
+
+impl ConstructedType for Validity {
+    ghost agrees = { constructed_agrees };
+}
+
+/// A `Validity` can be inside other types.
+pub fn validity_is_well_tagged()
+    ensures { IsWellTagged ⟦<Validity as AsnType>⟧.meaning }
+{}
+
+impl Encode for Validity {
+    fn encode_with_tag_and_constraints<E: Encoder>(
+        &self,
+        encoder: &mut E,
+        tag: Tag,
+        _constraints: &Constraints<'_>,
+        name: Identifier,
+    ) -> Result<(), EncodeError> {
+        encoder.encode_sequence(tag, self, name)
+    }
+}
+
+impl EncodeFields for Validity {
+    fn encode_field<E: Encoder>(&self, place: usize, encoder: &mut E) -> Result<(), EncodeError> {
+        match place {
+            0 => self.not_before.encode(encoder),
+            1 => self.not_after.encode(encoder),
+            _ => Ok(()),
+        }
+    }
+}
+
+impl Decode for Validity {
+    fn decode_with_tag_and_constraints<D: Decoder>(
+        decoder: &mut D,
+        tag: Tag,
+        _constraints: &Constraints<'_>,
+    ) -> Result<Validity, DecodeError> {
+        decoder.decode_sequence(tag)
+    }
+}
+
+impl DecodeFields for Validity {
+    fn decode_fields<D: Decoder>(decoder: &mut D) -> Result<Validity, DecodeError> {
+        Validity::decode_by_place(decoder)
+    }
+}
+
+impl DecodeByPlace for Validity {
+    fn decode_field<D: Decoder>(
+        place: usize,
+        slots: &mut Self::Slots,
+        decoder: &mut D,
+    ) -> Result<(), DecodeError> {
+        match place {
+            0 => required(&mut slots.0, decoder, Tagging::Untagged),
+            1 => required(&mut slots.1, decoder, Tagging::Untagged),
+            _ => Ok(()),
+        }
+    }
+
+    ghost agrees = { slots_agree ⟦<Validity as FieldTable>⟧.components };
+}

@@ -1,0 +1,135 @@
+//! `AnotherName ::= SEQUENCE { type-id OBJECT IDENTIFIER, value [0] EXPLICIT ANY DEFINED BY type-id }`
+ghost use Rattle.std.specs.Prelude.{[], codes, ◌∷◌};
+ghost use Rattle.asn1_schema.specs.Words.{IsWellTagged, constructed_agrees, constructed_type, context, explicitly_tagged, required_slot, sequence_of_slots, slots_agree, untagged};
+
+use asn1_schema::{
+    Any, AsnType, Class, Constraints, ConstructedType, Decode, DecodeByPlace, DecodeError,
+    DecodeFields, Decoder, Encode, EncodeError, EncodeFields, Encoder, Field, FieldTable,
+    Identifier, ObjectIdentifier, Slotted, Tag, Tagging, TypeTable, filled, required,
+};
+use std::alloc::Global;
+
+/// A name of a kind that has a name of its own.
+#[derive(PartialEq, Eq, Debug, Drop)]
+pub struct AnotherName {
+    /// `type-id OBJECT IDENTIFIER`
+    pub type_id: ObjectIdentifier,
+    /// `value [0] EXPLICIT ANY DEFINED BY type-id`
+    pub value: Any,
+}
+
+const VALUE: Tag = Tag {
+    class: Class::Context,
+    value: 0,
+};
+
+impl Slotted for AnotherName {
+    type Slots = (Option<ObjectIdentifier>, Option<Any>);
+
+    ghost layout = { required_slot (codes "type-id") (λ v. v.type_id) (λ s. s.0)
+        (untagged ⟦<ObjectIdentifier as AsnType>⟧.meaning) ⟦<ObjectIdentifier as PartialEq>⟧.eq ∷
+        required_slot (codes "value") (λ v. v.value) (λ s. s.1)
+        (explicitly_tagged (context 0) ⟦<Any as AsnType>⟧.meaning) ⟦<Any as PartialEq>⟧.eq ∷ [] };
+
+    fn from_slots(_alloc: Global, slots: Self::Slots) -> Result<AnotherName, DecodeError> {
+        Ok(AnotherName {
+            type_id: filled(slots.0, "type-id")?,
+            value: filled(slots.1, "value")?,
+        })
+    }
+}
+
+impl FieldTable for AnotherName {
+    ghost components = { sequence_of_slots ⟦<AnotherName as Slotted>⟧.layout };
+
+    fn field_count() -> usize {
+        2
+    }
+
+    fn field_at(place: usize) -> Option<Field<'static>> {
+        match place {
+            0 => Some(Field::new_required_type::<ObjectIdentifier>(0, "type-id")),
+            1 => Some(Field::new_required_explicit(1, VALUE, "value")),
+            _ => None,
+        }
+    }
+
+    fn marker_place() -> Option<usize> {
+        None
+    }
+}
+
+impl AsnType for AnotherName {
+    ghost meaning = { constructed_type (codes "AnotherName") ⟦<AnotherName as FieldTable>⟧.components };
+
+    fn table() -> TypeTable {
+        TypeTable::new(Tag::SEQUENCE, Identifier(Some("AnotherName")))
+    }
+
+    fn is_present(&self) -> bool {
+        true
+    }
+}
+
+impl ConstructedType for AnotherName {
+    ghost agrees = { constructed_agrees };
+}
+
+/// An `AnotherName` can be inside other types.
+pub fn another_name_is_well_tagged()
+    ensures { IsWellTagged ⟦<AnotherName as AsnType>⟧.meaning }
+{}
+
+impl Encode for AnotherName {
+    fn encode_with_tag_and_constraints<E: Encoder>(
+        &self,
+        encoder: &mut E,
+        tag: Tag,
+        _constraints: &Constraints<'_>,
+        name: Identifier,
+    ) -> Result<(), EncodeError> {
+        encoder.encode_sequence(tag, self, name)
+    }
+}
+
+impl EncodeFields for AnotherName {
+    fn encode_field<E: Encoder>(&self, place: usize, encoder: &mut E) -> Result<(), EncodeError> {
+        match place {
+            0 => self.type_id.encode(encoder),
+            1 => encoder.encode_explicit_prefix(VALUE, &self.value, Any::identifier()),
+            _ => Ok(()),
+        }
+    }
+}
+
+impl Decode for AnotherName {
+    fn decode_with_tag_and_constraints<D: Decoder>(
+        decoder: &mut D,
+        tag: Tag,
+        _constraints: &Constraints<'_>,
+    ) -> Result<AnotherName, DecodeError> {
+        decoder.decode_sequence(tag)
+    }
+}
+
+impl DecodeFields for AnotherName {
+    fn decode_fields<D: Decoder>(decoder: &mut D) -> Result<AnotherName, DecodeError> {
+        AnotherName::decode_by_place(decoder)
+    }
+}
+
+impl DecodeByPlace for AnotherName {
+    fn decode_field<D: Decoder>(
+        place: usize,
+        slots: &mut Self::Slots,
+        decoder: &mut D,
+    ) -> Result<(), DecodeError> {
+        match place {
+            0 => required(&mut slots.0, decoder, Tagging::Untagged),
+            1 => required(&mut slots.1, decoder, Tagging::Explicit(VALUE)),
+            _ => Ok(()),
+        }
+    }
+
+    ghost agrees = { slots_agree ⟦<AnotherName as FieldTable>⟧.components };
+}

@@ -1,0 +1,195 @@
+//! The key of an authority (RFC 5280, 4.2.1.1).
+//!
+//! ```text
+//! AuthorityKeyIdentifier ::= SEQUENCE {
+//!     keyIdentifier             [0] KeyIdentifier OPTIONAL,
+//!     authorityCertIssuer       [1] GeneralNames OPTIONAL,
+//!     authorityCertSerialNumber [2] CertificateSerialNumber OPTIONAL
+//! }
+//! ```
+ghost use Rattle.std.specs.Prelude.{[], codes, ◌∷◌};
+ghost use Rattle.asn1_schema.specs.Words.{IsWellTagged, constructed_agrees, constructed_type, context, optional_slot, sequence_of_slots, slots_agree, tagged};
+
+use crate::general_name::GeneralNames;
+use crate::key_identifier::KeyIdentifier;
+use asn1_schema::{
+    AsnType, Class, Constraints, ConstructedType, Decode, DecodeByPlace, DecodeError, DecodeFields,
+    Decoder, Encode, EncodeError, EncodeFields, Encoder, Field, FieldTable, Identifier, Slotted,
+    Tag, Tagging, TypeTable, optional,
+};
+use asn1_x509::CertificateSerialNumber;
+use std::alloc::Global;
+
+/// Which key an authority signed with.
+#[derive(PartialEq, Eq, Debug, Drop)]
+pub struct AuthorityKeyIdentifier {
+    /// `keyIdentifier [0] KeyIdentifier OPTIONAL`
+    pub key_identifier: Option<KeyIdentifier>,
+    /// `authorityCertIssuer [1] GeneralNames OPTIONAL`
+    pub authority_cert_issuer: Option<GeneralNames>,
+    /// `authorityCertSerialNumber [2] CertificateSerialNumber OPTIONAL`
+    pub authority_cert_serial_number: Option<CertificateSerialNumber>,
+}
+
+const KEY_IDENTIFIER: Tag = Tag {
+    class: Class::Context,
+    value: 0,
+};
+
+const AUTHORITY_CERT_ISSUER: Tag = Tag {
+    class: Class::Context,
+    value: 1,
+};
+
+const AUTHORITY_CERT_SERIAL_NUMBER: Tag = Tag {
+    class: Class::Context,
+    value: 2,
+};
+
+impl Slotted for AuthorityKeyIdentifier {
+    type Slots = (
+        Option<KeyIdentifier>,
+        Option<GeneralNames>,
+        Option<CertificateSerialNumber>,
+    );
+
+    ghost layout = { optional_slot (codes "keyIdentifier") (λ v. v.key_identifier) (λ s. s.0)
+        (tagged (context 0) ⟦<KeyIdentifier as AsnType>⟧.meaning) ⟦<KeyIdentifier as PartialEq>⟧.eq ∷
+        optional_slot (codes "authorityCertIssuer") (λ v. v.authority_cert_issuer) (λ s. s.1)
+        (tagged (context 1) ⟦<GeneralNames as AsnType>⟧.meaning) ⟦<GeneralNames as PartialEq>⟧.eq ∷
+        optional_slot (codes "authorityCertSerialNumber") (λ v. v.authority_cert_serial_number) (λ s. s.2)
+        (tagged (context 2) ⟦<CertificateSerialNumber as AsnType>⟧.meaning) ⟦<CertificateSerialNumber as PartialEq>⟧.eq ∷ [] };
+
+    fn from_slots(
+        _alloc: Global,
+        slots: Self::Slots,
+    ) -> Result<AuthorityKeyIdentifier, DecodeError> {
+        Ok(AuthorityKeyIdentifier {
+            key_identifier: slots.0,
+            authority_cert_issuer: slots.1,
+            authority_cert_serial_number: slots.2,
+        })
+    }
+}
+
+impl FieldTable for AuthorityKeyIdentifier {
+    ghost components = { sequence_of_slots ⟦<AuthorityKeyIdentifier as Slotted>⟧.layout };
+
+    fn field_count() -> usize {
+        3
+    }
+
+    fn field_at(place: usize) -> Option<Field<'static>> {
+        match place {
+            0 => Some(Field::new_optional_type_with_tag::<KeyIdentifier>(
+                0,
+                KEY_IDENTIFIER,
+                "keyIdentifier",
+            )),
+            1 => Some(Field::new_optional_type_with_tag::<GeneralNames>(
+                1,
+                AUTHORITY_CERT_ISSUER,
+                "authorityCertIssuer",
+            )),
+            2 => Some(Field::new_optional_type_with_tag::<CertificateSerialNumber>(
+                2,
+                AUTHORITY_CERT_SERIAL_NUMBER,
+                "authorityCertSerialNumber",
+            )),
+            _ => None,
+        }
+    }
+
+    fn marker_place() -> Option<usize> {
+        None
+    }
+}
+
+impl AsnType for AuthorityKeyIdentifier {
+    ghost meaning = { constructed_type (codes "AuthorityKeyIdentifier") ⟦<AuthorityKeyIdentifier as FieldTable>⟧.components };
+
+    fn table() -> TypeTable {
+        TypeTable::new(Tag::SEQUENCE, Identifier(Some("AuthorityKeyIdentifier")))
+    }
+
+    fn is_present(&self) -> bool {
+        true
+    }
+}
+
+impl ConstructedType for AuthorityKeyIdentifier {
+    ghost agrees = { constructed_agrees };
+}
+
+/// An `AuthorityKeyIdentifier` can be inside other types.
+pub fn authority_key_identifier_is_well_tagged()
+    ensures { IsWellTagged ⟦<AuthorityKeyIdentifier as AsnType>⟧.meaning }
+{}
+
+impl Encode for AuthorityKeyIdentifier {
+    fn encode_with_tag_and_constraints<E: Encoder>(
+        &self,
+        encoder: &mut E,
+        tag: Tag,
+        _constraints: &Constraints<'_>,
+        name: Identifier,
+    ) -> Result<(), EncodeError> {
+        encoder.encode_sequence(tag, self, name)
+    }
+}
+
+impl EncodeFields for AuthorityKeyIdentifier {
+    fn encode_field<E: Encoder>(&self, place: usize, encoder: &mut E) -> Result<(), EncodeError> {
+        match place {
+            0 => self.key_identifier.encode_with_tag(encoder, KEY_IDENTIFIER),
+            1 => self
+                .authority_cert_issuer
+                .encode_with_tag(encoder, AUTHORITY_CERT_ISSUER),
+            2 => self
+                .authority_cert_serial_number
+                .encode_with_tag(encoder, AUTHORITY_CERT_SERIAL_NUMBER),
+            _ => Ok(()),
+        }
+    }
+}
+
+impl Decode for AuthorityKeyIdentifier {
+    fn decode_with_tag_and_constraints<D: Decoder>(
+        decoder: &mut D,
+        tag: Tag,
+        _constraints: &Constraints<'_>,
+    ) -> Result<AuthorityKeyIdentifier, DecodeError> {
+        decoder.decode_sequence(tag)
+    }
+}
+
+impl DecodeFields for AuthorityKeyIdentifier {
+    fn decode_fields<D: Decoder>(decoder: &mut D) -> Result<AuthorityKeyIdentifier, DecodeError> {
+        AuthorityKeyIdentifier::decode_by_place(decoder)
+    }
+}
+
+impl DecodeByPlace for AuthorityKeyIdentifier {
+    fn decode_field<D: Decoder>(
+        place: usize,
+        slots: &mut Self::Slots,
+        decoder: &mut D,
+    ) -> Result<(), DecodeError> {
+        match place {
+            0 => optional(&mut slots.0, decoder, Tagging::Tagged(KEY_IDENTIFIER)),
+            1 => optional(
+                &mut slots.1,
+                decoder,
+                Tagging::Tagged(AUTHORITY_CERT_ISSUER),
+            ),
+            2 => optional(
+                &mut slots.2,
+                decoder,
+                Tagging::Tagged(AUTHORITY_CERT_SERIAL_NUMBER),
+            ),
+            _ => Ok(()),
+        }
+    }
+
+    ghost agrees = { slots_agree ⟦<AuthorityKeyIdentifier as FieldTable>⟧.components };
+}

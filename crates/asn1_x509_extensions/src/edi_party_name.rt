@@ -1,0 +1,149 @@
+//! `EDIPartyName ::= SEQUENCE { nameAssigner [0] DirectoryString OPTIONAL, partyName [1] DirectoryString }`
+ghost use Rattle.std.specs.Prelude.{[], codes, ◌∷◌};
+ghost use Rattle.asn1_schema.specs.Words.{IsWellTagged, constructed_agrees, constructed_type, context, optional_slot, required_slot, sequence_of_slots, slots_agree, tagged};
+
+use asn1_schema::{
+    AsnType, Class, Constraints, ConstructedType, Decode, DecodeByPlace, DecodeError, DecodeFields,
+    Decoder, Encode, EncodeError, EncodeFields, Encoder, Field, FieldTable, Identifier, Slotted,
+    Tag, Tagging, TypeTable, filled, optional, required,
+};
+use asn1_x509::DirectoryString;
+use std::alloc::Global;
+
+/// A party of electronic data interchange, and perhaps who named it.
+#[derive(PartialEq, Eq, Debug, Drop)]
+pub struct EdiPartyName {
+    /// `nameAssigner [0] DirectoryString OPTIONAL`
+    pub name_assigner: Option<DirectoryString>,
+    /// `partyName [1] DirectoryString`
+    pub party_name: DirectoryString,
+}
+
+const NAME_ASSIGNER: Tag = Tag {
+    class: Class::Context,
+    value: 0,
+};
+
+const PARTY_NAME: Tag = Tag {
+    class: Class::Context,
+    value: 1,
+};
+
+impl Slotted for EdiPartyName {
+    type Slots = (Option<DirectoryString>, Option<DirectoryString>);
+
+    ghost layout = { optional_slot (codes "nameAssigner") (λ v. v.name_assigner) (λ s. s.0)
+        (tagged (context 0) ⟦<DirectoryString as AsnType>⟧.meaning) ⟦<DirectoryString as PartialEq>⟧.eq ∷
+        required_slot (codes "partyName") (λ v. v.party_name) (λ s. s.1)
+        (tagged (context 1) ⟦<DirectoryString as AsnType>⟧.meaning) ⟦<DirectoryString as PartialEq>⟧.eq ∷ [] };
+
+    fn from_slots(_alloc: Global, slots: Self::Slots) -> Result<EdiPartyName, DecodeError> {
+        Ok(EdiPartyName {
+            name_assigner: slots.0,
+            party_name: filled(slots.1, "partyName")?,
+        })
+    }
+}
+
+impl FieldTable for EdiPartyName {
+    ghost components = { sequence_of_slots ⟦<EdiPartyName as Slotted>⟧.layout };
+
+    fn field_count() -> usize {
+        2
+    }
+
+    fn field_at(place: usize) -> Option<Field<'static>> {
+        match place {
+            0 => Some(Field::new_optional_type_with_tag::<DirectoryString>(
+                0,
+                NAME_ASSIGNER,
+                "nameAssigner",
+            )),
+            1 => Some(Field::new_required_type_with_tag::<DirectoryString>(
+                1,
+                PARTY_NAME,
+                "partyName",
+            )),
+            _ => None,
+        }
+    }
+
+    fn marker_place() -> Option<usize> {
+        None
+    }
+}
+
+impl AsnType for EdiPartyName {
+    ghost meaning = { constructed_type (codes "EDIPartyName") ⟦<EdiPartyName as FieldTable>⟧.components };
+
+    fn table() -> TypeTable {
+        TypeTable::new(Tag::SEQUENCE, Identifier(Some("EDIPartyName")))
+    }
+
+    fn is_present(&self) -> bool {
+        true
+    }
+}
+
+impl ConstructedType for EdiPartyName {
+    ghost agrees = { constructed_agrees };
+}
+
+/// An `EdiPartyName` can be inside other types.
+pub fn edi_party_name_is_well_tagged()
+    ensures { IsWellTagged ⟦<EdiPartyName as AsnType>⟧.meaning }
+{}
+
+impl Encode for EdiPartyName {
+    fn encode_with_tag_and_constraints<E: Encoder>(
+        &self,
+        encoder: &mut E,
+        tag: Tag,
+        _constraints: &Constraints<'_>,
+        name: Identifier,
+    ) -> Result<(), EncodeError> {
+        encoder.encode_sequence(tag, self, name)
+    }
+}
+
+impl EncodeFields for EdiPartyName {
+    fn encode_field<E: Encoder>(&self, place: usize, encoder: &mut E) -> Result<(), EncodeError> {
+        match place {
+            0 => self.name_assigner.encode_with_tag(encoder, NAME_ASSIGNER),
+            1 => self.party_name.encode_with_tag(encoder, PARTY_NAME),
+            _ => Ok(()),
+        }
+    }
+}
+
+impl Decode for EdiPartyName {
+    fn decode_with_tag_and_constraints<D: Decoder>(
+        decoder: &mut D,
+        tag: Tag,
+        _constraints: &Constraints<'_>,
+    ) -> Result<EdiPartyName, DecodeError> {
+        decoder.decode_sequence(tag)
+    }
+}
+
+impl DecodeFields for EdiPartyName {
+    fn decode_fields<D: Decoder>(decoder: &mut D) -> Result<EdiPartyName, DecodeError> {
+        EdiPartyName::decode_by_place(decoder)
+    }
+}
+
+impl DecodeByPlace for EdiPartyName {
+    fn decode_field<D: Decoder>(
+        place: usize,
+        slots: &mut Self::Slots,
+        decoder: &mut D,
+    ) -> Result<(), DecodeError> {
+        match place {
+            0 => optional(&mut slots.0, decoder, Tagging::Tagged(NAME_ASSIGNER)),
+            1 => required(&mut slots.1, decoder, Tagging::Tagged(PARTY_NAME)),
+            _ => Ok(()),
+        }
+    }
+
+    ghost agrees = { slots_agree ⟦<EdiPartyName as FieldTable>⟧.components };
+}

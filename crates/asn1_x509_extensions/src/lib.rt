@@ -1,0 +1,43 @@
+//! The standard extensions of certificates (RFC 5280, 4.2): their types, written and read by any codec.
+//!
+//! | Item | What it is |
+//! |---|---|
+//! | [`GeneralName`], [`GeneralNames`] | a name of one of nine kinds |
+//! | [`SubjectAltName`], [`IssuerAltName`] | the further names of whom a certificate is for, and of who issued it |
+//! | [`BasicConstraints`], [`PathLength`] | whether a certificate is that of an authority |
+//! | [`KeyUsage`], [`ExtKeyUsageSyntax`] | what a key may be used for |
+//! | [`SubjectKeyIdentifier`], [`AuthorityKeyIdentifier`] | which key a certificate is for, and which key it is signed with |
+//! | [`AnotherName`], [`EdiPartyName`] | two kinds of name |
+//!
+//! What the contracts promise:
+//!
+//! - Each type states its components or its alternatives once, and its tables, meaning, writer and reader are proved to say
+//!   the same. So a valid value comes back equal (`round_trip` of `asn1_schema`).
+//! - Each type can be inside other types (`general_name_is_well_tagged` and the like).
+//!
+//! The value of an [`asn1_x509::Extension`] is the bytes that a codec makes of one of these. What a schema asks beyond that
+//! is left to whoever makes a value: that a list has an element, and how long a text is.
+#![tactic(auto, using(asn1_schema::proofs::Trees::tree_shapes))]
+
+mod another_name;
+mod authority_key_identifier;
+mod basic_constraints;
+mod edi_party_name;
+mod general_name;
+mod key_identifier;
+mod path_length;
+
+pub use another_name::{AnotherName, another_name_is_well_tagged};
+pub use authority_key_identifier::{
+    AuthorityKeyIdentifier, authority_key_identifier_is_well_tagged,
+};
+pub use basic_constraints::{BasicConstraints, basic_constraints_is_well_tagged};
+pub use edi_party_name::{EdiPartyName, edi_party_name_is_well_tagged};
+pub use general_name::{
+    GeneralName, GeneralNames, IssuerAltName, SubjectAltName, general_name_is_well_tagged,
+};
+pub use key_identifier::{
+    ExtKeyUsageSyntax, KeyIdentifier, KeyPurposeId, KeyUsage, SubjectKeyIdentifier,
+    key_extensions_are_well_tagged,
+};
+pub use path_length::{PathLength, path_length_is_well_tagged};

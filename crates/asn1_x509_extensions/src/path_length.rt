@@ -1,0 +1,54 @@
+//! `INTEGER (0..MAX)`
+ghost use Rattle.std.specs.Prelude.{None, Some, codes, pos};
+ghost use Rattle.asn1_schema.specs.Words.{IsWellTagged, Range, number, universal, values_of};
+ghost use Rattle.asn1_schema.specs.model.Kinds.{scalar_type, under_own_name};
+
+use asn1_schema::{
+    AsnType, Bounded, ConstraintTable, Constraints, Decode, DecodeError, Decoder, Encode,
+    EncodeError, Encoder, Identifier, Integer, Tag, TypeTable, Value,
+};
+
+/// How many certificates of authorities may be between one and the last. That it is not negative is the caller's to see.
+#[derive(PartialEq, Eq, Debug, Drop)]
+pub struct PathLength(pub Integer);
+
+impl AsnType for PathLength {
+    ghost meaning = { under_own_name (scalar_type (universal 2) (values_of (Range (Some (pos 0)) None)) (Some (codes "INTEGER")) (λ length. number length.0)) };
+
+    fn table() -> TypeTable {
+        let limits = ConstraintTable::from(Value::new(Bounded::start_from(0)));
+        TypeTable::new(Tag::INTEGER, Identifier::INTEGER).with_constraints(limits)
+    }
+
+    fn is_present(&self) -> bool {
+        true
+    }
+}
+
+/// A `PathLength` can be inside other types.
+pub fn path_length_is_well_tagged()
+    ensures { IsWellTagged ⟦<PathLength as AsnType>⟧.meaning }
+{}
+
+impl Encode for PathLength {
+    fn encode_with_tag_and_constraints<E: Encoder>(
+        &self,
+        encoder: &mut E,
+        tag: Tag,
+        constraints: &Constraints<'_>,
+        name: Identifier,
+    ) -> Result<(), EncodeError> {
+        encoder.encode_integer(tag, constraints, &self.0, name.or(Self::identifier()))
+    }
+}
+
+impl Decode for PathLength {
+    fn decode_with_tag_and_constraints<D: Decoder>(
+        decoder: &mut D,
+        tag: Tag,
+        constraints: &Constraints<'_>,
+    ) -> Result<PathLength, DecodeError> {
+        let length = decoder.decode_integer(tag, constraints)?;
+        Ok(PathLength(length))
+    }
+}
