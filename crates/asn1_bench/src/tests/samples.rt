@@ -1,14 +1,18 @@
-//! The sample types, over the packed codec and over the tag form, and from each to the other.
+//! The sample types, over the packed codec, over the tag form and in DER, and from one to another.
 use crate::rules::BenchRules;
 use crate::tests::bytes::NULL;
 use crate::tests::cases::passes;
+use asn1_der::DerRules;
 use asn1_rules::Rules;
 use asn1_sample_tests::{depth, samples};
 use asn1_tagform::TagRules;
 use std::alloc::Global;
 use std::process::Abort;
 
-fn sequences_come_back<R: Rules>(rt: &impl Abort, alloc: Global, rules: &R) {
+/// NULL in DER (X.690, 8.8).
+const DER_NULL: &[u8] = &[0x05, 0x00];
+
+fn sequences_come_back<R: Rules>(rt: &impl Abort, alloc: Global, rules: &R, null: &[u8]) {
     passes(rt, "persons", samples::persons_come_back(rules, alloc));
     passes(rt, "profiles", samples::profiles_come_back(rules, alloc));
     passes(rt, "visits", samples::visits_come_back(rules, alloc));
@@ -17,7 +21,7 @@ fn sequences_come_back<R: Rules>(rt: &impl Abort, alloc: Global, rules: &R) {
     passes(
         rt,
         "bodies",
-        samples::envelopes_come_back(rules, alloc, NULL),
+        samples::envelopes_come_back(rules, alloc, null),
     );
     passes(rt, "plates", samples::plates_come_back(rules, alloc));
     passes(rt, "notices", samples::notices_come_back(rules, alloc));
@@ -55,7 +59,7 @@ fn values_that_hold_themselves_come_back<R: Rules>(rt: &impl Abort, alloc: Globa
 #[test]
 fn samples_come_back(rt: HostRuntime) {
     let rules = BenchRules::new(rt.alloc());
-    sequences_come_back(&rt, rt.alloc(), &rules);
+    sequences_come_back(&rt, rt.alloc(), &rules, NULL);
     choices_and_sets_come_back(&rt, rt.alloc(), &rules);
     values_that_hold_themselves_come_back(&rt, rt.alloc(), &rules);
 }
@@ -63,7 +67,15 @@ fn samples_come_back(rt: HostRuntime) {
 #[test]
 fn samples_come_back_without_presence_marks(rt: HostRuntime) {
     let rules = TagRules::new(rt.alloc());
-    sequences_come_back(&rt, rt.alloc(), &rules);
+    sequences_come_back(&rt, rt.alloc(), &rules, NULL);
+    choices_and_sets_come_back(&rt, rt.alloc(), &rules);
+    values_that_hold_themselves_come_back(&rt, rt.alloc(), &rules);
+}
+
+#[test]
+fn samples_come_back_in_der(rt: HostRuntime) {
+    let rules = DerRules::new(rt.alloc());
+    sequences_come_back(&rt, rt.alloc(), &rules, DER_NULL);
     choices_and_sets_come_back(&rt, rt.alloc(), &rules);
     values_that_hold_themselves_come_back(&rt, rt.alloc(), &rules);
 }
