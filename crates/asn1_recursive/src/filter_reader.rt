@@ -149,7 +149,7 @@ fn read_filters<D: Decoder>(decoder: &mut D, bound: usize) -> Result<Vec<Filter>
         All filter_meaning.IsOfType vs → All (filter_meaning.IsValid D.reader.accepts) vs →
         length vs ≤ bound →
         Advances D.reader decoder.old decoder.new
-            (highest (flat_map (own_records filter_meaning) vs))
+        (highest (flat_map (own_records filter_meaning) vs))
         (flat_map (own_records filter_meaning) vs, scope ∷ outer) ([], scope ∷ outer)
         (λ w. pointwise ⟦<Filter as PartialEq>⟧.eq w.items vs ≡ true) result }
     ensures same_depth { OnOk result (D.reader.depth_left decoder.new ≡

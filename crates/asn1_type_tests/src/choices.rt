@@ -52,10 +52,10 @@ fn nested(inner: Box<Nested>)
         own_records ⟦<Nested as AsnType>⟧.meaning (Inner inner) ≡
         holding (chosen (context 0) unconstrained (table_of
         ⟦<Nested as asn1_choices::Choice>⟧.alternatives) (Some (codes "Nested")))
-            (holding (explicit_tag
+        (holding (explicit_tag
         (context 0) (Some (codes "Nested"))) (holding
         (chosen (universal 1) unconstrained
-            (table_of ⟦<Nested as asn1_choices::Choice>⟧.alternatives) (Some (codes
+        (table_of ⟦<Nested as asn1_choices::Choice>⟧.alternatives) (Some (codes
         "Nested"))) (scalar (universal 1) unconstrained (Some (codes
         "BOOLEAN")) (boolean true) ∷ []) ∷ []) ∷ []) ∷ [] }
 {}

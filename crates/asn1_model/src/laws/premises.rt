@@ -66,24 +66,24 @@ pub fn holders_are_valid_as_their_contents<'a, T: AsnType + 'a, const N: usize>(
 )
     ensures vec { (accepts : List ℕ → Bool) →
         ⟦<Vec<T> as AsnType>⟧.meaning.IsValid accepts _vec.now ↔
-            All (T.meaning.IsValid accepts) _vec.now.items }
+        All (T.meaning.IsValid accepts) _vec.now.items }
     ensures slice { (accepts : List ℕ → Bool) →
         ⟦<&'a [T] as AsnType>⟧.meaning.IsValid accepts _slice.entry ↔
-            All (T.meaning.IsValid accepts) _slice.entry.now }
+        All (T.meaning.IsValid accepts) _slice.entry.now }
     ensures array { (accepts : List ℕ → Bool) (elements : List T) →
         ⟦<[T; N] as AsnType>⟧.meaning.IsValid accepts elements ↔
-            All (T.meaning.IsValid accepts) elements }
+        All (T.meaning.IsValid accepts) elements }
     ensures option { (accepts : List ℕ → Bool) (o : Option T) →
         ⟦<Option<T> as AsnType>⟧.meaning.IsValid accepts o ↔ IfSome o (T.meaning.IsValid accepts) }
     ensures reference { (accepts : List ℕ → Bool) →
         ⟦<&'a T as AsnType>⟧.meaning.IsValid accepts _reference.entry ↔
-            T.meaning.IsValid accepts _reference.entry.now }
+        T.meaning.IsValid accepts _reference.entry.now }
     ensures boxed { (accepts : List ℕ → Bool) →
         ⟦<Box<T> as AsnType>⟧.meaning.IsValid accepts _boxed.now ↔
-            T.meaning.IsValid accepts _boxed.now.value }
+        T.meaning.IsValid accepts _boxed.now.value }
     ensures cow { (accepts : List ℕ → Bool) →
         ⟦<Cow<'a, T> as AsnType>⟧.meaning.IsValid accepts _cow.now ↔
-            T.meaning.IsValid accepts (cow_value _cow.now) }
+        T.meaning.IsValid accepts (cow_value _cow.now) }
 {}
 
 /// A law of tags: a list can be inside another type where its elements' type can be there; what holds one value can be where

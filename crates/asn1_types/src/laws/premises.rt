@@ -26,10 +26,10 @@ pub fn values_are_valid_as_their_contents<T: AsnType, V: AsnType>()
         ⟦<SetOf<V> as AsnType>⟧.meaning.IsValid accepts set ↔ All (V.meaning.IsValid accepts) set }
     ensures implicit { (accepts : List ℕ → Bool) (v : Implicit T V) →
         ⟦<Implicit<T, V> as AsnType>⟧.meaning.IsValid accepts v ↔
-            V.meaning.IsValid accepts v.value }
+        V.meaning.IsValid accepts v.value }
     ensures explicit { (accepts : List ℕ → Bool) (v : Explicit T V) →
         ⟦<Explicit<T, V> as AsnType>⟧.meaning.IsValid accepts v ↔
-            V.meaning.IsValid accepts v.value }
+        V.meaning.IsValid accepts v.value }
     ensures instance { (accepts : List ℕ → Bool) (v : InstanceOf V) →
         ⟦<InstanceOf<V> as AsnType>⟧.meaning.IsValid accepts v ↔ V.meaning.IsValid accepts v.value }
 {}
