@@ -73,7 +73,7 @@ read_alternative-returns-in_err-read_set-in-AND-clause-read g t c =
 
 pub read_alternative-returns-in-AND-clause-read : goal.read_alternative-returns-in-AND-clause-read
 read_alternative-returns-in-AND-clause-read g t c =
-    chosen_read g.D.Decoder.reader filter_alternatives filter_pick ghosts.eq And (value_meaning (tagged (context 0) (set_of_type (λ filters. filters) inner_filter))) and_says c.args.tag (of_number 0 c.args.tag (omega arith)) _ _ _ (λ w rest outer of_type valid at. moved_as g.D.Decoder.reader (c.in_ok-read_set-in-AND.ensures.read w (Some (codes "SET_OF")) rest outer of_type valid at) (and_equal c.in_ok-read_set-in-AND.value w))
+    chosen_read g.D.Decoder.reader filter_alternatives filter_pick ghosts.eq And (value_meaning (tagged (context 0) (set_of_type (λ filters. filters) inner_filter))) and_says c.args.tag (of_number 0 c.args.tag (omega arith)) _ _ _ (λ w rest outer of_type valid at. moved_as g.D.Decoder.reader (c.in_ok-read_set-in-AND.ensures.read w (Some (codes "SET_OF")) rest outer of_type valid at) (and_equal c.in_ok-read_set-in-AND.field-0 w))
 
 pub read_alternative-returns-in_err-read_set-in-OR-clause-read : goal.read_alternative-returns-in_err-read_set-in-OR-clause-read
 read_alternative-returns-in_err-read_set-in-OR-clause-read g t c =
@@ -82,7 +82,7 @@ read_alternative-returns-in_err-read_set-in-OR-clause-read g t c =
 
 pub read_alternative-returns-in-OR-clause-read : goal.read_alternative-returns-in-OR-clause-read
 read_alternative-returns-in-OR-clause-read g t c =
-    chosen_read g.D.Decoder.reader filter_alternatives filter_pick ghosts.eq Or (value_meaning (tagged (context 1) (set_of_type (λ filters. filters) inner_filter))) or_says c.args.tag (of_number 1 c.args.tag (omega arith)) _ _ _ (λ w rest outer of_type valid at. moved_as g.D.Decoder.reader (c.in_ok-read_set-in-OR.ensures.read w (Some (codes "SET_OF")) rest outer of_type valid at) (or_equal c.in_ok-read_set-in-OR.value w))
+    chosen_read g.D.Decoder.reader filter_alternatives filter_pick ghosts.eq Or (value_meaning (tagged (context 1) (set_of_type (λ filters. filters) inner_filter))) or_says c.args.tag (of_number 1 c.args.tag (omega arith)) _ _ _ (λ w rest outer of_type valid at. moved_as g.D.Decoder.reader (c.in_ok-read_set-in-OR.ensures.read w (Some (codes "SET_OF")) rest outer of_type valid at) (or_equal c.in_ok-read_set-in-OR.field-0 w))
 
 pub read_alternative-returns-in_err-inner-in-NOT-clause-read : goal.read_alternative-returns-in_err-inner-in-NOT-clause-read
 read_alternative-returns-in_err-inner-in-NOT-clause-read g t c =
@@ -100,7 +100,7 @@ read_alternative-returns-in_err-decode_with_tag-in-PRESENT-clause-read g t c =
 
 pub read_alternative-returns-in-PRESENT-clause-read : goal.read_alternative-returns-in-PRESENT-clause-read
 read_alternative-returns-in-PRESENT-clause-read g t c =
-    chosen_read g.D.Decoder.reader filter_alternatives filter_pick ghosts.eq Present (value_meaning (tagged (context 7) octet_string)) (λ w. refl) c.args.tag (of_number 7 c.args.tag (omega arith)) _ _ _ (λ w rest outer of_type valid at. moved_as g.D.Decoder.reader (c.in_ok-decode_with_tag-in-PRESENT.ensures.read w (Some (codes "OCTET_STRING")) rest outer refl of_type valid (inl tt) at) (present_equal c.in_ok-decode_with_tag-in-PRESENT.value w))
+    chosen_read g.D.Decoder.reader filter_alternatives filter_pick ghosts.eq Present (value_meaning (tagged (context 7) octet_string)) (λ w. refl) c.args.tag (of_number 7 c.args.tag (omega arith)) _ _ _ (λ w rest outer of_type valid at. moved_as g.D.Decoder.reader (c.in_ok-decode_with_tag-in-PRESENT.ensures.read w (Some (codes "OCTET_STRING")) rest outer refl of_type valid (inl tt) at) (present_equal c.in_ok-decode_with_tag-in-PRESENT.field-0 w))
 
 pub read_alternative-returns-in_err-said-in-EQUALITY_MATCH-clause-read : goal.read_alternative-returns-in_err-said-in-EQUALITY_MATCH-clause-read
 read_alternative-returns-in_err-said-in-EQUALITY_MATCH-clause-read g t c = λ v rest outer distinct can.
