@@ -128,8 +128,8 @@ pub trait Decoder: Sized {
         ensures opens_nothing { OpensNothing reader self.old self.new result };
 
     /// Whether the component of the root is there that is written under this tag, and begins with a tag of the tree. A codec
-    /// without presence marks looks at the next tag; where it does not know the end of the outermost list, it is before no
-    /// outermost list that has marks.
+    /// without presence marks looks at the next tag; where it does not know the end of the outermost list, no outermost
+    /// list that has marks ever remains.
     fn presence(&mut self, tag: Tag, tree: TagTree<'static>) -> Result<bool, DecodeError>
         ensures read { TellsPresence reader self.old self.new (present in_root tag)
             (absent in_root tag) (tree_tags (shape tree.entry)) result }

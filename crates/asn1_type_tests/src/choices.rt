@@ -82,7 +82,7 @@ fn places()
         }) }
 {}
 
-/// A reply can be inside other types, and each is valid, also one after the extension marker.
+/// A reply is well tagged, and each is valid, also one after the extension marker.
 fn replies()
     ensures is_well_tagged { IsWellTagged ⟦<Reply as AsnType>⟧.meaning }
     ensures accepted { (accepts : List ℕ → Bool) (b : Bool) →
