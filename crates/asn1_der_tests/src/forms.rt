@@ -42,6 +42,8 @@ fn nothing_is_left_inside(rt: HostRuntime) {
     refuses_component::<Person>(&rt, alloc, &twice, "name");
     let one_byte = [0x30, 6, 2, 1, 30, 0x0c, 0, 5];
     refuses::<Person>(&rt, alloc, &one_byte, BAD_ITEM);
+    let long = [0x30, 9, 2, 1, 30, 0x0c, 0x84, 0x7f, 0xff, 0xff, 0xff];
+    refuses_component::<Person>(&rt, alloc, &long, "name");
 }
 
 // X.690, 10.1 and 8.3.2, inside others.
@@ -60,13 +62,15 @@ fn lengths_and_numbers_inside_are_the_shortest(rt: HostRuntime) {
     refuses::<Node>(&rt, alloc, &inner, BAD_ITEM);
 }
 
+// With `--fail-alloc 1` too, since no memory is asked for.
 #[test]
 fn a_length_that_bytes_tell_reserves_nothing(rt: HostRuntime) {
     let alloc = rt.alloc();
-    let inside = [0x30, 9, 2, 1, 30, 0x0c, 0x84, 0x7f, 0xff, 0xff, 0xff];
-    refuses_component::<Person>(&rt, alloc, &inside, "name");
     let missing = DecodeError::Incomplete(Needed::Size(0x7fff_fffa));
     let outside = [0x30, 0x84, 0x7f, 0xff, 0xff, 0xff, 2, 1, 30, 0x0c, 0];
     refuses::<Person>(&rt, alloc, &outside, missing);
     refuses::<Vec<Person>>(&rt, alloc, &outside, missing);
+    let octets = [4, 0x84, 0x7f, 0xff, 0xff, 0xff, 7];
+    let more = DecodeError::Incomplete(Needed::Size(0x7fff_fffe));
+    refuses::<OctetString>(&rt, alloc, &octets, more);
 }
