@@ -6,7 +6,8 @@
 use crate::reader::BenchReader;
 use crate::rules::BenchRules;
 use crate::tests::bytes::NULL;
-use asn1_codec_tests::{Failure, ValueCase, comes_back, is_same};
+use crate::tests::cases::passes;
+use asn1_codec_tests::{ComesBack, Failure, ValueCase, is_same, one_passes};
 use asn1_dec::{Decode, DecodeError};
 use asn1_enc::Encode;
 use asn1_sample_tests::samples::each_sample_passes;
@@ -14,21 +15,6 @@ use asn1_streams::{Pieces, read_pieces, write_list};
 use asn1_tagform::TagRules;
 use std::alloc::Global;
 use std::process::Abort;
-
-/// Whether a value comes back over the packed codec and over the tag form.
-#[derive(Drop)]
-struct Whole {
-    alloc: Global,
-}
-
-impl ValueCase for Whole {
-    fn try_value<T: Encode + Decode>(&self, value: T) -> Result<(), Failure> {
-        comes_back(&BenchRules::new(self.alloc), &value).and(comes_back(
-            &TagRules::new(self.alloc),
-            &value,
-        ))
-    }
-}
 
 /// Whether a value comes out of two pieces of its bytes.
 #[derive(Drop)]
@@ -71,24 +57,17 @@ fn are_all<T: Decode>(read: &Pieces<T>, values: &[T]) -> Result<(), Failure> {
     }
 }
 
-/// Asserts that a case that runs twice passes once at least, and that memory ran out where it does not.
-fn passes_with_memory(rt: &impl Abort, first: Result<(), Failure>, second: Result<(), Failure>) {
-    let no_memory = Err(Failure::Memory);
-    assert!(rt;
-        first.is_ok() || first == no_memory && second.is_ok(),
-        "{first:?}"
-    );
-    assert!(rt; second.is_ok() || second == no_memory, "{second:?}");
-}
-
 fn passes_for_each<C: ValueCase>(rt: &impl Abort, alloc: Global, case: &C) {
     let first = each_sample_passes(case, alloc, NULL);
-    passes_with_memory(rt, first, each_sample_passes(case, alloc, NULL));
+    let second = each_sample_passes(case, alloc, NULL);
+    passes(rt, "samples", one_passes(first, second));
 }
 
 #[test]
 fn a_refused_growth_is_told_of_a_whole_value(rt: HostRuntime) {
-    passes_for_each(&rt, rt.alloc(), &Whole { alloc: rt.alloc() });
+    let alloc = rt.alloc();
+    passes_for_each(&rt, alloc, &ComesBack(&BenchRules::new(alloc)));
+    passes_for_each(&rt, alloc, &ComesBack(&TagRules::new(alloc)));
 }
 
 #[test]

@@ -1,68 +1,16 @@
 -- A record that is no presence mark is one element, whose tag is one with which the record begins.
-use Rattle.std.proofs.Common.{◌≡◌, ℕ, ◌≤◌, Bool, true, false, List, [], ◌∷◌, ◌++◌, refl, sym, ap, subst, ◌∙◌, arith, append-nil, length, Option, None, Some}
-use Rattle.std.specs.Prelude.{◌&&◌, IsTrue}
+use Rattle.std.proofs.Common.{◌≡◌, ℕ, ◌≤◌, true, false, List, [], ◌∷◌, ◌++◌, refl, sym, ap, subst, ◌∙◌, arith, length}
 use Rattle.asn1_der_records.specs.Bytes.{HasDer, HaveDer, HoldsInForm, form_of}
-use Rattle.asn1_der_records.specs.OneElement.{IsAlone, IsElementOfRecord}
+use Rattle.asn1_der_records.specs.RecordElements.{IsElementOfRecord}
 use Rattle.asn1_der_records.specs.declared.form.ScopeForm.{ScopeForm}
 use Rattle.asn1_der_records.specs.declared.form.ScopeForm.TheVariants.{AsDefined, ByTag, ByEncoding, Chosen}
-use Rattle.asn1_der_items.proofs.Found.{element-found}
-use Rattle.asn1_der_items.proofs.OneElement.{element_of_tag}
-use Rattle.asn1_der_items.specs.Elements.{Element, IsElement, element_at}
-use Rattle.asn1_der_items.specs.Series.{IsElementOf, ends, is_one_element, is_whole, tag_found}
+use Rattle.asn1_der_items.proofs.OneElement.{OneOf, element_alone, element_of, element_of_tag, one, one_of}
+use Rattle.asn1_der_items.specs.Elements.{Element}
+use Rattle.asn1_der_items.specs.Series.{IsAlone, IsElementOf, ends, is_whole, tag_found}
 use Rattle.asn1_model.specs.Records as model
 use Rattle.asn1_model.specs.Records.{Record, is_presence_mark, open_type, presence_mark, scalar, scope}
 use Rattle.asn1_model.specs.Tags.{Has, record_tags, head_tag}
-use Rattle.asn1_tags.proofs.Distinct.{tag_eq-true}
-use Rattle.asn1_tags.specs.Tags.{tag_eq}
 use Rattle.asn1_tags.specs.declared.tags.Tag.{Tag}
-
--- the element of these contents octets, alone
-abbrev pub element_of : Tag → Bool → List ℕ → Element
-element_of t constructed contents = record { tag = t; constructed = constructed; contents = contents; rest = [] }
-
--- the bytes of an element are it alone
-pub element_alone : (t : Tag) (constructed : Bool) (contents own : List ℕ) → IsElement t constructed contents own → IsAlone (element_of t constructed contents) own
-element_alone t constructed contents own is = record {
-  at = ap element_at (sym (append-nil own)) ∙ element-found t constructed contents own [] is;
-  alone = refl;
-}
-
--- An element alone, and its tag.
-pub record OneOf (t : Tag) (own : List ℕ) : Type 0 where
-  pub element : Element
-  pub alone : IsAlone element own
-  pub tag : element.tag ≡ t
-
-nothing_left : (rest : List ℕ) → ends rest ≡ true → rest ≡ []
-nothing_left [] e = refl
-nothing_left (byte ∷ rest) e = cc
-
-both : (a b : Bool) → (a && b) ≡ true → (a ≡ true) × (b ≡ true)
-both true b e = (refl, e)
-both false b e = cc
-
-pub one_of : (t : Tag) (own : List ℕ) → IsElementOf t own → OneOf t own
-one_of t own is = by (element_at own) refl is
-  where
-    by : (o : Option Element) → element_at own ≡ o → (is_whole o && tag_eq (tag_found o) t) ≡ true → OneOf t own
-    by None found is = cc
-    by (Some e) found is = let p = both (ends e.rest) (tag_eq e.tag t) is in record {
-      element = e;
-      alone = record { at = found; alone = nothing_left e.rest p.0 };
-      tag = tag_eq-true e.tag t p.1;
-    }
-
--- Bytes that are one element.
-pub record One (own : List ℕ) : Type 0 where
-  pub element : Element
-  pub alone : IsAlone element own
-
-pub one : (own : List ℕ) → IsTrue (is_one_element own) → One own
-one own is = by (element_at own) refl is
-  where
-    by : (o : Option Element) → element_at own ≡ o → is_whole o ≡ true → One own
-    by None found is = cc
-    by (Some e) found is = record { element = e; alone = record { at = found; alone = nothing_left e.rest is } }
 
 -- what holds records is one element of its tag
 pub one_in_form : (form : ScopeForm) (t : Tag) (IsInside : List ℕ → Type 0) (own : List ℕ) → HoldsInForm form t IsInside own → OneOf t own

@@ -1,6 +1,5 @@
 -- A record is one element.
-use Rattle.std.specs.Prelude.{◌≡◌, ℕ, IsTrue, List, [], Some}
-use Rattle.asn1_der_items.specs.Elements.{Element, element_at}
+use Rattle.std.specs.Prelude.{ℕ, IsTrue, List}
 use Rattle.asn1_der_items.specs.Series.{is_one_element, tag_of}
 use Rattle.asn1_model.specs.Records.{Record}
 use Rattle.asn1_model.specs.Tags.{Has, record_tags}
@@ -9,8 +8,3 @@ use Rattle.asn1_model.specs.Tags.{Has, record_tags}
 pub record IsElementOfRecord (r : Record) (bytes : List ℕ) : Type 0 where
   pub one : IsTrue (is_one_element bytes)
   pub tag : Has (record_tags r) (tag_of bytes)
-
--- The bytes are this element alone.
-pub record IsAlone (e : Element) (own : List ℕ) : Type 0 where
-  pub at : element_at own ≡ Some e
-  pub alone : e.rest ≡ []
