@@ -1,6 +1,7 @@
 //! `AlgorithmIdentifier ::= SEQUENCE { algorithm OBJECT IDENTIFIER, parameters ANY DEFINED BY algorithm OPTIONAL }`
-ghost use Rattle.std.specs.Prelude.{Bool, IfSome, IsTrue, List, [], codes, ℕ, ◌↔◌, ◌∷◌};
+ghost use Rattle.std.specs.Prelude.{Bool, List, [], codes, ℕ, ◌↔◌, ◌∷◌};
 ghost use Rattle.asn1_schema.specs.Words.{IsWellTagged, constructed_agrees, constructed_type, optional_slot, required_slot, sequence_of_slots, untagged};
+ghost use Rattle.asn1_x509.specs.OpenValues.{ParametersAreTaken};
 
 use asn1_schema::{
     Any, AsnType, Constraints, ConstructedType, Decode, DecodeByPlace, DecodeError, Decoded,
@@ -84,6 +85,13 @@ pub fn algorithm_identifier_is_well_tagged()
     ensures { IsWellTagged ⟦<AlgorithmIdentifier as AsnType>⟧.meaning }
 {}
 
+/// An `AlgorithmIdentifier` is valid if and only if the codec takes its parameters, where there are any.
+pub fn algorithm_identifier_is_valid(algorithm: &AlgorithmIdentifier)
+    ensures { (accepts : List ℕ → Bool) →
+        ⟦<AlgorithmIdentifier as AsnType>⟧.meaning.IsValid accepts algorithm.now ↔
+        ParametersAreTaken accepts algorithm.now }
+{}
+
 impl Encode for AlgorithmIdentifier {
     fn encode_with_tag_and_constraints<E: Encoder>(
         &self,
@@ -115,10 +123,3 @@ impl Decode for AlgorithmIdentifier {
         decode_sequence_by_place(decoder, tag)
     }
 }
-
-/// An `AlgorithmIdentifier` is valid if and only if the codec takes its parameters as one value, where there are any.
-pub fn algorithm_identifier_is_valid(algorithm: &AlgorithmIdentifier)
-    ensures { (accepts : List ℕ → Bool) →
-        ⟦<AlgorithmIdentifier as AsnType>⟧.meaning.IsValid accepts algorithm.now ↔
-        IfSome algorithm.now.parameters (λ parameters. IsTrue (accepts parameters)) }
-{}

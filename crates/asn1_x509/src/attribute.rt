@@ -1,5 +1,5 @@
 //! `AttributeTypeAndValue ::= SEQUENCE { type OBJECT IDENTIFIER, value ANY DEFINED BY type }`
-ghost use Rattle.std.specs.Prelude.{[], codes, ◌∷◌};
+ghost use Rattle.std.specs.Prelude.{Bool, IsTrue, List, [], codes, ℕ, ◌↔◌, ◌∷◌};
 ghost use Rattle.asn1_schema.specs.Words.{IsWellTagged, constructed_agrees, constructed_type, required_slot, sequence_of_slots, untagged};
 
 use asn1_schema::{
@@ -84,6 +84,13 @@ impl ConstructedType for AttributeTypeAndValue {
 /// An `AttributeTypeAndValue` can be inside other types.
 pub fn attribute_type_and_value_is_well_tagged()
     ensures { IsWellTagged ⟦<AttributeTypeAndValue as AsnType>⟧.meaning }
+{}
+
+/// An `AttributeTypeAndValue` is valid if and only if the codec takes its value.
+pub fn attribute_type_and_value_is_valid(attribute: &AttributeTypeAndValue)
+    ensures { (accepts : List ℕ → Bool) →
+        ⟦<AttributeTypeAndValue as AsnType>⟧.meaning.IsValid accepts attribute.now ↔
+        IsTrue (accepts attribute.now.value) }
 {}
 
 impl Encode for AttributeTypeAndValue {

@@ -1,7 +1,8 @@
 //! `Certificate ::= SEQUENCE { tbsCertificate TBSCertificate, signatureAlgorithm AlgorithmIdentifier, signatureValue BIT STRING }`
 //! (RFC 5280, 4.1).
-ghost use Rattle.std.specs.Prelude.{[], codes, ◌∷◌};
+ghost use Rattle.std.specs.Prelude.{Bool, List, [], codes, ℕ, ◌↔◌, ◌∷◌};
 ghost use Rattle.asn1_schema.specs.Words.{IsWellTagged, constructed_agrees, constructed_type, required_slot, sequence_of_slots, untagged};
+ghost use Rattle.asn1_x509.specs.OpenValues.{CertificateIsTaken};
 
 use crate::algorithm_identifier::AlgorithmIdentifier;
 use crate::tbs_certificate::TbsCertificate;
@@ -95,6 +96,13 @@ impl ConstructedType for Certificate {
 /// A `Certificate` can be inside other types.
 pub fn certificate_is_well_tagged()
     ensures { IsWellTagged ⟦<Certificate as AsnType>⟧.meaning }
+{}
+
+/// A `Certificate` is valid if and only if the codec takes what is open in it.
+pub fn certificate_is_valid(certificate: &Certificate)
+    ensures { (accepts : List ℕ → Bool) →
+        ⟦<Certificate as AsnType>⟧.meaning.IsValid accepts certificate.now ↔
+        CertificateIsTaken accepts certificate.now }
 {}
 
 impl Encode for Certificate {

@@ -9,7 +9,7 @@
 //!     bmpString       BMPString (SIZE (1..MAX))
 //! }
 //! ```
-ghost use Rattle.std.specs.Prelude.{[], codes, refl, ◌∷◌};
+ghost use Rattle.std.specs.Prelude.{Bool, List, [], codes, refl, ℕ, ◌∷◌};
 ghost use Rattle.asn1_schema.specs.Words.{IsWellTagged, choice_agrees, choice_of, choice_of_cases, inl, inr, untagged, variant};
 ghost use Rattle.asn1_x509.specs.declared.directory_string.DirectoryString.TheVariants.{Teletex, Printable, Universal, Utf8, Bmp};
 
@@ -115,6 +115,12 @@ impl ChoiceType for DirectoryString {
 /// A `DirectoryString` can be inside other types: the tags of its alternatives are distinct.
 pub fn directory_string_is_well_tagged()
     ensures { IsWellTagged ⟦<DirectoryString as AsnType>⟧.meaning }
+{}
+
+/// Each `DirectoryString` is valid, also an empty one.
+pub fn directory_string_is_valid(text: &DirectoryString)
+    ensures { (accepts : List ℕ → Bool) →
+        ⟦<DirectoryString as AsnType>⟧.meaning.IsValid accepts text.now }
 {}
 
 impl Encode for DirectoryString {

@@ -1,5 +1,5 @@
 //! `Extension ::= SEQUENCE { extnID OBJECT IDENTIFIER, critical BOOLEAN DEFAULT FALSE, extnValue OCTET STRING }`
-ghost use Rattle.std.specs.Prelude.{[], codes, false, ◌∷◌};
+ghost use Rattle.std.specs.Prelude.{Bool, List, [], codes, false, ℕ, ◌∷◌};
 ghost use Rattle.asn1_schema.specs.Words.{IsWellTagged, constructed_agrees, constructed_type, default_slot, required_slot, sequence_of_slots, untagged};
 
 use asn1_schema::{
@@ -92,6 +92,12 @@ impl ConstructedType for Extension {
 /// An `Extension` can be inside other types.
 pub fn extension_is_well_tagged()
     ensures { IsWellTagged ⟦<Extension as AsnType>⟧.meaning }
+{}
+
+/// Each `Extension` is valid, whatever its value has in it.
+pub fn extension_is_valid(extension: &Extension)
+    ensures { (accepts : List ℕ → Bool) →
+        ⟦<Extension as AsnType>⟧.meaning.IsValid accepts extension.now }
 {}
 
 impl Encode for Extension {

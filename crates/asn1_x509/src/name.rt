@@ -1,6 +1,7 @@
 //! `Name ::= CHOICE { rdnSequence RDNSequence }`
-ghost use Rattle.std.specs.Prelude.{[], codes, refl, ◌∷◌};
+ghost use Rattle.std.specs.Prelude.{Bool, List, [], codes, refl, ℕ, ◌↔◌, ◌∷◌};
 ghost use Rattle.asn1_schema.specs.Words.{IsWellTagged, choice_agrees, choice_of, choice_of_cases, inl, untagged, variant};
+ghost use Rattle.asn1_x509.specs.OpenValues.{NameIsTaken};
 ghost use Rattle.asn1_x509.specs.declared.name.Name.TheVariants.{Rdns};
 
 use crate::attribute::AttributeTypeAndValue;
@@ -79,6 +80,13 @@ impl ChoiceType for Name {
 /// A `Name` can be inside other types.
 pub fn name_is_well_tagged()
     ensures { IsWellTagged ⟦<Name as AsnType>⟧.meaning }
+{}
+
+/// A `Name` is valid if and only if the codec takes the value of each of its attributes.
+pub fn name_is_valid(name: &Name)
+    ensures { (accepts : List ℕ → Bool) →
+        ⟦<Name as AsnType>⟧.meaning.IsValid accepts name.now ↔
+        NameIsTaken accepts name.now }
 {}
 
 impl Encode for Name {

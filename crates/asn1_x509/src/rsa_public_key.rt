@@ -1,5 +1,5 @@
 //! `RSAPublicKey ::= SEQUENCE { modulus INTEGER, publicExponent INTEGER }` (RFC 3279, 2.3.1)
-ghost use Rattle.std.specs.Prelude.{[], codes, ◌∷◌};
+ghost use Rattle.std.specs.Prelude.{Bool, List, [], codes, ℕ, ◌∷◌};
 ghost use Rattle.asn1_schema.specs.Words.{IsWellTagged, constructed_agrees, constructed_type, required_slot, sequence_of_slots, untagged};
 
 use asn1_schema::{
@@ -81,6 +81,12 @@ impl ConstructedType for RsaPublicKey {
 /// A `RsaPublicKey` can be inside other types.
 pub fn rsa_public_key_is_well_tagged()
     ensures { IsWellTagged ⟦<RsaPublicKey as AsnType>⟧.meaning }
+{}
+
+/// Each `RsaPublicKey` is valid.
+pub fn rsa_public_key_is_valid(key: &RsaPublicKey)
+    ensures { (accepts : List ℕ → Bool) →
+        ⟦<RsaPublicKey as AsnType>⟧.meaning.IsValid accepts key.now }
 {}
 
 impl Encode for RsaPublicKey {

@@ -1,7 +1,8 @@
 //! `SIGNED{ToBeSigned} ::= SEQUENCE { toBeSigned ToBeSigned, algorithmIdentifier AlgorithmIdentifier, encrypted BIT STRING }`
 //! (X.509, 6.2.1)
-ghost use Rattle.std.specs.Prelude.{Bool, IsTrue, IfSome, List, [], codes, ℕ, ◌↔◌, ◌∷◌};
+ghost use Rattle.std.specs.Prelude.{Bool, List, [], codes, ℕ, ◌↔◌, ◌∷◌};
 ghost use Rattle.asn1_schema.specs.Words.{IsWellTagged, constructed_agrees, constructed_type, required, required_slot, sequence, untagged};
+ghost use Rattle.asn1_x509.specs.OpenValues.{ParametersAreTaken};
 
 use crate::algorithm_identifier::AlgorithmIdentifier;
 use asn1_schema::{
@@ -98,12 +99,12 @@ pub fn signed_is_well_tagged<T: AsnType>()
     ensures { IsWellTagged T.meaning → IsWellTagged ⟦<Signed<T> as AsnType>⟧.meaning }
 {}
 
-/// A `Signed` is valid if and only if what is signed is, and the algorithm.
+/// A `Signed` is valid if and only if what is signed is, and the codec takes the parameters of the algorithm, where there are any.
 pub fn signed_is_valid<T: AsnType>(signed: &Signed<T>)
     ensures { (accepts : List ℕ → Bool) →
         ⟦<Signed<T> as AsnType>⟧.meaning.IsValid accepts signed.now ↔
         (T.meaning.IsValid accepts signed.now.to_be_signed ×
-        IfSome signed.now.algorithm_identifier.parameters (λ parameters. IsTrue (accepts parameters))) }
+        ParametersAreTaken accepts signed.now.algorithm_identifier) }
 {}
 
 impl<T: Encode> Encode for Signed<T> {

@@ -1,6 +1,7 @@
 //! `SubjectPublicKeyInfo ::= SEQUENCE { algorithm AlgorithmIdentifier, subjectPublicKey BIT STRING }`
-ghost use Rattle.std.specs.Prelude.{[], codes, ◌∷◌};
+ghost use Rattle.std.specs.Prelude.{Bool, List, [], codes, ℕ, ◌↔◌, ◌∷◌};
 ghost use Rattle.asn1_schema.specs.Words.{IsWellTagged, constructed_agrees, constructed_type, required_slot, sequence_of_slots, untagged};
+ghost use Rattle.asn1_x509.specs.OpenValues.{ParametersAreTaken};
 
 use crate::algorithm_identifier::AlgorithmIdentifier;
 use asn1_schema::{
@@ -82,6 +83,13 @@ impl ConstructedType for SubjectPublicKeyInfo {
 /// A `SubjectPublicKeyInfo` can be inside other types.
 pub fn subject_public_key_info_is_well_tagged()
     ensures { IsWellTagged ⟦<SubjectPublicKeyInfo as AsnType>⟧.meaning }
+{}
+
+/// A `SubjectPublicKeyInfo` is valid if and only if the codec takes the parameters of its algorithm, where there are any.
+pub fn subject_public_key_info_is_valid(key: &SubjectPublicKeyInfo)
+    ensures { (accepts : List ℕ → Bool) →
+        ⟦<SubjectPublicKeyInfo as AsnType>⟧.meaning.IsValid accepts key.now ↔
+        ParametersAreTaken accepts key.now.algorithm }
 {}
 
 impl Encode for SubjectPublicKeyInfo {

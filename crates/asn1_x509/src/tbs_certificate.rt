@@ -17,8 +17,9 @@
 //! CertificateSerialNumber ::= INTEGER
 //! UniqueIdentifier ::= BIT STRING
 //! ```
-ghost use Rattle.std.specs.Prelude.{None, Some, [], codes, pos, ◌++◌, ◌∷◌, ◌≡◌};
+ghost use Rattle.std.specs.Prelude.{Bool, List, None, Some, [], codes, pos, ℕ, ◌++◌, ◌↔◌, ◌∷◌, ◌≡◌};
 ghost use Rattle.asn1_schema.specs.Words.{IsWellTagged, absent, constructed_agrees, constructed_type, context, default_slot, explicitly_tagged, holding, in_root, lines, optional_slot, own_records, presence_mark, required_slot, sequence_head, sequence_of_slots, tagged, universal, untagged};
+ghost use Rattle.asn1_x509.specs.OpenValues.{SignedPartIsTaken};
 
 use crate::algorithm_identifier::AlgorithmIdentifier;
 use crate::extension::Extensions;
@@ -198,6 +199,13 @@ impl ConstructedType for TbsCertificate {
 /// A `TbsCertificate` can be inside other types: what follows a component that may be absent begins with another tag.
 pub fn tbs_certificate_is_well_tagged()
     ensures { IsWellTagged ⟦<TbsCertificate as AsnType>⟧.meaning }
+{}
+
+/// A `TbsCertificate` is valid if and only if the codec takes what is open in it: whatever its extensions are, and its numbers.
+pub fn tbs_certificate_is_valid(certificate: &TbsCertificate)
+    ensures { (accepts : List ℕ → Bool) →
+        ⟦<TbsCertificate as AsnType>⟧.meaning.IsValid accepts certificate.now ↔
+        SignedPartIsTaken accepts certificate.now }
 {}
 
 impl Encode for TbsCertificate {

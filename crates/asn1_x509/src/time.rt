@@ -1,5 +1,5 @@
 //! `Time ::= CHOICE { utcTime UTCTime, generalTime GeneralizedTime }`
-ghost use Rattle.std.specs.Prelude.{[], codes, refl, ◌∷◌};
+ghost use Rattle.std.specs.Prelude.{Bool, List, [], codes, refl, ℕ, ◌∷◌};
 ghost use Rattle.asn1_schema.specs.Words.{IsWellTagged, choice_agrees, choice_of, choice_of_cases, inl, inr, untagged, variant};
 ghost use Rattle.asn1_x509.specs.declared.time.Time.TheVariants.{Utc, General};
 
@@ -80,6 +80,12 @@ impl ChoiceType for Time {
 /// A `Time` can be inside other types: the tags of its alternatives are distinct.
 pub fn time_is_well_tagged()
     ensures { IsWellTagged ⟦<Time as AsnType>⟧.meaning }
+{}
+
+/// Each `Time` is valid.
+pub fn time_is_valid(time: &Time)
+    ensures { (accepts : List ℕ → Bool) →
+        ⟦<Time as AsnType>⟧.meaning.IsValid accepts time.now }
 {}
 
 impl Encode for Time {

@@ -1,5 +1,5 @@
 //! `Validity ::= SEQUENCE { notBefore Time, notAfter Time }`
-ghost use Rattle.std.specs.Prelude.{[], codes, ◌∷◌};
+ghost use Rattle.std.specs.Prelude.{Bool, List, [], codes, ℕ, ◌∷◌};
 ghost use Rattle.asn1_schema.specs.Words.{IsWellTagged, constructed_agrees, constructed_type, required_slot, sequence_of_slots, untagged};
 
 use crate::time::Time;
@@ -82,6 +82,12 @@ impl ConstructedType for Validity {
 /// A `Validity` can be inside other types.
 pub fn validity_is_well_tagged()
     ensures { IsWellTagged ⟦<Validity as AsnType>⟧.meaning }
+{}
+
+/// Each `Validity` is valid, also one that ends before it begins.
+pub fn validity_is_valid(validity: &Validity)
+    ensures { (accepts : List ℕ → Bool) →
+        ⟦<Validity as AsnType>⟧.meaning.IsValid accepts validity.now }
 {}
 
 impl Encode for Validity {

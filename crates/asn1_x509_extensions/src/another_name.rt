@@ -1,5 +1,5 @@
 //! `AnotherName ::= SEQUENCE { type-id OBJECT IDENTIFIER, value [0] EXPLICIT ANY DEFINED BY type-id }`
-ghost use Rattle.std.specs.Prelude.{[], codes, ◌∷◌};
+ghost use Rattle.std.specs.Prelude.{Bool, IsTrue, List, [], codes, ℕ, ◌↔◌, ◌∷◌};
 ghost use Rattle.asn1_schema.specs.Words.{IsWellTagged, constructed_agrees, constructed_type, context, explicitly_tagged, required_slot, sequence_of_slots, untagged};
 
 use asn1_schema::{
@@ -84,6 +84,13 @@ impl ConstructedType for AnotherName {
 /// An `AnotherName` can be inside other types.
 pub fn another_name_is_well_tagged()
     ensures { IsWellTagged ⟦<AnotherName as AsnType>⟧.meaning }
+{}
+
+/// An `AnotherName` is valid if and only if the codec takes its value.
+pub fn another_name_is_valid(name: &AnotherName)
+    ensures { (accepts : List ℕ → Bool) →
+        ⟦<AnotherName as AsnType>⟧.meaning.IsValid accepts name.now ↔
+        IsTrue (accepts name.now.value) }
 {}
 
 impl Encode for AnotherName {

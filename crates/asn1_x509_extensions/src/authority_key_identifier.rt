@@ -7,8 +7,9 @@
 //!     authorityCertSerialNumber [2] CertificateSerialNumber OPTIONAL
 //! }
 //! ```
-ghost use Rattle.std.specs.Prelude.{[], codes, ◌∷◌};
+ghost use Rattle.std.specs.Prelude.{All, Bool, IfSome, List, [], codes, ℕ, ◌↔◌, ◌∷◌};
 ghost use Rattle.asn1_schema.specs.Words.{IsWellTagged, constructed_agrees, constructed_type, context, optional_slot, sequence_of_slots, tagged};
+ghost use Rattle.asn1_x509_extensions.specs.OpenNames.{GeneralNameIsTaken};
 
 use crate::general_name::GeneralNames;
 use crate::key_identifier::KeyIdentifier;
@@ -133,6 +134,14 @@ impl ConstructedType for AuthorityKeyIdentifier {
 /// An `AuthorityKeyIdentifier` can be inside other types.
 pub fn authority_key_identifier_is_well_tagged()
     ensures { IsWellTagged ⟦<AuthorityKeyIdentifier as AsnType>⟧.meaning }
+{}
+
+/// An `AuthorityKeyIdentifier` is valid if and only if the codec takes what is open in the names of the issuer, where there are any.
+pub fn authority_key_identifier_is_valid(key: &AuthorityKeyIdentifier)
+    ensures { (accepts : List ℕ → Bool) →
+        ⟦<AuthorityKeyIdentifier as AsnType>⟧.meaning.IsValid accepts key.now ↔
+        IfSome key.now.authority_cert_issuer
+        (λ names. All (GeneralNameIsTaken accepts) names.items) }
 {}
 
 impl Encode for AuthorityKeyIdentifier {

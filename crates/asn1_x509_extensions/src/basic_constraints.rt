@@ -1,5 +1,5 @@
 //! `BasicConstraints ::= SEQUENCE { cA BOOLEAN DEFAULT FALSE, pathLenConstraint INTEGER (0..MAX) OPTIONAL }` (RFC 5280, 4.2.1.9)
-ghost use Rattle.std.specs.Prelude.{[], codes, false, ◌∷◌};
+ghost use Rattle.std.specs.Prelude.{Bool, List, [], codes, false, ℕ, ◌∷◌};
 ghost use Rattle.asn1_schema.specs.Words.{IsWellTagged, constructed_agrees, constructed_type, default_slot, optional_slot, sequence_of_slots, untagged};
 
 use crate::path_length::PathLength;
@@ -82,6 +82,12 @@ impl ConstructedType for BasicConstraints {
 /// A `BasicConstraints` can be inside other types.
 pub fn basic_constraints_is_well_tagged()
     ensures { IsWellTagged ⟦<BasicConstraints as AsnType>⟧.meaning }
+{}
+
+/// Each `BasicConstraints` is valid.
+pub fn basic_constraints_is_valid(constraints: &BasicConstraints)
+    ensures { (accepts : List ℕ → Bool) →
+        ⟦<BasicConstraints as AsnType>⟧.meaning.IsValid accepts constraints.now }
 {}
 
 impl Encode for BasicConstraints {

@@ -1,5 +1,5 @@
 //! `EDIPartyName ::= SEQUENCE { nameAssigner [0] DirectoryString OPTIONAL, partyName [1] DirectoryString }`
-ghost use Rattle.std.specs.Prelude.{[], codes, ◌∷◌};
+ghost use Rattle.std.specs.Prelude.{Bool, List, [], codes, ℕ, ◌∷◌};
 ghost use Rattle.asn1_schema.specs.Words.{IsWellTagged, constructed_agrees, constructed_type, context, optional_slot, required_slot, sequence_of_slots, tagged};
 
 use asn1_schema::{
@@ -95,6 +95,12 @@ impl ConstructedType for EdiPartyName {
 /// An `EdiPartyName` can be inside other types.
 pub fn edi_party_name_is_well_tagged()
     ensures { IsWellTagged ⟦<EdiPartyName as AsnType>⟧.meaning }
+{}
+
+/// Each `EdiPartyName` is valid.
+pub fn edi_party_name_is_valid(party: &EdiPartyName)
+    ensures { (accepts : List ℕ → Bool) →
+        ⟦<EdiPartyName as AsnType>⟧.meaning.IsValid accepts party.now }
 {}
 
 impl Encode for EdiPartyName {

@@ -13,8 +13,9 @@
 //!     registeredID              [8] OBJECT IDENTIFIER
 //! }
 //! ```
-ghost use Rattle.std.specs.Prelude.{[], codes, refl, ◌∷◌};
+ghost use Rattle.std.specs.Prelude.{Bool, List, [], codes, refl, ℕ, ◌↔◌, ◌∷◌};
 ghost use Rattle.asn1_schema.specs.Words.{IsWellTagged, choice_agrees, choice_of, choice_of_cases, context, inl, inr, tagged, variant};
+ghost use Rattle.asn1_x509_extensions.specs.OpenNames.{GeneralNameIsTaken};
 ghost use Rattle.asn1_x509_extensions.specs.declared.general_name.GeneralName.TheVariants.{Other, Rfc822, Dns, X400, Directory, EdiParty, Uri, IpAddress, RegisteredId};
 
 use crate::another_name::AnotherName;
@@ -184,6 +185,13 @@ impl ChoiceType for GeneralName {
 /// A `GeneralName` can be inside other types: the tags of its alternatives are distinct.
 pub fn general_name_is_well_tagged()
     ensures { IsWellTagged ⟦<GeneralName as AsnType>⟧.meaning }
+{}
+
+/// A `GeneralName` is valid if and only if the codec takes what is open in it.
+pub fn general_name_is_valid(name: &GeneralName)
+    ensures { (accepts : List ℕ → Bool) →
+        ⟦<GeneralName as AsnType>⟧.meaning.IsValid accepts name.now ↔
+        GeneralNameIsTaken accepts name.now }
 {}
 
 impl Encode for GeneralName {

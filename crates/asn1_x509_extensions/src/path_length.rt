@@ -1,5 +1,5 @@
 //! `INTEGER (0..MAX)`
-ghost use Rattle.std.specs.Prelude.{None, Some, codes, pos};
+ghost use Rattle.std.specs.Prelude.{Bool, List, None, Some, codes, pos, ℕ};
 ghost use Rattle.asn1_schema.specs.Words.{IsWellTagged, Range, number, universal, values_of};
 ghost use Rattle.asn1_schema.specs.model.Kinds.{scalar_type, under_own_name};
 
@@ -28,6 +28,12 @@ impl AsnType for PathLength {
 /// A `PathLength` can be inside other types.
 pub fn path_length_is_well_tagged()
     ensures { IsWellTagged ⟦<PathLength as AsnType>⟧.meaning }
+{}
+
+/// Each `PathLength` is valid, also a negative one.
+pub fn path_length_is_valid(length: &PathLength)
+    ensures { (accepts : List ℕ → Bool) →
+        ⟦<PathLength as AsnType>⟧.meaning.IsValid accepts length.now }
 {}
 
 impl Encode for PathLength {
