@@ -1,4 +1,4 @@
-//! Certificates (RFC 5280): their types, written and read by any codec. Code and clauses name `asn1_schema` alone.
+//! Certificates (RFC 5280): their types, written and read by any codec.
 //!
 //! | Item | What it is |
 //! |---|---|
@@ -21,7 +21,7 @@
 //!   takes each of them as one value (`certificate_is_valid`; `specs/OpenValues.antt`). All else is valid as it is.
 //!
 //! What a schema asks beyond that is left to whoever makes a value: that a list has an element, that a text is a time.
-#![tactic(auto, using(asn1_schema::proofs::Trees::tree_shapes))]
+#![tactic(auto, using(asn1_tags::proofs::Leaves::tree_shapes))]
 
 mod algorithm_identifier;
 mod attribute;

@@ -1,14 +1,16 @@
 //! `Name ::= CHOICE { rdnSequence RDNSequence }`
 ghost use Rattle.std.specs.Prelude.{Bool, List, [], codes, refl, ℕ, ◌↔◌, ◌∷◌};
-ghost use Rattle.asn1_schema.specs.Words.{IsWellTagged, choice_agrees, choice_of, choice_of_cases, inl, untagged, variant};
+ghost use Rattle.asn1_slots.specs.Cases.{choice_of_cases, variant};
+ghost use Rattle.asn1_types.specs.Words.{IsWellTagged, choice_agrees, choice_of, inl, untagged};
 ghost use Rattle.asn1_x509.specs.OpenValues.{NameIsTaken};
 ghost use Rattle.asn1_x509.specs.declared.name.Name.TheVariants.{Rdns};
 
 use crate::attribute::AttributeTypeAndValue;
-use asn1_schema::{
-    AsnType, Choice, ChoiceType, Constraints, Decode, DecodeChoice, DecodeChoiceByPlace,
-    DecodeError, Decoder, Encode, EncodeChoice, EncodeError, Encoder, Identifier, SetOf, Tag,
-    TagTree, Tagging, TypeTable, alternative, from_tag_by_place,
+use asn1_dec::{Decode, DecodeChoice, DecodeError, Decoder};
+use asn1_enc::{Encode, EncodeChoice, EncodeError, Encoder};
+use asn1_slots::{DecodeChoiceByPlace, Tagging, alternative, from_tag_by_place};
+use asn1_types::{
+    AsnType, Choice, ChoiceType, Constraints, Identifier, SetOf, Tag, TagTree, TypeTable,
 };
 
 /// `RelativeDistinguishedName ::= SET SIZE (1..MAX) OF AttributeTypeAndValue`. That there is one is the caller's to see.

@@ -8,17 +8,19 @@
 //! }
 //! ```
 ghost use Rattle.std.specs.Prelude.{All, Bool, IfSome, List, [], codes, ℕ, ◌↔◌, ◌∷◌};
-ghost use Rattle.asn1_schema.specs.Words.{IsWellTagged, constructed_agrees, constructed_type, context, optional_slot, sequence_of_slots, tagged};
+ghost use Rattle.asn1_slots.specs.Slots.{optional_slot, sequence_of_slots};
+ghost use Rattle.asn1_types.specs.Words.{IsWellTagged, constructed_agrees, constructed_type, context, tagged};
 ghost use Rattle.asn1_x509_extensions.specs.OpenNames.{GeneralNameIsTaken};
 
 use crate::general_name::GeneralNames;
 use crate::key_identifier::KeyIdentifier;
-use asn1_schema::{
-    AsnType, Constraints, ConstructedType, Decode, DecodeByPlace, DecodeError, Decoded, Decoder,
-    Encode, EncodeError, EncodeFields, Encoder, Field, FieldTable, Identifier, Tag, Tagging,
-    TypeTable, decode_sequence_by_place, optional,
-};
+use asn1_dec::{Decode, DecodeError, Decoder};
+use asn1_enc::{Encode, EncodeError, EncodeFields, Encoder};
+use asn1_slots::{DecodeByPlace, Decoded, Tagging, decode_sequence_by_place, optional};
 use asn1_tags::tag;
+use asn1_types::{
+    AsnType, Constraints, ConstructedType, Field, FieldTable, Identifier, Tag, TypeTable,
+};
 use asn1_x509::CertificateSerialNumber;
 use std::alloc::Global;
 

@@ -1,8 +1,9 @@
 //! Names of keys, and what a key may be used for.
-ghost use Rattle.asn1_schema.specs.Words.{IsWellTagged};
+ghost use Rattle.asn1_types.specs.Words.{IsWellTagged};
 ghost use Rattle.std.specs.Prelude.{Bool, List, ℕ};
 
-use asn1_schema::{AsnType, BitString, ObjectIdentifier, OctetString};
+use asn1_strings::{BitString, ObjectIdentifier, OctetString};
+use asn1_types::AsnType;
 
 /// `KeyIdentifier ::= OCTET STRING` (RFC 5280, 4.2.1.1)
 pub type KeyIdentifier = OctetString;

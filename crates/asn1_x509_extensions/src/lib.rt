@@ -19,7 +19,7 @@
 //!
 //! The value of an [`asn1_x509::Extension`] is the bytes that a codec makes of one of these. What a schema asks beyond that
 //! is left to whoever makes a value: that a list has an element, and how long a text is.
-#![tactic(auto, using(asn1_schema::proofs::Trees::tree_shapes))]
+#![tactic(auto, using(asn1_tags::proofs::Leaves::tree_shapes))]
 
 mod another_name;
 mod authority_key_identifier;
