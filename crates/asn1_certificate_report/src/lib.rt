@@ -2,8 +2,6 @@
 //!
 //! | Item | What it is |
 //! |---|---|
-//! | [`show`], [`ShowError`] | an input as a report, or why there is none |
-//! | [`Locates`] | a codec that tells where it could not read on |
 //! | [`report`] | a certificate as lines |
 //! | [`MAX_DEPTH`] | how deep certificates may be nested |
 //!
@@ -20,9 +18,7 @@ mod general_names;
 mod inside;
 mod keys;
 mod lines;
-mod show;
 mod times;
 
 pub use certificate::report;
 pub use inside::MAX_DEPTH;
-pub use show::{Locates, ShowError, show};

@@ -1,17 +1,9 @@
 //! An input as a report.
-use crate::certificate::report;
-use crate::inside::MAX_DEPTH;
+use asn1_certificate_report::{MAX_DEPTH, report};
 use asn1_certificate_text::{PemError, is_pem, pem_octets};
-use asn1_schema::{Decode, DecodeError, Rules};
-use asn1_x509::Certificate;
+use asn1_schema::{DecodeError, Rules};
 use std::alloc::{AllocError, Global};
 use thiserror::Error;
-
-/// A codec that tells where it could not read on.
-pub trait Locates {
-    /// How many of the octets a value of the type was read of before it could be read no further.
-    fn octets_read<T: Decode>(&self, octets: &[u8], depth: usize) -> usize;
-}
 
 /// Why an input has no report. Places are those of bytes, from 0.
 #[derive(Clone, Copy, Debug, Drop, Error)]
@@ -20,15 +12,8 @@ pub enum ShowError {
     #[error("{0}")]
     Pem(PemError),
     /// The octets are no certificate.
-    #[error("no certificate at byte {place} of {length}: {error}")]
-    NotRead {
-        /// The place in the octets where it could be read no further.
-        place: usize,
-        /// How many octets there are.
-        length: usize,
-        /// Why.
-        error: DecodeError,
-    },
+    #[error("no certificate: {0}")]
+    NotRead(DecodeError),
     /// There was no memory.
     #[error("no memory")]
     Memory,
@@ -54,7 +39,7 @@ impl From<PemError> for ShowError {
 /// # Errors
 /// [`ShowError::Pem`] where a text has no certificate, [`ShowError::NotRead`] where its octets are none, and
 /// [`ShowError::Memory`].
-pub fn show<R: Rules<Output = Vec<u8>> + Locates>(
+pub fn show<R: Rules<Output = Vec<u8>>>(
     rules: &R,
     alloc: Global,
     input: Vec<u8>,
@@ -63,11 +48,7 @@ pub fn show<R: Rules<Output = Vec<u8>> + Locates>(
     match rules.read_value(&octets, MAX_DEPTH) {
         Ok(certificate) => Ok(report(rules, alloc, &certificate)?),
         Err(DecodeError::Memory) => Err(ShowError::Memory),
-        Err(error) => Err(ShowError::NotRead {
-            place: rules.octets_read::<Certificate>(octets.as_slice(), MAX_DEPTH),
-            length: octets.len(),
-            error,
-        }),
+        Err(error) => Err(ShowError::NotRead(error)),
     }
 }
 
