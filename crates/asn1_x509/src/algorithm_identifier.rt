@@ -1,11 +1,12 @@
 //! `AlgorithmIdentifier ::= SEQUENCE { algorithm OBJECT IDENTIFIER, parameters ANY DEFINED BY algorithm OPTIONAL }`
 ghost use Rattle.std.specs.Prelude.{Bool, IfSome, IsTrue, List, [], codes, ℕ, ◌↔◌, ◌∷◌};
-ghost use Rattle.asn1_schema.specs.Words.{IsWellTagged, constructed_agrees, constructed_type, optional_slot, required_slot, sequence_of_slots, slots_agree, untagged};
+ghost use Rattle.asn1_schema.specs.Words.{IsWellTagged, constructed_agrees, constructed_type, optional_slot, required_slot, sequence_of_slots, untagged};
 
 use asn1_schema::{
-    Any, AsnType, Constraints, ConstructedType, Decode, DecodeByPlace, DecodeError, DecodeFields,
+    Any, AsnType, Constraints, ConstructedType, Decode, DecodeByPlace, DecodeError, Decoded,
     Decoder, Encode, EncodeError, EncodeFields, Encoder, Field, FieldTable, Identifier,
-    ObjectIdentifier, Slotted, Tag, Tagging, TypeTable, filled, optional, required,
+    ObjectIdentifier, Tag, Tagging, TypeTable, decode_sequence_by_place, filled, optional,
+    required,
 };
 use std::alloc::Global;
 
@@ -18,7 +19,7 @@ pub struct AlgorithmIdentifier {
     pub parameters: Option<Any>,
 }
 
-impl Slotted for AlgorithmIdentifier {
+impl DecodeByPlace for AlgorithmIdentifier {
     type Slots = (Option<ObjectIdentifier>, Option<Any>);
 
     ghost layout = { required_slot (codes "algorithm") (λ v. v.algorithm) (λ s. s.0)
@@ -32,10 +33,18 @@ impl Slotted for AlgorithmIdentifier {
             parameters: slots.1,
         })
     }
+
+    fn decode_field<D: Decoder>(place: usize, slots: &mut Self::Slots, decoder: &mut D) -> Decoded {
+        match place {
+            0 => required(&mut slots.0, decoder, Tagging::Untagged),
+            1 => optional(&mut slots.1, decoder, Tagging::Untagged),
+            _ => Ok(()),
+        }
+    }
 }
 
 impl FieldTable for AlgorithmIdentifier {
-    ghost components = { sequence_of_slots ⟦<AlgorithmIdentifier as Slotted>⟧.layout };
+    ghost components = { sequence_of_slots ⟦<AlgorithmIdentifier as DecodeByPlace>⟧.layout };
 
     fn field_count() -> usize {
         2
@@ -103,30 +112,8 @@ impl Decode for AlgorithmIdentifier {
         tag: Tag,
         _constraints: &Constraints<'_>,
     ) -> Result<AlgorithmIdentifier, DecodeError> {
-        decoder.decode_sequence(tag)
+        decode_sequence_by_place(decoder, tag)
     }
-}
-
-impl DecodeFields for AlgorithmIdentifier {
-    fn decode_fields<D: Decoder>(decoder: &mut D) -> Result<AlgorithmIdentifier, DecodeError> {
-        AlgorithmIdentifier::decode_by_place(decoder)
-    }
-}
-
-impl DecodeByPlace for AlgorithmIdentifier {
-    fn decode_field<D: Decoder>(
-        place: usize,
-        slots: &mut Self::Slots,
-        decoder: &mut D,
-    ) -> Result<(), DecodeError> {
-        match place {
-            0 => required(&mut slots.0, decoder, Tagging::Untagged),
-            1 => optional(&mut slots.1, decoder, Tagging::Untagged),
-            _ => Ok(()),
-        }
-    }
-
-    ghost agrees = { slots_agree ⟦<AlgorithmIdentifier as FieldTable>⟧.components };
 }
 
 /// An `AlgorithmIdentifier` is valid if and only if the codec takes its parameters as one value, where there are any.

@@ -1,14 +1,14 @@
 //! `Certificate ::= SEQUENCE { tbsCertificate TBSCertificate, signatureAlgorithm AlgorithmIdentifier, signatureValue BIT STRING }`
 //! (RFC 5280, 4.1).
 ghost use Rattle.std.specs.Prelude.{[], codes, ◌∷◌};
-ghost use Rattle.asn1_schema.specs.Words.{IsWellTagged, constructed_agrees, constructed_type, required_slot, sequence_of_slots, slots_agree, untagged};
+ghost use Rattle.asn1_schema.specs.Words.{IsWellTagged, constructed_agrees, constructed_type, required_slot, sequence_of_slots, untagged};
 
 use crate::algorithm_identifier::AlgorithmIdentifier;
 use crate::tbs_certificate::TbsCertificate;
 use asn1_schema::{
-    AsnType, BitString, Constraints, ConstructedType, Decode, DecodeByPlace, DecodeError,
-    DecodeFields, Decoder, Encode, EncodeError, EncodeFields, Encoder, Field, FieldTable,
-    Identifier, Slotted, Tag, Tagging, TypeTable, filled, required,
+    AsnType, BitString, Constraints, ConstructedType, Decode, DecodeByPlace, DecodeError, Decoded,
+    Decoder, Encode, EncodeError, EncodeFields, Encoder, Field, FieldTable, Identifier, Tag,
+    Tagging, TypeTable, decode_sequence_by_place, filled, required,
 };
 use std::alloc::Global;
 
@@ -23,7 +23,7 @@ pub struct Certificate {
     pub signature_value: BitString,
 }
 
-impl Slotted for Certificate {
+impl DecodeByPlace for Certificate {
     type Slots = (
         Option<TbsCertificate>,
         Option<AlgorithmIdentifier>,
@@ -44,10 +44,19 @@ impl Slotted for Certificate {
             signature_value: filled(slots.2, "signatureValue")?,
         })
     }
+
+    fn decode_field<D: Decoder>(place: usize, slots: &mut Self::Slots, decoder: &mut D) -> Decoded {
+        match place {
+            0 => required(&mut slots.0, decoder, Tagging::Untagged),
+            1 => required(&mut slots.1, decoder, Tagging::Untagged),
+            2 => required(&mut slots.2, decoder, Tagging::Untagged),
+            _ => Ok(()),
+        }
+    }
 }
 
 impl FieldTable for Certificate {
-    ghost components = { sequence_of_slots ⟦<Certificate as Slotted>⟧.layout };
+    ghost components = { sequence_of_slots ⟦<Certificate as DecodeByPlace>⟧.layout };
 
     fn field_count() -> usize {
         3
@@ -117,29 +126,6 @@ impl Decode for Certificate {
         tag: Tag,
         _constraints: &Constraints<'_>,
     ) -> Result<Certificate, DecodeError> {
-        decoder.decode_sequence(tag)
+        decode_sequence_by_place(decoder, tag)
     }
-}
-
-impl DecodeFields for Certificate {
-    fn decode_fields<D: Decoder>(decoder: &mut D) -> Result<Certificate, DecodeError> {
-        Certificate::decode_by_place(decoder)
-    }
-}
-
-impl DecodeByPlace for Certificate {
-    fn decode_field<D: Decoder>(
-        place: usize,
-        slots: &mut Self::Slots,
-        decoder: &mut D,
-    ) -> Result<(), DecodeError> {
-        match place {
-            0 => required(&mut slots.0, decoder, Tagging::Untagged),
-            1 => required(&mut slots.1, decoder, Tagging::Untagged),
-            2 => required(&mut slots.2, decoder, Tagging::Untagged),
-            _ => Ok(()),
-        }
-    }
-
-    ghost agrees = { slots_agree ⟦<Certificate as FieldTable>⟧.components };
 }

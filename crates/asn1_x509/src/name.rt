@@ -1,13 +1,13 @@
 //! `Name ::= CHOICE { rdnSequence RDNSequence }`
 ghost use Rattle.std.specs.Prelude.{[], codes, refl, ◌∷◌};
-ghost use Rattle.asn1_schema.specs.Words.{IsWellTagged, cases_agree, choice_agrees, choice_of, choice_of_cases, inl, untagged, variant};
+ghost use Rattle.asn1_schema.specs.Words.{IsWellTagged, choice_agrees, choice_of, choice_of_cases, inl, untagged, variant};
 ghost use Rattle.asn1_x509.specs.declared.name.Name.TheVariants.{Rdns};
 
 use crate::attribute::AttributeTypeAndValue;
 use asn1_schema::{
     AsnType, Choice, ChoiceType, Constraints, Decode, DecodeChoice, DecodeChoiceByPlace,
-    DecodeError, Decoder, Encode, EncodeChoice, EncodeError, Encoder, HasCases, Identifier, SetOf,
-    Tag, TagTree, Tagging, TypeTable, alternative,
+    DecodeError, Decoder, Encode, EncodeChoice, EncodeError, Encoder, Identifier, SetOf, Tag,
+    TagTree, Tagging, TypeTable, alternative, from_tag_by_place,
 };
 
 /// `RelativeDistinguishedName ::= SET SIZE (1..MAX) OF AttributeTypeAndValue`. That there is one is the caller's to see.
@@ -26,17 +26,26 @@ pub enum Name {
 /// The trees of the alternatives.
 const NAME: &[TagTree<'static>] = &[TagTree::Leaf(Tag::SEQUENCE)];
 
-impl HasCases for Name {
+impl DecodeChoiceByPlace for Name {
     ghost cases = { variant (codes "rdnSequence") Rdns (untagged ⟦<RdnSequence as AsnType>⟧.meaning)
         ⟦<RdnSequence as PartialEq>⟧.eq ∷ [] };
 
     ghost case_of = { elim [ Rdns rdns ↦ inl rdns ] };
+
+    fn decode_alternative<D: Decoder>(place: usize, decoder: &mut D) -> Result<Self, DecodeError> {
+        match place {
+            0 => Ok(Name::Rdns(alternative(decoder, Tagging::Untagged)?)),
+            _ => Err(DecodeError::NoValidChoice("Name")),
+        }
+    }
+
+    ghost made = { elim [ Rdns x ↦ (refl, λ _. refl) ] };
 }
 
 impl Choice for Name {
-    ghost alternatives = { choice_of_cases ⟦<Name as HasCases>⟧.cases };
+    ghost alternatives = { choice_of_cases ⟦<Name as DecodeChoiceByPlace>⟧.cases };
 
-    ghost pick = { ⟦<Name as HasCases>⟧.case_of };
+    ghost pick = { ⟦<Name as DecodeChoiceByPlace>⟧.case_of };
 
     fn variants() -> &'static [TagTree<'static>] {
         NAME
@@ -110,19 +119,6 @@ impl Decode for Name {
 
 impl DecodeChoice for Name {
     fn from_tag<D: Decoder>(decoder: &mut D, tag: Tag) -> Result<Name, DecodeError> {
-        Name::from_tag_by_place(decoder, tag)
+        from_tag_by_place(decoder, tag)
     }
-}
-
-impl DecodeChoiceByPlace for Name {
-    fn decode_alternative<D: Decoder>(place: usize, decoder: &mut D) -> Result<Self, DecodeError> {
-        match place {
-            0 => Ok(Name::Rdns(alternative(decoder, Tagging::Untagged)?)),
-            _ => Err(DecodeError::NoValidChoice("Name")),
-        }
-    }
-
-    ghost agrees = { λ v. cases_agree ⟦<Name as HasCases>⟧.cases (⟦<Name as HasCases>⟧.case_of v) };
-
-    ghost made = { elim [ Rdns x ↦ (refl, λ _. refl) ] };
 }

@@ -1,11 +1,11 @@
 //! `RSAPublicKey ::= SEQUENCE { modulus INTEGER, publicExponent INTEGER }` (RFC 3279, 2.3.1)
 ghost use Rattle.std.specs.Prelude.{[], codes, ◌∷◌};
-ghost use Rattle.asn1_schema.specs.Words.{IsWellTagged, constructed_agrees, constructed_type, required_slot, sequence_of_slots, slots_agree, untagged};
+ghost use Rattle.asn1_schema.specs.Words.{IsWellTagged, constructed_agrees, constructed_type, required_slot, sequence_of_slots, untagged};
 
 use asn1_schema::{
-    AsnType, Constraints, ConstructedType, Decode, DecodeByPlace, DecodeError, DecodeFields,
-    Decoder, Encode, EncodeError, EncodeFields, Encoder, Field, FieldTable, Identifier, Integer,
-    Slotted, Tag, Tagging, TypeTable, filled, required,
+    AsnType, Constraints, ConstructedType, Decode, DecodeByPlace, DecodeError, Decoded, Decoder,
+    Encode, EncodeError, EncodeFields, Encoder, Field, FieldTable, Identifier, Integer, Tag,
+    Tagging, TypeTable, decode_sequence_by_place, filled, required,
 };
 use std::alloc::Global;
 
@@ -18,7 +18,7 @@ pub struct RsaPublicKey {
     pub public_exponent: Integer,
 }
 
-impl Slotted for RsaPublicKey {
+impl DecodeByPlace for RsaPublicKey {
     type Slots = (Option<Integer>, Option<Integer>);
 
     ghost layout = { required_slot (codes "modulus") (λ v. v.modulus) (λ s. s.0)
@@ -32,10 +32,18 @@ impl Slotted for RsaPublicKey {
             public_exponent: filled(slots.1, "publicExponent")?,
         })
     }
+
+    fn decode_field<D: Decoder>(place: usize, slots: &mut Self::Slots, decoder: &mut D) -> Decoded {
+        match place {
+            0 => required(&mut slots.0, decoder, Tagging::Untagged),
+            1 => required(&mut slots.1, decoder, Tagging::Untagged),
+            _ => Ok(()),
+        }
+    }
 }
 
 impl FieldTable for RsaPublicKey {
-    ghost components = { sequence_of_slots ⟦<RsaPublicKey as Slotted>⟧.layout };
+    ghost components = { sequence_of_slots ⟦<RsaPublicKey as DecodeByPlace>⟧.layout };
 
     fn field_count() -> usize {
         2
@@ -103,28 +111,6 @@ impl Decode for RsaPublicKey {
         tag: Tag,
         _constraints: &Constraints<'_>,
     ) -> Result<RsaPublicKey, DecodeError> {
-        decoder.decode_sequence(tag)
+        decode_sequence_by_place(decoder, tag)
     }
-}
-
-impl DecodeFields for RsaPublicKey {
-    fn decode_fields<D: Decoder>(decoder: &mut D) -> Result<RsaPublicKey, DecodeError> {
-        RsaPublicKey::decode_by_place(decoder)
-    }
-}
-
-impl DecodeByPlace for RsaPublicKey {
-    fn decode_field<D: Decoder>(
-        place: usize,
-        slots: &mut Self::Slots,
-        decoder: &mut D,
-    ) -> Result<(), DecodeError> {
-        match place {
-            0 => required(&mut slots.0, decoder, Tagging::Untagged),
-            1 => required(&mut slots.1, decoder, Tagging::Untagged),
-            _ => Ok(()),
-        }
-    }
-
-    ghost agrees = { slots_agree ⟦<RsaPublicKey as FieldTable>⟧.components };
 }

@@ -1,13 +1,13 @@
 //! `SIGNED{ToBeSigned} ::= SEQUENCE { toBeSigned ToBeSigned, algorithmIdentifier AlgorithmIdentifier, encrypted BIT STRING }`
 //! (X.509, 6.2.1)
 ghost use Rattle.std.specs.Prelude.{Bool, IsTrue, IfSome, List, [], codes, ℕ, ◌↔◌, ◌∷◌};
-ghost use Rattle.asn1_schema.specs.Words.{IsWellTagged, constructed_agrees, constructed_type, required, required_slot, sequence, slots_agree, untagged};
+ghost use Rattle.asn1_schema.specs.Words.{IsWellTagged, constructed_agrees, constructed_type, required, required_slot, sequence, untagged};
 
 use crate::algorithm_identifier::AlgorithmIdentifier;
 use asn1_schema::{
-    AsnType, BitString, Constraints, ConstructedType, Decode, DecodeByPlace, DecodeError,
-    DecodeFields, Decoder, Encode, EncodeError, EncodeFields, Encoder, Field, FieldTable,
-    Identifier, Slotted, Tag, Tagging, TypeTable, filled, required,
+    AsnType, BitString, Constraints, ConstructedType, Decode, DecodeByPlace, DecodeError, Decoded,
+    Decoder, Encode, EncodeError, EncodeFields, Encoder, Field, FieldTable, Identifier, Tag,
+    Tagging, TypeTable, decode_sequence_by_place, filled, required,
 };
 use std::alloc::Global;
 
@@ -22,7 +22,7 @@ pub struct Signed<T> {
     pub encrypted: BitString,
 }
 
-impl<T: Decode> Slotted for Signed<T> {
+impl<T: Decode> DecodeByPlace for Signed<T> {
     type Slots = (Option<T>, Option<AlgorithmIdentifier>, Option<BitString>);
 
     ghost layout = { required_slot (codes "toBeSigned") (λ v. v.to_be_signed) (λ s. s.0)
@@ -39,6 +39,15 @@ impl<T: Decode> Slotted for Signed<T> {
             algorithm_identifier: filled(slots.1, "algorithmIdentifier")?,
             encrypted: filled(slots.2, "encrypted")?,
         })
+    }
+
+    fn decode_field<D: Decoder>(place: usize, slots: &mut Self::Slots, decoder: &mut D) -> Decoded {
+        match place {
+            0 => required(&mut slots.0, decoder, Tagging::Untagged),
+            1 => required(&mut slots.1, decoder, Tagging::Untagged),
+            2 => required(&mut slots.2, decoder, Tagging::Untagged),
+            _ => Ok(()),
+        }
     }
 }
 
@@ -126,29 +135,6 @@ impl<T: Decode> Decode for Signed<T> {
         tag: Tag,
         _constraints: &Constraints<'_>,
     ) -> Result<Signed<T>, DecodeError> {
-        decoder.decode_sequence(tag)
+        decode_sequence_by_place(decoder, tag)
     }
-}
-
-impl<T: Decode> DecodeFields for Signed<T> {
-    fn decode_fields<D: Decoder>(decoder: &mut D) -> Result<Signed<T>, DecodeError> {
-        Signed::<T>::decode_by_place(decoder)
-    }
-}
-
-impl<T: Decode> DecodeByPlace for Signed<T> {
-    fn decode_field<D: Decoder>(
-        place: usize,
-        slots: &mut Self::Slots,
-        decoder: &mut D,
-    ) -> Result<(), DecodeError> {
-        match place {
-            0 => required(&mut slots.0, decoder, Tagging::Untagged),
-            1 => required(&mut slots.1, decoder, Tagging::Untagged),
-            2 => required(&mut slots.2, decoder, Tagging::Untagged),
-            _ => Ok(()),
-        }
-    }
-
-    ghost agrees = { slots_agree ⟦<Signed<T> as FieldTable>⟧.components };
 }

@@ -8,15 +8,16 @@
 //! }
 //! ```
 ghost use Rattle.std.specs.Prelude.{[], codes, ◌∷◌};
-ghost use Rattle.asn1_schema.specs.Words.{IsWellTagged, constructed_agrees, constructed_type, context, optional_slot, sequence_of_slots, slots_agree, tagged};
+ghost use Rattle.asn1_schema.specs.Words.{IsWellTagged, constructed_agrees, constructed_type, context, optional_slot, sequence_of_slots, tagged};
 
 use crate::general_name::GeneralNames;
 use crate::key_identifier::KeyIdentifier;
 use asn1_schema::{
-    AsnType, Class, Constraints, ConstructedType, Decode, DecodeByPlace, DecodeError, DecodeFields,
-    Decoder, Encode, EncodeError, EncodeFields, Encoder, Field, FieldTable, Identifier, Slotted,
-    Tag, Tagging, TypeTable, optional,
+    AsnType, Constraints, ConstructedType, Decode, DecodeByPlace, DecodeError, Decoded, Decoder,
+    Encode, EncodeError, EncodeFields, Encoder, Field, FieldTable, Identifier, Tag, Tagging,
+    TypeTable, decode_sequence_by_place, optional,
 };
+use asn1_tags::tag;
 use asn1_x509::CertificateSerialNumber;
 use std::alloc::Global;
 
@@ -31,22 +32,13 @@ pub struct AuthorityKeyIdentifier {
     pub authority_cert_serial_number: Option<CertificateSerialNumber>,
 }
 
-const KEY_IDENTIFIER: Tag = Tag {
-    class: Class::Context,
-    value: 0,
-};
+const KEY_IDENTIFIER: Tag = tag!(context 0);
 
-const AUTHORITY_CERT_ISSUER: Tag = Tag {
-    class: Class::Context,
-    value: 1,
-};
+const AUTHORITY_CERT_ISSUER: Tag = tag!(context 1);
 
-const AUTHORITY_CERT_SERIAL_NUMBER: Tag = Tag {
-    class: Class::Context,
-    value: 2,
-};
+const AUTHORITY_CERT_SERIAL_NUMBER: Tag = tag!(context 2);
 
-impl Slotted for AuthorityKeyIdentifier {
+impl DecodeByPlace for AuthorityKeyIdentifier {
     type Slots = (
         Option<KeyIdentifier>,
         Option<GeneralNames>,
@@ -70,10 +62,27 @@ impl Slotted for AuthorityKeyIdentifier {
             authority_cert_serial_number: slots.2,
         })
     }
+
+    fn decode_field<D: Decoder>(place: usize, slots: &mut Self::Slots, decoder: &mut D) -> Decoded {
+        match place {
+            0 => optional(&mut slots.0, decoder, Tagging::Tagged(KEY_IDENTIFIER)),
+            1 => optional(
+                &mut slots.1,
+                decoder,
+                Tagging::Tagged(AUTHORITY_CERT_ISSUER),
+            ),
+            2 => optional(
+                &mut slots.2,
+                decoder,
+                Tagging::Tagged(AUTHORITY_CERT_SERIAL_NUMBER),
+            ),
+            _ => Ok(()),
+        }
+    }
 }
 
 impl FieldTable for AuthorityKeyIdentifier {
-    ghost components = { sequence_of_slots ⟦<AuthorityKeyIdentifier as Slotted>⟧.layout };
+    ghost components = { sequence_of_slots ⟦<AuthorityKeyIdentifier as DecodeByPlace>⟧.layout };
 
     fn field_count() -> usize {
         3
@@ -159,37 +168,6 @@ impl Decode for AuthorityKeyIdentifier {
         tag: Tag,
         _constraints: &Constraints<'_>,
     ) -> Result<AuthorityKeyIdentifier, DecodeError> {
-        decoder.decode_sequence(tag)
+        decode_sequence_by_place(decoder, tag)
     }
-}
-
-impl DecodeFields for AuthorityKeyIdentifier {
-    fn decode_fields<D: Decoder>(decoder: &mut D) -> Result<AuthorityKeyIdentifier, DecodeError> {
-        AuthorityKeyIdentifier::decode_by_place(decoder)
-    }
-}
-
-impl DecodeByPlace for AuthorityKeyIdentifier {
-    fn decode_field<D: Decoder>(
-        place: usize,
-        slots: &mut Self::Slots,
-        decoder: &mut D,
-    ) -> Result<(), DecodeError> {
-        match place {
-            0 => optional(&mut slots.0, decoder, Tagging::Tagged(KEY_IDENTIFIER)),
-            1 => optional(
-                &mut slots.1,
-                decoder,
-                Tagging::Tagged(AUTHORITY_CERT_ISSUER),
-            ),
-            2 => optional(
-                &mut slots.2,
-                decoder,
-                Tagging::Tagged(AUTHORITY_CERT_SERIAL_NUMBER),
-            ),
-            _ => Ok(()),
-        }
-    }
-
-    ghost agrees = { slots_agree ⟦<AuthorityKeyIdentifier as FieldTable>⟧.components };
 }

@@ -1,12 +1,13 @@
 //! `EDIPartyName ::= SEQUENCE { nameAssigner [0] DirectoryString OPTIONAL, partyName [1] DirectoryString }`
 ghost use Rattle.std.specs.Prelude.{[], codes, ◌∷◌};
-ghost use Rattle.asn1_schema.specs.Words.{IsWellTagged, constructed_agrees, constructed_type, context, optional_slot, required_slot, sequence_of_slots, slots_agree, tagged};
+ghost use Rattle.asn1_schema.specs.Words.{IsWellTagged, constructed_agrees, constructed_type, context, optional_slot, required_slot, sequence_of_slots, tagged};
 
 use asn1_schema::{
-    AsnType, Class, Constraints, ConstructedType, Decode, DecodeByPlace, DecodeError, DecodeFields,
-    Decoder, Encode, EncodeError, EncodeFields, Encoder, Field, FieldTable, Identifier, Slotted,
-    Tag, Tagging, TypeTable, filled, optional, required,
+    AsnType, Constraints, ConstructedType, Decode, DecodeByPlace, DecodeError, Decoded, Decoder,
+    Encode, EncodeError, EncodeFields, Encoder, Field, FieldTable, Identifier, Tag, Tagging,
+    TypeTable, decode_sequence_by_place, filled, optional, required,
 };
+use asn1_tags::tag;
 use asn1_x509::DirectoryString;
 use std::alloc::Global;
 
@@ -19,17 +20,11 @@ pub struct EdiPartyName {
     pub party_name: DirectoryString,
 }
 
-const NAME_ASSIGNER: Tag = Tag {
-    class: Class::Context,
-    value: 0,
-};
+const NAME_ASSIGNER: Tag = tag!(context 0);
 
-const PARTY_NAME: Tag = Tag {
-    class: Class::Context,
-    value: 1,
-};
+const PARTY_NAME: Tag = tag!(context 1);
 
-impl Slotted for EdiPartyName {
+impl DecodeByPlace for EdiPartyName {
     type Slots = (Option<DirectoryString>, Option<DirectoryString>);
 
     ghost layout = { optional_slot (codes "nameAssigner") (λ v. v.name_assigner) (λ s. s.0)
@@ -43,10 +38,18 @@ impl Slotted for EdiPartyName {
             party_name: filled(slots.1, "partyName")?,
         })
     }
+
+    fn decode_field<D: Decoder>(place: usize, slots: &mut Self::Slots, decoder: &mut D) -> Decoded {
+        match place {
+            0 => optional(&mut slots.0, decoder, Tagging::Tagged(NAME_ASSIGNER)),
+            1 => required(&mut slots.1, decoder, Tagging::Tagged(PARTY_NAME)),
+            _ => Ok(()),
+        }
+    }
 }
 
 impl FieldTable for EdiPartyName {
-    ghost components = { sequence_of_slots ⟦<EdiPartyName as Slotted>⟧.layout };
+    ghost components = { sequence_of_slots ⟦<EdiPartyName as DecodeByPlace>⟧.layout };
 
     fn field_count() -> usize {
         2
@@ -122,28 +125,6 @@ impl Decode for EdiPartyName {
         tag: Tag,
         _constraints: &Constraints<'_>,
     ) -> Result<EdiPartyName, DecodeError> {
-        decoder.decode_sequence(tag)
+        decode_sequence_by_place(decoder, tag)
     }
-}
-
-impl DecodeFields for EdiPartyName {
-    fn decode_fields<D: Decoder>(decoder: &mut D) -> Result<EdiPartyName, DecodeError> {
-        EdiPartyName::decode_by_place(decoder)
-    }
-}
-
-impl DecodeByPlace for EdiPartyName {
-    fn decode_field<D: Decoder>(
-        place: usize,
-        slots: &mut Self::Slots,
-        decoder: &mut D,
-    ) -> Result<(), DecodeError> {
-        match place {
-            0 => optional(&mut slots.0, decoder, Tagging::Tagged(NAME_ASSIGNER)),
-            1 => required(&mut slots.1, decoder, Tagging::Tagged(PARTY_NAME)),
-            _ => Ok(()),
-        }
-    }
-
-    ghost agrees = { slots_agree ⟦<EdiPartyName as FieldTable>⟧.components };
 }
