@@ -1,171 +1,172 @@
 //! Extensions.
-use crate::general_names::push_general_name;
+use crate::general_names::general_names_of;
 use crate::inside::read_inside;
-use crate::lines::{push_number, push_object};
-use asn1_certificate_text::{push_octets, push_usages};
-use asn1_schema::{DecodeError, ObjectIdentifier, Rules};
+use crate::objects::{all_named, named};
+use crate::simple::{copy_of, octet_number};
+use asn1_certificate_report::{Authority, AuthorityKey, ExtensionValue, ShownExtension};
+use asn1_schema::Rules;
 use asn1_x509::Extension;
 use asn1_x509_extensions::{
     AuthorityKeyIdentifier, BasicConstraints, GeneralNames, KeyIdentifier, KeyPurposeId, KeyUsage,
 };
 use std::alloc::{AllocError, Global};
-use std::fmt::Write;
 
-/// A kind of extension that has a type here (RFC 5280, 4.2).
-#[derive(Clone, Copy)]
-enum Kind {
-    SubjectKeyIdentifier,
-    KeyUsage,
-    AlternativeNames,
-    BasicConstraints,
-    AuthorityKeyIdentifier,
-    KeyPurposes,
-}
-
-/// The kind of an extension, if it has a type here.
-fn kind_of(object: &ObjectIdentifier) -> Option<Kind> {
-    match object.as_slice() {
-        [2, 5, 29, 14] => Some(Kind::SubjectKeyIdentifier),
-        [2, 5, 29, 15] => Some(Kind::KeyUsage),
-        [2, 5, 29, 17] | [2, 5, 29, 18] => Some(Kind::AlternativeNames),
-        [2, 5, 29, 19] => Some(Kind::BasicConstraints),
-        [2, 5, 29, 35] => Some(Kind::AuthorityKeyIdentifier),
-        [2, 5, 29, 37] => Some(Kind::KeyPurposes),
-        _ => None,
+/// What is shown of extensions.
+pub(crate) fn extensions_of<R: Rules<Output = Vec<u8>>>(
+    rules: &R,
+    alloc: Global,
+    extensions: &[Extension],
+) -> Result<Vec<ShownExtension>, AllocError>
+    ensures { IfOk result (λ shown. AreExtensionsOf extensions.now shown.items) }
+{
+    let mut shown = Vec::new(alloc);
+    for extension in extensions {
+        shown.push(extension_of(rules, alloc, extension)?)?;
     }
+    Ok(shown)
 }
 
-/// Appends the lines of an extension: its name, whether it is critical, and its value.
-pub(crate) fn push_extension<R: Rules<Output = Vec<u8>>>(
-    text: &mut String,
+/// An extension with its kind, whether it is critical, and its value.
+fn extension_of<R: Rules<Output = Vec<u8>>>(
     rules: &R,
     alloc: Global,
     extension: &Extension,
-) -> Result<(), AllocError> {
-    text.push_str("extension ")?;
-    push_object(text, &extension.extension_id)?;
-    if extension.critical {
-        text.push_str(", critical")?;
-    }
-    text.push_str(": ")?;
+) -> Result<ShownExtension, AllocError>
+    ensures { IfOk result (IsExtensionOf extension.now) }
+{
+    Ok(ShownExtension {
+        kind: named(alloc, &extension.extension_id)?,
+        is_critical: extension.critical,
+        value: value_of(rules, alloc, extension)?,
+    })
+}
+
+/// The value of an extension, by the type that RFC 5280 (4.2) has for its kind. Where it is not of that type it is its octets, and
+/// so where the kind has no type here.
+fn value_of<R: Rules<Output = Vec<u8>>>(
+    rules: &R,
+    alloc: Global,
+    extension: &Extension,
+) -> Result<ExtensionValue, AllocError> {
     let octets = extension.value.as_slice();
-    let read = match kind_of(&extension.extension_id) {
-        Some(kind) => push_known(text, rules, alloc, kind, octets)?,
-        None => push_unknown(text, octets)?,
+    let read = match extension.extension_id.as_slice() {
+        [2, 5, 29, 14] => key_identifier(rules, alloc, octets)?,
+        [2, 5, 29, 15] => usages(rules, alloc, octets)?,
+        [2, 5, 29, 17] | [2, 5, 29, 18] => names(rules, alloc, octets)?,
+        [2, 5, 29, 19] => authority(rules, alloc, octets)?,
+        [2, 5, 29, 35] => authority_key(rules, alloc, octets)?,
+        [2, 5, 29, 37] => purposes(rules, alloc, octets)?,
+        _ => return Ok(ExtensionValue::Octets(Vec::from_slice(alloc, octets)?)),
     };
-    if let Err(error) = read {
-        write!(text, "not read, {error}: ")?;
-        push_octets(text, octets)?;
+    match read {
+        Some(value) => Ok(value),
+        None => Ok(ExtensionValue::OtherType(Vec::from_slice(alloc, octets)?)),
     }
-    text.push_str("\n")
 }
 
-/// Appends the octets of a value that has no type here.
-fn push_unknown(text: &mut String, octets: &[u8]) -> Result<Result<(), DecodeError>, AllocError> {
-    push_octets(text, octets)?;
-    Ok(Ok(()))
-}
-
-/// Appends the value of a kind that has a type here. Where it is not of that type, nothing is appended, and the error says why.
-fn push_known<R: Rules<Output = Vec<u8>>>(
-    text: &mut String,
+/// Which key a certificate is for.
+fn key_identifier<R: Rules<Output = Vec<u8>>>(
     rules: &R,
     alloc: Global,
-    kind: Kind,
     octets: &[u8],
-) -> Result<Result<(), DecodeError>, AllocError> {
-    match kind {
-        Kind::SubjectKeyIdentifier => {
-            match read_inside::<R, KeyIdentifier>(rules, alloc, octets)? {
-                Ok(key) => Ok(Ok(push_octets(text, key.as_slice())?)),
-                Err(error) => Ok(Err(error)),
-            }
+) -> Result<Option<ExtensionValue>, AllocError> {
+    match read_inside::<R, KeyIdentifier>(rules, alloc, octets)? {
+        Some(key) => {
+            let identifier = Vec::from_slice(alloc, key.as_slice())?;
+            Ok(Some(ExtensionValue::KeyIdentifier(identifier)))
         }
-        Kind::KeyUsage => match read_inside::<R, KeyUsage>(rules, alloc, octets)? {
-            Ok(usage) => Ok(Ok(push_usages(text, usage.as_slice())?)),
-            Err(error) => Ok(Err(error)),
-        },
-        Kind::AlternativeNames => match read_inside::<R, GeneralNames>(rules, alloc, octets)? {
-            Ok(names) => Ok(Ok(push_names(text, rules, alloc, &names)?)),
-            Err(error) => Ok(Err(error)),
-        },
-        Kind::BasicConstraints => {
-            match read_inside::<R, BasicConstraints>(rules, alloc, octets)? {
-                Ok(constraints) => Ok(Ok(push_constraints(text, &constraints)?)),
-                Err(error) => Ok(Err(error)),
-            }
-        }
-        Kind::AuthorityKeyIdentifier => {
-            match read_inside::<R, AuthorityKeyIdentifier>(rules, alloc, octets)? {
-                Ok(key) => Ok(Ok(push_authority_key(text, rules, alloc, &key)?)),
-                Err(error) => Ok(Err(error)),
-            }
-        }
-        Kind::KeyPurposes => match read_inside::<R, Vec<KeyPurposeId>>(rules, alloc, octets)? {
-            Ok(purposes) => Ok(Ok(push_purposes(text, &purposes)?)),
-            Err(error) => Ok(Err(error)),
-        },
+        None => Ok(None),
     }
 }
 
-/// Appends whether a certificate is that of an authority.
-fn push_constraints(text: &mut String, constraints: &BasicConstraints) -> Result<(), AllocError> {
-    if !constraints.is_authority {
-        return text.push_str("no authority");
-    }
-    text.push_str("an authority")?;
-    match &constraints.path_length {
-        Some(length) => {
-            let most = &length.0;
-            write!(text, ", with at most {most} others below it")
-        }
-        None => Ok(()),
-    }
-}
-
-/// Appends names, each on a line of its own.
-fn push_names<R: Rules<Output = Vec<u8>>>(
-    text: &mut String,
+/// What a key may be used for, by bits.
+fn usages<R: Rules<Output = Vec<u8>>>(
     rules: &R,
     alloc: Global,
-    names: &GeneralNames,
-) -> Result<(), AllocError> {
-    for name in names {
-        text.push_str("\n    ")?;
-        push_general_name(text, rules, alloc, name)?;
-    }
-    Ok(())
-}
-
-/// Appends what a key is for, with a comma between each two.
-fn push_purposes(text: &mut String, purposes: &Vec<KeyPurposeId>) -> Result<(), AllocError> {
-    let mut is_first = true;
-    for purpose in purposes {
-        if !is_first {
-            text.push_str(", ")?;
+    octets: &[u8],
+) -> Result<Option<ExtensionValue>, AllocError> {
+    match read_inside::<R, KeyUsage>(rules, alloc, octets)? {
+        Some(usage) => {
+            let bits = Vec::from_slice(alloc, usage.as_slice())?;
+            Ok(Some(ExtensionValue::Usages(bits)))
         }
-        is_first = false;
-        push_object(text, purpose)?;
+        None => Ok(None),
     }
-    Ok(())
 }
 
-/// Appends which key of an authority a certificate is signed with.
-fn push_authority_key<R: Rules<Output = Vec<u8>>>(
-    text: &mut String,
+/// Further names.
+fn names<R: Rules<Output = Vec<u8>>>(
     rules: &R,
     alloc: Global,
-    key: &AuthorityKeyIdentifier,
-) -> Result<(), AllocError> {
-    if let Some(identifier) = &key.key_identifier {
-        push_octets(text, identifier.as_slice())?;
+    octets: &[u8],
+) -> Result<Option<ExtensionValue>, AllocError> {
+    match read_inside::<R, GeneralNames>(rules, alloc, octets)? {
+        Some(names) => {
+            let shown = general_names_of(rules, alloc, names.as_slice())?;
+            Ok(Some(ExtensionValue::Names(shown)))
+        }
+        None => Ok(None),
     }
-    if let Some(serial) = &key.authority_cert_serial_number {
-        text.push_str("\n    serial number ")?;
-        push_number(text, alloc, serial)?;
-    }
-    match &key.authority_cert_issuer {
-        Some(names) => push_names(text, rules, alloc, names),
-        None => Ok(()),
+}
+
+/// Whether a certificate is that of an authority.
+fn authority<R: Rules<Output = Vec<u8>>>(
+    rules: &R,
+    alloc: Global,
+    octets: &[u8],
+) -> Result<Option<ExtensionValue>, AllocError> {
+    let Some(constraints) = read_inside::<R, BasicConstraints>(rules, alloc, octets)? else {
+        return Ok(None);
+    };
+    let path_length = match &constraints.path_length {
+        Some(length) => Some(copy_of(alloc, &length.0)?),
+        None => None,
+    };
+    Ok(Some(ExtensionValue::Authority(Authority {
+        is_authority: constraints.is_authority,
+        path_length,
+    })))
+}
+
+/// Which key of an authority a certificate is signed with.
+fn authority_key<R: Rules<Output = Vec<u8>>>(
+    rules: &R,
+    alloc: Global,
+    octets: &[u8],
+) -> Result<Option<ExtensionValue>, AllocError> {
+    let Some(key) = read_inside::<R, AuthorityKeyIdentifier>(rules, alloc, octets)? else {
+        return Ok(None);
+    };
+    let identifier = match &key.key_identifier {
+        Some(identifier) => Some(Vec::from_slice(alloc, identifier.as_slice())?),
+        None => None,
+    };
+    let serial_number = match &key.authority_cert_serial_number {
+        Some(number) => Some(octet_number(alloc, number)?),
+        None => None,
+    };
+    let issuer = match &key.authority_cert_issuer {
+        Some(names) => general_names_of(rules, alloc, names.as_slice())?,
+        None => Vec::new(alloc),
+    };
+    Ok(Some(ExtensionValue::AuthorityKey(AuthorityKey {
+        identifier,
+        serial_number,
+        issuer,
+    })))
+}
+
+/// What a key may be used for, by objects.
+fn purposes<R: Rules<Output = Vec<u8>>>(
+    rules: &R,
+    alloc: Global,
+    octets: &[u8],
+) -> Result<Option<ExtensionValue>, AllocError> {
+    match read_inside::<R, Vec<KeyPurposeId>>(rules, alloc, octets)? {
+        Some(purposes) => {
+            let objects = all_named(alloc, purposes.as_slice())?;
+            Ok(Some(ExtensionValue::Purposes(objects)))
+        }
+        None => Ok(None),
     }
 }

@@ -1,70 +1,61 @@
 //! Names of the nine kinds.
-use crate::attributes::{directory_characters, push_name};
-use crate::lines::{push_ascii, push_object};
-use asn1_certificate_text::{push_address, push_octets, push_shown};
+use crate::attributes::name_of;
+use crate::characters::{ascii_characters, directory_characters};
+use crate::objects::named;
+use asn1_certificate_report::ShownGeneralName;
 use asn1_schema::Rules;
-use asn1_x509_extensions::{AnotherName, EdiPartyName, GeneralName};
+use asn1_x509_extensions::{EdiPartyName, GeneralName};
 use std::alloc::{AllocError, Global};
-use std::fmt::Write;
 
-/// Appends a name with its kind.
-pub(crate) fn push_general_name<R: Rules<Output = Vec<u8>>>(
-    text: &mut String,
+/// What is shown of names.
+pub(crate) fn general_names_of<R: Rules<Output = Vec<u8>>>(
+    rules: &R,
+    alloc: Global,
+    names: &[GeneralName],
+) -> Result<Vec<ShownGeneralName>, AllocError> {
+    let mut shown = Vec::new(alloc);
+    for name in names {
+        shown.push(general_name_of(rules, alloc, name)?)?;
+    }
+    Ok(shown)
+}
+
+/// What is shown of a name.
+fn general_name_of<R: Rules<Output = Vec<u8>>>(
     rules: &R,
     alloc: Global,
     name: &GeneralName,
-) -> Result<(), AllocError> {
+) -> Result<ShownGeneralName, AllocError> {
     match name {
-        GeneralName::Other(other) => push_another_name(text, other),
+        GeneralName::Other(other) => Ok(ShownGeneralName::Other(
+            named(alloc, &other.type_id)?,
+            Vec::from_slice(alloc, other.value.as_bytes())?,
+        )),
         GeneralName::Rfc822(mailbox) => {
-            text.push_str("mail address ")?;
-            push_ascii(text, alloc, mailbox.as_str())
+            Ok(ShownGeneralName::Mail(ascii_characters(alloc, mailbox)?))
         }
-        GeneralName::Dns(host) => {
-            text.push_str("DNS name ")?;
-            push_ascii(text, alloc, host.as_str())
-        }
-        GeneralName::X400(components) => {
-            let count = components.len();
-            write!(text, "X.400 address of {count} components")
-        }
+        GeneralName::Dns(host) => Ok(ShownGeneralName::Host(ascii_characters(alloc, host)?)),
+        GeneralName::X400(components) => Ok(ShownGeneralName::X400(components.len())),
         GeneralName::Directory(directory) => {
-            text.push_str("directory name ")?;
-            push_name(text, rules, alloc, directory)
+            Ok(ShownGeneralName::Directory(name_of(rules, alloc, directory)?))
         }
-        GeneralName::EdiParty(party) => push_party(text, alloc, party),
-        GeneralName::Uri(uri) => {
-            text.push_str("URI ")?;
-            push_ascii(text, alloc, uri.as_str())
-        }
+        GeneralName::EdiParty(party) => party_of(alloc, party),
+        GeneralName::Uri(uri) => Ok(ShownGeneralName::Uri(ascii_characters(alloc, uri)?)),
         GeneralName::IpAddress(octets) => {
-            text.push_str("IP address ")?;
-            push_address(text, octets.as_slice())
+            Ok(ShownGeneralName::Address(Vec::from_slice(alloc, octets.as_slice())?))
         }
-        GeneralName::RegisteredId(object) => write!(text, "registered identifier {object}"),
+        GeneralName::RegisteredId(object) => Ok(ShownGeneralName::Registered(named(alloc, object)?)),
     }
 }
 
-/// Appends a name of a kind that has a name of its own.
-fn push_another_name(text: &mut String, other: &AnotherName) -> Result<(), AllocError> {
-    text.push_str("other name ")?;
-    push_object(text, &other.type_id)?;
-    text.push_str(", ")?;
-    push_octets(text, other.value.as_bytes())
-}
-
-/// Appends the name of a party, and who named it.
-fn push_party(text: &mut String, alloc: Global, party: &EdiPartyName) -> Result<(), AllocError> {
-    text.push_str("EDI party ")?;
-    push_shown(
-        text,
-        directory_characters(alloc, &party.party_name)?.as_slice(),
-    )?;
+/// What is shown of a party.
+fn party_of(alloc: Global, party: &EdiPartyName) -> Result<ShownGeneralName, AllocError> {
+    let name = directory_characters(alloc, &party.party_name)?;
     match &party.name_assigner {
-        Some(assigner) => {
-            text.push_str(", named by ")?;
-            push_shown(text, directory_characters(alloc, assigner)?.as_slice())
-        }
-        None => Ok(()),
+        Some(assigner) => Ok(ShownGeneralName::Party(
+            name,
+            Some(directory_characters(alloc, assigner)?),
+        )),
+        None => Ok(ShownGeneralName::Party(name, None)),
     }
 }

@@ -1,12 +1,13 @@
-//! Public keys.
+//! Public keys and signatures.
 use crate::inside::read_inside;
-use crate::lines::push_object;
+use crate::objects::named;
+use crate::simple::copy_of;
+use asn1_certificate_report::{KeySize, ShownKey, Signature};
 use asn1_certificate_text::{bit_length, curve_of};
+use asn1_schema::{AnyStr, BitString, ObjectIdentifier, Rules};
 use asn1_items::Content;
-use asn1_schema::{AnyStr, BitString, Integer, ObjectIdentifier, Rules};
 use asn1_x509::{AlgorithmIdentifier, RsaPublicKey, SubjectPublicKeyInfo};
 use std::alloc::{AllocError, Global};
-use std::fmt::Write;
 
 /// The arcs of `rsaEncryption` (RFC 3279, 2.3.1).
 const RSA: &[u32] = &[1, 2, 840, 113549, 1, 1, 1];
@@ -14,82 +15,68 @@ const RSA: &[u32] = &[1, 2, 840, 113549, 1, 1, 1];
 /// The arcs of `id-ecPublicKey` (RFC 5480, 2.1.1).
 const ELLIPTIC: &[u32] = &[1, 2, 840, 10045, 2, 1];
 
-/// Appends the algorithm of a public key and its size.
-pub(crate) fn push_key<R: Rules<Output = Vec<u8>>>(
-    text: &mut String,
+/// A public key with its algorithm and its size.
+pub(crate) fn key_of<R: Rules<Output = Vec<u8>>>(
     rules: &R,
     alloc: Global,
     key: &SubjectPublicKeyInfo,
-) -> Result<(), AllocError> {
-    push_object(text, &key.algorithm.algorithm)?;
+) -> Result<ShownKey, AllocError> {
+    Ok(ShownKey {
+        algorithm: named(alloc, &key.algorithm.algorithm)?,
+        size: size_of(rules, alloc, key)?,
+    })
+}
+
+/// The size of a public key.
+fn size_of<R: Rules<Output = Vec<u8>>>(
+    rules: &R,
+    alloc: Global,
+    key: &SubjectPublicKeyInfo,
+) -> Result<KeySize, AllocError> {
     let arcs = key.algorithm.algorithm.as_slice();
     if arcs == RSA {
-        return push_rsa(text, rules, alloc, &key.subject_public_key);
+        return modulus_size(rules, alloc, &key.subject_public_key);
     }
     if arcs == ELLIPTIC {
-        return push_curve(text, rules, alloc, &key.algorithm);
+        return curve_size(rules, alloc, key);
     }
     match curve_of(arcs) {
-        Some(curve) => {
-            let bits = curve.bits;
-            write!(text, ", {bits} bits")
-        }
-        None => {
-            let bits = key.subject_public_key.len();
-            write!(text, ", a key of {bits} bits")
-        }
+        Some(curve) => Ok(KeySize::Fixed(curve.bits)),
+        None => Ok(KeySize::Kept(key.subject_public_key.len())),
     }
 }
 
-/// Appends the size of a key of RSA, which is that of its modulus, and its exponent.
-fn push_rsa<R: Rules<Output = Vec<u8>>>(
-    text: &mut String,
+/// The size of a key of RSA, which is that of its modulus, and its exponent.
+fn modulus_size<R: Rules<Output = Vec<u8>>>(
     rules: &R,
     alloc: Global,
     bits: &BitString,
-) -> Result<(), AllocError> {
-    let Some(octets) = octets_of_bits(alloc, bits)? else {
-        return text.push_str(", a key of no whole octets");
-    };
-    match read_inside::<R, RsaPublicKey>(rules, alloc, octets.as_slice())? {
-        Ok(key) => push_modulus(text, alloc, &key.modulus, &key.public_exponent),
-        Err(error) => write!(text, ", a key that is not read: {error}"),
+) -> Result<KeySize, AllocError> {
+    if let Some(octets) = octets_of_bits(alloc, bits)?
+        && let Some(key) = read_inside::<R, RsaPublicKey>(rules, alloc, octets.as_slice())?
+    {
+        let (_, modulus) = key.modulus.sign_magnitude(alloc)?;
+        let exponent = copy_of(alloc, &key.public_exponent)?;
+        return Ok(KeySize::Modulus(bit_length(modulus.as_slice()), exponent));
     }
+    Ok(KeySize::Kept(bits.len()))
 }
 
-/// Appends the size of a modulus, and an exponent.
-fn push_modulus(
-    text: &mut String,
-    alloc: Global,
-    modulus: &Integer,
-    exponent: &Integer,
-) -> Result<(), AllocError> {
-    let (_, octets) = modulus.sign_magnitude(alloc)?;
-    let size = bit_length(octets.as_slice());
-    write!(text, ", {size} bits, exponent {exponent}")
-}
-
-/// Appends the curve of a key, where its parameters name one.
-fn push_curve<R: Rules<Output = Vec<u8>>>(
-    text: &mut String,
+/// The size of a key on a curve, which its parameters name.
+fn curve_size<R: Rules<Output = Vec<u8>>>(
     rules: &R,
     alloc: Global,
-    algorithm: &AlgorithmIdentifier,
-) -> Result<(), AllocError> {
-    let Some(parameters) = &algorithm.parameters else {
-        return text.push_str(", no curve named");
-    };
-    match read_inside::<R, ObjectIdentifier>(rules, alloc, parameters.as_bytes())? {
-        Ok(object) => match curve_of(object.as_slice()) {
-            Some(curve) => {
-                let name = curve.name;
-                let bits = curve.bits;
-                write!(text, ", {name}, {bits} bits")
-            }
-            None => write!(text, ", curve {object}"),
-        },
-        Err(_) => text.push_str(", no curve named"),
+    key: &SubjectPublicKeyInfo,
+) -> Result<KeySize, AllocError> {
+    if let Some(parameters) = &key.algorithm.parameters
+        && let Some(object) = read_inside::<R, ObjectIdentifier>(rules, alloc, parameters.as_bytes())?
+    {
+        return match curve_of(object.as_slice()) {
+            Some(curve) => Ok(KeySize::Curve(curve.name, curve.bits)),
+            None => Ok(KeySize::UnnamedCurve(named(alloc, &object)?)),
+        };
     }
+    Ok(KeySize::Kept(key.subject_public_key.len()))
 }
 
 /// The octets of bits, where these are whole octets.
@@ -100,4 +87,20 @@ fn octets_of_bits(alloc: Global, bits: &BitString) -> Result<Option<Vec<u8>>, Al
         [0, octets @ ..] => Ok(Some(Vec::from_slice(alloc, octets)?)),
         _ => Ok(None),
     }
+}
+
+/// The algorithm of a signature, by what is said beside it and in what is signed.
+pub(crate) fn signature_of(
+    alloc: Global,
+    beside: &AlgorithmIdentifier,
+    inside: &AlgorithmIdentifier,
+) -> Result<Signature, AllocError> {
+    let algorithm = named(alloc, &beside.algorithm)?;
+    if beside == inside {
+        return Ok(Signature { algorithm, inside: None });
+    }
+    Ok(Signature {
+        algorithm,
+        inside: Some(named(alloc, &inside.algorithm)?),
+    })
 }

@@ -1,24 +1,27 @@
-//! A certificate as a person wants to see it, read by any codec that has its octets.
+//! What is shown of a certificate, read by any codec that has its octets.
 //!
 //! | Item | What it is |
 //! |---|---|
-//! | [`report`] | a certificate as lines |
+//! | [`report_of`] | what is shown of a certificate |
 //! | [`MAX_DEPTH`] | how deep certificates may be nested |
 //!
-//! A report has a line for the version, the serial number, the subject, the issuer, from when to when the certificate is valid,
-//! the public key with its size and the signature, and a line or more for each extension. Extensions that have no type here, and
-//! those whose value is not of their type, are shown in hexadecimal. The texts are those of `asn1_certificate_text`; what a
-//! certificate has inside open types and octets is read by the same codec.
+//! What a certificate has inside open types and octets is read by the same codec: the values of attributes, keys and their
+//! parameters, and the values of extensions. Where such a value is not of the type that it is asked for, its octets are shown as they
+//! are.
+//!
+//! What the contracts promise: a report has the version, the serial number and the times of its certificate, and an extension for
+//! each of its own, in their order, with its kind and whether it is critical (`report_of`).
 #![tactic(auto)]
 
 mod attributes;
-mod certificate;
+mod characters;
 mod extensions;
 mod general_names;
 mod inside;
 mod keys;
-mod lines;
-mod times;
+mod objects;
+mod report;
+mod simple;
 
-pub use certificate::report;
 pub use inside::MAX_DEPTH;
+pub use report::report_of;

@@ -1,7 +1,6 @@
 -- Extensions.
-use Rattle.std.specs.Prelude.{ℕ, Bool, List, [], ◌++◌, codes, if◌then◌else◌}
+use Rattle.std.specs.Prelude.{ℕ, ℤ, Bool, List, [], ◌++◌, None, Option, Some, Vec, codes, if◌then◌else◌}
 use Rattle.std.specs.List.{flat_map, join_by}
-use Rattle.std.specs.Option.{option_map_or}
 use Rattle.asn1_values.specs.Text.{integer_text}
 use Rattle.asn1_certificate_text.specs.Bits.{usages_text}
 use Rattle.asn1_certificate_text.specs.Octets.{octets_text}
@@ -12,6 +11,7 @@ use Rattle.asn1_certificate_report.specs.declared.extension.ExtensionValue.TheVa
 use Rattle.asn1_certificate_report.specs.declared.extension.ShownExtension.{ShownExtension}
 use Rattle.asn1_certificate_report.specs.declared.general_name.ShownGeneralName.{ShownGeneralName}
 use Rattle.asn1_certificate_report.specs.GeneralNames.{general_name_text}
+use Rattle.asn1_certificate_report.specs.declared.number.OctetNumber.{OctetNumber}
 use Rattle.asn1_certificate_report.specs.Numbers.{octet_number_text}
 use Rattle.asn1_certificate_report.specs.Objects.{object_text}
 
@@ -23,18 +23,32 @@ spaced_octets octets = codes " " ++ octets_text octets
 abbrev pub names_text : List ShownGeneralName → List ℕ
 names_text names = flat_map (λ name. codes "\n    " ++ general_name_text name) names
 
+-- whether it is an authority, in words
+abbrev pub authority_word : Bool → List ℕ
+authority_word is_authority = if is_authority then codes " an authority" else codes " no authority"
+
+-- a path length, if there is one
+abbrev pub path_length_text : Option ℤ → List ℕ
+path_length_text (Some length) = codes ", path length " ++ integer_text length
+path_length_text None = []
+
 -- whether a certificate is that of an authority
 abbrev pub authority_text : Authority → List ℕ
-authority_text a =
-    (if a.is_authority then codes " an authority" else codes " no authority") ++
-    option_map_or (λ length. codes ", path length " ++ integer_text length) a.path_length []
+authority_text a = authority_word a.is_authority ++ path_length_text a.path_length
+
+-- the identifier of a key, if there is one
+abbrev pub identifier_text : Option (Vec ℕ) → List ℕ
+identifier_text (Some octets) = spaced_octets octets.items
+identifier_text None = []
+
+-- a serial number, if there is one
+abbrev pub serial_number_text : Option OctetNumber → List ℕ
+serial_number_text (Some number) = codes "\n    serial number " ++ octet_number_text number
+serial_number_text None = []
 
 -- which key of an authority it is, by what is said of it
 abbrev pub authority_key_text : AuthorityKey → List ℕ
-authority_key_text k =
-    option_map_or (λ octets. spaced_octets octets.items) k.identifier [] ++
-    (option_map_or (λ number. codes "\n    serial number " ++ octet_number_text number) k.serial_number [] ++
-    names_text k.issuer.items)
+authority_key_text k = identifier_text k.identifier ++ (serial_number_text k.serial_number ++ names_text k.issuer.items)
 
 -- a value
 abbrev pub extension_value_text : ExtensionValue → List ℕ

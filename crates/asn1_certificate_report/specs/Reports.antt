@@ -18,13 +18,17 @@ head_text r =
     (labelled (codes "subject:       ") (name_text r.subject) ++
     labelled (codes "issuer:        ") (name_text r.issuer)))
 
--- the lines from the times to the signature
+-- the lines of the times
+abbrev pub times_text : Report → List ℕ
+times_text r =
+    labelled (codes "valid from:    ") (time_text r.valid_from) ++
+    labelled (codes "valid until:   ") (time_text r.valid_until)
+
+-- the lines of the public key and the signature
 abbrev pub tail_text : Report → List ℕ
 tail_text r =
-    labelled (codes "valid from:    ") (time_text r.valid_from) ++
-    (labelled (codes "valid until:   ") (time_text r.valid_until) ++
-    (labelled (codes "public key:    ") (key_text r.key) ++
-    labelled (codes "signature:     ") (signature_text r.signature)))
+    labelled (codes "public key:    ") (key_text r.key) ++
+    labelled (codes "signature:     ") (signature_text r.signature)
 
 -- the lines of extensions
 abbrev pub extensions_text : List ShownExtension → List ℕ
@@ -32,4 +36,4 @@ extensions_text extensions = flat_map (λ e. labelled (codes "extension ") (exte
 
 -- the lines of a certificate
 abbrev pub report_text : Report → List ℕ
-report_text r = head_text r ++ (tail_text r ++ extensions_text r.extensions.items)
+report_text r = head_text r ++ (times_text r ++ (tail_text r ++ extensions_text r.extensions.items))

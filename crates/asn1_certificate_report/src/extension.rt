@@ -1,7 +1,7 @@
 //! Extensions.
 ghost use Rattle.std.specs.Prelude.{◌≡◌, ◌++◌, OnOk};
 ghost use Rattle.std.specs.String.{string_bytes};
-ghost use Rattle.asn1_certificate_report.specs.Extensions.{authority_key_text, authority_text, criticality_text, extension_text, extension_value_text, spaced_octets};
+ghost use Rattle.asn1_certificate_report.specs.Extensions.{authority_key_text, authority_text, authority_word, criticality_text, extension_text, extension_value_text, identifier_text, path_length_text, serial_number_text, spaced_octets};
 
 use crate::general_name::ShownGeneralName;
 use crate::number::OctetNumber;
@@ -110,15 +110,30 @@ impl Shows for Authority {
     ghost text_of = { authority_text };
 
     fn push_to(&self, text: &mut String) -> Result<(), AllocError> {
-        text.push_str(if self.is_authority {
-            " an authority"
-        } else {
-            " no authority"
-        })?;
-        match &self.path_length {
-            Some(length) => write!(text, ", path length {length}"),
-            None => Ok(()),
-        }
+        text.push_str(authority(self.is_authority))?;
+        push_path_length(text, &self.path_length)
+    }
+}
+
+/// Whether it is an authority, in words.
+fn authority(is_authority: bool) -> &'static str
+    ensures { result.now ≡ authority_word is_authority }
+{
+    if is_authority {
+        " an authority"
+    } else {
+        " no authority"
+    }
+}
+
+/// Appends a path length, if there is one.
+fn push_path_length(text: &mut String, length: &Option<Integer>) -> Result<(), AllocError>
+    ensures { OnOk result (string_bytes text.new ≡
+        string_bytes text.old ++ path_length_text length.now) }
+{
+    match length {
+        Some(length) => write!(text, ", path length {length}"),
+        None => Ok(()),
     }
 }
 
@@ -137,13 +152,33 @@ impl Shows for AuthorityKey {
     ghost text_of = { authority_key_text };
 
     fn push_to(&self, text: &mut String) -> Result<(), AllocError> {
-        if let Some(octets) = &self.identifier {
-            push_after_space(text, octets)?;
-        }
-        if let Some(number) = &self.serial_number {
-            text.push_str("\n    serial number ")?;
-            number.push_to(text)?;
-        }
+        push_identifier(text, &self.identifier)?;
+        push_serial_number(text, &self.serial_number)?;
         push_each(text, "\n    ", self.issuer.as_slice())
+    }
+}
+
+/// Appends the identifier of a key, if there is one.
+fn push_identifier(text: &mut String, identifier: &Option<Vec<u8>>) -> Result<(), AllocError>
+    ensures { OnOk result (string_bytes text.new ≡
+        string_bytes text.old ++ identifier_text identifier.now) }
+{
+    match identifier {
+        Some(octets) => push_after_space(text, octets),
+        None => Ok(()),
+    }
+}
+
+/// Appends a serial number, if there is one.
+fn push_serial_number(text: &mut String, number: &Option<OctetNumber>) -> Result<(), AllocError>
+    ensures { OnOk result (string_bytes text.new ≡
+        string_bytes text.old ++ serial_number_text number.now) }
+{
+    match number {
+        Some(number) => {
+            text.push_str("\n    serial number ")?;
+            number.push_to(text)
+        }
+        None => Ok(()),
     }
 }

@@ -4,7 +4,7 @@ ghost use Rattle.std.specs.List.{flat_map};
 ghost use Rattle.std.specs.String.{string_bytes};
 ghost use Rattle.asn1_certificate_text.specs.Escapes.{shown};
 ghost use Rattle.asn1_certificate_report.specs.declared.general_name.ShownGeneralName.TheVariants.{Other, Party};
-ghost use Rattle.asn1_certificate_report.specs.GeneralNames.{general_name_text};
+ghost use Rattle.asn1_certificate_report.specs.GeneralNames.{assigner_text, general_name_text};
 
 use crate::name::ShownName;
 use crate::object::Object;
@@ -96,6 +96,14 @@ fn push_party(
         string_bytes text.old ++ general_name_text (Party party.now assigner.now)) }
 {
     push_named(text, "EDI party ", party)?;
+    push_assigner(text, assigner)
+}
+
+/// Appends who named a party, if that is said.
+fn push_assigner(text: &mut String, assigner: &Option<Vec<char>>) -> Result<(), AllocError>
+    ensures { OnOk result (string_bytes text.new ≡
+        string_bytes text.old ++ assigner_text assigner.now) }
+{
     match assigner {
         Some(assigner) => push_named(text, ", named by ", assigner),
         None => Ok(()),

@@ -1,5 +1,7 @@
 //! Public keys, and the algorithms of signatures.
-ghost use Rattle.asn1_certificate_report.specs.Keys.{key_text, signature_text, size_text};
+ghost use Rattle.std.specs.Prelude.{◌≡◌, ◌++◌, OnOk};
+ghost use Rattle.std.specs.String.{string_bytes};
+ghost use Rattle.asn1_certificate_report.specs.Keys.{inside_text, key_text, signature_text, size_text};
 
 use crate::object::Object;
 use crate::shows::Shows;
@@ -47,7 +49,10 @@ impl Shows for KeySize {
 
     fn push_to(&self, text: &mut String) -> Result<(), AllocError> {
         match self {
-            KeySize::Modulus(bits, exponent) => write!(text, "{bits} bits, exponent {exponent}"),
+            KeySize::Modulus(bits, exponent) => {
+                write!(text, "{bits} bits, exponent ")?;
+                write!(text, "{exponent}")
+            }
             KeySize::Curve(name, bits) => write!(text, "{name}, {bits} bits"),
             KeySize::Fixed(bits) => write!(text, "{bits} bits"),
             KeySize::UnnamedCurve(curve) => {
@@ -73,12 +78,19 @@ impl Shows for Signature {
 
     fn push_to(&self, text: &mut String) -> Result<(), AllocError> {
         self.algorithm.push_to(text)?;
-        match &self.inside {
-            Some(inside) => {
-                text.push_str(", but inside ")?;
-                inside.push_to(text)
-            }
-            None => Ok(()),
+        push_inside(text, &self.inside)
+    }
+}
+
+/// Appends what is said inside, where that is not the same.
+fn push_inside(text: &mut String, inside: &Option<Object>) -> Result<(), AllocError>
+    ensures { OnOk result (string_bytes text.new ≡ string_bytes text.old ++ inside_text inside.now) }
+{
+    match inside {
+        Some(inside) => {
+            text.push_str(", but inside ")?;
+            inside.push_to(text)
         }
+        None => Ok(()),
     }
 }

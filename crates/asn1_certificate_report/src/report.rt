@@ -1,7 +1,7 @@
 //! What is shown of a certificate.
 ghost use Rattle.std.specs.Prelude.{◌≡◌, ◌++◌, IfOk, OnOk};
 ghost use Rattle.std.specs.String.{string_bytes};
-ghost use Rattle.asn1_certificate_report.specs.Reports.{extensions_text, head_text, report_text, tail_text};
+ghost use Rattle.asn1_certificate_report.specs.Reports.{extensions_text, head_text, report_text, tail_text, times_text};
 
 use crate::extension::ShownExtension;
 use crate::key::{ShownKey, Signature};
@@ -49,6 +49,7 @@ impl Shows for Report {
 
     fn push_to(&self, text: &mut String) -> Result<(), AllocError> {
         push_head(text, self)?;
+        push_times(text, self)?;
         push_tail(text, self)?;
         push_extensions(text, self.extensions.as_slice())
     }
@@ -64,12 +65,18 @@ fn push_head(text: &mut String, report: &Report) -> Result<(), AllocError>
     push_line(text, "issuer:        ", &report.issuer)
 }
 
-/// Appends the lines from the times to the signature.
+/// Appends the lines of the times.
+fn push_times(text: &mut String, report: &Report) -> Result<(), AllocError>
+    ensures { OnOk result (string_bytes text.new ≡ string_bytes text.old ++ times_text report.now) }
+{
+    push_line(text, "valid from:    ", &report.valid_from)?;
+    push_line(text, "valid until:   ", &report.valid_until)
+}
+
+/// Appends the lines of the public key and the signature.
 fn push_tail(text: &mut String, report: &Report) -> Result<(), AllocError>
     ensures { OnOk result (string_bytes text.new ≡ string_bytes text.old ++ tail_text report.now) }
 {
-    push_line(text, "valid from:    ", &report.valid_from)?;
-    push_line(text, "valid until:   ", &report.valid_until)?;
     push_line(text, "public key:    ", &report.key)?;
     push_line(text, "signature:     ", &report.signature)
 }
