@@ -1,25 +1,44 @@
 //! An input as a report.
-use asn1_certificate_report::{MAX_DEPTH, report};
-use asn1_certificate_text::{PemError, is_pem, pem_octets};
+ghost use Rattle.std.specs.Prelude.{◌≡◌, ⊤, IfErr, IfOk, MatchResult, true};
+ghost use Rattle.std.specs.String.{string_bytes};
+ghost use Rattle.asn1_certificate.specs.Shown.{IsPlaced, IsTextOf};
+ghost use Rattle.asn1_certificate.specs.declared.show.ShowError.TheVariants.{Memory};
+ghost use Rattle.asn1_der_encoder.specs.Format.{Carries};
+ghost use Rattle.asn1_der_items.specs.Series.{is_one_element};
+ghost use Rattle.asn1_model.specs.Meaning.{own_records};
+ghost use Rattle.asn1_model.specs.Records.{highest};
+ghost use Rattle.asn1_rules.specs.Rules.{ReadsWhole};
+
+use asn1_certificate_reader::{MAX_DEPTH, report_of};
+use asn1_certificate_report::report_text;
+use asn1_certificate_text::{PemError, certificate_octets};
+use asn1_der::DerRules;
+use asn1_faults::first_fault;
 use asn1_schema::{DecodeError, Rules};
+use asn1_x509::Certificate;
 use std::alloc::{AllocError, Global};
 use thiserror::Error;
 
 /// Why an input has no report. Places are those of bytes, from 0.
 #[derive(Clone, Copy, Debug, Drop, Error)]
-pub enum ShowError {
-    /// The input is a text without a certificate.
+pub(crate) enum ShowError {
+    /// The input is a text, and its certificate is not found.
     #[error("{0}")]
-    Pem(PemError),
-    /// The octets are no certificate.
+    Text(PemError),
+    /// At this place of the octets no element begins. The error is that of reading them.
+    #[error("no certificate: byte {0} of its DER begins no element ({1})")]
+    NoElement(usize, DecodeError),
+    /// The octets are elements, and those of no certificate.
     #[error("no certificate: {0}")]
-    NotRead(DecodeError),
+    NoCertificate(DecodeError),
     /// There was no memory.
     #[error("no memory")]
     Memory,
 }
 
 impl From<AllocError> for ShowError {
+    ghost from_gives = { λ _ e. e ≡ Memory };
+
     fn from(_refused: AllocError) -> ShowError {
         ShowError::Memory
     }
@@ -29,34 +48,46 @@ impl From<PemError> for ShowError {
     fn from(error: PemError) -> ShowError {
         match error {
             PemError::Memory => ShowError::Memory,
-            _ => ShowError::Pem(error),
+            _ => ShowError::Text(error),
         }
     }
 }
 
-/// The report of an input, which is the octets of a certificate or a text with one.
-///
-/// # Errors
-/// [`ShowError::Pem`] where a text has no certificate, [`ShowError::NotRead`] where its octets are none, and
-/// [`ShowError::Memory`].
-pub fn show<R: Rules<Output = Vec<u8>>>(
-    rules: &R,
-    alloc: Global,
-    input: Vec<u8>,
-) -> Result<String, ShowError> {
-    let octets = octets_of(alloc, input)?;
-    match rules.read_value(&octets, MAX_DEPTH) {
-        Ok(certificate) => Ok(report(rules, alloc, &certificate)?),
+/// The text of what is shown of an input, which is the DER of a certificate or a text with it in base64.
+pub(crate) fn show(alloc: Global, input: Vec<u8>) -> Result<String, ShowError>
+    ensures { IfOk result (λ text. IsTextOf (λ _. ⊤) (string_bytes text)) }
+{
+    let octets = certificate_octets(alloc, input)?;
+    show_octets(alloc, &octets)
+}
+
+/// The text of what is shown of octets, which are the DER of a certificate.
+pub(crate) fn show_octets(alloc: Global, octets: &Vec<u8>) -> Result<String, ShowError>
+    ensures shown { IfOk result (λ text. IsTextOf (λ _. ⊤) (string_bytes text)) }
+    ensures refused { IfErr result (IsPlaced octets.now.items) }
+{
+    let certificate = read(alloc, octets)?;
+    let report = report_of(&DerRules::new(alloc), alloc, &certificate)?;
+    Ok(report_text(alloc, &report)?)
+}
+
+/// The certificate of which these octets are the DER.
+fn read(alloc: Global, octets: &Vec<u8>) -> Result<Certificate, ShowError>
+    ensures refused { IfErr result (IsPlaced octets.now.items) }
+{
+    match DerRules::new(alloc).read_value(octets, MAX_DEPTH) {
+        Ok(certificate) => Ok(certificate),
         Err(DecodeError::Memory) => Err(ShowError::Memory),
-        Err(error) => Err(ShowError::NotRead(error)),
+        Err(error) => Err(refusal(octets.as_slice(), error)),
     }
 }
 
-/// The octets of a text with a certificate, or the input itself.
-fn octets_of(alloc: Global, input: Vec<u8>) -> Result<Vec<u8>, PemError> {
-    if is_pem(input.as_slice()) {
-        pem_octets(alloc, input.as_slice())
-    } else {
-        Ok(input)
+/// Why octets are not read, with the first place at which no element begins.
+fn refusal(octets: &[u8], error: DecodeError) -> ShowError
+    ensures { IsPlaced octets.now result }
+{
+    match first_fault(octets, MAX_DEPTH) {
+        Some(place) => ShowError::NoElement(place, error),
+        None => ShowError::NoCertificate(error),
     }
 }

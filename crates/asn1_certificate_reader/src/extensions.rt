@@ -53,7 +53,7 @@ fn value_of<R: Rules<Output = Vec<u8>>>(
         [2, 5, 29, 14] => key_identifier(rules, alloc, octets)?,
         [2, 5, 29, 15] => usages(rules, alloc, octets)?,
         [2, 5, 29, 17] | [2, 5, 29, 18] => names(rules, alloc, octets)?,
-        [2, 5, 29, 19] => authority(rules, alloc, octets)?,
+        [2, 5, 29, 19] => constraints(rules, alloc, octets)?,
         [2, 5, 29, 35] => authority_key(rules, alloc, octets)?,
         [2, 5, 29, 37] => purposes(rules, alloc, octets)?,
         _ => return Ok(ExtensionValue::Octets(Vec::from_slice(alloc, octets)?)),
@@ -110,20 +110,20 @@ fn names<R: Rules<Output = Vec<u8>>>(
 }
 
 /// Whether a certificate is that of an authority.
-fn authority<R: Rules<Output = Vec<u8>>>(
+fn constraints<R: Rules<Output = Vec<u8>>>(
     rules: &R,
     alloc: Global,
     octets: &[u8],
 ) -> Result<Option<ExtensionValue>, AllocError> {
-    let Some(constraints) = read_inside::<R, BasicConstraints>(rules, alloc, octets)? else {
+    let Some(read) = read_inside::<R, BasicConstraints>(rules, alloc, octets)? else {
         return Ok(None);
     };
-    let path_length = match &constraints.path_length {
+    let path_length = match &read.path_length {
         Some(length) => Some(copy_of(alloc, &length.0)?),
         None => None,
     };
     Ok(Some(ExtensionValue::Authority(Authority {
-        is_authority: constraints.is_authority,
+        is_authority: read.is_authority,
         path_length,
     })))
 }

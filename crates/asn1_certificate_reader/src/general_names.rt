@@ -44,7 +44,9 @@ fn general_name_of<R: Rules<Output = Vec<u8>>>(
         GeneralName::IpAddress(octets) => {
             Ok(ShownGeneralName::Address(Vec::from_slice(alloc, octets.as_slice())?))
         }
-        GeneralName::RegisteredId(object) => Ok(ShownGeneralName::Registered(named(alloc, object)?)),
+        GeneralName::RegisteredId(object) => Ok(ShownGeneralName::Registered(named(
+            alloc, object,
+        )?)),
     }
 }
 

@@ -4,8 +4,8 @@ use crate::objects::named;
 use crate::simple::copy_of;
 use asn1_certificate_report::{KeySize, ShownKey, Signature};
 use asn1_certificate_text::{bit_length, curve_of};
-use asn1_schema::{AnyStr, BitString, ObjectIdentifier, Rules};
 use asn1_items::Content;
+use asn1_schema::{AnyStr, BitString, ObjectIdentifier, Rules};
 use asn1_x509::{AlgorithmIdentifier, RsaPublicKey, SubjectPublicKeyInfo};
 use std::alloc::{AllocError, Global};
 
@@ -69,7 +69,11 @@ fn curve_size<R: Rules<Output = Vec<u8>>>(
     key: &SubjectPublicKeyInfo,
 ) -> Result<KeySize, AllocError> {
     if let Some(parameters) = &key.algorithm.parameters
-        && let Some(object) = read_inside::<R, ObjectIdentifier>(rules, alloc, parameters.as_bytes())?
+        && let Some(object) = read_inside::<R, ObjectIdentifier>(
+            rules,
+            alloc,
+            parameters.as_bytes(),
+        )?
     {
         return match curve_of(object.as_slice()) {
             Some(curve) => Ok(KeySize::Curve(curve.name, curve.bits)),
@@ -97,7 +101,10 @@ pub(crate) fn signature_of(
 ) -> Result<Signature, AllocError> {
     let algorithm = named(alloc, &beside.algorithm)?;
     if beside == inside {
-        return Ok(Signature { algorithm, inside: None });
+        return Ok(Signature {
+            algorithm,
+            inside: None,
+        });
     }
     Ok(Signature {
         algorithm,

@@ -1,5 +1,6 @@
 -- Extensions.
 use Rattle.std.specs.Prelude.{ℕ, ℤ, Bool, List, [], ◌++◌, None, Option, Some, Vec, codes, if◌then◌else◌}
+use Rattle.std.specs.declared.alloc.Global.{Global}
 use Rattle.std.specs.List.{flat_map, join_by}
 use Rattle.asn1_values.specs.Text.{integer_text}
 use Rattle.asn1_certificate_text.specs.Bits.{usages_text}
@@ -37,13 +38,17 @@ abbrev pub authority_text : Authority → List ℕ
 authority_text a = authority_word a.is_authority ++ path_length_text a.path_length
 
 -- the identifier of a key, if there is one
-abbrev pub identifier_text : Option (Vec ℕ) → List ℕ
+abbrev pub identifier_text : Option (Vec ℕ Global) → List ℕ
 identifier_text (Some octets) = spaced_octets octets.items
 identifier_text None = []
 
+-- a line with a serial number
+abbrev pub number_line : OctetNumber → List ℕ
+number_line number = codes "\n    serial number " ++ octet_number_text number
+
 -- a serial number, if there is one
 abbrev pub serial_number_text : Option OctetNumber → List ℕ
-serial_number_text (Some number) = codes "\n    serial number " ++ octet_number_text number
+serial_number_text (Some number) = number_line number
 serial_number_text None = []
 
 -- which key of an authority it is, by what is said of it

@@ -1,6 +1,7 @@
 -- Names of the nine kinds.
 use Rattle.std.specs.Prelude.{ℕ, List, [], ◌++◌, None, Option, Some, Vec, codes}
 use Rattle.std.specs.Fmt.{decimal}
+use Rattle.std.specs.declared.alloc.Global.{Global}
 use Rattle.std.specs.List.{flat_map}
 use Rattle.asn1_certificate_text.specs.Addresses.{address_text}
 use Rattle.asn1_certificate_text.specs.Escapes.{shown}
@@ -11,7 +12,7 @@ use Rattle.asn1_certificate_report.specs.Names.{name_text}
 use Rattle.asn1_certificate_report.specs.Objects.{object_text}
 
 -- who named a party, if that is said
-abbrev pub assigner_text : Option (Vec ℕ) → List ℕ
+abbrev pub assigner_text : Option (Vec ℕ Global) → List ℕ
 assigner_text (Some assigner) = codes ", named by " ++ flat_map shown assigner.items
 assigner_text None = []
 

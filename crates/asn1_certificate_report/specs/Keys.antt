@@ -1,5 +1,5 @@
 -- Public keys, and the algorithms of signatures.
-use Rattle.std.specs.Prelude.{ℕ, List, [], ◌++◌, None, Option, Some, codes}
+use Rattle.std.specs.Prelude.{ℕ, ℤ, List, [], ◌++◌, None, Option, Some, codes}
 use Rattle.std.specs.Fmt.{decimal}
 use Rattle.asn1_values.specs.Text.{integer_text}
 use Rattle.asn1_certificate_report.specs.declared.key.KeySize.{KeySize}
@@ -9,9 +9,13 @@ use Rattle.asn1_certificate_report.specs.declared.key.Signature.{Signature}
 use Rattle.asn1_certificate_report.specs.declared.object.Object.{Object}
 use Rattle.asn1_certificate_report.specs.Objects.{object_text}
 
+-- a key of RSA
+abbrev pub modulus_text : ℕ → ℤ → List ℕ
+modulus_text bits exponent = (decimal bits ++ codes " bits, exponent ") ++ integer_text exponent
+
 -- the size of a key
 abbrev pub size_text : KeySize → List ℕ
-size_text (Modulus bits exponent) = (decimal bits ++ codes " bits, exponent ") ++ integer_text exponent
+size_text (Modulus bits exponent) = modulus_text bits exponent
 size_text (Curve name bits) = name.now ++ (codes ", " ++ (decimal bits ++ codes " bits"))
 size_text (Fixed bits) = decimal bits ++ codes " bits"
 size_text (UnnamedCurve curve) = codes "curve " ++ object_text curve
@@ -21,9 +25,13 @@ size_text (Kept bits) = codes "kept in " ++ (decimal bits ++ codes " bits")
 abbrev pub key_text : ShownKey → List ℕ
 key_text k = object_text k.algorithm ++ (codes ", " ++ size_text k.size)
 
+-- another algorithm
+abbrev pub other_text : Object → List ℕ
+other_text inside = codes ", but inside " ++ object_text inside
+
 -- what is said inside, where that is not the same
 abbrev pub inside_text : Option Object → List ℕ
-inside_text (Some inside) = codes ", but inside " ++ object_text inside
+inside_text (Some inside) = other_text inside
 inside_text None = []
 
 -- the algorithm of a signature

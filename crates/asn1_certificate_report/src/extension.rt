@@ -1,7 +1,7 @@
 //! Extensions.
 ghost use Rattle.std.specs.Prelude.{◌≡◌, ◌++◌, OnOk};
 ghost use Rattle.std.specs.String.{string_bytes};
-ghost use Rattle.asn1_certificate_report.specs.Extensions.{authority_key_text, authority_text, authority_word, criticality_text, extension_text, extension_value_text, identifier_text, path_length_text, serial_number_text, spaced_octets};
+ghost use Rattle.asn1_certificate_report.specs.Extensions.{authority_key_text, authority_text, authority_word, criticality_text, extension_text, extension_value_text, identifier_text, number_line, path_length_text, serial_number_text, spaced_octets};
 
 use crate::general_name::ShownGeneralName;
 use crate::number::OctetNumber;
@@ -110,13 +110,13 @@ impl Shows for Authority {
     ghost text_of = { authority_text };
 
     fn push_to(&self, text: &mut String) -> Result<(), AllocError> {
-        text.push_str(authority(self.is_authority))?;
+        text.push_str(authority_word(self.is_authority))?;
         push_path_length(text, &self.path_length)
     }
 }
 
 /// Whether it is an authority, in words.
-fn authority(is_authority: bool) -> &'static str
+fn authority_word(is_authority: bool) -> &'static str
     ensures { result.now ≡ authority_word is_authority }
 {
     if is_authority {
@@ -175,10 +175,16 @@ fn push_serial_number(text: &mut String, number: &Option<OctetNumber>) -> Result
         string_bytes text.old ++ serial_number_text number.now) }
 {
     match number {
-        Some(number) => {
-            text.push_str("\n    serial number ")?;
-            number.push_to(text)
-        }
+        Some(number) => push_number_line(text, number),
         None => Ok(()),
     }
+}
+
+/// Appends a line with a serial number.
+fn push_number_line(text: &mut String, number: &OctetNumber) -> Result<(), AllocError>
+    ensures { OnOk result (string_bytes text.new ≡
+        string_bytes text.old ++ number_line number.now) }
+{
+    text.push_str("\n    serial number ")?;
+    number.push_to(text)
 }

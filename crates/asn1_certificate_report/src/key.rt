@@ -1,7 +1,7 @@
 //! Public keys, and the algorithms of signatures.
 ghost use Rattle.std.specs.Prelude.{◌≡◌, ◌++◌, OnOk};
 ghost use Rattle.std.specs.String.{string_bytes};
-ghost use Rattle.asn1_certificate_report.specs.Keys.{inside_text, key_text, signature_text, size_text};
+ghost use Rattle.asn1_certificate_report.specs.Keys.{inside_text, key_text, modulus_text, other_text, signature_text, size_text};
 
 use crate::object::Object;
 use crate::shows::Shows;
@@ -49,10 +49,7 @@ impl Shows for KeySize {
 
     fn push_to(&self, text: &mut String) -> Result<(), AllocError> {
         match self {
-            KeySize::Modulus(bits, exponent) => {
-                write!(text, "{bits} bits, exponent ")?;
-                write!(text, "{exponent}")
-            }
+            KeySize::Modulus(bits, exponent) => push_modulus(text, *bits, exponent),
             KeySize::Curve(name, bits) => write!(text, "{name}, {bits} bits"),
             KeySize::Fixed(bits) => write!(text, "{bits} bits"),
             KeySize::UnnamedCurve(curve) => {
@@ -62,6 +59,15 @@ impl Shows for KeySize {
             KeySize::Kept(bits) => write!(text, "kept in {bits} bits"),
         }
     }
+}
+
+/// Appends how many bits a modulus has, and the exponent.
+fn push_modulus(text: &mut String, bits: u128, exponent: &Integer) -> Result<(), AllocError>
+    ensures { OnOk result (string_bytes text.new ≡
+        string_bytes text.old ++ modulus_text bits exponent.now) }
+{
+    write!(text, "{bits} bits, exponent ")?;
+    write!(text, "{exponent}")
 }
 
 /// The algorithm of a signature, which a certificate says twice, and is not to say otherwise the second time (RFC 5280, 4.1.1.2).
@@ -87,10 +93,15 @@ fn push_inside(text: &mut String, inside: &Option<Object>) -> Result<(), AllocEr
     ensures { OnOk result (string_bytes text.new ≡ string_bytes text.old ++ inside_text inside.now) }
 {
     match inside {
-        Some(inside) => {
-            text.push_str(", but inside ")?;
-            inside.push_to(text)
-        }
+        Some(inside) => push_other(text, inside),
         None => Ok(()),
     }
+}
+
+/// Appends another algorithm that is said inside.
+fn push_other(text: &mut String, inside: &Object) -> Result<(), AllocError>
+    ensures { OnOk result (string_bytes text.new ≡ string_bytes text.old ++ other_text inside.now) }
+{
+    text.push_str(", but inside ")?;
+    inside.push_to(text)
 }
