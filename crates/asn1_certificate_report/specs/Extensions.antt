@@ -42,13 +42,9 @@ abbrev pub identifier_text : Option (Vec ℕ Global) → List ℕ
 identifier_text (Some octets) = spaced_octets octets.items
 identifier_text None = []
 
--- a line with a serial number
-abbrev pub number_line : OctetNumber → List ℕ
-number_line number = codes "\n    serial number " ++ octet_number_text number
-
 -- a serial number, if there is one
 abbrev pub serial_number_text : Option OctetNumber → List ℕ
-serial_number_text (Some number) = number_line number
+serial_number_text (Some number) = codes "\n    serial number " ++ octet_number_text number
 serial_number_text None = []
 
 -- which key of an authority it is, by what is said of it

@@ -25,13 +25,9 @@ size_text (Kept bits) = codes "kept in " ++ (decimal bits ++ codes " bits")
 abbrev pub key_text : ShownKey → List ℕ
 key_text k = object_text k.algorithm ++ (codes ", " ++ size_text k.size)
 
--- another algorithm
-abbrev pub other_text : Object → List ℕ
-other_text inside = codes ", but inside " ++ object_text inside
-
 -- what is said inside, where that is not the same
 abbrev pub inside_text : Option Object → List ℕ
-inside_text (Some inside) = other_text inside
+inside_text (Some inside) = codes ", but inside " ++ object_text inside
 inside_text None = []
 
 -- the algorithm of a signature

@@ -1,12 +1,12 @@
 //! Extensions.
 ghost use Rattle.std.specs.Prelude.{◌≡◌, ◌++◌, OnOk};
 ghost use Rattle.std.specs.String.{string_bytes};
-ghost use Rattle.asn1_certificate_report.specs.Extensions.{authority_key_text, authority_text, authority_word, criticality_text, extension_text, extension_value_text, identifier_text, number_line, path_length_text, serial_number_text, spaced_octets};
+ghost use Rattle.asn1_certificate_report.specs.Extensions.{authority_key_text, authority_text, authority_word, criticality_text, extension_text, extension_value_text, identifier_text, path_length_text, serial_number_text, spaced_octets};
 
 use crate::general_name::ShownGeneralName;
 use crate::number::OctetNumber;
 use crate::object::Object;
-use crate::shows::{Shows, push_each, push_joined};
+use crate::shows::{Shows, push_after, push_each, push_joined};
 use asn1_certificate_text::{push_octets, push_usages};
 use asn1_values::Integer;
 use std::alloc::AllocError;
@@ -175,16 +175,7 @@ fn push_serial_number(text: &mut String, number: &Option<OctetNumber>) -> Result
         string_bytes text.old ++ serial_number_text number.now) }
 {
     match number {
-        Some(number) => push_number_line(text, number),
+        Some(number) => push_after(text, "\n    serial number ", number),
         None => Ok(()),
     }
-}
-
-/// Appends a line with a serial number.
-fn push_number_line(text: &mut String, number: &OctetNumber) -> Result<(), AllocError>
-    ensures { OnOk result (string_bytes text.new ≡
-        string_bytes text.old ++ number_line number.now) }
-{
-    text.push_str("\n    serial number ")?;
-    number.push_to(text)
 }

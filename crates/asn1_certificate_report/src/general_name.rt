@@ -2,13 +2,14 @@
 ghost use Rattle.std.specs.Prelude.{◌≡◌, ◌++◌, OnOk};
 ghost use Rattle.std.specs.List.{flat_map};
 ghost use Rattle.std.specs.String.{string_bytes};
+ghost use Rattle.asn1_certificate_text.specs.Addresses.{address_text};
 ghost use Rattle.asn1_certificate_text.specs.Escapes.{shown};
 ghost use Rattle.asn1_certificate_report.specs.declared.general_name.ShownGeneralName.TheVariants.{Other, Party};
 ghost use Rattle.asn1_certificate_report.specs.GeneralNames.{assigner_text, general_name_text};
 
 use crate::name::ShownName;
 use crate::object::Object;
-use crate::shows::Shows;
+use crate::shows::{Shows, push_after};
 use asn1_certificate_text::{push_address, push_octets, push_shown};
 use std::alloc::AllocError;
 use std::fmt::Write;
@@ -48,19 +49,12 @@ impl Shows for ShownGeneralName {
             ShownGeneralName::X400(count) => {
                 write!(text, "X.400 address, its components: {count}")
             }
-            ShownGeneralName::Directory(name) => {
-                text.push_str("directory name ")?;
-                name.push_to(text)
-            }
+            ShownGeneralName::Directory(name) => push_after(text, "directory name ", name),
             ShownGeneralName::Party(party, assigner) => push_party(text, party, assigner),
             ShownGeneralName::Uri(uri) => push_named(text, "URI ", uri),
-            ShownGeneralName::Address(octets) => {
-                text.push_str("IP address ")?;
-                push_address(text, octets.as_slice())
-            }
+            ShownGeneralName::Address(octets) => push_ip_address(text, "IP address ", octets),
             ShownGeneralName::Registered(object) => {
-                text.push_str("registered identifier ")?;
-                object.push_to(text)
+                push_after(text, "registered identifier ", object)
             }
         }
     }
@@ -73,6 +67,15 @@ fn push_named(text: &mut String, kind: &str, characters: &Vec<char>) -> Result<(
 {
     text.push_str(kind)?;
     push_shown(text, characters.as_slice())
+}
+
+/// Appends the name of a kind, and an IP address.
+fn push_ip_address(text: &mut String, kind: &str, octets: &Vec<u8>) -> Result<(), AllocError>
+    ensures { OnOk result (string_bytes text.new ≡
+        string_bytes text.old ++ (kind.now ++ address_text octets.now.items)) }
+{
+    text.push_str(kind)?;
+    push_address(text, octets.as_slice())
 }
 
 /// Appends a name of a kind that has a name of its own.

@@ -1,10 +1,10 @@
 //! Public keys, and the algorithms of signatures.
 ghost use Rattle.std.specs.Prelude.{◌≡◌, ◌++◌, OnOk};
 ghost use Rattle.std.specs.String.{string_bytes};
-ghost use Rattle.asn1_certificate_report.specs.Keys.{inside_text, key_text, modulus_text, other_text, signature_text, size_text};
+ghost use Rattle.asn1_certificate_report.specs.Keys.{inside_text, key_text, modulus_text, signature_text, size_text};
 
 use crate::object::Object;
-use crate::shows::Shows;
+use crate::shows::{Shows, push_after};
 use asn1_values::Integer;
 use std::alloc::AllocError;
 use std::fmt::Write;
@@ -52,10 +52,7 @@ impl Shows for KeySize {
             KeySize::Modulus(bits, exponent) => push_modulus(text, *bits, exponent),
             KeySize::Curve(name, bits) => write!(text, "{name}, {bits} bits"),
             KeySize::Fixed(bits) => write!(text, "{bits} bits"),
-            KeySize::UnnamedCurve(curve) => {
-                text.push_str("curve ")?;
-                curve.push_to(text)
-            }
+            KeySize::UnnamedCurve(curve) => push_after(text, "curve ", curve),
             KeySize::Kept(bits) => write!(text, "kept in {bits} bits"),
         }
     }
@@ -93,15 +90,7 @@ fn push_inside(text: &mut String, inside: &Option<Object>) -> Result<(), AllocEr
     ensures { OnOk result (string_bytes text.new ≡ string_bytes text.old ++ inside_text inside.now) }
 {
     match inside {
-        Some(inside) => push_other(text, inside),
+        Some(inside) => push_after(text, ", but inside ", inside),
         None => Ok(()),
     }
-}
-
-/// Appends another algorithm that is said inside.
-fn push_other(text: &mut String, inside: &Object) -> Result<(), AllocError>
-    ensures { OnOk result (string_bytes text.new ≡ string_bytes text.old ++ other_text inside.now) }
-{
-    text.push_str(", but inside ")?;
-    inside.push_to(text)
 }

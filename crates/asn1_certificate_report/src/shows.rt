@@ -44,10 +44,22 @@ pub(crate) fn push_each<T: Shows>(
         string_bytes text.old ++ flat_map (λ item. before.now ++ T.text_of item) items.now) }
 {
     for item in items {
-        text.push_str(before)?;
-        item.push_to(text)?;
+        push_after(text, before, item)?;
     }
     Ok(())
+}
+
+/// Appends a text, and that of an item.
+pub(crate) fn push_after<T: Shows>(
+    text: &mut String,
+    before: &str,
+    item: &T,
+) -> Result<(), AllocError>
+    ensures { OnOk result (string_bytes text.new ≡
+        string_bytes text.old ++ (before.now ++ T.text_of item.now)) }
+{
+    text.push_str(before)?;
+    item.push_to(text)
 }
 
 /// Appends a line: a label, and the text of an item.
