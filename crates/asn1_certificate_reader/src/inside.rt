@@ -6,16 +6,16 @@ use std::alloc::{AllocError, Global};
 /// more.
 pub const MAX_DEPTH: usize = 64;
 
-/// Reads a value that is all of these octets. What is not one is an error of the codec, but memory is one of its own.
+/// The value that is all of these octets, where they are read as one.
 pub(crate) fn read_inside<R: Rules<Output = Vec<u8>>, T: Decode>(
     rules: &R,
     alloc: Global,
     octets: &[u8],
-) -> Result<Result<T, DecodeError>, AllocError> {
+) -> Result<Option<T>, AllocError> {
     let owned = Vec::from_slice(alloc, octets)?;
     match rules.read_value(&owned, MAX_DEPTH) {
-        Ok(value) => Ok(Ok(value)),
+        Ok(value) => Ok(Some(value)),
         Err(DecodeError::Memory) => Err(AllocError),
-        Err(error) => Ok(Err(error)),
+        Err(_) => Ok(None),
     }
 }

@@ -1,0 +1,98 @@
+//! How the program ends.
+ghost use Rattle.std.specs.Prelude.{◌≡◌, ◌↔◌, IsErrOf, IsOk, OnOk, List, ℕ, IfSome};
+ghost use Rattle.std.specs.Io.KnownBytes.{Appends, IsAtEnd};
+ghost use Rattle.asn1_certificate.specs.Shown.{IsTextOf};
+ghost use Rattle.std.specs.Prelude.{⊤};
+
+use crate::show::{ShowError, show};
+use std::alloc::{AllocError, Global};
+use std::fmt;
+use std::io::{Eprint, Read, Write};
+use std::process::{ExitCode, Termination};
+use thiserror::Error;
+
+/// Why nothing is shown.
+#[derive(Clone, Copy, Debug, Drop, Error)]
+pub(crate) enum Failure {
+    /// The input has no report.
+    #[error("{0}")]
+    NotShown(ShowError),
+    /// The input was not read to its end.
+    #[error("reading failed")]
+    Reading,
+    /// The report was not written.
+    #[error("writing failed")]
+    Writing,
+}
+
+/// How the program ends: with a status, and with what `{}` shows of it on standard error.
+#[derive(Clone, Copy)]
+pub(crate) struct Outcome {
+    failure: Option<Failure>,
+}
+
+impl Outcome {
+    /// 0 if a certificate was shown, 1 if the input has none, and 2 where memory runs out, or reading or writing fails.
+    fn status(&self) -> u8 {
+        match self.failure {
+            None => 0,
+            Some(Failure::NotShown(ShowError::Memory)) => 2,
+            Some(Failure::NotShown(_)) => 1,
+            Some(Failure::Reading | Failure::Writing) => 2,
+        }
+    }
+}
+
+impl fmt::Display for Outcome {
+    fn fmt<W: fmt::Write>(&self, f: &mut fmt::Formatter<W>) -> fmt::Result {
+        match self.failure {
+            Some(failure) => writeln!(f, "{failure}"),
+            None => Ok(()),
+        }
+    }
+}
+
+/// What `main` answers: the text is printed, and the process ends with the status.
+impl Termination for Outcome {
+    fn report<R: Eprint>(self, rt: &R) -> ExitCode {
+        let _ = rt.eprint(self);
+        ExitCode::from(self.status())
+    }
+}
+
+/// Shows the certificate that the reader gives, and answers how the program then ends.
+pub(crate) fn shown<R: Read, W: Write>(alloc: Global, reader: &mut R, writer: &mut W) -> Outcome {
+    Outcome {
+        failure: copy_report(alloc, reader, writer).err(),
+    }
+}
+
+/// Writes the report of what the reader gives.
+fn copy_report<R: Read, W: Write>(
+    alloc: Global,
+    reader: &mut R,
+    writer: &mut W,
+) -> Result<(), Failure>
+    ensures read { OnOk result (IsAtEnd (R.remaining reader.new)) }
+    ensures written { OnOk result ((text : List ℕ) × IsTextOf (λ _. ⊤) text
+        × Appends (W.contents writer.old) (W.contents writer.new) text) }
+{
+    let mut input = Vec::new(alloc);
+    if reader.read_to_end(&mut input).is_err() {
+        return Err(Failure::Reading);
+    }
+    match show(alloc, input) {
+        Ok(text) => write_text(text.as_bytes(), writer),
+        Err(error) => Err(Failure::NotShown(error)),
+    }
+}
+
+/// Writes a text, and hands it on.
+fn write_text<W: Write>(text: &[u8], writer: &mut W) -> Result<(), Failure>
+    ensures { OnOk result (Appends (W.contents writer.old) (W.contents writer.new) text.now) }
+{
+    if writer.write_all(text).is_err() || writer.flush().is_err() {
+        return Err(Failure::Writing);
+    }
+    Ok(())
+}

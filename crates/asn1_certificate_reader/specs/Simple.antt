@@ -1,0 +1,23 @@
+-- Versions and times.
+use Rattle.std.specs.Prelude.{◌≡◌, ⊤, ℤ, pos}
+use Rattle.asn1_certificate_text.specs.MomentTexts.{IsInCalendar, IsOfUtcTime, generalized_time, utc_time}
+use Rattle.asn1_certificate_report.specs.declared.number.Version.{Version}
+use Rattle.asn1_certificate_report.specs.declared.number.Version.TheVariants.{First, Second, Third, Unknown}
+use Rattle.asn1_certificate_report.specs.declared.time.ShownTime.{ShownTime}
+use Rattle.asn1_certificate_report.specs.declared.time.ShownTime.TheVariants.{Moment, Text}
+use Rattle.asn1_x509.specs.declared.time.Time.{Time}
+use Rattle.asn1_x509.specs.declared.time.Time.TheVariants.{Utc, General}
+
+-- the number of a version (RFC 5280, 4.1.2.1)
+abbrev pub version_number : Version → ℤ
+version_number First = pos 0
+version_number Second = pos 1
+version_number Third = pos 2
+version_number (Unknown number) = number
+
+-- a moment is the one that the time says (RFC 5280, 4.1.2.5)
+abbrev pub IsTimeOf : Time → ShownTime → Type 0
+IsTimeOf (Utc time) (Moment m) = IsInCalendar m × (IsOfUtcTime m × (time.value ≡ utc_time m))
+IsTimeOf (General time) (Moment m) = IsInCalendar m × (time.value ≡ generalized_time m)
+IsTimeOf (Utc time) (Text said) = ⊤
+IsTimeOf (General time) (Text said) = ⊤

@@ -1,0 +1,12 @@
+#!/bin/sh
+# Shows each certificate of this folder, as DER and as a text, by the program that is built in crates/asn1_certificate (`rt run` there
+# builds it), and compares what it writes with the stored text.
+set -eu
+cd "$(dirname "$0")"
+program=${1:-../../crates/asn1_certificate/out/asn1_certificate}
+for wanted in *.txt; do
+    for form in der pem; do
+        "$program" < "${wanted%.txt}.$form" | diff "$wanted" -
+    done
+done
+echo "each is shown as it is stored"
