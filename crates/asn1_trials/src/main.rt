@@ -1,4 +1,5 @@
-//! Tries codecs over bytes, by its arguments. The first word is a codec, `packed` or `tag`, or `each` for all of them:
+//! Tries codecs over bytes, by its arguments. The first word is a codec, `packed`, `tag` or `der`, or `each` for
+//! all of them:
 //!
 //! | Words | What is done | What is written |
 //! |---|---|---|
