@@ -1,6 +1,6 @@
 //! The codecs that are tried.
 use crate::request::Request;
-use crate::{damage, lists, nested};
+use crate::{damage, growths, lists, nested};
 use asn1_bench::BenchRules;
 use asn1_der::DerRules;
 use asn1_rules::Rules;
@@ -16,6 +16,9 @@ const NULL_IN_DER: &[u8] = &[5, 0];
 
 /// Does what is asked for with each codec of which it is asked.
 pub(crate) fn run(rt: &impl Print, alloc: Global, request: &Request<'_>) -> io::Result<()> {
+    if request.word(1) == "pieces" {
+        return growths::run_in_pieces(rt, alloc, NULL);
+    }
     let (packed, tag, der) = (
         BenchRules::new(alloc),
         TagRules::new(alloc),
@@ -43,6 +46,10 @@ fn run_if_asked<R: Rules<Output = Vec<u8>>>(
         "damage" => {
             print!(rt; "{name}: ")?;
             damage::run(rt, alloc, rules, null, request)
+        }
+        "growths" => {
+            print!(rt; "{name}: ")?;
+            growths::run(rt, alloc, rules, null)
         }
         "write" | "read" => lists::run(rt, alloc, rules, request),
         "nest" | "drop" => nested::run(rt, alloc, rules, request),
