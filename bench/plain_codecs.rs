@@ -553,8 +553,8 @@ impl Value for Profile {
             match &self.contact {
                 Some(contact) if contact.phone.is_some() || contact.mail.is_some() => {
                     writer.mark(0x12);
-                    writer.optional_string(PHONE, 13, contact.phone.as_deref())?;
-                    writer.optional_string(MAIL, 11, contact.mail.as_deref())?;
+                    writer.optional_string(PHONE, 14, contact.phone.as_deref())?;
+                    writer.optional_string(MAIL, 12, contact.mail.as_deref())?;
                     writer.mark(0x14);
                 }
                 _ => writer.mark(0x13),
@@ -585,10 +585,10 @@ impl Value for Profile {
 fn read_contact<F: Form>(reader: &mut Reader<'_, F>) -> Result<Contact, Error> {
     let mut contact = Contact { phone: None, mail: None };
     if reader.is_present(PHONE)? {
-        contact.phone = Some(reader.letters(PHONE, 13, |unit| unit == b' ' || unit.is_ascii_digit())?);
+        contact.phone = Some(reader.letters(PHONE, 14, |unit| unit == b' ' || unit.is_ascii_digit())?);
     }
     if reader.is_present(MAIL)? {
-        contact.mail = Some(reader.letters(MAIL, 11, |unit| unit.is_ascii())?);
+        contact.mail = Some(reader.letters(MAIL, 12, |unit| unit.is_ascii())?);
     }
     if F::HAS_MARKS {
         let [0x14, rest @ ..] = reader.left else {

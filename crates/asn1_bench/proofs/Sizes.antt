@@ -1,12 +1,13 @@
 -- How long the bytes of records are: so those that are too long have none.
-use Rattle.std.proofs.Common.{◌≡◌, ◌≢◌, ◌⊎◌, inl, inr, ℕ, zero, suc, ◌+◌, ◌*◌, ◌^◌, ◌<◌, ◌≤◌, ◌/◌, ⊤, ℤ, Bool, true, false, List, [], ◌∷◌, ◌++◌, length, length-append, Some, refl, sym, ap, subst, ◌∙◌, arith}
-use Rattle.std.specs.Prelude.{All, IsPermutation, replicate, unsigned_abs}
+use Rattle.std.proofs.Common.{◌≡◌, ◌≢◌, ◌⊎◌, inl, inr, ℕ, zero, suc, ◌+◌, ◌*◌, ◌^◌, ◌<◌, ◌≤◌, ◌/◌, ℤ, Bool, true, false, List, [], ◌∷◌, ◌++◌, length, length-append, Some, refl, sym, ap, subst, ◌∙◌, arith}
+use Rattle.std.specs.Prelude.{⊤, All, IsPermutation, replicate, unsigned_abs}
 use Rattle.std.specs.List.{flat_map, sum_by}
 use Rattle.std.specs.Int.Digits.{AllBelowBase, digits_of, number_from_digits_after}
 use Rattle.std.proofs.lemmas.Bool.{cases_lt}
 use Rattle.std.proofs.lemmas.Int.Digits.{all_below_base_digits_of, number_after_ge, number_digits_of, number_lt}
 use Rattle.std.proofs.lemmas.List.{length-replicate}
 use Rattle.std.proofs.lemmas.List.Elements.{All-nil, All-cons, All-head, All-tail}
+use Rattle.std.proofs.lemmas.List.Sums.{sum_by-cons}
 use Rattle.std.proofs.lemmas.List.Sorted.{All-permutation, IsPermutation-sym, sum_by-IsPermutation}
 use Rattle.std.proofs.Math.Nat.{mul-le-mul_right, pow-le-pow_right, pow-suc}
 use Rattle.asn1_values.proofs.Digits.{digits_of-magnitude}
@@ -16,9 +17,10 @@ use Rattle.asn1_items.specs.Contents.{AreUnits, IsContent}
 use Rattle.asn1_items.specs.Items.{HasBytes, HaveBytes, IsItem, IsTooLong, MarkBytes, SomeTooLong, written_with}
 use Rattle.asn1_items.specs.Numbers.{AreFours, AreTwos, IsInteger, four_bytes, two_bytes}
 use Rattle.asn1_items.specs.Headers.{kind_of, tag_bytes}
-use Rattle.asn1_model.specs.Orders.{Same, SameRecords, SameAll, equal, in_place, in_any_order, at_end, next}
+use Rattle.asn1_model.specs.Orders.{Same, SameAll, equal, in_place, in_any_order, at_end, next}
 use Rattle.asn1_model.specs.Tags.{head_tag}
 use Rattle.asn1_packed.specs.Carried.{CarriesWith}
+use Rattle.asn1_packed.specs.Written.{item_writer}
 use Rattle.asn1_tags.specs.declared.tags.Tag.{Tag}
 use Rattle.asn1_model.specs.Records.{Content, Record, Records, StringKind, null, boolean, number, discriminant, arcs, bits, units, teletex, bmp, scalar, scope, open_type, presence_mark, none, more, held, listed}
 
@@ -69,7 +71,7 @@ integer_length z bytes p below =
 
 -- a list of parts of one length
 length_of_parts : (f : ℕ → List ℕ) (k : ℕ) → ((n : ℕ) → length (f n) ≡ k) → (ns : List ℕ) → length (flat_map f ns) ≡ length ns * k
-length_of_parts f k each [] = refl
+length_of_parts f k each [] = omega arith
 length_of_parts f k each (n ∷ ns) = omega (arith, length-append (f n) (flat_map f ns), each n, length_of_parts f k each ns)
 
 length_of_fours : (list bytes : List ℕ) → AreFours list bytes → length bytes ≡ length list * 4
@@ -79,7 +81,7 @@ length_of_twos : (list bytes : List ℕ) → AreTwos list bytes → length bytes
 length_of_twos list bytes p = ap length p.are ∙ length_of_parts (λ n. two_bytes n) 2 (λ n. refl) list
 
 length_of_bits : (octets : List ℕ) → length (bits_of_octets octets) ≡ length octets * 8
-length_of_bits [] = refl
+length_of_bits [] = omega arith
 length_of_bits (o ∷ octets) = omega (arith, length-append (bits_of_octet o) (bits_of_octets octets), length_of_bits octets)
 
 length_of_content_bits : (list : List Bool) (bytes : List ℕ) → AreBits list bytes → length bytes ≡ suc ((length list + 7) / 8)
@@ -161,11 +163,11 @@ module _ (marks : MarkBytes) where
 
 item_length : (kind : ℕ) (t : Tag) (own inside bytes : List ℕ) → IsItem kind t own inside bytes → length bytes ≡ 10 + length own + length inside
 item_length kind t own inside bytes p =
-    omega (arith, ap length p.are, length-append (tag_bytes t) (own ++ four_bytes (length inside) ++ inside), length-append own (four_bytes (length inside) ++ inside), length-append (four_bytes (length inside)) inside)
+    omega (arith, ap length p.are, length-append (tag_bytes t ++ own ++ four_bytes (length inside)) inside, length-append (tag_bytes t ++ own) (four_bytes (length inside)), length-append (tag_bytes t) own)
 
 inside_below : (kind : ℕ) (t : Tag) (own inside bytes : List ℕ) → IsItem kind t own inside bytes → AllBelowBase 256 bytes → AllBelowBase 256 inside
 inside_below kind t own inside bytes p below =
-    below_right (four_bytes (length inside)) inside (below_right own (four_bytes (length inside) ++ inside) (below_right (tag_bytes t) (own ++ four_bytes (length inside) ++ inside) ((subst (AllBelowBase 256) p.are below).1)))
+    below_right (tag_bytes t ++ own ++ four_bytes (length inside)) inside ((subst (AllBelowBase 256) p.are below).1)
 
 module _ (marks : MarkBytes) where
   mutual
@@ -227,7 +229,7 @@ module _ (marks : MarkBytes) where
   -- The order inside sets means nothing for both.
   sizes_listed : (rs : Records) → sizes marks rs ≡ sum_by (λ r. size marks r) (listed rs)
   sizes_listed none = refl
-  sizes_listed (more r rs) = ap (λ n. size marks r + n) (sizes_listed rs)
+  sizes_listed (more r rs) = ap (λ n. size marks r + n) (sizes_listed rs) ∙ sym (sum_by-cons (λ r. size marks r) r (listed rs))
 
   fit_each : (rs : Records) → AllFit marks rs → All (λ r. Fits marks r) (listed rs)
   fit_each none f = All-nil (λ r. Fits marks r)
@@ -275,7 +277,11 @@ module _ (marks : MarkBytes) where
     all_back at_end f = tt
     all_back (next same all) f = (fits_back same f.0, all_back all f.1)
 
+  below : (bytes : List ℕ) → All (λ byte. byte < 2 ^ 8) bytes → AllBelowBase 256 bytes
+  below [] all = tt
+  below (byte ∷ bytes) all = (omega (arith, All-head (λ byte. byte < 2 ^ 8) byte bytes all), below bytes (All-tail (λ byte. byte < 2 ^ 8) byte bytes all))
+
   -- So bytes that carry some records carry none of which some are too long, in whatever order.
-  pub not_carried : (bytes : List ℕ) (long rs : List Record) → AllBelowBase 256 bytes → CarriesWith marks bytes rs → SomeTooLong (written_with marks) (held long) → SameRecords long rs → ⊥
-  not_carried bytes long rs below carried some same =
-      none_long (held long) (all_back same (all_there carried.same (all_fit (held carried.exactly) bytes carried.have_bytes below))) some
+  pub not_carried : {P : Type 0} (bytes : List ℕ) (rs : List Record) → All (λ byte. byte < 2 ^ 8) bytes → (item_writer {P = P} marks).rejects rs → CarriesWith marks bytes rs → ⊥
+  not_carried bytes rs all long carried =
+      none_long (held long.exactly) (all_back long.same (all_there carried.same (all_fit (held carried.exactly) bytes carried.have_bytes (below bytes all)))) long.rejects
