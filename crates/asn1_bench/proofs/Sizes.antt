@@ -4,7 +4,7 @@ use Rattle.std.specs.Prelude.{⊤, All, IsPermutation, replicate, unsigned_abs}
 use Rattle.std.specs.List.{flat_map, sum_by}
 use Rattle.std.specs.Int.Digits.{AllBelowBase, digits_of, number_from_digits_after}
 use Rattle.std.proofs.lemmas.Bool.{cases_lt}
-use Rattle.std.proofs.lemmas.Int.Digits.{all_below_base_digits_of, number_after_ge, number_digits_of, number_lt}
+use Rattle.std.proofs.lemmas.Int.Digits.{all_below_base_digits_of, number_digits_of, number_lt}
 use Rattle.std.proofs.lemmas.List.{length-replicate}
 use Rattle.std.proofs.lemmas.List.Elements.{All-nil, All-cons, All-head, All-tail}
 use Rattle.std.proofs.lemmas.List.Sums.{sum_by-cons}
