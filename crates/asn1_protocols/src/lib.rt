@@ -10,7 +10,7 @@
 //! - Each type can be inside other types (`ldap_message_is_well_tagged` and the like). Tables, meaning and writer are proved to say the
 //!   same. The types are read too.
 //! - A component that is its default is written as absent (`no_children_are_absent` of [`personnel`]), and a type with a tag of its own is under it (`bind_request_records` of [`ldap`]).
-#![tactic(auto, using(asn1_schema::proofs::Trees::tree_shapes))]
+#![tactic(auto, using(asn1_tags::proofs::Leaves::tree_shapes))]
 
 pub mod ldap;
 pub mod personnel;

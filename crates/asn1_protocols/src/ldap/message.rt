@@ -1,13 +1,16 @@
 //! `LDAPMessage ::= SEQUENCE { messageID INTEGER (0..2147483647), protocolOp ProtocolOp }` (RFC 4511, 4.1.1), without controls.
 ghost use Rattle.std.specs.Prelude.{[], codes, ◌∷◌};
-ghost use Rattle.asn1_schema.specs.Words.{IsWellTagged, constructed_agrees, constructed_type, required_slot, sequence_of_slots, untagged};
+ghost use Rattle.asn1_slots.specs.Slots.{required_slot, sequence_of_slots};
+ghost use Rattle.asn1_types.specs.Words.{IsWellTagged, constructed_agrees, constructed_type, untagged};
 
 use crate::ldap::ProtocolOp;
-use asn1_schema::{
-    AsnType, ConstrainedInteger, Constraints, ConstructedType, Decode, DecodeByPlace, DecodeError,
-    Decoded, Decoder, Encode, EncodeError, EncodeFields, Encoder, Field, FieldTable, Identifier,
-    Tag, Tagging, TypeTable, decode_sequence_by_place, filled, required,
+use asn1_dec::{Decode, DecodeError, Decoder};
+use asn1_enc::{Encode, EncodeError, EncodeFields, Encoder};
+use asn1_slots::{DecodeByPlace, Decoded, Tagging, decode_sequence_by_place, filled, required};
+use asn1_types::{
+    AsnType, Constraints, ConstructedType, Field, FieldTable, Identifier, Tag, TypeTable,
 };
+use asn1_values::ConstrainedInteger;
 use std::alloc::Global;
 
 /// `MessageID ::= INTEGER (0..2147483647)`
