@@ -5,7 +5,7 @@ ghost use Rattle.asn1_user_types.specs.declared.currency.Currency.TheVariants.{E
 
 use asn1_schema::{
     AsnType, Constraints, Decode, DecodeError, Decoder, Encode, EncodeError, Encoder, Enumerated,
-    EnumeratedType, EnumerationItem, Identifier, Tag, TypeTable,
+    EnumeratedType, EnumerationItem, Identifier, Tag, TypeTable, item,
 };
 
 /// In what a price is paid.
@@ -18,16 +18,8 @@ pub enum Currency {
 }
 
 const ITEMS: &[EnumerationItem<Currency>] = &[
-    EnumerationItem {
-        value: Currency::Euro,
-        number: 0,
-        name: "euro",
-    },
-    EnumerationItem {
-        value: Currency::Yen,
-        number: 1,
-        name: "yen",
-    },
+    item!(Currency::Euro, 0, "euro"),
+    item!(Currency::Yen, 1, "yen"),
 ];
 
 impl Enumerated for Currency {
