@@ -230,7 +230,7 @@ fn intersect_alphabets<'a>(
 ) -> Result<Option<Extensible<'a, PermittedAlphabet>>, AllocError>
     ensures part { IfOk result (λ both.
         both ≡ parts_intersection common_characters (option_copied a.entry)
-            (option_copied b.entry)) }
+        (option_copied b.entry)) }
     ensures without_alphabet { IsNone a.entry → IsNone b.entry → IsOk result }
 {
     match (a, b) {

@@ -73,7 +73,7 @@ pub fn alphabets_are_compared_by_characters()
         slice_cmp nat_cmp a b }
     ensures partial_order { (a b : PermittedAlphabet) →
         ⟦<PermittedAlphabet as PartialOrd>⟧.partial_cmp a b ≡
-            Some (⟦<PermittedAlphabet as Ord>⟧.cmp a b) }
+        Some (⟦<PermittedAlphabet as Ord>⟧.cmp a b) }
     ensures hash { (a : PermittedAlphabet) → ⟦<PermittedAlphabet as Hash>⟧.hash_input a ≡
         fed.slice fed.u32 a }
 {}
@@ -103,7 +103,7 @@ pub fn constraints_are_compared_by_parts<'a>()
         ≡ ⟦<Extensible<'a, Size> as PartialEq>⟧.eq a b }
     ensures alphabets { (a b : Extensible PermittedAlphabet) →
         ⟦<Constraint<'a> as PartialEq>⟧.eq (constraint.PermittedAlphabet a)
-            (constraint.PermittedAlphabet b)
+        (constraint.PermittedAlphabet b)
         ≡ ⟦<Extensible<'a, PermittedAlphabet> as PartialEq>⟧.eq a b }
     ensures markers { IsTrue
         (⟦<Constraint<'a> as PartialEq>⟧.eq constraint.Extensible constraint.Extensible) }
@@ -119,7 +119,7 @@ pub fn names_are_compared_by_case()
     ensures widths { TellsApart ⟦<TooWide as PartialEq>⟧.eq }
     ensures errors { (a b : InnerSubtypeConstraintError) →
         IsTrue (⟦<InnerSubtypeConstraintError as PartialEq>⟧.eq a b) ↔
-            (refusal_of a ≡ refusal_of b) }
+        (refusal_of a ≡ refusal_of b) }
     ensures discriminant_clones { ClonesExactly ⟦<ConstraintDiscriminant as Clone>⟧.is_clone
         ⟦<ConstraintDiscriminant as Clone>⟧.is_infallible }
     ensures codec_clones { ClonesExactly ⟦<Codec as Clone>⟧.is_clone
@@ -137,7 +137,7 @@ pub fn names_are_compared_by_case()
 pub fn conversions_keep_the_constraint<'a, T: FitsI128, U: 'a>()
     ensures bounds { (bound : Bounded T) (value : Value) →
         ⟦<Value as From<Bounded<T>>>⟧.from_gives bound value →
-            value.bound ≡ numbers T.number bound }
+        value.bound ≡ numbers T.number bound }
     ensures lengths { (bound : Bounded ℕ) (answer : Result Value TooWide) →
         ⟦<Value as TryFrom<Bounded<usize>>>⟧.try_from_gives bound answer →
         OkIff answer (HasNarrowEnds bound) (record { bound = numbers pos bound }) }
@@ -145,30 +145,30 @@ pub fn conversions_keep_the_constraint<'a, T: FitsI128, U: 'a>()
         ⟦<Extensible<'a, U> as From<U>>⟧.from_gives kind part → part ≡ fixed kind }
     ensures value_parts { (part : Extensible Value) (one : Constraint) →
         ⟦<Constraint<'a> as From<Extensible<'a, Value>>>⟧.from_gives part one →
-            one ≡ constraint.Value part }
+        one ≡ constraint.Value part }
     ensures values { (kind : Value) (one : Constraint) →
         ⟦<Constraint<'a> as From<Value>>⟧.from_gives kind one →
-            one ≡ constraint.Value (fixed kind) }
+        one ≡ constraint.Value (fixed kind) }
     ensures size_parts { (part : Extensible Size) (one : Constraint) →
         ⟦<Constraint<'a> as From<Extensible<'a, Size>>>⟧.from_gives part one →
-            one ≡ constraint.Size part }
+        one ≡ constraint.Size part }
     ensures sizes { (kind : Size) (one : Constraint) →
         ⟦<Constraint<'a> as From<Size>>⟧.from_gives kind one → one ≡ constraint.Size (fixed kind) }
     ensures alphabet_parts { (part : Extensible PermittedAlphabet) (one : Constraint) →
         ⟦<Constraint<'a> as From<Extensible<'a, PermittedAlphabet>>>⟧.from_gives part one →
-            one ≡ constraint.PermittedAlphabet part }
+        one ≡ constraint.PermittedAlphabet part }
     ensures alphabets { (kind : PermittedAlphabet) (one : Constraint) →
         ⟦<Constraint<'a> as From<PermittedAlphabet>>⟧.from_gives kind one →
-            one ≡ constraint.PermittedAlphabet (fixed kind) }
+        one ≡ constraint.PermittedAlphabet (fixed kind) }
     ensures value_tables { (kind : Value) (table : ConstraintTable) →
         ⟦<ConstraintTable<'a> as From<Value>>⟧.from_gives kind table →
-            owned table ≡ set_of (constraint.Value (fixed kind)) }
+        owned table ≡ set_of (constraint.Value (fixed kind)) }
     ensures size_tables { (kind : Size) (table : ConstraintTable) →
         ⟦<ConstraintTable<'a> as From<Size>>⟧.from_gives kind table →
-            owned table ≡ set_of (constraint.Size (fixed kind)) }
+        owned table ≡ set_of (constraint.Size (fixed kind)) }
     ensures memory { (refused : AllocError) (error : InnerSubtypeConstraintError) →
         ⟦<InnerSubtypeConstraintError as From<AllocError>>⟧.from_gives refused error →
-            refusal_of error ≡ no_memory }
+        refusal_of error ≡ no_memory }
     ensures default_set { (set : Constraints) → ⟦<Constraints<'a> as Default>⟧.is_default set →
         set ≡ no_constraints }
 {}

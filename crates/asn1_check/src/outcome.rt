@@ -32,10 +32,10 @@ impl Outcome {
             ≡ option_map (λ text. text ++ 10 ∷ []) (⟦<CheckError as fmt::Display>⟧.output error)) }
         ensures reading { answer ≡ Err CheckError.Reading →
             ⟦<Outcome as fmt::Display>⟧.output result ≡
-                Some (codes "check: reading failed" ++ 10 ∷ []) }
+            Some (codes "check: reading failed" ++ 10 ∷ []) }
         ensures writing { answer ≡ Err CheckError.Writing →
             ⟦<Outcome as fmt::Display>⟧.output result ≡
-                Some (codes "check: writing failed" ++ 10 ∷ []) }
+            Some (codes "check: writing failed" ++ 10 ∷ []) }
         ensures memory { answer ≡ Err CheckError.Memory →
             ⟦<Outcome as fmt::Display>⟧.output result ≡ Some (codes "check: no memory" ++ 10 ∷ []) }
     {

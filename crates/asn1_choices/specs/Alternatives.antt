@@ -82,7 +82,7 @@ abbrev pub Each : (Alternative → Type 0) → List Alternative → Type 0
 Each Property [] = ⊤
 Each Property (a ∷ alts) = Property a × Each Property alts
 
--- the type of the alternative can be there; an open type is no alternative
+-- the type of the alternative is well tagged; an open type is no alternative
 abbrev pub CanBeChosen : Alternative → Type 0
 CanBeChosen a = a.type.IsWellTagged × (is_open a.type.tree ≡ false)
 

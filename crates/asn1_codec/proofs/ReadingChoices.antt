@@ -19,7 +19,7 @@ use Rattle.asn1_model.specs.Tags.{CHOICE, Has, tree_tags}
 use Rattle.asn1_tags.specs.Tags.{tag_eq}
 use Rattle.asn1_tags.specs.declared.tags.Tag.{Tag}
 
--- a name stands for itself
+-- a name, or the same where there is none
 own_name : (n : Name) → name_or n n ≡ n
 own_name None = refl
 own_name (Some text) = refl

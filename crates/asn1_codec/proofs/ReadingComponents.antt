@@ -18,7 +18,7 @@ module _ {D V : Type 0} (R : Reader D) where
     pub of_type : EachIsOfType left v
     pub valid : EachIsValid left R.accepts v
     pub apart : EachApart left v rest
-    -- how high those are that were read
+    -- how deep those are nested that were read
     pub read : ℕ
     pub within_depth_left : read ≤ R.depth_left began
     pub no_higher : highest (all_records left v) ≤ height

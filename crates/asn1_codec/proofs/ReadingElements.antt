@@ -29,7 +29,7 @@ pointwise-length eq (x ∷ xs) (y ∷ ys) h = ap suc (pointwise-length eq xs ys 
 highest-flat_map : {V : Type 0} (own : V → List Record) (xs ys : List V) → highest (flat_map own (xs ++ ys)) ≡ max (highest (flat_map own xs)) (highest (flat_map own ys))
 highest-flat_map own xs ys = ap highest (flat_map-append own xs ys) ∙ highest-append (flat_map own xs) (flat_map own ys)
 
--- no element is higher than all of them
+-- no element is nested deeper than all of them
 pub no_higher : {V : Type 0} (own : V → List Record) (done todo : List V) (next : V) (vs : List V) → vs ≡ done ++ next ∷ todo → highest (own next) ≤ highest (flat_map own vs)
 no_higher own done todo next vs split =
     omega (arith, ap (λ l. highest (flat_map own l)) split, highest-flat_map own done (next ∷ todo), highest-append (own next) (flat_map own todo))

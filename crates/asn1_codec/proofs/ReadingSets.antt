@@ -72,7 +72,7 @@ parts_at-push index_of k parts p =
     omega (arith, sum_by-append (λ q. cond (index_of q == k) 1 0) parts (p ∷ []), sum_by-cons (λ q. cond (index_of q == k) 1 0) p [])
 
 module _ {D V P : Type 0} (R : Reader D) (cs : List (ComponentType V)) (v : V) (index_of : P → ℕ) (IsPart : P → Type 0) where
-  -- These parts were read, and others are left. The records of all are so high.
+  -- These parts were read, and others are left. The height is that of the records of all.
   pub record PartsRead (d : D) (parts : List P) (height : ℕ) (outer : Outside) (place bound : ℕ) : Type 0 where
     pub todo : List Item
     pub one_each : EachIsOneRecord cs v

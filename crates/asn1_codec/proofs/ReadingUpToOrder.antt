@@ -185,7 +185,7 @@ module _ {D : Type 0} (R : Reader D) where
   in_some_order old new order items outer Is (Ok w) rearranged m = record { order = order; rearranged = rearranged; moved = m }
   in_some_order old new order items outer Is (Err e) rearranged m = m
 
-  -- what is opened exactly before its records as they come is opened, as a set, before them in some order
+  -- where its records remain as they come, they remain, as those of a set, in some order
   pub opens_set : {V : Type 0} (old new : D) (head : Name → Head) (Is : List Record → V → Type 0) (result : Result V DecodeError) →
       HoldsInAnyOrder Is → ReadsHead R old new head Is result → ReadsHeadOfSet (up_to_order R) old new head Is result
   opens_set old new head Is result holds exact n items rest outer at =

@@ -76,7 +76,7 @@ module _ {E : Type 0} (W : Writer E) where
     of_type = h;
   }
 
-  -- one after another; of what the values are, both together say something
+  -- one after another; what holds of both values gives what holds of the whole
   pub append_both : {a b c : E} {rs ss : List Record} {T U X : Type 0} → (T → U → X) → Appends W a rs T b → Appends W b ss U c → Appends W a (rs ++ ss) X c
   append_both {a} {b} {c} {rs} {ss} f p q = record {
     written = λ w wrote. subst (λ w. W.wrote c w) (followed_twice w rs ss) (q.written (followed_by w rs) (p.written w wrote));

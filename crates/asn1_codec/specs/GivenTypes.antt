@@ -1,4 +1,4 @@
--- A type under what a call is given: a tag, constraints and a name, and else its own.
+-- A type under the tag, constraints and name that a call is given, by default the type's own.
 use Rattle.std.specs.Prelude.{refl}
 use Rattle.asn1_tags.specs.Trees.{leaf}
 use Rattle.asn1_tags.specs.declared.tags.Tag.{Tag}

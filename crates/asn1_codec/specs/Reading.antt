@@ -40,17 +40,17 @@ abbrev pub marks_passed : List Record → List Record
 marks_passed [] = []
 marks_passed (r ∷ rs) = if is_presence_mark r then marks_passed rs else r ∷ rs
 
--- Why a call may fail before records of this height: there is no memory, or they are nested deeper than the depth left.
+-- Why a call may fail before records of this height: memory ran out, or they are nested deeper than the depth left.
 abbrev pub MayFail : ℕ → ℕ → DecodeError → Type 0
 MayFail depth_left height e = (e ≡ Memory) ⊎ ((e ≡ Depth) × (depth_left < height))
 
--- What may follow the records of a value under a tag: anything where each value of the type is a single record; and else,
--- where they are presence marks alone, nothing that begins with a tag of the type.
+-- What may follow the records of a value under a tag: anything where each value of the type is a single record; of other types,
+-- where the records are presence marks alone, nothing that begins with a tag of the type.
 abbrev pub MayFollow : {V : Type 0} → Meaning V → Tag → List Record → List Record → Type 0
 MayFollow m t rs rest = m.IsSingleRecord ⊎ (presence_marks_alone rs ≡ true → ShareNone (tags m t) (first_tags rest))
 
--- What a decoder says of itself: what remains to be read, whether it has failed, how many scopes may still be opened in one
--- another, and which byte strings it takes as one value of an open type.
+-- What a decoder says of itself: what remains to be read, whether it has failed, how many nested scopes may still be
+-- opened (the depth left), and which byte strings it accepts as one value of an open type.
 pub record Reader (D : Type 0) : Type 1 where
   pub remains : D → Remaining → Type 0
   pub failed : D → Bool
@@ -166,7 +166,7 @@ module _ {D : Type 0} (R : Reader D) where
     pub away : (rest : List Record) (outer : Outside) → ShareNone own (first_tags rest) →
         Advances old new 0 (presence_mark absent ∷ rest, outer) (rest, outer) (λ b. b ≡ false) result
 
-  -- A call that tells whether a record is left in the innermost scope, and stays before it. Inside no scope it tells nothing.
+  -- A call that tells whether a record is left in the innermost scope, and reads nothing. Outside all scopes it promises nothing.
   pub record TellsMore (old new : D) (result : Result Bool DecodeError) : Type 0 where
     pub some : (r : Record) (items : List Record) (scope : Head × List Record) (outer : Outside) →
         is_presence_mark r ≡ false →
@@ -210,8 +210,8 @@ module _ {D : Type 0} (R : Reader D) where
       (h : Head) (rest : List Record) (outer : Outside) →
       Advances old new 0 ([], (h, rest) ∷ outer) (rest, outer) (λ _. ⊤) result
 
-  -- What a call does to the decoder that leaves as many scopes open as there were: after a success it has not failed, an error
-  -- makes it failed, and one that has failed answers so.
+  -- What a call does to the decoder that leaves as many scopes open as there were: after a success the depth left is as it was and
+  -- the decoder has not failed, an error makes it failed, and a failed one answers so.
   pub record KeepsDepth {V : Type 0} (old new : D) (result : Result V DecodeError) : Type 0 where
     pub same_depth : OnOk result (R.depth_left new ≡ R.depth_left old)
     pub no_failure : OnOk result (R.failed new ≡ false)

@@ -28,7 +28,7 @@ module _ {D : Type 0} (R : Reader D) where
       (x : X) (n : Name) (rest : List Record) (outer : Outside) → IsOfType x →
       ReadsBack R old new (scalar t c n (content x) ∷ []) rest outer (λ w. Is w x) result
 
-  -- A call that reads the bytes of an open type, of any name: of those that the codec takes as one value, it answers what `Is`
+  -- A call that reads the bytes of an open type, of any name: of those that the codec accepts as one value, it answers what `Is`
   -- holds of.
   abbrev pub ReadsOpenType : {V : Type 0} → (V → List ℕ → Type 0) → D → D → Result V DecodeError → Type 0
   ReadsOpenType Is old new result =
@@ -43,7 +43,7 @@ module _ {D : Type 0} (R : Reader D) where
       ReadsHead R old new (alternative tag c (table_of alternatives)) (λ _ told. TellsAlternative tag told (all_of alternatives)) result
 
 module _ {D : Type 0} (R : Reader D) {V : Type 0} where
-  -- A call that reads a value of a type that can be there, under any name: of each that is of the type and valid, it answers
+  -- A call that reads a value of a well-tagged type, under any name: of each that is of the type and valid, it answers
   -- one that is equal.
   abbrev pub Reads : {W : Type 0} → Named V → (W → V → Bool) → D → D → Result W DecodeError → Type 0
   Reads type eq old new result =

@@ -2,13 +2,13 @@
 use Rattle.asn1_codec.specs.Reading.{Remaining, Reader, SameRemaining}
 
 module _ {D : Type 0} (R : Reader D) where
-  -- The decoder is before lists that are the same up to the order inside sets (X.680, 27 and 28).
+  -- What remains is the same as these lists, up to the order inside sets (X.680, 27 and 28).
   pub record RemainsUpToOrder (d : D) (left : Remaining) : Type 0 where
     pub exactly : Remaining
     pub remains : R.remains d exactly
     pub same : SameRemaining exactly left
 
-  -- What R says, up to the order inside sets: the decoder is before what is the same as something that R says.
+  -- What R says, up to the order inside sets: what remains is the same as something that R says.
   abbrev pub up_to_order : Reader D
   up_to_order = record {
     remains = λ d left. RemainsUpToOrder d left;

@@ -35,7 +35,7 @@ IsCustom Failed = ⊥
 IsCustom (Custom message) = ⊤
 
 -- What an encoder says of itself: what it has written, whether it has failed, how many nested scopes may still be
--- opened (the depth left), and which records it does not take.
+-- opened (the depth left), and which records it rejects.
 pub record Writer (E : Type 0) : Type 1 where
   pub wrote : E → Written → Type 0
   pub failed : E → Bool

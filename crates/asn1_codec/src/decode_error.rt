@@ -20,7 +20,7 @@ pub enum DecodeError {
     /// The input ends too early.
     #[error("more input is needed")]
     Incomplete(Needed),
-    /// A length is greater than the codec takes.
+    /// A length is greater than the codec accepts.
     #[error("length {length} is too great")]
     ExceedsMaxLength {
         /// The length.
@@ -96,8 +96,8 @@ impl DecodeError {
     }
 
     /// The error of a type as that of a component of this name: [`DecodeError::FieldError`], with the name and the error's number.
-    /// An error stays as it is that names a component already, and one that is about more than the component: that more input is
-    /// needed, that no memory or no depth is left, or that the decoder has failed before.
+    /// An error that already names a component stays as it is, and so does one that is about more than the component: that more
+    /// input is needed, that memory ran out, that no depth is left, or that the decoder has failed before.
     pub fn in_field(self, name: &'static str) -> DecodeError
         ensures named { lacks_name (reason self) ≡ true →
             reason result ≡ field_error name.now (number (reason self)) }

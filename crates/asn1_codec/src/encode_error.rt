@@ -17,7 +17,7 @@ pub enum EncodeError {
     /// An earlier call of the encoder failed.
     #[error("the encoder has failed")]
     Failed,
-    /// The codec does not take these records, by a message of its own.
+    /// The codec rejects these records, by a message of its own.
     #[error("{0}")]
     Custom(&'static str),
 }

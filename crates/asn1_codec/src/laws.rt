@@ -1,5 +1,5 @@
-//! Laws of what no other contract names: what the derives and the conversions of the errors give, and what is the
-//! same of what has been written.
+//! Laws of what no other contract names: what the derives and the conversions of the errors give, and when two
+//! encoders have written the same.
 ghost use Rattle.asn1_codec.specs.DecodeErrors as decoding;
 ghost use Rattle.asn1_codec.specs.EncodeErrors as encoding;
 ghost use Rattle.asn1_codec.specs.Writing.{SameWritten, Written, followed_by};

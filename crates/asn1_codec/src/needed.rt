@@ -5,6 +5,6 @@
 pub enum Needed {
     /// It is not known.
     Unknown,
-    /// So many bytes.
+    /// This many bytes.
     Size(usize),
 }

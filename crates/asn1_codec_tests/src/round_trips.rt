@@ -14,7 +14,7 @@ pub const DEPTH: usize = 4;
 
 /// Whether a value comes back.
 ///
-/// Of a codec that keeps the laws, a valid value of a type that can be inside others never comes back as another. What comes back
+/// Of a codec that keeps the laws, a valid value of a well-tagged type never comes back as another. What comes back
 /// was written, nested no deeper than 4.
 ///
 /// # Errors

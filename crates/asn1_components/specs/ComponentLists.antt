@@ -40,7 +40,7 @@ abbrev pub trees_of : {V : Type 0} → List (ComponentType V) → Trees
 trees_of [] = none
 trees_of (c ∷ cs) = more c.tree (trees_of cs)
 
--- the type of each can be there
+-- the type of each is well tagged
 abbrev pub EachIsWellTagged : {V : Type 0} → List (ComponentType V) → Type 0
 EachIsWellTagged [] = ⊤
 EachIsWellTagged (c ∷ cs) = c.IsWellTagged × EachIsWellTagged cs
@@ -60,7 +60,7 @@ abbrev pub EachTreeIsDistinct : {V : Type 0} → List (ComponentType V) → Type
 EachTreeIsDistinct [] = ⊤
 EachTreeIsDistinct (c ∷ cs) = IsTrue (distinct (leaves c.tree)) × EachTreeIsDistinct cs
 
--- each has what it has by its type
+-- each meets its type's invariant
 abbrev pub EachIsOfType : {V : Type 0} → List (ComponentType V) → V → Type 0
 EachIsOfType [] v = ⊤
 EachIsOfType (c ∷ cs) v = c.IsOfType v × EachIsOfType cs v

@@ -30,9 +30,9 @@ pub record ComponentType (V : Type 0) : Type 1 where
   pub tree : Tree
   -- what is written of it
   pub records : V → List Record
-  -- its type can be there, under this tag
+  -- its type is well tagged under this tag
   pub IsWellTagged : Type 0
-  -- what it has by its type, and whether it is valid
+  -- whether it meets its type's invariant, and whether it is valid
   pub IsOfType : V → Type 0
   pub IsValid : (List ℕ → Bool) → V → Type 0
   -- what is written of it begins with one of its tags, or it is absent

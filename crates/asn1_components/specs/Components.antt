@@ -141,7 +141,7 @@ module _ {V : Type 0} (components : Components V) where
   AreInPlace = EachCanBeOn in_root components.root × EachCanBeOn in_additions added ×
       EachMayBeAbsent added
 
-  -- The type of each component can be there, each is in its place, and tags are distinct.
+  -- The type of each component is well tagged, each is in its place, and tags are distinct.
   abbrev pub AreWellTagged : Type 0
   AreWellTagged = EachIsWellTagged all_components × AreInPlace ×
       AreDistinctIn components.kind all_components
@@ -174,8 +174,8 @@ group name get components = record (group_of name get (lines components) (all_co
 }
 
 -- The law of a type of components: its meaning is that of these. A value is always there, begins with the tag of the type,
--- and holds the records of theirs; it is well tagged if and only if they can be together; and what a value has by its type, and
--- whether it is valid, is what they have and are.
+-- and holds the records of theirs; it is well tagged if and only if they can be together; and a value meets the type's
+-- invariant, and is valid, if and only if they do and are.
 pub record AgreesWithComponents {V : Type 0} (components : Components V) (m : Meaning V) : Type 0 where
   pub tree : (t : Tag) → m.tree t ≡ leaf t
   pub records : (v : V) (t : Tag) (c : ConstraintSet) (n : Name) →

@@ -37,7 +37,7 @@ pub trait Constructed<const RL: usize, const EL: usize>: FieldTable {
     final fn extended_fields() -> Option<Fields<'static, EL>>
         ensures { MatchOption result (has_marker Self.components.extension ≡ false)
             (λ table. (has_marker Self.components.extension ≡ true) ×
-                (entries (fields_of table) ≡ added_entries Self.components)) }
+            (entries (fields_of table) ≡ added_entries Self.components)) }
     {
         if Self::is_extensible() {
             Some(Fields::from_static(Self::added_fields()))

@@ -22,7 +22,7 @@ pub fn components_are_told_apart<T: FieldTable>(_value: &T)
         EachApart (all_components T.components) _value.now rest }
     ensures past_the_end { (rest : List Record) → CanBeInSequence (all_components T.components) →
         EndsApart (all_components T.components) rest →
-            EachApart (all_components T.components) _value.now rest }
+        EachApart (all_components T.components) _value.now rest }
     ensures set { T.components.kind ≡ is_set → AreWellTagged T.components →
         AllApart (all_components T.components) }
 {}

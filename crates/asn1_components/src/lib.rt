@@ -19,7 +19,7 @@
 //!   entries, X.680's rules on their tags, which values are valid.
 //! - `specs/Components.antt` has the list of a type (`sequence`, `set`, `extensible_sequence`, `extensible_set`; `group`), its
 //!   table (`table`), its meaning (`constructed_type`), and what it is for a type to mean the same (`AgreesWithComponents`, the
-//!   law of `ConstructedType`), which `constructed_agrees` proves for each such meaning. That a type can be inside another
+//!   law of `ConstructedType`), which `constructed_agrees` proves for each such meaning. That a type is well tagged
 //!   is a promise of its tags only with this law: an author who gives a type another meaning breaks it there.
 //! - `specs/Following.antt` has the words for what follows a component. `components_are_told_apart` says that it begins with
 //!   none of the component's tags, where the component may be absent; also where a run of absent components goes on past the

@@ -17,7 +17,7 @@ use crate::field_table::FieldTable;
 pub fn tables_are_in_order<T: FieldTable>()
     ensures numbered { (place : ℕ) (entry : Entry) →
         slice_get (entries_from 0 (all_components T.components)) place ≡ Some entry →
-            entry.index ≡ place }
+        entry.index ≡ place }
     ensures rearranged { IsPermutation (entries_from 0 (all_components T.components))
         (table T.components) }
     ensures counted { length (table T.components) ≡ length (all_components T.components) }

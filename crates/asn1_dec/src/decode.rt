@@ -27,7 +27,7 @@ use asn1_tags::Tag;
 /// A success keeps the depth left, and does not make the decoder failed. An error either does, or is the type's own,
 /// which is neither [`DecodeError::Depth`] nor [`DecodeError::Failed`]: then the decoder has not failed, the depth left is as it
 /// was, and the decoder, if it was before the records of a valid value, is after them, as where a box had no memory.
-/// Where there was no memory for the type's own constraints, which only a permitted alphabet among them wants, the decoder is
+/// Where memory ran out for the type's own constraints, which only a permitted alphabet among them may allocate, the decoder is
 /// as it was.
 ///
 /// A type may refuse records that it has read, by an error of its own (`refusals`): `LimitedInteger` a number outside its limits,
@@ -37,7 +37,7 @@ use asn1_tags::Tag;
 /// Where each value of the type is a record, a decoder that has failed answers [`DecodeError::Failed`].
 pub trait Decode: AsnType + Eq + Sized + Drop {
     // Which records the type refuses, under a tag and constraints, and by which error. The codec's test tells the byte strings
-    // that it takes as one value of an open type.
+    // that it accepts as one value of an open type.
     ghost refusals: { Refusals } = { no_refusals };
 
     /// Reads a value under a tag and constraints.
@@ -100,7 +100,7 @@ pub trait Decode: AsnType + Eq + Sized + Drop {
 /// A type whose components are read in the order of their definition: a SEQUENCE or a group of additions.
 pub trait DecodeFields: FieldTable + Eq + Sized + Drop {
     /// Reads all components. What follows them begins with no tag of those after the last that is always there. After an error
-    /// nothing is known of the decoder, until the caller makes it failed ([`Decoder::refuse`]).
+    /// nothing is promised about the decoder, until the caller makes it failed ([`Decoder::refuse`]).
     fn decode_fields<D: Decoder>(decoder: &mut D) -> Result<Self, DecodeError>
         ensures read { ReadsFields D.reader Self.components Self.eq decoder.old decoder.new result }
         ensures same_depth { OnOk result (D.reader.depth_left decoder.new ≡
@@ -111,7 +111,7 @@ pub trait DecodeFields: FieldTable + Eq + Sized + Drop {
 pub trait DecodeChoice: AsnType + Choice + Eq + Sized + Drop {
     /// Reads the alternative that can begin with the tag. Where there is none, the error is [`DecodeError::NoValidChoice`], with
     /// the name of the type, unless memory runs out, as where the alternative is looked for in a table that is made for it.
-    /// After an error nothing is known of the decoder, until the caller makes it failed ([`Decoder::refuse`]).
+    /// After an error nothing is promised about the decoder, until the caller makes it failed ([`Decoder::refuse`]).
     fn from_tag<D: Decoder>(decoder: &mut D, tag: Tag) -> Result<Self, DecodeError>
         ensures read { ReadsChosen D.reader tag Self.alternatives Self.pick Self.eq
             decoder.old decoder.new result }

@@ -49,7 +49,7 @@ use std::alloc::{AllocError, Global};
 ///
 /// The calls before the law are a codec's own. What remains to be read is what is left of each list that is open. Before
 /// the records that a call is for, it answers what was written, and what follows remains to be read; or it fails because memory ran out,
-/// or, where it opens a scope, since no depth is left. Before others it may answer what it likes. A call that fails makes
+/// or, where it opens a scope, since no depth is left. Before others nothing is promised. A call that fails makes
 /// the decoder failed, and a decoder that has failed answers [`DecodeError::Failed`]. [`DecodeError::Depth`] comes only from
 /// opening a scope where no depth is left, and is answered there before anything else but `Failed`.
 ///
@@ -128,8 +128,8 @@ pub trait Decoder: Sized {
         ensures opens_nothing { OpensNothing reader self.old self.new result };
 
     /// Whether the component of the root is there that is written under this tag, and begins with a tag of the tree. A codec
-    /// without presence marks looks at the next tag; where it does not know the end of the outermost list, it is before no
-    /// outermost list that has marks.
+    /// without presence marks looks at the next tag; where it does not know the end of the outermost list, no outermost
+    /// list that has marks ever remains.
     fn presence(&mut self, tag: Tag, tree: TagTree<'static>) -> Result<bool, DecodeError>
         ensures read { TellsPresence reader self.old self.new (present in_root tag)
             (absent in_root tag) (tree_tags (shape tree.entry)) result }
@@ -734,7 +734,7 @@ pub trait Decoder: Sized {
         Ok(value)
     }
 
-    /// A CHOICE under a tag: the same as `decode_choice` under the CHOICE marker tag, and else after the tag, with its own
+    /// A CHOICE under a tag: the same as `decode_choice` under the CHOICE marker tag; under any other, after that tag, with its own
     /// constraints inside (X.680, 31.2.7).
     final fn decode_choice_with_tag<T: DecodeChoice + ChoiceType>(
         &mut self,

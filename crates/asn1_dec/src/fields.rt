@@ -8,7 +8,7 @@ ghost use Rattle.std.specs.Prelude.{◌↔◌, IsTrue, MatchOption, ℕ};
 use asn1_components::FieldTable;
 use asn1_tags::{Tag, TagTree};
 
-/// Whether what has this tree can begin with the tag.
+/// Whether a value with this tree can begin with the tag.
 fn can_begin_with(tree: TagTree<'static>, tag: Tag) -> bool
     ensures { IsTrue result ↔ Has (tree_tags (shape tree.entry)) tag }
 {

@@ -42,10 +42,10 @@
 //! - Whether a component is there, a codec knows by a presence mark or by the next tag. So a component that is absent is read only
 //!   where what follows begins with none of its tags (`TellsPresence`, `ReadsOptional`, `ReadsDefault`), which distinct tags
 //!   give: `EachApart` of `asn1_components`. Where each value of a type is a single record, anything may follow (`MayFollow`).
-//! - A codec states what remains to be read, whether it has failed, its depth left, and which byte strings it takes as one value of
-//!   an open type (`Reader`). The order inside sets means nothing to it (`IsLawful`): so it opens a set before some
-//!   rearrangement of what was written. That follows of a codec which states before which lists exactly it is (`up_to_order` of
-//!   `specs/ReadingUpToOrder.antt`).
+//! - A codec states what remains to be read, whether it has failed, its depth left, and which byte strings it accepts as one value of
+//!   an open type (`Reader`). The order inside sets means nothing to it (`IsLawful`): so where it has opened a
+//!   set, some rearrangement of what was written remains. That follows of a codec which states exactly which lists remain
+//!   (`up_to_order` of `specs/ReadingUpToOrder.antt`).
 //! - The components of a SET are read one by one, as parts, in whatever order they come, and then put together (`ReadsPart`,
 //!   `MakesValue` of `specs/SetParts.antt` there); no value is made where a component came twice, or one is missing (`EachFits`).
 //!   Which component a record is follows from its tag and the table of the type.

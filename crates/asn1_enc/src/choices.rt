@@ -34,7 +34,7 @@ fn write_after_tag<T: EncodeChoice, E: Encoder>(
     encoder.close()
 }
 
-/// A CHOICE under a tag: untagged under the CHOICE marker tag, and else after the tag, with its own constraints and name
+/// A CHOICE under a tag: untagged under the CHOICE marker tag; under any other, after that tag, with its own constraints and name
 /// (X.680, 31.2.7). Without a name it is written under the type's own.
 pub(crate) fn write_choice<T: EncodeChoice + ChoiceType, E: Encoder>(
     encoder: &mut E,

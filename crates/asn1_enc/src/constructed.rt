@@ -66,7 +66,7 @@ pub(crate) fn write_constructed<C: EncodeFields + ConstructedType, E: Encoder>(
         value.now encoder.old encoder.new result }
     ensures as_meant { C.components.kind ≡ kind_of kind → WritesValue E.writer
         (given tag unconstrained C.meaning (name_of name)) value.now encoder.old encoder.new
-            result }
+        result }
     ensures depth_first { NeedsDepth E.writer encoder.old result }
 {
     write_components(encoder, kind, tag, value, name)

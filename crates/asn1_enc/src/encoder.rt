@@ -45,7 +45,7 @@ use std::alloc::{AllocError, Global};
 /// that is open, and leaves those outside it; and tells that the value meets its type's invariant, such as that a `u8` is
 /// below 256. Each that fails makes the encoder failed. An encoder that has failed answers [`EncodeError::Failed`],
 /// and no other does. [`EncodeError::Depth`] comes only from opening a scope where no depth is left, and is answered
-/// there before anything else but `Failed`. [`EncodeError::Custom`] comes only where the codec does not take the records.
+/// there before anything else but `Failed`. [`EncodeError::Custom`] comes only where the codec rejects the records.
 ///
 /// The calls after the law are the same for every codec.
 pub trait Encoder: Sized {
@@ -512,7 +512,7 @@ pub trait Encoder: Sized {
         self.close()
     }
 
-    /// A CHOICE under a tag: untagged under the CHOICE marker tag, and else after the tag, with its own constraints and name
+    /// A CHOICE under a tag: untagged under the CHOICE marker tag; under any other, after that tag, with its own constraints and name
     /// (X.680, 31.2.7). Without a name it is written under the type's own.
     final fn encode_choice_with_tag<T: EncodeChoice + ChoiceType>(
         &mut self,
@@ -601,7 +601,7 @@ pub trait Encoder: Sized {
     }
 
     /// A component with a default, which is what the closure answers: absent where it equals that. The codec does not see a
-    /// default, so a success tells what another value has by its type.
+    /// default, so a success tells only of another value that it meets its type's invariant.
     final fn encode_default<
         T: Encode + PartialEq + Drop,
         F: FnOnce(Global) -> Result<T, AllocError>,

@@ -14,10 +14,10 @@ use crate::iterators::{DiscriminantIter, ItemIdentifierIter, VariantIter};
 pub fn iterators_give_what_is_left<T: Copy + 'static>()
     ensures values { (s t : VariantIter T) (item : _) →
         ⟦<VariantIter<'static, T> as Iterator>⟧.next_gives s item t →
-            YieldsFirst variants_left s item t }
+        YieldsFirst variants_left s item t }
     ensures numbers { (s t : DiscriminantIter T) (item : _) →
         ⟦<DiscriminantIter<'static, T> as Iterator>⟧.next_gives s item t →
-            YieldsFirst discriminants_left s item t }
+        YieldsFirst discriminants_left s item t }
     ensures names { (s t : ItemIdentifierIter T) (item : _) →
         ⟦<ItemIdentifierIter<'static, T> as Iterator>⟧.next_gives s item t →
         YieldsFirstBy (λ name. name.now) identifiers_left s item t }

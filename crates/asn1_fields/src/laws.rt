@@ -71,7 +71,7 @@ pub fn iterators_give_what_is_left()
         ⟦<FieldIter<'static> as Iterator>⟧.next_gives s item t → YieldsFirst fields_left s item t }
     ensures optional { (s t : OptionalFieldIter) (item : _) →
         ⟦<OptionalFieldIter<'static> as Iterator>⟧.next_gives s item t →
-            YieldsFirst optional_left s item t }
+        YieldsFirst optional_left s item t }
     ensures names { (s t : IdentifierIter) (item : _) →
         ⟦<IdentifierIter<'static> as Iterator>⟧.next_gives s item t →
         YieldsFirstBy (λ name. name.now) names_left s item t }

@@ -73,6 +73,6 @@ pub pad_seven : (xs : List Bool) → length xs ≡ 7 → get_or xs 0 false ∷ g
 pad_seven (a ∷ b ∷ c ∷ d ∷ e ∷ f ∷ g ∷ []) long = refl
 pad_seven _ long = absurd (omega arith)
 
--- what follows so many elements
+-- what follows this many elements
 pub rest_is : {A : Type 0} (n : ℕ) (xs : List A) → n ≤ length xs → take (length xs - n) (drop n xs) ≡ drop n xs
 rest_is n xs long = ap (λ k. take k (drop n xs)) (omega (arith, length-drop n xs)) ∙ take-length (drop n xs)

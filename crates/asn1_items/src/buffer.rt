@@ -86,7 +86,7 @@ impl Buffer {
         ensures written { (marks : MarkBytes) (n : Name) (w : Written) →
             HasWritten marks w self.old →
             IfOk result (λ _. HasWritten marks (followed_by w (open_type n bytes.now ∷ []))
-                self.new) }
+            self.new) }
         ensures memory { IfErr result (λ e. e ≡ Memory) }
         ensures same_scopes { open_scopes self.new ≡ open_scopes self.old }
     {

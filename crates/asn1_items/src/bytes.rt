@@ -1,4 +1,4 @@
-//! The bytes of headers, of which a length is written later than what is before and after it.
+//! The bytes of headers, of which a length is written later than what is around it.
 ghost use Rattle.asn1_items.specs.Headers.{tag_bytes};
 ghost use Rattle.asn1_items.specs.Numbers.{four_bytes};
 ghost use Rattle.std.specs.Prelude.{◌≡◌, ◌+◌, ◌<◌, ◌^◌, ◌≤◌, ◌∷◌, ◌++◌, IfOk, List, MatchResult, OnOk, ℕ, length};

@@ -24,7 +24,7 @@ inner_height-listed : (rs : Records) → inner_height rs ≡ highest (listed rs)
 inner_height-listed none = refl
 inner_height-listed (more r rs) = ap (λ n. max (height r) n) (inner_height-listed rs)
 
--- a list is at most n high if and only if each of its records is
+-- a list is nested at most n deep if and only if each of its records is
 each_at_most : (rs : List Record) (n : ℕ) → highest rs ≤ n → All (λ r. height r ≤ n) rs
 each_at_most [] n low = All-nil (λ r. height r ≤ n)
 each_at_most (r ∷ rs) n low =
@@ -46,7 +46,7 @@ no_higher rs ss moved =
 pub highest-permutation : (rs ss : List Record) → IsPermutation rs ss → highest rs ≡ highest ss
 highest-permutation rs ss moved = le_antisymm (no_higher ss rs (IsPermutation-sym rs ss moved)) (no_higher rs ss moved)
 
--- they are as high
+-- they are nested as deep
 mutual
   pub same-height : {r s : Record} → Same r s → height r ≡ height s
   same-height (equal r) = refl

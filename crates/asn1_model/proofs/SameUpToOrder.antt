@@ -22,7 +22,7 @@ SameAll-refl (more r rs) = next (equal r) (SameAll-refl rs)
 pub SameRecords-refl : (rs : List Record) → SameRecords rs rs
 SameRecords-refl rs = SameAll-refl (held rs)
 
--- two lists that are the same are so place by place
+-- two lists that are the same are so element by element
 pub SameAll-cons : {r s : Record} {rs ss : Records} → SameAll (more r rs) (more s ss) → Same r s × SameAll rs ss
 SameAll-cons (next same all) = (same, all)
 
@@ -139,7 +139,7 @@ mutual
   SameAll-sym at_end = at_end
   SameAll-sym (next same all) = next (Same-sym same) (SameAll-sym all)
 
--- they are marks alone alike, and as high
+-- they are marks alone alike, and nested as deep
 pub same-marks_alone : (rs ss : List Record) → SameAll (held rs) (held ss) → presence_marks_alone rs ≡ presence_marks_alone ss
 same-marks_alone [] [] all = refl
 same-marks_alone [] (s ∷ ss) all = elim all [ ]
@@ -194,7 +194,7 @@ pub same_as_mark : {q : Record} {m : PresenceMark} → Same q (presence_mark m) 
 same_as_mark (equal r) = refl
 
 -- What is the same as a record that holds others: it has the same head, and holds lists that are the same after a
--- rearrangement, or place by place where the order means something.
+-- rearrangement, or element by element where the order means something.
 pub record HoldsTheSame (q : Record) (h : Head) (ss : List Record) : Type 0 where
   pub inner : List Record
   pub is : q ≡ holding h inner

@@ -122,7 +122,7 @@ option_type m = record {
       (λ v. m.records v t c n) (λ v. m.well_formed accepts v t c n) o;
 }
 
--- What a type of values that hold others says of what is inside: the records of a value's; whether its types can be there,
+-- What a type of values that hold others says of what is inside: the records of a value's; whether its types are well tagged,
 -- with distinct tags; whether a value's are of their types; and whether they are valid, when their records are well formed.
 pub record Inside (V : Type 0) : Type 1 where
   pub records : V → List Record
@@ -220,7 +220,7 @@ pub record Chosen {V : Type 0} (inside : Inside V) : Type 0 where
 
 -- A CHOICE (X.680, 29), by its name and constraints, the chosen alternative, and what is said of all. Untagged it begins
 -- with the tag of the chosen one. It is well tagged where no tag is twice among its alternatives (29.3) and their types
--- can be there.
+-- are well tagged.
 abbrev pub choice_type : {V : Type 0} → Name → ConstraintSet → (inside : Inside V) → Chosen inside → Meaning V
 choice_type name constraints inside chosen = record {
   tag = CHOICE;

@@ -25,10 +25,11 @@ pub record Meaning (V : Type 0) : Type 1 where
   -- what holds one of these and means the same
   pub IsSingleRecord : Type 0
   -- the type can be written under this tag; where it has components or alternatives, these have distinct tags (X.680,
-  -- 25.6, 27.3 and 29.3); and the types inside it can be there
+  -- 25.6, 27.3 and 29.3); and the types inside it are well tagged
   pub HasDistinctTags : Tag → Type 0
-  -- what every value has that a program can make: its numbers are within the range of their types, its strings have the
-  -- units of their kinds (a UTF8String the bytes of a text), its arrays are as long as they say
+  -- the value meets its type's invariant, as every value does that a program can make: its numbers are within
+  -- the range of their types, its strings have the units of their kinds (a UTF8String the bytes of a text), its arrays
+  -- are as long as they say
   pub IsOfType : V → Type 0
   -- what is asked of whoever writes the value: each open type in it holds one value of the codec, which tells by a test
   -- the byte strings that it takes as one; each group that is there writes a component; and each INTEGER with limits is
@@ -55,10 +56,10 @@ module _ {V : Type 0} (m : Meaning V) where
   abbrev pub HasOwn : Tag → ConstraintSet → Name → Type 0
   HasOwn t c n = (m.tag ≡ t) × (m.constraints ≡ c) × (m.name ≡ n)
 
-  -- the type is well tagged under this tag: it can be inside another there
+  -- the type is well tagged under this tag: another type can hold it under that
   abbrev pub IsWellTaggedUnder : Tag → Type 0
   IsWellTaggedUnder t = m.IsSingleRecord × m.HasDistinctTags t
 
-  -- the type is well tagged: it can be inside another, under its own tag
+  -- the type is well tagged: another type can hold it under its own tag
   abbrev pub IsWellTagged : Type 0
   IsWellTagged = IsWellTaggedUnder m.tag

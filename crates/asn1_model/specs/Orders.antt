@@ -11,8 +11,8 @@ is_unordered (set_of t c n) = true
 is_unordered (explicit_tag t n) = false
 is_unordered (alternative t c table n) = false
 
--- Two records are the same up to order if they are equal, or if they have one head and hold lists that are the same up
--- to order place by place, where the order means nothing after some rearrangement of the second.
+-- Two records are the same up to order if they are equal, or if they have one head and hold lists whose elements are the
+-- same up to order one by one, where the order means nothing after some rearrangement of the second.
 mutual
   pub data Same : Record → Record → Type 0 where
     equal : (r : Record) → Same r r

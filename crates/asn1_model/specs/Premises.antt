@@ -9,7 +9,7 @@ module _ {V : Type 0} (m : Meaning V) where
   abbrev pub EachIsValid : Type 0
   EachIsValid = (accepts : List ℕ → Bool) (v : V) → m.IsValid accepts v
 
-  -- the type can be inside another under each tag, but the CHOICE marker tag (X.680, 31.2)
+  -- the type is well tagged under each tag but the CHOICE marker tag (X.680, 31.2)
   abbrev pub HasOneTag : Type 0
   HasOneTag = (t : Tag) → IsWellTaggedUnder m t ↔ IsATag t
 

@@ -17,9 +17,9 @@ pub record TaggedType (W : Type 0) : Type 1 where
   pub tree : Tree
   -- what a value is
   pub records : W → List Record
-  -- the type can be there
+  -- the type is well tagged
   pub IsWellTagged : Type 0
-  -- what a value has by its type, and whether it is valid
+  -- whether a value meets the type's invariant, and whether it is valid
   pub IsOfType : W → Type 0
   pub IsValid : (List ℕ → Bool) → W → Type 0
   -- then each value is one record, which begins with one of the tags

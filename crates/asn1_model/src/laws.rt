@@ -85,7 +85,7 @@ pub fn strings_have_the_records_of_their_kinds()
         scalar (universal 18) unconstrained (Some (codes "NumericString")) (units numeric s) ∷ [] }
     ensures printable_string { (s : List ℕ) → own_records ⟦<PrintableString as AsnType>⟧.meaning s ≡
         scalar (universal 19) unconstrained (Some (codes "PrintableString"))
-            (units printable s) ∷ [] }
+        (units printable s) ∷ [] }
     ensures teletex_string { (s : List ℕ) → own_records ⟦<TeletexString as AsnType>⟧.meaning s ≡
         scalar (universal 20) unconstrained (Some (codes "TeletexString")) (units teletex s) ∷ [] }
     ensures ia5_string { (s : List ℕ) → own_records ⟦<Ia5String as AsnType>⟧.meaning s ≡

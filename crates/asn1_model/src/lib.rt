@@ -19,22 +19,22 @@
 //!
 //! - Each function of `AsnType` answers what `meaning` says: `tag`, `tag_tree_under`, `identifier`, `constraints`,
 //!   `is_choice`, `is_present` and `tag_tree`. So the tables of a type and its records cannot disagree.
-//! - Records that are the same up to the order inside sets begin with the same tags and are as high
+//! - Records that are the same up to the order inside sets begin with the same tags and are nested as deep
 //!   (`order_inside_sets_is_not_seen`).
 //! - The law of types is a part of each meaning (`one_record` of `specs/Meaning.antt`): a value of a type whose values are
 //!   single records (`IsSingleRecord`), and whose tags are distinct (`HasDistinctTags`), is one record, which begins with one
 //!   of the type's tags.
 //! - The law of valid values is a part of each meaning too (`well_formed`): their records hold open types that the codec
 //!   takes, and each chosen tag is the first of what is inside (`records_of_a_valid_value_are_well_formed`).
-//! - A meaning tells apart what every value has that a program can make (`IsOfType`) and what is asked of whoever writes it
-//!   (`IsValid`).
+//! - A meaning tells apart its type's invariant, which every value meets that a program can make (`IsOfType`), and what is
+//!   asked of whoever writes a value (`IsValid`).
 //! - `specs/Records.antt` has the records, marks and heights; `specs/Tables.antt` the table of a type that records carry
 //!   beside a value; `specs/Tags.antt` the first tags of a list of records and the tags of a tree; `specs/Orders.antt` what
 //!   it is to be the same up to order; `specs/WellFormed.antt` what it is to be well formed; `specs/ConstraintSets.antt` a
 //!   set of constraints apart from where it lies in memory; `specs/TypeTables.antt` the tree of tags that a table
 //!   means.
 //! - `specs/Composites.antt` has the records of what is put together of parts, a word for each: `sequence_records`,
-//!   `option_records`, `group_records` and their kin. `specs/Meaning.antt` says what a meaning is, and `specs/Kinds.antt`
+//!   `option_records`, `group_records` and so on. `specs/Meaning.antt` says what a meaning is, and `specs/Kinds.antt`
 //!   has that of each kind of type: `scalar_type`, `list_type`, `option_type` and so on. `specs/OneRecord.antt` has what
 //!   the law of types rests on.
 //!

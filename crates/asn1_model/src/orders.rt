@@ -5,7 +5,7 @@ ghost use Rattle.asn1_model.specs.Records.{Record, Records, height, is_presence_
 ghost use Rattle.asn1_model.specs.Tags.{record_tags};
 
 /// A law of the model: records that are the same up to the order inside sets begin with the same tags, are marks alike,
-/// and are as high. So no reader that looks at the next tag, and no limit on depth, tells them apart.
+/// and are nested as deep. So no reader that looks at the next tag, and no limit on depth, tells them apart.
 pub fn order_inside_sets_is_not_seen()
     ensures tags { (r s : Record) → Same r s → record_tags r ≡ record_tags s }
     ensures marks { (r s : Record) → Same r s → is_presence_mark r ≡ is_presence_mark s }

@@ -13,5 +13,5 @@ use crate::asn_type::AsnType;
 pub fn records_of_a_valid_value_are_well_formed<T: AsnType>(value: &T)
     ensures { (accepts : List ℕ → Bool) (t : Tag) (c : ConstraintSet) (n : Name) →
         T.meaning.IsValid accepts value.now →
-            AreWellFormed accepts (T.meaning.records value.now t c n) }
+        AreWellFormed accepts (T.meaning.records value.now t c n) }
 {}

@@ -1,4 +1,4 @@
--- What a reader of an `Open` goes by: the law of the type, which alternative has a tag, and how high an INSTANCE OF is.
+-- What a reader of an `Open` goes by: the law of the type, which alternative has a tag, and how deep an INSTANCE OF is nested.
 use Rattle.std.proofs.Common.{◌≡◌, ◌+◌, ◌++◌, ℕ, Bool, true, false, List, [], ◌∷◌, eqb, refl, arith, rules, sym, subst}
 use Rattle.std.specs.Prelude.{Some, codes}
 use Rattle.asn1_choices.specs.Alternatives.{all_of, chosen}
@@ -16,7 +16,7 @@ use Rattle.asn1_types.specs.declared.instance_of.InstanceOf.{InstanceOf as Insta
 use Rattle.asn1_open.specs.OpenAlternatives.{instance_type, open_agrees, open_alternatives, open_meaning, open_pick}
 use Rattle.asn1_open.specs.declared.open_value.Open.{Open, BitString, Bool as Flag, Integer, Null, ObjectIdentifier, OctetString, UniversalString, VisibleString, InstanceOf, InstanceOf'}
 
--- the law of the type, and that it can be inside others
+-- the law of the type, and that it is well tagged
 pub open_law : AgreesWithChoice open_alternatives open_pick open_meaning
 open_law = itself_agrees open_agrees
 
@@ -64,7 +64,7 @@ value_record v = holding (explicit_tag (context 0) (Some (codes "SEQUENCE"))) (o
 abbrev pub instance_inside : Instance Open → List Record
 instance_inside v = own_records object_identifier v.type_id ++ value_record v ∷ []
 
--- so it is two higher than the value
+-- so it is nested two deeper than the value
 pub two_higher : (v : Instance Open) → highest (own_records (instance_type open_meaning) v) ≡ highest (own_records open_meaning v.value) + 2
 two_higher v = omega (
   arith,

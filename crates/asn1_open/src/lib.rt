@@ -25,7 +25,7 @@
 //!
 //! What the contracts promise, and the words that they use:
 //!
-//! - An `Open` can be inside other types (`open_is_well_tagged`), and each is valid, however deep
+//! - An `Open` is well tagged (`open_is_well_tagged`), and each is valid, however deep
 //!   (`each_open_is_valid`).
 //! - `specs/OpenAlternatives.antt` says what it means: the alternatives beside what a value inside
 //!   another is to them, and by recursion on a value what the chosen alternative says of it.

@@ -99,7 +99,7 @@ impl ChoiceType for Open {
     ghost agrees = { itself_agrees open_agrees };
 }
 
-/// An `Open` can be inside other types: the tags of its alternatives are distinct.
+/// An `Open` is well tagged: the tags of its alternatives are distinct.
 pub fn open_is_well_tagged()
     ensures { IsWellTagged ⟦<Open as AsnType>⟧.meaning }
 {}

@@ -24,7 +24,7 @@ abbrev pub lists_outside : Outside → List (List Record)
 lists_outside = map (λ scope. scope.1)
 
 module _ {P : Type 0} (marks : MarkBytes) where
-  -- The decoder is before exactly these lists: what is left are their bytes.
+  -- Exactly these lists remain to be read: what is left are their bytes.
   pub record RemainsExactly (d : ItemDecoder P) (remaining : Remaining) : Type 0 where
     pub no_failure : d.failed ≡ false
     pub inside : HaveBytes (read_with marks) (held remaining.0) (left_inside d.slices)
@@ -43,7 +43,7 @@ module _ {P : Type 0} (marks : MarkBytes) where
   abbrev pub item_reader : Reader (ItemDecoder P)
   item_reader = up_to_order in_one_order
 
-  -- the decoder is before these lists, up to the order inside sets
+  -- these lists remain to be read, up to the order inside sets
   abbrev pub Remains : ItemDecoder P → Remaining → Type 0
   Remains d remaining = item_reader.remains d remaining
 
@@ -59,7 +59,7 @@ pub record IsOpened (h : Head) (items : List Record) (opened : Opened) : Type 0 
   pub has_tag : opened.tag ≡ head_tag h
   pub is_bound : records_in items ≤ opened.bound
 
--- A call that opens a record whose head is what is wanted, exactly before what is in it, in the order in which it comes.
+-- A call that opens a record whose head is what is wanted. Exactly what is in it remains then, in the order in which it comes.
 abbrev pub OpensWanted : {P : Type 0} → MarkBytes → Wanted → ItemDecoder P → ItemDecoder P → Result Opened DecodeError → Type 0
 OpensWanted marks wanted old new result =
     (h : Head) (items rest : List Record) (outer : Outside) → IsWanted wanted h →

@@ -17,7 +17,7 @@ pub record HasPassedMark (marks : MarkBytes) (rest : List Record) (new : Slices)
   pub answer : Answer
   pub left : HaveBytes (read_with marks) (held rest) (left_inside new)
 
--- a call that goes past this presence mark, before these records
+-- a call that goes past this presence mark, after which these records remain
 abbrev pub PassesMark : {V : Type 0} → MarkBytes → PresenceMark → List Record → (V → Type 0) → Slices → Slices → Result V ItemError → Type 0
 PassesMark marks m rest Is old new result =
     HaveBytes (read_with marks) (held (presence_mark m ∷ rest)) (left_inside old) → MatchResult result (λ w. HasPassedMark marks rest new (Is w)) (λ _. ⊥)

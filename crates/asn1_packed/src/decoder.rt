@@ -63,7 +63,7 @@ impl<'a, P: Presence> ItemDecoder<'a, P> {
     ghost use Rattle.asn1_tags.specs.declared.tags.Tag.{Tag as Under};
     ghost use Rattle.std.specs.Prelude.{◌≡◌, ◌≢◌, ◌↔◌, ◌≤◌, ◌++◌, [], ⊤, Err, IfErr, IsOk, List, MatchResult, OnOk, Some, codes, false, length, ℕ, true};
 
-    /// A decoder that is before these bytes, and may open this many nested scopes.
+    /// A decoder of these bytes, which may open this many nested scopes.
     pub fn new(alloc: Global, bytes: &'a [u8], depth: usize) -> ItemDecoder<'a, P>
         ensures before { (rs : List model.Record) → CarriesWith P.mark_bytes bytes.now rs →
             AreWellFormed (λ own. is_one_item own) rs → Remains P.mark_bytes result (rs, []) }

@@ -21,10 +21,10 @@
 //! - It rejects the records that are too long, with 2^32 bytes or more inside an item (`IsTooLong` of `asn1_items`), and no
 //!   others. So an error of a type's writing is `Memory`, `Depth`, `Custom` with the text `item too long` or, after another
 //!   error, `Failed`; another `Custom` comes only where a scope or a group is closed and no such is innermost.
-//! - The decoder keeps the laws of every decoder (`Decoder`). It is before the lists whose bytes are left, up to the order inside
-//!   sets (`Remains` of `specs/Decoder.antt`), and reads a set in the order in which its items come. It takes one item as one value
-//!   of an open type (`is_one_item` of `asn1_items`).
-//! - A decoder of bytes that carry well-formed records (`CarriesWith` of `specs/Carried.antt`) begins before these (`before` of
+//! - The decoder keeps the laws of every decoder (`Decoder`). What remains to be read are the lists whose bytes are left,
+//!   up to the order inside sets (`Remains` of `specs/Decoder.antt`); it reads a set in the order in which its items come. It takes
+//!   one item as one value of an open type (`is_one_item` of `asn1_items`).
+//! - A decoder of bytes that carry well-formed records (`CarriesWith` of `specs/Carried.antt`) begins where these remain (`before` of
 //!   [`ItemDecoder::new`]), and [`ItemDecoder::finish`] succeeds if and only if all has been read (`all_read`), and says else that a
 //!   call has failed (`failed`) or that some is left (`bad_item`).
 //! - The format of a codec over items (`item_format` of `specs/Format.antt`) keeps to its law. [`write_whole`] writes by it, and

@@ -168,7 +168,7 @@ impl<T: WholeNumber> Bounded<T> {
             (λ start. distance T.number start value ≤ℤ T.greatest) }
         ensures offset { IfSome (range_start self.now)
             (λ start. IsLeftAnd result
-                (λ offset. T.number offset ≡ distance T.number start value)) }
+            (λ offset. T.number offset ≡ distance T.number start value)) }
         ensures value { IfNone (range_start self.now) (result ≡ Right value) }
     {
         let start = match self {

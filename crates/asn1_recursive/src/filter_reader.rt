@@ -79,14 +79,8 @@ pub(crate) fn read_alternative<D: Decoder>(decoder: &mut D, tag: Tag) -> Result<
         D.reader.depth_left decoder.old) }
 {
     match tag {
-        AND => {
-            let filters = read_set(decoder, AND)?;
-            Ok(Filter::And(filters))
-        }
-        OR => {
-            let filters = read_set(decoder, OR)?;
-            Ok(Filter::Or(filters))
-        }
+        AND => Ok(Filter::And(read_set(decoder, AND)?)),
+        OR => Ok(Filter::Or(read_set(decoder, OR)?)),
         NOT => {
             let inner = read_filter(decoder, NOT, &Constraints::NONE)?;
             match Box::new(decoder.global(), inner) {
@@ -110,10 +104,7 @@ pub(crate) fn read_alternative<D: Decoder>(decoder: &mut D, tag: Tag) -> Result<
             let said = AttributeValueAssertion::decode_with_tag(decoder, LESS_OR_EQUAL)?;
             Ok(Filter::LessOrEqual(said))
         }
-        PRESENT => {
-            let name = OctetString::decode_with_tag(decoder, PRESENT)?;
-            Ok(Filter::Present(name))
-        }
+        PRESENT => Ok(Filter::Present(OctetString::decode_with_tag(decoder, PRESENT)?)),
         APPROX_MATCH => {
             let said = AttributeValueAssertion::decode_with_tag(decoder, APPROX_MATCH)?;
             Ok(Filter::ApproxMatch(said))
@@ -149,7 +140,7 @@ fn read_filters<D: Decoder>(decoder: &mut D, bound: usize) -> Result<Vec<Filter>
         All filter_meaning.IsOfType vs → All (filter_meaning.IsValid D.reader.accepts) vs →
         length vs ≤ bound →
         Advances D.reader decoder.old decoder.new
-            (highest (flat_map (own_records filter_meaning) vs))
+        (highest (flat_map (own_records filter_meaning) vs))
         (flat_map (own_records filter_meaning) vs, scope ∷ outer) ([], scope ∷ outer)
         (λ w. pointwise ⟦<Filter as PartialEq>⟧.eq w.items vs ≡ true) result }
     ensures same_depth { OnOk result (D.reader.depth_left decoder.new ≡

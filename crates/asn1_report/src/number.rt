@@ -98,7 +98,7 @@ fn read_u128(text: &[u8]) -> Option<u128>
 fn read_u64(text: &[u8]) -> Option<u64>
     ensures read { let value = digits_value 10 text.now in
         result ≡ (if list_all is_ascii_digit text.now && nat_lt value (2 ^ 64)
-            then Some value else None) }
+        then Some value else None) }
 {
     let mut number: u64 = 0;
     for byte in text {

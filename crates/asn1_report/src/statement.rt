@@ -143,7 +143,7 @@ impl Reader {
     ) -> Result<Option<Statement<'a>>, AllocError>
         ensures said { IfOk result
             (IsSaid (option_and_then (λ presence. component_said presence text.now)
-                (presence_of word.now))) }
+            (presence_of word.now))) }
     {
         let Some(presence) = presence_of(word) else {
             return Ok(None);

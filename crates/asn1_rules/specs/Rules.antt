@@ -42,7 +42,7 @@ module _ {O : Type 0} (F : Format O) where
   WritesWhole rs IsOfType depth result = MatchResult result (IsWritten rs IsOfType depth) (IsNotWritten rs depth)
 
 -- The answer is one that this holds of, and the records are nested no deeper than the depth; or there was no memory; or they are
--- higher.
+-- nested deeper.
 abbrev pub ReadsWhole : {V : Type 0} → ℕ → ℕ → (V → Type 0) → Result V DecodeError → Type 0
 ReadsWhole height depth Is result =
     MatchResult result (λ w. Is w × (height ≤ depth)) (MayFail depth height)

@@ -37,7 +37,7 @@ pub fn recode<T: Encode + Decode, A: Rules, B: Rules>(
 ) -> Result<B::Output, RecodeError>
     ensures recoded { (v : T) → IsWellTagged T.meaning → T.meaning.IsOfType v →
         T.meaning.IsValid A.format.accepts v →
-            A.format.carries input.now (own_records T.meaning v) →
+        A.format.carries input.now (own_records T.meaning v) →
         MatchResult result (IsRecoded B.format T.meaning T.eq v depth)
         (RecodingFails B.format T.meaning T.eq v depth) }
     ensures writing { IfErr result (WritingFailsAsItMay B.format T.meaning depth) }

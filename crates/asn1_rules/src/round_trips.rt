@@ -23,9 +23,9 @@ pub enum RoundTripError {
 /// Writes a value and reads it back.
 ///
 /// The round trip: for every codec, and every type that is well tagged, a valid value whose writing succeeds is read back
-/// equal, by the type's own equality, unless memory is short or the value's records are nested deeper than the depth of reading
-/// (`back`). Whatever the type and the value, one that was written is no higher than the depth of writing, and writing fails as
-/// it may (`written`).
+/// equal, by the type's own equality, unless memory runs out or the value's records are nested deeper than the depth of reading
+/// (`back`). Whatever the type and the value, one that was written is nested no deeper than the depth of writing, and
+/// writing fails as it may (`written`).
 ///
 /// # Errors
 /// [`RoundTripError::Writing`] with the error of writing, and [`RoundTripError::Reading`] with that of reading.

@@ -38,7 +38,7 @@ pub trait Rules {
     fn read_value<T: Decode>(&self, output: &Self::Output, depth: usize) -> Result<T, DecodeError>
         ensures read { (v : T) → IsWellTagged T.meaning → T.meaning.IsOfType v →
             T.meaning.IsValid format.accepts v →
-                format.carries output.now (own_records T.meaning v) →
+            format.carries output.now (own_records T.meaning v) →
             ReadsWhole (highest (own_records T.meaning v)) depth (λ w. T.eq w v ≡ true) result }
         ensures refuses { (rs : List Record) (error : _) →
             T.refusals format.accepts T.meaning.tag T.meaning.constraints rs error →

@@ -22,18 +22,19 @@
 //!   same. The writer has a line for each component (`encode_field`) or alternative (`encode_alternative`), and no proof.
 //! - Each is read: from its records a codec gives an equal value (`Decode`), whatever the codec. The reader has a line
 //!   for each component (`decode_field`) or alternative (`decode_alternative`). Components and alternatives are read by place
-//!   (`asn1_slots`), with no proof; a `Shape` looks for its alternative in a table of the leaves of its tree. Two types show the other forms, which have proofs: an `Envelope` reads its components one after another
-//!   (`decode_fields`), and a `Badge` as parts (`DecodeSet`). A component that may be absent is asked for under its own tag,
-//!   which what follows does not begin with; so it is in a group whose last components are absent, where what follows is after
-//!   the group, as the note of a `Visit` is. A tag that no alternative has is refused with the name of the CHOICE.
+//!   (`asn1_slots`), with no proof; a `Shape` looks for its alternative in a table of the leaves of its tree. Two types show the
+//!   other forms, which have proofs: an `Envelope` reads its components one after another (`decode_fields`), and a `Badge` as
+//!   parts (`DecodeSet`). A component that may be absent is asked for under its own tag, which what follows does not begin with;
+//!   so it is in a group whose last components are absent, where what follows is after the group, as the note of a `Visit` is. A
+//!   tag that no alternative has is refused with the name of the CHOICE.
 //! - Each can be inside other types: `person_is_well_tagged` and the like.
 //! - The records of some values are written out: `person_records` and the like.
 //! - [`laws`] says which values are valid, when two values are equal, which names the tables have, and which types have an
 //!   extension marker. `envelope_is_valid` and `pair_is_valid` say when an `Envelope` and a `Pair` are valid.
 //!
-//! A call takes memory only where a codec does, for what is read, for the alphabet of a `Plate` and for the table of a `Shape`. Types that hold themselves
-//! are in the crate `asn1_recursive`. `docs/USING.md` explains how such types are written, and quotes `Notice`, `Corner`, `Color`,
-//! `Pair` and `Ticket`.
+//! A call takes memory only where a codec does, for what is read, for the alphabet of a `Plate` and for the table of a `Shape`.
+//! Types that hold themselves are in the crate `asn1_recursive`. `docs/USING.md` explains how such types are written, and quotes
+//! `Notice`, `Corner`, `Color`, `Pair` and `Ticket`.
 #![tactic(auto, using(asn1_tags::proofs::Leaves::tree_shapes))]
 
 mod badge;

@@ -21,7 +21,7 @@ pub type GeneralizedTime = Implicit<tag::GENERALIZED_TIME, VisibleString>;
 /// An ObjectDescriptor (X.680, 48): a GraphicString under the tag Universal 7.
 pub type ObjectDescriptor = Implicit<tag::OBJECT_DESCRIPTOR, GraphicString>;
 
-/// A law: a UniversalString can be inside other types, each is valid, and it is its text under the tag Universal 28 (`own`), or
+/// A law: a UniversalString is well tagged, each is valid, and it is its text under the tag Universal 28 (`own`), or
 /// under whatever tag, constraints and name it is written (`under`).
 pub fn universal_string_is_a_tagged_text(text: &UniversalString)
     ensures is_well_tagged { IsWellTagged ⟦<UniversalString as AsnType>⟧.meaning }

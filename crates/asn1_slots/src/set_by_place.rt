@@ -91,9 +91,10 @@ fn read_components<S: DecodeSetByPlace + FieldTable, D: Decoder>(
     Ok(value)
 }
 
-/// Reads a SET, by its components, in whatever order they come, where the layout is that of these. Of a type that is one it reads a
-/// value of the type, under whatever constraints. A record whose tag no component has is refused with [`DecodeError::UnknownField`], by its place among the
-/// records; a component that comes twice, or is missing, as the type refuses it.
+/// Reads a SET, by its components, in whatever order they come, where the layout is that of these. Of a type that is one it reads
+/// a value of the type, under whatever constraints. A record whose tag no component has is refused with
+/// [`DecodeError::UnknownField`], by its place among the records; a component that comes twice, or is missing, as the type refuses
+/// it.
 pub fn decode_set_by_place<S: DecodeSetByPlace + ConstructedType, D: Decoder>(
     decoder: &mut D,
     tag: Tag,

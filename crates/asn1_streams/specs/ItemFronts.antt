@@ -12,7 +12,7 @@ pub record CutsItems (IsCut : List ℕ → ℕ → Type 0) : Type 0 where
   pub one_cut : (bytes : List ℕ) (m n : ℕ) → IsCut bytes m → IsCut bytes n → m ≡ n
 
 module _ (IsCut : List ℕ → ℕ → Type 0) (Carries : List ℕ → List Record → Type 0) (accepts : List ℕ → Bool) where
-  -- The bytes begin with an item of n bytes, which is that of a valid value, of a type that can be inside others.
+  -- The bytes begin with an item of n bytes, which is that of a valid value of a well-tagged type.
   pub record IsFrontOf {V : Type 0} (m : Meaning V) (bytes : List ℕ) (v : V) (n : ℕ) : Type 0 where
     pub cut : IsCut bytes n
     pub is_well_tagged : IsWellTagged m

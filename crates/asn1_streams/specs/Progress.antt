@@ -12,7 +12,7 @@ module _ {R V : Type 0} (F : Fronts R V) where
     pub front : IsFront F old.reader old.unread (v, n)
     pub taken : IsTaken n old new
 
-  -- No value was read, as the reader may fail before what was unread, and nothing has changed.
+  -- No value was read, as the reader may fail where this is unread, and nothing has changed.
   pub record Kept (old new : State R) (e : DecodeError) : Type 0 where
     pub no_front : IsNoFront F old.reader old.unread e
     pub unchanged : new ≡ old

@@ -163,5 +163,5 @@ pub fn ascii_strings_are_written_as_their_characters<A: AsciiAlphabet>()
         Some units }
     ensures styled { (units : List ℕ) (options : _) →
         ⟦<AlphabetString<u8, A> as Display>⟧.styled_output units options ≡
-            Some (styled_text options units) }
+        Some (styled_text options units) }
 {}

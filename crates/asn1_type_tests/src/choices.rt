@@ -52,10 +52,10 @@ fn nested(inner: Box<Nested>)
         own_records ⟦<Nested as AsnType>⟧.meaning (Inner inner) ≡
         holding (chosen (context 0) unconstrained (table_of
         ⟦<Nested as asn1_choices::Choice>⟧.alternatives) (Some (codes "Nested")))
-            (holding (explicit_tag
+        (holding (explicit_tag
         (context 0) (Some (codes "Nested"))) (holding
         (chosen (universal 1) unconstrained
-            (table_of ⟦<Nested as asn1_choices::Choice>⟧.alternatives) (Some (codes
+        (table_of ⟦<Nested as asn1_choices::Choice>⟧.alternatives) (Some (codes
         "Nested"))) (scalar (universal 1) unconstrained (Some (codes
         "BOOLEAN")) (boolean true) ∷ []) ∷ []) ∷ []) ∷ [] }
 {}
@@ -82,7 +82,7 @@ fn places()
         }) }
 {}
 
-/// A reply can be inside other types, and each is valid, also one after the extension marker.
+/// A reply is well tagged, and each is valid, also one after the extension marker.
 fn replies()
     ensures is_well_tagged { IsWellTagged ⟦<Reply as AsnType>⟧.meaning }
     ensures accepted { (accepts : List ℕ → Bool) (b : Bool) →

@@ -45,7 +45,7 @@ fn sameness()
     ensures sequence { ¬ Same (holding (sequence (universal 16) no_table None)
         (open_type None [] ∷ presence_mark (group_start no_table) ∷ [])) (holding
         (sequence (universal 16) no_table None)
-            (presence_mark (group_start no_table) ∷ open_type None [] ∷ [])) }
+        (presence_mark (group_start no_table) ∷ open_type None [] ∷ [])) }
     ensures contents { ¬ Same (open_type None []) (open_type None (0 ∷ [])) }
 {}
 
@@ -72,7 +72,7 @@ fn firsts()
         every }
     ensures scope { first_tags (presence_mark (absent in_root (context 0)) ∷
         sequence_records (universal 16) no_table None (presence_mark group_absent ∷ [])) ≡
-            only (universal
+        only (universal
         16) }
     ensures under_a_tag { first_tags (presence_mark (present in_root (context 0)) ∷
         explicit_tag_records (context 0) None (sequence_records (universal 16) no_table None
@@ -86,7 +86,7 @@ fn firsts()
 fn well_formed_records()
     ensures contents { (accepts : List ℕ → Bool) →
         AreWellFormed accepts (scalar (context 0) unconstrained None null ∷
-            presence_mark group_absent ∷ []) }
+        presence_mark group_absent ∷ []) }
     ensures taken { AreWellFormed (λ bytes. true) (open_type None (0 ∷ []) ∷ []) }
     ensures not_taken { ¬ AreWellFormed (λ bytes. false)
         (explicit_tag_records (context 0) None (open_type None (0 ∷ []) ∷ [])) }

@@ -83,7 +83,7 @@ fn instance_of_truth(instance: &InstanceOf<bool>)
     ensures { instance.now.type_id ≡ 1 ∷ 2 ∷ [] → instance.now.value ≡ true →
         own_records ⟦<InstanceOf<bool> as AsnType>⟧.meaning instance.now ≡
         holding (sequence (universal 8)
-            (lines ⟦<InstanceOf<bool> as asn1_components::FieldTable>⟧.components) (Some (codes
+        (lines ⟦<InstanceOf<bool> as asn1_components::FieldTable>⟧.components) (Some (codes
         "SEQUENCE"))) (scalar (universal 6) unconstrained (Some (codes
         "OBJECT_IDENTIFIER")) (arcs (1 ∷ 2 ∷ [])) ∷ holding (explicit_tag (context 0) (Some
         (codes "SEQUENCE"))) (scalar (universal 1) unconstrained (Some (codes "BOOLEAN")) (boolean

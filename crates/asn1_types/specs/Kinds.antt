@@ -18,7 +18,7 @@ abbrev pub set_of_type : {V W : Type 0} → (W → List V) → Meaning V → Mea
 set_of_type = elements_type set_of (λ _ _ _. refl) (universal 17) (codes "SET_OF") unconstrained
 
 -- An open type (X.681, 14): a value of any type, as the bytes that a codec makes of it. It has no tag and can begin with
--- every one. It is valid if and only if the codec takes the bytes as one value.
+-- every one. It is valid if and only if the codec accepts the bytes as one value.
 abbrev pub any_type : {V : Type 0} → (V → List ℕ) → Meaning V
 any_type bytes = record {
   tag = CHOICE;

@@ -46,7 +46,7 @@ module _ {T : Type 0} (eq : T → T → Bool) where
   abbrev all_found : List T → List T → Bool
   all_found zs xs = list_all (λ z. nat_lt 0 (count_of eq z xs)) zs
 
-  -- elements that are place by place equal to others are found where there are as many as of these
+  -- the elements of a list that is element by element equal to others are found where there are as many as of these
   found_by : (xs zs others : List T) → ((z : T) → count_of eq z others ≤ count_of eq z xs) → pointwise eq zs others ≡ true →
       all_found zs xs ≡ true
   found_by xs [] others as_many h = refl

@@ -3,7 +3,7 @@ use Rattle.std.specs.Prelude.{◌≡◌, ℕ, Bool, true, ◌&&◌, ◌==◌, na
 use Rattle.std.specs.List.{list_all, count_by}
 use Rattle.std.specs.Cmp.Lexicographic.{pointwise}
 
--- Some rearrangement of the second list is place by place equal to the first, by this equality.
+-- Some rearrangement of the second list is element by element equal to the first, by this equality.
 pub record SameElements {T : Type 0} (eq : T → T → Bool) (xs ys : List T) : Type 0 where
   pub order : List T
   pub rearranged : IsPermutation order ys

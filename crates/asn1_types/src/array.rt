@@ -46,7 +46,7 @@ impl<T: Drop, const N: usize> TryFrom<Vec<T>> for Array<T, N> {
     // A list of another length is answered as it is.
     ghost try_from_gives = { λ list made.
         MatchResult made (λ array. (array.elements ≡ list.items) × (vec_len list ≡ N))
-            (λ same. (same ≡ list) × (vec_len list ≢ N)) };
+        (λ same. (same ≡ list) × (vec_len list ≢ N)) };
 
     fn try_from(list: Vec<T>) -> Result<Array<T, N>, Vec<T>> {
         match <[T; N]>::try_from(list) {

@@ -63,13 +63,13 @@ pub fn values_are_compared_by_what_they_hold<T, V: Ord + Hash + Clone>()
     ensures any_hash { (v : List ℕ) → ⟦<Any as Hash>⟧.hash_input v ≡ fed.slice fed.u8 v }
     ensures instance_equal { (v w : InstanceOf V) →
         IsTrue (⟦<InstanceOf<V> as PartialEq>⟧.eq v w) ↔
-            ((v.type_id ≡ w.type_id) × IsTrue (V.eq v.value w.value)) }
+        ((v.type_id ≡ w.type_id) × IsTrue (V.eq v.value w.value)) }
     ensures instance_order { (v w : InstanceOf V) →
         ⟦<InstanceOf<V> as Ord>⟧.cmp v w ≡
-            ordering_then (slice_cmp nat_cmp v.type_id w.type_id) (V.cmp v.value w.value) }
+        ordering_then (slice_cmp nat_cmp v.type_id w.type_id) (V.cmp v.value w.value) }
     ensures instance_hash { (v : InstanceOf V) →
         ⟦<InstanceOf<V> as Hash>⟧.hash_input v ≡
-            fed.slice fed.u32 v.type_id ++ V.hash_input v.value }
+        fed.slice fed.u32 v.type_id ++ V.hash_input v.value }
 {}
 
 /// Laws of an array in a struct of its own. It means what the array means, it is made of the array, and two are equal if
@@ -78,16 +78,16 @@ pub fn values_are_compared_by_what_they_hold<T, V: Ord + Hash + Clone>()
 pub fn arrays_are_their_elements<T: AsnType + PartialEq + Clone, const N: usize>(_elements: [T; N])
     ensures records { (array : Array T N) (t : Tag) (c : ConstraintSet) (n : Name) →
         ⟦<Array<T, N> as AsnType>⟧.meaning.records array t c n ≡
-            ⟦<[T; N] as AsnType>⟧.meaning.records array.elements t c n }
+        ⟦<[T; N] as AsnType>⟧.meaning.records array.elements t c n }
     ensures own_records { (array : Array T N) →
         own_records ⟦<Array<T, N> as AsnType>⟧.meaning array ≡
-            own_records ⟦<[T; N] as AsnType>⟧.meaning array.elements }
+        own_records ⟦<[T; N] as AsnType>⟧.meaning array.elements }
     ensures of_type { (array : Array T N) →
         ⟦<Array<T, N> as AsnType>⟧.meaning.IsOfType array ↔
-            ⟦<[T; N] as AsnType>⟧.meaning.IsOfType array.elements }
+        ⟦<[T; N] as AsnType>⟧.meaning.IsOfType array.elements }
     ensures valid { (accepts : List ℕ → Bool) (array : Array T N) →
         ⟦<Array<T, N> as AsnType>⟧.meaning.IsValid accepts array ↔
-            ⟦<[T; N] as AsnType>⟧.meaning.IsValid accepts array.elements }
+        ⟦<[T; N] as AsnType>⟧.meaning.IsValid accepts array.elements }
     ensures made { (array : Array T N) →
         ⟦<Array<T, N> as From<[T; N]>>⟧.from_gives _elements array → array.elements ≡ _elements }
     ensures equal { (a b : Array T N) → ⟦<Array<T, N> as PartialEq>⟧.eq a b ≡
@@ -101,18 +101,18 @@ pub fn arrays_are_their_elements<T: AsnType + PartialEq + Clone, const N: usize>
 pub fn arrays_are_made_of_lists<T: Drop, const N: usize>(_list: &Vec<T>)
     ensures length { (made : _) →
         ⟦<Array<T, N> as TryFrom<Vec<T>>>⟧.try_from_gives _list.now made →
-            IsOk made ↔ (vec_len _list.now ≡ N) }
+        IsOk made ↔ (vec_len _list.now ≡ N) }
     ensures elements { (made : _) →
         ⟦<Array<T, N> as TryFrom<Vec<T>>>⟧.try_from_gives _list.now made →
-            MatchResult made (λ array. array.elements ≡ _list.now.items)
-            (λ same. same ≡ _list.now) }
+        MatchResult made (λ array. array.elements ≡ _list.now.items)
+        (λ same. same ≡ _list.now) }
 {}
 
 /// Laws of the order and hash of an array in a struct of its own, which are those of the slice of its elements.
 pub fn arrays_are_ordered_as_slices<T: Ord + Hash, const N: usize>()
     ensures partial_order { (a b : Array T N) →
         ⟦<Array<T, N> as PartialOrd>⟧.partial_cmp a b ≡
-            slice_partial_cmp T.partial_cmp a.elements b.elements }
+        slice_partial_cmp T.partial_cmp a.elements b.elements }
     ensures order { (a b : Array T N) → ⟦<Array<T, N> as Ord>⟧.cmp a b ≡
         slice_cmp T.cmp a.elements b.elements }
     ensures hash { (array : Array T N) → ⟦<Array<T, N> as Hash>⟧.hash_input array ≡
@@ -123,10 +123,20 @@ pub fn arrays_are_ordered_as_slices<T: Ord + Hash, const N: usize>()
 /// always there; and it has no extension marker.
 pub fn instance_of_has_two_fields<T: AsnType>()
     ensures fields { table ⟦<InstanceOf<T> as FieldTable>⟧.components ≡
-        record { index = 0; tag = universal 6; tree = leaf (universal 6);
-            presence = FieldPresence.Required; name = codes "type_id" } ∷
-        record { index = 1; tag = context 0; tree = leaf (context 0);
-            presence = FieldPresence.Required; name = codes "value" } ∷ [] }
+        record {
+          index = 0;
+          tag = universal 6;
+          tree = leaf (universal 6);
+          presence = FieldPresence.Required;
+          name = codes "type_id";
+        } ∷
+        record {
+          index = 1;
+          tag = context 0;
+          tree = leaf (context 0);
+          presence = FieldPresence.Required;
+          name = codes "value";
+        } ∷ [] }
     ensures marker { has_marker ⟦<InstanceOf<T> as FieldTable>⟧.components.extension ≡ false }
 {}
 

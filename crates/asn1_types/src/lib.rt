@@ -24,7 +24,7 @@
 //!
 //! What the contracts promise, and the words that they use:
 //!
-//! - Two sets are equal exactly if some rearrangement of the second is place by place equal to the first, by the
+//! - Two sets are equal exactly if some rearrangement of the second is element by element equal to the first, by the
 //!   elements' own equality: `equal_sets_have_the_same_elements` and `SetOf::eq_slice` say so in `SameElements` of
 //!   `specs/Multisets.antt`. `==` is `same_counts`, which counts; that the two agree, and that this is an equality, is
 //!   proved in `specs/MultisetLaws.antt` (`same_counts-SameElements`, `same_counts-partial`, `same_counts-equiv`). Equal
@@ -35,7 +35,7 @@
 //!   last into its place (`taken`). `iter`, `to_vec` and `into_vec` have the elements in one order.
 //! - `SetOf::from_slice`, `from_array` and `try_clone` hold clones of the elements in their order (`clones`), which are
 //!   the elements themselves where a clone is (`same`).
-//! - `Any`, `Implicit` and `Explicit` give back what went in. Equality, order, hash and clones of these and of `InstanceOf`
+//! - `Any`, `Implicit` and `Explicit` return the value they were made from. Equality, order, hash and clones of these and of `InstanceOf`
 //!   are those of what they hold (`laws::values_are_compared_by_what_they_hold`).
 //! - An `Array` means what the array means; it is compared, ordered, hashed and cloned as that, and gives its elements back
 //!   (`laws::arrays_are_their_elements`, `laws::arrays_are_ordered_as_slices`). It is made of a list of as many elements
@@ -49,8 +49,8 @@
 //!   and `instance_of_components`.
 //! - The words for a type of your own are in `specs/Words.antt`, from all crates below.
 //!
-//! `SetOf::with_capacity`, `insert`, `to_vec`, `from_slice`, `from_array` and `try_clone`, and `Any::try_clone` may want
-//! memory, and fail only where there is none; so may `AnyStr::to_any_string`, and `AsnType::constraints` of a type with a
+//! `SetOf::with_capacity`, `insert`, `to_vec`, `from_slice`, `from_array` and `try_clone`, and `Any::try_clone` may
+//! allocate, and fail only if memory runs out; so may `AnyStr::to_any_string`, and `AsnType::constraints` of a type with a
 //! permitted alphabet. No other call takes any.
 #![tactic(auto, using(asn1_tags::proofs::Leaves::tree_shapes))]
 

@@ -17,8 +17,8 @@ use asn1_values::{Integer, LimitedInteger, Limits};
 use std::borrow::Cow;
 use std::marker::PhantomData;
 
-/// A law of the types that hold no others: each value is valid, and the type can be inside another under each tag, but the CHOICE
-/// marker tag. Of a number with limits it is asked that it is within them, and a type without any content has no tag.
+/// A law of the types that hold no others: each value is valid, and the type is well tagged under each tag but the CHOICE marker
+/// tag. Of a number with limits it is asked that it is within them, and a type without any content has no tag.
 pub fn types_that_hold_no_others_are_plain<
     'a,
     L: Limits,
@@ -66,28 +66,28 @@ pub fn holders_are_valid_as_their_contents<'a, T: AsnType + 'a, const N: usize>(
 )
     ensures vec { (accepts : List ℕ → Bool) →
         ⟦<Vec<T> as AsnType>⟧.meaning.IsValid accepts _vec.now ↔
-            All (T.meaning.IsValid accepts) _vec.now.items }
+        All (T.meaning.IsValid accepts) _vec.now.items }
     ensures slice { (accepts : List ℕ → Bool) →
         ⟦<&'a [T] as AsnType>⟧.meaning.IsValid accepts _slice.entry ↔
-            All (T.meaning.IsValid accepts) _slice.entry.now }
+        All (T.meaning.IsValid accepts) _slice.entry.now }
     ensures array { (accepts : List ℕ → Bool) (elements : List T) →
         ⟦<[T; N] as AsnType>⟧.meaning.IsValid accepts elements ↔
-            All (T.meaning.IsValid accepts) elements }
+        All (T.meaning.IsValid accepts) elements }
     ensures option { (accepts : List ℕ → Bool) (o : Option T) →
         ⟦<Option<T> as AsnType>⟧.meaning.IsValid accepts o ↔ IfSome o (T.meaning.IsValid accepts) }
     ensures reference { (accepts : List ℕ → Bool) →
         ⟦<&'a T as AsnType>⟧.meaning.IsValid accepts _reference.entry ↔
-            T.meaning.IsValid accepts _reference.entry.now }
+        T.meaning.IsValid accepts _reference.entry.now }
     ensures boxed { (accepts : List ℕ → Bool) →
         ⟦<Box<T> as AsnType>⟧.meaning.IsValid accepts _boxed.now ↔
-            T.meaning.IsValid accepts _boxed.now.value }
+        T.meaning.IsValid accepts _boxed.now.value }
     ensures cow { (accepts : List ℕ → Bool) →
         ⟦<Cow<'a, T> as AsnType>⟧.meaning.IsValid accepts _cow.now ↔
-            T.meaning.IsValid accepts (cow_value _cow.now) }
+        T.meaning.IsValid accepts (cow_value _cow.now) }
 {}
 
-/// A law of tags: a list can be inside another type where its elements' type can be there; what holds one value can be where
-/// that value's type can; and an option or a type without any content by itself cannot be inside another type.
+/// A law of tags: a list is well tagged where its elements' type is; what holds one value is well tagged under the tags under
+/// which that value's type is; and an option or a type without any content is not well tagged.
 pub fn holders_are_tagged_as_their_contents<'a, T: AsnType + 'a, const N: usize>()
     ensures vec { (t : Tag) → IsWellTaggedUnder ⟦<Vec<T> as AsnType>⟧.meaning t ↔
         (IsATag t × IsWellTagged T.meaning) }

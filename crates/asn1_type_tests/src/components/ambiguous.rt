@@ -16,9 +16,9 @@ struct Ambiguous {
     b: bool,
 }
 
-/// No type of these components can be inside another: the tag of a component that may be absent is that of the next, also
+/// No type of these components is well tagged: the tag of a component that may be absent is that of the next, also
 /// inside a group; two components of a SET share a tag, also inside a group; an addition is always there; a group is a SET.
-/// An addition with a default is one that can.
+/// With an addition that has a default one is.
 fn ambiguous_cannot_stand_inside()
     ensures sequence { ¬ IsWellTagged (constructed_type {V = Ambiguous} (codes "Ambiguous")
         (sequence (optional (codes "a") (λ v. v.a) (tagged (context 0)

@@ -63,7 +63,7 @@ fn journeys(journey: &Journey)
           } ∷ []);
         }) (Some (codes "Journey"))) (scalar (universal 2) (values_of (Range (Some
         (pos 0)) (Some (pos 255)))) (Some (codes "INTEGER")) (number (pos 7)) ∷
-            presence_mark (group_start
+        presence_mark (group_start
         (record {
           root = record {
             name = codes "from";
@@ -77,6 +77,6 @@ fn journeys(journey: &Journey)
           additions = None;
         })) ∷ presence_mark (present in_root (context 0)) ∷
         scalar (context 0) unconstrained (Some (codes "BOOLEAN")) (boolean true) ∷
-            presence_mark group_absent ∷
+        presence_mark group_absent ∷
         presence_mark group_end ∷ []) ∷ [] }
 {}

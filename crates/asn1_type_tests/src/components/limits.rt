@@ -14,12 +14,12 @@ fn numbers_outside_their_limits()
         ¬ (constructed_type {V = ℤ} (codes "Limited") (sequence
         (with_default (codes "n") (λ n. n) (λ _. false)
         (untagged ⟦<ConstrainedInteger<1, 10> as AsnType>⟧.meaning) ∷ []))).IsValid accepts
-            (pos 11) }
+        (pos 11) }
     ensures default { (accepts : List ℕ → Bool) →
         (constructed_type {V = ℤ} (codes "Limited") (sequence
         (with_default (codes "n") (λ n. n) (λ _. true)
         (untagged ⟦<ConstrainedInteger<1, 10> as AsnType>⟧.meaning) ∷ []))).IsValid accepts
-            (pos 11) }
+        (pos 11) }
     ensures in_group { (accepts : List ℕ → Bool) →
         ¬ (constructed_type {V = ℤ} (codes "Limited") (extensible_sequence []
         (group (codes "g") (λ n. Some n) (sequence (required (codes "n") (λ n. n)

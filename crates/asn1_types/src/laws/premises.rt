@@ -17,7 +17,7 @@ use crate::instance_of::InstanceOf;
 use crate::set_of::SetOf;
 use asn1_model::AsnType;
 
-/// A law of validity: an open type is valid if the codec takes its bytes as one value, and of a value that holds others, what is
+/// A law of validity: an open type is valid if the codec accepts its bytes as one value, and of a value that holds others, what is
 /// asked is what is asked of these. Of arrays `arrays_are_their_elements` says it.
 pub fn values_are_valid_as_their_contents<T: AsnType, V: AsnType>()
     ensures any { (accepts : List ℕ → Bool) (bytes : List ℕ) →
@@ -26,16 +26,16 @@ pub fn values_are_valid_as_their_contents<T: AsnType, V: AsnType>()
         ⟦<SetOf<V> as AsnType>⟧.meaning.IsValid accepts set ↔ All (V.meaning.IsValid accepts) set }
     ensures implicit { (accepts : List ℕ → Bool) (v : Implicit T V) →
         ⟦<Implicit<T, V> as AsnType>⟧.meaning.IsValid accepts v ↔
-            V.meaning.IsValid accepts v.value }
+        V.meaning.IsValid accepts v.value }
     ensures explicit { (accepts : List ℕ → Bool) (v : Explicit T V) →
         ⟦<Explicit<T, V> as AsnType>⟧.meaning.IsValid accepts v ↔
-            V.meaning.IsValid accepts v.value }
+        V.meaning.IsValid accepts v.value }
     ensures instance { (accepts : List ℕ → Bool) (v : InstanceOf V) →
         ⟦<InstanceOf<V> as AsnType>⟧.meaning.IsValid accepts v ↔ V.meaning.IsValid accepts v.value }
 {}
 
-/// A law of tags: an open type can be a component wherever it is, a set and a value after an explicit tag where the type inside
-/// can be there, and a value under an implicit tag where the type inside can be there under it, and begins with it alone.
+/// A law of tags: an open type is well tagged under each tag, a set and a value after an explicit tag where the type inside is well
+/// tagged, and a value under an implicit tag where the type inside is well tagged under it, and begins with it alone.
 pub fn types_are_tagged_as_their_contents<T: AsnType, V: AsnType, const N: usize>()
     ensures any { (t : Tag) → IsWellTaggedUnder ⟦<Any as AsnType>⟧.meaning t }
     ensures set { (t : Tag) → IsWellTaggedUnder ⟦<SetOf<V> as AsnType>⟧.meaning t ↔

@@ -5,7 +5,7 @@ use asn1_tags::{Class, Tag, TagTree, Variants, VariantsError};
 use std::alloc::{AllocError, Global};
 use std::process::Abort;
 
-/// Asserts that the list was made, and has so many tags.
+/// Asserts that the list was made, and has this many tags.
 fn assert_made(rt: &impl Abort, made: Result<Variants, AllocError>, count: usize) {
     let variants = made.expect(rt, "memory");
     assert_that(rt, variants.as_slice().len() == count, "the tags");
@@ -50,7 +50,7 @@ fn copied(rt: &impl Abort, alloc: Global, entries: &[(Tag, usize)]) -> Vec<(Tag,
     Vec::from_slice(alloc, entries).expect(rt, "memory")
 }
 
-// The tag has that first place, which takes so many comparisons to find.
+// The tag has that first place, which takes this many comparisons to find.
 fn assert_found(
     rt: &impl Abort,
     variants: &Variants,

@@ -66,23 +66,23 @@ pub read_untagged-returns-clause-read : goal.read_untagged-returns-clause-read
 read_untagged-returns-clause-read g t c =
     choice_read g.D.Decoder.reader ghosts.eq filter_law (constraint_set c.args.constraints.now) _ _ _ _ _ c.in_ok-chosen.ensures.read c.in_ok-chosen.ensures.opens_scope.one_less c.in-Ok.ensures.read c.in_ok-close.ensures.read
 
-pub read_alternative-returns-in_err-filters-in-AND-clause-read : goal.read_alternative-returns-in_err-filters-in-AND-clause-read
-read_alternative-returns-in_err-filters-in-AND-clause-read g t c =
+pub read_alternative-returns-in_err-read_set-in-AND-clause-read : goal.read_alternative-returns-in_err-read_set-in-AND-clause-read
+read_alternative-returns-in_err-read_set-in-AND-clause-read g t c =
     let p = err_from_is_err_and c.from_residual.result c.from_residual.ensures.1 in
-    rw (p.1, p.2) (chosen_not_read g.D.Decoder.reader filter_alternatives filter_pick ghosts.eq And (value_meaning (tagged (context 0) (set_of_type (λ filters. filters) inner_filter))) and_says c.args.tag (of_number 0 c.args.tag (omega arith)) _ c.args.decoder.now (λ w rest outer of_type valid. c.in_err-filters-in-AND.ensures.read w (Some (codes "SET_OF")) rest outer of_type valid))
+    rw (p.1, p.2) (chosen_not_read g.D.Decoder.reader filter_alternatives filter_pick ghosts.eq And (value_meaning (tagged (context 0) (set_of_type (λ filters. filters) inner_filter))) and_says c.args.tag (of_number 0 c.args.tag (omega arith)) _ c.args.decoder.now (λ w rest outer of_type valid. c.in_err-read_set-in-AND.ensures.read w (Some (codes "SET_OF")) rest outer of_type valid))
 
 pub read_alternative-returns-in-AND-clause-read : goal.read_alternative-returns-in-AND-clause-read
 read_alternative-returns-in-AND-clause-read g t c =
-    chosen_read g.D.Decoder.reader filter_alternatives filter_pick ghosts.eq And (value_meaning (tagged (context 0) (set_of_type (λ filters. filters) inner_filter))) and_says c.args.tag (of_number 0 c.args.tag (omega arith)) _ _ _ (λ w rest outer of_type valid at. moved_as g.D.Decoder.reader (c.in_ok-filters-in-AND.ensures.read w (Some (codes "SET_OF")) rest outer of_type valid at) (and_equal c.in_ok-filters-in-AND.filters w))
+    chosen_read g.D.Decoder.reader filter_alternatives filter_pick ghosts.eq And (value_meaning (tagged (context 0) (set_of_type (λ filters. filters) inner_filter))) and_says c.args.tag (of_number 0 c.args.tag (omega arith)) _ _ _ (λ w rest outer of_type valid at. moved_as g.D.Decoder.reader (c.in_ok-read_set-in-AND.ensures.read w (Some (codes "SET_OF")) rest outer of_type valid at) (and_equal c.in_ok-read_set-in-AND.field-0 w))
 
-pub read_alternative-returns-in_err-filters-in-OR-clause-read : goal.read_alternative-returns-in_err-filters-in-OR-clause-read
-read_alternative-returns-in_err-filters-in-OR-clause-read g t c =
-    let p = err_from_is_err_and c.from_residual-in_err-filters-in-OR.result c.from_residual-in_err-filters-in-OR.ensures.1 in
-    rw (p.1, p.2) (chosen_not_read g.D.Decoder.reader filter_alternatives filter_pick ghosts.eq Or (value_meaning (tagged (context 1) (set_of_type (λ filters. filters) inner_filter))) or_says c.args.tag (of_number 1 c.args.tag (omega arith)) _ c.args.decoder.now (λ w rest outer of_type valid. c.in_err-filters-in-OR.ensures.read w (Some (codes "SET_OF")) rest outer of_type valid))
+pub read_alternative-returns-in_err-read_set-in-OR-clause-read : goal.read_alternative-returns-in_err-read_set-in-OR-clause-read
+read_alternative-returns-in_err-read_set-in-OR-clause-read g t c =
+    let p = err_from_is_err_and c.from_residual-in_err-read_set-in-OR.result c.from_residual-in_err-read_set-in-OR.ensures.1 in
+    rw (p.1, p.2) (chosen_not_read g.D.Decoder.reader filter_alternatives filter_pick ghosts.eq Or (value_meaning (tagged (context 1) (set_of_type (λ filters. filters) inner_filter))) or_says c.args.tag (of_number 1 c.args.tag (omega arith)) _ c.args.decoder.now (λ w rest outer of_type valid. c.in_err-read_set-in-OR.ensures.read w (Some (codes "SET_OF")) rest outer of_type valid))
 
 pub read_alternative-returns-in-OR-clause-read : goal.read_alternative-returns-in-OR-clause-read
 read_alternative-returns-in-OR-clause-read g t c =
-    chosen_read g.D.Decoder.reader filter_alternatives filter_pick ghosts.eq Or (value_meaning (tagged (context 1) (set_of_type (λ filters. filters) inner_filter))) or_says c.args.tag (of_number 1 c.args.tag (omega arith)) _ _ _ (λ w rest outer of_type valid at. moved_as g.D.Decoder.reader (c.in_ok-filters-in-OR.ensures.read w (Some (codes "SET_OF")) rest outer of_type valid at) (or_equal c.in_ok-filters-in-OR.filters w))
+    chosen_read g.D.Decoder.reader filter_alternatives filter_pick ghosts.eq Or (value_meaning (tagged (context 1) (set_of_type (λ filters. filters) inner_filter))) or_says c.args.tag (of_number 1 c.args.tag (omega arith)) _ _ _ (λ w rest outer of_type valid at. moved_as g.D.Decoder.reader (c.in_ok-read_set-in-OR.ensures.read w (Some (codes "SET_OF")) rest outer of_type valid at) (or_equal c.in_ok-read_set-in-OR.field-0 w))
 
 pub read_alternative-returns-in_err-inner-in-NOT-clause-read : goal.read_alternative-returns-in_err-inner-in-NOT-clause-read
 read_alternative-returns-in_err-inner-in-NOT-clause-read g t c =
@@ -93,14 +93,14 @@ pub read_alternative-returns-in-Ok-clause-read : goal.read_alternative-returns-i
 read_alternative-returns-in-Ok-clause-read g t c =
     chosen_read g.D.Decoder.reader filter_alternatives filter_pick ghosts.eq Not (λ b. chosen_meaning (all_of filter_alternatives) (filter_pick (Not b))) (λ w. refl) c.args.tag (of_number 2 c.args.tag (omega arith)) _ _ _ (λ b rest outer of_type valid at. moved_as g.D.Decoder.reader (c.in_ok-inner-in-NOT.ensures.read b.value (Some (codes "Filter")) rest outer filter_can.1 of_type valid (inl tt) at) (λ same. not_equal c.in-Ok.inner b (rw c.in-Ok.ensures.ok same)))
 
-pub read_alternative-returns-in_err-name-in-PRESENT-clause-read : goal.read_alternative-returns-in_err-name-in-PRESENT-clause-read
-read_alternative-returns-in_err-name-in-PRESENT-clause-read g t c =
-    let p = err_from_is_err_and c.from_residual-in_err-name-in-PRESENT.result c.from_residual-in_err-name-in-PRESENT.ensures.1 in
-    rw (p.1, p.2) (chosen_not_read g.D.Decoder.reader filter_alternatives filter_pick ghosts.eq Present (value_meaning (tagged (context 7) octet_string)) (λ w. refl) c.args.tag (of_number 7 c.args.tag (omega arith)) _ c.args.decoder.now (λ w rest outer of_type valid. c.in_err-name-in-PRESENT.ensures.read w (Some (codes "OCTET_STRING")) rest outer refl of_type valid (inl tt)))
+pub read_alternative-returns-in_err-decode_with_tag-in-PRESENT-clause-read : goal.read_alternative-returns-in_err-decode_with_tag-in-PRESENT-clause-read
+read_alternative-returns-in_err-decode_with_tag-in-PRESENT-clause-read g t c =
+    let p = err_from_is_err_and c.from_residual-in_err-decode_with_tag-in-PRESENT.result c.from_residual-in_err-decode_with_tag-in-PRESENT.ensures.1 in
+    rw (p.1, p.2) (chosen_not_read g.D.Decoder.reader filter_alternatives filter_pick ghosts.eq Present (value_meaning (tagged (context 7) octet_string)) (λ w. refl) c.args.tag (of_number 7 c.args.tag (omega arith)) _ c.args.decoder.now (λ w rest outer of_type valid. c.in_err-decode_with_tag-in-PRESENT.ensures.read w (Some (codes "OCTET_STRING")) rest outer refl of_type valid (inl tt)))
 
 pub read_alternative-returns-in-PRESENT-clause-read : goal.read_alternative-returns-in-PRESENT-clause-read
 read_alternative-returns-in-PRESENT-clause-read g t c =
-    chosen_read g.D.Decoder.reader filter_alternatives filter_pick ghosts.eq Present (value_meaning (tagged (context 7) octet_string)) (λ w. refl) c.args.tag (of_number 7 c.args.tag (omega arith)) _ _ _ (λ w rest outer of_type valid at. moved_as g.D.Decoder.reader (c.in_ok-name-in-PRESENT.ensures.read w (Some (codes "OCTET_STRING")) rest outer refl of_type valid (inl tt) at) (present_equal c.in_ok-name-in-PRESENT.name w))
+    chosen_read g.D.Decoder.reader filter_alternatives filter_pick ghosts.eq Present (value_meaning (tagged (context 7) octet_string)) (λ w. refl) c.args.tag (of_number 7 c.args.tag (omega arith)) _ _ _ (λ w rest outer of_type valid at. moved_as g.D.Decoder.reader (c.in_ok-decode_with_tag-in-PRESENT.ensures.read w (Some (codes "OCTET_STRING")) rest outer refl of_type valid (inl tt) at) (present_equal c.in_ok-decode_with_tag-in-PRESENT.field-0 w))
 
 pub read_alternative-returns-in_err-said-in-EQUALITY_MATCH-clause-read : goal.read_alternative-returns-in_err-said-in-EQUALITY_MATCH-clause-read
 read_alternative-returns-in_err-said-in-EQUALITY_MATCH-clause-read g t c = λ v rest outer distinct can.
@@ -156,16 +156,16 @@ pub read_alternative-returns-in-EXTENSIBLE_MATCH-clause-read : goal.read_alterna
 read_alternative-returns-in-EXTENSIBLE_MATCH-clause-read g t c = λ v rest outer distinct can.
     chosen_read g.D.Decoder.reader filter_alternatives filter_pick ghosts.eq ExtensibleMatch (value_meaning (tagged (context 9) matching_rule.meaning)) (λ w. refl) c.args.tag (of_number 9 c.args.tag (omega arith)) _ _ _ (λ w rest outer of_type valid at. moved_as g.D.Decoder.reader (c.in_ok-said-in-EXTENSIBLE_MATCH.ensures.read w (Some (codes "MatchingRuleAssertion")) rest outer can.1.1.1.1.1.1.1.1.1.0.0.1 of_type valid (inl can.1.1.1.1.1.1.1.1.1.0.0.0) at) (extensible_equal c.in_ok-said-in-EXTENSIBLE_MATCH.said w)) v rest outer distinct can
 
-pub read_alternative-returns-in_err-filters-in-AND-clause-unknown : goal.read_alternative-returns-in_err-filters-in-AND-clause-unknown
-read_alternative-returns-in_err-filters-in-AND-clause-unknown g t c =
+pub read_alternative-returns-in_err-read_set-in-AND-clause-unknown : goal.read_alternative-returns-in_err-read_set-in-AND-clause-unknown
+read_alternative-returns-in_err-read_set-in-AND-clause-unknown g t c =
     let is : c.args.tag ≡ context 0 = search rules in λ lacks. absurd (lacks.0 (is_had 0 c.args.tag is))
 
 pub read_alternative-returns-in-AND-clause-unknown : goal.read_alternative-returns-in-AND-clause-unknown
 read_alternative-returns-in-AND-clause-unknown g t c =
     let is : c.args.tag ≡ context 0 = search rules in λ lacks. absurd (lacks.0 (is_had 0 c.args.tag is))
 
-pub read_alternative-returns-in_err-filters-in-OR-clause-unknown : goal.read_alternative-returns-in_err-filters-in-OR-clause-unknown
-read_alternative-returns-in_err-filters-in-OR-clause-unknown g t c =
+pub read_alternative-returns-in_err-read_set-in-OR-clause-unknown : goal.read_alternative-returns-in_err-read_set-in-OR-clause-unknown
+read_alternative-returns-in_err-read_set-in-OR-clause-unknown g t c =
     let is : c.args.tag ≡ context 1 = search rules in λ lacks. absurd (lacks.1.0 (is_had 1 c.args.tag is))
 
 pub read_alternative-returns-in-OR-clause-unknown : goal.read_alternative-returns-in-OR-clause-unknown
