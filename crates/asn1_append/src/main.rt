@@ -56,11 +56,13 @@ fn append_all(
 /// Takes the blocks that have come, at most this many, and answers how many there were.
 fn take_blocks(iter: &mut Iter<'_, (), BlockReader>, most: usize) -> usize {
     let mut blocks = 0usize;
-    for _index in 0..most {
-        match iter.next() {
-            Some(Ok(())) => blocks = blocks.saturating_add(1),
-            _ => return blocks,
-        }
+    while blocks < most && takes_block(iter) {
+        blocks += 1;
     }
     blocks
+}
+
+/// Takes a block, and answers whether there was one.
+fn takes_block(iter: &mut Iter<'_, (), BlockReader>) -> bool {
+    matches!(iter.next(), Some(Ok(())))
 }

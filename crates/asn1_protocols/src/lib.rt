@@ -1,4 +1,4 @@
-//! Types of protocols, as their users write them: code and clauses name `asn1_schema` alone.
+//! Types of protocols, written and read.
 //!
 //! | Module | What it has | Kinds of type that no other sample has |
 //! |---|---|---|
@@ -7,10 +7,11 @@
 //!
 //! What the contracts promise:
 //!
-//! - Each type can be inside other types (`ldap_message_is_well_tagged` and the like). Tables, meaning and writer are proved to say the
-//!   same. The types are read too.
-//! - A component that is its default is written as absent (`no_children_are_absent` of [`personnel`]), and a type with a tag of its own is under it (`bind_request_records` of [`ldap`]).
-#![tactic(auto, using(asn1_schema::proofs::Trees::tree_shapes))]
+//! - Each type can be inside other types (`bind_request_is_well_tagged` and the like). Tables, meaning, writer and reader are proved
+//!   to say the same.
+//! - A component that is its default is written as absent (`no_children_are_absent` of [`personnel`]), and a type with a tag of its
+//!   own is under it (`bind_request_records` of [`ldap`]).
+#![tactic(auto, using(asn1_tags::proofs::Leaves::tree_shapes))]
 
 pub mod ldap;
 pub mod personnel;

@@ -1,13 +1,18 @@
 //! `BindRequest ::= [APPLICATION 0] SEQUENCE { version INTEGER (1..127), name LDAPDN, simple [0] OCTET STRING }` (RFC 4511, 4.2),
 //! of whose kinds of authentication only one is here.
 ghost use Rattle.std.specs.Prelude.{Some, [], codes, pos, ◌∷◌, ◌≡◌};
-ghost use Rattle.asn1_schema.specs.Words.{IsWellTagged, Range, application, constructed_agrees, constructed_type_under, context, holding, lines, number, octet, own_records, required_slot, scalar, sequence_head, sequence_of_slots, tagged, unconstrained, units, universal, untagged, values_of};
+ghost use Rattle.asn1_protocols.specs.TagClasses.{application};
+ghost use Rattle.asn1_slots.specs.Slots.{required_slot, sequence_of_slots};
+ghost use Rattle.asn1_types.specs.Words.{IsWellTagged, Range, constructed_agrees, constructed_type_under, context, holding, lines, number, octet, own_records, scalar, sequence_head, tagged, unconstrained, units, universal, untagged, values_of};
 
-use asn1_schema::{
-    AsnType, Class, ConstrainedInteger, Constraints, ConstructedType, Decode, DecodeByPlace,
-    DecodeError, Decoded, Decoder, Encode, EncodeError, EncodeFields, Encoder, Field, FieldTable,
-    Identifier, OctetString, Tag, Tagging, TypeTable, decode_sequence_by_place, filled, required,
+use asn1_dec::{Decode, DecodeError, Decoder};
+use asn1_enc::{Encode, EncodeError, EncodeFields, Encoder};
+use asn1_slots::{DecodeByPlace, Decoded, Tagging, decode_sequence_by_place, filled, required};
+use asn1_strings::OctetString;
+use asn1_types::{
+    AsnType, Class, Constraints, ConstructedType, Field, FieldTable, Identifier, Tag, TypeTable,
 };
+use asn1_values::ConstrainedInteger;
 use std::alloc::Global;
 
 /// `INTEGER (1..127)`

@@ -8,15 +8,19 @@
 //! }
 //! ```
 ghost use Rattle.std.specs.Prelude.{[], codes, refl, ◌∷◌};
-ghost use Rattle.asn1_schema.specs.Words.{IsWellTagged, application, choice_agrees, choice_of, choice_of_cases, inl, inr, tagged, untagged, variant};
+ghost use Rattle.asn1_protocols.specs.TagClasses.{application};
+ghost use Rattle.asn1_slots.specs.Cases.{choice_of_cases, variant};
+ghost use Rattle.asn1_types.specs.Words.{IsWellTagged, choice_agrees, choice_of, inl, inr, tagged, untagged};
 ghost use Rattle.asn1_protocols.specs.declared.ldap.protocol_op.ProtocolOp.TheVariants.{Bind, Unbind, Delete};
 
 use crate::ldap::BindRequest;
 use crate::ldap::bind_request::BIND_REQUEST;
-use asn1_schema::{
-    AsnType, Choice, ChoiceType, Class, Constraints, Decode, DecodeChoice, DecodeChoiceByPlace,
-    DecodeError, Decoder, Encode, EncodeChoice, EncodeError, Encoder, Identifier, OctetString, Tag,
-    TagTree, Tagging, TypeTable, alternative, from_tag_by_place,
+use asn1_dec::{Decode, DecodeChoice, DecodeError, Decoder};
+use asn1_enc::{Encode, EncodeChoice, EncodeError, Encoder};
+use asn1_slots::{DecodeChoiceByPlace, Tagging, alternative, from_tag_by_place};
+use asn1_strings::OctetString;
+use asn1_types::{
+    AsnType, Choice, ChoiceType, Class, Constraints, Identifier, Tag, TagTree, TypeTable,
 };
 
 /// What is asked.

@@ -1,12 +1,14 @@
 //! `ChildInformation ::= SET { name Name, dateOfBirth [0] Date }`
 ghost use Rattle.std.specs.Prelude.{[], codes, refl, ◌∷◌};
-ghost use Rattle.asn1_schema.specs.Words.{IsWellTagged, constructed_agrees, constructed_type, context, explicitly_tagged, required_slot, set_of_slots, untagged};
+ghost use Rattle.asn1_slots.specs.Slots.{required_slot, set_of_slots};
+ghost use Rattle.asn1_types.specs.Words.{IsWellTagged, constructed_agrees, constructed_type, context, explicitly_tagged, untagged};
 
 use crate::personnel::{Date, Name};
-use asn1_schema::{
-    AsnType, Class, Constraints, ConstructedType, Decode, DecodeError, DecodeSetByPlace, Decoded,
-    Decoder, Encode, EncodeError, EncodeFields, Encoder, Field, FieldTable, Identifier, Tag,
-    Tagging, TypeTable, decode_set_by_place, filled, once,
+use asn1_dec::{Decode, DecodeError, Decoder};
+use asn1_enc::{Encode, EncodeError, EncodeFields, Encoder};
+use asn1_slots::{DecodeSetByPlace, Decoded, Tagging, decode_set_by_place, filled, once};
+use asn1_types::{
+    AsnType, Class, Constraints, ConstructedType, Field, FieldTable, Identifier, Tag, TypeTable,
 };
 use std::alloc::Global;
 

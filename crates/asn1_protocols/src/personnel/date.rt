@@ -1,13 +1,14 @@
 //! `Date ::= [APPLICATION 3] IMPLICIT VisibleString -- YYYYMMDD`
 ghost use Rattle.std.specs.Prelude.{◌≡◌, [], ◌∷◌, All, IsTrue, Some, codes};
-ghost use Rattle.asn1_schema.specs.Words.{IsWellTagged, application, own_records, scalar, unconstrained, units, visible};
-ghost use Rattle.asn1_schema.specs.model.Kinds.{scalar_type, under_own_name};
-ghost use Rattle.asn1_schema.specs.strings.Alphabets.{is_visible};
+ghost use Rattle.asn1_protocols.specs.TagClasses.{application};
+ghost use Rattle.asn1_types.specs.Words.{IsWellTagged, own_records, scalar, unconstrained, units, visible};
+ghost use Rattle.asn1_model.specs.Kinds.{scalar_type, under_own_name};
+ghost use Rattle.asn1_strings.specs.Alphabets.{is_visible};
 
-use asn1_schema::{
-    AsnType, Class, Constraints, Decode, DecodeError, Decoder, Encode, EncodeError, Encoder,
-    Identifier, Tag, TypeTable, VisibleString,
-};
+use asn1_dec::{Decode, DecodeError, Decoder};
+use asn1_enc::{Encode, EncodeError, Encoder};
+use asn1_strings::VisibleString;
+use asn1_types::{AsnType, Class, Constraints, Identifier, Tag, TypeTable};
 
 /// A day. That its text is one is left to whoever makes it.
 #[derive(PartialEq, Eq, Debug, Drop)]

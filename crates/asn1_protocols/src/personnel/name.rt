@@ -1,11 +1,15 @@
 //! `Name ::= [APPLICATION 1] IMPLICIT SEQUENCE { givenName VisibleString, initial VisibleString, familyName VisibleString }`
 ghost use Rattle.std.specs.Prelude.{[], codes, ◌∷◌};
-ghost use Rattle.asn1_schema.specs.Words.{IsWellTagged, application, constructed_agrees, constructed_type_under, required_slot, sequence_of_slots, untagged};
+ghost use Rattle.asn1_protocols.specs.TagClasses.{application};
+ghost use Rattle.asn1_slots.specs.Slots.{required_slot, sequence_of_slots};
+ghost use Rattle.asn1_types.specs.Words.{IsWellTagged, constructed_agrees, constructed_type_under, untagged};
 
-use asn1_schema::{
-    AsnType, Class, Constraints, ConstructedType, Decode, DecodeByPlace, DecodeError, Decoded,
-    Decoder, Encode, EncodeError, EncodeFields, Encoder, Field, FieldTable, Identifier, Tag,
-    Tagging, TypeTable, VisibleString, decode_sequence_by_place, filled, required,
+use asn1_dec::{Decode, DecodeError, Decoder};
+use asn1_enc::{Encode, EncodeError, EncodeFields, Encoder};
+use asn1_slots::{DecodeByPlace, Decoded, Tagging, decode_sequence_by_place, filled, required};
+use asn1_strings::VisibleString;
+use asn1_types::{
+    AsnType, Class, Constraints, ConstructedType, Field, FieldTable, Identifier, Tag, TypeTable,
 };
 use std::alloc::Global;
 

@@ -12,14 +12,19 @@
 //! EmployeeNumber ::= [APPLICATION 2] IMPLICIT INTEGER
 //! ```
 ghost use Rattle.std.specs.Prelude.{Some, [], codes, refl, ◌++◌, ◌∷◌, ◌≡◌};
-ghost use Rattle.asn1_schema.specs.Words.{IsWellTagged, absent, application, constructed_agrees, constructed_type_under, context, default_slot_by, explicit_tag, explicitly_tagged, holding, in_root, is_empty_list, lines, number, own_records, presence_mark, required_slot, scalar, set_head, set_of_slots, tagged, unconstrained, units, universal, untagged, visible};
+ghost use Rattle.asn1_protocols.specs.TagClasses.{application};
+ghost use Rattle.asn1_slots.specs.Slots.{default_slot_by, is_empty_list, required_slot, set_of_slots};
+ghost use Rattle.asn1_types.specs.Words.{IsWellTagged, absent, constructed_agrees, constructed_type_under, context, explicit_tag, explicitly_tagged, holding, in_root, lines, number, own_records, presence_mark, scalar, set_head, tagged, unconstrained, units, universal, untagged, visible};
 
 use crate::personnel::{ChildInformation, Date, Name};
-use asn1_schema::{
-    AsnType, Class, Constraints, ConstructedType, Decode, DecodeError, DecodeSetByPlace, Decoded,
-    Decoder, Encode, EncodeError, EncodeFields, Encoder, Field, FieldTable, Identifier, Integer,
-    Tag, Tagging, TypeTable, VisibleString, decode_set_by_place, filled, once, or_empty,
+use asn1_dec::{Decode, DecodeError, Decoder};
+use asn1_enc::{Encode, EncodeError, EncodeFields, Encoder};
+use asn1_slots::{DecodeSetByPlace, Decoded, Tagging, decode_set_by_place, filled, once, or_empty};
+use asn1_strings::VisibleString;
+use asn1_types::{
+    AsnType, Class, Constraints, ConstructedType, Field, FieldTable, Identifier, Tag, TypeTable,
 };
+use asn1_values::Integer;
 use std::alloc::Global;
 
 /// `SEQUENCE OF ChildInformation`

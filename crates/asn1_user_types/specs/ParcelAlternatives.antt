@@ -1,0 +1,41 @@
+-- Parcel ::= CHOICE { letter NULL, inner [0] Parcel }
+use Rattle.std.specs.Prelude.{[], ◌∷◌, codes}
+use Rattle.std.proofs.Common.{inl, inr}
+use Rattle.asn1_schema.specs.model.Tags.{context}
+use Rattle.asn1_schema.specs.model.contracts.impls.null.UnitAsnType.TheImpl.{ghosts as null}
+use Rattle.asn1_schema.specs.model.Meaning.{Meaning}
+use Rattle.asn1_schema.specs.model.Tables.{Line, Table}
+use Rattle.asn1_schema.specs.model.TaggedTypes.{tagged, untagged}
+use Rattle.asn1_schema.specs.choices.Alternatives.{Alternatives, OneOf, SaysTheSame, ValueMeaning, all_of, alternative, closed, chosen_meaning, says_itself, value_meaning}
+use Rattle.asn1_schema.specs.choices.ChoiceTypes.{alternatives_with_itself, choice_holding_itself, itself_under, table_with_itself}
+use Rattle.asn1_user_types.specs.declared.parcel.Parcel.{Parcel, Letter, Inner'}
+
+-- the alternatives, beside what a value inside another is to them
+abbrev pub parcel_alternatives_with : Meaning Parcel → Alternatives
+parcel_alternatives_with itself = closed (
+    alternative (codes "letter") (untagged null.meaning) ∷
+    alternative (codes "inner") (tagged (context 0) itself) ∷ [])
+
+abbrev pub parcel_table : Table Line
+parcel_table = table_with_itself (codes "Parcel") parcel_alternatives_with
+
+-- what the chosen alternative says of each value
+abbrev pub parcel_means : Parcel → ValueMeaning
+parcel_means Letter = value_meaning (untagged null.meaning) tt
+parcel_means (Inner' p inner) = itself_under (codes "Parcel") parcel_table (context 0)
+    (parcel_means inner)
+
+abbrev pub parcel_alternatives : Alternatives
+parcel_alternatives = alternatives_with_itself (codes "Parcel") parcel_alternatives_with parcel_means
+
+abbrev pub parcel_pick : Parcel → OneOf (all_of parcel_alternatives)
+parcel_pick Letter = inl tt
+parcel_pick (Inner' p inner) = inr (inl inner)
+
+pub parcel_agrees : (v : Parcel) → SaysTheSame (parcel_means v) (chosen_meaning (all_of parcel_alternatives) (parcel_pick v))
+parcel_agrees Letter = says_itself
+parcel_agrees (Inner' p inner) = says_itself
+
+-- What a value means.
+abbrev pub parcel_meaning : Meaning Parcel
+parcel_meaning = choice_holding_itself (codes "Parcel") parcel_alternatives_with parcel_means parcel_pick parcel_agrees

@@ -1,0 +1,83 @@
+//! `Currency ::= ENUMERATED { euro(0), yen(1) }`
+ghost use Rattle.std.specs.Prelude.{[], codes, pos, refl, ◌∷◌};
+ghost use Rattle.asn1_schema.specs.Words.{IsWellTagged, by_test, closed_enumeration, enumeration_agrees, enumeration_type, item};
+ghost use Rattle.asn1_user_types.specs.declared.currency.Currency.TheVariants.{Euro, Yen};
+
+use asn1_schema::{
+    AsnType, Constraints, Decode, DecodeError, Decoder, Encode, EncodeError, Encoder, Enumerated,
+    EnumeratedType, EnumerationItem, Identifier, Tag, TypeTable, item,
+};
+
+/// In what a price is paid.
+#[derive(Clone, Copy, PartialEq, Eq, Debug)]
+pub enum Currency {
+    /// `euro(0)`
+    Euro,
+    /// `yen(1)`
+    Yen,
+}
+
+const ITEMS: &[EnumerationItem<Currency>] = &[
+    item!(Currency::Euro, 0, "euro"),
+    item!(Currency::Yen, 1, "yen"),
+];
+
+impl Enumerated for Currency {
+    ghost enumeration = { closed_enumeration
+        (item Euro (pos 0) (codes "euro") ∷ item Yen (pos 1) (codes "yen") ∷ []) };
+
+    ghost complete = { elim [ Euro ↦ refl | Yen ↦ refl ] };
+
+    ghost lawful = { by_test refl };
+
+    fn items() -> &'static [EnumerationItem<Currency>] {
+        ITEMS
+    }
+
+    fn added_items() -> Option<&'static [EnumerationItem<Currency>]> {
+        None
+    }
+}
+
+impl AsnType for Currency {
+    ghost meaning = { enumeration_type (codes "Currency") ⟦<Currency as Enumerated>⟧.enumeration ⟦<Currency as PartialEq>⟧.eq };
+
+    fn table() -> TypeTable {
+        TypeTable::new(Tag::ENUMERATED, Identifier(Some("Currency")))
+    }
+
+    fn is_present(&self) -> bool {
+        true
+    }
+}
+
+impl EnumeratedType for Currency {
+    ghost agrees = { enumeration_agrees };
+}
+
+/// A `Currency` can be inside other types.
+pub fn currency_is_well_tagged()
+    ensures { IsWellTagged ⟦<Currency as AsnType>⟧.meaning }
+{}
+
+impl Encode for Currency {
+    fn encode_with_tag_and_constraints<E: Encoder>(
+        &self,
+        encoder: &mut E,
+        tag: Tag,
+        _constraints: &Constraints<'_>,
+        name: Identifier,
+    ) -> Result<(), EncodeError> {
+        encoder.encode_enumerated(tag, self, name)
+    }
+}
+
+impl Decode for Currency {
+    fn decode_with_tag_and_constraints<D: Decoder>(
+        decoder: &mut D,
+        tag: Tag,
+        _constraints: &Constraints<'_>,
+    ) -> Result<Currency, DecodeError> {
+        decoder.decode_enumerated(tag)
+    }
+}

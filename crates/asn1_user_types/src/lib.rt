@@ -1,0 +1,34 @@
+//! Types of a shop, as a user of the layer writes them: code, clauses and proofs name `asn1_schema` alone.
+//!
+//! | Type | What it is |
+//! |---|---|
+//! | [`Price`] | a SEQUENCE |
+//! | [`Currency`] | an ENUMERATED |
+//! | [`Payment`] | a CHOICE |
+//! | [`Order`] | a SET, with a SET OF inside |
+//! | [`Signed`] | a SEQUENCE of any type |
+//! | [`Parcel`] | a CHOICE that holds itself |
+//!
+//! What the contracts promise:
+//!
+//! - Each type is written and read by any codec, and can be inside other types (`price_is_well_tagged` and the like).
+//! - A signed order is read back as it was written, by any codec (`signed_order_comes_back`).
+//!
+//! So one name in `crates.txt` is enough for each kind of type. `asn1_samples` and `asn1_recursive` have more of each kind, over the
+//! crates below `asn1_schema`.
+#![tactic(auto, using(asn1_schema::proofs::Trees::tree_shapes))]
+
+mod currency;
+mod order;
+mod parcel;
+mod parcel_reader;
+mod payment;
+mod price;
+mod signed;
+
+pub use currency::{Currency, currency_is_well_tagged};
+pub use order::{Order, order_is_well_tagged};
+pub use parcel::{Parcel, parcel_is_well_tagged};
+pub use payment::{Payment, payment_is_well_tagged};
+pub use price::{Price, price_is_well_tagged};
+pub use signed::{Signed, signed_is_well_tagged, signed_order_comes_back};

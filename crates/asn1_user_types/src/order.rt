@@ -1,0 +1,135 @@
+//! `Order ::= SET { price Price, goods SET OF UTF8String, payment [1] Payment }`
+ghost use Rattle.std.specs.Prelude.{[], codes, refl, ◌∷◌};
+ghost use Rattle.asn1_schema.specs.Words.{IsWellTagged, constructed_agrees, constructed_type, context, required_slot, set_of_slots, tagged, untagged};
+
+use crate::payment::Payment;
+use crate::price::Price;
+use asn1_schema::{
+    AsnType, Class, Constraints, ConstructedType, Decode, DecodeError, DecodeSetByPlace, Decoded,
+    Decoder, Encode, EncodeError, EncodeFields, Encoder, Field, FieldTable, Identifier, SetOf, Tag,
+    Tagging, TypeTable, Utf8String, decode_set_by_place, filled, once,
+};
+use std::alloc::Global;
+
+/// What is bought, in whatever order.
+pub type Goods = SetOf<Utf8String>;
+
+/// What someone buys.
+#[derive(PartialEq, Eq, Debug, Drop)]
+pub struct Order {
+    /// `price Price`
+    pub price: Price,
+    /// `goods SET OF UTF8String`
+    pub goods: Goods,
+    /// `payment [1] Payment`
+    pub payment: Payment,
+}
+
+const PAYMENT: Tag = Tag {
+    class: Class::Context,
+    value: 1,
+};
+
+impl DecodeSetByPlace for Order {
+    type Slots = (Option<Price>, Option<Goods>, Option<Payment>);
+
+    ghost layout = { required_slot (codes "price") (λ o. o.price) (λ s. s.0) (untagged ⟦<Price as AsnType>⟧.meaning) ⟦<Price as PartialEq>⟧.eq ∷
+        required_slot (codes "goods") (λ o. o.goods) (λ s. s.1) (untagged ⟦<Goods as AsnType>⟧.meaning) ⟦<Goods as PartialEq>⟧.eq ∷
+        required_slot (codes "payment") (λ o. o.payment) (λ s. s.2) (tagged (context 1) ⟦<Payment as AsnType>⟧.meaning) ⟦<Payment as PartialEq>⟧.eq ∷ [] };
+
+    fn from_slots(_alloc: Global, slots: Self::Slots) -> Result<Order, DecodeError> {
+        Ok(Order {
+            price: filled(slots.0, "price")?,
+            goods: filled(slots.1, "goods")?,
+            payment: filled(slots.2, "payment")?,
+        })
+    }
+
+    fn decode_field<D: Decoder>(place: usize, slots: &mut Self::Slots, decoder: &mut D) -> Decoded {
+        match place {
+            0 => once(&mut slots.0, decoder, Tagging::Untagged, "price"),
+            1 => once(&mut slots.1, decoder, Tagging::Untagged, "goods"),
+            2 => once(&mut slots.2, decoder, Tagging::Tagged(PAYMENT), "payment"),
+            _ => Ok(()),
+        }
+    }
+
+    ghost no_group = { refl };
+
+    ghost empty_at_first = { λ slots empty. (empty.0, (empty.1, empty.2)) };
+}
+
+impl FieldTable for Order {
+    ghost components = { set_of_slots ⟦<Order as DecodeSetByPlace>⟧.layout };
+
+    fn field_count() -> usize {
+        3
+    }
+
+    fn field_at(place: usize) -> Option<Field<'static>> {
+        match place {
+            0 => Some(Field::new_required_type::<Price>(0, "price")),
+            1 => Some(Field::new_required_type::<Goods>(1, "goods")),
+            2 => Some(Field::new_required_type_with_tag::<Payment>(2, PAYMENT, "payment")),
+            _ => None,
+        }
+    }
+
+    fn marker_place() -> Option<usize> {
+        None
+    }
+}
+
+impl AsnType for Order {
+    ghost meaning = { constructed_type (codes "Order") ⟦<Order as FieldTable>⟧.components };
+
+    fn table() -> TypeTable {
+        TypeTable::new(Tag::SET, Identifier(Some("Order")))
+    }
+
+    fn is_present(&self) -> bool {
+        true
+    }
+}
+
+impl ConstructedType for Order {
+    ghost agrees = { constructed_agrees };
+}
+
+/// An `Order` can be inside other types: no two of its components share a tag.
+pub fn order_is_well_tagged()
+    ensures { IsWellTagged ⟦<Order as AsnType>⟧.meaning }
+{}
+
+impl Encode for Order {
+    fn encode_with_tag_and_constraints<E: Encoder>(
+        &self,
+        encoder: &mut E,
+        tag: Tag,
+        _constraints: &Constraints<'_>,
+        name: Identifier,
+    ) -> Result<(), EncodeError> {
+        encoder.encode_set(tag, self, name)
+    }
+}
+
+impl EncodeFields for Order {
+    fn encode_field<E: Encoder>(&self, place: usize, encoder: &mut E) -> Result<(), EncodeError> {
+        match place {
+            0 => self.price.encode(encoder),
+            1 => self.goods.encode(encoder),
+            2 => self.payment.encode_with_tag(encoder, PAYMENT),
+            _ => Ok(()),
+        }
+    }
+}
+
+impl Decode for Order {
+    fn decode_with_tag_and_constraints<D: Decoder>(
+        decoder: &mut D,
+        tag: Tag,
+        _constraints: &Constraints<'_>,
+    ) -> Result<Order, DecodeError> {
+        decode_set_by_place(decoder, tag)
+    }
+}
