@@ -1,4 +1,5 @@
 use Rattle.std.proofs.lemmas.Result.{err_from_is_err_and}
+use Rattle.asn1_values.specs.contracts.integer.order.IntegerPartialEq.TheImpl.{ghosts as integers}
 use Rattle.asn1_x509.proofs.FilledSlots.{both, default_holds, empty_holds_nothing, filled_holds, is_later, is_this}
 use Rattle.asn1_x509.proofs.tbs_certificate.TbsCertificateDecodeByPlace.from_slots.Goals as goal
 
@@ -58,7 +59,7 @@ returns-in_err-filled-6-clause-missing c =
 
 pub returns-clause-made : goal.returns-clause-made
 returns-clause-made c = λ v held.
-    both (default_holds _ _ _ _ _ c.args.slots.0 c.or_default.ensures c.from_i128.ensures held.0) (both (filled_holds _ c.args.slots.1 c.in_ok-filled.field-0 _ c.in_ok-filled.ensures held.1.0) (both (filled_holds _ c.args.slots.2 c.in_ok-filled-2.field-0 _ c.in_ok-filled-2.ensures held.1.1.0) (both (filled_holds _ c.args.slots.3 c.in_ok-filled-3.field-0 _ c.in_ok-filled-3.ensures held.1.1.1.0) (both (filled_holds _ c.args.slots.4 c.in_ok-filled-4.field-0 _ c.in_ok-filled-4.ensures held.1.1.1.1.0) (both (filled_holds _ c.args.slots.5 c.in_ok-filled-5.field-0 _ c.in_ok-filled-5.ensures held.1.1.1.1.1.0) (both (filled_holds _ c.args.slots.6 c.in_ok-filled-6.field-0 _ c.in_ok-filled-6.ensures held.1.1.1.1.1.1.0) (both held.1.1.1.1.1.1.1.0 (both held.1.1.1.1.1.1.1.1.0 held.1.1.1.1.1.1.1.1.1.0))))))))
+    both (default_holds integers.eq c.or_default.result _ _ v.version c.args.slots.0 c.or_default.ensures c.from_i128.ensures held.0) (both (filled_holds _ c.args.slots.1 c.in_ok-filled.field-0 _ c.in_ok-filled.ensures held.1.0) (both (filled_holds _ c.args.slots.2 c.in_ok-filled-2.field-0 _ c.in_ok-filled-2.ensures held.1.1.0) (both (filled_holds _ c.args.slots.3 c.in_ok-filled-3.field-0 _ c.in_ok-filled-3.ensures held.1.1.1.0) (both (filled_holds _ c.args.slots.4 c.in_ok-filled-4.field-0 _ c.in_ok-filled-4.ensures held.1.1.1.1.0) (both (filled_holds _ c.args.slots.5 c.in_ok-filled-5.field-0 _ c.in_ok-filled-5.ensures held.1.1.1.1.1.0) (both (filled_holds _ c.args.slots.6 c.in_ok-filled-6.field-0 _ c.in_ok-filled-6.ensures held.1.1.1.1.1.1.0) (both held.1.1.1.1.1.1.1.0 (both held.1.1.1.1.1.1.1.1.0 held.1.1.1.1.1.1.1.1.1.0))))))))
 
 pub returns-clause-missing : goal.returns-clause-missing
 returns-clause-missing c = is_later _ c.args.slots.1 c.in_ok-filled.field-0 _ _ c.in_ok-filled.ensures (is_later _ c.args.slots.2 c.in_ok-filled-2.field-0 _ _ c.in_ok-filled-2.ensures (is_later _ c.args.slots.3 c.in_ok-filled-3.field-0 _ _ c.in_ok-filled-3.ensures (is_later _ c.args.slots.4 c.in_ok-filled-4.field-0 _ _ c.in_ok-filled-4.ensures (is_later _ c.args.slots.5 c.in_ok-filled-5.field-0 _ _ c.in_ok-filled-5.ensures (is_later _ c.args.slots.6 c.in_ok-filled-6.field-0 _ _ c.in_ok-filled-6.ensures tt)))))
