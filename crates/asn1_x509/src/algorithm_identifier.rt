@@ -1,12 +1,17 @@
 //! `AlgorithmIdentifier ::= SEQUENCE { algorithm OBJECT IDENTIFIER, parameters ANY DEFINED BY algorithm OPTIONAL }`
-ghost use Rattle.std.specs.Prelude.{Bool, IfSome, IsTrue, List, [], codes, ℕ, ◌↔◌, ◌∷◌};
-ghost use Rattle.asn1_schema.specs.Words.{IsWellTagged, constructed_agrees, constructed_type, optional_slot, required_slot, sequence_of_slots, untagged};
+ghost use Rattle.std.specs.Prelude.{Bool, List, [], codes, ℕ, ◌↔◌, ◌∷◌};
+ghost use Rattle.asn1_slots.specs.Slots.{optional_slot, required_slot, sequence_of_slots};
+ghost use Rattle.asn1_types.specs.Words.{IsWellTagged, constructed_agrees, constructed_type, untagged};
+ghost use Rattle.asn1_x509.specs.OpenValues.{ParametersAreTaken};
 
-use asn1_schema::{
-    Any, AsnType, Constraints, ConstructedType, Decode, DecodeByPlace, DecodeError, Decoded,
-    Decoder, Encode, EncodeError, EncodeFields, Encoder, Field, FieldTable, Identifier,
-    ObjectIdentifier, Tag, Tagging, TypeTable, decode_sequence_by_place, filled, optional,
-    required,
+use asn1_dec::{Decode, DecodeError, Decoder};
+use asn1_enc::{Encode, EncodeError, EncodeFields, Encoder};
+use asn1_slots::{
+    DecodeByPlace, Decoded, Tagging, decode_sequence_by_place, filled, optional, required,
+};
+use asn1_strings::ObjectIdentifier;
+use asn1_types::{
+    Any, AsnType, Constraints, ConstructedType, Field, FieldTable, Identifier, Tag, TypeTable,
 };
 use std::alloc::Global;
 
@@ -84,6 +89,13 @@ pub fn algorithm_identifier_is_well_tagged()
     ensures { IsWellTagged ⟦<AlgorithmIdentifier as AsnType>⟧.meaning }
 {}
 
+/// An `AlgorithmIdentifier` is valid if and only if the codec takes its parameters, where there are any.
+pub fn algorithm_identifier_is_valid(algorithm: &AlgorithmIdentifier)
+    ensures { (accepts : List ℕ → Bool) →
+        ⟦<AlgorithmIdentifier as AsnType>⟧.meaning.IsValid accepts algorithm.now ↔
+        ParametersAreTaken accepts algorithm.now }
+{}
+
 impl Encode for AlgorithmIdentifier {
     fn encode_with_tag_and_constraints<E: Encoder>(
         &self,
@@ -115,10 +127,3 @@ impl Decode for AlgorithmIdentifier {
         decode_sequence_by_place(decoder, tag)
     }
 }
-
-/// An `AlgorithmIdentifier` is valid if and only if the codec takes its parameters as one value, where there are any.
-pub fn algorithm_identifier_is_valid(algorithm: &AlgorithmIdentifier)
-    ensures { (accepts : List ℕ → Bool) →
-        ⟦<AlgorithmIdentifier as AsnType>⟧.meaning.IsValid accepts algorithm.now ↔
-        IfSome algorithm.now.parameters (λ parameters. IsTrue (accepts parameters)) }
-{}

@@ -1,12 +1,17 @@
 //! `Extension ::= SEQUENCE { extnID OBJECT IDENTIFIER, critical BOOLEAN DEFAULT FALSE, extnValue OCTET STRING }`
-ghost use Rattle.std.specs.Prelude.{[], codes, false, ◌∷◌};
-ghost use Rattle.asn1_schema.specs.Words.{IsWellTagged, constructed_agrees, constructed_type, default_slot, required_slot, sequence_of_slots, untagged};
+ghost use Rattle.std.specs.Prelude.{Bool, List, [], codes, false, ℕ, ◌∷◌};
+ghost use Rattle.asn1_slots.specs.Slots.{default_slot, required_slot, sequence_of_slots};
+ghost use Rattle.asn1_types.specs.Words.{IsWellTagged, constructed_agrees, constructed_type, untagged};
 
-use asn1_schema::{
-    AsnType, Constraints, ConstructedType, Decode, DecodeByPlace, DecodeError, Decoded, Decoder,
-    Encode, EncodeError, EncodeFields, Encoder, Field, FieldTable, Identifier, ObjectIdentifier,
-    OctetString, Tag, Tagging, TypeTable, decode_sequence_by_place, filled, optional, or_default,
+use asn1_dec::{Decode, DecodeError, Decoder};
+use asn1_enc::{Encode, EncodeError, EncodeFields, Encoder};
+use asn1_slots::{
+    DecodeByPlace, Decoded, Tagging, decode_sequence_by_place, filled, optional, or_default,
     required,
+};
+use asn1_strings::{ObjectIdentifier, OctetString};
+use asn1_types::{
+    AsnType, Constraints, ConstructedType, Field, FieldTable, Identifier, Tag, TypeTable,
 };
 use std::alloc::Global;
 
@@ -92,6 +97,12 @@ impl ConstructedType for Extension {
 /// An `Extension` can be inside other types.
 pub fn extension_is_well_tagged()
     ensures { IsWellTagged ⟦<Extension as AsnType>⟧.meaning }
+{}
+
+/// Each `Extension` is valid, whatever its value has in it.
+pub fn extension_is_valid(extension: &Extension)
+    ensures { (accepts : List ℕ → Bool) →
+        ⟦<Extension as AsnType>⟧.meaning.IsValid accepts extension.now }
 {}
 
 impl Encode for Extension {

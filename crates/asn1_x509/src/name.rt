@@ -1,13 +1,16 @@
 //! `Name ::= CHOICE { rdnSequence RDNSequence }`
-ghost use Rattle.std.specs.Prelude.{[], codes, refl, ◌∷◌};
-ghost use Rattle.asn1_schema.specs.Words.{IsWellTagged, choice_agrees, choice_of, choice_of_cases, inl, untagged, variant};
+ghost use Rattle.std.specs.Prelude.{Bool, List, [], codes, refl, ℕ, ◌↔◌, ◌∷◌};
+ghost use Rattle.asn1_slots.specs.Cases.{choice_of_cases, variant};
+ghost use Rattle.asn1_types.specs.Words.{IsWellTagged, choice_agrees, choice_of, inl, untagged};
+ghost use Rattle.asn1_x509.specs.OpenValues.{NameIsTaken};
 ghost use Rattle.asn1_x509.specs.declared.name.Name.TheVariants.{Rdns};
 
 use crate::attribute::AttributeTypeAndValue;
-use asn1_schema::{
-    AsnType, Choice, ChoiceType, Constraints, Decode, DecodeChoice, DecodeChoiceByPlace,
-    DecodeError, Decoder, Encode, EncodeChoice, EncodeError, Encoder, Identifier, SetOf, Tag,
-    TagTree, Tagging, TypeTable, alternative, from_tag_by_place,
+use asn1_dec::{Decode, DecodeChoice, DecodeError, Decoder};
+use asn1_enc::{Encode, EncodeChoice, EncodeError, Encoder};
+use asn1_slots::{DecodeChoiceByPlace, Tagging, alternative, from_tag_by_place};
+use asn1_types::{
+    AsnType, Choice, ChoiceType, Constraints, Identifier, SetOf, Tag, TagTree, TypeTable,
 };
 
 /// `RelativeDistinguishedName ::= SET SIZE (1..MAX) OF AttributeTypeAndValue`. That there is one is the caller's to see.
@@ -79,6 +82,13 @@ impl ChoiceType for Name {
 /// A `Name` can be inside other types.
 pub fn name_is_well_tagged()
     ensures { IsWellTagged ⟦<Name as AsnType>⟧.meaning }
+{}
+
+/// A `Name` is valid if and only if the codec takes the value of each of its attributes.
+pub fn name_is_valid(name: &Name)
+    ensures { (accepts : List ℕ → Bool) →
+        ⟦<Name as AsnType>⟧.meaning.IsValid accepts name.now ↔
+        NameIsTaken accepts name.now }
 {}
 
 impl Encode for Name {

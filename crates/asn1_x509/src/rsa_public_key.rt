@@ -1,12 +1,15 @@
 //! `RSAPublicKey ::= SEQUENCE { modulus INTEGER, publicExponent INTEGER }` (RFC 3279, 2.3.1)
-ghost use Rattle.std.specs.Prelude.{[], codes, ◌∷◌};
-ghost use Rattle.asn1_schema.specs.Words.{IsWellTagged, constructed_agrees, constructed_type, required_slot, sequence_of_slots, untagged};
+ghost use Rattle.std.specs.Prelude.{Bool, List, [], codes, ℕ, ◌∷◌};
+ghost use Rattle.asn1_slots.specs.Slots.{required_slot, sequence_of_slots};
+ghost use Rattle.asn1_types.specs.Words.{IsWellTagged, constructed_agrees, constructed_type, untagged};
 
-use asn1_schema::{
-    AsnType, Constraints, ConstructedType, Decode, DecodeByPlace, DecodeError, Decoded, Decoder,
-    Encode, EncodeError, EncodeFields, Encoder, Field, FieldTable, Identifier, Integer, Tag,
-    Tagging, TypeTable, decode_sequence_by_place, filled, required,
+use asn1_dec::{Decode, DecodeError, Decoder};
+use asn1_enc::{Encode, EncodeError, EncodeFields, Encoder};
+use asn1_slots::{DecodeByPlace, Decoded, Tagging, decode_sequence_by_place, filled, required};
+use asn1_types::{
+    AsnType, Constraints, ConstructedType, Field, FieldTable, Identifier, Tag, TypeTable,
 };
+use asn1_values::Integer;
 use std::alloc::Global;
 
 /// A key of RSA, which is inside the bits of a public key.
@@ -81,6 +84,12 @@ impl ConstructedType for RsaPublicKey {
 /// A `RsaPublicKey` can be inside other types.
 pub fn rsa_public_key_is_well_tagged()
     ensures { IsWellTagged ⟦<RsaPublicKey as AsnType>⟧.meaning }
+{}
+
+/// Each `RsaPublicKey` is valid.
+pub fn rsa_public_key_is_valid(key: &RsaPublicKey)
+    ensures { (accepts : List ℕ → Bool) →
+        ⟦<RsaPublicKey as AsnType>⟧.meaning.IsValid accepts key.now }
 {}
 
 impl Encode for RsaPublicKey {

@@ -1,13 +1,17 @@
 //! `SIGNED{ToBeSigned} ::= SEQUENCE { toBeSigned ToBeSigned, algorithmIdentifier AlgorithmIdentifier, encrypted BIT STRING }`
 //! (X.509, 6.2.1)
-ghost use Rattle.std.specs.Prelude.{Bool, IsTrue, IfSome, List, [], codes, ℕ, ◌↔◌, ◌∷◌};
-ghost use Rattle.asn1_schema.specs.Words.{IsWellTagged, constructed_agrees, constructed_type, required, required_slot, sequence, untagged};
+ghost use Rattle.std.specs.Prelude.{Bool, List, [], codes, ℕ, ◌↔◌, ◌∷◌};
+ghost use Rattle.asn1_slots.specs.Slots.{required_slot};
+ghost use Rattle.asn1_types.specs.Words.{IsWellTagged, constructed_agrees, constructed_type, required, sequence, untagged};
+ghost use Rattle.asn1_x509.specs.OpenValues.{ParametersAreTaken};
 
 use crate::algorithm_identifier::AlgorithmIdentifier;
-use asn1_schema::{
-    AsnType, BitString, Constraints, ConstructedType, Decode, DecodeByPlace, DecodeError, Decoded,
-    Decoder, Encode, EncodeError, EncodeFields, Encoder, Field, FieldTable, Identifier, Tag,
-    Tagging, TypeTable, decode_sequence_by_place, filled, required,
+use asn1_dec::{Decode, DecodeError, Decoder};
+use asn1_enc::{Encode, EncodeError, EncodeFields, Encoder};
+use asn1_slots::{DecodeByPlace, Decoded, Tagging, decode_sequence_by_place, filled, required};
+use asn1_strings::BitString;
+use asn1_types::{
+    AsnType, Constraints, ConstructedType, Field, FieldTable, Identifier, Tag, TypeTable,
 };
 use std::alloc::Global;
 
@@ -98,12 +102,12 @@ pub fn signed_is_well_tagged<T: AsnType>()
     ensures { IsWellTagged T.meaning → IsWellTagged ⟦<Signed<T> as AsnType>⟧.meaning }
 {}
 
-/// A `Signed` is valid if and only if what is signed is, and the algorithm.
+/// A `Signed` is valid if and only if what is signed is, and the codec takes the parameters of the algorithm, where there are any.
 pub fn signed_is_valid<T: AsnType>(signed: &Signed<T>)
     ensures { (accepts : List ℕ → Bool) →
         ⟦<Signed<T> as AsnType>⟧.meaning.IsValid accepts signed.now ↔
         (T.meaning.IsValid accepts signed.now.to_be_signed ×
-        IfSome signed.now.algorithm_identifier.parameters (λ parameters. IsTrue (accepts parameters))) }
+        ParametersAreTaken accepts signed.now.algorithm_identifier) }
 {}
 
 impl<T: Encode> Encode for Signed<T> {

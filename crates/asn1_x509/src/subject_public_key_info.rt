@@ -1,12 +1,16 @@
 //! `SubjectPublicKeyInfo ::= SEQUENCE { algorithm AlgorithmIdentifier, subjectPublicKey BIT STRING }`
-ghost use Rattle.std.specs.Prelude.{[], codes, ◌∷◌};
-ghost use Rattle.asn1_schema.specs.Words.{IsWellTagged, constructed_agrees, constructed_type, required_slot, sequence_of_slots, untagged};
+ghost use Rattle.std.specs.Prelude.{Bool, List, [], codes, ℕ, ◌↔◌, ◌∷◌};
+ghost use Rattle.asn1_slots.specs.Slots.{required_slot, sequence_of_slots};
+ghost use Rattle.asn1_types.specs.Words.{IsWellTagged, constructed_agrees, constructed_type, untagged};
+ghost use Rattle.asn1_x509.specs.OpenValues.{ParametersAreTaken};
 
 use crate::algorithm_identifier::AlgorithmIdentifier;
-use asn1_schema::{
-    AsnType, BitString, Constraints, ConstructedType, Decode, DecodeByPlace, DecodeError, Decoded,
-    Decoder, Encode, EncodeError, EncodeFields, Encoder, Field, FieldTable, Identifier, Tag,
-    Tagging, TypeTable, decode_sequence_by_place, filled, required,
+use asn1_dec::{Decode, DecodeError, Decoder};
+use asn1_enc::{Encode, EncodeError, EncodeFields, Encoder};
+use asn1_slots::{DecodeByPlace, Decoded, Tagging, decode_sequence_by_place, filled, required};
+use asn1_strings::BitString;
+use asn1_types::{
+    AsnType, Constraints, ConstructedType, Field, FieldTable, Identifier, Tag, TypeTable,
 };
 use std::alloc::Global;
 
@@ -82,6 +86,13 @@ impl ConstructedType for SubjectPublicKeyInfo {
 /// A `SubjectPublicKeyInfo` can be inside other types.
 pub fn subject_public_key_info_is_well_tagged()
     ensures { IsWellTagged ⟦<SubjectPublicKeyInfo as AsnType>⟧.meaning }
+{}
+
+/// A `SubjectPublicKeyInfo` is valid if and only if the codec takes the parameters of its algorithm, where there are any.
+pub fn subject_public_key_info_is_valid(key: &SubjectPublicKeyInfo)
+    ensures { (accepts : List ℕ → Bool) →
+        ⟦<SubjectPublicKeyInfo as AsnType>⟧.meaning.IsValid accepts key.now ↔
+        ParametersAreTaken accepts key.now.algorithm }
 {}
 
 impl Encode for SubjectPublicKeyInfo {

@@ -17,21 +17,28 @@
 //! CertificateSerialNumber ::= INTEGER
 //! UniqueIdentifier ::= BIT STRING
 //! ```
-ghost use Rattle.std.specs.Prelude.{None, Some, [], codes, pos, ◌++◌, ◌∷◌, ◌≡◌};
-ghost use Rattle.asn1_schema.specs.Words.{IsWellTagged, absent, constructed_agrees, constructed_type, context, default_slot, explicitly_tagged, holding, in_root, lines, optional_slot, own_records, presence_mark, required_slot, sequence_head, sequence_of_slots, tagged, universal, untagged};
+ghost use Rattle.std.specs.Prelude.{Bool, List, None, Some, [], codes, pos, ℕ, ◌++◌, ◌↔◌, ◌∷◌, ◌≡◌};
+ghost use Rattle.asn1_slots.specs.Slots.{default_slot, optional_slot, required_slot, sequence_of_slots};
+ghost use Rattle.asn1_types.specs.Words.{IsWellTagged, absent, constructed_agrees, constructed_type, context, explicitly_tagged, holding, in_root, lines, own_records, presence_mark, sequence_head, tagged, universal, untagged};
+ghost use Rattle.asn1_x509.specs.OpenValues.{SignedPartIsTaken};
 
 use crate::algorithm_identifier::AlgorithmIdentifier;
 use crate::extension::Extensions;
 use crate::name::Name;
 use crate::subject_public_key_info::SubjectPublicKeyInfo;
 use crate::validity::Validity;
-use asn1_schema::{
-    AsnType, BitString, Constraints, ConstructedType, Decode, DecodeByPlace, DecodeError, Decoded,
-    Decoder, Encode, EncodeError, EncodeFields, Encoder, Field, FieldTable, Identifier, Integer,
-    Tag, Tagging, TypeTable, decode_sequence_by_place, encode_explicit_optional, filled, optional,
-    or_default, required,
+use asn1_dec::{Decode, DecodeError, Decoder};
+use asn1_enc::{Encode, EncodeError, EncodeFields, Encoder, encode_explicit_optional};
+use asn1_slots::{
+    DecodeByPlace, Decoded, Tagging, decode_sequence_by_place, filled, optional, or_default,
+    required,
 };
+use asn1_strings::BitString;
 use asn1_tags::tag;
+use asn1_types::{
+    AsnType, Constraints, ConstructedType, Field, FieldTable, Identifier, Tag, TypeTable,
+};
+use asn1_values::Integer;
 use std::alloc::Global;
 
 /// `Version ::= INTEGER { v1(0), v2(1), v3(2) }`
@@ -198,6 +205,13 @@ impl ConstructedType for TbsCertificate {
 /// A `TbsCertificate` can be inside other types: what follows a component that may be absent begins with another tag.
 pub fn tbs_certificate_is_well_tagged()
     ensures { IsWellTagged ⟦<TbsCertificate as AsnType>⟧.meaning }
+{}
+
+/// A `TbsCertificate` is valid if and only if the codec takes what is open in it: whatever its extensions are, and its numbers.
+pub fn tbs_certificate_is_valid(certificate: &TbsCertificate)
+    ensures { (accepts : List ℕ → Bool) →
+        ⟦<TbsCertificate as AsnType>⟧.meaning.IsValid accepts certificate.now ↔
+        SignedPartIsTaken accepts certificate.now }
 {}
 
 impl Encode for TbsCertificate {

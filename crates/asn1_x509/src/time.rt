@@ -1,21 +1,24 @@
 //! `Time ::= CHOICE { utcTime UTCTime, generalTime GeneralizedTime }`
-ghost use Rattle.std.specs.Prelude.{[], codes, refl, ◌∷◌};
-ghost use Rattle.asn1_schema.specs.Words.{IsWellTagged, choice_agrees, choice_of, choice_of_cases, inl, inr, untagged, variant};
+ghost use Rattle.std.specs.Prelude.{Bool, List, [], codes, refl, ℕ, ◌∷◌};
+ghost use Rattle.asn1_slots.specs.Cases.{choice_of_cases, variant};
+ghost use Rattle.asn1_types.specs.Words.{IsWellTagged, choice_agrees, choice_of, inl, inr, untagged};
 ghost use Rattle.asn1_x509.specs.declared.time.Time.TheVariants.{Utc, General};
 
-use asn1_schema::{
-    AsnType, Choice, ChoiceType, Constraints, Decode, DecodeChoice, DecodeChoiceByPlace,
-    DecodeError, Decoder, Encode, EncodeChoice, EncodeError, Encoder, GeneralizedTime, Identifier,
-    Tag, TagTree, Tagging, TypeTable, UtcTime, alternative, from_tag_by_place,
+use asn1_dec::{Decode, DecodeChoice, DecodeError, Decoder};
+use asn1_enc::{Encode, EncodeChoice, EncodeError, Encoder};
+use asn1_slots::{DecodeChoiceByPlace, Tagging, alternative, from_tag_by_place};
+use asn1_strings::VisibleString;
+use asn1_types::{
+    AsnType, Choice, ChoiceType, Constraints, Identifier, Implicit, Tag, TagTree, TypeTable, tag,
 };
 
 /// A point in time, in one of two kinds of text.
 #[derive(PartialEq, Eq, Debug, Drop)]
 pub enum Time {
     /// `utcTime UTCTime`
-    Utc(UtcTime),
+    Utc(Implicit<tag::UTC_TIME, VisibleString>),
     /// `generalTime GeneralizedTime`
-    General(GeneralizedTime),
+    General(Implicit<tag::GENERALIZED_TIME, VisibleString>),
 }
 
 /// The trees of the alternatives.
@@ -25,10 +28,10 @@ const TIME: &[TagTree<'static>] = &[
 ];
 
 impl DecodeChoiceByPlace for Time {
-    ghost cases = { variant (codes "utcTime") Utc (untagged ⟦<UtcTime as AsnType>⟧.meaning)
-        ⟦<UtcTime as PartialEq>⟧.eq ∷
-        variant (codes "generalTime") General (untagged ⟦<GeneralizedTime as AsnType>⟧.meaning)
-        ⟦<GeneralizedTime as PartialEq>⟧.eq ∷ [] };
+    ghost cases = { variant (codes "utcTime") Utc (untagged ⟦<Implicit<tag::UTC_TIME, VisibleString> as AsnType>⟧.meaning)
+        ⟦<Implicit<tag::UTC_TIME, VisibleString> as PartialEq>⟧.eq ∷
+        variant (codes "generalTime") General (untagged ⟦<Implicit<tag::GENERALIZED_TIME, VisibleString> as AsnType>⟧.meaning)
+        ⟦<Implicit<tag::GENERALIZED_TIME, VisibleString> as PartialEq>⟧.eq ∷ [] };
 
     ghost case_of = { elim [ Utc utc ↦ inl utc | General general ↦ inr (inl general) ] };
 
@@ -80,6 +83,12 @@ impl ChoiceType for Time {
 /// A `Time` can be inside other types: the tags of its alternatives are distinct.
 pub fn time_is_well_tagged()
     ensures { IsWellTagged ⟦<Time as AsnType>⟧.meaning }
+{}
+
+/// Each `Time` is valid.
+pub fn time_is_valid(time: &Time)
+    ensures { (accepts : List ℕ → Bool) →
+        ⟦<Time as AsnType>⟧.meaning.IsValid accepts time.now }
 {}
 
 impl Encode for Time {

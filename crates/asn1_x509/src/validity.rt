@@ -1,12 +1,14 @@
 //! `Validity ::= SEQUENCE { notBefore Time, notAfter Time }`
-ghost use Rattle.std.specs.Prelude.{[], codes, ◌∷◌};
-ghost use Rattle.asn1_schema.specs.Words.{IsWellTagged, constructed_agrees, constructed_type, required_slot, sequence_of_slots, untagged};
+ghost use Rattle.std.specs.Prelude.{Bool, List, [], codes, ℕ, ◌∷◌};
+ghost use Rattle.asn1_slots.specs.Slots.{required_slot, sequence_of_slots};
+ghost use Rattle.asn1_types.specs.Words.{IsWellTagged, constructed_agrees, constructed_type, untagged};
 
 use crate::time::Time;
-use asn1_schema::{
-    AsnType, Constraints, ConstructedType, Decode, DecodeByPlace, DecodeError, Decoded, Decoder,
-    Encode, EncodeError, EncodeFields, Encoder, Field, FieldTable, Identifier, Tag, Tagging,
-    TypeTable, decode_sequence_by_place, filled, required,
+use asn1_dec::{Decode, DecodeError, Decoder};
+use asn1_enc::{Encode, EncodeError, EncodeFields, Encoder};
+use asn1_slots::{DecodeByPlace, Decoded, Tagging, decode_sequence_by_place, filled, required};
+use asn1_types::{
+    AsnType, Constraints, ConstructedType, Field, FieldTable, Identifier, Tag, TypeTable,
 };
 use std::alloc::Global;
 
@@ -82,6 +84,12 @@ impl ConstructedType for Validity {
 /// A `Validity` can be inside other types.
 pub fn validity_is_well_tagged()
     ensures { IsWellTagged ⟦<Validity as AsnType>⟧.meaning }
+{}
+
+/// Each `Validity` is valid, also one that ends before it begins.
+pub fn validity_is_valid(validity: &Validity)
+    ensures { (accepts : List ℕ → Bool) →
+        ⟦<Validity as AsnType>⟧.meaning.IsValid accepts validity.now }
 {}
 
 impl Encode for Validity {

@@ -1,13 +1,16 @@
 //! `AnotherName ::= SEQUENCE { type-id OBJECT IDENTIFIER, value [0] EXPLICIT ANY DEFINED BY type-id }`
-ghost use Rattle.std.specs.Prelude.{[], codes, ◌∷◌};
-ghost use Rattle.asn1_schema.specs.Words.{IsWellTagged, constructed_agrees, constructed_type, context, explicitly_tagged, required_slot, sequence_of_slots, untagged};
+ghost use Rattle.std.specs.Prelude.{Bool, IsTrue, List, [], codes, ℕ, ◌↔◌, ◌∷◌};
+ghost use Rattle.asn1_slots.specs.Slots.{required_slot, sequence_of_slots};
+ghost use Rattle.asn1_types.specs.Words.{IsWellTagged, constructed_agrees, constructed_type, context, explicitly_tagged, untagged};
 
-use asn1_schema::{
-    Any, AsnType, Constraints, ConstructedType, Decode, DecodeByPlace, DecodeError, Decoded,
-    Decoder, Encode, EncodeError, EncodeFields, Encoder, Field, FieldTable, Identifier,
-    ObjectIdentifier, Tag, Tagging, TypeTable, decode_sequence_by_place, filled, required,
-};
+use asn1_dec::{Decode, DecodeError, Decoder};
+use asn1_enc::{Encode, EncodeError, EncodeFields, Encoder};
+use asn1_slots::{DecodeByPlace, Decoded, Tagging, decode_sequence_by_place, filled, required};
+use asn1_strings::ObjectIdentifier;
 use asn1_tags::tag;
+use asn1_types::{
+    Any, AsnType, Constraints, ConstructedType, Field, FieldTable, Identifier, Tag, TypeTable,
+};
 use std::alloc::Global;
 
 /// A name of a kind that has a name of its own.
@@ -84,6 +87,13 @@ impl ConstructedType for AnotherName {
 /// An `AnotherName` can be inside other types.
 pub fn another_name_is_well_tagged()
     ensures { IsWellTagged ⟦<AnotherName as AsnType>⟧.meaning }
+{}
+
+/// An `AnotherName` is valid if and only if the codec takes its value.
+pub fn another_name_is_valid(name: &AnotherName)
+    ensures { (accepts : List ℕ → Bool) →
+        ⟦<AnotherName as AsnType>⟧.meaning.IsValid accepts name.now ↔
+        IsTrue (accepts name.now.value) }
 {}
 
 impl Encode for AnotherName {

@@ -7,17 +7,20 @@
 //!     authorityCertSerialNumber [2] CertificateSerialNumber OPTIONAL
 //! }
 //! ```
-ghost use Rattle.std.specs.Prelude.{[], codes, ◌∷◌};
-ghost use Rattle.asn1_schema.specs.Words.{IsWellTagged, constructed_agrees, constructed_type, context, optional_slot, sequence_of_slots, tagged};
+ghost use Rattle.std.specs.Prelude.{All, Bool, IfSome, List, [], codes, ℕ, ◌↔◌, ◌∷◌};
+ghost use Rattle.asn1_slots.specs.Slots.{optional_slot, sequence_of_slots};
+ghost use Rattle.asn1_types.specs.Words.{IsWellTagged, constructed_agrees, constructed_type, context, tagged};
+ghost use Rattle.asn1_x509_extensions.specs.OpenNames.{GeneralNameIsTaken};
 
 use crate::general_name::GeneralNames;
 use crate::key_identifier::KeyIdentifier;
-use asn1_schema::{
-    AsnType, Constraints, ConstructedType, Decode, DecodeByPlace, DecodeError, Decoded, Decoder,
-    Encode, EncodeError, EncodeFields, Encoder, Field, FieldTable, Identifier, Tag, Tagging,
-    TypeTable, decode_sequence_by_place, optional,
-};
+use asn1_dec::{Decode, DecodeError, Decoder};
+use asn1_enc::{Encode, EncodeError, EncodeFields, Encoder};
+use asn1_slots::{DecodeByPlace, Decoded, Tagging, decode_sequence_by_place, optional};
 use asn1_tags::tag;
+use asn1_types::{
+    AsnType, Constraints, ConstructedType, Field, FieldTable, Identifier, Tag, TypeTable,
+};
 use asn1_x509::CertificateSerialNumber;
 use std::alloc::Global;
 
@@ -133,6 +136,14 @@ impl ConstructedType for AuthorityKeyIdentifier {
 /// An `AuthorityKeyIdentifier` can be inside other types.
 pub fn authority_key_identifier_is_well_tagged()
     ensures { IsWellTagged ⟦<AuthorityKeyIdentifier as AsnType>⟧.meaning }
+{}
+
+/// An `AuthorityKeyIdentifier` is valid if and only if the codec takes what is open in the names of the issuer, where there are any.
+pub fn authority_key_identifier_is_valid(key: &AuthorityKeyIdentifier)
+    ensures { (accepts : List ℕ → Bool) →
+        ⟦<AuthorityKeyIdentifier as AsnType>⟧.meaning.IsValid accepts key.now ↔
+        IfSome key.now.authority_cert_issuer
+        (λ names. All (GeneralNameIsTaken accepts) names.items) }
 {}
 
 impl Encode for AuthorityKeyIdentifier {

@@ -1,12 +1,14 @@
 //! `BasicConstraints ::= SEQUENCE { cA BOOLEAN DEFAULT FALSE, pathLenConstraint INTEGER (0..MAX) OPTIONAL }` (RFC 5280, 4.2.1.9)
-ghost use Rattle.std.specs.Prelude.{[], codes, false, ◌∷◌};
-ghost use Rattle.asn1_schema.specs.Words.{IsWellTagged, constructed_agrees, constructed_type, default_slot, optional_slot, sequence_of_slots, untagged};
+ghost use Rattle.std.specs.Prelude.{Bool, List, [], codes, false, ℕ, ◌∷◌};
+ghost use Rattle.asn1_slots.specs.Slots.{default_slot, optional_slot, sequence_of_slots};
+ghost use Rattle.asn1_types.specs.Words.{IsWellTagged, constructed_agrees, constructed_type, untagged};
 
 use crate::path_length::PathLength;
-use asn1_schema::{
-    AsnType, Constraints, ConstructedType, Decode, DecodeByPlace, DecodeError, Decoded, Decoder,
-    Encode, EncodeError, EncodeFields, Encoder, Field, FieldTable, Identifier, Tag, Tagging,
-    TypeTable, decode_sequence_by_place, optional, or_default,
+use asn1_dec::{Decode, DecodeError, Decoder};
+use asn1_enc::{Encode, EncodeError, EncodeFields, Encoder};
+use asn1_slots::{DecodeByPlace, Decoded, Tagging, decode_sequence_by_place, optional, or_default};
+use asn1_types::{
+    AsnType, Constraints, ConstructedType, Field, FieldTable, Identifier, Tag, TypeTable,
 };
 use std::alloc::Global;
 
@@ -82,6 +84,12 @@ impl ConstructedType for BasicConstraints {
 /// A `BasicConstraints` can be inside other types.
 pub fn basic_constraints_is_well_tagged()
     ensures { IsWellTagged ⟦<BasicConstraints as AsnType>⟧.meaning }
+{}
+
+/// Each `BasicConstraints` is valid.
+pub fn basic_constraints_is_valid(constraints: &BasicConstraints)
+    ensures { (accepts : List ℕ → Bool) →
+        ⟦<BasicConstraints as AsnType>⟧.meaning.IsValid accepts constraints.now }
 {}
 
 impl Encode for BasicConstraints {

@@ -1,13 +1,17 @@
 //! `EDIPartyName ::= SEQUENCE { nameAssigner [0] DirectoryString OPTIONAL, partyName [1] DirectoryString }`
-ghost use Rattle.std.specs.Prelude.{[], codes, ◌∷◌};
-ghost use Rattle.asn1_schema.specs.Words.{IsWellTagged, constructed_agrees, constructed_type, context, optional_slot, required_slot, sequence_of_slots, tagged};
+ghost use Rattle.std.specs.Prelude.{Bool, List, [], codes, ℕ, ◌∷◌};
+ghost use Rattle.asn1_slots.specs.Slots.{optional_slot, required_slot, sequence_of_slots};
+ghost use Rattle.asn1_types.specs.Words.{IsWellTagged, constructed_agrees, constructed_type, context, tagged};
 
-use asn1_schema::{
-    AsnType, Constraints, ConstructedType, Decode, DecodeByPlace, DecodeError, Decoded, Decoder,
-    Encode, EncodeError, EncodeFields, Encoder, Field, FieldTable, Identifier, Tag, Tagging,
-    TypeTable, decode_sequence_by_place, filled, optional, required,
+use asn1_dec::{Decode, DecodeError, Decoder};
+use asn1_enc::{Encode, EncodeError, EncodeFields, Encoder};
+use asn1_slots::{
+    DecodeByPlace, Decoded, Tagging, decode_sequence_by_place, filled, optional, required,
 };
 use asn1_tags::tag;
+use asn1_types::{
+    AsnType, Constraints, ConstructedType, Field, FieldTable, Identifier, Tag, TypeTable,
+};
 use asn1_x509::DirectoryString;
 use std::alloc::Global;
 
@@ -95,6 +99,12 @@ impl ConstructedType for EdiPartyName {
 /// An `EdiPartyName` can be inside other types.
 pub fn edi_party_name_is_well_tagged()
     ensures { IsWellTagged ⟦<EdiPartyName as AsnType>⟧.meaning }
+{}
+
+/// Each `EdiPartyName` is valid.
+pub fn edi_party_name_is_valid(party: &EdiPartyName)
+    ensures { (accepts : List ℕ → Bool) →
+        ⟦<EdiPartyName as AsnType>⟧.meaning.IsValid accepts party.now }
 {}
 
 impl Encode for EdiPartyName {

@@ -13,19 +13,22 @@
 //!     registeredID              [8] OBJECT IDENTIFIER
 //! }
 //! ```
-ghost use Rattle.std.specs.Prelude.{[], codes, refl, ◌∷◌};
-ghost use Rattle.asn1_schema.specs.Words.{IsWellTagged, choice_agrees, choice_of, choice_of_cases, context, inl, inr, tagged, variant};
+ghost use Rattle.std.specs.Prelude.{Bool, List, [], codes, refl, ℕ, ◌↔◌, ◌∷◌};
+ghost use Rattle.asn1_slots.specs.Cases.{choice_of_cases, variant};
+ghost use Rattle.asn1_types.specs.Words.{IsWellTagged, choice_agrees, choice_of, context, inl, inr, tagged};
+ghost use Rattle.asn1_x509_extensions.specs.OpenNames.{GeneralNameIsTaken};
 ghost use Rattle.asn1_x509_extensions.specs.declared.general_name.GeneralName.TheVariants.{Other, Rfc822, Dns, X400, Directory, EdiParty, Uri, IpAddress, RegisteredId};
 
 use crate::another_name::AnotherName;
 use crate::edi_party_name::EdiPartyName;
-use asn1_schema::{
-    Any, AsnType, Choice, ChoiceType, Constraints, Decode, DecodeChoice, DecodeChoiceByPlace,
-    DecodeError, Decoder, Encode, EncodeChoice, EncodeError, Encoder, Ia5String, Identifier,
-    ObjectIdentifier, OctetString, Tag, TagTree, Tagging, TypeTable, alternative,
-    from_tag_by_place,
-};
+use asn1_dec::{Decode, DecodeChoice, DecodeError, Decoder};
+use asn1_enc::{Encode, EncodeChoice, EncodeError, Encoder};
+use asn1_slots::{DecodeChoiceByPlace, Tagging, alternative, from_tag_by_place};
+use asn1_strings::{Ia5String, ObjectIdentifier, OctetString};
 use asn1_tags::tag;
+use asn1_types::{
+    Any, AsnType, Choice, ChoiceType, Constraints, Identifier, Tag, TagTree, TypeTable,
+};
 use asn1_x509::Name;
 
 /// `GeneralNames ::= SEQUENCE SIZE (1..MAX) OF GeneralName`. That there is one is the caller's to see.
@@ -184,6 +187,13 @@ impl ChoiceType for GeneralName {
 /// A `GeneralName` can be inside other types: the tags of its alternatives are distinct.
 pub fn general_name_is_well_tagged()
     ensures { IsWellTagged ⟦<GeneralName as AsnType>⟧.meaning }
+{}
+
+/// A `GeneralName` is valid if and only if the codec takes what is open in it.
+pub fn general_name_is_valid(name: &GeneralName)
+    ensures { (accepts : List ℕ → Bool) →
+        ⟦<GeneralName as AsnType>⟧.meaning.IsValid accepts name.now ↔
+        GeneralNameIsTaken accepts name.now }
 {}
 
 impl Encode for GeneralName {
