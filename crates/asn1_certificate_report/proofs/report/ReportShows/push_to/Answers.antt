@@ -11,4 +11,5 @@ returns c =
     let all = extensions_text r.extensions.items in
     further _ old (head_text r) (times_text r ++ (tail_text r ++ all)) _ _ c.in_ok-push_head.ensures
     (further _ (string_bytes c.push_head.new.text) (times_text r) (tail_text r ++ all) _ _ c.in_ok-push_times.ensures
-    (further _ (string_bytes c.push_times.new.text) (tail_text r) all _ _ c.in_ok-push_tail.ensures c.push_extensions.ensures))
+    (further _ (string_bytes c.push_times.new.text) (tail_text r) all _ _ c.in_ok-push_tail.ensures
+    (rw c.as_slice.ensures.value at c.push_extensions.ensures)))
