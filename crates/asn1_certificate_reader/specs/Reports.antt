@@ -1,5 +1,6 @@
 -- What is shown of a certificate.
-use Rattle.std.specs.Prelude.{◌≡◌, List, [], ◌∷◌, Option, None, Some, Vec}
+use Rattle.std.specs.Prelude.{◌≡◌, List, [], Option, None, Some, Vec, map}
+use Rattle.std.specs.declared.alloc.Global.{Global}
 use Rattle.asn1_values.specs.Numbers.{IsShortest, magnitude, signed}
 use Rattle.asn1_certificate_report.specs.declared.extension.ShownExtension.{ShownExtension}
 use Rattle.asn1_certificate_report.specs.declared.report.Report.{Report}
@@ -12,14 +13,13 @@ pub record IsExtensionOf (e : Extension) (shown : ShownExtension) : Type 0 where
   pub kind : shown.kind.identifier ≡ e.extension_id
   pub critical : shown.is_critical ≡ e.critical
 
--- one for each, in their order
-abbrev pub AreExtensionsOf : List Extension → List ShownExtension → Type 0
-AreExtensionsOf [] shown = shown ≡ []
-AreExtensionsOf (e ∷ es) [] = ⊥
-AreExtensionsOf (e ∷ es) (s ∷ ss) = IsExtensionOf e s × AreExtensionsOf es ss
+-- one for each, in their order: of the same kinds, and critical or not
+pub record AreExtensionsOf (es : List Extension) (shown : List ShownExtension) : Type 0 where
+  pub kinds : map (λ s. s.kind.identifier) shown ≡ map (λ e. e.extension_id) es
+  pub critical : map (λ s. s.is_critical) shown ≡ map (λ e. e.critical) es
 
 -- the same, and none where there are none
-abbrev pub AreAllExtensionsOf : Option (Vec Extension) → List ShownExtension → Type 0
+abbrev pub AreAllExtensionsOf : Option (Vec Extension Global) → List ShownExtension → Type 0
 AreAllExtensionsOf None shown = shown ≡ []
 AreAllExtensionsOf (Some es) shown = AreExtensionsOf es.items shown
 

@@ -3,7 +3,8 @@ use crate::characters::{ascii_characters, directory_characters};
 use crate::inside::read_inside;
 use crate::objects::named;
 use asn1_certificate_report::{Attribute, AttributeValue, NamePart, ShownName};
-use asn1_schema::{Ia5String, Rules};
+use asn1_rules::Rules;
+use asn1_strings::Ia5String;
 use asn1_x509::{AttributeTypeAndValue, DirectoryString, Name, RelativeDistinguishedName};
 use std::alloc::{AllocError, Global};
 

@@ -1,5 +1,5 @@
 //! The characters of strings.
-use asn1_schema::{BmpString, Ia5String, TeletexString};
+use asn1_strings::{BmpString, Ia5String, TeletexString};
 use asn1_x509::DirectoryString;
 use std::alloc::{AllocError, Global};
 

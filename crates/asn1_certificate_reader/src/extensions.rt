@@ -1,10 +1,13 @@
 //! Extensions.
+ghost use Rattle.std.specs.Prelude.{IfOk};
+ghost use Rattle.asn1_certificate_reader.specs.Reports.{AreExtensionsOf, IsExtensionOf};
+
 use crate::general_names::general_names_of;
 use crate::inside::read_inside;
 use crate::objects::{all_named, named};
 use crate::simple::{copy_of, octet_number};
 use asn1_certificate_report::{Authority, AuthorityKey, ExtensionValue, ShownExtension};
-use asn1_schema::Rules;
+use asn1_rules::Rules;
 use asn1_x509::Extension;
 use asn1_x509_extensions::{
     AuthorityKeyIdentifier, BasicConstraints, GeneralNames, KeyIdentifier, KeyPurposeId, KeyUsage,

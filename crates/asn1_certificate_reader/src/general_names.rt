@@ -3,7 +3,7 @@ use crate::attributes::name_of;
 use crate::characters::{ascii_characters, directory_characters};
 use crate::objects::named;
 use asn1_certificate_report::ShownGeneralName;
-use asn1_schema::Rules;
+use asn1_rules::Rules;
 use asn1_x509_extensions::{EdiPartyName, GeneralName};
 use std::alloc::{AllocError, Global};
 

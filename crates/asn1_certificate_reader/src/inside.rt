@@ -1,5 +1,6 @@
 //! What is inside open types and octets.
-use asn1_schema::{Decode, DecodeError, Rules};
+use asn1_dec::{Decode, DecodeError};
+use asn1_rules::Rules;
 use std::alloc::{AllocError, Global};
 
 /// How deep certificates may be nested. The deepest that RFC 5280 allows are less than half as deep, unless a name in a name says

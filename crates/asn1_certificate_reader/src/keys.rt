@@ -5,7 +5,9 @@ use crate::simple::copy_of;
 use asn1_certificate_report::{KeySize, ShownKey, Signature};
 use asn1_certificate_text::{bit_length, curve_of};
 use asn1_items::Content;
-use asn1_schema::{AnyStr, BitString, ObjectIdentifier, Rules};
+use asn1_rules::Rules;
+use asn1_strings::{BitString, ObjectIdentifier};
+use asn1_types::AnyStr;
 use asn1_x509::{AlgorithmIdentifier, RsaPublicKey, SubjectPublicKeyInfo};
 use std::alloc::{AllocError, Global};
 

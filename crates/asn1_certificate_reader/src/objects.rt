@@ -3,7 +3,7 @@ ghost use Rattle.std.specs.Prelude.{◌≡◌, IfOk};
 
 use asn1_certificate_report::Object;
 use asn1_certificate_text::object_named;
-use asn1_schema::ObjectIdentifier;
+use asn1_strings::ObjectIdentifier;
 use std::alloc::{AllocError, Global};
 
 /// An object with the name that it has here.

@@ -1,13 +1,13 @@
 //! What is shown of a certificate.
 ghost use Rattle.std.specs.Prelude.{IfOk};
-ghost use Rattle.asn1_certificate_reader.specs.Reports.{IsReportOf};
+ghost use Rattle.asn1_certificate_reader.specs.Reports.{AreAllExtensionsOf, IsReportOf};
 
 use crate::attributes::name_of;
 use crate::extensions::extensions_of;
 use crate::keys::{key_of, signature_of};
 use crate::simple::{octet_number, time_of, version_of};
 use asn1_certificate_report::{Report, ShownExtension};
-use asn1_schema::Rules;
+use asn1_rules::Rules;
 use asn1_x509::{Certificate, Extension};
 use std::alloc::{AllocError, Global};
 

@@ -5,7 +5,7 @@ ghost use Rattle.asn1_certificate_reader.specs.Simple.{IsTimeOf, version_number}
 
 use asn1_certificate_report::{OctetNumber, ShownTime, Version};
 use asn1_certificate_text::Moment;
-use asn1_schema::Integer;
+use asn1_values::Integer;
 use asn1_x509::Time;
 use std::alloc::{AllocError, Global};
 

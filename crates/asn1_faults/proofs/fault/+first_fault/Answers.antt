@@ -1,4 +1,4 @@
-use Rattle.std.proofs.Common.{◌≡◌, ◌<◌, ◌≤◌, ◌+◌, ◌-◌, ℕ, List, Option, None, Some, IfSome, length, true, arith, refl, subst, sym}
+use Rattle.std.proofs.Common.{◌≡◌, ◌<◌, ◌≤◌, ◌+◌, ◌-◌, ℕ, List, Option, None, Some, IfSome, length, false, true, arith, refl, subst, sym}
 use Rattle.asn1_der_items.specs.Elements.{Element, element_at}
 use Rattle.asn1_der_items.proofs.Behind.{element_at-shorter}
 use Rattle.asn1_faults.specs.Faults.{IsFault, here, behind, inside}
@@ -12,26 +12,30 @@ none_at bytes not = by (element_at bytes) refl
     by None is = is
     by (Some e) is = absurd (not e is)
 
+-- nothing is an error and a success
+never : false ≡ true → ⊥
+never same = cc
+
 -- a fault at another name of its place
 at_place : (bytes : List ℕ) (place other : ℕ) → place ≡ other → IsFault bytes place → IsFault bytes other
 at_place bytes place other same fault = subst (λ (p : ℕ). IsFault bytes p) same fault
 
 -- a place that is a sum
-if_sum : (bytes : List ℕ) (o : Option ℕ) (place : ℕ) → IsFault bytes place → IfSome o (λ sum. sum ≡ place) → IfSome o (IsFault bytes)
-if_sum bytes None place fault is = is
-if_sum bytes (Some sum) place fault is = at_place bytes place sum (sym is) fault
+if_sum : (bytes : List ℕ) (o : Option ℕ) (place : ℕ) → IfSome o (λ sum. sum ≡ place) → IsFault bytes place → IfSome o (IsFault bytes)
+if_sum bytes None place is fault = is
+if_sum bytes (Some sum) place is fault = at_place bytes place sum (sym is) fault
 
 pub returns-in_default : goal.returns-in_default
 returns-in_default t c =
-    let none : element_at c.loop-left.left.now ≡ None = none_at c.loop-left.left.now (λ e at. absurd (c.in_default.ensures.found e at)) in
+    let none : element_at c.loop-left.left.now ≡ None = none_at c.loop-left.left.now (λ e at. never (c.in_default.ensures.found e at)) in
     at_place c.args.bytes.now _ _ (omega arith) (c.loop-left.invariant.faults 0 (here c.loop-left.left.now none))
 
 pub returns-in-Some : goal.returns-in-Some
 returns-in-Some t c =
     let e : Element = record { tag = c.in-Ok.element.tag; constructed = c.in-Ok.element.constructed; contents = c.in-Ok.element.contents.now; rest = c.in-Ok.element.rest.now } in
-    if_sum c.args.bytes.now _ _
-    (c.loop-left.invariant.faults _ (inside c.loop-left.left.now e c.in-Some.place c.in-Ok.ensures.only c.if-element.true c.in-Some.ensures))
-    c.sum_of.ensures
+    if_sum c.args.bytes.now c.sum_of.result _ c.sum_of.ensures
+    (at_place c.args.bytes.now _ _ (omega arith)
+    (c.loop-left.invariant.faults _ (inside c.loop-left.left.now e c.in-Some.place c.in-Ok.ensures.only c.if-element.true c.in-Some.ensures)))
 
 pub loop-left-smaller : goal.loop-left-smaller
 loop-left-smaller t c =
