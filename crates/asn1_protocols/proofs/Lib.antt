@@ -1,1 +1,2 @@
+mod FilledSlots
 mod KeptSlots

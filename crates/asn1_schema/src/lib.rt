@@ -124,7 +124,6 @@ pub use asn1_strings::kind;
 pub use asn1_tags as tags;
 pub use asn1_tags::Variants;
 pub use asn1_tags::VariantsError;
-pub use asn1_tags::tag;
 pub use asn1_types as types;
 pub use asn1_types::Any;
 pub use asn1_types::AnyStr;

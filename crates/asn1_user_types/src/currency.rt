@@ -5,7 +5,7 @@ ghost use Rattle.asn1_user_types.specs.declared.currency.Currency.TheVariants.{E
 
 use asn1_schema::{
     AsnType, Constraints, Decode, DecodeError, Decoder, Encode, EncodeError, Encoder, Enumerated,
-    EnumeratedType, EnumerationItem, Identifier, Tag, TypeTable, item,
+    EnumeratedType, EnumerationItem, Identifier, Tag, TypeTable,
 };
 
 /// In what a price is paid.
@@ -18,8 +18,16 @@ pub enum Currency {
 }
 
 const ITEMS: &[EnumerationItem<Currency>] = &[
-    item!(Currency::Euro, 0, "euro"),
-    item!(Currency::Yen, 1, "yen"),
+    EnumerationItem {
+        value: Currency::Euro,
+        number: 0,
+        name: "euro",
+    },
+    EnumerationItem {
+        value: Currency::Yen,
+        number: 1,
+        name: "yen",
+    },
 ];
 
 impl Enumerated for Currency {

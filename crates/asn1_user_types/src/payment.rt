@@ -4,9 +4,9 @@ ghost use Rattle.asn1_schema.specs.Words.{IsWellTagged, choice_agrees, choice_of
 ghost use Rattle.asn1_user_types.specs.declared.payment.Payment.TheVariants.{Card, Cash};
 
 use asn1_schema::{
-    AsnType, Choice, ChoiceType, Constraints, Decode, DecodeChoice, DecodeChoiceByPlace,
+    AsnType, Choice, ChoiceType, Class, Constraints, Decode, DecodeChoice, DecodeChoiceByPlace,
     DecodeError, Decoder, Encode, EncodeChoice, EncodeError, Encoder, Identifier, OctetString, Tag,
-    TagTree, Tagging, TypeTable, alternative, from_tag_by_place, tag,
+    TagTree, Tagging, TypeTable, alternative, from_tag_by_place,
 };
 
 /// How something is paid.
@@ -18,7 +18,10 @@ pub enum Payment {
     Card(OctetString),
 }
 
-const CARD: Tag = tag!(context 0);
+const CARD: Tag = Tag {
+    class: Class::Context,
+    value: 0,
+};
 
 const PAYMENT: &[TagTree<'static>] = &[TagTree::Leaf(Tag::NULL), TagTree::Leaf(CARD)];
 
