@@ -4,9 +4,11 @@
 //! What is written is the text of a report (`report_text` of `asn1_certificate_report`), which is the report of a certificate
 //! (`report_of` of `asn1_certificate_reader`). The program ends with 0 if it has shown one, with 1 if the input has none, and
 //! with 2 where memory runs out or reading or writing fails; why it has shown none is then on standard error, with the place of
-//! the byte where one is known. The stored run shows a certificate.
+//! the byte where one is known. With the argument `--der` it writes the DER of the certificate in the place of a report. The stored run
+//! shows a certificate.
 #![tactic(auto)]
 
+mod form;
 mod outcome;
 mod show;
 
@@ -14,5 +16,6 @@ use outcome::Outcome;
 use std::io;
 
 fn main(rt: HostRuntime) -> Outcome {
-    outcome::shown(rt.alloc(), &mut rt.reader(), &mut io::writer(&rt))
+    let form = form::form_asked(&rt);
+    outcome::shown(rt.alloc(), form, &mut rt.reader(), &mut io::writer(&rt))
 }

@@ -1,11 +1,15 @@
 //! How the program ends.
-ghost use Rattle.std.specs.Prelude.{◌≡◌, ◌↔◌, IsErrOf, IsOk, OnOk, List, ℕ, IfSome};
+ghost use Rattle.std.specs.Prelude.{◌≡◌, List, OnOk, ℕ};
 ghost use Rattle.std.specs.Io.KnownBytes.{Appends, IsAtEnd};
-ghost use Rattle.asn1_certificate.specs.Shown.{IsTextOf};
-ghost use Rattle.std.specs.Prelude.{⊤};
+ghost use Rattle.asn1_certificate.specs.Shown.{AreLinesOf};
+ghost use Rattle.asn1_der_encoder.specs.Format.{Carries};
+ghost use Rattle.asn1_model.specs.Meaning.{own_records};
 
-use crate::show::{ShowError, show};
-use std::alloc::{AllocError, Global};
+use crate::form::Form;
+use crate::show::{ShowError, written};
+use asn1_types::AsnType;
+use asn1_x509::Certificate;
+use std::alloc::Global;
 use std::fmt;
 use std::io::{Eprint, Read, Write};
 use std::process::{ExitCode, Termination};
@@ -60,38 +64,47 @@ impl Termination for Outcome {
     }
 }
 
-/// Shows the certificate that the reader gives, and answers how the program then ends.
-pub(crate) fn shown<R: Read, W: Write>(alloc: Global, reader: &mut R, writer: &mut W) -> Outcome {
+/// Writes the certificate that the reader gives in a form, and answers how the program then ends.
+pub(crate) fn shown<R: Read, W: Write>(
+    alloc: Global,
+    form: Form,
+    reader: &mut R,
+    writer: &mut W,
+) -> Outcome {
     Outcome {
-        failure: copy_report(alloc, reader, writer).err(),
+        failure: convert(alloc, form, reader, writer).err(),
     }
 }
 
-/// Writes the report of what the reader gives.
-fn copy_report<R: Read, W: Write>(
+/// Writes the certificate that the reader gives in a form.
+fn convert<R: Read, W: Write>(
     alloc: Global,
+    form: Form,
     reader: &mut R,
     writer: &mut W,
 ) -> Result<(), Failure>
     ensures read { OnOk result (IsAtEnd (R.remaining reader.new)) }
-    ensures written { OnOk result ((text : List ℕ) × IsTextOf (λ _. ⊤) text
-        × Appends (W.contents writer.old) (W.contents writer.new) text) }
+    ensures report { form ≡ Form.Report → OnOk result ((c : Certificate) × (lines : List ℕ)
+        × AreLinesOf c lines × Appends (W.contents writer.old) (W.contents writer.new) lines) }
+    ensures der { form ≡ Form.Der → OnOk result ((c : Certificate) × (der : List ℕ)
+        × Carries der (own_records ⟦<Certificate as AsnType>⟧.meaning c)
+        × Appends (W.contents writer.old) (W.contents writer.new) der) }
 {
     let mut input = Vec::new(alloc);
     if reader.read_to_end(&mut input).is_err() {
         return Err(Failure::Reading);
     }
-    match show(alloc, input) {
-        Ok(text) => write_text(text.as_bytes(), writer),
+    match written(alloc, form, input) {
+        Ok(bytes) => write_bytes(bytes.as_slice(), writer),
         Err(error) => Err(Failure::NotShown(error)),
     }
 }
 
-/// Writes a text, and hands it on.
-fn write_text<W: Write>(text: &[u8], writer: &mut W) -> Result<(), Failure>
-    ensures { OnOk result (Appends (W.contents writer.old) (W.contents writer.new) text.now) }
+/// Writes bytes, and hands them on.
+fn write_bytes<W: Write>(bytes: &[u8], writer: &mut W) -> Result<(), Failure>
+    ensures { OnOk result (Appends (W.contents writer.old) (W.contents writer.new) bytes.now) }
 {
-    if writer.write_all(text).is_err() || writer.flush().is_err() {
+    if writer.write_all(bytes).is_err() || writer.flush().is_err() {
         return Err(Failure::Writing);
     }
     Ok(())

@@ -1,21 +1,20 @@
 //! An input as a report.
-ghost use Rattle.std.specs.Prelude.{◌≡◌, ⊤, IfErr, IfOk, MatchResult, true};
-ghost use Rattle.std.specs.String.{string_bytes};
-ghost use Rattle.asn1_certificate.specs.Shown.{IsPlaced, IsTextOf};
-ghost use Rattle.asn1_certificate.specs.declared.show.ShowError.TheVariants.{Memory};
+ghost use Rattle.std.specs.Prelude.{◌≡◌, IfErr, IfOk};
+ghost use Rattle.asn1_certificate.specs.Shown.{AreLinesOf, IsPlaced};
 ghost use Rattle.asn1_der_encoder.specs.Format.{Carries};
-ghost use Rattle.asn1_der_items.specs.Series.{is_one_element};
 ghost use Rattle.asn1_model.specs.Meaning.{own_records};
-ghost use Rattle.asn1_model.specs.Records.{highest};
-ghost use Rattle.asn1_rules.specs.Rules.{ReadsWhole};
+ghost use Rattle.asn1_certificate.specs.declared.show.ShowError.TheVariants.{Memory};
 
+use crate::form::Form;
 use asn1_certificate_reader::{MAX_DEPTH, report_of};
 use asn1_certificate_report::report_text;
 use asn1_certificate_text::{PemError, certificate_octets};
 use asn1_dec::DecodeError;
 use asn1_der::DerRules;
+use asn1_enc::EncodeError;
 use asn1_faults::first_fault;
 use asn1_rules::Rules;
+use asn1_types::AsnType;
 use asn1_x509::Certificate;
 use std::alloc::{AllocError, Global};
 use thiserror::Error;
@@ -32,6 +31,9 @@ pub(crate) enum ShowError {
     /// The octets are elements, and those of no certificate.
     #[error("no certificate: {0}")]
     NoCertificate(DecodeError),
+    /// The certificate was read, and is not written again.
+    #[error("not written: {0}")]
+    NotWritten(EncodeError),
     /// There was no memory.
     #[error("no memory")]
     Memory,
@@ -54,22 +56,39 @@ impl From<PemError> for ShowError {
     }
 }
 
-/// The text of what is shown of an input, which is the DER of a certificate or a text with it in base64.
-pub(crate) fn show(alloc: Global, input: Vec<u8>) -> Result<String, ShowError>
-    ensures { IfOk result (λ text. IsTextOf (λ _. ⊤) (string_bytes text)) }
+/// What is written of an input, which is the DER of a certificate or a text with it in base64: the certificate in a form.
+pub(crate) fn written(alloc: Global, form: Form, input: Vec<u8>) -> Result<Vec<u8>, ShowError>
+    ensures report { form ≡ Form.Report → IfOk result (λ bytes.
+        (c : Certificate) × AreLinesOf c bytes.items) }
+    ensures der { form ≡ Form.Der → IfOk result (λ bytes. (c : Certificate)
+        × Carries bytes.items (own_records ⟦<Certificate as AsnType>⟧.meaning c)) }
 {
     let octets = certificate_octets(alloc, input)?;
-    show_octets(alloc, &octets)
+    let certificate = read(alloc, &octets)?;
+    match form {
+        Form::Report => lines_of(alloc, &certificate),
+        Form::Der => der_of(alloc, &certificate),
+    }
 }
 
-/// The text of what is shown of octets, which are the DER of a certificate.
-pub(crate) fn show_octets(alloc: Global, octets: &Vec<u8>) -> Result<String, ShowError>
-    ensures shown { IfOk result (λ text. IsTextOf (λ _. ⊤) (string_bytes text)) }
-    ensures refused { IfErr result (IsPlaced octets.now.items) }
+/// The lines that are shown of a certificate.
+fn lines_of(alloc: Global, certificate: &Certificate) -> Result<Vec<u8>, ShowError>
+    ensures { IfOk result (λ bytes. AreLinesOf certificate.now bytes.items) }
 {
-    let certificate = read(alloc, octets)?;
-    let report = report_of(&DerRules::new(alloc), alloc, &certificate)?;
-    Ok(report_text(alloc, &report)?)
+    let report = report_of(&DerRules::new(alloc), alloc, certificate)?;
+    Ok(report_text(alloc, &report)?.into_bytes())
+}
+
+/// The DER of a certificate.
+fn der_of(alloc: Global, certificate: &Certificate) -> Result<Vec<u8>, ShowError>
+    ensures { IfOk result (λ bytes. Carries bytes.items
+        (own_records ⟦<Certificate as AsnType>⟧.meaning certificate.now)) }
+{
+    match DerRules::new(alloc).write_value(certificate, MAX_DEPTH) {
+        Ok(bytes) => Ok(bytes),
+        Err(EncodeError::Memory) => Err(ShowError::Memory),
+        Err(error) => Err(ShowError::NotWritten(error)),
+    }
 }
 
 /// The certificate of which these octets are the DER.

@@ -1,5 +1,5 @@
 -- Versions and times.
-use Rattle.std.specs.Prelude.{◌≡◌, ⊤, ℤ, pos}
+use Rattle.std.specs.Prelude.{◌≡◌, ⊤, ℕ, ℤ, List, pos}
 use Rattle.asn1_certificate_text.specs.MomentTexts.{IsInCalendar, IsOfUtcTime, generalized_time, utc_time}
 use Rattle.asn1_certificate_report.specs.declared.number.Version.{Version}
 use Rattle.asn1_certificate_report.specs.declared.number.Version.TheVariants.{First, Second, Third, Unknown}
@@ -15,9 +15,17 @@ version_number Second = pos 1
 version_number Third = pos 2
 version_number (Unknown number) = number
 
--- a moment is the one that the time says (RFC 5280, 4.1.2.5)
+-- a moment is the one that the text of a UTCTime says (RFC 5280, 4.1.2.5.1)
+abbrev pub IsOfUtcText : List ℕ → ShownTime → Type 0
+IsOfUtcText text (Moment m) = IsInCalendar m × (IsOfUtcTime m × (text ≡ utc_time m))
+IsOfUtcText text (Text said) = ⊤
+
+-- a moment is the one that the text of a GeneralizedTime says (4.1.2.5.2)
+abbrev pub IsOfGeneralizedText : List ℕ → ShownTime → Type 0
+IsOfGeneralizedText text (Moment m) = IsInCalendar m × (text ≡ generalized_time m)
+IsOfGeneralizedText text (Text said) = ⊤
+
+-- the same of a time
 abbrev pub IsTimeOf : Time → ShownTime → Type 0
-IsTimeOf (Utc time) (Moment m) = IsInCalendar m × (IsOfUtcTime m × (time.value ≡ utc_time m))
-IsTimeOf (General time) (Moment m) = IsInCalendar m × (time.value ≡ generalized_time m)
-IsTimeOf (Utc time) (Text said) = ⊤
-IsTimeOf (General time) (Text said) = ⊤
+IsTimeOf (Utc time) shown = IsOfUtcText time.value shown
+IsTimeOf (General time) shown = IsOfGeneralizedText time.value shown

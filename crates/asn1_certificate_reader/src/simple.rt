@@ -1,10 +1,11 @@
 //! Versions, numbers and times.
 ghost use Rattle.std.specs.Prelude.{◌≡◌, IfOk};
 ghost use Rattle.asn1_values.specs.Numbers.{IsShortest, magnitude, signed};
-ghost use Rattle.asn1_certificate_reader.specs.Simple.{IsTimeOf, version_number};
+ghost use Rattle.asn1_certificate_reader.specs.Simple.{IsOfGeneralizedText, IsOfUtcText, IsTimeOf, version_number};
 
 use asn1_certificate_report::{OctetNumber, ShownTime, Version};
 use asn1_certificate_text::Moment;
+use asn1_strings::VisibleString;
 use asn1_values::Integer;
 use asn1_x509::Time;
 use std::alloc::{AllocError, Global};
@@ -47,27 +48,27 @@ pub(crate) fn time_of(alloc: Global, time: &Time) -> Result<ShownTime, AllocErro
     ensures { IfOk result (IsTimeOf time.now) }
 {
     match time {
-        Time::Utc(utc) => moment_or_text(
-            alloc,
-            Moment::from_utc_time(utc.value.as_slice()),
-            utc.value.as_str(),
-        ),
-        Time::General(general) => moment_or_text(
-            alloc,
-            Moment::from_generalized_time(general.value.as_slice()),
-            general.value.as_str(),
-        ),
+        Time::Utc(utc) => utc_time_of(alloc, &utc.value),
+        Time::General(general) => generalized_time_of(alloc, &general.value),
     }
 }
 
-/// A moment, or the text that says none.
-fn moment_or_text(
-    alloc: Global,
-    moment: Option<Moment>,
-    said: &str,
-) -> Result<ShownTime, AllocError> {
-    match moment {
+/// The same of the text of a UTCTime.
+fn utc_time_of(alloc: Global, text: &VisibleString) -> Result<ShownTime, AllocError>
+    ensures { IfOk result (IsOfUtcText text.now) }
+{
+    match Moment::from_utc_time(text.as_slice()) {
         Some(moment) => Ok(ShownTime::Moment(moment)),
-        None => Ok(ShownTime::Text(said.chars().collect(alloc)?)),
+        None => Ok(ShownTime::Text(text.as_str().chars().collect(alloc)?)),
+    }
+}
+
+/// The same of the text of a GeneralizedTime.
+fn generalized_time_of(alloc: Global, text: &VisibleString) -> Result<ShownTime, AllocError>
+    ensures { IfOk result (IsOfGeneralizedText text.now) }
+{
+    match Moment::from_generalized_time(text.as_slice()) {
+        Some(moment) => Ok(ShownTime::Moment(moment)),
+        None => Ok(ShownTime::Text(text.as_str().chars().collect(alloc)?)),
     }
 }
