@@ -4,8 +4,36 @@
 //!     rustc -O --edition 2024 bench/plain_codecs.rs -o plain_codecs && ./plain_codecs packed read person 100000 10
 
 use std::env;
+use std::marker::PhantomData;
 
-#[derive(Clone, Copy, PartialEq, Eq)]
+/// What differs between the three forms.
+trait Form {
+    /// Whether there are presence marks.
+    const HAS_MARKS: bool;
+    /// Whether headers, numbers and sets are those of DER.
+    const IS_DER: bool;
+}
+
+struct Packed;
+struct WithTags;
+struct Der;
+
+impl Form for Packed {
+    const HAS_MARKS: bool = true;
+    const IS_DER: bool = false;
+}
+
+impl Form for WithTags {
+    const HAS_MARKS: bool = false;
+    const IS_DER: bool = false;
+}
+
+impl Form for Der {
+    const HAS_MARKS: bool = false;
+    const IS_DER: bool = true;
+}
+
+#[derive(Clone, Copy, PartialEq, Eq, PartialOrd, Ord)]
 struct Tag {
     class: u8,
     number: u32,
@@ -42,19 +70,90 @@ enum Integer {
     Wide { negative: bool, magnitude: Vec<u8> },
 }
 
-/// A value that is written and read in a form with presence marks or without.
+/// A value that is written and read in each form.
 trait Value: Sized {
-    fn write<const MARKS: bool>(&self, writer: &mut Writer<MARKS>) -> Result<(), Error>;
-    fn read<const MARKS: bool>(reader: &mut Reader<'_, MARKS>) -> Result<Self, Error>;
+    fn write<F: Form>(&self, writer: &mut Writer<F>) -> Result<(), Error>;
+    fn read<F: Form>(reader: &mut Reader<'_, F>) -> Result<Self, Error>;
 }
 
-struct Writer<const MARKS: bool> {
+fn signed(negative: bool, magnitude: &[u8]) -> Vec<u8> {
+    let mut content = vec![u8::from(negative)];
+    content.extend_from_slice(magnitude);
+    content
+}
+
+/// The two's complement of a number that is no `i128`.
+fn complement(negative: bool, magnitude: &[u8]) -> Vec<u8> {
+    let mut content = signed(false, magnitude);
+    if negative {
+        let mut carry = true;
+        for byte in content.iter_mut().rev() {
+            (*byte, carry) = (!*byte).overflowing_add(u8::from(carry));
+        }
+    }
+    let sign = if negative { 0xff } else { 0 };
+    if content[1] >> 7 == sign >> 7 {
+        content.remove(0);
+    }
+    content
+}
+
+struct Writer<F> {
     bytes: Vec<u8>,
     depth_left: usize,
+    form: PhantomData<F>,
 }
 
-impl<const MARKS: bool> Writer<MARKS> {
+impl<F: Form> Writer<F> {
+    /// The identifier octets of DER.
+    fn identifier(&mut self, tag: Tag, constructed: u8) {
+        let first = tag.class << 6 | constructed;
+        if tag.number < 31 {
+            return self.bytes.push(first | tag.number as u8);
+        }
+        self.bytes.push(first | 31);
+        let sevens = tag.number.checked_ilog2().unwrap_or(0) / 7;
+        for place in (1..=sevens).rev() {
+            self.bytes.push(0x80 | (tag.number >> (7 * place)) as u8);
+        }
+        self.bytes.push(tag.number as u8 & 0x7f);
+    }
+
+    fn scalar_in_der(&mut self, tag: Tag, content: &[u8]) {
+        self.identifier(tag, 0);
+        let start = self.bytes.len();
+        self.bytes.push(0);
+        self.bytes.extend_from_slice(content);
+        self.close_in_der(start);
+    }
+
+    /// Puts the length octets at this place, where one byte was left for them.
+    fn close_in_der(&mut self, start: usize) {
+        let inside = start + 1;
+        let size = self.bytes.len() - inside;
+        if size < 128 {
+            self.bytes[start] = size as u8;
+            return;
+        }
+        let octets = size.to_be_bytes();
+        let octets = &octets[size.leading_zeros() as usize / 8..];
+        self.bytes[start] = 0x80 | octets.len() as u8;
+        let end = self.bytes.len();
+        self.bytes.resize(end + octets.len(), 0);
+        self.bytes.copy_within(inside..end, inside + octets.len());
+        self.bytes[inside..inside + octets.len()].copy_from_slice(octets);
+    }
+
+    fn boolean(&mut self, tag: Tag, value: bool) -> Result<(), Error> {
+        let there = if F::IS_DER { 0xff } else { 1 };
+        self.scalar(tag, 1, &[if value { there } else { 0 }])
+    }
+
     fn scalar(&mut self, tag: Tag, kind: u8, content: &[u8]) -> Result<(), Error> {
+        if F::IS_DER {
+            self.scalar_in_der(tag, content);
+            return Ok(());
+        }
         let [a, b, c, d] = tag.number.to_be_bytes();
         let size = u32::try_from(content.len()).map_err(|_| Error::TooLong)?;
         let [e, f, g, h] = size.to_be_bytes();
@@ -64,6 +163,11 @@ impl<const MARKS: bool> Writer<MARKS> {
     }
 
     fn number(&mut self, tag: Tag, kind: u8, number: i128) -> Result<(), Error> {
+        if F::IS_DER {
+            let bits = if number < 0 { number.leading_ones() } else { number.leading_zeros() };
+            let content = &number.to_be_bytes()[(bits as usize - 1) / 8..];
+            return self.scalar(tag, kind, content);
+        }
         let absolute = number.unsigned_abs();
         let zeros = absolute.leading_zeros() as usize / 8;
         let mut content = [0; 17];
@@ -76,8 +180,7 @@ impl<const MARKS: bool> Writer<MARKS> {
         match number {
             Integer::Narrow(number) => self.number(tag, 2, *number),
             Integer::Wide { negative, magnitude } => {
-                let mut content = vec![u8::from(*negative)];
-                content.extend_from_slice(magnitude);
+                let content = if F::IS_DER { complement(*negative, magnitude) } else { signed(*negative, magnitude) };
                 self.scalar(tag, 2, &content)
             }
         }
@@ -90,6 +193,9 @@ impl<const MARKS: bool> Writer<MARKS> {
         inside: impl FnOnce(&mut Self) -> Result<(), Error>,
     ) -> Result<(), Error> {
         self.depth_left = self.depth_left.checked_sub(1).ok_or(Error::TooDeep)?;
+        if F::IS_DER {
+            return self.scope_in_der(kind, tag, inside);
+        }
         let [a, b, c, d] = tag.number.to_be_bytes();
         self.bytes.extend_from_slice(&[kind, tag.class, a, b, c, d, 0, 0, 0, 0]);
         let start = self.bytes.len();
@@ -100,8 +206,27 @@ impl<const MARKS: bool> Writer<MARKS> {
         Ok(())
     }
 
+    fn scope_in_der(
+        &mut self,
+        kind: u8,
+        tag: Tag,
+        inside: impl FnOnce(&mut Self) -> Result<(), Error>,
+    ) -> Result<(), Error> {
+        if kind == 7 {
+            inside(self)?;
+        } else {
+            self.identifier(tag, 0x20);
+            let start = self.bytes.len();
+            self.bytes.push(0);
+            inside(self)?;
+            self.close_in_der(start);
+        }
+        self.depth_left += 1;
+        Ok(())
+    }
+
     fn mark(&mut self, byte: u8) {
-        if MARKS {
+        if F::HAS_MARKS {
             self.bytes.push(byte);
         }
     }
@@ -129,13 +254,47 @@ struct Header<'a> {
     body: &'a [u8],
 }
 
-struct Reader<'a, const MARKS: bool> {
+struct Reader<'a, F> {
     left: &'a [u8],
     depth_left: usize,
+    form: PhantomData<F>,
 }
 
-impl<'a, const MARKS: bool> Reader<'a, MARKS> {
+impl<'a, F: Form> Reader<'a, F> {
+    /// The identifier and the length octets, of which each is to be the shortest.
+    fn header_in_der(&self) -> Result<Header<'a>, Error> {
+        let [first, rest @ ..] = self.left else {
+            return Err(Error::Missing(1));
+        };
+        let (mut number, mut rest) = (u32::from(*first & 31), rest);
+        if number == 31 {
+            (number, rest) = long_number(rest)?;
+        }
+        let tag = Tag { class: *first >> 6, number };
+        let [length, rest @ ..] = rest else {
+            return Err(Error::Missing(1));
+        };
+        let (mut size, mut body) = (usize::from(*length), rest);
+        if size >= 128 {
+            let Some((octets, after)) = rest.split_at_checked(size - 128) else {
+                return Err(Error::Missing(size - 128 - rest.len()));
+            };
+            if octets.len() > 8 || octets.first().is_none_or(|octet| *octet == 0) {
+                return Err(Error::Malformed);
+            }
+            size = octets.iter().fold(0, |size, octet| size << 8 | usize::from(*octet));
+            if size < 128 {
+                return Err(Error::Malformed);
+            }
+            body = after;
+        }
+        Ok(Header { kind: *first & 0x20, tag, content: 0, size, body })
+    }
+
     fn header(&self) -> Result<Header<'a>, Error> {
+        if F::IS_DER {
+            return self.header_in_der();
+        }
         let [kind, rest @ ..] = self.left else {
             return Err(Error::Missing(1));
         };
@@ -171,11 +330,41 @@ impl<'a, const MARKS: bool> Reader<'a, MARKS> {
     }
 
     fn scalar(&mut self, tag: Tag, kind: u8) -> Result<&'a [u8], Error> {
+        if F::IS_DER {
+            return Ok(self.take(|h| h.kind == 0 && h.tag == tag)?.1);
+        }
         let (_, inside) = self.take(|h| h.kind == 1 && h.tag == tag && h.content == kind)?;
         Ok(inside)
     }
 
+    fn boolean(&mut self, tag: Tag) -> Result<bool, Error> {
+        let there = if F::IS_DER { 0xff } else { 1 };
+        match self.scalar(tag, 1)? {
+            [0] => Ok(false),
+            [byte] if *byte == there => Ok(true),
+            _ => Err(Error::Malformed),
+        }
+    }
+
+    fn integer_in_der(&mut self, tag: Tag) -> Result<Integer, Error> {
+        let content = self.scalar(tag, 2)?;
+        let negative = match content {
+            [] | [0, 0..=0x7f, ..] | [0xff, 0x80..=0xff, ..] => return Err(Error::Malformed),
+            [first, ..] => *first >= 0x80,
+        };
+        if content.len() > 16 {
+            let magnitude = if negative { complement(true, content) } else { content.to_vec() };
+            let zeros = magnitude.iter().take_while(|digit| **digit == 0).count();
+            return Ok(Integer::Wide { negative, magnitude: magnitude[zeros..].to_vec() });
+        }
+        let start = if negative { -1 } else { 0 };
+        Ok(Integer::Narrow(content.iter().fold(start, |number, digit| number << 8 | i128::from(*digit))))
+    }
+
     fn integer(&mut self, tag: Tag, kind: u8) -> Result<Integer, Error> {
+        if F::IS_DER {
+            return self.integer_in_der(tag);
+        }
         let [sign, digits @ ..] = self.scalar(tag, kind)? else {
             return Err(Error::Malformed);
         };
@@ -231,8 +420,20 @@ impl<'a, const MARKS: bool> Reader<'a, MARKS> {
         Ok(value)
     }
 
+    /// A CHOICE, which has no item of its own in DER.
+    fn choice<T>(&mut self, inside: impl FnOnce(&mut Self, Tag) -> Result<T, Error>) -> Result<T, Error> {
+        if F::IS_DER {
+            self.depth_left = self.depth_left.checked_sub(1).ok_or(Error::TooDeep)?;
+            let tag = self.header()?.tag;
+            let value = inside(self, tag)?;
+            self.depth_left += 1;
+            return Ok(value);
+        }
+        self.scope(|header| header.kind == 7, inside)
+    }
+
     fn told(&mut self, there: u8, away: u8, tags: &[Tag]) -> Result<bool, Error> {
-        if MARKS {
+        if F::HAS_MARKS {
             let [byte, rest @ ..] = self.left else {
                 return Err(Error::Missing(1));
             };
@@ -251,23 +452,42 @@ impl<'a, const MARKS: bool> Reader<'a, MARKS> {
     }
 
     fn skip_marks(&mut self) {
-        while let (true, [0x10..=0x14, rest @ ..]) = (MARKS, self.left) {
+        while let (true, [0x10..=0x14, rest @ ..]) = (F::HAS_MARKS, self.left) {
             self.left = rest;
         }
     }
 }
 
-fn is_scope(kind: u8, tag: Tag) -> impl Fn(Header<'_>) -> bool {
+/// The number of a tag that does not fit in the first octet.
+fn long_number(bytes: &[u8]) -> Result<(u32, &[u8]), Error> {
+    let (mut number, mut left) = (0u32, bytes);
+    loop {
+        let [octet, rest @ ..] = left else {
+            return Err(Error::Missing(1));
+        };
+        if number >= 1 << 25 || (number == 0 && *octet == 0x80) {
+            return Err(Error::Malformed);
+        }
+        number = number << 7 | u32::from(*octet & 0x7f);
+        left = rest;
+        if *octet < 0x80 {
+            return if number < 31 { Err(Error::Malformed) } else { Ok((number, rest)) };
+        }
+    }
+}
+
+fn is_scope<F: Form>(kind: u8, tag: Tag) -> impl Fn(Header<'_>) -> bool {
+    let kind = if F::IS_DER { 0x20 } else { kind };
     move |header| header.kind == kind && header.tag == tag
 }
 
 impl<T: Value> Value for Vec<T> {
-    fn write<const MARKS: bool>(&self, writer: &mut Writer<MARKS>) -> Result<(), Error> {
+    fn write<F: Form>(&self, writer: &mut Writer<F>) -> Result<(), Error> {
         writer.scope(4, SEQUENCE, |writer| self.iter().try_for_each(|value| value.write(writer)))
     }
 
-    fn read<const MARKS: bool>(reader: &mut Reader<'_, MARKS>) -> Result<Self, Error> {
-        reader.scope(is_scope(4, SEQUENCE), |reader, _| {
+    fn read<F: Form>(reader: &mut Reader<'_, F>) -> Result<Self, Error> {
+        reader.scope(is_scope::<F>(4, SEQUENCE), |reader, _| {
             let mut list = Vec::new();
             while !reader.left.is_empty() {
                 list.push(T::read(reader)?);
@@ -283,15 +503,15 @@ struct Person {
 }
 
 impl Value for Person {
-    fn write<const MARKS: bool>(&self, writer: &mut Writer<MARKS>) -> Result<(), Error> {
+    fn write<F: Form>(&self, writer: &mut Writer<F>) -> Result<(), Error> {
         writer.scope(2, SEQUENCE, |writer| {
             writer.integer(INTEGER, &self.age)?;
             writer.scalar(UTF8_STRING, 8, self.name.as_bytes())
         })
     }
 
-    fn read<const MARKS: bool>(reader: &mut Reader<'_, MARKS>) -> Result<Self, Error> {
-        reader.scope(is_scope(2, SEQUENCE), |reader, _| {
+    fn read<F: Form>(reader: &mut Reader<'_, F>) -> Result<Self, Error> {
+        reader.scope(is_scope::<F>(2, SEQUENCE), |reader, _| {
             Ok(Person { age: reader.integer(INTEGER, 2)?, name: reader.text(UTF8_STRING)? })
         })
     }
@@ -320,7 +540,7 @@ const PHONE: Tag = context(3);
 const MAIL: Tag = context(4);
 
 impl Value for Profile {
-    fn write<const MARKS: bool>(&self, writer: &mut Writer<MARKS>) -> Result<(), Error> {
+    fn write<F: Form>(&self, writer: &mut Writer<F>) -> Result<(), Error> {
         writer.scope(2, SEQUENCE, |writer| {
             writer.optional_string(context(0), 8, self.nick.as_ref().map(|nick| nick.as_bytes()))?;
             writer.number(context(1), 2, i128::from(self.level))?;
@@ -333,8 +553,8 @@ impl Value for Profile {
             match &self.contact {
                 Some(contact) if contact.phone.is_some() || contact.mail.is_some() => {
                     writer.mark(0x12);
-                    writer.optional_string(PHONE, 13, contact.phone.as_deref())?;
-                    writer.optional_string(MAIL, 11, contact.mail.as_deref())?;
+                    writer.optional_string(PHONE, 14, contact.phone.as_deref())?;
+                    writer.optional_string(MAIL, 12, contact.mail.as_deref())?;
                     writer.mark(0x14);
                 }
                 _ => writer.mark(0x13),
@@ -343,8 +563,8 @@ impl Value for Profile {
         })
     }
 
-    fn read<const MARKS: bool>(reader: &mut Reader<'_, MARKS>) -> Result<Self, Error> {
-        reader.scope(is_scope(2, SEQUENCE), |reader, _| {
+    fn read<F: Form>(reader: &mut Reader<'_, F>) -> Result<Self, Error> {
+        reader.scope(is_scope::<F>(2, SEQUENCE), |reader, _| {
             let nick = reader.is_present(context(0))?.then(|| reader.text(context(0))).transpose()?;
             let level = reader.small(context(1), 2)?;
             let mut color = Color::Red;
@@ -362,15 +582,15 @@ impl Value for Profile {
     }
 }
 
-fn read_contact<const MARKS: bool>(reader: &mut Reader<'_, MARKS>) -> Result<Contact, Error> {
+fn read_contact<F: Form>(reader: &mut Reader<'_, F>) -> Result<Contact, Error> {
     let mut contact = Contact { phone: None, mail: None };
     if reader.is_present(PHONE)? {
-        contact.phone = Some(reader.letters(PHONE, 13, |unit| unit == b' ' || unit.is_ascii_digit())?);
+        contact.phone = Some(reader.letters(PHONE, 14, |unit| unit == b' ' || unit.is_ascii_digit())?);
     }
     if reader.is_present(MAIL)? {
-        contact.mail = Some(reader.letters(MAIL, 11, |unit| unit.is_ascii())?);
+        contact.mail = Some(reader.letters(MAIL, 12, |unit| unit.is_ascii())?);
     }
-    if MARKS {
+    if F::HAS_MARKS {
         let [0x14, rest @ ..] = reader.left else {
             return Err(Error::Malformed);
         };
@@ -391,10 +611,10 @@ enum Shape {
 }
 
 impl Value for Corner {
-    fn write<const MARKS: bool>(&self, writer: &mut Writer<MARKS>) -> Result<(), Error> {
+    fn write<F: Form>(&self, writer: &mut Writer<F>) -> Result<(), Error> {
         match self {
             Corner::Left(left) => {
-                writer.scope(7, BOOLEAN, |writer| writer.scalar(BOOLEAN, 1, &[u8::from(*left)]))
+                writer.scope(7, BOOLEAN, |writer| writer.boolean(BOOLEAN, *left))
             }
             Corner::Right(right) => {
                 writer.scope(7, OCTET_STRING, |writer| writer.scalar(OCTET_STRING, 6, right))
@@ -402,35 +622,39 @@ impl Value for Corner {
         }
     }
 
-    fn read<const MARKS: bool>(reader: &mut Reader<'_, MARKS>) -> Result<Self, Error> {
-        reader.scope(|header| header.kind == 7, |reader, tag| match tag {
-            BOOLEAN => match reader.scalar(BOOLEAN, 1)? {
-                [0] => Ok(Corner::Left(false)),
-                [1] => Ok(Corner::Left(true)),
-                _ => Err(Error::Malformed),
-            },
+    fn read<F: Form>(reader: &mut Reader<'_, F>) -> Result<Self, Error> {
+        reader.choice(|reader, tag| match tag {
+            BOOLEAN => Ok(Corner::Left(reader.boolean(BOOLEAN)?)),
             OCTET_STRING => Ok(Corner::Right(reader.scalar(OCTET_STRING, 6)?.to_vec())),
             _ => Err(Error::Malformed),
         })
     }
 }
 
+impl Shape {
+    fn tag(&self) -> Tag {
+        match self {
+            Shape::Dot => NULL,
+            Shape::Ring(_) => context(0),
+            Shape::Inner(Corner::Left(_)) => BOOLEAN,
+            Shape::Inner(Corner::Right(_)) => OCTET_STRING,
+        }
+    }
+}
+
 impl Value for Shape {
-    fn write<const MARKS: bool>(&self, writer: &mut Writer<MARKS>) -> Result<(), Error> {
+    fn write<F: Form>(&self, writer: &mut Writer<F>) -> Result<(), Error> {
         match self {
             Shape::Dot => writer.scope(7, NULL, |writer| writer.scalar(NULL, 4, &[])),
             Shape::Ring(ring) => {
                 writer.scope(7, context(0), |writer| writer.number(context(0), 2, i128::from(*ring)))
             }
-            Shape::Inner(corner) => {
-                let tag = if let Corner::Left(_) = corner { BOOLEAN } else { OCTET_STRING };
-                writer.scope(7, tag, |writer| corner.write(writer))
-            }
+            Shape::Inner(corner) => writer.scope(7, self.tag(), |writer| corner.write(writer)),
         }
     }
 
-    fn read<const MARKS: bool>(reader: &mut Reader<'_, MARKS>) -> Result<Self, Error> {
-        reader.scope(|header| header.kind == 7, |reader, tag| match tag {
+    fn read<F: Form>(reader: &mut Reader<'_, F>) -> Result<Self, Error> {
+        reader.choice(|reader, tag| match tag {
             NULL => match reader.scalar(NULL, 4)? {
                 [] => Ok(Shape::Dot),
                 _ => Err(Error::Malformed),
@@ -449,16 +673,27 @@ struct Badge {
 }
 
 impl Value for Badge {
-    fn write<const MARKS: bool>(&self, writer: &mut Writer<MARKS>) -> Result<(), Error> {
+    fn write<F: Form>(&self, writer: &mut Writer<F>) -> Result<(), Error> {
+        let tag = self.shape.tag();
+        let places = if F::IS_DER { [tag < INTEGER, (INTEGER..VISIBLE_STRING).contains(&tag)] } else { [false; 2] };
         writer.scope(3, SET, |writer| {
+            if places[0] {
+                self.shape.write(writer)?;
+            }
             writer.number(INTEGER, 2, i128::from(self.id))?;
+            if places[1] {
+                self.shape.write(writer)?;
+            }
             writer.optional_string(VISIBLE_STRING, 9, self.label.as_deref())?;
-            self.shape.write(writer)
+            if places == [false; 2] {
+                self.shape.write(writer)?;
+            }
+            Ok(())
         })
     }
 
-    fn read<const MARKS: bool>(reader: &mut Reader<'_, MARKS>) -> Result<Self, Error> {
-        reader.scope(is_scope(3, SET), |reader, _| {
+    fn read<F: Form>(reader: &mut Reader<'_, F>) -> Result<Self, Error> {
+        reader.scope(is_scope::<F>(3, SET), |reader, _| {
             let (mut id, mut label, mut shape) = (None, None, None);
             loop {
                 reader.skip_marks();
@@ -489,15 +724,15 @@ struct Node {
 }
 
 impl Value for Node {
-    fn write<const MARKS: bool>(&self, writer: &mut Writer<MARKS>) -> Result<(), Error> {
+    fn write<F: Form>(&self, writer: &mut Writer<F>) -> Result<(), Error> {
         writer.scope(2, SEQUENCE, |writer| {
             writer.optional_string(UTF8_STRING, 8, self.label.as_ref().map(|label| label.as_bytes()))?;
             self.children.write(writer)
         })
     }
 
-    fn read<const MARKS: bool>(reader: &mut Reader<'_, MARKS>) -> Result<Self, Error> {
-        reader.scope(is_scope(2, SEQUENCE), |reader, _| {
+    fn read<F: Form>(reader: &mut Reader<'_, F>) -> Result<Self, Error> {
+        reader.scope(is_scope::<F>(2, SEQUENCE), |reader, _| {
             let label = reader.is_present(UTF8_STRING)?.then(|| reader.text(UTF8_STRING)).transpose()?;
             Ok(Node { label, children: Vec::read(reader)? })
         })
@@ -539,24 +774,24 @@ fn node(levels: u32) -> Node {
     (0..levels).fold(leaf, |node, _| Node { label: None, children: vec![node] })
 }
 
-fn bytes_of<const MARKS: bool, T: Value>(value: &T) -> Result<Vec<u8>, Error> {
-    let mut writer = Writer::<MARKS> { bytes: Vec::new(), depth_left: usize::MAX };
+fn bytes_of<F: Form, T: Value>(value: &T) -> Result<Vec<u8>, Error> {
+    let mut writer = Writer::<F> { bytes: Vec::new(), depth_left: usize::MAX, form: PhantomData };
     value.write(&mut writer)?;
     Ok(writer.bytes)
 }
 
-fn value_of<const MARKS: bool, T: Value>(bytes: &[u8]) -> Result<T, Error> {
-    let mut reader = Reader::<MARKS> { left: bytes, depth_left: usize::MAX };
+fn value_of<F: Form, T: Value>(bytes: &[u8]) -> Result<T, Error> {
+    let mut reader = Reader::<F> { left: bytes, depth_left: usize::MAX, form: PhantomData };
     let value = T::read(&mut reader)?;
     if reader.left.is_empty() { Ok(value) } else { Err(Error::Malformed) }
 }
 
-fn run<const MARKS: bool, T: Value>(value: &T, action: &str, times: u32) -> Result<(), Error> {
-    let bytes = bytes_of::<MARKS, T>(value)?;
+fn run<F: Form, T: Value>(value: &T, action: &str, times: u32) -> Result<(), Error> {
+    let bytes = bytes_of::<F, T>(value)?;
     for _ in 0..times {
         match action {
-            "read" => drop(value_of::<MARKS, T>(&bytes)?),
-            _ => drop(bytes_of::<MARKS, T>(value)?),
+            "read" => drop(value_of::<F, T>(&bytes)?),
+            _ => drop(bytes_of::<F, T>(value)?),
         }
     }
     let checksum = bytes.iter().fold(0u32, |sum, byte| sum.wrapping_mul(31).wrapping_add(u32::from(*byte)));
@@ -564,12 +799,12 @@ fn run<const MARKS: bool, T: Value>(value: &T, action: &str, times: u32) -> Resu
     Ok(())
 }
 
-fn work<const MARKS: bool>(action: &str, name: &str, count: u32, times: u32) -> Result<(), Error> {
+fn work<F: Form>(action: &str, name: &str, count: u32, times: u32) -> Result<(), Error> {
     match name {
-        "person" => run::<MARKS, _>(&(0..count).map(person).collect::<Vec<_>>(), action, times),
-        "profile" => run::<MARKS, _>(&(0..count).map(profile).collect::<Vec<_>>(), action, times),
-        "badge" => run::<MARKS, _>(&(0..count).map(badge).collect::<Vec<_>>(), action, times),
-        _ => run::<MARKS, _>(&node(count), action, times),
+        "person" => run::<F, _>(&(0..count).map(person).collect::<Vec<_>>(), action, times),
+        "profile" => run::<F, _>(&(0..count).map(profile).collect::<Vec<_>>(), action, times),
+        "badge" => run::<F, _>(&(0..count).map(badge).collect::<Vec<_>>(), action, times),
+        _ => run::<F, _>(&node(count), action, times),
     }
 }
 
@@ -580,8 +815,9 @@ fn main() {
     };
     let (count, times) = (count.parse().unwrap_or(0), times.parse().unwrap_or(0));
     let done = match form.as_str() {
-        "packed" => work::<true>(action, name, count, times),
-        _ => work::<false>(action, name, count, times),
+        "packed" => work::<Packed>(action, name, count, times),
+        "tag" => work::<WithTags>(action, name, count, times),
+        _ => work::<Der>(action, name, count, times),
     };
     match done {
         Ok(()) => {}

@@ -7,6 +7,7 @@ with the codecs over bytes, of which asn1_trials is the program.
     python3 bench/run.py --codecs
     python3 bench/run.py --stack
     python3 bench/run.py --damage SECONDS
+    python3 bench/run.py --growths
 
 proves and builds the program first. The first prints a line for each kind of input and size: the rate in MB (10^6 bytes) a
 second, the best of three runs, and the peak memory of the process in MB. The second builds bench/plain.rs, a program in plain
@@ -17,7 +18,8 @@ MB a second, that of plain Rust, and the ratio of the times; the instructions fo
 both. The time is that of the processor, the best of five, less what it takes to make the values.
 
 The fourth prints for each type that holds itself how many nested scopes a stack of 8 MiB holds in writing, reading and dropping. The
-last damages the bytes of a value of each sample type for this long, by one seed after another.
+fifth damages the bytes of a value of each sample type for this long, by one seed after another. The last refuses each growth of memory
+in turn, while a value of each sample type is written and read.
 """
 import os
 import resource
@@ -177,7 +179,7 @@ def compare_codecs():
 
 
 # The codecs that bench/plain_codecs.rs has, and the lists with their lengths; of nodes the length of the chain.
-CODECS = ("packed", "tag")
+CODECS = ("packed", "tag", "der")
 LISTS = {"person": (10**4, 10**5), "profile": (10**4, 10**5), "badge": (10**4, 10**5), "node": (500, 2000)}
 
 
@@ -242,11 +244,39 @@ def damage(seconds):
     print(f"{seed} seeds")
 
 
+def refuse_growths():
+    """Refuses each growth in turn, and stops where the program says anything else than that all come back or that there is no memory."""
+    with tempfile.TemporaryDirectory() as folder:
+        library = os.path.join(folder, "librefuse.so")
+        source = os.path.join(ROOT, "bench", "refuse.rs")
+        subprocess.run(["rustc", "-O", "--edition", "2024", "--crate-type", "cdylib", source, "-o", library], check=True)
+        for job in [[codec, "growths"] for codec in CODECS] + [["packed", "pieces"]]:
+            print(f"{' '.join(job)}: {refused_growths(library, job)} growths", flush=True)
+
+
+def refused_growths(library, job):
+    """How many growths a job has, each of which was refused."""
+    number = 1
+    while True:
+        environment = {**os.environ, "LD_PRELOAD": library, "REFUSED": str(number)}
+        process = subprocess.run([TRIALS_PROGRAM, *job], env=environment, capture_output=True)
+        said = process.stdout.decode().rstrip()
+        if b"a growth is refused" not in process.stderr:
+            return number - 1
+        if process.returncode == 0 and not said.endswith((": all come back", ": no memory")):
+            sys.exit(f"{job}, growth {number}: {said}")
+        if process.returncode not in (0, 1):
+            sys.exit(f"{job}, growth {number}: status {process.returncode}")
+        number += 1
+
+
 def main():
-    if {"--codecs", "--stack", "--damage"} & set(sys.argv):
+    if {"--codecs", "--stack", "--damage", "--growths"} & set(sys.argv):
         subprocess.run(["rt", "run"], cwd=TRIALS, stdin=subprocess.DEVNULL, check=True)
         if "--damage" in sys.argv:
             return damage(float(sys.argv[-1]))
+        if "--growths" in sys.argv:
+            return refuse_growths()
         return compare_codecs() if "--codecs" in sys.argv else measure_stack()
     subprocess.run(["rt", "run"], cwd=CRATE, stdin=subprocess.DEVNULL, check=True)
     print(f"cores: {os.cpu_count()}")

@@ -3,14 +3,16 @@ ghost use Rattle.asn1_bench.specs.Outputs.{AreTooLong};
 ghost use Rattle.asn1_items.specs.Headers.{is_one_item};
 ghost use Rattle.asn1_model.specs.Meaning.{IsWellTagged};
 ghost use Rattle.asn1_model.specs.Records.{Record};
-ghost use Rattle.asn1_packed.specs.Carried.{Carries};
+ghost use Rattle.asn1_packed.specs.Carried.{Carries, CarriesWith};
+ghost use Rattle.asn1_packed.specs.Written.{item_writer};
 ghost use Rattle.asn1_streams.specs.Fronts.{BelongsTo, IsSteady};
 ghost use Rattle.asn1_tags.specs.Derives.{ClonesAll};
-ghost use Rattle.std.specs.Prelude.{◌≡◌, ◌↔◌, List, ℕ};
+ghost use Rattle.std.specs.Prelude.{◌≡◌, ◌↔◌, ◌<◌, ◌^◌, All, List, ℕ};
 
 use crate::reader::BenchReader;
 use crate::rules::BenchRules;
 use asn1_dec::Decode;
+use asn1_packed::Presence;
 use asn1_rules::Rules;
 use asn1_streams::FrontReader;
 
@@ -23,6 +25,12 @@ pub fn the_codec_rejects_what_is_too_long(output: &Vec<u8>)
         ⟦<BenchRules as Rules>⟧.format.accepts bytes ≡ is_one_item bytes }
     ensures rejects { (rs : List Record) → ⟦<BenchRules as Rules>⟧.format.rejects rs ↔
         AreTooLong rs }
+{}
+
+/// A law of each form of items, whatever the bytes of its presence marks are: what is too long, and so rejected, has no output.
+pub fn what_is_too_long_has_no_output<P: Presence>()
+    ensures { (bytes : List ℕ) (rs : List Record) → All (λ byte. byte < 2 ^ 8) bytes →
+        (item_writer {P = P} P.mark_bytes).rejects rs → ¬ CarriesWith P.mark_bytes bytes rs }
 {}
 
 /// A law of the reader: bytes behind change nothing, and an input has one front at most (`steady`); and for each type that can

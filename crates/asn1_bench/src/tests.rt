@@ -5,7 +5,6 @@ mod cases;
 mod depth;
 mod errors;
 mod failures;
-mod growths;
 mod memory;
 mod no_memory;
 mod refusals;

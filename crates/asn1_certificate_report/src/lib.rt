@@ -1,28 +1,36 @@
-//! A certificate as a person wants to see it, read by any codec that has its octets.
+//! What is shown of a certificate, and its text.
 //!
 //! | Item | What it is |
 //! |---|---|
-//! | [`show`], [`ShowError`] | an input as a report, or why there is none |
-//! | [`Locates`] | a codec that tells where it could not read on |
-//! | [`report`] | a certificate as lines |
-//! | [`MAX_DEPTH`] | how deep certificates may be nested |
+//! | [`Report`], [`report_text`] | what is shown of a certificate, and its lines |
+//! | [`Version`], [`OctetNumber`], [`ShownTime`] | its version, its serial number, and from when to when it is valid |
+//! | [`ShownName`], [`NamePart`], [`Attribute`], [`AttributeValue`] | its subject and its issuer |
+//! | [`ShownKey`], [`KeySize`], [`Signature`] | its public key, and the algorithm of its signature |
+//! | [`ShownExtension`], [`ExtensionValue`], [`ShownGeneralName`], [`Authority`], [`AuthorityKey`] | its extensions |
+//! | [`Object`] | an object identifier, with its name |
+//! | [`Shows`] | what has a text |
 //!
-//! A report has a line for the version, the serial number, the subject, the issuer, from when to when the certificate is valid,
-//! the public key with its size and the signature, and a line or more for each extension. Extensions that have no type here, and
-//! those whose value is not of their type, are shown in hexadecimal. The texts are those of `asn1_certificate_text`; what a
-//! certificate has inside open types and octets is read by the same codec.
+//! What the contracts promise: the text of a report is one definition of its parts, `report_text` of `specs/Reports.antt`, and each
+//! part has one of its own beside it (`text_of` of [`Shows`]). The calls that append to a text fail only if memory runs out, and
+//! then have appended a part.
 #![tactic(auto)]
 
-mod attributes;
-mod certificate;
-mod extensions;
-mod general_names;
-mod inside;
-mod keys;
-mod lines;
-mod show;
-mod times;
+mod extension;
+mod general_name;
+mod key;
+mod name;
+mod number;
+mod object;
+mod report;
+mod shows;
+mod time;
 
-pub use certificate::report;
-pub use inside::MAX_DEPTH;
-pub use show::{Locates, ShowError, show};
+pub use extension::{Authority, AuthorityKey, ExtensionValue, ShownExtension};
+pub use general_name::ShownGeneralName;
+pub use key::{KeySize, ShownKey, Signature};
+pub use name::{Attribute, AttributeValue, NamePart, ShownName};
+pub use number::{OctetNumber, Version};
+pub use object::Object;
+pub use report::{Report, report_text};
+pub use shows::Shows;
+pub use time::ShownTime;

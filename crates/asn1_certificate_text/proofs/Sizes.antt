@@ -21,7 +21,7 @@ octet_bits (suc k) =
     let same : suc k * 8 ≡ k * 8 + 8 = omega arith in
     rw (same, split, octet_bits k) (sym (pow-suc 256 k))
 
--- of the bits of the first octet so many are used
+-- how many bits of the first octet are used
 bits_of_octets : (first : ℕ) (rest : List ℕ) → 0 < first → first < 256 → AllBelowBase 256 rest →
     IsBitLength (magnitude (first ∷ rest)) (length rest * 8 + (8 - count_leading_zeros 8 first))
 bits_of_octets first rest some octet below =

@@ -31,12 +31,12 @@ text_if_set set is_later n = if set then usage_text is_later n else []
 abbrev pub is_set : List Bool → ℕ → Bool
 is_set bits n = unwrap_or (slice_get bits n) false
 
--- whether one of the first so many is
+-- whether one of the first n bits is
 abbrev pub is_some_set : List Bool → ℕ → Bool
 is_some_set bits zero = false
 is_some_set bits (suc n) = is_some_set bits n || is_set bits n
 
--- the names of the first so many usages whose bits are set
+-- the names of the usages whose bits are set, of the first n
 abbrev pub first_usages : List Bool → ℕ → List ℕ
 first_usages bits zero = []
 first_usages bits (suc n) =

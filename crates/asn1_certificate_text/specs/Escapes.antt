@@ -31,11 +31,11 @@ escaped at_end c =
     if is_control c then control_text c
     else (if says_something_else at_end c then codes "\\" ++ encode_utf8 c else encode_utf8 c)
 
--- whether it is the place of the first or the last of so many characters
+-- whether it is the place of the first or the last of this many characters
 abbrev pub is_end : ℕ → ℕ → Bool
 is_end place count = place == 0 || place + 1 == count
 
--- so many characters of a value from its first on
+-- a value from its first character on, up to this many
 abbrev pub escaped_first : List ℕ → ℕ → List ℕ
 escaped_first cs zero = []
 escaped_first cs (suc n) = escaped_first cs n ++ escaped (is_end n (length cs)) (slice_index cs n)

@@ -6,7 +6,7 @@ use Rattle.base64.specs.GeneralPurpose.{decode_of}
 use Rattle.memchr.specs.Find.{FindsNeedle}
 use Rattle.asn1_certificate_text.specs.declared.pem.PemError.{PemError}
 use Rattle.asn1_certificate_text.specs.declared.pem.PemError.TheVariants.{NoBegin, NoEnd, BadSymbol, NotWhole, Memory}
-use Rattle.asn1_certificate_text.specs.Pem.{Encloses, is_symbol}
+use Rattle.asn1_certificate_text.specs.Pem.{Encloses, HasNoBegin, is_symbol}
 
 -- the error is about what is between two lines
 abbrev pub IsAboutBase64 : PemError → Type 0
@@ -32,7 +32,7 @@ pub record HoldsNoBase64 (text : List ℕ) : Type 0 where
 
 -- there is no such line, or what is between them is no base64, or there was no memory
 abbrev pub IsRefusal : List ℕ → PemError → Type 0
-IsRefusal text NoBegin = FindsNeedle text (codes "-----BEGIN CERTIFICATE-----") 0 None
+IsRefusal text NoBegin = HasNoBegin text
 IsRefusal text (NoEnd start) = FindsNeedle (drop start text) (codes "-----END CERTIFICATE-----") 0 None
 IsRefusal text (BadSymbol place) = HoldsNoBase64 text
 IsRefusal text (NotWhole place) = HoldsNoBase64 text

@@ -13,7 +13,8 @@ use std::net::{Ipv4Addr, Ipv6Addr};
 /// Appends the IP address of these octets: four are one of IPv4, sixteen one of IPv6 (RFC 5280, 4.2.1.6). Any other number
 /// of octets is no address, and they are appended in hexadecimal.
 pub fn push_address(text: &mut String, octets: &[u8]) -> Result<(), AllocError>
-    ensures { OnOk result (string_bytes text.new ≡ string_bytes text.old ++ address_text octets.now) }
+    ensures { OnOk result (string_bytes text.new ≡
+        string_bytes text.old ++ address_text octets.now) }
 {
     if let Ok(four) = <[u8; 4]>::try_from(octets) {
         let address = Ipv4Addr::from_octets(four);

@@ -43,7 +43,7 @@ fn push_shown_character(text: &mut String, character: char) -> Result<(), AllocE
     text.push(character)
 }
 
-/// Whether it is the place of the first or the last of so many characters.
+/// Whether it is the place of the first or the last of this many characters.
 fn is_end(place: usize, count: usize) -> bool
     requires { place < count }
     ensures { result ≡ is_end place count }
@@ -53,7 +53,8 @@ fn is_end(place: usize, count: usize) -> bool
 
 /// Appends a character, which is the first or the last of its value or not.
 fn push_character(text: &mut String, at_end: bool, character: char) -> Result<(), AllocError>
-    ensures { OnOk result (string_bytes text.new ≡ string_bytes text.old ++ escaped at_end character) }
+    ensures { OnOk result (string_bytes text.new ≡
+        string_bytes text.old ++ escaped at_end character) }
 {
     if is_control(character) {
         return push_control(text, character);
@@ -75,7 +76,8 @@ fn says_something_else(at_end: bool, character: char) -> bool
 /// Appends the octets of a control character in UTF-8, each as two digits after a backslash.
 fn push_control(text: &mut String, character: char) -> Result<(), AllocError>
     requires { is_control character ≡ true }
-    ensures { OnOk result (string_bytes text.new ≡ string_bytes text.old ++ control_text character) }
+    ensures { OnOk result (string_bytes text.new ≡
+        string_bytes text.old ++ control_text character) }
 {
     let code = u32::from(character);
     if code >= 128 {

@@ -2,7 +2,7 @@
 //!
 //! | Item | What it is |
 //! |---|---|
-//! | [`is_pem`], [`pem_octets`], [`PemError`] | a certificate between two lines, in base64 (RFC 7468) |
+//! | [`is_pem`], [`pem_octets`], [`certificate_octets`], [`PemError`] | a certificate between two lines, in base64 (RFC 7468) |
 //! | [`push_escaped`], [`push_shown`] | the value of an attribute of a name (RFC 4514), and other texts |
 //! | [`push_octets`], [`push_digits`] | octets in hexadecimal, with colons and without |
 //! | [`Moment`] | a moment, of the two kinds of time that a certificate has (RFC 5280, 4.1.2.5) |
@@ -39,4 +39,4 @@ pub use escapes::{push_escaped, push_shown};
 pub use moment::Moment;
 pub use objects::{Curve, NamedObject, curve_of, object_named};
 pub use octets::{push_digits, push_octets};
-pub use pem::{PemError, is_pem, pem_octets};
+pub use pem::{PemError, certificate_octets, is_pem, pem_octets};

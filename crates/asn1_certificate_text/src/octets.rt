@@ -10,7 +10,8 @@ use std::fmt::Write;
 
 /// Appends the octets in hexadecimal, two digits each, with a colon between each two.
 pub fn push_octets(text: &mut String, octets: &[u8]) -> Result<(), AllocError>
-    ensures { OnOk result (string_bytes text.new ≡ string_bytes text.old ++ octets_text octets.now) }
+    ensures { OnOk result (string_bytes text.new ≡
+        string_bytes text.old ++ octets_text octets.now) }
 {
     match octets {
         [] => Ok(()),
@@ -34,7 +35,8 @@ pub fn push_digits(text: &mut String, octets: &[u8]) -> Result<(), AllocError>
 
 /// Appends the octets with a colon before each.
 fn push_after_colons(text: &mut String, octets: &[u8]) -> Result<(), AllocError>
-    ensures { OnOk result (string_bytes text.new ≡ string_bytes text.old ++ after_colons octets.now) }
+    ensures { OnOk result (string_bytes text.new ≡
+        string_bytes text.old ++ after_colons octets.now) }
 {
     for octet in octets {
         text.push_str(":")?;

@@ -1,8 +1,8 @@
 //! A certificate in a text (RFC 7468).
-ghost use Rattle.std.specs.Prelude.{◌≡◌, IfErr, IfOk, Ok, filter};
+ghost use Rattle.std.specs.Prelude.{◌≡◌, IfErr, IfOk, Ok, false, filter, true};
 ghost use Rattle.base64.specs.Engines.{standard};
 ghost use Rattle.base64.specs.GeneralPurpose.{decode_of};
-ghost use Rattle.asn1_certificate_text.specs.Pem.{Encloses, HoldsCertificate, is_symbol};
+ghost use Rattle.asn1_certificate_text.specs.Pem.{AreOctetsOf, Encloses, HasBegin, HasNoBegin, HoldsCertificate, is_symbol};
 ghost use Rattle.asn1_certificate_text.specs.declared.pem.PemError.TheVariants.{Memory};
 ghost use Rattle.asn1_certificate_text.specs.PemRefusals.{IsAboutBase64, IsRefusal, IsRefusalOfBody};
 
@@ -47,8 +47,29 @@ impl From<AllocError> for PemError {
 }
 
 /// Whether there is a line before a certificate.
-pub fn is_pem(input: &[u8]) -> bool {
-    memmem::find(input, BEGIN).is_some()
+pub fn is_pem(input: &[u8]) -> bool
+    ensures found { result ≡ true → HasBegin input.now }
+    ensures not_found { result ≡ false → HasNoBegin input.now }
+{
+    match memmem::find(input, BEGIN) {
+        Some(_) => true,
+        None => false,
+    }
+}
+
+/// The octets of an input: those of the first certificate in a text, and any other input as it is.
+///
+/// # Errors
+/// Those of [`pem_octets`], where there is a line before a certificate.
+pub fn certificate_octets(alloc: Global, input: Vec<u8>) -> Result<Vec<u8>, PemError>
+    ensures read { IfOk result (λ octets. AreOctetsOf input.items octets.items) }
+    ensures refused { IfErr result (IsRefusal input.items) }
+{
+    if is_pem(input.as_slice()) {
+        pem_octets(alloc, input.as_slice())
+    } else {
+        Ok(input)
+    }
 }
 
 /// The octets of the first certificate in a text. White space in its base64 is left out.

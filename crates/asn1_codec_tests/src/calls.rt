@@ -1,6 +1,7 @@
 //! Each call of an encoder and of a decoder.
 mod additions;
 mod defaults;
+mod each;
 mod entry_points;
 mod explicit_tags;
 mod kinds;
@@ -11,6 +12,7 @@ mod tagged;
 
 pub use additions::{additions_come_back, additions_with_defaults_come_back};
 pub use defaults::{a_default_without_memory_is_an_error, defaults_come_back};
+pub use each::each_call_comes_back;
 pub use entry_points::entry_points_come_back;
 pub use explicit_tags::explicit_tags_come_back;
 pub use kinds::{

@@ -2,7 +2,7 @@
 ghost use Rattle.asn1_codec_tests.specs.declared.failure.Failure.TheVariants.{Another, Memory, NotRead, NotWritten};
 ghost use Rattle.asn1_codec.specs.declared.decode_error.DecodeError.TheVariants as reading;
 ghost use Rattle.asn1_codec.specs.declared.encode_error.EncodeError.TheVariants as writing;
-ghost use Rattle.std.specs.Prelude.{◌≡◌, ◌≢◌};
+ghost use Rattle.std.specs.Prelude.{◌≡◌, ◌≢◌, ◌⊎◌, IsOk, OnOk};
 
 use asn1_dec::DecodeError;
 use asn1_enc::EncodeError;
@@ -65,6 +65,31 @@ impl Failure {
             RecodeError::Read(error) => Failure::of_reading(error),
             RecodeError::Write(error) => Failure::of_writing(error),
         }
+    }
+}
+
+/// Whether a case passes that is run twice, since one run may be short of memory.
+///
+/// # Errors
+/// Why a run failed that was not short of memory, and [`Failure::Memory`] where both were.
+pub fn one_passes(first: Result<(), Failure>, second: Result<(), Failure>) -> Result<(), Failure>
+    ensures passed { OnOk result (IsOk first ⊎ IsOk second) }
+    ensures both { IsOk first → IsOk second → IsOk result }
+{
+    match first {
+        Err(Failure::Memory) => second,
+        Err(failure) => Err(failure),
+        Ok(()) => passes_or_memory(second),
+    }
+}
+
+/// Whether a case passes, or is short of memory.
+fn passes_or_memory(answer: Result<(), Failure>) -> Result<(), Failure>
+    ensures passed { IsOk answer → IsOk result }
+{
+    match answer {
+        Err(Failure::Memory) => Ok(()),
+        other => other,
     }
 }
 

@@ -10,9 +10,10 @@
 //! | [`refusals`] | what types themselves refuse |
 //! | [`nested_lists_need_their_depth`] | how deep scopes are nested |
 //! | [`Failure`] | why a case failed |
+//! | [`one_passes`] | what is tried of a case of which one run may be short of memory |
 //! | [`comes_back`], [`made_comes_back`], [`needs_depth`], [`is_refused`] | what is tried of a value of any type |
 //! | [`goes_there_and_back`], [`is_not_recoded`] | what is tried of two codecs |
-//! | [`ValueCase`], [`ThereAndBack`] | what is tried of values of many types |
+//! | [`ValueCase`], [`ComesBack`], [`ThereAndBack`] | what is tried of values of many types |
 //! | [`CallRules`], [`Calls`], [`calls_come_back`] | what is tried of calls |
 //! | [`NumberedCalls`], [`numbered_calls_come_back`] | what is tried of several calls in a row |
 //! | [`made`] | values that cases make |
@@ -39,9 +40,9 @@ pub use call_rules::{
     calls_come_back, done, numbered_calls_come_back,
 };
 pub use depth::{is_read, needs_depth, nested_lists_need_their_depth};
-pub use failure::Failure;
+pub use failure::{Failure, one_passes};
 pub use recoding::{goes_there_and_back, is_not_recoded};
 pub use round_trips::{
     comes_back, comes_back_as, is_not_read, is_refused, is_same, is_this, made_comes_back,
 };
-pub use value_case::{ThereAndBack, ValueCase};
+pub use value_case::{ComesBack, ThereAndBack, ValueCase};

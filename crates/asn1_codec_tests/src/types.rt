@@ -1,9 +1,11 @@
 //! A value of each type, written and read by itself.
+mod each;
 mod lists;
 mod numbers;
 mod strings;
 mod wrappers;
 
+pub use each::each_type_comes_back;
 pub use lists::{arrays_come_back, lists_come_back};
 pub use numbers::{integers_come_back, scalars_come_back, wide_integers_come_back};
 pub use strings::{

@@ -1,6 +1,7 @@
 //! What is tried of values of many types.
 use crate::failure::Failure;
 use crate::recoding::goes_there_and_back;
+use crate::round_trips::comes_back;
 use asn1_dec::Decode;
 use asn1_enc::Encode;
 use asn1_rules::Rules;
@@ -37,5 +38,15 @@ pub struct ThereAndBack<'a, A, B> {
 impl<A: Rules, B: Rules> ValueCase for ThereAndBack<'_, A, B> {
     fn try_value<T: Encode + Decode>(&self, value: T) -> Result<(), Failure> {
         goes_there_and_back(self.here, self.there, &value)
+    }
+}
+
+/// Whether a value comes back over these rules.
+#[derive(Drop)]
+pub struct ComesBack<'a, R>(pub &'a R);
+
+impl<R: Rules> ValueCase for ComesBack<'_, R> {
+    fn try_value<T: Encode + Decode>(&self, value: T) -> Result<(), Failure> {
+        comes_back(self.0, &value)
     }
 }

@@ -22,9 +22,10 @@ ghost use Rattle.std.specs.String.{string_bytes};
 use crate::choices::read_choice;
 use crate::decode::{Decode, DecodeChoice, DecodeFields};
 use crate::decode_set::DecodeSet;
-use crate::defaults::{or_default, read_default, read_default_with_constraints};
+use crate::defaults::{or_default, read_default};
 use crate::elements::read_elements;
-use crate::optionals::{read_optional, read_optional_with_constraints};
+use crate::explicit_tags::read_after_explicit_tag;
+use crate::optionals::{read_optional, read_optional_after_tag};
 use crate::sequences::read_sequence;
 use crate::sets::read_set;
 use crate::sets_of::read_set_of;
@@ -382,13 +383,7 @@ pub trait Decoder: Sized {
         ensures keeps_depth { KeepsDepth reader self.old self.new result }
         ensures depth_first { NeedsDepth reader self.old result }
     {
-        self.open_explicit_prefix(tag)?;
-        let value = match T::decode(self) {
-            Ok(value) => value,
-            Err(error) => return Err(self.refuse(error)),
-        };
-        self.close()?;
-        Ok(value)
+        read_after_explicit_tag(self, tag, None)
     }
 
     /// The same as `decode_explicit_prefix`, with constraints of the value.
@@ -402,13 +397,7 @@ pub trait Decoder: Sized {
         ensures keeps_depth { KeepsDepth reader self.old self.new result }
         ensures depth_first { NeedsDepth reader self.old result }
     {
-        self.open_explicit_prefix(tag)?;
-        let value = match T::decode_with_constraints(self, constraints) {
-            Ok(value) => value,
-            Err(error) => return Err(self.refuse(error)),
-        };
-        self.close()?;
-        Ok(value)
+        read_after_explicit_tag(self, tag, Some(constraints))
     }
 
     /// A SEQUENCE OF, by its elements.
@@ -434,7 +423,7 @@ pub trait Decoder: Sized {
             self.old self.new result }
         ensures keeps_depth { KeepsDepth reader self.old self.new result }
     {
-        read_optional(self, Side::Root, None)
+        read_optional(self, Side::Root, None, None)
     }
 
     /// The same as `decode_optional`, under a tag.
@@ -446,7 +435,7 @@ pub trait Decoder: Sized {
             self.old self.new result }
         ensures keeps_depth { KeepsDepth reader self.old self.new result }
     {
-        read_optional(self, Side::Root, Some(tag))
+        read_optional(self, Side::Root, Some(tag), None)
     }
 
     /// The same as `decode_optional`, under constraints.
@@ -459,7 +448,7 @@ pub trait Decoder: Sized {
             self.old self.new result }
         ensures keeps_depth { KeepsDepth reader self.old self.new result }
     {
-        read_optional_with_constraints(self, Side::Root, None, constraints)
+        read_optional(self, Side::Root, None, Some(constraints))
     }
 
     /// The same as `decode_optional`, under a tag and constraints.
@@ -472,7 +461,7 @@ pub trait Decoder: Sized {
             (given tag (constraint_set constraints.now) T.meaning) T.eq self.old self.new result }
         ensures keeps_depth { KeepsDepth reader self.old self.new result }
     {
-        read_optional_with_constraints(self, Side::Root, Some(tag), constraints)
+        read_optional(self, Side::Root, Some(tag), Some(constraints))
     }
 
     /// The same as `decode_optional`, after an explicit tag.
@@ -484,11 +473,7 @@ pub trait Decoder: Sized {
             (given_after_tag tag T.meaning.constraints T.meaning) T.eq self.old self.new result }
         ensures keeps_depth { KeepsDepth reader self.old self.new result }
     {
-        if !self.presence(tag, TagTree::Leaf(tag))? {
-            return Ok(None);
-        }
-        let value = self.decode_explicit_prefix(tag)?;
-        Ok(Some(value))
+        read_optional_after_tag(self, Side::Root, tag, None)
     }
 
     /// An addition, which may be absent.
@@ -497,7 +482,7 @@ pub trait Decoder: Sized {
             self.old self.new result }
         ensures keeps_depth { KeepsDepth reader self.old self.new result }
     {
-        read_optional(self, Side::Additions, None)
+        read_optional(self, Side::Additions, None, None)
     }
 
     /// The same as `decode_extension_addition`, under a tag.
@@ -509,7 +494,7 @@ pub trait Decoder: Sized {
             self.old self.new result }
         ensures keeps_depth { KeepsDepth reader self.old self.new result }
     {
-        read_optional(self, Side::Additions, Some(tag))
+        read_optional(self, Side::Additions, Some(tag), None)
     }
 
     /// The same as `decode_extension_addition`, under constraints.
@@ -522,7 +507,7 @@ pub trait Decoder: Sized {
             self.old self.new result }
         ensures keeps_depth { KeepsDepth reader self.old self.new result }
     {
-        read_optional_with_constraints(self, Side::Additions, None, constraints)
+        read_optional(self, Side::Additions, None, Some(constraints))
     }
 
     /// The same as `decode_extension_addition`, under a tag and constraints.
@@ -535,7 +520,7 @@ pub trait Decoder: Sized {
             (given tag (constraint_set constraints.now) T.meaning) T.eq self.old self.new result }
         ensures keeps_depth { KeepsDepth reader self.old self.new result }
     {
-        read_optional_with_constraints(self, Side::Additions, Some(tag), constraints)
+        read_optional(self, Side::Additions, Some(tag), Some(constraints))
     }
 
     /// The same as `decode_extension_addition`, after an explicit tag, with constraints of the value.
@@ -549,11 +534,7 @@ pub trait Decoder: Sized {
             self.old self.new result }
         ensures keeps_depth { KeepsDepth reader self.old self.new result }
     {
-        if !self.addition_presence(tag, TagTree::Leaf(tag))? {
-            return Ok(None);
-        }
-        let value = self.decode_explicit_prefix_with_constraints(tag, constraints)?;
-        Ok(Some(value))
+        read_optional_after_tag(self, Side::Additions, tag, Some(constraints))
     }
 
     /// A component with a default, which is what the closure answers where the component is absent.
@@ -566,7 +547,7 @@ pub trait Decoder: Sized {
             T.eq self.old self.new result }
         ensures keeps_depth { KeepsDepth reader self.old self.new result }
     {
-        read_default(self, Side::Root, None, default)
+        read_default(self, Side::Root, None, None, default)
     }
 
     /// The same as `decode_default`, under a tag.
@@ -580,7 +561,7 @@ pub trait Decoder: Sized {
             (MayAnswer F.FnOnce default) T.eq self.old self.new result }
         ensures keeps_depth { KeepsDepth reader self.old self.new result }
     {
-        read_default(self, Side::Root, Some(tag), default)
+        read_default(self, Side::Root, Some(tag), None, default)
     }
 
     /// The same as `decode_default`, under constraints.
@@ -595,7 +576,7 @@ pub trait Decoder: Sized {
             (MayAnswer F.FnOnce default) T.eq self.old self.new result }
         ensures keeps_depth { KeepsDepth reader self.old self.new result }
     {
-        read_default_with_constraints(self, Side::Root, None, default, constraints)
+        read_default(self, Side::Root, None, Some(constraints), default)
     }
 
     /// The same as `decode_default`, under a tag and constraints.
@@ -609,7 +590,7 @@ pub trait Decoder: Sized {
             self.old self.new result }
         ensures keeps_depth { KeepsDepth reader self.old self.new result }
     {
-        read_default_with_constraints(self, Side::Root, Some(tag), default, constraints)
+        read_default(self, Side::Root, Some(tag), Some(constraints), default)
     }
 
     /// The same as `decode_default`, after an explicit tag.
@@ -637,7 +618,7 @@ pub trait Decoder: Sized {
             (MayAnswer F.FnOnce default) T.eq self.old self.new result }
         ensures keeps_depth { KeepsDepth reader self.old self.new result }
     {
-        read_default(self, Side::Additions, None, default)
+        read_default(self, Side::Additions, None, None, default)
     }
 
     /// The same as `decode_extension_addition_with_default`, under a tag.
@@ -650,7 +631,7 @@ pub trait Decoder: Sized {
             (MayAnswer F.FnOnce default) T.eq self.old self.new result }
         ensures keeps_depth { KeepsDepth reader self.old self.new result }
     {
-        read_default(self, Side::Additions, Some(tag), default)
+        read_default(self, Side::Additions, Some(tag), None, default)
     }
 
     /// The same as `decode_extension_addition_with_default`, under constraints.
@@ -664,7 +645,7 @@ pub trait Decoder: Sized {
             (MayAnswer F.FnOnce default) T.eq self.old self.new result }
         ensures keeps_depth { KeepsDepth reader self.old self.new result }
     {
-        read_default_with_constraints(self, Side::Additions, None, default, constraints)
+        read_default(self, Side::Additions, None, Some(constraints), default)
     }
 
     /// The same as `decode_extension_addition_with_default`, under a tag and constraints.
@@ -678,7 +659,7 @@ pub trait Decoder: Sized {
             self.old self.new result }
         ensures keeps_depth { KeepsDepth reader self.old self.new result }
     {
-        read_default_with_constraints(self, Side::Additions, Some(tag), default, constraints)
+        read_default(self, Side::Additions, Some(tag), Some(constraints), default)
     }
 
     /// A group of additions, which may be absent. One that is there writes a component. What follows it begins with no tag of its

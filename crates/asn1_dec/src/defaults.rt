@@ -1,16 +1,17 @@
 //! A component that is absent where it equals a default.
 ghost use Rattle.asn1_codec.specs.Defaults.{MayAnswer};
-ghost use Rattle.asn1_codec.specs.GivenTypes.{given, with_tag};
+ghost use Rattle.asn1_codec.specs.GivenTypes.{given};
 ghost use Rattle.asn1_codec.specs.Reading.{KeepsDepth};
 ghost use Rattle.asn1_codec.specs.ReadingTypes.{ReadsDefault};
 ghost use Rattle.asn1_codec.specs.Sides.{side_of};
 ghost use Rattle.asn1_codec.specs.declared.decode_error.DecodeError.TheVariants.{Memory};
 ghost use Rattle.asn1_model.specs.ConstraintSets.{constraint_set};
+ghost use Rattle.std.specs.Option.{option_copied, option_map};
 ghost use Rattle.std.specs.Prelude.{◌≡◌, IfNone, IfSome, MatchResult, Ok, true, unwrap_or};
 
 use crate::decode::Decode;
 use crate::decoder::Decoder;
-use crate::optionals::{read_optional, read_optional_with_constraints};
+use crate::optionals::read_optional;
 use asn1_bounds::Constraints;
 use asn1_codec::{DecodeError, Side};
 use asn1_tags::Tag;
@@ -38,41 +39,21 @@ pub(crate) fn or_default<T: Drop, D: Decoder, F: FnOnce(Global) -> Result<T, All
     }
 }
 
-/// A component with a default, under a tag, or the type's own where none is given, and the type's own constraints.
+/// A component with a default, under a tag and constraints, or the type's own where they are not given.
 pub(crate) fn read_default<T: Decode, D: Decoder, F: FnOnce(Global) -> Result<T, AllocError>>(
     decoder: &mut D,
     side: Side,
     tag: Option<Tag>,
+    constraints: Option<&Constraints<'_>>,
     default: F,
 ) -> Result<T, DecodeError>
     requires { F.IsAlwaysCallable default }
-    ensures read { ReadsDefault D.reader (side_of side)
-        (with_tag (unwrap_or tag T.meaning.tag) T.meaning) (MayAnswer F.FnOnce default) T.eq
-        decoder.old decoder.new result }
+    ensures read { ReadsDefault D.reader (side_of side) (given (unwrap_or tag T.meaning.tag)
+        (unwrap_or (option_map constraint_set (option_copied constraints.entry))
+        T.meaning.constraints) T.meaning) (MayAnswer F.FnOnce default) T.eq decoder.old decoder.new
+        result }
     ensures keeps_depth { KeepsDepth D.reader decoder.old decoder.new result }
 {
-    let value = read_optional::<T, D>(decoder, side, tag)?;
-    or_default(decoder, value, default)
-}
-
-/// The same under given constraints.
-pub(crate) fn read_default_with_constraints<
-    T: Decode,
-    D: Decoder,
-    F: FnOnce(Global) -> Result<T, AllocError>,
->(
-    decoder: &mut D,
-    side: Side,
-    tag: Option<Tag>,
-    default: F,
-    constraints: &Constraints<'_>,
-) -> Result<T, DecodeError>
-    requires { F.IsAlwaysCallable default }
-    ensures read { ReadsDefault D.reader (side_of side)
-        (given (unwrap_or tag T.meaning.tag) (constraint_set constraints.now) T.meaning)
-        (MayAnswer F.FnOnce default) T.eq decoder.old decoder.new result }
-    ensures keeps_depth { KeepsDepth D.reader decoder.old decoder.new result }
-{
-    let value = read_optional_with_constraints::<T, D>(decoder, side, tag, constraints)?;
+    let value = read_optional::<T, D>(decoder, side, tag, constraints)?;
     or_default(decoder, value, default)
 }

@@ -62,6 +62,7 @@ mod decode_set;
 mod decoder;
 mod defaults;
 mod elements;
+mod explicit_tags;
 mod fields;
 mod impls;
 pub mod laws;
@@ -70,6 +71,7 @@ mod sequences;
 mod sets;
 mod sets_of;
 mod slots;
+mod values;
 
 pub use asn1_codec::{DecodeError, Needed};
 pub use decode::{Decode, DecodeChoice, DecodeFields};

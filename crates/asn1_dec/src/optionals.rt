@@ -1,5 +1,5 @@
 //! A component that may be absent, on either side of an extension marker.
-ghost use Rattle.asn1_codec.specs.GivenTypes.{given, with_tag};
+ghost use Rattle.asn1_codec.specs.GivenTypes.{given, given_after_tag};
 ghost use Rattle.asn1_codec.specs.Reading.{KeepsDepth, OpensNothing, TellsPresence};
 ghost use Rattle.asn1_codec.specs.ReadingTypes.{Reads, ReadsOptional};
 ghost use Rattle.asn1_codec.specs.Sides.{side_of};
@@ -7,11 +7,13 @@ ghost use Rattle.asn1_model.specs.ConstraintSets.{constraint_set};
 ghost use Rattle.asn1_model.specs.Records.{absent, present};
 ghost use Rattle.asn1_model.specs.Tags.{tree_tags};
 ghost use Rattle.asn1_tags.specs.Trees.{shape};
-ghost use Rattle.std.specs.Option.{option_eq};
+ghost use Rattle.std.specs.Option.{option_copied, option_eq, option_map};
 ghost use Rattle.std.specs.Prelude.{◌≡◌, OnErr, OnOk, Some, true, unwrap_or};
 
 use crate::decode::Decode;
 use crate::decoder::Decoder;
+use crate::explicit_tags::read_after_explicit_tag;
+use crate::values::read_value;
 use asn1_bounds::Constraints;
 use asn1_codec::{DecodeError, Side};
 use asn1_tags::{Tag, TagTree};
@@ -33,56 +35,38 @@ fn is_there<D: Decoder>(
     }
 }
 
-/// A value that is there. Where it is not read the decoder has failed.
+/// A value that is there, under a tag, and constraints, or the type's own where none are given. Where it is not read the decoder
+/// has failed.
 fn read_present<T: Decode, D: Decoder>(
     decoder: &mut D,
     tag: Tag,
-    constraints: &Constraints<'_>,
+    constraints: Option<&Constraints<'_>>,
 ) -> Result<Option<T>, DecodeError>
-    ensures read { Reads D.reader (given tag (constraint_set constraints.now) T.meaning)
-        (λ w v. option_eq T.eq w (Some v)) decoder.old decoder.new result }
+    ensures read { Reads D.reader (given tag
+        (unwrap_or (option_map constraint_set (option_copied constraints.entry))
+        T.meaning.constraints) T.meaning) (λ w v. option_eq T.eq w (Some v)) decoder.old decoder.new
+        result }
     ensures same_depth { OnOk result
         (D.reader.depth_left decoder.new ≡ D.reader.depth_left decoder.old) }
     ensures no_failure { OnOk result (D.reader.failed decoder.new ≡ D.reader.failed decoder.old) }
     ensures has_failed { OnErr result (D.reader.failed decoder.new ≡ true) }
 {
-    match T::decode_with_tag_and_constraints(decoder, tag, constraints) {
+    match read_value(decoder, tag, constraints) {
         Ok(value) => Ok(Some(value)),
         Err(error) => Err(decoder.refuse(error)),
     }
 }
 
-/// A component that may be absent, under a tag, or the type's own where none is given, and the type's own constraints.
+/// A component that may be absent, under a tag and constraints, or the type's own where they are not given.
 pub(crate) fn read_optional<T: Decode, D: Decoder>(
     decoder: &mut D,
     side: Side,
     tag: Option<Tag>,
+    constraints: Option<&Constraints<'_>>,
 ) -> Result<Option<T>, DecodeError>
-    ensures read { ReadsOptional D.reader (side_of side)
-        (with_tag (unwrap_or tag T.meaning.tag) T.meaning) T.eq decoder.old decoder.new result }
-    ensures keeps_depth { KeepsDepth D.reader decoder.old decoder.new result }
-{
-    let table = T::table();
-    let tag = tag.unwrap_or(table.tag);
-    if !is_there(decoder, side, tag, table.tree.under(tag))? {
-        return Ok(None);
-    }
-    let Ok(constraints) = table.constraints.to_constraints(decoder.global()) else {
-        return Err(decoder.refuse(DecodeError::Memory));
-    };
-    read_present(decoder, tag, &constraints)
-}
-
-/// The same under given constraints.
-pub(crate) fn read_optional_with_constraints<T: Decode, D: Decoder>(
-    decoder: &mut D,
-    side: Side,
-    tag: Option<Tag>,
-    constraints: &Constraints<'_>,
-) -> Result<Option<T>, DecodeError>
-    ensures read { ReadsOptional D.reader (side_of side)
-        (given (unwrap_or tag T.meaning.tag) (constraint_set constraints.now) T.meaning) T.eq
-        decoder.old decoder.new result }
+    ensures read { ReadsOptional D.reader (side_of side) (given (unwrap_or tag T.meaning.tag)
+        (unwrap_or (option_map constraint_set (option_copied constraints.entry))
+        T.meaning.constraints) T.meaning) T.eq decoder.old decoder.new result }
     ensures keeps_depth { KeepsDepth D.reader decoder.old decoder.new result }
 {
     let table = T::table();
@@ -91,4 +75,23 @@ pub(crate) fn read_optional_with_constraints<T: Decode, D: Decoder>(
         return Ok(None);
     }
     read_present(decoder, tag, constraints)
+}
+
+/// A component that may be absent, after an explicit tag, under constraints, or the type's own where none are given.
+pub(crate) fn read_optional_after_tag<T: Decode, D: Decoder>(
+    decoder: &mut D,
+    side: Side,
+    tag: Tag,
+    constraints: Option<&Constraints<'_>>,
+) -> Result<Option<T>, DecodeError>
+    ensures read { ReadsOptional D.reader (side_of side) (given_after_tag tag
+        (unwrap_or (option_map constraint_set (option_copied constraints.entry))
+        T.meaning.constraints) T.meaning) T.eq decoder.old decoder.new result }
+    ensures keeps_depth { KeepsDepth D.reader decoder.old decoder.new result }
+{
+    if !is_there(decoder, side, tag, TagTree::Leaf(tag))? {
+        return Ok(None);
+    }
+    let value = read_after_explicit_tag(decoder, tag, constraints)?;
+    Ok(Some(value))
 }

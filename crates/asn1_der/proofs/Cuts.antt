@@ -1,6 +1,6 @@
 -- Elements are cut off: bytes behind change nothing, and what was written is one element.
 use Rattle.std.proofs.Common.{◌≡◌, ℕ, Bool, false, List, [], ◌∷◌, ◌++◌, Some, ap, sym, subst, ◌∙◌, arith, append-nil, length, length-append}
-use Rattle.asn1_der_records.proofs.OneElement.{record_element}
+use Rattle.asn1_der_records.proofs.RecordElements.{record_element}
 use Rattle.asn1_der_records.specs.Bytes.{HaveDer}
 use Rattle.asn1_der_encoder.specs.Format.{Carries, der_format}
 use Rattle.asn1_der_items.proofs.Behind.{element_at-append, element_before}

@@ -1,9 +1,9 @@
 -- What is inside a record that holds others.
 use Rattle.std.proofs.Common.{◌≡◌, ℕ, true, List, refl, subst, ◌∙◌}
 use Rattle.std.specs.Prelude.{Option, Some, None, IfSome}
-use Rattle.asn1_der_records.proofs.OneElement.{element_alone, element_of, one_of}
+use Rattle.asn1_der_items.proofs.OneElement.{element_alone, element_of, one_of}
 use Rattle.asn1_der_records.specs.Bytes.{HasDer, HaveDer, HoldsInForm}
-use Rattle.asn1_der_records.specs.OneElement.{IsAlone}
+use Rattle.asn1_der_items.specs.Series.{IsAlone}
 use Rattle.asn1_der_records.specs.declared.form.ScopeForm.{ScopeForm}
 use Rattle.asn1_der_records.specs.declared.form.ScopeForm.TheVariants.{AsDefined, ByTag, ByEncoding, Chosen}
 use Rattle.asn1_der_decoder.specs.Decoder.{IsInside, IsWanted}

@@ -12,7 +12,7 @@ use Rattle.asn1_der_decoder.specs.declared.decoder.DerDecoder.{DerDecoder}
 use Rattle.asn1_der_decoder.specs.declared.decoder.Opened.{Opened}
 use Rattle.asn1_der_records.specs.declared.form.ScopeForm.{ScopeForm}
 use Rattle.asn1_der_records.proofs.Marks.{without_mark}
-use Rattle.asn1_der_records.proofs.OneElement.{record_long}
+use Rattle.asn1_der_records.proofs.RecordElements.{record_long}
 use Rattle.asn1_items.specs.Slices.{left_inside, left_outside}
 use Rattle.asn1_model.proofs.SameRecords.{same-mark}
 use Rattle.asn1_model.specs.Orders.{SameRecords}

@@ -1,7 +1,7 @@
 -- What was found is the element that is next.
 use Rattle.std.proofs.Common.{◌≡◌, ℕ, ◌-◌, List, ◌++◌, Some, length, length-append, take, refl, sym, ap, ◌∙◌, arith}
 use Rattle.std.proofs.Math.Seq.{take-append_seam}
-use Rattle.asn1_der_records.specs.OneElement.{IsAlone}
+use Rattle.asn1_der_items.specs.Series.{IsAlone}
 use Rattle.asn1_der_decoder.specs.Decoder.{IsTaken}
 use Rattle.asn1_der_decoder.specs.declared.taken.Taken.{Taken}
 use Rattle.asn1_der_items.proofs.Behind.{element_at-append, element_before}

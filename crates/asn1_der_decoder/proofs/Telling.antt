@@ -10,7 +10,7 @@ use Rattle.asn1_der_records.specs.Bytes.{HaveDer}
 use Rattle.asn1_der_decoder.specs.Decoder.{AllHaveDer, AreLeft, RemainsExactly, in_one_order}
 use Rattle.asn1_items.specs.NextTags.{IsNext}
 use Rattle.asn1_der_decoder.specs.declared.decoder.DerDecoder.{DerDecoder}
-use Rattle.asn1_der_records.proofs.OneElement.{record_element}
+use Rattle.asn1_der_records.proofs.RecordElements.{record_element}
 use Rattle.asn1_der_records.proofs.Marks.{without_mark}
 use Rattle.asn1_der_decoder.proofs.Remaining.{past_mark, some_left}
 use Rattle.asn1_packed.specs.Decoder.{lists_outside}

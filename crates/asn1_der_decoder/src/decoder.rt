@@ -51,7 +51,7 @@ impl<'a> DerDecoder<'a> {
     ghost use Rattle.asn1_codec.specs.ReadingTypes.{ReadsContent};
     ghost use Rattle.asn1_codec.specs.declared.decode_error.DecodeError.TheVariants.{Depth, Failed, Memory};
     ghost use Rattle.asn1_der_records.specs.Bytes.{HaveDer};
-    ghost use Rattle.asn1_der_records.specs.OneElement.{IsAlone};
+    ghost use Rattle.asn1_der_items.specs.Series.{IsAlone};
     ghost use Rattle.asn1_der_records.specs.declared.form.ScopeForm.TheVariants.{AsDefined};
     ghost use Rattle.asn1_der_decoder.specs.Decoder.{AreLeft, IsTaken, IsWanted, OpensWanted, Remains, der_reader};
     ghost use Rattle.asn1_der_items.specs.Contents.{HasOctetsOf};

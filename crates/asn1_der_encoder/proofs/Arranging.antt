@@ -6,7 +6,7 @@ use Rattle.std.proofs.lemmas.List.Elements.{All-cons, All-head, All-map, All-nil
 use Rattle.std.proofs.lemmas.List.Sorted.{All-permutation, IsPermutation-append_right, IsPermutation-filter_both, IsPermutation-keeps, IsPermutation-map, IsPermutation-refl, IsPermutation-swap, IsPermutation-sym, IsPermutation-trans}
 use Rattle.std.specs.List.{filter, flat_map, swap}
 use Rattle.std.specs.Prelude.{All, IsPermutation, IsTrue, cond, not}
-use Rattle.asn1_der_records.proofs.OneElement.{is_element_of_record}
+use Rattle.asn1_der_records.proofs.RecordElements.{is_element_of_record}
 use Rattle.asn1_der_records.specs.Bytes.{HasDer, HaveDer}
 use Rattle.asn1_der_encoder.specs.Sorting.{AreJoined}
 use Rattle.asn1_der_items.specs.Series.{is_one_element}

@@ -4,13 +4,10 @@ use Rattle.std.proofs.Math.Seq.{take-append_seam, drop-append_seam}
 use Rattle.std.specs.Prelude.{◌&&◌, ◌==◌, IsTrue}
 use Rattle.std.specs.List.{IsSplitAt}
 use Rattle.asn1_der_items.proofs.Behind.{element_at-append, element_before}
+use Rattle.asn1_der_items.proofs.OneElement.{one}
 use Rattle.asn1_der_items.specs.Elements.{Element, element_at}
 use Rattle.asn1_der_items.specs.Series.{ends, is_one_element, is_whole, tag_found, tag_of}
 use Rattle.asn1_tags.specs.declared.tags.Tag.{Tag}
-
-pub nothing_left : (rest : List ℕ) → ends rest ≡ true → rest ≡ []
-nothing_left [] e = refl
-nothing_left (byte ∷ rest) e = cc
 
 some_is : {A : Type 0} {x y : A} → Some x ≡ Some y → x ≡ y
 some_is e = cc
@@ -23,15 +20,13 @@ pub record IsFoundInFront (own back : List ℕ) : Type 0 where
   pub tag : element.tag ≡ tag_of own
 
 pub found_in_front : (own back : List ℕ) → IsTrue (is_one_element own) → IsFoundInFront own back
-found_in_front own back one = by (element_at own) refl one
-  where
-    by : (o : Option Element) → element_at own ≡ o → is_whole o ≡ true → IsFoundInFront own back
-    by None found one = cc
-    by (Some e) found one = record {
-      element = element_before e back;
-      at = element_at-append own back e found;
-      rest = ap (λ l. l ++ back) (nothing_left e.rest one);
-      tag = sym (ap tag_found found);
+found_in_front own back is =
+    let o = one own is in
+    record {
+      element = element_before o.element back;
+      at = element_at-append own back o.element o.alone.at;
+      rest = ap (λ l. l ++ back) o.alone.alone;
+      tag = sym (ap tag_found o.alone.at);
     }
 
 -- bytes that begin with an element begin with one

@@ -5,7 +5,8 @@ use Rattle.std.proofs.lemmas.List.Elements.{All-append, All-cons, All-head, All-
 use Rattle.std.proofs.lemmas.List.Sorted.{IsPermutation-refl}
 use Rattle.std.specs.List.{flat_map}
 use Rattle.std.specs.Prelude.{◌⊎◌, All, IsTrue}
-use Rattle.asn1_der_encoder.proofs.Cuts.{found_in_front, nothing_left, whole_by}
+use Rattle.asn1_der_encoder.proofs.Cuts.{found_in_front, whole_by}
+use Rattle.asn1_der_items.proofs.OneElement.{nothing_left}
 use Rattle.asn1_der_encoder.specs.Sorting.{AreJoined, ArePieces, AreSorted, IsCutAs, key_of}
 use Rattle.asn1_der_encoder.specs.declared.sorting.Cut.{Cut}
 use Rattle.asn1_der_encoder.specs.declared.sorting.Order.{Order}

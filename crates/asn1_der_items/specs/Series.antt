@@ -22,6 +22,11 @@ is_whole None = false
 abbrev pub is_one_element : List ℕ → Bool
 is_one_element bytes = is_whole (element_at bytes)
 
+-- The bytes are this element alone.
+pub record IsAlone (e : Element) (own : List ℕ) : Type 0 where
+  pub at : element_at own ≡ Some e
+  pub alone : e.rest ≡ []
+
 -- the tag of an element, or the CHOICE marker tag where there is none
 abbrev pub tag_found : Option Element → Tag
 tag_found (Some e) = e.tag

@@ -24,7 +24,7 @@ use Rattle.asn1_der_items.specs.Series.{AreElements, HoldsContents, is_one_eleme
 use Rattle.asn1_der_items.proofs.OneContents.{below_first, below_later}
 use Rattle.asn1_der_items.proofs.OneElement.{one_split, some_bytes}
 use Rattle.asn1_der_items.proofs.SomeEncoding.{below_both}
-use Rattle.asn1_der_records.proofs.OneElement.{mark_bytes, no_first, is_element_of_record}
+use Rattle.asn1_der_records.proofs.RecordElements.{mark_bytes, no_first, is_element_of_record}
 use Rattle.asn1_der_records.proofs.OneEncoding.{contents_below, one_der, same_contents}
 use Rattle.asn1_der_records.proofs.SetOrders.{encodings_rank, one_encoding, one_tag, tags_rank}
 use Rattle.asn1_der_records.proofs.Sorting.{Rises, count, one_if, one_order, rises_from}

@@ -1,7 +1,7 @@
 pub mod Canonical
 pub mod Marks
-pub mod OneElement
 pub mod OneEncoding
+pub mod RecordElements
 pub mod SetOrders
 mod SomeDer
 pub mod SomeOrder

@@ -16,7 +16,7 @@ use Rattle.asn1_der_items.specs.Series.{HoldsContents, IsElementOf, is_one_eleme
 use Rattle.asn1_der_items.proofs.Encodings.{one_element}
 use Rattle.asn1_der_items.proofs.OneContents.{below_first, below_later, not_both, one_contents}
 use Rattle.asn1_der_items.proofs.OneElement.{alone, is_one, one_of_tag, some_bytes, tag_is, tag_of_element}
-use Rattle.asn1_der_records.proofs.OneElement.{mark_bytes, no_first, no_later, is_element_of_record, scope_is_one}
+use Rattle.asn1_der_records.proofs.RecordElements.{mark_bytes, no_first, no_later, is_element_of_record, scope_is_one}
 
 -- the contents octets are octets where the element is
 pub contents_below : (t : Tag) (constructed : Bool) (contents own : List ℕ) → IsElement t constructed contents own → AllBelowBase 256 own → AllBelowBase 256 contents

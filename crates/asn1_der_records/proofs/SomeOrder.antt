@@ -10,7 +10,7 @@ use Rattle.asn1_der_records.specs.Bytes.{HasDer, HaveDer}
 use Rattle.asn1_der_items.specs.Series.{AreElements, is_one_element}
 use Rattle.asn1_der_items.proofs.OneContents.{below_first, below_later}
 use Rattle.asn1_der_items.proofs.SomeEncoding.{below_both}
-use Rattle.asn1_der_records.proofs.OneElement.{mark_bytes, no_first, no_later, is_element_of_record}
+use Rattle.asn1_der_records.proofs.RecordElements.{mark_bytes, no_first, no_later, is_element_of_record}
 use Rattle.asn1_der_records.proofs.Sorting.{rises_map, sorted, sorted_by}
 
 -- A record that is no presence mark, and its element.

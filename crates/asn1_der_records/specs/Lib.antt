@@ -1,4 +1,4 @@
 pub mod Bytes
 pub mod DistinctTags
 pub mod Existence
-pub mod OneElement
+pub mod RecordElements

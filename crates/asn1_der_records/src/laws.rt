@@ -2,7 +2,7 @@
 ghost use Rattle.asn1_der_records.specs.Bytes.{HasDer, HasNoDer, HaveDer};
 ghost use Rattle.asn1_der_records.specs.DistinctTags.{HasDistinctSets};
 ghost use Rattle.asn1_der_records.specs.Existence.{HasDerOrNone, IsInRange};
-ghost use Rattle.asn1_der_records.specs.OneElement.{IsElementOfRecord};
+ghost use Rattle.asn1_der_records.specs.RecordElements.{IsElementOfRecord};
 ghost use Rattle.asn1_der_items.specs.Series.{IsElementOf};
 ghost use Rattle.asn1_model.specs.ConstraintSets.{ConstraintSet};
 ghost use Rattle.asn1_model.specs.Orders.{Same};

@@ -1,9 +1,15 @@
-//! What is asserted of a value that is written.
+//! What is asserted of a case, and of a value that is written.
 use asn1_buffers::write_whole;
+use asn1_codec_tests::Failure;
 use asn1_der_encoder::DerBuffer;
 use asn1_enc::{Encode, EncodeError};
 use std::alloc::Global;
 use std::process::Abort;
+
+/// Asserts that a case passes.
+pub(crate) fn passes(rt: &impl Abort, case: &str, answer: Result<(), Failure>) {
+    assert!(rt; answer.is_ok(), "{case}: {answer:?}");
+}
 
 /// Asserts that a value is written as these bytes.
 pub(crate) fn writes<T: Encode>(rt: &impl Abort, alloc: Global, value: &T, bytes: &[u8]) {

@@ -1,20 +1,29 @@
-//! Tests of DER: what no contract says, by bytes from outside.
+//! Tests of DER: what no contract says, by bytes from outside, and the cases of every codec.
 //!
 //! | Module | What it tries |
 //! |---|---|
 //! | `scalars` | the worked examples of X.690, clause 8, and what DER cannot say |
 //! | `scopes` | sets in their orders, choices, open types, long lengths, groups and components that are their DEFAULT |
+//! | `known` | the personnel record of X.690, annex A, and a name of RFC 5280 |
 //! | `reading` | the sample types as they are read, and damaged bytes |
+//! | `forms` | what is primitive where others are to be inside, and the reverse |
 //! | `streams` | persons one after another, in pieces |
-//! | `protocols` | the personnel record of X.690, annex A, and a name of RFC 5280 |
+//! | `rules` | the cases of `asn1_codec_tests` and of `asn1_sample_tests`, and values that go to other codecs and back |
+//! | `memory` | growths that are refused |
 #![tactic(auto)]
 
 #[cfg(test)]
 mod cases;
 #[cfg(test)]
-mod protocols;
+mod forms;
+#[cfg(test)]
+mod known;
+#[cfg(test)]
+mod memory;
 #[cfg(test)]
 mod reading;
+#[cfg(test)]
+mod rules;
 #[cfg(test)]
 mod scalars;
 #[cfg(test)]

@@ -7,7 +7,7 @@ use std::alloc::Global;
 use std::process::Abort;
 
 /// The bytes are not what they are read as.
-const BAD_ITEM: DecodeError = DecodeError::Custom("bad item");
+pub(crate) const BAD_ITEM: DecodeError = DecodeError::Custom("bad item");
 
 /// A value that is read from these bytes.
 fn read<T: Decode>(alloc: Global, bytes: &[u8]) -> Result<T, DecodeError> {
@@ -15,7 +15,12 @@ fn read<T: Decode>(alloc: Global, bytes: &[u8]) -> Result<T, DecodeError> {
 }
 
 /// Asserts the error that comes of these bytes.
-fn refuses<T: Decode + Drop>(rt: &impl Abort, alloc: Global, bytes: &[u8], expected: DecodeError) {
+pub(crate) fn refuses<T: Decode + Drop>(
+    rt: &impl Abort,
+    alloc: Global,
+    bytes: &[u8],
+    expected: DecodeError,
+) {
     match read::<T>(alloc, bytes) {
         Ok(_) => assert!(rt; false),
         Err(error) => assert!(rt; error == expected),
@@ -23,7 +28,7 @@ fn refuses<T: Decode + Drop>(rt: &impl Abort, alloc: Global, bytes: &[u8], expec
 }
 
 /// Asserts that the component of this name is refused.
-fn refuses_component<T: Decode + Drop>(
+pub(crate) fn refuses_component<T: Decode + Drop>(
     rt: &impl Abort,
     alloc: Global,
     bytes: &[u8],
@@ -117,8 +122,6 @@ fn one_element_is_under_an_explicit_tag(rt: HostRuntime) {
         0x30, 14, 0x80, 1, 7, 0xa1, 6, 1, 1, 0xff, 1, 1, 0xff, 0x82, 1, 0x41,
     ];
     refuses_component::<Notice>(&rt, alloc, &two, "urgent");
-    let primitive = [0x30, 11, 0x80, 1, 7, 0x81, 3, 1, 1, 0xff, 0x82, 1, 0x41];
-    refuses_component::<Notice>(&rt, alloc, &primitive, "urgent");
 }
 
 #[test]

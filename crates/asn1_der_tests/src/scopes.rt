@@ -3,6 +3,7 @@ use crate::cases::{rejects, writes};
 use asn1_buffers::{MarkKind, RecordBuffer, ScopeKind, WriteError, write_whole};
 use asn1_der_encoder::DerBuffer;
 use asn1_items::Content;
+use asn1_samples::Ticket;
 use asn1_strings::OctetString;
 use asn1_tags::Tag;
 use asn1_types::{Any, SetOf};
@@ -131,4 +132,18 @@ fn presence_marks_and_groups_have_no_bytes(rt: HostRuntime) {
     buffer.append_mark(MarkKind::Absent).expect(&rt, "no bytes");
     buffer.end_group().expect(&rt, "memory");
     assert!(rt; buffer.finish().is_empty());
+}
+
+// X.690, 11.5.
+#[test]
+fn a_component_that_is_its_default_has_no_bytes(rt: HostRuntime) {
+    let alloc = rt.alloc();
+    let mut ticket = Ticket {
+        seat: 5,
+        name: None,
+        paid: false,
+    };
+    writes(&rt, alloc, &ticket, &[0x31, 3, 0x80, 1, 5]);
+    ticket.paid = true;
+    writes(&rt, alloc, &ticket, &[0x31, 6, 0x80, 1, 5, 0x82, 1, 0xff]);
 }

@@ -9,7 +9,7 @@ use std::alloc::Global;
 use std::process::Abort;
 
 /// The DER of a person.
-const ANN: &[u8] = &[0x30, 8, 2, 1, 30, 0x0c, 3, 0x41, 0x6e, 0x6e];
+pub(crate) const ANN: &[u8] = &[0x30, 8, 2, 1, 30, 0x0c, 3, 0x41, 0x6e, 0x6e];
 
 fn person(rt: &impl Abort, alloc: Global, age: u8, name: &str) -> Person {
     Person {

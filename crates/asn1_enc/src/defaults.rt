@@ -1,10 +1,19 @@
 //! A component that is absent where it equals a default.
 ghost use Rattle.asn1_codec.specs.Defaults.{MayAnswer};
+ghost use Rattle.asn1_codec.specs.GivenTypes.{given};
 ghost use Rattle.asn1_codec.specs.Writing.{IsOutOfMemory};
-ghost use Rattle.std.specs.Prelude.{◌≡◌, IfErr, IfOk, OnOk};
+ghost use Rattle.asn1_codec.specs.WritingTypes.{WritesDefault};
+ghost use Rattle.asn1_model.specs.ConstraintSets.{constraint_set};
+ghost use Rattle.asn1_tags.specs.Names.{name_of};
+ghost use Rattle.std.specs.Option.{option_copied, option_map};
+ghost use Rattle.std.specs.Prelude.{◌≡◌, IfErr, IfOk, OnOk, unwrap_or};
 
+use crate::encode::Encode;
 use crate::encoder::Encoder;
-use asn1_codec::EncodeError;
+use crate::optionals::write_present;
+use asn1_bounds::Constraints;
+use asn1_codec::{EncodeError, Side};
+use asn1_tags::{Identifier, Tag};
 use std::alloc::{AllocError, Global};
 
 /// Whether the value equals the default that the closure makes. Where there is no memory for that, the encoder has failed.
@@ -22,5 +31,32 @@ pub(crate) fn equals_default<
     match default(encoder.global()) {
         Ok(default_value) => Ok(*value == default_value),
         Err(_) => Err(encoder.refuse_memory()),
+    }
+}
+
+/// A component of the root with a default, which is what the closure answers, under a tag, a name and constraints, or the type's own
+/// where none are given.
+pub(crate) fn write_default<
+    T: Encode + PartialEq + Drop,
+    E: Encoder,
+    F: FnOnce(Global) -> Result<T, AllocError>,
+>(
+    encoder: &mut E,
+    tag: Tag,
+    constraints: Option<&Constraints<'_>>,
+    value: &T,
+    default: F,
+    name: Identifier,
+) -> Result<(), EncodeError>
+    requires { F.IsAlwaysCallable default }
+    ensures { WritesDefault E.writer (given tag
+        (unwrap_or (option_map constraint_set (option_copied constraints.entry))
+        T.meaning.constraints) T.meaning (name_of name)) (MayAnswer F.FnOnce default) T.eq
+        value.now encoder.old encoder.new result }
+{
+    if equals_default(encoder, value, default)? {
+        encoder.encode_none_with_tag(tag, name)
+    } else {
+        write_present(encoder, Side::Root, tag, constraints, value, name)
     }
 }

@@ -18,12 +18,12 @@ ghost use Rattle.std.specs.Str.{IsUtf8};
 
 use crate::choices::write_choice;
 use crate::constructed::{Kind, write_constructed};
-use crate::defaults::equals_default;
+use crate::defaults::{equals_default, write_default};
 use crate::encode::{Encode, EncodeChoice, EncodeFields};
-use crate::own_constraints::make_constraints;
+use crate::optionals::{write_present, write_present_after_tag};
 use asn1_bounds::{Codec, Constraints};
 use asn1_choices::{Choice, ChoiceType};
-use asn1_codec::EncodeError;
+use asn1_codec::{EncodeError, Side};
 use asn1_components::{ConstructedType, FieldTable};
 use asn1_enumerations::{Enumerated, EnumeratedTable};
 use asn1_model::AsnType;
@@ -455,8 +455,7 @@ pub trait Encoder: Sized {
             (given tag (constraint_set constraints.now) T.meaning (name_of name)) (Some value.now)
             self.old self.new result }
     {
-        self.mark_present(tag)?;
-        value.encode_with_tag_and_constraints(self, tag, constraints, name)
+        write_present(self, Side::Root, tag, Some(constraints), value, name)
     }
 
     /// A SET, by its components in the order of their definition. Of a type that is one it writes the records of the type, which
@@ -551,8 +550,7 @@ pub trait Encoder: Sized {
         ensures { WritesOptional writer in_root (with_tag tag T.meaning (name_of name))
             (Some value.now) self.old self.new result }
     {
-        let constraints = make_constraints(self, &T::table())?;
-        self.encode_some_with_tag_and_constraints(tag, &constraints, value, name)
+        write_present(self, Side::Root, tag, None, value, name)
     }
 
     /// A component that may be absent, and is there, after an explicit tag.
@@ -565,8 +563,7 @@ pub trait Encoder: Sized {
         ensures { WritesOptional writer in_root (after_tag tag T.meaning (name_of name))
             (Some value.now) self.old self.new result }
     {
-        self.mark_present(tag)?;
-        self.encode_explicit_prefix(tag, value, name)
+        write_present_after_tag(self, Side::Root, tag, value, name)
     }
 
     /// A component that may be absent, after an explicit tag.
@@ -622,11 +619,7 @@ pub trait Encoder: Sized {
         ensures { WritesDefault writer (with_tag tag T.meaning (name_of name))
             (MayAnswer F.FnOnce default) T.eq value.now self.old self.new result }
     {
-        if equals_default(self, value, default)? {
-            self.encode_none_with_tag(tag, name)
-        } else {
-            self.encode_some_with_tag(tag, value, name)
-        }
+        write_default(self, tag, None, value, default, name)
     }
 
     /// The same as `encode_default`, under constraints.
@@ -665,11 +658,7 @@ pub trait Encoder: Sized {
             (given tag (constraint_set constraints.now) T.meaning (name_of name))
             (MayAnswer F.FnOnce default) T.eq value.now self.old self.new result }
     {
-        if equals_default(self, value, default)? {
-            self.encode_none_with_tag(tag, name)
-        } else {
-            self.encode_some_with_tag_and_constraints(tag, constraints, value, name)
-        }
+        write_default(self, tag, Some(constraints), value, default, name)
     }
 
     /// The same as `encode_default`, after an explicit tag.
@@ -732,8 +721,7 @@ pub trait Encoder: Sized {
         match value {
             None => self.mark_addition_absent(tag),
             Some(value) => {
-                self.mark_addition_present(tag)?;
-                value.encode_with_tag_and_constraints(self, tag, constraints, name)
+                write_present(self, Side::Additions, tag, Some(constraints), value, name)
             }
         }
     }
@@ -748,11 +736,10 @@ pub trait Encoder: Sized {
         ensures { WritesOptional writer in_additions (with_tag tag T.meaning (name_of name))
             (option_copied value.entry) self.old self.new result }
     {
-        let Some(value) = value else {
-            return self.mark_addition_absent(tag);
-        };
-        let constraints = make_constraints(self, &T::table())?;
-        self.encode_extension_addition(tag, &constraints, Some(value), name)
+        match value {
+            None => self.mark_addition_absent(tag),
+            Some(value) => write_present(self, Side::Additions, tag, None, value, name),
+        }
     }
 
     /// An addition, which may be absent, after an explicit tag.
@@ -768,10 +755,7 @@ pub trait Encoder: Sized {
     {
         match value {
             None => self.mark_addition_absent(tag),
-            Some(value) => {
-                self.mark_addition_present(tag)?;
-                self.encode_explicit_prefix(tag, value, name)
-            }
+            Some(value) => write_present_after_tag(self, Side::Additions, tag, value, name),
         }
     }
 

@@ -1,13 +1,68 @@
-//! A component that may be absent, after an explicit tag, under its type's own name.
-ghost use Rattle.asn1_codec.specs.GivenTypes.{after_tag};
+//! A component that may be absent, on either side of an extension marker.
+ghost use Rattle.asn1_codec.specs.GivenTypes.{after_tag, given};
+ghost use Rattle.asn1_codec.specs.Sides.{side_of};
+ghost use Rattle.asn1_codec.specs.Writing.{Writes};
 ghost use Rattle.asn1_codec.specs.WritingTypes.{WritesOptional};
-ghost use Rattle.asn1_model.specs.Records.{in_root};
+ghost use Rattle.asn1_model.specs.Composites.{marked};
+ghost use Rattle.asn1_model.specs.ConstraintSets.{constraint_set};
+ghost use Rattle.asn1_model.specs.Records.{in_root, present};
+ghost use Rattle.asn1_tags.specs.Names.{name_of};
+ghost use Rattle.std.specs.Option.{option_copied, option_map};
+ghost use Rattle.std.specs.Prelude.{⊤, Some, unwrap_or};
 
 use crate::encode::Encode;
 use crate::encoder::Encoder;
-use asn1_codec::EncodeError;
+use asn1_bounds::Constraints;
+use asn1_codec::{EncodeError, Side};
 use asn1_model::AsnType;
-use asn1_tags::Tag;
+use asn1_tags::{Identifier, Tag};
+
+/// The mark of a component that is there.
+fn mark_present<E: Encoder>(encoder: &mut E, side: Side, tag: Tag) -> Result<(), EncodeError>
+    ensures { Writes E.writer encoder.old (marked (present (side_of side) tag)) ⊤ encoder.new
+        result }
+{
+    match side {
+        Side::Root => encoder.mark_present(tag),
+        Side::Additions => encoder.mark_addition_present(tag),
+    }
+}
+
+/// A component that is there, under a tag, a name and constraints, or the type's own where none are given.
+pub(crate) fn write_present<T: Encode, E: Encoder>(
+    encoder: &mut E,
+    side: Side,
+    tag: Tag,
+    constraints: Option<&Constraints<'_>>,
+    value: &T,
+    name: Identifier,
+) -> Result<(), EncodeError>
+    ensures { WritesOptional E.writer (side_of side) (given tag
+        (unwrap_or (option_map constraint_set (option_copied constraints.entry))
+        T.meaning.constraints) T.meaning (name_of name)) (Some value.now) encoder.old encoder.new
+        result }
+{
+    mark_present(encoder, side, tag)?;
+    match constraints {
+        None => value.encode_with_tag_and_identifier(encoder, tag, name),
+        Some(constraints) => value.encode_with_tag_and_constraints(encoder, tag, constraints, name),
+    }
+}
+
+/// A component that is there, after an explicit tag.
+pub(crate) fn write_present_after_tag<T: Encode, E: Encoder>(
+    encoder: &mut E,
+    side: Side,
+    tag: Tag,
+    value: &T,
+    name: Identifier,
+) -> Result<(), EncodeError>
+    ensures { WritesOptional E.writer (side_of side) (after_tag tag T.meaning (name_of name))
+        (Some value.now) encoder.old encoder.new result }
+{
+    mark_present(encoder, side, tag)?;
+    encoder.encode_explicit_prefix(tag, value, name)
+}
 
 /// Writes a component that may be absent, after an explicit tag, under the name of its type:
 /// [`Encoder::encode_optional_with_explicit_prefix`] for a field that is an option.

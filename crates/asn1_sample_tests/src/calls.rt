@@ -1,5 +1,6 @@
 //! Calls for groups of additions, items of an ENUMERATED, and a CHOICE under a tag.
 use crate::samples::contact;
+use crate::sets;
 use asn1_codec_tests::calls::comes_back_under;
 use asn1_codec_tests::{
     CallRules, Calls, FIRST, Failure, NAME, answers, answers_none, calls_come_back,
@@ -100,4 +101,17 @@ pub fn choices_come_back_under_a_tag<R: CallRules>(rules: &R) -> Result<(), Fail
         FIRST,
         Shape::Ring(3),
     ))
+}
+
+/// Whether each of these calls comes back, and a badge of its components in each order; what is no badge is refused, by a codec that
+/// writes the components of a SET with their tags, whatever they are.
+///
+/// # Errors
+/// Why one did not, or was not.
+pub fn each_sample_call_comes_back<R: CallRules>(rules: &R, alloc: Global) -> Result<(), Failure> {
+    groups_come_back(rules, alloc)
+        .and(items_come_back(rules))
+        .and(choices_come_back_under_a_tag(rules))
+        .and(sets::badges_come_back_in_any_order(rules, alloc))
+        .and(sets::what_is_no_badge_is_refused(rules, alloc))
 }

@@ -10,7 +10,9 @@ mod tickets;
 mod visits;
 
 pub use choices::{alternatives_come_back, badges_come_back};
-pub use each::{each_sample_passes, samples_go_there_and_back};
+pub use each::{
+    each_closed_sample_passes, each_sample_passes, samples_come_back, samples_go_there_and_back,
+};
 pub use filters::{filters_come_back, flag_inside, nested_values_come_back};
 pub use nodes::{bare_chain, node_chain, nodes_come_back};
 pub use opens::{null_inside_instances, opens_come_back, opens_need_their_depth};

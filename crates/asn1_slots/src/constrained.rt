@@ -5,8 +5,8 @@ ghost use Rattle.asn1_slots.specs.Filling.{Fills, FillsOptional};
 ghost use Rattle.asn1_slots.specs.Taggings.{under_constraints};
 ghost use Rattle.std.specs.Prelude.{◌≡◌, OnOk};
 
+use crate::calls::Decoded;
 use asn1_bounds::Constraints;
-use asn1_codec::DecodeError;
 use asn1_dec::{Decode, Decoder};
 use asn1_tags::Tag;
 
@@ -16,7 +16,7 @@ pub fn required_with_constraints<T: Decode, D: Decoder>(
     decoder: &mut D,
     tag: Option<Tag>,
     constraints: &Constraints<'_>,
-) -> Result<(), DecodeError>
+) -> Decoded
     ensures read { Fills D.reader (under_constraints tag (constraint_set constraints.now) T.meaning)
         T.eq decoder.old decoder.new slot.new result }
     ensures same_depth { OnOk result (D.reader.depth_left decoder.new ≡
@@ -33,7 +33,7 @@ pub fn optional_with_constraints<T: Decode, D: Decoder>(
     decoder: &mut D,
     tag: Option<Tag>,
     constraints: &Constraints<'_>,
-) -> Result<(), DecodeError>
+) -> Decoded
     ensures read { FillsOptional D.reader in_root
         (under_constraints tag (constraint_set constraints.now) T.meaning) T.eq decoder.old
         decoder.new slot.new result }
@@ -51,7 +51,7 @@ pub fn addition_with_constraints<T: Decode, D: Decoder>(
     decoder: &mut D,
     tag: Option<Tag>,
     constraints: &Constraints<'_>,
-) -> Result<(), DecodeError>
+) -> Decoded
     ensures read { FillsOptional D.reader in_additions
         (under_constraints tag (constraint_set constraints.now) T.meaning) T.eq decoder.old
         decoder.new slot.new result }

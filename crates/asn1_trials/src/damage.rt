@@ -12,9 +12,6 @@ use std::io;
 /// How many nested scopes are opened.
 const DEPTH: usize = 16;
 
-/// `NULL` as an item.
-const NULL: &[u8] = &[1, 0, 0, 0, 0, 5, 4, 0, 0, 0, 0];
-
 /// Damages the bytes of a value of each sample type, by this seed and this many times.
 #[derive(Drop)]
 struct Damage<'a, R> {
@@ -24,12 +21,12 @@ struct Damage<'a, R> {
     tries: u32,
 }
 
-/// Damages the bytes of a value of each sample type, and prints what became of what was read.
+/// Damages the bytes of a value of each sample type, and prints what became of what was read. `null` is one value of an open type.
 pub(crate) fn run<R: Rules<Output = Vec<u8>>>(
     rt: &impl Print,
     alloc: Global,
-    name: &str,
     rules: &R,
+    null: &[u8],
     request: Request<'_>,
 ) -> io::Result<()> {
     let damage = Damage {
@@ -38,9 +35,9 @@ pub(crate) fn run<R: Rules<Output = Vec<u8>>>(
         seed: request.number(2),
         tries: request.number(3),
     };
-    match each_sample_passes(&damage, alloc, NULL) {
-        Ok(()) => println!(rt; "{name}: what was read comes back"),
-        Err(failure) => println!(rt; "{name}: {failure:?}"),
+    match each_sample_passes(&damage, alloc, null) {
+        Ok(()) => println!(rt; "what was read comes back"),
+        Err(failure) => println!(rt; "{failure:?}"),
     }
 }
 

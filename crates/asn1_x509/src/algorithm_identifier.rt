@@ -1,11 +1,17 @@
 //! `AlgorithmIdentifier ::= SEQUENCE { algorithm OBJECT IDENTIFIER, parameters ANY DEFINED BY algorithm OPTIONAL }`
-ghost use Rattle.std.specs.Prelude.{Bool, IfSome, IsTrue, List, [], codes, ℕ, ◌↔◌, ◌∷◌};
-ghost use Rattle.asn1_schema.specs.Words.{IsWellTagged, constructed_agrees, constructed_type, optional_slot, required_slot, sequence_of_slots, slots_agree, untagged};
+ghost use Rattle.std.specs.Prelude.{Bool, List, [], codes, ℕ, ◌↔◌, ◌∷◌};
+ghost use Rattle.asn1_slots.specs.Slots.{optional_slot, required_slot, sequence_of_slots};
+ghost use Rattle.asn1_types.specs.Words.{IsWellTagged, constructed_agrees, constructed_type, untagged};
+ghost use Rattle.asn1_x509.specs.OpenValues.{ParametersAreTaken};
 
-use asn1_schema::{
-    Any, AsnType, Constraints, ConstructedType, Decode, DecodeByPlace, DecodeError, DecodeFields,
-    Decoder, Encode, EncodeError, EncodeFields, Encoder, Field, FieldTable, Identifier,
-    ObjectIdentifier, Slotted, Tag, Tagging, TypeTable, filled, optional, required,
+use asn1_dec::{Decode, DecodeError, Decoder};
+use asn1_enc::{Encode, EncodeError, EncodeFields, Encoder};
+use asn1_slots::{
+    DecodeByPlace, Decoded, Tagging, decode_sequence_by_place, filled, optional, required,
+};
+use asn1_strings::ObjectIdentifier;
+use asn1_types::{
+    Any, AsnType, Constraints, ConstructedType, Field, FieldTable, Identifier, Tag, TypeTable,
 };
 use std::alloc::Global;
 
@@ -18,7 +24,7 @@ pub struct AlgorithmIdentifier {
     pub parameters: Option<Any>,
 }
 
-impl Slotted for AlgorithmIdentifier {
+impl DecodeByPlace for AlgorithmIdentifier {
     type Slots = (Option<ObjectIdentifier>, Option<Any>);
 
     ghost layout = { required_slot (codes "algorithm") (λ v. v.algorithm) (λ s. s.0)
@@ -32,10 +38,18 @@ impl Slotted for AlgorithmIdentifier {
             parameters: slots.1,
         })
     }
+
+    fn decode_field<D: Decoder>(place: usize, slots: &mut Self::Slots, decoder: &mut D) -> Decoded {
+        match place {
+            0 => required(&mut slots.0, decoder, Tagging::Untagged),
+            1 => optional(&mut slots.1, decoder, Tagging::Untagged),
+            _ => Ok(()),
+        }
+    }
 }
 
 impl FieldTable for AlgorithmIdentifier {
-    ghost components = { sequence_of_slots ⟦<AlgorithmIdentifier as Slotted>⟧.layout };
+    ghost components = { sequence_of_slots ⟦<AlgorithmIdentifier as DecodeByPlace>⟧.layout };
 
     fn field_count() -> usize {
         2
@@ -75,6 +89,13 @@ pub fn algorithm_identifier_is_well_tagged()
     ensures { IsWellTagged ⟦<AlgorithmIdentifier as AsnType>⟧.meaning }
 {}
 
+/// An `AlgorithmIdentifier` is valid if and only if the codec takes its parameters, where there are any.
+pub fn algorithm_identifier_is_valid(algorithm: &AlgorithmIdentifier)
+    ensures { (accepts : List ℕ → Bool) →
+        ⟦<AlgorithmIdentifier as AsnType>⟧.meaning.IsValid accepts algorithm.now ↔
+        ParametersAreTaken accepts algorithm.now }
+{}
+
 impl Encode for AlgorithmIdentifier {
     fn encode_with_tag_and_constraints<E: Encoder>(
         &self,
@@ -103,35 +124,6 @@ impl Decode for AlgorithmIdentifier {
         tag: Tag,
         _constraints: &Constraints<'_>,
     ) -> Result<AlgorithmIdentifier, DecodeError> {
-        decoder.decode_sequence(tag)
+        decode_sequence_by_place(decoder, tag)
     }
 }
-
-impl DecodeFields for AlgorithmIdentifier {
-    fn decode_fields<D: Decoder>(decoder: &mut D) -> Result<AlgorithmIdentifier, DecodeError> {
-        AlgorithmIdentifier::decode_by_place(decoder)
-    }
-}
-
-impl DecodeByPlace for AlgorithmIdentifier {
-    fn decode_field<D: Decoder>(
-        place: usize,
-        slots: &mut Self::Slots,
-        decoder: &mut D,
-    ) -> Result<(), DecodeError> {
-        match place {
-            0 => required(&mut slots.0, decoder, Tagging::Untagged),
-            1 => optional(&mut slots.1, decoder, Tagging::Untagged),
-            _ => Ok(()),
-        }
-    }
-
-    ghost agrees = { slots_agree ⟦<AlgorithmIdentifier as FieldTable>⟧.components };
-}
-
-/// An `AlgorithmIdentifier` is valid if and only if the codec takes its parameters as one value, where there are any.
-pub fn algorithm_identifier_is_valid(algorithm: &AlgorithmIdentifier)
-    ensures { (accepts : List ℕ → Bool) →
-        ⟦<AlgorithmIdentifier as AsnType>⟧.meaning.IsValid accepts algorithm.now ↔
-        IfSome algorithm.now.parameters (λ parameters. IsTrue (accepts parameters)) }
-{}

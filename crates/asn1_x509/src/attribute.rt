@@ -1,11 +1,14 @@
 //! `AttributeTypeAndValue ::= SEQUENCE { type OBJECT IDENTIFIER, value ANY DEFINED BY type }`
-ghost use Rattle.std.specs.Prelude.{[], codes, ◌∷◌};
-ghost use Rattle.asn1_schema.specs.Words.{IsWellTagged, constructed_agrees, constructed_type, required_slot, sequence_of_slots, slots_agree, untagged};
+ghost use Rattle.std.specs.Prelude.{Bool, IsTrue, List, [], codes, ℕ, ◌↔◌, ◌∷◌};
+ghost use Rattle.asn1_slots.specs.Slots.{required_slot, sequence_of_slots};
+ghost use Rattle.asn1_types.specs.Words.{IsWellTagged, constructed_agrees, constructed_type, untagged};
 
-use asn1_schema::{
-    Any, AsnType, Constraints, ConstructedType, Decode, DecodeByPlace, DecodeError, DecodeFields,
-    Decoder, Encode, EncodeError, EncodeFields, Encoder, Field, FieldTable, Identifier,
-    ObjectIdentifier, Slotted, Tag, Tagging, TypeTable, filled, required,
+use asn1_dec::{Decode, DecodeError, Decoder};
+use asn1_enc::{Encode, EncodeError, EncodeFields, Encoder};
+use asn1_slots::{DecodeByPlace, Decoded, Tagging, decode_sequence_by_place, filled, required};
+use asn1_strings::ObjectIdentifier;
+use asn1_types::{
+    Any, AsnType, Constraints, ConstructedType, Field, FieldTable, Identifier, Tag, TypeTable,
 };
 use std::alloc::Global;
 
@@ -18,7 +21,7 @@ pub struct AttributeTypeAndValue {
     pub value: Any,
 }
 
-impl Slotted for AttributeTypeAndValue {
+impl DecodeByPlace for AttributeTypeAndValue {
     type Slots = (Option<ObjectIdentifier>, Option<Any>);
 
     ghost layout = { required_slot (codes "type") (λ v. v.attribute) (λ s. s.0)
@@ -35,10 +38,18 @@ impl Slotted for AttributeTypeAndValue {
             value: filled(slots.1, "value")?,
         })
     }
+
+    fn decode_field<D: Decoder>(place: usize, slots: &mut Self::Slots, decoder: &mut D) -> Decoded {
+        match place {
+            0 => required(&mut slots.0, decoder, Tagging::Untagged),
+            1 => required(&mut slots.1, decoder, Tagging::Untagged),
+            _ => Ok(()),
+        }
+    }
 }
 
 impl FieldTable for AttributeTypeAndValue {
-    ghost components = { sequence_of_slots ⟦<AttributeTypeAndValue as Slotted>⟧.layout };
+    ghost components = { sequence_of_slots ⟦<AttributeTypeAndValue as DecodeByPlace>⟧.layout };
 
     fn field_count() -> usize {
         2
@@ -78,6 +89,13 @@ pub fn attribute_type_and_value_is_well_tagged()
     ensures { IsWellTagged ⟦<AttributeTypeAndValue as AsnType>⟧.meaning }
 {}
 
+/// An `AttributeTypeAndValue` is valid if and only if the codec takes its value.
+pub fn attribute_type_and_value_is_valid(attribute: &AttributeTypeAndValue)
+    ensures { (accepts : List ℕ → Bool) →
+        ⟦<AttributeTypeAndValue as AsnType>⟧.meaning.IsValid accepts attribute.now ↔
+        IsTrue (accepts attribute.now.value) }
+{}
+
 impl Encode for AttributeTypeAndValue {
     fn encode_with_tag_and_constraints<E: Encoder>(
         &self,
@@ -106,28 +124,6 @@ impl Decode for AttributeTypeAndValue {
         tag: Tag,
         _constraints: &Constraints<'_>,
     ) -> Result<AttributeTypeAndValue, DecodeError> {
-        decoder.decode_sequence(tag)
+        decode_sequence_by_place(decoder, tag)
     }
-}
-
-impl DecodeFields for AttributeTypeAndValue {
-    fn decode_fields<D: Decoder>(decoder: &mut D) -> Result<AttributeTypeAndValue, DecodeError> {
-        AttributeTypeAndValue::decode_by_place(decoder)
-    }
-}
-
-impl DecodeByPlace for AttributeTypeAndValue {
-    fn decode_field<D: Decoder>(
-        place: usize,
-        slots: &mut Self::Slots,
-        decoder: &mut D,
-    ) -> Result<(), DecodeError> {
-        match place {
-            0 => required(&mut slots.0, decoder, Tagging::Untagged),
-            1 => required(&mut slots.1, decoder, Tagging::Untagged),
-            _ => Ok(()),
-        }
-    }
-
-    ghost agrees = { slots_agree ⟦<AttributeTypeAndValue as FieldTable>⟧.components };
 }

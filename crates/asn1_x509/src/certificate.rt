@@ -1,14 +1,18 @@
 //! `Certificate ::= SEQUENCE { tbsCertificate TBSCertificate, signatureAlgorithm AlgorithmIdentifier, signatureValue BIT STRING }`
 //! (RFC 5280, 4.1).
-ghost use Rattle.std.specs.Prelude.{[], codes, ◌∷◌};
-ghost use Rattle.asn1_schema.specs.Words.{IsWellTagged, constructed_agrees, constructed_type, required_slot, sequence_of_slots, slots_agree, untagged};
+ghost use Rattle.std.specs.Prelude.{Bool, List, [], codes, ℕ, ◌↔◌, ◌∷◌};
+ghost use Rattle.asn1_slots.specs.Slots.{required_slot, sequence_of_slots};
+ghost use Rattle.asn1_types.specs.Words.{IsWellTagged, constructed_agrees, constructed_type, untagged};
+ghost use Rattle.asn1_x509.specs.OpenValues.{CertificateIsTaken};
 
 use crate::algorithm_identifier::AlgorithmIdentifier;
 use crate::tbs_certificate::TbsCertificate;
-use asn1_schema::{
-    AsnType, BitString, Constraints, ConstructedType, Decode, DecodeByPlace, DecodeError,
-    DecodeFields, Decoder, Encode, EncodeError, EncodeFields, Encoder, Field, FieldTable,
-    Identifier, Slotted, Tag, Tagging, TypeTable, filled, required,
+use asn1_dec::{Decode, DecodeError, Decoder};
+use asn1_enc::{Encode, EncodeError, EncodeFields, Encoder};
+use asn1_slots::{DecodeByPlace, Decoded, Tagging, decode_sequence_by_place, filled, required};
+use asn1_strings::BitString;
+use asn1_types::{
+    AsnType, Constraints, ConstructedType, Field, FieldTable, Identifier, Tag, TypeTable,
 };
 use std::alloc::Global;
 
@@ -23,7 +27,7 @@ pub struct Certificate {
     pub signature_value: BitString,
 }
 
-impl Slotted for Certificate {
+impl DecodeByPlace for Certificate {
     type Slots = (
         Option<TbsCertificate>,
         Option<AlgorithmIdentifier>,
@@ -44,10 +48,19 @@ impl Slotted for Certificate {
             signature_value: filled(slots.2, "signatureValue")?,
         })
     }
+
+    fn decode_field<D: Decoder>(place: usize, slots: &mut Self::Slots, decoder: &mut D) -> Decoded {
+        match place {
+            0 => required(&mut slots.0, decoder, Tagging::Untagged),
+            1 => required(&mut slots.1, decoder, Tagging::Untagged),
+            2 => required(&mut slots.2, decoder, Tagging::Untagged),
+            _ => Ok(()),
+        }
+    }
 }
 
 impl FieldTable for Certificate {
-    ghost components = { sequence_of_slots ⟦<Certificate as Slotted>⟧.layout };
+    ghost components = { sequence_of_slots ⟦<Certificate as DecodeByPlace>⟧.layout };
 
     fn field_count() -> usize {
         3
@@ -88,6 +101,13 @@ pub fn certificate_is_well_tagged()
     ensures { IsWellTagged ⟦<Certificate as AsnType>⟧.meaning }
 {}
 
+/// A `Certificate` is valid if and only if the codec takes what is open in it.
+pub fn certificate_is_valid(certificate: &Certificate)
+    ensures { (accepts : List ℕ → Bool) →
+        ⟦<Certificate as AsnType>⟧.meaning.IsValid accepts certificate.now ↔
+        CertificateIsTaken accepts certificate.now }
+{}
+
 impl Encode for Certificate {
     fn encode_with_tag_and_constraints<E: Encoder>(
         &self,
@@ -117,29 +137,6 @@ impl Decode for Certificate {
         tag: Tag,
         _constraints: &Constraints<'_>,
     ) -> Result<Certificate, DecodeError> {
-        decoder.decode_sequence(tag)
+        decode_sequence_by_place(decoder, tag)
     }
-}
-
-impl DecodeFields for Certificate {
-    fn decode_fields<D: Decoder>(decoder: &mut D) -> Result<Certificate, DecodeError> {
-        Certificate::decode_by_place(decoder)
-    }
-}
-
-impl DecodeByPlace for Certificate {
-    fn decode_field<D: Decoder>(
-        place: usize,
-        slots: &mut Self::Slots,
-        decoder: &mut D,
-    ) -> Result<(), DecodeError> {
-        match place {
-            0 => required(&mut slots.0, decoder, Tagging::Untagged),
-            1 => required(&mut slots.1, decoder, Tagging::Untagged),
-            2 => required(&mut slots.2, decoder, Tagging::Untagged),
-            _ => Ok(()),
-        }
-    }
-
-    ghost agrees = { slots_agree ⟦<Certificate as FieldTable>⟧.components };
 }

@@ -9,15 +9,17 @@
 //!     bmpString       BMPString (SIZE (1..MAX))
 //! }
 //! ```
-ghost use Rattle.std.specs.Prelude.{[], codes, refl, ◌∷◌};
-ghost use Rattle.asn1_schema.specs.Words.{IsWellTagged, cases_agree, choice_agrees, choice_of, choice_of_cases, inl, inr, untagged, variant};
+ghost use Rattle.std.specs.Prelude.{Bool, List, [], codes, refl, ℕ, ◌∷◌};
+ghost use Rattle.asn1_slots.specs.Cases.{choice_of_cases, variant};
+ghost use Rattle.asn1_types.specs.Words.{IsWellTagged, choice_agrees, choice_of, inl, inr, untagged};
 ghost use Rattle.asn1_x509.specs.declared.directory_string.DirectoryString.TheVariants.{Teletex, Printable, Universal, Utf8, Bmp};
 
-use asn1_schema::{
-    AsnType, BmpString, Choice, ChoiceType, Constraints, Decode, DecodeChoice, DecodeChoiceByPlace,
-    DecodeError, Decoder, Encode, EncodeChoice, EncodeError, Encoder, HasCases, Identifier,
-    PrintableString, Tag, TagTree, Tagging, TeletexString, TypeTable, UniversalString, Utf8String,
-    alternative,
+use asn1_dec::{Decode, DecodeChoice, DecodeError, Decoder};
+use asn1_enc::{Encode, EncodeChoice, EncodeError, Encoder};
+use asn1_slots::{DecodeChoiceByPlace, Tagging, alternative, from_tag_by_place};
+use asn1_strings::{BmpString, PrintableString, TeletexString, Utf8String};
+use asn1_types::{
+    AsnType, Choice, ChoiceType, Constraints, Identifier, Implicit, Tag, TagTree, TypeTable, tag,
 };
 
 /// A text in one of five kinds of string. That it is not empty is the caller's to see.
@@ -28,7 +30,7 @@ pub enum DirectoryString {
     /// `printableString PrintableString (SIZE (1..MAX))`
     Printable(PrintableString),
     /// `universalString UniversalString (SIZE (1..MAX))`
-    Universal(UniversalString),
+    Universal(Implicit<tag::UNIVERSAL_STRING, Utf8String>),
     /// `utf8String UTF8String (SIZE (1..MAX))`
     Utf8(Utf8String),
     /// `bmpString BMPString (SIZE (1..MAX))`
@@ -44,25 +46,38 @@ const DIRECTORY_STRING: &[TagTree<'static>] = &[
     TagTree::Leaf(Tag::BMP_STRING),
 ];
 
-impl HasCases for DirectoryString {
+impl DecodeChoiceByPlace for DirectoryString {
     ghost cases = { variant (codes "teletexString") Teletex (untagged ⟦<TeletexString as AsnType>⟧.meaning)
         ⟦<TeletexString as PartialEq>⟧.eq ∷
         variant (codes "printableString") Printable (untagged ⟦<PrintableString as AsnType>⟧.meaning)
         ⟦<PrintableString as PartialEq>⟧.eq ∷
-        variant (codes "universalString") Universal (untagged ⟦<UniversalString as AsnType>⟧.meaning)
-        ⟦<UniversalString as PartialEq>⟧.eq ∷
+        variant (codes "universalString") Universal (untagged ⟦<Implicit<tag::UNIVERSAL_STRING, Utf8String> as AsnType>⟧.meaning)
+        ⟦<Implicit<tag::UNIVERSAL_STRING, Utf8String> as PartialEq>⟧.eq ∷
         variant (codes "utf8String") Utf8 (untagged ⟦<Utf8String as AsnType>⟧.meaning)
         ⟦<Utf8String as PartialEq>⟧.eq ∷
         variant (codes "bmpString") Bmp (untagged ⟦<BmpString as AsnType>⟧.meaning)
         ⟦<BmpString as PartialEq>⟧.eq ∷ [] };
 
     ghost case_of = { elim [ Teletex teletex ↦ inl teletex | Printable printable ↦ inr (inl printable) | Universal universal ↦ inr (inr (inl universal)) | Utf8 utf8 ↦ inr (inr (inr (inl utf8))) | Bmp bmp ↦ inr (inr (inr (inr (inl bmp)))) ] };
+
+    fn decode_alternative<D: Decoder>(place: usize, decoder: &mut D) -> Result<Self, DecodeError> {
+        match place {
+            0 => Ok(DirectoryString::Teletex(alternative(decoder, Tagging::Untagged)?)),
+            1 => Ok(DirectoryString::Printable(alternative(decoder, Tagging::Untagged)?)),
+            2 => Ok(DirectoryString::Universal(alternative(decoder, Tagging::Untagged)?)),
+            3 => Ok(DirectoryString::Utf8(alternative(decoder, Tagging::Untagged)?)),
+            4 => Ok(DirectoryString::Bmp(alternative(decoder, Tagging::Untagged)?)),
+            _ => Err(DecodeError::NoValidChoice("DirectoryString")),
+        }
+    }
+
+    ghost made = { elim [ Teletex x ↦ (refl, λ _. refl) | Printable x ↦ (refl, λ _. refl) | Universal x ↦ (refl, λ _. refl) | Utf8 x ↦ (refl, λ _. refl) | Bmp x ↦ (refl, λ _. refl) ] };
 }
 
 impl Choice for DirectoryString {
-    ghost alternatives = { choice_of_cases ⟦<DirectoryString as HasCases>⟧.cases };
+    ghost alternatives = { choice_of_cases ⟦<DirectoryString as DecodeChoiceByPlace>⟧.cases };
 
-    ghost pick = { ⟦<DirectoryString as HasCases>⟧.case_of };
+    ghost pick = { ⟦<DirectoryString as DecodeChoiceByPlace>⟧.case_of };
 
     fn variants() -> &'static [TagTree<'static>] {
         DIRECTORY_STRING
@@ -102,6 +117,12 @@ impl ChoiceType for DirectoryString {
 /// A `DirectoryString` can be inside other types: the tags of its alternatives are distinct.
 pub fn directory_string_is_well_tagged()
     ensures { IsWellTagged ⟦<DirectoryString as AsnType>⟧.meaning }
+{}
+
+/// Each `DirectoryString` is valid, also an empty one.
+pub fn directory_string_is_valid(text: &DirectoryString)
+    ensures { (accepts : List ℕ → Bool) →
+        ⟦<DirectoryString as AsnType>⟧.meaning.IsValid accepts text.now }
 {}
 
 impl Encode for DirectoryString {
@@ -150,23 +171,6 @@ impl Decode for DirectoryString {
 
 impl DecodeChoice for DirectoryString {
     fn from_tag<D: Decoder>(decoder: &mut D, tag: Tag) -> Result<DirectoryString, DecodeError> {
-        DirectoryString::from_tag_by_place(decoder, tag)
+        from_tag_by_place(decoder, tag)
     }
-}
-
-impl DecodeChoiceByPlace for DirectoryString {
-    fn decode_alternative<D: Decoder>(place: usize, decoder: &mut D) -> Result<Self, DecodeError> {
-        match place {
-            0 => Ok(DirectoryString::Teletex(alternative(decoder, Tagging::Untagged)?)),
-            1 => Ok(DirectoryString::Printable(alternative(decoder, Tagging::Untagged)?)),
-            2 => Ok(DirectoryString::Universal(alternative(decoder, Tagging::Untagged)?)),
-            3 => Ok(DirectoryString::Utf8(alternative(decoder, Tagging::Untagged)?)),
-            4 => Ok(DirectoryString::Bmp(alternative(decoder, Tagging::Untagged)?)),
-            _ => Err(DecodeError::NoValidChoice("DirectoryString")),
-        }
-    }
-
-    ghost agrees = { λ v. cases_agree ⟦<DirectoryString as HasCases>⟧.cases (⟦<DirectoryString as HasCases>⟧.case_of v) };
-
-    ghost made = { elim [ Teletex x ↦ (refl, λ _. refl) | Printable x ↦ (refl, λ _. refl) | Universal x ↦ (refl, λ _. refl) | Utf8 x ↦ (refl, λ _. refl) | Bmp x ↦ (refl, λ _. refl) ] };
 }

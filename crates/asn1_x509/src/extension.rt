@@ -1,12 +1,17 @@
 //! `Extension ::= SEQUENCE { extnID OBJECT IDENTIFIER, critical BOOLEAN DEFAULT FALSE, extnValue OCTET STRING }`
-ghost use Rattle.std.specs.Prelude.{[], codes, false, ◌∷◌};
-ghost use Rattle.asn1_schema.specs.Words.{IsWellTagged, constructed_agrees, constructed_type, default_slot, required_slot, sequence_of_slots, slots_agree, untagged};
+ghost use Rattle.std.specs.Prelude.{Bool, List, [], codes, false, ℕ, ◌∷◌};
+ghost use Rattle.asn1_slots.specs.Slots.{default_slot, required_slot, sequence_of_slots};
+ghost use Rattle.asn1_types.specs.Words.{IsWellTagged, constructed_agrees, constructed_type, untagged};
 
-use asn1_schema::{
-    AsnType, Constraints, ConstructedType, Decode, DecodeByPlace, DecodeError, DecodeFields,
-    Decoder, Encode, EncodeError, EncodeFields, Encoder, Field, FieldTable, Identifier,
-    ObjectIdentifier, OctetString, Slotted, Tag, Tagging, TypeTable, filled, optional, or_default,
+use asn1_dec::{Decode, DecodeError, Decoder};
+use asn1_enc::{Encode, EncodeError, EncodeFields, Encoder};
+use asn1_slots::{
+    DecodeByPlace, Decoded, Tagging, decode_sequence_by_place, filled, optional, or_default,
     required,
+};
+use asn1_strings::{ObjectIdentifier, OctetString};
+use asn1_types::{
+    AsnType, Constraints, ConstructedType, Field, FieldTable, Identifier, Tag, TypeTable,
 };
 use std::alloc::Global;
 
@@ -24,7 +29,7 @@ pub struct Extension {
     pub value: OctetString,
 }
 
-impl Slotted for Extension {
+impl DecodeByPlace for Extension {
     type Slots = (Option<ObjectIdentifier>, Option<bool>, Option<OctetString>);
 
     ghost layout = { required_slot (codes "extnID") (λ v. v.extension_id) (λ s. s.0)
@@ -41,10 +46,19 @@ impl Slotted for Extension {
             value: filled(slots.2, "extnValue")?,
         })
     }
+
+    fn decode_field<D: Decoder>(place: usize, slots: &mut Self::Slots, decoder: &mut D) -> Decoded {
+        match place {
+            0 => required(&mut slots.0, decoder, Tagging::Untagged),
+            1 => optional(&mut slots.1, decoder, Tagging::Untagged),
+            2 => required(&mut slots.2, decoder, Tagging::Untagged),
+            _ => Ok(()),
+        }
+    }
 }
 
 impl FieldTable for Extension {
-    ghost components = { sequence_of_slots ⟦<Extension as Slotted>⟧.layout };
+    ghost components = { sequence_of_slots ⟦<Extension as DecodeByPlace>⟧.layout };
 
     fn field_count() -> usize {
         3
@@ -85,6 +99,12 @@ pub fn extension_is_well_tagged()
     ensures { IsWellTagged ⟦<Extension as AsnType>⟧.meaning }
 {}
 
+/// Each `Extension` is valid, whatever its value has in it.
+pub fn extension_is_valid(extension: &Extension)
+    ensures { (accepts : List ℕ → Bool) →
+        ⟦<Extension as AsnType>⟧.meaning.IsValid accepts extension.now }
+{}
+
 impl Encode for Extension {
     fn encode_with_tag_and_constraints<E: Encoder>(
         &self,
@@ -114,29 +134,6 @@ impl Decode for Extension {
         tag: Tag,
         _constraints: &Constraints<'_>,
     ) -> Result<Extension, DecodeError> {
-        decoder.decode_sequence(tag)
+        decode_sequence_by_place(decoder, tag)
     }
-}
-
-impl DecodeFields for Extension {
-    fn decode_fields<D: Decoder>(decoder: &mut D) -> Result<Extension, DecodeError> {
-        Extension::decode_by_place(decoder)
-    }
-}
-
-impl DecodeByPlace for Extension {
-    fn decode_field<D: Decoder>(
-        place: usize,
-        slots: &mut Self::Slots,
-        decoder: &mut D,
-    ) -> Result<(), DecodeError> {
-        match place {
-            0 => required(&mut slots.0, decoder, Tagging::Untagged),
-            1 => optional(&mut slots.1, decoder, Tagging::Untagged),
-            2 => required(&mut slots.2, decoder, Tagging::Untagged),
-            _ => Ok(()),
-        }
-    }
-
-    ghost agrees = { slots_agree ⟦<Extension as FieldTable>⟧.components };
 }

@@ -1,4 +1,4 @@
-//! Certificates (RFC 5280): their types, written and read by any codec. Code and clauses name `asn1_schema` alone.
+//! Certificates (RFC 5280): their types, written and read by any codec.
 //!
 //! | Item | What it is |
 //! |---|---|
@@ -17,10 +17,11 @@
 //!   `asn1_schema`).
 //! - Each type can be inside other types (`certificate_is_well_tagged` and the like): no tag is where another is expected.
 //! - A component that is its default is written as absent (`first_version_is_absent`).
-//! - The parameters of an algorithm are an open type, which may be absent (`algorithm_identifier_is_valid`).
+//! - The parameters of algorithms and the values of attributes are open types. A certificate is valid if and only if the codec
+//!   takes each of them as one value (`certificate_is_valid`; `specs/OpenValues.antt`). All else is valid as it is.
 //!
 //! What a schema asks beyond that is left to whoever makes a value: that a list has an element, that a text is a time.
-#![tactic(auto, using(asn1_schema::proofs::Trees::tree_shapes))]
+#![tactic(auto, using(asn1_tags::proofs::Leaves::tree_shapes))]
 
 mod algorithm_identifier;
 mod attribute;
@@ -38,17 +39,24 @@ mod validity;
 pub use algorithm_identifier::{
     AlgorithmIdentifier, algorithm_identifier_is_valid, algorithm_identifier_is_well_tagged,
 };
-pub use attribute::{AttributeTypeAndValue, attribute_type_and_value_is_well_tagged};
-pub use certificate::{Certificate, certificate_is_well_tagged};
-pub use directory_string::{DirectoryString, directory_string_is_well_tagged};
-pub use extension::{Extension, Extensions, extension_is_well_tagged};
-pub use name::{Name, RdnSequence, RelativeDistinguishedName, name_is_well_tagged};
-pub use rsa_public_key::{RsaPublicKey, rsa_public_key_is_well_tagged};
+pub use attribute::{
+    AttributeTypeAndValue, attribute_type_and_value_is_valid,
+    attribute_type_and_value_is_well_tagged,
+};
+pub use certificate::{Certificate, certificate_is_valid, certificate_is_well_tagged};
+pub use directory_string::{
+    DirectoryString, directory_string_is_valid, directory_string_is_well_tagged,
+};
+pub use extension::{Extension, Extensions, extension_is_valid, extension_is_well_tagged};
+pub use name::{Name, RdnSequence, RelativeDistinguishedName, name_is_valid, name_is_well_tagged};
+pub use rsa_public_key::{RsaPublicKey, rsa_public_key_is_valid, rsa_public_key_is_well_tagged};
 pub use signed::{Signed, signed_is_valid, signed_is_well_tagged};
-pub use subject_public_key_info::{SubjectPublicKeyInfo, subject_public_key_info_is_well_tagged};
+pub use subject_public_key_info::{
+    SubjectPublicKeyInfo, subject_public_key_info_is_valid, subject_public_key_info_is_well_tagged,
+};
 pub use tbs_certificate::{
     CertificateSerialNumber, TbsCertificate, UniqueIdentifier, Version, first_version_is_absent,
-    tbs_certificate_is_well_tagged,
+    tbs_certificate_is_valid, tbs_certificate_is_well_tagged,
 };
-pub use time::{Time, time_is_well_tagged};
-pub use validity::{Validity, validity_is_well_tagged};
+pub use time::{Time, time_is_valid, time_is_well_tagged};
+pub use validity::{Validity, validity_is_valid, validity_is_well_tagged};

@@ -1,13 +1,16 @@
 //! `Name ::= CHOICE { rdnSequence RDNSequence }`
-ghost use Rattle.std.specs.Prelude.{[], codes, refl, ◌∷◌};
-ghost use Rattle.asn1_schema.specs.Words.{IsWellTagged, cases_agree, choice_agrees, choice_of, choice_of_cases, inl, untagged, variant};
+ghost use Rattle.std.specs.Prelude.{Bool, List, [], codes, refl, ℕ, ◌↔◌, ◌∷◌};
+ghost use Rattle.asn1_slots.specs.Cases.{choice_of_cases, variant};
+ghost use Rattle.asn1_types.specs.Words.{IsWellTagged, choice_agrees, choice_of, inl, untagged};
+ghost use Rattle.asn1_x509.specs.OpenValues.{NameIsTaken};
 ghost use Rattle.asn1_x509.specs.declared.name.Name.TheVariants.{Rdns};
 
 use crate::attribute::AttributeTypeAndValue;
-use asn1_schema::{
-    AsnType, Choice, ChoiceType, Constraints, Decode, DecodeChoice, DecodeChoiceByPlace,
-    DecodeError, Decoder, Encode, EncodeChoice, EncodeError, Encoder, HasCases, Identifier, SetOf,
-    Tag, TagTree, Tagging, TypeTable, alternative,
+use asn1_dec::{Decode, DecodeChoice, DecodeError, Decoder};
+use asn1_enc::{Encode, EncodeChoice, EncodeError, Encoder};
+use asn1_slots::{DecodeChoiceByPlace, Tagging, alternative, from_tag_by_place};
+use asn1_types::{
+    AsnType, Choice, ChoiceType, Constraints, Identifier, SetOf, Tag, TagTree, TypeTable,
 };
 
 /// `RelativeDistinguishedName ::= SET SIZE (1..MAX) OF AttributeTypeAndValue`. That there is one is the caller's to see.
@@ -26,17 +29,26 @@ pub enum Name {
 /// The trees of the alternatives.
 const NAME: &[TagTree<'static>] = &[TagTree::Leaf(Tag::SEQUENCE)];
 
-impl HasCases for Name {
+impl DecodeChoiceByPlace for Name {
     ghost cases = { variant (codes "rdnSequence") Rdns (untagged ⟦<RdnSequence as AsnType>⟧.meaning)
         ⟦<RdnSequence as PartialEq>⟧.eq ∷ [] };
 
     ghost case_of = { elim [ Rdns rdns ↦ inl rdns ] };
+
+    fn decode_alternative<D: Decoder>(place: usize, decoder: &mut D) -> Result<Self, DecodeError> {
+        match place {
+            0 => Ok(Name::Rdns(alternative(decoder, Tagging::Untagged)?)),
+            _ => Err(DecodeError::NoValidChoice("Name")),
+        }
+    }
+
+    ghost made = { elim [ Rdns x ↦ (refl, λ _. refl) ] };
 }
 
 impl Choice for Name {
-    ghost alternatives = { choice_of_cases ⟦<Name as HasCases>⟧.cases };
+    ghost alternatives = { choice_of_cases ⟦<Name as DecodeChoiceByPlace>⟧.cases };
 
-    ghost pick = { ⟦<Name as HasCases>⟧.case_of };
+    ghost pick = { ⟦<Name as DecodeChoiceByPlace>⟧.case_of };
 
     fn variants() -> &'static [TagTree<'static>] {
         NAME
@@ -70,6 +82,13 @@ impl ChoiceType for Name {
 /// A `Name` can be inside other types.
 pub fn name_is_well_tagged()
     ensures { IsWellTagged ⟦<Name as AsnType>⟧.meaning }
+{}
+
+/// A `Name` is valid if and only if the codec takes the value of each of its attributes.
+pub fn name_is_valid(name: &Name)
+    ensures { (accepts : List ℕ → Bool) →
+        ⟦<Name as AsnType>⟧.meaning.IsValid accepts name.now ↔
+        NameIsTaken accepts name.now }
 {}
 
 impl Encode for Name {
@@ -110,19 +129,6 @@ impl Decode for Name {
 
 impl DecodeChoice for Name {
     fn from_tag<D: Decoder>(decoder: &mut D, tag: Tag) -> Result<Name, DecodeError> {
-        Name::from_tag_by_place(decoder, tag)
+        from_tag_by_place(decoder, tag)
     }
-}
-
-impl DecodeChoiceByPlace for Name {
-    fn decode_alternative<D: Decoder>(place: usize, decoder: &mut D) -> Result<Self, DecodeError> {
-        match place {
-            0 => Ok(Name::Rdns(alternative(decoder, Tagging::Untagged)?)),
-            _ => Err(DecodeError::NoValidChoice("Name")),
-        }
-    }
-
-    ghost agrees = { λ v. cases_agree ⟦<Name as HasCases>⟧.cases (⟦<Name as HasCases>⟧.case_of v) };
-
-    ghost made = { elim [ Rdns x ↦ (refl, λ _. refl) ] };
 }

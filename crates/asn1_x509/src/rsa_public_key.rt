@@ -1,12 +1,15 @@
 //! `RSAPublicKey ::= SEQUENCE { modulus INTEGER, publicExponent INTEGER }` (RFC 3279, 2.3.1)
-ghost use Rattle.std.specs.Prelude.{[], codes, ◌∷◌};
-ghost use Rattle.asn1_schema.specs.Words.{IsWellTagged, constructed_agrees, constructed_type, required_slot, sequence_of_slots, slots_agree, untagged};
+ghost use Rattle.std.specs.Prelude.{Bool, List, [], codes, ℕ, ◌∷◌};
+ghost use Rattle.asn1_slots.specs.Slots.{required_slot, sequence_of_slots};
+ghost use Rattle.asn1_types.specs.Words.{IsWellTagged, constructed_agrees, constructed_type, untagged};
 
-use asn1_schema::{
-    AsnType, Constraints, ConstructedType, Decode, DecodeByPlace, DecodeError, DecodeFields,
-    Decoder, Encode, EncodeError, EncodeFields, Encoder, Field, FieldTable, Identifier, Integer,
-    Slotted, Tag, Tagging, TypeTable, filled, required,
+use asn1_dec::{Decode, DecodeError, Decoder};
+use asn1_enc::{Encode, EncodeError, EncodeFields, Encoder};
+use asn1_slots::{DecodeByPlace, Decoded, Tagging, decode_sequence_by_place, filled, required};
+use asn1_types::{
+    AsnType, Constraints, ConstructedType, Field, FieldTable, Identifier, Tag, TypeTable,
 };
+use asn1_values::Integer;
 use std::alloc::Global;
 
 /// A key of RSA, which is inside the bits of a public key.
@@ -18,7 +21,7 @@ pub struct RsaPublicKey {
     pub public_exponent: Integer,
 }
 
-impl Slotted for RsaPublicKey {
+impl DecodeByPlace for RsaPublicKey {
     type Slots = (Option<Integer>, Option<Integer>);
 
     ghost layout = { required_slot (codes "modulus") (λ v. v.modulus) (λ s. s.0)
@@ -32,10 +35,18 @@ impl Slotted for RsaPublicKey {
             public_exponent: filled(slots.1, "publicExponent")?,
         })
     }
+
+    fn decode_field<D: Decoder>(place: usize, slots: &mut Self::Slots, decoder: &mut D) -> Decoded {
+        match place {
+            0 => required(&mut slots.0, decoder, Tagging::Untagged),
+            1 => required(&mut slots.1, decoder, Tagging::Untagged),
+            _ => Ok(()),
+        }
+    }
 }
 
 impl FieldTable for RsaPublicKey {
-    ghost components = { sequence_of_slots ⟦<RsaPublicKey as Slotted>⟧.layout };
+    ghost components = { sequence_of_slots ⟦<RsaPublicKey as DecodeByPlace>⟧.layout };
 
     fn field_count() -> usize {
         2
@@ -75,6 +86,12 @@ pub fn rsa_public_key_is_well_tagged()
     ensures { IsWellTagged ⟦<RsaPublicKey as AsnType>⟧.meaning }
 {}
 
+/// Each `RsaPublicKey` is valid.
+pub fn rsa_public_key_is_valid(key: &RsaPublicKey)
+    ensures { (accepts : List ℕ → Bool) →
+        ⟦<RsaPublicKey as AsnType>⟧.meaning.IsValid accepts key.now }
+{}
+
 impl Encode for RsaPublicKey {
     fn encode_with_tag_and_constraints<E: Encoder>(
         &self,
@@ -103,28 +120,6 @@ impl Decode for RsaPublicKey {
         tag: Tag,
         _constraints: &Constraints<'_>,
     ) -> Result<RsaPublicKey, DecodeError> {
-        decoder.decode_sequence(tag)
+        decode_sequence_by_place(decoder, tag)
     }
-}
-
-impl DecodeFields for RsaPublicKey {
-    fn decode_fields<D: Decoder>(decoder: &mut D) -> Result<RsaPublicKey, DecodeError> {
-        RsaPublicKey::decode_by_place(decoder)
-    }
-}
-
-impl DecodeByPlace for RsaPublicKey {
-    fn decode_field<D: Decoder>(
-        place: usize,
-        slots: &mut Self::Slots,
-        decoder: &mut D,
-    ) -> Result<(), DecodeError> {
-        match place {
-            0 => required(&mut slots.0, decoder, Tagging::Untagged),
-            1 => required(&mut slots.1, decoder, Tagging::Untagged),
-            _ => Ok(()),
-        }
-    }
-
-    ghost agrees = { slots_agree ⟦<RsaPublicKey as FieldTable>⟧.components };
 }

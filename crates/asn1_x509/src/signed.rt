@@ -1,13 +1,17 @@
 //! `SIGNED{ToBeSigned} ::= SEQUENCE { toBeSigned ToBeSigned, algorithmIdentifier AlgorithmIdentifier, encrypted BIT STRING }`
 //! (X.509, 6.2.1)
-ghost use Rattle.std.specs.Prelude.{Bool, IsTrue, IfSome, List, [], codes, ℕ, ◌↔◌, ◌∷◌};
-ghost use Rattle.asn1_schema.specs.Words.{IsWellTagged, constructed_agrees, constructed_type, required, required_slot, sequence, slots_agree, untagged};
+ghost use Rattle.std.specs.Prelude.{Bool, List, [], codes, ℕ, ◌↔◌, ◌∷◌};
+ghost use Rattle.asn1_slots.specs.Slots.{required_slot};
+ghost use Rattle.asn1_types.specs.Words.{IsWellTagged, constructed_agrees, constructed_type, required, sequence, untagged};
+ghost use Rattle.asn1_x509.specs.OpenValues.{ParametersAreTaken};
 
 use crate::algorithm_identifier::AlgorithmIdentifier;
-use asn1_schema::{
-    AsnType, BitString, Constraints, ConstructedType, Decode, DecodeByPlace, DecodeError,
-    DecodeFields, Decoder, Encode, EncodeError, EncodeFields, Encoder, Field, FieldTable,
-    Identifier, Slotted, Tag, Tagging, TypeTable, filled, required,
+use asn1_dec::{Decode, DecodeError, Decoder};
+use asn1_enc::{Encode, EncodeError, EncodeFields, Encoder};
+use asn1_slots::{DecodeByPlace, Decoded, Tagging, decode_sequence_by_place, filled, required};
+use asn1_strings::BitString;
+use asn1_types::{
+    AsnType, Constraints, ConstructedType, Field, FieldTable, Identifier, Tag, TypeTable,
 };
 use std::alloc::Global;
 
@@ -22,7 +26,7 @@ pub struct Signed<T> {
     pub encrypted: BitString,
 }
 
-impl<T: Decode> Slotted for Signed<T> {
+impl<T: Decode> DecodeByPlace for Signed<T> {
     type Slots = (Option<T>, Option<AlgorithmIdentifier>, Option<BitString>);
 
     ghost layout = { required_slot (codes "toBeSigned") (λ v. v.to_be_signed) (λ s. s.0)
@@ -39,6 +43,15 @@ impl<T: Decode> Slotted for Signed<T> {
             algorithm_identifier: filled(slots.1, "algorithmIdentifier")?,
             encrypted: filled(slots.2, "encrypted")?,
         })
+    }
+
+    fn decode_field<D: Decoder>(place: usize, slots: &mut Self::Slots, decoder: &mut D) -> Decoded {
+        match place {
+            0 => required(&mut slots.0, decoder, Tagging::Untagged),
+            1 => required(&mut slots.1, decoder, Tagging::Untagged),
+            2 => required(&mut slots.2, decoder, Tagging::Untagged),
+            _ => Ok(()),
+        }
     }
 }
 
@@ -89,12 +102,12 @@ pub fn signed_is_well_tagged<T: AsnType>()
     ensures { IsWellTagged T.meaning → IsWellTagged ⟦<Signed<T> as AsnType>⟧.meaning }
 {}
 
-/// A `Signed` is valid if and only if what is signed is, and the algorithm.
+/// A `Signed` is valid if and only if what is signed is, and the codec takes the parameters of the algorithm, where there are any.
 pub fn signed_is_valid<T: AsnType>(signed: &Signed<T>)
     ensures { (accepts : List ℕ → Bool) →
         ⟦<Signed<T> as AsnType>⟧.meaning.IsValid accepts signed.now ↔
         (T.meaning.IsValid accepts signed.now.to_be_signed ×
-        IfSome signed.now.algorithm_identifier.parameters (λ parameters. IsTrue (accepts parameters))) }
+        ParametersAreTaken accepts signed.now.algorithm_identifier) }
 {}
 
 impl<T: Encode> Encode for Signed<T> {
@@ -126,29 +139,6 @@ impl<T: Decode> Decode for Signed<T> {
         tag: Tag,
         _constraints: &Constraints<'_>,
     ) -> Result<Signed<T>, DecodeError> {
-        decoder.decode_sequence(tag)
+        decode_sequence_by_place(decoder, tag)
     }
-}
-
-impl<T: Decode> DecodeFields for Signed<T> {
-    fn decode_fields<D: Decoder>(decoder: &mut D) -> Result<Signed<T>, DecodeError> {
-        Signed::<T>::decode_by_place(decoder)
-    }
-}
-
-impl<T: Decode> DecodeByPlace for Signed<T> {
-    fn decode_field<D: Decoder>(
-        place: usize,
-        slots: &mut Self::Slots,
-        decoder: &mut D,
-    ) -> Result<(), DecodeError> {
-        match place {
-            0 => required(&mut slots.0, decoder, Tagging::Untagged),
-            1 => required(&mut slots.1, decoder, Tagging::Untagged),
-            2 => required(&mut slots.2, decoder, Tagging::Untagged),
-            _ => Ok(()),
-        }
-    }
-
-    ghost agrees = { slots_agree ⟦<Signed<T> as FieldTable>⟧.components };
 }

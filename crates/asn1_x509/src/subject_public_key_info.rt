@@ -1,12 +1,16 @@
 //! `SubjectPublicKeyInfo ::= SEQUENCE { algorithm AlgorithmIdentifier, subjectPublicKey BIT STRING }`
-ghost use Rattle.std.specs.Prelude.{[], codes, ◌∷◌};
-ghost use Rattle.asn1_schema.specs.Words.{IsWellTagged, constructed_agrees, constructed_type, required_slot, sequence_of_slots, slots_agree, untagged};
+ghost use Rattle.std.specs.Prelude.{Bool, List, [], codes, ℕ, ◌↔◌, ◌∷◌};
+ghost use Rattle.asn1_slots.specs.Slots.{required_slot, sequence_of_slots};
+ghost use Rattle.asn1_types.specs.Words.{IsWellTagged, constructed_agrees, constructed_type, untagged};
+ghost use Rattle.asn1_x509.specs.OpenValues.{ParametersAreTaken};
 
 use crate::algorithm_identifier::AlgorithmIdentifier;
-use asn1_schema::{
-    AsnType, BitString, Constraints, ConstructedType, Decode, DecodeByPlace, DecodeError,
-    DecodeFields, Decoder, Encode, EncodeError, EncodeFields, Encoder, Field, FieldTable,
-    Identifier, Slotted, Tag, Tagging, TypeTable, filled, required,
+use asn1_dec::{Decode, DecodeError, Decoder};
+use asn1_enc::{Encode, EncodeError, EncodeFields, Encoder};
+use asn1_slots::{DecodeByPlace, Decoded, Tagging, decode_sequence_by_place, filled, required};
+use asn1_strings::BitString;
+use asn1_types::{
+    AsnType, Constraints, ConstructedType, Field, FieldTable, Identifier, Tag, TypeTable,
 };
 use std::alloc::Global;
 
@@ -19,7 +23,7 @@ pub struct SubjectPublicKeyInfo {
     pub subject_public_key: BitString,
 }
 
-impl Slotted for SubjectPublicKeyInfo {
+impl DecodeByPlace for SubjectPublicKeyInfo {
     type Slots = (Option<AlgorithmIdentifier>, Option<BitString>);
 
     ghost layout = { required_slot (codes "algorithm") (λ v. v.algorithm) (λ s. s.0)
@@ -33,10 +37,18 @@ impl Slotted for SubjectPublicKeyInfo {
             subject_public_key: filled(slots.1, "subjectPublicKey")?,
         })
     }
+
+    fn decode_field<D: Decoder>(place: usize, slots: &mut Self::Slots, decoder: &mut D) -> Decoded {
+        match place {
+            0 => required(&mut slots.0, decoder, Tagging::Untagged),
+            1 => required(&mut slots.1, decoder, Tagging::Untagged),
+            _ => Ok(()),
+        }
+    }
 }
 
 impl FieldTable for SubjectPublicKeyInfo {
-    ghost components = { sequence_of_slots ⟦<SubjectPublicKeyInfo as Slotted>⟧.layout };
+    ghost components = { sequence_of_slots ⟦<SubjectPublicKeyInfo as DecodeByPlace>⟧.layout };
 
     fn field_count() -> usize {
         2
@@ -76,6 +88,13 @@ pub fn subject_public_key_info_is_well_tagged()
     ensures { IsWellTagged ⟦<SubjectPublicKeyInfo as AsnType>⟧.meaning }
 {}
 
+/// A `SubjectPublicKeyInfo` is valid if and only if the codec takes the parameters of its algorithm, where there are any.
+pub fn subject_public_key_info_is_valid(key: &SubjectPublicKeyInfo)
+    ensures { (accepts : List ℕ → Bool) →
+        ⟦<SubjectPublicKeyInfo as AsnType>⟧.meaning.IsValid accepts key.now ↔
+        ParametersAreTaken accepts key.now.algorithm }
+{}
+
 impl Encode for SubjectPublicKeyInfo {
     fn encode_with_tag_and_constraints<E: Encoder>(
         &self,
@@ -104,28 +123,6 @@ impl Decode for SubjectPublicKeyInfo {
         tag: Tag,
         _constraints: &Constraints<'_>,
     ) -> Result<SubjectPublicKeyInfo, DecodeError> {
-        decoder.decode_sequence(tag)
+        decode_sequence_by_place(decoder, tag)
     }
-}
-
-impl DecodeFields for SubjectPublicKeyInfo {
-    fn decode_fields<D: Decoder>(decoder: &mut D) -> Result<SubjectPublicKeyInfo, DecodeError> {
-        SubjectPublicKeyInfo::decode_by_place(decoder)
-    }
-}
-
-impl DecodeByPlace for SubjectPublicKeyInfo {
-    fn decode_field<D: Decoder>(
-        place: usize,
-        slots: &mut Self::Slots,
-        decoder: &mut D,
-    ) -> Result<(), DecodeError> {
-        match place {
-            0 => required(&mut slots.0, decoder, Tagging::Untagged),
-            1 => required(&mut slots.1, decoder, Tagging::Untagged),
-            _ => Ok(()),
-        }
-    }
-
-    ghost agrees = { slots_agree ⟦<SubjectPublicKeyInfo as FieldTable>⟧.components };
 }

@@ -17,19 +17,28 @@
 //! CertificateSerialNumber ::= INTEGER
 //! UniqueIdentifier ::= BIT STRING
 //! ```
-ghost use Rattle.std.specs.Prelude.{None, Some, [], codes, pos, ◌++◌, ◌∷◌, ◌≡◌};
-ghost use Rattle.asn1_schema.specs.Words.{IsWellTagged, absent, constructed_agrees, constructed_type, context, default_slot, explicitly_tagged, holding, in_root, lines, optional_slot, own_records, presence_mark, required_slot, sequence_head, sequence_of_slots, slots_agree, tagged, universal, untagged};
+ghost use Rattle.std.specs.Prelude.{Bool, List, None, Some, [], codes, pos, ℕ, ◌++◌, ◌↔◌, ◌∷◌, ◌≡◌};
+ghost use Rattle.asn1_slots.specs.Slots.{default_slot, optional_slot, required_slot, sequence_of_slots};
+ghost use Rattle.asn1_types.specs.Words.{IsWellTagged, absent, constructed_agrees, constructed_type, context, explicitly_tagged, holding, in_root, lines, own_records, presence_mark, sequence_head, tagged, universal, untagged};
+ghost use Rattle.asn1_x509.specs.OpenValues.{SignedPartIsTaken};
 
 use crate::algorithm_identifier::AlgorithmIdentifier;
 use crate::extension::Extensions;
 use crate::name::Name;
 use crate::subject_public_key_info::SubjectPublicKeyInfo;
 use crate::validity::Validity;
-use asn1_schema::{
-    AsnType, BitString, Class, Constraints, ConstructedType, Decode, DecodeByPlace, DecodeError,
-    DecodeFields, Decoder, Encode, EncodeError, EncodeFields, Encoder, Field, FieldTable,
-    Identifier, Integer, Slotted, Tag, Tagging, TypeTable, filled, optional, or_default, required,
+use asn1_dec::{Decode, DecodeError, Decoder};
+use asn1_enc::{Encode, EncodeError, EncodeFields, Encoder, encode_explicit_optional};
+use asn1_slots::{
+    DecodeByPlace, Decoded, Tagging, decode_sequence_by_place, filled, optional, or_default,
+    required,
 };
+use asn1_strings::BitString;
+use asn1_tags::tag;
+use asn1_types::{
+    AsnType, Constraints, ConstructedType, Field, FieldTable, Identifier, Tag, TypeTable,
+};
+use asn1_values::Integer;
 use std::alloc::Global;
 
 /// `Version ::= INTEGER { v1(0), v2(1), v3(2) }`
@@ -66,27 +75,15 @@ pub struct TbsCertificate {
     pub extensions: Option<Extensions>,
 }
 
-const VERSION: Tag = Tag {
-    class: Class::Context,
-    value: 0,
-};
+const VERSION: Tag = tag!(context 0);
 
-const ISSUER_UNIQUE_ID: Tag = Tag {
-    class: Class::Context,
-    value: 1,
-};
+const ISSUER_UNIQUE_ID: Tag = tag!(context 1);
 
-const SUBJECT_UNIQUE_ID: Tag = Tag {
-    class: Class::Context,
-    value: 2,
-};
+const SUBJECT_UNIQUE_ID: Tag = tag!(context 2);
 
-const EXTENSIONS: Tag = Tag {
-    class: Class::Context,
-    value: 3,
-};
+const EXTENSIONS: Tag = tag!(context 3);
 
-impl Slotted for TbsCertificate {
+impl DecodeByPlace for TbsCertificate {
     type Slots = (
         Option<Version>,
         Option<CertificateSerialNumber>,
@@ -135,10 +132,26 @@ impl Slotted for TbsCertificate {
             extensions: slots.9,
         })
     }
+
+    fn decode_field<D: Decoder>(place: usize, slots: &mut Self::Slots, decoder: &mut D) -> Decoded {
+        match place {
+            0 => optional(&mut slots.0, decoder, Tagging::Explicit(VERSION)),
+            1 => required(&mut slots.1, decoder, Tagging::Untagged),
+            2 => required(&mut slots.2, decoder, Tagging::Untagged),
+            3 => required(&mut slots.3, decoder, Tagging::Untagged),
+            4 => required(&mut slots.4, decoder, Tagging::Untagged),
+            5 => required(&mut slots.5, decoder, Tagging::Untagged),
+            6 => required(&mut slots.6, decoder, Tagging::Untagged),
+            7 => optional(&mut slots.7, decoder, Tagging::Tagged(ISSUER_UNIQUE_ID)),
+            8 => optional(&mut slots.8, decoder, Tagging::Tagged(SUBJECT_UNIQUE_ID)),
+            9 => optional(&mut slots.9, decoder, Tagging::Explicit(EXTENSIONS)),
+            _ => Ok(()),
+        }
+    }
 }
 
 impl FieldTable for TbsCertificate {
-    ghost components = { sequence_of_slots ⟦<TbsCertificate as Slotted>⟧.layout };
+    ghost components = { sequence_of_slots ⟦<TbsCertificate as DecodeByPlace>⟧.layout };
 
     fn field_count() -> usize {
         10
@@ -194,6 +207,13 @@ pub fn tbs_certificate_is_well_tagged()
     ensures { IsWellTagged ⟦<TbsCertificate as AsnType>⟧.meaning }
 {}
 
+/// A `TbsCertificate` is valid if and only if the codec takes what is open in it: whatever its extensions are, and its numbers.
+pub fn tbs_certificate_is_valid(certificate: &TbsCertificate)
+    ensures { (accepts : List ℕ → Bool) →
+        ⟦<TbsCertificate as AsnType>⟧.meaning.IsValid accepts certificate.now ↔
+        SignedPartIsTaken accepts certificate.now }
+{}
+
 impl Encode for TbsCertificate {
     fn encode_with_tag_and_constraints<E: Encoder>(
         &self,
@@ -227,11 +247,7 @@ impl EncodeFields for TbsCertificate {
             8 => self
                 .subject_unique_id
                 .encode_with_tag(encoder, SUBJECT_UNIQUE_ID),
-            9 => encoder.encode_optional_with_explicit_prefix(
-                EXTENSIONS,
-                self.extensions.as_ref(),
-                Extensions::identifier(),
-            ),
+            9 => encode_explicit_optional(encoder, EXTENSIONS, &self.extensions),
             _ => Ok(()),
         }
     }
@@ -243,38 +259,8 @@ impl Decode for TbsCertificate {
         tag: Tag,
         _constraints: &Constraints<'_>,
     ) -> Result<TbsCertificate, DecodeError> {
-        decoder.decode_sequence(tag)
+        decode_sequence_by_place(decoder, tag)
     }
-}
-
-impl DecodeFields for TbsCertificate {
-    fn decode_fields<D: Decoder>(decoder: &mut D) -> Result<TbsCertificate, DecodeError> {
-        TbsCertificate::decode_by_place(decoder)
-    }
-}
-
-impl DecodeByPlace for TbsCertificate {
-    fn decode_field<D: Decoder>(
-        place: usize,
-        slots: &mut Self::Slots,
-        decoder: &mut D,
-    ) -> Result<(), DecodeError> {
-        match place {
-            0 => optional(&mut slots.0, decoder, Tagging::Explicit(VERSION)),
-            1 => required(&mut slots.1, decoder, Tagging::Untagged),
-            2 => required(&mut slots.2, decoder, Tagging::Untagged),
-            3 => required(&mut slots.3, decoder, Tagging::Untagged),
-            4 => required(&mut slots.4, decoder, Tagging::Untagged),
-            5 => required(&mut slots.5, decoder, Tagging::Untagged),
-            6 => required(&mut slots.6, decoder, Tagging::Untagged),
-            7 => optional(&mut slots.7, decoder, Tagging::Tagged(ISSUER_UNIQUE_ID)),
-            8 => optional(&mut slots.8, decoder, Tagging::Tagged(SUBJECT_UNIQUE_ID)),
-            9 => optional(&mut slots.9, decoder, Tagging::Explicit(EXTENSIONS)),
-            _ => Ok(()),
-        }
-    }
-
-    ghost agrees = { slots_agree ⟦<TbsCertificate as FieldTable>⟧.components };
 }
 
 /// What a certificate of the first version without unique names and extensions is to every codec: none of the four is written.

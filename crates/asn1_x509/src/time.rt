@@ -1,21 +1,24 @@
 //! `Time ::= CHOICE { utcTime UTCTime, generalTime GeneralizedTime }`
-ghost use Rattle.std.specs.Prelude.{[], codes, refl, ◌∷◌};
-ghost use Rattle.asn1_schema.specs.Words.{IsWellTagged, cases_agree, choice_agrees, choice_of, choice_of_cases, inl, inr, untagged, variant};
+ghost use Rattle.std.specs.Prelude.{Bool, List, [], codes, refl, ℕ, ◌∷◌};
+ghost use Rattle.asn1_slots.specs.Cases.{choice_of_cases, variant};
+ghost use Rattle.asn1_types.specs.Words.{IsWellTagged, choice_agrees, choice_of, inl, inr, untagged};
 ghost use Rattle.asn1_x509.specs.declared.time.Time.TheVariants.{Utc, General};
 
-use asn1_schema::{
-    AsnType, Choice, ChoiceType, Constraints, Decode, DecodeChoice, DecodeChoiceByPlace,
-    DecodeError, Decoder, Encode, EncodeChoice, EncodeError, Encoder, GeneralizedTime, HasCases,
-    Identifier, Tag, TagTree, Tagging, TypeTable, UtcTime, alternative,
+use asn1_dec::{Decode, DecodeChoice, DecodeError, Decoder};
+use asn1_enc::{Encode, EncodeChoice, EncodeError, Encoder};
+use asn1_slots::{DecodeChoiceByPlace, Tagging, alternative, from_tag_by_place};
+use asn1_strings::VisibleString;
+use asn1_types::{
+    AsnType, Choice, ChoiceType, Constraints, Identifier, Implicit, Tag, TagTree, TypeTable, tag,
 };
 
 /// A point in time, in one of two kinds of text.
 #[derive(PartialEq, Eq, Debug, Drop)]
 pub enum Time {
     /// `utcTime UTCTime`
-    Utc(UtcTime),
+    Utc(Implicit<tag::UTC_TIME, VisibleString>),
     /// `generalTime GeneralizedTime`
-    General(GeneralizedTime),
+    General(Implicit<tag::GENERALIZED_TIME, VisibleString>),
 }
 
 /// The trees of the alternatives.
@@ -24,19 +27,29 @@ const TIME: &[TagTree<'static>] = &[
     TagTree::Leaf(Tag::GENERALIZED_TIME),
 ];
 
-impl HasCases for Time {
-    ghost cases = { variant (codes "utcTime") Utc (untagged ⟦<UtcTime as AsnType>⟧.meaning)
-        ⟦<UtcTime as PartialEq>⟧.eq ∷
-        variant (codes "generalTime") General (untagged ⟦<GeneralizedTime as AsnType>⟧.meaning)
-        ⟦<GeneralizedTime as PartialEq>⟧.eq ∷ [] };
+impl DecodeChoiceByPlace for Time {
+    ghost cases = { variant (codes "utcTime") Utc (untagged ⟦<Implicit<tag::UTC_TIME, VisibleString> as AsnType>⟧.meaning)
+        ⟦<Implicit<tag::UTC_TIME, VisibleString> as PartialEq>⟧.eq ∷
+        variant (codes "generalTime") General (untagged ⟦<Implicit<tag::GENERALIZED_TIME, VisibleString> as AsnType>⟧.meaning)
+        ⟦<Implicit<tag::GENERALIZED_TIME, VisibleString> as PartialEq>⟧.eq ∷ [] };
 
     ghost case_of = { elim [ Utc utc ↦ inl utc | General general ↦ inr (inl general) ] };
+
+    fn decode_alternative<D: Decoder>(place: usize, decoder: &mut D) -> Result<Self, DecodeError> {
+        match place {
+            0 => Ok(Time::Utc(alternative(decoder, Tagging::Untagged)?)),
+            1 => Ok(Time::General(alternative(decoder, Tagging::Untagged)?)),
+            _ => Err(DecodeError::NoValidChoice("Time")),
+        }
+    }
+
+    ghost made = { elim [ Utc x ↦ (refl, λ _. refl) | General x ↦ (refl, λ _. refl) ] };
 }
 
 impl Choice for Time {
-    ghost alternatives = { choice_of_cases ⟦<Time as HasCases>⟧.cases };
+    ghost alternatives = { choice_of_cases ⟦<Time as DecodeChoiceByPlace>⟧.cases };
 
-    ghost pick = { ⟦<Time as HasCases>⟧.case_of };
+    ghost pick = { ⟦<Time as DecodeChoiceByPlace>⟧.case_of };
 
     fn variants() -> &'static [TagTree<'static>] {
         TIME
@@ -70,6 +83,12 @@ impl ChoiceType for Time {
 /// A `Time` can be inside other types: the tags of its alternatives are distinct.
 pub fn time_is_well_tagged()
     ensures { IsWellTagged ⟦<Time as AsnType>⟧.meaning }
+{}
+
+/// Each `Time` is valid.
+pub fn time_is_valid(time: &Time)
+    ensures { (accepts : List ℕ → Bool) →
+        ⟦<Time as AsnType>⟧.meaning.IsValid accepts time.now }
 {}
 
 impl Encode for Time {
@@ -112,20 +131,6 @@ impl Decode for Time {
 
 impl DecodeChoice for Time {
     fn from_tag<D: Decoder>(decoder: &mut D, tag: Tag) -> Result<Time, DecodeError> {
-        Time::from_tag_by_place(decoder, tag)
+        from_tag_by_place(decoder, tag)
     }
-}
-
-impl DecodeChoiceByPlace for Time {
-    fn decode_alternative<D: Decoder>(place: usize, decoder: &mut D) -> Result<Self, DecodeError> {
-        match place {
-            0 => Ok(Time::Utc(alternative(decoder, Tagging::Untagged)?)),
-            1 => Ok(Time::General(alternative(decoder, Tagging::Untagged)?)),
-            _ => Err(DecodeError::NoValidChoice("Time")),
-        }
-    }
-
-    ghost agrees = { λ v. cases_agree ⟦<Time as HasCases>⟧.cases (⟦<Time as HasCases>⟧.case_of v) };
-
-    ghost made = { elim [ Utc x ↦ (refl, λ _. refl) | General x ↦ (refl, λ _. refl) ] };
 }

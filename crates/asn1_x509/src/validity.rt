@@ -1,12 +1,14 @@
 //! `Validity ::= SEQUENCE { notBefore Time, notAfter Time }`
-ghost use Rattle.std.specs.Prelude.{[], codes, ◌∷◌};
-ghost use Rattle.asn1_schema.specs.Words.{IsWellTagged, constructed_agrees, constructed_type, required_slot, sequence_of_slots, slots_agree, untagged};
+ghost use Rattle.std.specs.Prelude.{Bool, List, [], codes, ℕ, ◌∷◌};
+ghost use Rattle.asn1_slots.specs.Slots.{required_slot, sequence_of_slots};
+ghost use Rattle.asn1_types.specs.Words.{IsWellTagged, constructed_agrees, constructed_type, untagged};
 
 use crate::time::Time;
-use asn1_schema::{
-    AsnType, Constraints, ConstructedType, Decode, DecodeByPlace, DecodeError, DecodeFields,
-    Decoder, Encode, EncodeError, EncodeFields, Encoder, Field, FieldTable, Identifier, Slotted,
-    Tag, Tagging, TypeTable, filled, required,
+use asn1_dec::{Decode, DecodeError, Decoder};
+use asn1_enc::{Encode, EncodeError, EncodeFields, Encoder};
+use asn1_slots::{DecodeByPlace, Decoded, Tagging, decode_sequence_by_place, filled, required};
+use asn1_types::{
+    AsnType, Constraints, ConstructedType, Field, FieldTable, Identifier, Tag, TypeTable,
 };
 use std::alloc::Global;
 
@@ -19,7 +21,7 @@ pub struct Validity {
     pub not_after: Time,
 }
 
-impl Slotted for Validity {
+impl DecodeByPlace for Validity {
     type Slots = (Option<Time>, Option<Time>);
 
     ghost layout = { required_slot (codes "notBefore") (λ v. v.not_before) (λ s. s.0)
@@ -33,10 +35,18 @@ impl Slotted for Validity {
             not_after: filled(slots.1, "notAfter")?,
         })
     }
+
+    fn decode_field<D: Decoder>(place: usize, slots: &mut Self::Slots, decoder: &mut D) -> Decoded {
+        match place {
+            0 => required(&mut slots.0, decoder, Tagging::Untagged),
+            1 => required(&mut slots.1, decoder, Tagging::Untagged),
+            _ => Ok(()),
+        }
+    }
 }
 
 impl FieldTable for Validity {
-    ghost components = { sequence_of_slots ⟦<Validity as Slotted>⟧.layout };
+    ghost components = { sequence_of_slots ⟦<Validity as DecodeByPlace>⟧.layout };
 
     fn field_count() -> usize {
         2
@@ -76,6 +86,12 @@ pub fn validity_is_well_tagged()
     ensures { IsWellTagged ⟦<Validity as AsnType>⟧.meaning }
 {}
 
+/// Each `Validity` is valid, also one that ends before it begins.
+pub fn validity_is_valid(validity: &Validity)
+    ensures { (accepts : List ℕ → Bool) →
+        ⟦<Validity as AsnType>⟧.meaning.IsValid accepts validity.now }
+{}
+
 impl Encode for Validity {
     fn encode_with_tag_and_constraints<E: Encoder>(
         &self,
@@ -104,28 +120,6 @@ impl Decode for Validity {
         tag: Tag,
         _constraints: &Constraints<'_>,
     ) -> Result<Validity, DecodeError> {
-        decoder.decode_sequence(tag)
+        decode_sequence_by_place(decoder, tag)
     }
-}
-
-impl DecodeFields for Validity {
-    fn decode_fields<D: Decoder>(decoder: &mut D) -> Result<Validity, DecodeError> {
-        Validity::decode_by_place(decoder)
-    }
-}
-
-impl DecodeByPlace for Validity {
-    fn decode_field<D: Decoder>(
-        place: usize,
-        slots: &mut Self::Slots,
-        decoder: &mut D,
-    ) -> Result<(), DecodeError> {
-        match place {
-            0 => required(&mut slots.0, decoder, Tagging::Untagged),
-            1 => required(&mut slots.1, decoder, Tagging::Untagged),
-            _ => Ok(()),
-        }
-    }
-
-    ghost agrees = { slots_agree ⟦<Validity as FieldTable>⟧.components };
 }

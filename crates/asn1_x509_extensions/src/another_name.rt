@@ -1,11 +1,15 @@
 //! `AnotherName ::= SEQUENCE { type-id OBJECT IDENTIFIER, value [0] EXPLICIT ANY DEFINED BY type-id }`
-ghost use Rattle.std.specs.Prelude.{[], codes, ◌∷◌};
-ghost use Rattle.asn1_schema.specs.Words.{IsWellTagged, constructed_agrees, constructed_type, context, explicitly_tagged, required_slot, sequence_of_slots, slots_agree, untagged};
+ghost use Rattle.std.specs.Prelude.{Bool, IsTrue, List, [], codes, ℕ, ◌↔◌, ◌∷◌};
+ghost use Rattle.asn1_slots.specs.Slots.{required_slot, sequence_of_slots};
+ghost use Rattle.asn1_types.specs.Words.{IsWellTagged, constructed_agrees, constructed_type, context, explicitly_tagged, untagged};
 
-use asn1_schema::{
-    Any, AsnType, Class, Constraints, ConstructedType, Decode, DecodeByPlace, DecodeError,
-    DecodeFields, Decoder, Encode, EncodeError, EncodeFields, Encoder, Field, FieldTable,
-    Identifier, ObjectIdentifier, Slotted, Tag, Tagging, TypeTable, filled, required,
+use asn1_dec::{Decode, DecodeError, Decoder};
+use asn1_enc::{Encode, EncodeError, EncodeFields, Encoder};
+use asn1_slots::{DecodeByPlace, Decoded, Tagging, decode_sequence_by_place, filled, required};
+use asn1_strings::ObjectIdentifier;
+use asn1_tags::tag;
+use asn1_types::{
+    Any, AsnType, Constraints, ConstructedType, Field, FieldTable, Identifier, Tag, TypeTable,
 };
 use std::alloc::Global;
 
@@ -18,12 +22,9 @@ pub struct AnotherName {
     pub value: Any,
 }
 
-const VALUE: Tag = Tag {
-    class: Class::Context,
-    value: 0,
-};
+const VALUE: Tag = tag!(context 0);
 
-impl Slotted for AnotherName {
+impl DecodeByPlace for AnotherName {
     type Slots = (Option<ObjectIdentifier>, Option<Any>);
 
     ghost layout = { required_slot (codes "type-id") (λ v. v.type_id) (λ s. s.0)
@@ -37,10 +38,18 @@ impl Slotted for AnotherName {
             value: filled(slots.1, "value")?,
         })
     }
+
+    fn decode_field<D: Decoder>(place: usize, slots: &mut Self::Slots, decoder: &mut D) -> Decoded {
+        match place {
+            0 => required(&mut slots.0, decoder, Tagging::Untagged),
+            1 => required(&mut slots.1, decoder, Tagging::Explicit(VALUE)),
+            _ => Ok(()),
+        }
+    }
 }
 
 impl FieldTable for AnotherName {
-    ghost components = { sequence_of_slots ⟦<AnotherName as Slotted>⟧.layout };
+    ghost components = { sequence_of_slots ⟦<AnotherName as DecodeByPlace>⟧.layout };
 
     fn field_count() -> usize {
         2
@@ -80,6 +89,13 @@ pub fn another_name_is_well_tagged()
     ensures { IsWellTagged ⟦<AnotherName as AsnType>⟧.meaning }
 {}
 
+/// An `AnotherName` is valid if and only if the codec takes its value.
+pub fn another_name_is_valid(name: &AnotherName)
+    ensures { (accepts : List ℕ → Bool) →
+        ⟦<AnotherName as AsnType>⟧.meaning.IsValid accepts name.now ↔
+        IsTrue (accepts name.now.value) }
+{}
+
 impl Encode for AnotherName {
     fn encode_with_tag_and_constraints<E: Encoder>(
         &self,
@@ -108,28 +124,6 @@ impl Decode for AnotherName {
         tag: Tag,
         _constraints: &Constraints<'_>,
     ) -> Result<AnotherName, DecodeError> {
-        decoder.decode_sequence(tag)
+        decode_sequence_by_place(decoder, tag)
     }
-}
-
-impl DecodeFields for AnotherName {
-    fn decode_fields<D: Decoder>(decoder: &mut D) -> Result<AnotherName, DecodeError> {
-        AnotherName::decode_by_place(decoder)
-    }
-}
-
-impl DecodeByPlace for AnotherName {
-    fn decode_field<D: Decoder>(
-        place: usize,
-        slots: &mut Self::Slots,
-        decoder: &mut D,
-    ) -> Result<(), DecodeError> {
-        match place {
-            0 => required(&mut slots.0, decoder, Tagging::Untagged),
-            1 => required(&mut slots.1, decoder, Tagging::Explicit(VALUE)),
-            _ => Ok(()),
-        }
-    }
-
-    ghost agrees = { slots_agree ⟦<AnotherName as FieldTable>⟧.components };
 }

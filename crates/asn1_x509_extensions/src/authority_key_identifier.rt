@@ -7,15 +7,19 @@
 //!     authorityCertSerialNumber [2] CertificateSerialNumber OPTIONAL
 //! }
 //! ```
-ghost use Rattle.std.specs.Prelude.{[], codes, ◌∷◌};
-ghost use Rattle.asn1_schema.specs.Words.{IsWellTagged, constructed_agrees, constructed_type, context, optional_slot, sequence_of_slots, slots_agree, tagged};
+ghost use Rattle.std.specs.Prelude.{All, Bool, IfSome, List, [], codes, ℕ, ◌↔◌, ◌∷◌};
+ghost use Rattle.asn1_slots.specs.Slots.{optional_slot, sequence_of_slots};
+ghost use Rattle.asn1_types.specs.Words.{IsWellTagged, constructed_agrees, constructed_type, context, tagged};
+ghost use Rattle.asn1_x509_extensions.specs.OpenNames.{GeneralNameIsTaken};
 
 use crate::general_name::GeneralNames;
 use crate::key_identifier::KeyIdentifier;
-use asn1_schema::{
-    AsnType, Class, Constraints, ConstructedType, Decode, DecodeByPlace, DecodeError, DecodeFields,
-    Decoder, Encode, EncodeError, EncodeFields, Encoder, Field, FieldTable, Identifier, Slotted,
-    Tag, Tagging, TypeTable, optional,
+use asn1_dec::{Decode, DecodeError, Decoder};
+use asn1_enc::{Encode, EncodeError, EncodeFields, Encoder};
+use asn1_slots::{DecodeByPlace, Decoded, Tagging, decode_sequence_by_place, optional};
+use asn1_tags::tag;
+use asn1_types::{
+    AsnType, Constraints, ConstructedType, Field, FieldTable, Identifier, Tag, TypeTable,
 };
 use asn1_x509::CertificateSerialNumber;
 use std::alloc::Global;
@@ -31,22 +35,13 @@ pub struct AuthorityKeyIdentifier {
     pub authority_cert_serial_number: Option<CertificateSerialNumber>,
 }
 
-const KEY_IDENTIFIER: Tag = Tag {
-    class: Class::Context,
-    value: 0,
-};
+const KEY_IDENTIFIER: Tag = tag!(context 0);
 
-const AUTHORITY_CERT_ISSUER: Tag = Tag {
-    class: Class::Context,
-    value: 1,
-};
+const AUTHORITY_CERT_ISSUER: Tag = tag!(context 1);
 
-const AUTHORITY_CERT_SERIAL_NUMBER: Tag = Tag {
-    class: Class::Context,
-    value: 2,
-};
+const AUTHORITY_CERT_SERIAL_NUMBER: Tag = tag!(context 2);
 
-impl Slotted for AuthorityKeyIdentifier {
+impl DecodeByPlace for AuthorityKeyIdentifier {
     type Slots = (
         Option<KeyIdentifier>,
         Option<GeneralNames>,
@@ -70,10 +65,27 @@ impl Slotted for AuthorityKeyIdentifier {
             authority_cert_serial_number: slots.2,
         })
     }
+
+    fn decode_field<D: Decoder>(place: usize, slots: &mut Self::Slots, decoder: &mut D) -> Decoded {
+        match place {
+            0 => optional(&mut slots.0, decoder, Tagging::Tagged(KEY_IDENTIFIER)),
+            1 => optional(
+                &mut slots.1,
+                decoder,
+                Tagging::Tagged(AUTHORITY_CERT_ISSUER),
+            ),
+            2 => optional(
+                &mut slots.2,
+                decoder,
+                Tagging::Tagged(AUTHORITY_CERT_SERIAL_NUMBER),
+            ),
+            _ => Ok(()),
+        }
+    }
 }
 
 impl FieldTable for AuthorityKeyIdentifier {
-    ghost components = { sequence_of_slots ⟦<AuthorityKeyIdentifier as Slotted>⟧.layout };
+    ghost components = { sequence_of_slots ⟦<AuthorityKeyIdentifier as DecodeByPlace>⟧.layout };
 
     fn field_count() -> usize {
         3
@@ -126,6 +138,14 @@ pub fn authority_key_identifier_is_well_tagged()
     ensures { IsWellTagged ⟦<AuthorityKeyIdentifier as AsnType>⟧.meaning }
 {}
 
+/// An `AuthorityKeyIdentifier` is valid if and only if the codec takes what is open in the names of the issuer, where there are any.
+pub fn authority_key_identifier_is_valid(key: &AuthorityKeyIdentifier)
+    ensures { (accepts : List ℕ → Bool) →
+        ⟦<AuthorityKeyIdentifier as AsnType>⟧.meaning.IsValid accepts key.now ↔
+        IfSome key.now.authority_cert_issuer
+        (λ names. All (GeneralNameIsTaken accepts) names.items) }
+{}
+
 impl Encode for AuthorityKeyIdentifier {
     fn encode_with_tag_and_constraints<E: Encoder>(
         &self,
@@ -159,37 +179,6 @@ impl Decode for AuthorityKeyIdentifier {
         tag: Tag,
         _constraints: &Constraints<'_>,
     ) -> Result<AuthorityKeyIdentifier, DecodeError> {
-        decoder.decode_sequence(tag)
+        decode_sequence_by_place(decoder, tag)
     }
-}
-
-impl DecodeFields for AuthorityKeyIdentifier {
-    fn decode_fields<D: Decoder>(decoder: &mut D) -> Result<AuthorityKeyIdentifier, DecodeError> {
-        AuthorityKeyIdentifier::decode_by_place(decoder)
-    }
-}
-
-impl DecodeByPlace for AuthorityKeyIdentifier {
-    fn decode_field<D: Decoder>(
-        place: usize,
-        slots: &mut Self::Slots,
-        decoder: &mut D,
-    ) -> Result<(), DecodeError> {
-        match place {
-            0 => optional(&mut slots.0, decoder, Tagging::Tagged(KEY_IDENTIFIER)),
-            1 => optional(
-                &mut slots.1,
-                decoder,
-                Tagging::Tagged(AUTHORITY_CERT_ISSUER),
-            ),
-            2 => optional(
-                &mut slots.2,
-                decoder,
-                Tagging::Tagged(AUTHORITY_CERT_SERIAL_NUMBER),
-            ),
-            _ => Ok(()),
-        }
-    }
-
-    ghost agrees = { slots_agree ⟦<AuthorityKeyIdentifier as FieldTable>⟧.components };
 }

@@ -1,12 +1,14 @@
 //! `BasicConstraints ::= SEQUENCE { cA BOOLEAN DEFAULT FALSE, pathLenConstraint INTEGER (0..MAX) OPTIONAL }` (RFC 5280, 4.2.1.9)
-ghost use Rattle.std.specs.Prelude.{[], codes, false, ◌∷◌};
-ghost use Rattle.asn1_schema.specs.Words.{IsWellTagged, constructed_agrees, constructed_type, default_slot, optional_slot, sequence_of_slots, slots_agree, untagged};
+ghost use Rattle.std.specs.Prelude.{Bool, List, [], codes, false, ℕ, ◌∷◌};
+ghost use Rattle.asn1_slots.specs.Slots.{default_slot, optional_slot, sequence_of_slots};
+ghost use Rattle.asn1_types.specs.Words.{IsWellTagged, constructed_agrees, constructed_type, untagged};
 
 use crate::path_length::PathLength;
-use asn1_schema::{
-    AsnType, Constraints, ConstructedType, Decode, DecodeByPlace, DecodeError, DecodeFields,
-    Decoder, Encode, EncodeError, EncodeFields, Encoder, Field, FieldTable, Identifier, Slotted,
-    Tag, Tagging, TypeTable, optional, or_default,
+use asn1_dec::{Decode, DecodeError, Decoder};
+use asn1_enc::{Encode, EncodeError, EncodeFields, Encoder};
+use asn1_slots::{DecodeByPlace, Decoded, Tagging, decode_sequence_by_place, optional, or_default};
+use asn1_types::{
+    AsnType, Constraints, ConstructedType, Field, FieldTable, Identifier, Tag, TypeTable,
 };
 use std::alloc::Global;
 
@@ -19,7 +21,7 @@ pub struct BasicConstraints {
     pub path_length: Option<PathLength>,
 }
 
-impl Slotted for BasicConstraints {
+impl DecodeByPlace for BasicConstraints {
     type Slots = (Option<bool>, Option<PathLength>);
 
     ghost layout = { default_slot (codes "cA") (λ v. v.is_authority) false (λ s. s.0)
@@ -33,10 +35,18 @@ impl Slotted for BasicConstraints {
             path_length: slots.1,
         })
     }
+
+    fn decode_field<D: Decoder>(place: usize, slots: &mut Self::Slots, decoder: &mut D) -> Decoded {
+        match place {
+            0 => optional(&mut slots.0, decoder, Tagging::Untagged),
+            1 => optional(&mut slots.1, decoder, Tagging::Untagged),
+            _ => Ok(()),
+        }
+    }
 }
 
 impl FieldTable for BasicConstraints {
-    ghost components = { sequence_of_slots ⟦<BasicConstraints as Slotted>⟧.layout };
+    ghost components = { sequence_of_slots ⟦<BasicConstraints as DecodeByPlace>⟧.layout };
 
     fn field_count() -> usize {
         2
@@ -76,6 +86,12 @@ pub fn basic_constraints_is_well_tagged()
     ensures { IsWellTagged ⟦<BasicConstraints as AsnType>⟧.meaning }
 {}
 
+/// Each `BasicConstraints` is valid.
+pub fn basic_constraints_is_valid(constraints: &BasicConstraints)
+    ensures { (accepts : List ℕ → Bool) →
+        ⟦<BasicConstraints as AsnType>⟧.meaning.IsValid accepts constraints.now }
+{}
+
 impl Encode for BasicConstraints {
     fn encode_with_tag_and_constraints<E: Encoder>(
         &self,
@@ -104,28 +120,6 @@ impl Decode for BasicConstraints {
         tag: Tag,
         _constraints: &Constraints<'_>,
     ) -> Result<BasicConstraints, DecodeError> {
-        decoder.decode_sequence(tag)
+        decode_sequence_by_place(decoder, tag)
     }
-}
-
-impl DecodeFields for BasicConstraints {
-    fn decode_fields<D: Decoder>(decoder: &mut D) -> Result<BasicConstraints, DecodeError> {
-        BasicConstraints::decode_by_place(decoder)
-    }
-}
-
-impl DecodeByPlace for BasicConstraints {
-    fn decode_field<D: Decoder>(
-        place: usize,
-        slots: &mut Self::Slots,
-        decoder: &mut D,
-    ) -> Result<(), DecodeError> {
-        match place {
-            0 => optional(&mut slots.0, decoder, Tagging::Untagged),
-            1 => optional(&mut slots.1, decoder, Tagging::Untagged),
-            _ => Ok(()),
-        }
-    }
-
-    ghost agrees = { slots_agree ⟦<BasicConstraints as FieldTable>⟧.components };
 }

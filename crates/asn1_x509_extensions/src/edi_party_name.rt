@@ -1,11 +1,16 @@
 //! `EDIPartyName ::= SEQUENCE { nameAssigner [0] DirectoryString OPTIONAL, partyName [1] DirectoryString }`
-ghost use Rattle.std.specs.Prelude.{[], codes, ◌∷◌};
-ghost use Rattle.asn1_schema.specs.Words.{IsWellTagged, constructed_agrees, constructed_type, context, optional_slot, required_slot, sequence_of_slots, slots_agree, tagged};
+ghost use Rattle.std.specs.Prelude.{Bool, List, [], codes, ℕ, ◌∷◌};
+ghost use Rattle.asn1_slots.specs.Slots.{optional_slot, required_slot, sequence_of_slots};
+ghost use Rattle.asn1_types.specs.Words.{IsWellTagged, constructed_agrees, constructed_type, context, tagged};
 
-use asn1_schema::{
-    AsnType, Class, Constraints, ConstructedType, Decode, DecodeByPlace, DecodeError, DecodeFields,
-    Decoder, Encode, EncodeError, EncodeFields, Encoder, Field, FieldTable, Identifier, Slotted,
-    Tag, Tagging, TypeTable, filled, optional, required,
+use asn1_dec::{Decode, DecodeError, Decoder};
+use asn1_enc::{Encode, EncodeError, EncodeFields, Encoder};
+use asn1_slots::{
+    DecodeByPlace, Decoded, Tagging, decode_sequence_by_place, filled, optional, required,
+};
+use asn1_tags::tag;
+use asn1_types::{
+    AsnType, Constraints, ConstructedType, Field, FieldTable, Identifier, Tag, TypeTable,
 };
 use asn1_x509::DirectoryString;
 use std::alloc::Global;
@@ -19,17 +24,11 @@ pub struct EdiPartyName {
     pub party_name: DirectoryString,
 }
 
-const NAME_ASSIGNER: Tag = Tag {
-    class: Class::Context,
-    value: 0,
-};
+const NAME_ASSIGNER: Tag = tag!(context 0);
 
-const PARTY_NAME: Tag = Tag {
-    class: Class::Context,
-    value: 1,
-};
+const PARTY_NAME: Tag = tag!(context 1);
 
-impl Slotted for EdiPartyName {
+impl DecodeByPlace for EdiPartyName {
     type Slots = (Option<DirectoryString>, Option<DirectoryString>);
 
     ghost layout = { optional_slot (codes "nameAssigner") (λ v. v.name_assigner) (λ s. s.0)
@@ -43,10 +42,18 @@ impl Slotted for EdiPartyName {
             party_name: filled(slots.1, "partyName")?,
         })
     }
+
+    fn decode_field<D: Decoder>(place: usize, slots: &mut Self::Slots, decoder: &mut D) -> Decoded {
+        match place {
+            0 => optional(&mut slots.0, decoder, Tagging::Tagged(NAME_ASSIGNER)),
+            1 => required(&mut slots.1, decoder, Tagging::Tagged(PARTY_NAME)),
+            _ => Ok(()),
+        }
+    }
 }
 
 impl FieldTable for EdiPartyName {
-    ghost components = { sequence_of_slots ⟦<EdiPartyName as Slotted>⟧.layout };
+    ghost components = { sequence_of_slots ⟦<EdiPartyName as DecodeByPlace>⟧.layout };
 
     fn field_count() -> usize {
         2
@@ -94,6 +101,12 @@ pub fn edi_party_name_is_well_tagged()
     ensures { IsWellTagged ⟦<EdiPartyName as AsnType>⟧.meaning }
 {}
 
+/// Each `EdiPartyName` is valid.
+pub fn edi_party_name_is_valid(party: &EdiPartyName)
+    ensures { (accepts : List ℕ → Bool) →
+        ⟦<EdiPartyName as AsnType>⟧.meaning.IsValid accepts party.now }
+{}
+
 impl Encode for EdiPartyName {
     fn encode_with_tag_and_constraints<E: Encoder>(
         &self,
@@ -122,28 +135,6 @@ impl Decode for EdiPartyName {
         tag: Tag,
         _constraints: &Constraints<'_>,
     ) -> Result<EdiPartyName, DecodeError> {
-        decoder.decode_sequence(tag)
+        decode_sequence_by_place(decoder, tag)
     }
-}
-
-impl DecodeFields for EdiPartyName {
-    fn decode_fields<D: Decoder>(decoder: &mut D) -> Result<EdiPartyName, DecodeError> {
-        EdiPartyName::decode_by_place(decoder)
-    }
-}
-
-impl DecodeByPlace for EdiPartyName {
-    fn decode_field<D: Decoder>(
-        place: usize,
-        slots: &mut Self::Slots,
-        decoder: &mut D,
-    ) -> Result<(), DecodeError> {
-        match place {
-            0 => optional(&mut slots.0, decoder, Tagging::Tagged(NAME_ASSIGNER)),
-            1 => required(&mut slots.1, decoder, Tagging::Tagged(PARTY_NAME)),
-            _ => Ok(()),
-        }
-    }
-
-    ghost agrees = { slots_agree ⟦<EdiPartyName as FieldTable>⟧.components };
 }

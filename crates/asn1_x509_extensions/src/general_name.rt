@@ -13,17 +13,21 @@
 //!     registeredID              [8] OBJECT IDENTIFIER
 //! }
 //! ```
-ghost use Rattle.std.specs.Prelude.{[], codes, refl, ◌∷◌};
-ghost use Rattle.asn1_schema.specs.Words.{IsWellTagged, cases_agree, choice_agrees, choice_of, choice_of_cases, context, inl, inr, tagged, variant};
+ghost use Rattle.std.specs.Prelude.{Bool, List, [], codes, refl, ℕ, ◌↔◌, ◌∷◌};
+ghost use Rattle.asn1_slots.specs.Cases.{choice_of_cases, variant};
+ghost use Rattle.asn1_types.specs.Words.{IsWellTagged, choice_agrees, choice_of, context, inl, inr, tagged};
+ghost use Rattle.asn1_x509_extensions.specs.OpenNames.{GeneralNameIsTaken};
 ghost use Rattle.asn1_x509_extensions.specs.declared.general_name.GeneralName.TheVariants.{Other, Rfc822, Dns, X400, Directory, EdiParty, Uri, IpAddress, RegisteredId};
 
 use crate::another_name::AnotherName;
 use crate::edi_party_name::EdiPartyName;
-use asn1_schema::{
-    Any, AsnType, Choice, ChoiceType, Class, Constraints, Decode, DecodeChoice,
-    DecodeChoiceByPlace, DecodeError, Decoder, Encode, EncodeChoice, EncodeError, Encoder,
-    HasCases, Ia5String, Identifier, ObjectIdentifier, OctetString, Tag, TagTree, Tagging,
-    TypeTable, alternative,
+use asn1_dec::{Decode, DecodeChoice, DecodeError, Decoder};
+use asn1_enc::{Encode, EncodeChoice, EncodeError, Encoder};
+use asn1_slots::{DecodeChoiceByPlace, Tagging, alternative, from_tag_by_place};
+use asn1_strings::{Ia5String, ObjectIdentifier, OctetString};
+use asn1_tags::tag;
+use asn1_types::{
+    Any, AsnType, Choice, ChoiceType, Constraints, Identifier, Tag, TagTree, TypeTable,
 };
 use asn1_x509::Name;
 
@@ -59,50 +63,23 @@ pub enum GeneralName {
     RegisteredId(ObjectIdentifier),
 }
 
-const OTHER_NAME: Tag = Tag {
-    class: Class::Context,
-    value: 0,
-};
+const OTHER_NAME: Tag = tag!(context 0);
 
-const RFC822_NAME: Tag = Tag {
-    class: Class::Context,
-    value: 1,
-};
+const RFC822_NAME: Tag = tag!(context 1);
 
-const DNS_NAME: Tag = Tag {
-    class: Class::Context,
-    value: 2,
-};
+const DNS_NAME: Tag = tag!(context 2);
 
-const X400_ADDRESS: Tag = Tag {
-    class: Class::Context,
-    value: 3,
-};
+const X400_ADDRESS: Tag = tag!(context 3);
 
-const DIRECTORY_NAME: Tag = Tag {
-    class: Class::Context,
-    value: 4,
-};
+const DIRECTORY_NAME: Tag = tag!(context 4);
 
-const EDI_PARTY_NAME: Tag = Tag {
-    class: Class::Context,
-    value: 5,
-};
+const EDI_PARTY_NAME: Tag = tag!(context 5);
 
-const UNIFORM_RESOURCE_IDENTIFIER: Tag = Tag {
-    class: Class::Context,
-    value: 6,
-};
+const UNIFORM_RESOURCE_IDENTIFIER: Tag = tag!(context 6);
 
-const IP_ADDRESS: Tag = Tag {
-    class: Class::Context,
-    value: 7,
-};
+const IP_ADDRESS: Tag = tag!(context 7);
 
-const REGISTERED_ID: Tag = Tag {
-    class: Class::Context,
-    value: 8,
-};
+const REGISTERED_ID: Tag = tag!(context 8);
 
 /// The trees of the alternatives.
 const GENERAL_NAME: &[TagTree<'static>] = &[
@@ -117,7 +94,7 @@ const GENERAL_NAME: &[TagTree<'static>] = &[
     TagTree::Leaf(REGISTERED_ID),
 ];
 
-impl HasCases for GeneralName {
+impl DecodeChoiceByPlace for GeneralName {
     ghost cases = { variant (codes "otherName") Other (tagged (context 0) ⟦<AnotherName as AsnType>⟧.meaning)
         ⟦<AnotherName as PartialEq>⟧.eq ∷
         variant (codes "rfc822Name") Rfc822 (tagged (context 1) ⟦<Ia5String as AsnType>⟧.meaning)
@@ -138,12 +115,35 @@ impl HasCases for GeneralName {
         ⟦<ObjectIdentifier as PartialEq>⟧.eq ∷ [] };
 
     ghost case_of = { elim [ Other other ↦ inl other | Rfc822 mailbox ↦ inr (inl mailbox) | Dns host ↦ inr (inr (inl host)) | X400 address ↦ inr (inr (inr (inl address))) | Directory name ↦ inr (inr (inr (inr (inl name)))) | EdiParty party ↦ inr (inr (inr (inr (inr (inl party))))) | Uri uri ↦ inr (inr (inr (inr (inr (inr (inl uri)))))) | IpAddress octets ↦ inr (inr (inr (inr (inr (inr (inr (inl octets))))))) | RegisteredId identifier ↦ inr (inr (inr (inr (inr (inr (inr (inr (inl identifier)))))))) ] };
+
+    fn decode_alternative<D: Decoder>(place: usize, decoder: &mut D) -> Result<Self, DecodeError> {
+        match place {
+            0 => Ok(GeneralName::Other(alternative(decoder, Tagging::Tagged(OTHER_NAME))?)),
+            1 => Ok(GeneralName::Rfc822(alternative(decoder, Tagging::Tagged(RFC822_NAME))?)),
+            2 => Ok(GeneralName::Dns(alternative(decoder, Tagging::Tagged(DNS_NAME))?)),
+            3 => Ok(GeneralName::X400(alternative(decoder, Tagging::Tagged(X400_ADDRESS))?)),
+            4 => Ok(GeneralName::Directory(alternative(decoder, Tagging::Tagged(DIRECTORY_NAME))?)),
+            5 => Ok(GeneralName::EdiParty(alternative(decoder, Tagging::Tagged(EDI_PARTY_NAME))?)),
+            6 => Ok(GeneralName::Uri(alternative(
+                decoder,
+                Tagging::Tagged(UNIFORM_RESOURCE_IDENTIFIER),
+            )?)),
+            7 => Ok(GeneralName::IpAddress(alternative(decoder, Tagging::Tagged(IP_ADDRESS))?)),
+            8 => Ok(GeneralName::RegisteredId(alternative(
+                decoder,
+                Tagging::Tagged(REGISTERED_ID),
+            )?)),
+            _ => Err(DecodeError::NoValidChoice("GeneralName")),
+        }
+    }
+
+    ghost made = { elim [ Other x ↦ (refl, λ _. refl) | Rfc822 x ↦ (refl, λ _. refl) | Dns x ↦ (refl, λ _. refl) | X400 x ↦ (refl, λ _. refl) | Directory x ↦ (refl, λ _. refl) | EdiParty x ↦ (refl, λ _. refl) | Uri x ↦ (refl, λ _. refl) | IpAddress x ↦ (refl, λ _. refl) | RegisteredId x ↦ (refl, λ _. refl) ] };
 }
 
 impl Choice for GeneralName {
-    ghost alternatives = { choice_of_cases ⟦<GeneralName as HasCases>⟧.cases };
+    ghost alternatives = { choice_of_cases ⟦<GeneralName as DecodeChoiceByPlace>⟧.cases };
 
-    ghost pick = { ⟦<GeneralName as HasCases>⟧.case_of };
+    ghost pick = { ⟦<GeneralName as DecodeChoiceByPlace>⟧.case_of };
 
     fn variants() -> &'static [TagTree<'static>] {
         GENERAL_NAME
@@ -187,6 +187,13 @@ impl ChoiceType for GeneralName {
 /// A `GeneralName` can be inside other types: the tags of its alternatives are distinct.
 pub fn general_name_is_well_tagged()
     ensures { IsWellTagged ⟦<GeneralName as AsnType>⟧.meaning }
+{}
+
+/// A `GeneralName` is valid if and only if the codec takes what is open in it.
+pub fn general_name_is_valid(name: &GeneralName)
+    ensures { (accepts : List ℕ → Bool) →
+        ⟦<GeneralName as AsnType>⟧.meaning.IsValid accepts name.now ↔
+        GeneralNameIsTaken accepts name.now }
 {}
 
 impl Encode for GeneralName {
@@ -246,33 +253,6 @@ impl Decode for GeneralName {
 
 impl DecodeChoice for GeneralName {
     fn from_tag<D: Decoder>(decoder: &mut D, tag: Tag) -> Result<GeneralName, DecodeError> {
-        GeneralName::from_tag_by_place(decoder, tag)
+        from_tag_by_place(decoder, tag)
     }
-}
-
-impl DecodeChoiceByPlace for GeneralName {
-    fn decode_alternative<D: Decoder>(place: usize, decoder: &mut D) -> Result<Self, DecodeError> {
-        match place {
-            0 => Ok(GeneralName::Other(alternative(decoder, Tagging::Tagged(OTHER_NAME))?)),
-            1 => Ok(GeneralName::Rfc822(alternative(decoder, Tagging::Tagged(RFC822_NAME))?)),
-            2 => Ok(GeneralName::Dns(alternative(decoder, Tagging::Tagged(DNS_NAME))?)),
-            3 => Ok(GeneralName::X400(alternative(decoder, Tagging::Tagged(X400_ADDRESS))?)),
-            4 => Ok(GeneralName::Directory(alternative(decoder, Tagging::Tagged(DIRECTORY_NAME))?)),
-            5 => Ok(GeneralName::EdiParty(alternative(decoder, Tagging::Tagged(EDI_PARTY_NAME))?)),
-            6 => Ok(GeneralName::Uri(alternative(
-                decoder,
-                Tagging::Tagged(UNIFORM_RESOURCE_IDENTIFIER),
-            )?)),
-            7 => Ok(GeneralName::IpAddress(alternative(decoder, Tagging::Tagged(IP_ADDRESS))?)),
-            8 => Ok(GeneralName::RegisteredId(alternative(
-                decoder,
-                Tagging::Tagged(REGISTERED_ID),
-            )?)),
-            _ => Err(DecodeError::NoValidChoice("GeneralName")),
-        }
-    }
-
-    ghost agrees = { λ v. cases_agree ⟦<GeneralName as HasCases>⟧.cases (⟦<GeneralName as HasCases>⟧.case_of v) };
-
-    ghost made = { elim [ Other x ↦ (refl, λ _. refl) | Rfc822 x ↦ (refl, λ _. refl) | Dns x ↦ (refl, λ _. refl) | X400 x ↦ (refl, λ _. refl) | Directory x ↦ (refl, λ _. refl) | EdiParty x ↦ (refl, λ _. refl) | Uri x ↦ (refl, λ _. refl) | IpAddress x ↦ (refl, λ _. refl) | RegisteredId x ↦ (refl, λ _. refl) ] };
 }

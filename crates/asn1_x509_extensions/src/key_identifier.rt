@@ -1,7 +1,9 @@
 //! Names of keys, and what a key may be used for.
-ghost use Rattle.asn1_schema.specs.Words.{IsWellTagged};
+ghost use Rattle.asn1_types.specs.Words.{IsWellTagged};
+ghost use Rattle.std.specs.Prelude.{Bool, List, ℕ};
 
-use asn1_schema::{AsnType, BitString, ObjectIdentifier, OctetString};
+use asn1_strings::{BitString, ObjectIdentifier, OctetString};
+use asn1_types::AsnType;
 
 /// `KeyIdentifier ::= OCTET STRING` (RFC 5280, 4.2.1.1)
 pub type KeyIdentifier = OctetString;
@@ -24,4 +26,18 @@ pub fn key_extensions_are_well_tagged()
     ensures subject_key_identifier { IsWellTagged ⟦<SubjectKeyIdentifier as AsnType>⟧.meaning }
     ensures key_usage { IsWellTagged ⟦<KeyUsage as AsnType>⟧.meaning }
     ensures extended_key_usage { IsWellTagged ⟦<ExtKeyUsageSyntax as AsnType>⟧.meaning }
+{}
+
+/// Each value of these is valid.
+pub fn key_extensions_are_valid(
+    key: &SubjectKeyIdentifier,
+    usage: &KeyUsage,
+    purposes: &ExtKeyUsageSyntax,
+)
+    ensures subject_key_identifier { (accepts : List ℕ → Bool) →
+        ⟦<SubjectKeyIdentifier as AsnType>⟧.meaning.IsValid accepts key.now }
+    ensures key_usage { (accepts : List ℕ → Bool) →
+        ⟦<KeyUsage as AsnType>⟧.meaning.IsValid accepts usage.now }
+    ensures extended_key_usage { (accepts : List ℕ → Bool) →
+        ⟦<ExtKeyUsageSyntax as AsnType>⟧.meaning.IsValid accepts purposes.now }
 {}

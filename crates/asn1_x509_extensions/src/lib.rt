@@ -14,10 +14,12 @@
 //! - Each type states its components or its alternatives once, and its tables, meaning, writer and reader are proved to say
 //!   the same. So a valid value comes back equal (`round_trip` of `asn1_schema`).
 //! - Each type can be inside other types (`general_name_is_well_tagged` and the like).
+//! - A name is valid if and only if the codec takes as one value each open type in it (`general_name_is_valid`;
+//!   `specs/OpenNames.antt`), and so a key of an authority. All else is valid as it is.
 //!
 //! The value of an [`asn1_x509::Extension`] is the bytes that a codec makes of one of these. What a schema asks beyond that
 //! is left to whoever makes a value: that a list has an element, and how long a text is.
-#![tactic(auto, using(asn1_schema::proofs::Trees::tree_shapes))]
+#![tactic(auto, using(asn1_tags::proofs::Leaves::tree_shapes))]
 
 mod another_name;
 mod authority_key_identifier;
@@ -27,17 +29,21 @@ mod general_name;
 mod key_identifier;
 mod path_length;
 
-pub use another_name::{AnotherName, another_name_is_well_tagged};
+pub use another_name::{AnotherName, another_name_is_valid, another_name_is_well_tagged};
 pub use authority_key_identifier::{
-    AuthorityKeyIdentifier, authority_key_identifier_is_well_tagged,
+    AuthorityKeyIdentifier, authority_key_identifier_is_valid,
+    authority_key_identifier_is_well_tagged,
 };
-pub use basic_constraints::{BasicConstraints, basic_constraints_is_well_tagged};
-pub use edi_party_name::{EdiPartyName, edi_party_name_is_well_tagged};
+pub use basic_constraints::{
+    BasicConstraints, basic_constraints_is_valid, basic_constraints_is_well_tagged,
+};
+pub use edi_party_name::{EdiPartyName, edi_party_name_is_valid, edi_party_name_is_well_tagged};
 pub use general_name::{
-    GeneralName, GeneralNames, IssuerAltName, SubjectAltName, general_name_is_well_tagged,
+    GeneralName, GeneralNames, IssuerAltName, SubjectAltName, general_name_is_valid,
+    general_name_is_well_tagged,
 };
 pub use key_identifier::{
     ExtKeyUsageSyntax, KeyIdentifier, KeyPurposeId, KeyUsage, SubjectKeyIdentifier,
-    key_extensions_are_well_tagged,
+    key_extensions_are_valid, key_extensions_are_well_tagged,
 };
-pub use path_length::{PathLength, path_length_is_well_tagged};
+pub use path_length::{PathLength, path_length_is_valid, path_length_is_well_tagged};

@@ -1,12 +1,14 @@
 //! `INTEGER (0..MAX)`
-ghost use Rattle.std.specs.Prelude.{None, Some, codes, pos};
-ghost use Rattle.asn1_schema.specs.Words.{IsWellTagged, Range, number, universal, values_of};
-ghost use Rattle.asn1_schema.specs.model.Kinds.{scalar_type, under_own_name};
+ghost use Rattle.std.specs.Prelude.{Bool, List, None, Some, codes, pos, ℕ};
+ghost use Rattle.asn1_types.specs.Words.{IsWellTagged, Range, number, universal, values_of};
+ghost use Rattle.asn1_model.specs.Kinds.{scalar_type, under_own_name};
 
-use asn1_schema::{
-    AsnType, Bounded, ConstraintTable, Constraints, Decode, DecodeError, Decoder, Encode,
-    EncodeError, Encoder, Identifier, Integer, Tag, TypeTable, Value,
+use asn1_dec::{Decode, DecodeError, Decoder};
+use asn1_enc::{Encode, EncodeError, Encoder};
+use asn1_types::{
+    AsnType, Bounded, ConstraintTable, Constraints, Identifier, Tag, TypeTable, Value,
 };
+use asn1_values::Integer;
 
 /// How many certificates of authorities may be between one and the last. That it is not negative is the caller's to see.
 #[derive(PartialEq, Eq, Debug, Drop)]
@@ -28,6 +30,12 @@ impl AsnType for PathLength {
 /// A `PathLength` can be inside other types.
 pub fn path_length_is_well_tagged()
     ensures { IsWellTagged ⟦<PathLength as AsnType>⟧.meaning }
+{}
+
+/// Each `PathLength` is valid, also a negative one.
+pub fn path_length_is_valid(length: &PathLength)
+    ensures { (accepts : List ℕ → Bool) →
+        ⟦<PathLength as AsnType>⟧.meaning.IsValid accepts length.now }
 {}
 
 impl Encode for PathLength {

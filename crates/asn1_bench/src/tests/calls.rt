@@ -7,7 +7,7 @@ use asn1_enc::{EncodeError, Encoder};
 use asn1_packed::{
     ItemDecoder, ItemEncoder, PackedDecoder, PackedEncoder, Presence, PresenceMarks,
 };
-use asn1_sample_tests::{calls as sample_calls, sets};
+use asn1_sample_tests::calls::each_sample_call_comes_back;
 use asn1_tagform::NextItem;
 use std::alloc::Global;
 use std::marker::PhantomData;
@@ -41,106 +41,27 @@ impl<P: Presence> CallRules for ItemCalls<P> {
     }
 }
 
-fn kinds_come_back_under_a_tag<R: CallRules>(rt: &impl Abort, alloc: Global, rules: &R) {
-    passes(
-        rt,
-        "scalars",
-        calls::scalars_come_back_under_a_tag(rules, alloc),
-    );
-    passes(
-        rt,
-        "strings",
-        calls::strings_come_back_under_a_tag(rules, alloc),
-    );
-    passes(
-        rt,
-        "scopes",
-        calls::scopes_come_back_under_a_tag(rules, alloc),
-    );
-    passes(rt, "items", sample_calls::items_come_back(rules));
-    passes(
-        rt,
-        "choices",
-        sample_calls::choices_come_back_under_a_tag(rules),
-    );
-}
-
-fn each_call_reads_what_was_written<R: CallRules>(rt: &impl Abort, alloc: Global, rules: &R) {
-    passes(
-        rt,
-        "entry points",
-        calls::entry_points_come_back(rules, alloc),
-    );
-    passes(
-        rt,
-        "explicit tags",
-        calls::explicit_tags_come_back(rules, alloc),
-    );
-    passes(rt, "options", calls::options_come_back(rules, alloc));
-    passes(rt, "defaults", calls::defaults_come_back(rules, alloc));
-    passes(
-        rt,
-        "no default",
-        calls::a_default_without_memory_is_an_error(rules),
-    );
-}
-
-fn an_error_of_a_type_is_answered_as_it_is<R: CallRules>(rt: &impl Abort, rules: &R) {
-    passes(
-        rt,
-        "eleven",
-        calls::own_errors_are_answered_as_they_are(rules),
-    );
-}
-
-fn additions_and_groups_come_back<R: CallRules>(rt: &impl Abort, alloc: Global, rules: &R) {
-    passes(rt, "additions", calls::additions_come_back(rules));
-    passes(
-        rt,
-        "with defaults",
-        calls::additions_with_defaults_come_back(rules),
-    );
-    passes(rt, "groups", sample_calls::groups_come_back(rules, alloc));
-}
-
-fn sets_come_back_in_any_order<R: CallRules>(rt: &impl Abort, alloc: Global, rules: &R) {
-    passes(
-        rt,
-        "elements",
-        calls::sets_of_come_back_in_any_order(rules, alloc),
-    );
-    passes(
-        rt,
-        "components",
-        sets::badges_come_back_in_any_order(rules, alloc),
-    );
-    passes(
-        rt,
-        "no badge",
-        sets::what_is_no_badge_is_refused(rules, alloc),
-    );
-}
-
-fn each_call_comes_back<P: Presence>(rt: &impl Abort, alloc: Global) {
+fn calls_come_back_over<P: Presence>(rt: &impl Abort, alloc: Global) {
     let rules = ItemCalls::<P> {
         alloc,
         presence: PhantomData,
     };
-    kinds_come_back_under_a_tag(rt, alloc, &rules);
-    each_call_reads_what_was_written(rt, alloc, &rules);
-    an_error_of_a_type_is_answered_as_it_is(rt, &rules);
-    additions_and_groups_come_back(rt, alloc, &rules);
-    sets_come_back_in_any_order(rt, alloc, &rules);
+    passes(rt, "calls", calls::each_call_comes_back(&rules, alloc));
+    passes(
+        rt,
+        "calls of samples",
+        each_sample_call_comes_back(&rules, alloc),
+    );
 }
 
 #[test]
 fn calls_come_back(rt: HostRuntime) {
-    each_call_comes_back::<PresenceMarks>(&rt, rt.alloc());
+    calls_come_back_over::<PresenceMarks>(&rt, rt.alloc());
 }
 
 #[test]
 fn calls_come_back_without_presence_marks(rt: HostRuntime) {
-    each_call_comes_back::<NextItem>(&rt, rt.alloc());
+    calls_come_back_over::<NextItem>(&rt, rt.alloc());
 }
 
 #[test]

@@ -159,6 +159,11 @@ fn another_spelling_of_a_number_is_refused(rt: HostRuntime) {
         "256",
         &[1, 0, 0, 0, 0, 2, 2, 0, 0, 0, 3, 0, 1, 0],
     );
+}
+
+#[test]
+fn another_spelling_of_an_enumerated_number_is_refused(rt: HostRuntime) {
+    let alloc = rt.alloc();
     is_bad::<Color>(
         &rt,
         alloc,

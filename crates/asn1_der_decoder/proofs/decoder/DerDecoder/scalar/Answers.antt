@@ -1,6 +1,6 @@
 use Rattle.std.proofs.Common.{sym, subst, ◌∙◌, Ok, Err, arith, inl}
 use Rattle.asn1_codec.proofs.ReadingUpToOrder.{reads_content}
-use Rattle.asn1_der_records.proofs.OneElement.{element_alone}
+use Rattle.asn1_der_items.proofs.OneElement.{element_alone}
 use Rattle.asn1_der_decoder.proofs.Remaining.{next_is}
 use Rattle.asn1_der_decoder.specs.Decoder.{in_one_order}
 use Rattle.asn1_der_items.specs.Contents.{HasContents}

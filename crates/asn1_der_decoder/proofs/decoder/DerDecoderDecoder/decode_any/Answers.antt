@@ -1,7 +1,7 @@
 use Rattle.std.proofs.Common.{◌≡◌, ◌++◌, Ok, Err, ap, ◌∙◌, arith, inl}
 use Rattle.asn1_codec.proofs.ReadingUpToOrder.{reads_open_type}
 use Rattle.asn1_der_decoder.specs.Decoder.{in_one_order}
-use Rattle.asn1_der_records.proofs.OneElement.{one}
+use Rattle.asn1_der_items.proofs.OneElement.{one}
 use Rattle.asn1_der_decoder.proofs.Remaining.{next_is}
 use Rattle.asn1_model.specs.Records.{open_type}
 use Rattle.asn1_der_decoder.proofs.decoder.DerDecoderDecoder.decode_any.Goals as goal

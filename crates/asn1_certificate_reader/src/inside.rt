@@ -1,0 +1,22 @@
+//! What is inside open types and octets.
+use asn1_dec::{Decode, DecodeError};
+use asn1_rules::Rules;
+use std::alloc::{AllocError, Global};
+
+/// How deep certificates may be nested. The deepest that RFC 5280 allows are less than half as deep, unless a name in a name says
+/// more.
+pub const MAX_DEPTH: usize = 64;
+
+/// The value that is all of these octets, where they are read as one.
+pub(crate) fn read_inside<R: Rules<Output = Vec<u8>>, T: Decode>(
+    rules: &R,
+    alloc: Global,
+    octets: &[u8],
+) -> Result<Option<T>, AllocError> {
+    let owned = Vec::from_slice(alloc, octets)?;
+    match rules.read_value(&owned, MAX_DEPTH) {
+        Ok(value) => Ok(Some(value)),
+        Err(DecodeError::Memory) => Err(AllocError),
+        Err(_) => Ok(None),
+    }
+}

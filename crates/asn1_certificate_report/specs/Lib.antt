@@ -1,0 +1,9 @@
+pub mod Extensions
+pub mod GeneralNames
+pub mod Keys
+pub mod Lines
+pub mod Names
+pub mod Numbers
+pub mod Objects
+pub mod Reports
+pub mod Times

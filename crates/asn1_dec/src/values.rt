@@ -1,0 +1,30 @@
+//! A value under what a call is given.
+ghost use Rattle.asn1_codec.specs.Reading.{ReadsValue};
+ghost use Rattle.asn1_model.specs.ConstraintSets.{constraint_set};
+ghost use Rattle.std.specs.Option.{option_copied, option_map};
+ghost use Rattle.std.specs.Prelude.{◌≡◌, OnOk, unwrap_or};
+
+use crate::decode::Decode;
+use crate::decoder::Decoder;
+use asn1_bounds::Constraints;
+use asn1_codec::DecodeError;
+use asn1_tags::Tag;
+
+/// A value under a tag, and constraints, or the type's own where none are given.
+pub(crate) fn read_value<T: Decode, D: Decoder>(
+    decoder: &mut D,
+    tag: Tag,
+    constraints: Option<&Constraints<'_>>,
+) -> Result<T, DecodeError>
+    ensures read { ReadsValue D.reader T.meaning T.eq tag
+        (unwrap_or (option_map constraint_set (option_copied constraints.entry))
+        T.meaning.constraints) decoder.old decoder.new result }
+    ensures same_depth { OnOk result
+        (D.reader.depth_left decoder.new ≡ D.reader.depth_left decoder.old) }
+    ensures no_failure { OnOk result (D.reader.failed decoder.new ≡ D.reader.failed decoder.old) }
+{
+    match constraints {
+        None => T::decode_with_tag(decoder, tag),
+        Some(constraints) => T::decode_with_tag_and_constraints(decoder, tag, constraints),
+    }
+}

@@ -1,0 +1,96 @@
+//! A value of each sample type that is written and read, whole, in a list and out of pieces, where a growth may be refused.
+use asn1_bench::{BenchReader, BenchRules};
+use asn1_codec_tests::{Failure, ValueCase, comes_back, is_same};
+use asn1_dec::Decode;
+use asn1_enc::Encode;
+use asn1_rules::Rules;
+use asn1_sample_tests::samples::each_sample_passes;
+use asn1_streams::{Pieces, read_pieces, write_list};
+use std::alloc::Global;
+use std::io;
+
+/// How many nested scopes are opened.
+const DEPTH: usize = 4;
+
+/// Whether a value comes back, and is written in a list.
+#[derive(Drop)]
+struct Whole<'a, R> {
+    alloc: Global,
+    rules: &'a R,
+}
+
+/// Whether a value comes out of two pieces of its packed bytes.
+#[derive(Drop)]
+struct InPieces {
+    alloc: Global,
+}
+
+/// Writes and reads a value of each sample type, and prints whether all come back, or there was no memory. `null` is one value of
+/// an open type.
+pub(crate) fn run<R: Rules<Output = Vec<u8>>>(
+    rt: &impl Print,
+    alloc: Global,
+    rules: &R,
+    null: &[u8],
+) -> io::Result<()> {
+    print_answer(rt, each_sample_passes(&Whole { alloc, rules }, alloc, null))
+}
+
+/// The same of packed bytes in pieces.
+pub(crate) fn run_in_pieces(rt: &impl Print, alloc: Global, null: &[u8]) -> io::Result<()> {
+    print!(rt; "pieces: ")?;
+    print_answer(rt, each_sample_passes(&InPieces { alloc }, alloc, null))
+}
+
+fn print_answer(rt: &impl Print, answer: Result<(), Failure>) -> io::Result<()> {
+    match answer {
+        Ok(()) => println!(rt; "all come back"),
+        Err(Failure::Memory) => println!(rt; "no memory"),
+        Err(failure) => println!(rt; "{failure:?}"),
+    }
+}
+
+impl<R: Rules<Output = Vec<u8>>> ValueCase for Whole<'_, R> {
+    fn try_value<T: Encode + Decode>(&self, value: T) -> Result<(), Failure> {
+        comes_back(self.rules, &value)?;
+        match write_list(self.alloc, self.rules, &[value], DEPTH) {
+            Ok(_) => Ok(()),
+            Err(error) => Err(Failure::of_writing(error)),
+        }
+    }
+}
+
+impl ValueCase for InPieces {
+    fn try_value<T: Encode + Decode>(&self, value: T) -> Result<(), Failure> {
+        let mut values = Vec::new(self.alloc);
+        match values.push(value) {
+            Ok(()) => come_out_of_pieces(self.alloc, &values),
+            Err(_) => Err(Failure::Memory),
+        }
+    }
+}
+
+fn come_out_of_pieces<T: Encode + Decode>(alloc: Global, values: &[T]) -> Result<(), Failure> {
+    match write_list(alloc, &BenchRules::new(alloc), values, DEPTH) {
+        Ok(bytes) => are_read(alloc, values, &bytes),
+        Err(error) => Err(Failure::of_writing(error)),
+    }
+}
+
+fn are_read<T: Decode>(alloc: Global, values: &[T], bytes: &[u8]) -> Result<(), Failure> {
+    let (first, second) = bytes.split_at(bytes.len() / 2);
+    let reader = BenchReader::new(alloc, DEPTH);
+    match read_pieces::<T, BenchReader>(alloc, reader, &[first, second], values.len()) {
+        Ok(read) => are_all(&read, values),
+        Err(error) => Err(Failure::of_reading(error)),
+    }
+}
+
+/// Whether these values were read. Where some are missing, those that were read are a beginning, and the last error is the answer.
+fn are_all<T: Decode>(read: &Pieces<T>, values: &[T]) -> Result<(), Failure> {
+    is_same(&values.starts_with(&read.values), &true)?;
+    match read.last {
+        Some(error) => Err(Failure::of_reading(error)),
+        None => is_same(&read.values.len(), &values.len()),
+    }
+}

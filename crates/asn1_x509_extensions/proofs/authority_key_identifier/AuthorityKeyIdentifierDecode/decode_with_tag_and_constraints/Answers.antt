@@ -1,0 +1,14 @@
+use Rattle.std.proofs.Common.{refl}
+use Rattle.asn1_codec.proofs.ReadingChoices.{leaves_kept}
+use Rattle.asn1_model.specs.ConstraintSets.{constraint_set}
+use Rattle.asn1_slots.specs.Slots.{slots_agree}
+use Rattle.asn1_x509_extensions.specs.contracts.authority_key_identifier.AuthorityKeyIdentifierFieldTable.TheImpl.{ghosts as fields}
+use Rattle.asn1_x509_extensions.proofs.authority_key_identifier.AuthorityKeyIdentifierDecode.decode_with_tag_and_constraints.Goals as goal
+
+pub returns-clause-read : goal.returns-clause-read
+returns-clause-read g c =
+    c.decode_sequence_by_place.ensures.as_meant (slots_agree fields.components) refl (constraint_set c.args._constraints.now)
+
+pub returns-clause-after_reading : goal.returns-clause-after_reading
+returns-clause-after_reading g c =
+    leaves_kept g.D.Decoder.reader _ c.args.tag (constraint_set c.args._constraints.now) _ _ _ c.decode_sequence_by_place.ensures.keeps_depth
