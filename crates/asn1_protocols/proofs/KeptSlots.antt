@@ -1,5 +1,5 @@
 -- Where no slot changes, each is kept.
-use Rattle.std.proofs.Common.{◌≡◌, ℕ, List, [], ◌∷◌, subst, sym, zero, suc}
+use Rattle.std.proofs.Common.{ℕ, List, [], ◌∷◌, zero, suc}
 use Rattle.asn1_slots.specs.Slots.{AllAreKept, OthersAreKept, Slot}
 
 all_as_they_were : {S V : Type 0} (hs : List (Slot S V)) (s : S) (v : V) → AllAreKept hs s s v
@@ -10,8 +10,3 @@ pub as_they_were : {S V : Type 0} (hs : List (Slot S V)) (place : ℕ) (s : S) (
 as_they_were [] place s v = tt
 as_they_were (h ∷ hs) zero s v = all_as_they_were hs s v
 as_they_were (h ∷ hs) (suc place) s v = ((λ x. x, λ x. x), as_they_were hs place s v)
-
--- what holds at a place holds at one that is equal
-pub at_place : {S V : Type 0} (hs : List (Slot S V)) {place k : ℕ} {before after : S} → place ≡ k →
-    ((v : V) → OthersAreKept hs k before after v) → (v : V) → OthersAreKept hs place before after v
-at_place hs {before = before} {after = after} is kept v = subst (λ n. OthersAreKept hs n before after v) (sym is) (kept v)

@@ -8,10 +8,12 @@
 //! | [`UniversalString`], [`UtcTime`], [`GeneralizedTime`], [`ObjectDescriptor`] | the kinds of string that are another kind under a tag |
 //! | [`laws`] | which kind of string each name is |
 //!
-//! It is the one crate that an author of types or of a codec names in crates.txt, but that theorems about a CHOICE want `asn1_tags`
-//! there too. Each public name of the crates below is re-exported, but for the macros `tag!` of `asn1_tags` and `item!` of `asn1_enumerations`. The crates stand here under the names of their subjects
-//! too (`types`, `strings`, `codec` and so on), in code, and so do their definitions and their lemmas: `specs/Lib.antt` and
-//! `proofs/Lib.antt` pass them on. The words with which an author says what a type means are `Rattle.asn1_schema.specs.Words`.
+//! It is the one crate that an author of types names in crates.txt; a clause that has the meaning of a CHOICE in it by its type
+//! wants `asn1_tags` there too. Each public name of the crates below is re-exported, but for the macros `tag!` of `asn1_tags` and
+//! `item!` of `asn1_enumerations`. The crates are here under the names of their subjects too (`types`, `strings`, `codec` and so
+//! on), in code, and so are their definitions and their lemmas: `specs/Lib.antt` and `proofs/Lib.antt` pass them on. The words with
+//! which an author says what a type means are `Rattle.asn1_schema.specs.Words`. `asn1_user_types` has types of each kind that name
+//! this crate alone.
 #![tactic(auto)]
 
 pub mod laws;
@@ -49,7 +51,6 @@ pub use asn1_enc::Encoder;
 pub use asn1_enc::encode_explicit_optional;
 pub use asn1_enumerations as enumerations;
 pub use asn1_enumerations::EnumeratedTable;
-pub use asn1_enumerations::item;
 pub use asn1_fields as fields;
 pub use asn1_model as model;
 pub use asn1_open as open_values;

@@ -11,11 +11,13 @@
 //!
 //! What the contracts promise:
 //!
-//! - Each type is written and read by any codec, and can be inside other types (`price_is_well_tagged` and the like).
-//! - A signed order is read back as it was written, by any codec (`signed_order_comes_back`).
+//! - Each type is written and read by any codec, and is well tagged (`price_is_well_tagged` and the like; for a [`Payment`],
+//!   `signed_payment_comes_back` rests on it).
+//! - A signed order or payment is read back as it was written, by any codec (`signed_order_comes_back`).
 //!
-//! So one name in `crates.txt` is enough for each kind of type. `asn1_samples` and `asn1_recursive` have more of each kind, over the
-//! crates below `asn1_schema`.
+//! So one name in `crates.txt` is enough for each kind of type. Only a clause that has the meaning of a CHOICE in it by its type, as
+//! `⟦<Payment as AsnType>⟧.meaning`, wants `asn1_tags` there too. `asn1_samples` and `asn1_recursive` have more types of each kind,
+//! over the crates below `asn1_schema`.
 #![tactic(auto, using(asn1_schema::proofs::Trees::tree_shapes))]
 
 mod currency;
@@ -29,6 +31,8 @@ mod signed;
 pub use currency::{Currency, currency_is_well_tagged};
 pub use order::{Order, order_is_well_tagged};
 pub use parcel::{Parcel, parcel_is_well_tagged};
-pub use payment::{Payment, payment_is_well_tagged};
+pub use payment::Payment;
 pub use price::{Price, price_is_well_tagged};
-pub use signed::{Signed, signed_is_well_tagged, signed_order_comes_back};
+pub use signed::{
+    Signed, signed_is_well_tagged, signed_order_comes_back, signed_payment_comes_back,
+};

@@ -1,13 +1,12 @@
-//! `Order ::= SET { price Price, goods SET OF UTF8String, payment [1] Payment }`
+//! `Order ::= SET { price Price, goods SET OF UTF8String }`
 ghost use Rattle.std.specs.Prelude.{[], codes, refl, ◌∷◌};
-ghost use Rattle.asn1_schema.specs.Words.{IsWellTagged, constructed_agrees, constructed_type, context, required_slot, set_of_slots, tagged, untagged};
+ghost use Rattle.asn1_schema.specs.Words.{IsWellTagged, constructed_agrees, constructed_type, required_slot, set_of_slots, untagged};
 
-use crate::payment::Payment;
 use crate::price::Price;
 use asn1_schema::{
-    AsnType, Class, Constraints, ConstructedType, Decode, DecodeError, DecodeSetByPlace, Decoded,
-    Decoder, Encode, EncodeError, EncodeFields, Encoder, Field, FieldTable, Identifier, SetOf, Tag,
-    Tagging, TypeTable, Utf8String, decode_set_by_place, filled, once,
+    AsnType, Constraints, ConstructedType, Decode, DecodeError, DecodeSetByPlace, Decoded, Decoder,
+    Encode, EncodeError, EncodeFields, Encoder, Field, FieldTable, Identifier, SetOf, Tag, Tagging,
+    TypeTable, Utf8String, decode_set_by_place, filled, once,
 };
 use std::alloc::Global;
 
@@ -21,27 +20,18 @@ pub struct Order {
     pub price: Price,
     /// `goods SET OF UTF8String`
     pub goods: Goods,
-    /// `payment [1] Payment`
-    pub payment: Payment,
 }
 
-const PAYMENT: Tag = Tag {
-    class: Class::Context,
-    value: 1,
-};
-
 impl DecodeSetByPlace for Order {
-    type Slots = (Option<Price>, Option<Goods>, Option<Payment>);
+    type Slots = (Option<Price>, Option<Goods>);
 
     ghost layout = { required_slot (codes "price") (λ o. o.price) (λ s. s.0) (untagged ⟦<Price as AsnType>⟧.meaning) ⟦<Price as PartialEq>⟧.eq ∷
-        required_slot (codes "goods") (λ o. o.goods) (λ s. s.1) (untagged ⟦<Goods as AsnType>⟧.meaning) ⟦<Goods as PartialEq>⟧.eq ∷
-        required_slot (codes "payment") (λ o. o.payment) (λ s. s.2) (tagged (context 1) ⟦<Payment as AsnType>⟧.meaning) ⟦<Payment as PartialEq>⟧.eq ∷ [] };
+        required_slot (codes "goods") (λ o. o.goods) (λ s. s.1) (untagged ⟦<Goods as AsnType>⟧.meaning) ⟦<Goods as PartialEq>⟧.eq ∷ [] };
 
     fn from_slots(_alloc: Global, slots: Self::Slots) -> Result<Order, DecodeError> {
         Ok(Order {
             price: filled(slots.0, "price")?,
             goods: filled(slots.1, "goods")?,
-            payment: filled(slots.2, "payment")?,
         })
     }
 
@@ -49,28 +39,26 @@ impl DecodeSetByPlace for Order {
         match place {
             0 => once(&mut slots.0, decoder, Tagging::Untagged, "price"),
             1 => once(&mut slots.1, decoder, Tagging::Untagged, "goods"),
-            2 => once(&mut slots.2, decoder, Tagging::Tagged(PAYMENT), "payment"),
             _ => Ok(()),
         }
     }
 
     ghost no_group = { refl };
 
-    ghost empty_at_first = { λ slots empty. (empty.0, (empty.1, empty.2)) };
+    ghost empty_at_first = { λ slots empty. (empty.0, empty.1) };
 }
 
 impl FieldTable for Order {
     ghost components = { set_of_slots ⟦<Order as DecodeSetByPlace>⟧.layout };
 
     fn field_count() -> usize {
-        3
+        2
     }
 
     fn field_at(place: usize) -> Option<Field<'static>> {
         match place {
             0 => Some(Field::new_required_type::<Price>(0, "price")),
             1 => Some(Field::new_required_type::<Goods>(1, "goods")),
-            2 => Some(Field::new_required_type_with_tag::<Payment>(2, PAYMENT, "payment")),
             _ => None,
         }
     }
@@ -118,7 +106,6 @@ impl EncodeFields for Order {
         match place {
             0 => self.price.encode(encoder),
             1 => self.goods.encode(encoder),
-            2 => self.payment.encode_with_tag(encoder, PAYMENT),
             _ => Ok(()),
         }
     }

@@ -60,7 +60,7 @@ impl ChoiceType for Parcel {
 
 /// A `Parcel` can be inside other types: the tags of its alternatives are distinct.
 pub fn parcel_is_well_tagged()
-    ensures { IsWellTagged ⟦<Parcel as AsnType>⟧.meaning }
+    ensures { IsWellTagged parcel_meaning }
 {}
 
 impl Encode for Parcel {

@@ -3,6 +3,7 @@ ghost use Rattle.std.specs.Prelude.{[], codes, IfOk, true, ◌≡◌, ◌∷◌}
 ghost use Rattle.asn1_schema.specs.Words.{IsWellTagged, constructed_agrees, constructed_type, required, required_slot, sequence, untagged};
 
 use crate::order::Order;
+use crate::payment::Payment;
 use asn1_schema::{
     AsnType, Constraints, ConstructedType, Decode, DecodeByPlace, DecodeError, Decoded, Decoder,
     Encode, EncodeError, EncodeFields, Encoder, Field, FieldTable, Identifier, OctetString,
@@ -127,6 +128,20 @@ pub fn signed_order_comes_back<R: Rules>(
     depth: usize,
 ) -> Result<Signed<Order>, RoundTripError>
     ensures { IfOk result (λ back. ⟦<Signed<Order> as PartialEq>⟧.eq back signed.now ≡ true) }
+{
+    round_trip(rules, signed, depth, depth)
+}
+
+/// The same of a signed payment: a CHOICE inside another type is well tagged.
+///
+/// # Errors
+/// Those of [`round_trip`].
+pub fn signed_payment_comes_back<R: Rules>(
+    rules: &R,
+    signed: &Signed<Payment>,
+    depth: usize,
+) -> Result<Signed<Payment>, RoundTripError>
+    ensures { IfOk result (λ back. ⟦<Signed<Payment> as PartialEq>⟧.eq back signed.now ≡ true) }
 {
     round_trip(rules, signed, depth, depth)
 }
