@@ -53,8 +53,9 @@ number too_deep = 11
 number has_failed = 12
 number out_of_range = 13
 
--- Whether the error is about a component that was read, and does not name it. The others name a component, or they are about the
--- decoder or the input as a whole: more input is needed, memory ran out, no depth is left, or the decoder has failed before.
+-- Whether the error is about a component that was read, and does not name it. The others name a
+-- component, or they are about the decoder or the input as a whole: more input is needed, memory
+-- ran out, no depth is left, or the decoder has failed before.
 abbrev pub lacks_name : Reason → Bool
 lacks_name (custom message) = true
 lacks_name (incomplete needed) = false

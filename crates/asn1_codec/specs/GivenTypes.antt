@@ -42,7 +42,8 @@ as_it_is m = given m.tag m.constraints m
 abbrev pub after_tag : {V : Type 0} → Tag → Meaning V → Named V
 after_tag t m n = explicitly_tagged_as n t m
 
--- after an explicit tag, under constraints of its own or those that a call is given; of the tag nothing is asked
+-- after an explicit tag, under constraints of its own or those that a call is given; of the tag
+-- nothing is asked
 abbrev pub given_after_tag : {V : Type 0} → Tag → ConstraintSet → Meaning V → Named V
 given_after_tag t c m n = record {
   tag = t;

@@ -20,45 +20,46 @@ use Rattle.asn1_codec.specs.SetParts.{ArePartsOf, CanBeInSet}
 use Rattle.asn1_codec.specs.declared.decode_error.DecodeError.{DecodeError}
 
 module _ {D : Type 0} (R : Reader D) where
-  -- A call that reads a content, under a tag, constraints and any name: of each that is of the type, it answers what `Is` holds
-  -- of.
+  -- A call that reads a content, under a tag, constraints and any name: of each that is of the
+  -- type, it answers what `Is` holds of.
   abbrev pub ReadsContent : {X V : Type 0} → Tag → ConstraintSet → (X → Content) → (IsOfType : X → Type 0) → (V → X → Type 0) →
       D → D → Result V DecodeError → Type 0
   ReadsContent {X = X} t c content IsOfType Is old new result =
       (x : X) (n : Name) (rest : List Record) (outer : Outside) → IsOfType x →
       ReadsBack R old new (scalar t c n (content x) ∷ []) rest outer (λ w. Is w x) result
 
-  -- A call that reads the bytes of an open type, of any name: of those that the codec accepts as one value, it answers what `Is`
-  -- holds of.
+  -- A call that reads the bytes of an open type, of any name: of those that the codec accepts as
+  -- one value, it answers what `Is` holds of.
   abbrev pub ReadsOpenType : {V : Type 0} → (V → List ℕ → Type 0) → D → D → Result V DecodeError → Type 0
   ReadsOpenType Is old new result =
       (bytes : List ℕ) (n : Name) (rest : List Record) (outer : Outside) → IsTrue (R.accepts bytes) →
       ReadsBack R old new (open_type n bytes ∷ []) rest outer (λ w. Is w bytes) result
 
-  -- A call that opens a CHOICE of these alternatives (X.680, 29), which can be told apart, under constraints and any name. It answers
-  -- a tag that the chosen one can begin with, where that can begin with its own.
+  -- A call that opens a CHOICE of these alternatives (X.680, 29), which can be told apart, under
+  -- constraints and any name. It answers a tag that the chosen one can begin with, where that can
+  -- begin with its own.
   abbrev pub ReadsHeadOfChoice : ConstraintSet → Alternatives → D → D → Result Tag DecodeError → Type 0
   ReadsHeadOfChoice c alternatives old new result =
       (tag : Tag) → HaveDistinctTags (all_of alternatives) → Each CanBeChosen (all_of alternatives) →
       ReadsHead R old new (alternative tag c (table_of alternatives)) (λ _ told. TellsAlternative tag told (all_of alternatives)) result
 
 module _ {D : Type 0} (R : Reader D) {V : Type 0} where
-  -- A call that reads a value of a well-tagged type, under any name: of each that is of the type and valid, it answers
-  -- one that is equal.
+  -- A call that reads a value of a well-tagged type, under any name: of each that is of the type
+  -- and valid, it answers one that is equal.
   abbrev pub Reads : {W : Type 0} → Named V → (W → V → Bool) → D → D → Result W DecodeError → Type 0
   Reads type eq old new result =
       (v : V) (n : Name) (rest : List Record) (outer : Outside) →
       (type n).IsWellTagged → (type n).IsOfType v → (type n).IsValid R.accepts v →
       ReadsBack R old new ((type n).records v) rest outer (λ w. eq w v ≡ true) result
 
-  -- A call that tells whether a component of this type is there, on this side of the extension marker, and goes past the presence
-  -- mark that says so.
+  -- A call that tells whether a component of this type is there, on this side of the extension
+  -- marker, and goes past the presence mark that says so.
   abbrev pub TellsIfThere : Side → Named V → D → D → Result Bool DecodeError → Type 0
   TellsIfThere side type old new result =
       (n : Name) → TellsPresence R old new (present side (type n).tag) (absent side (type n).tag) (tree_tags (type n).tree) result
 
-  -- A call that reads a component that may be absent, on this side of the extension marker (X.680, 25.1). What follows one that
-  -- is absent begins with none of its tags.
+  -- A call that reads a component that may be absent, on this side of the extension marker (X.680,
+  -- 25.1). What follows one that is absent begins with none of its tags.
   abbrev pub ReadsOptional : Side → Named V → (V → V → Bool) → D → D → Result (Option V) DecodeError → Type 0
   ReadsOptional side type eq old new result =
       (v : Option V) (n : Name) (rest : List Record) (outer : Outside) →
@@ -66,9 +67,9 @@ module _ {D : Type 0} (R : Reader D) {V : Type 0} where
       (v ≡ None → ShareNone (tree_tags (type n).tree) (first_tags rest)) →
       ReadsBack R old new (option_records side (type n).tag (option_map (type n).records v)) rest outer (λ w. option_eq eq w v ≡ true) result
 
-  -- A call that reads a component with a default (X.680, 25.5), where each value that may be the default compares with the value
-  -- alike: it is absent where it equals the default. Of an absent one nothing is asked, but that what follows begins with none
-  -- of its tags.
+  -- A call that reads a component with a default (X.680, 25.5), where each value that may be the
+  -- default compares with the value alike: it is absent where it equals the default. Of an absent
+  -- one nothing is asked, but that what follows begins with none of its tags.
   abbrev pub ReadsDefault : Side → Named V → (IsDefault : V → Type 0) → (V → V → Bool) → D → D → Result V DecodeError → Type 0
   ReadsDefault side type IsDefault eq old new result =
       (v : V) (equal : Bool) (n : Name) (rest : List Record) (outer : Outside) →
@@ -77,7 +78,8 @@ module _ {D : Type 0} (R : Reader D) {V : Type 0} where
       (equal ≡ true → ShareNone (tree_tags (type n).tree) (first_tags rest)) →
       ReadsBack R old new (default_records side equal (type n).tag ((type n).records v)) rest outer (λ w. eq w v ≡ true) result
 
-  -- A call that reads a SEQUENCE or a SET, by its components (X.680, 25 and 27), under a tag and any name.
+  -- A call that reads a SEQUENCE or a SET, by its components (X.680, 25 and 27), under a tag and
+  -- any name.
   abbrev pub ReadsComponents : Kind → Tag → Components V → (V → V → Bool) → D → D → Result V DecodeError → Type 0
   ReadsComponents kind t components eq old new result =
       (v : V) (n : Name) (rest : List Record) (outer : Outside) →
@@ -85,8 +87,8 @@ module _ {D : Type 0} (R : Reader D) {V : Type 0} where
       EachIsOfType (all_components components) v → EachIsValid (all_components components) R.accepts v →
       ReadsBack R old new (holding (head_in kind t (lines components) n) (component_records components v) ∷ []) rest outer (λ w. eq w v ≡ true) result
 
-  -- A call that reads what a SEQUENCE or a group holds: its components, in the order of their definition. What follows them begins
-  -- with no tag of those after the last that is always there.
+  -- A call that reads what a SEQUENCE or a group holds: its components, in the order of their
+  -- definition. What follows them begins with no tag of those after the last that is always there.
   abbrev pub ReadsFields : Components V → (V → V → Bool) → D → D → Result V DecodeError → Type 0
   ReadsFields components eq old new result =
       (v : V) (rest : List Record) (outer : Outside) →
@@ -94,8 +96,8 @@ module _ {D : Type 0} (R : Reader D) {V : Type 0} where
       EachIsValid (all_components components) R.accepts v → EndsApart (all_components components) rest →
       ReadsBack R old new (component_records components v) rest outer (λ w. eq w v ≡ true) result
 
-  -- A call that reads a group of additions (25.1), which may be absent. One that is there writes a component. What follows it
-  -- begins with no tag of its components.
+  -- A call that reads a group of additions (25.1), which may be absent. One that is there writes a
+  -- component. What follows it begins with no tag of its components.
   abbrev pub ReadsGroup : Components V → (V → V → Bool) → D → D → Result (Option V) DecodeError → Type 0
   ReadsGroup components eq old new result =
       (v : Option V) (rest : List Record) (outer : Outside) →
@@ -105,8 +107,8 @@ module _ {D : Type 0} (R : Reader D) {V : Type 0} where
       ReadsBack R old new (group_records (lines components) (option_map (component_records components) v)) rest outer
       (λ w. option_eq eq w v ≡ true) result
 
-  -- A call that reads a CHOICE by its chosen alternative (29), where its alternatives can be told apart, under constraints and any
-  -- name.
+  -- A call that reads a CHOICE by its chosen alternative (29), where its alternatives can be told
+  -- apart, under constraints and any name.
   abbrev pub ReadsAlternative : ConstraintSet → (alternatives : Alternatives) → (V → OneOf (all_of alternatives)) → (V → V → Bool) →
       D → D → Result V DecodeError → Type 0
   ReadsAlternative c alternatives pick eq old new result =
@@ -128,14 +130,16 @@ module _ {D : Type 0} (R : Reader D) {V : Type 0} where
       Has (tree_tags (chosen (all_of alternatives) (pick v)).type.tree) t →
       ReadsBack R old new (chosen_meaning (all_of alternatives) (pick v)).records rest outer (λ w. eq w v ≡ true) result
 
-  -- A call that reads a SEQUENCE OF or a SET OF (26 and 28), by its head and its elements, under any name.
+  -- A call that reads a SEQUENCE OF or a SET OF (26 and 28), by its head and its elements, under
+  -- any name.
   abbrev pub ReadsElements : {W : Type 0} → (Name → Head) → Meaning V → (W → List V → Bool) → D → D → Result W DecodeError → Type 0
   ReadsElements head m eq old new result =
       (vs : List V) (n : Name) (rest : List Record) (outer : Outside) →
       IsWellTagged m → All m.IsOfType vs → All (m.IsValid R.accepts) vs →
       ReadsBack R old new (holding (head n) (flat_map (own_records m) vs) ∷ []) rest outer (λ w. eq w vs ≡ true) result
 
-  -- A call that reads the elements that are left in the innermost scope, of which there are at most this many.
+  -- A call that reads the elements that are left in the innermost scope, of which there are at most
+  -- this many.
   abbrev pub ReadsElementsLeft : {W : Type 0} → ℕ → Meaning V → (W → List V → Bool) → D → D → Result W DecodeError → Type 0
   ReadsElementsLeft bound m eq old new result =
       (vs : List V) (scope : Head × List Record) (outer : Outside) →
@@ -143,8 +147,8 @@ module _ {D : Type 0} (R : Reader D) {V : Type 0} where
       Advances R old new (highest (flat_map (own_records m) vs)) (flat_map (own_records m) vs, scope ∷ outer) ([], scope ∷ outer)
       (λ w. eq w vs ≡ true) result
 
-  -- A call that reads the components that are left in a SET, of which there are at most this many records, in any order: of each
-  -- value that is of its type and valid, this holds of its answer.
+  -- A call that reads the components that are left in a SET, of which there are at most this many
+  -- records, in any order: of each value that is of its type and valid, this holds of its answer.
   abbrev pub ReadsSetLeft : {W : Type 0} → ℕ → Components V → (V → W → Type 0) → D → D → Result W DecodeError → Type 0
   ReadsSetLeft bound components Is old new result =
       (v : V) (t : Tag) (n : Name) (items rest : List Record) (outer : Outside) →

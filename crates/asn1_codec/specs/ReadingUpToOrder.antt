@@ -1,4 +1,5 @@
--- What a codec says of itself where the order inside sets means nothing, by what it says of the very lists that are left.
+-- What a codec says of itself where the order inside sets means nothing, by what it says of the
+-- very lists that are left.
 use Rattle.asn1_codec.specs.Reading.{Remaining, Reader, SameRemaining}
 
 module _ {D : Type 0} (R : Reader D) where

@@ -9,8 +9,8 @@ use Rattle.asn1_model.specs.Records.{Name, Record, number, scalar}
 use Rattle.asn1_codec.specs.declared.decode_error.DecodeError.{DecodeError}
 use Rattle.asn1_codec.specs.declared.decode_error.DecodeError.TheVariants.{IncorrectItemNumber, OutOfRange}
 
--- Which records a type refuses under a tag and constraints, and by which error. The test is the codec's: which byte strings it
--- accepts as one value of an open type.
+-- Which records a type refuses under a tag and constraints, and by which error. The test is the
+-- codec's: which byte strings it accepts as one value of an open type.
 abbrev pub Refusals : Type 1
 Refusals = (List ℕ → Bool) → Tag → ConstraintSet → List Record → DecodeError → Type 0
 

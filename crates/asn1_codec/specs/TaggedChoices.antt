@@ -16,7 +16,8 @@ abbrev pub chosen_records : ConstraintSet → Name → (alternatives : Alternati
 chosen_records c n alternatives x =
     alternative_records (chosen_tag (all_of alternatives) x) c (table_of alternatives) n (chosen_meaning (all_of alternatives) x).records
 
--- A call that reads a CHOICE by its chosen alternative, after this tag, with these constraints and this name inside.
+-- A call that reads a CHOICE by its chosen alternative, after this tag, with these constraints and
+-- this name inside.
 abbrev pub ReadsAfterTag : {D V : Type 0} → Reader D → Tag → ConstraintSet → Name → (alternatives : Alternatives) →
     (V → OneOf (all_of alternatives)) → (V → V → Bool) → D → D → Result V DecodeError → Type 0
 ReadsAfterTag {V = V} R t c inner alternatives pick eq old new result =
@@ -25,7 +26,8 @@ ReadsAfterTag {V = V} R t c inner alternatives pick eq old new result =
     (chosen_meaning (all_of alternatives) (pick v)).IsOfType → (chosen_meaning (all_of alternatives) (pick v)).IsValid R.accepts →
     ReadsBack R old new (explicit_tag_records t n (chosen_records c inner alternatives (pick v))) rest outer (λ w. eq w v ≡ true) result
 
--- A call that writes the chosen alternative after this tag, under a name, with these constraints and this name inside.
+-- A call that writes the chosen alternative after this tag, under a name, with these constraints
+-- and this name inside.
 abbrev pub WritesAfterTag : {E A : Type 0} → Writer E → Tag → Name → ConstraintSet → Name → (alternatives : Alternatives) →
     OneOf (all_of alternatives) → E → E → Result A EncodeError → Type 0
 WritesAfterTag W t outer c inner alternatives x old new result =

@@ -7,8 +7,8 @@ use Rattle.asn1_model.specs.Tables.{Line, Table}
 use Rattle.asn1_codec.specs.declared.encode_error.EncodeError.{EncodeError}
 use Rattle.asn1_codec.specs.declared.encode_error.EncodeError.TheVariants.{Memory, Depth, Failed, Custom}
 
--- What has been written: the records of the outermost list, and of each scope and group that is open, innermost first. A group
--- has a table of its own.
+-- What has been written: the records of the outermost list, and of each scope and group that is
+-- open, innermost first. A group has a table of its own.
 pub data Written : Type 0 where
   outermost : List Record → Written
   in_scope : Head → List Record → Written → Written
@@ -34,8 +34,8 @@ IsCustom Depth = ⊥
 IsCustom Failed = ⊥
 IsCustom (Custom message) = ⊤
 
--- What an encoder says of itself: what it has written, whether it has failed, how many nested scopes may still be
--- opened (the depth left), and which records it rejects.
+-- What an encoder says of itself: what it has written, whether it has failed, how many nested
+-- scopes may still be opened (the depth left), and which records it rejects.
 pub record Writer (E : Type 0) : Type 1 where
   pub wrote : E → Written → Type 0
   pub failed : E → Bool
@@ -43,8 +43,8 @@ pub record Writer (E : Type 0) : Type 1 where
   pub rejects : List Record → Type 0
 
 module _ {E : Type 0} (W : Writer E) where
-  -- What these relations keep to. Records are rejected where a part of them is, or what one of them holds; presence marks
-  -- alone never are; and the order inside sets means nothing.
+  -- What these relations keep to. Records are rejected where a part of them is, or what one of them
+  -- holds; presence marks alone never are; and the order inside sets means nothing.
   pub record IsLawful : Type 0 where
     pub part : (before rs after : List Record) → W.rejects rs → W.rejects (before ++ (rs ++ after))
     pub inner : (h : Head) (rs : List Record) → W.rejects rs → W.rejects (holding h rs ∷ [])
@@ -52,8 +52,9 @@ module _ {E : Type 0} (W : Writer E) where
     pub wrote_in_any_order : (e : E) (w x : Written) → SameWritten w x → W.wrote e w → W.wrote e x
     pub rejects_in_any_order : (rs ss : List Record) → SameRecords rs ss → W.rejects rs → W.rejects ss
 
-  -- The records have been written, which are nested no deeper than the depth left, and the value that they are of meets its type's
-  -- invariant. Nothing else has changed; where the encoder has failed, there were no records to be written.
+  -- The records have been written, which are nested no deeper than the depth left, and the value
+  -- that they are of meets its type's invariant. Nothing else has changed; where the encoder has
+  -- failed, there were no records to be written.
   pub record Appends (old : E) (rs : List Record) (IsOfType : Type 0) (new : E) : Type 0 where
     pub written : (w : Written) → W.wrote old w → W.wrote new (followed_by w rs)
     pub no_failure : W.failed new ≡ W.failed old
@@ -67,7 +68,8 @@ module _ {E : Type 0} (W : Writer E) where
     pub has_failed : W.failed new ≡ true
     pub failed_before : (e ≡ Failed) ↔ (W.failed old ≡ true)
 
-  -- The records were not written: they are nested too deep or rejected, or memory ran out, or the encoder had failed before.
+  -- The records were not written: they are nested too deep or rejected, or memory ran out, or the
+  -- encoder had failed before.
   pub record Fails (old : E) (rs : List Record) (new : E) (e : EncodeError) : Type 0 where
     pub error : IsError old new e
     pub too_deep : e ≡ Depth → W.depth_left old < highest rs
@@ -84,16 +86,16 @@ module _ {E : Type 0} (W : Writer E) where
     pub no_failure : W.failed new ≡ false
     pub one_less : W.depth_left old ≡ suc (W.depth_left new)
 
-  -- It has not: no depth is left, or whatever the scope will hold is rejected, or memory ran out. Where there is no
-  -- depth left, this is the error, but of an encoder that had failed before.
+  -- It has not: no depth is left, or whatever the scope will hold is rejected, or memory ran out.
+  -- Where there is no depth left, this is the error, but of an encoder that had failed before.
   pub record ScopeIsNotOpen (old : E) (h : Head) (new : E) (e : EncodeError) : Type 0 where
     pub error : IsError old new e
     pub too_deep : e ≡ Depth → W.depth_left old ≡ 0
     pub depth_first : W.failed old ≡ false → W.depth_left old ≡ 0 → e ≡ Depth
     pub rejected : IsCustom e → (rs : List Record) → W.rejects (holding h rs ∷ [])
 
-  -- A call that opens a scope before anything else: where no depth is left it says so, and so before anything but that the
-  -- encoder has failed.
+  -- A call that opens a scope before anything else: where no depth is left it says so, and so
+  -- before anything but that the encoder has failed.
   abbrev pub NeedsDepth : {A : Type 0} → E → Result A EncodeError → Type 0
   NeedsDepth old result = W.failed old ≡ false → W.depth_left old ≡ 0 → result ≡ Err Depth
 

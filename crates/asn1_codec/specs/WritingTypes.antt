@@ -21,7 +21,8 @@ module _ {E : Type 0} (W : Writer E) where
       E → E → Result A EncodeError → Type 0
   WritesContent t c n content IsOfType old new result = Writes W old (scalar t c n content ∷ []) IsOfType new result
 
-  -- A call that writes the chosen alternative of a CHOICE (X.680, 29), by the tag with which it begins.
+  -- A call that writes the chosen alternative of a CHOICE (X.680, 29), by the tag with which it
+  -- begins.
   abbrev pub WritesAlternative : {A : Type 0} → ConstraintSet → Name → (alternatives : Alternatives) →
       OneOf (all_of alternatives) → E → E → Result A EncodeError → Type 0
   WritesAlternative c n alternatives x old new result =
@@ -37,13 +38,15 @@ module _ {E : Type 0} (W : Writer E) where
       Writes W old (chosen_meaning (all_of alternatives) x).records (chosen_meaning (all_of alternatives) x).IsOfType new result
 
 module _ {E : Type 0} (W : Writer E) {V : Type 0} where
-  -- A call that writes the components of a SEQUENCE or a SET (X.680, 25 and 27), under a tag and a name.
+  -- A call that writes the components of a SEQUENCE or a SET (X.680, 25 and 27), under a tag and a
+  -- name.
   abbrev pub WritesComponents : {A : Type 0} → Kind → Tag → Name → Components V → V → E → E → Result A EncodeError → Type 0
   WritesComponents kind t n components v old new result =
       Writes W old (holding (head_in kind t (lines components) n) (component_records components v) ∷ [])
       (EachIsOfType (all_components components) v) new result
 
-  -- A call that writes what a SEQUENCE, a SET or a group holds: its components, in the order of their definition.
+  -- A call that writes what a SEQUENCE, a SET or a group holds: its components, in the order of
+  -- their definition.
   abbrev pub WritesFields : {A : Type 0} → Components V → V → E → E → Result A EncodeError → Type 0
   WritesFields components v old new result =
       Writes W old (component_records components v) (EachIsOfType (all_components components) v) new result
@@ -63,14 +66,15 @@ module _ {E : Type 0} (W : Writer E) {V : Type 0} where
   abbrev pub WritesValue : {A : Type 0} → TaggedType V → V → E → E → Result A EncodeError → Type 0
   WritesValue type v old new result = Writes W old (type.records v) (type.IsOfType v) new result
 
-  -- A call that writes a component that may be absent, on this side of the extension marker (X.680, 25.1).
+  -- A call that writes a component that may be absent, on this side of the extension marker (X.680,
+  -- 25.1).
   abbrev pub WritesOptional : {A : Type 0} → Side → TaggedType V → Option V → E → E → Result A EncodeError → Type 0
   WritesOptional side type o old new result =
       Writes W old (option_records side type.tag (option_map type.records o)) (IfSome o type.IsOfType) new result
 
-  -- A call that writes a component with a default (X.680, 25.5), where each value that may be the default compares with the
-  -- value alike: it is absent where it equals the default. The codec does not see a default, so a success tells of another
-  -- value alone that it is of the type.
+  -- A call that writes a component with a default (X.680, 25.5), where each value that may be the
+  -- default compares with the value alike: it is absent where it equals the default. The codec does
+  -- not see a default, so a success tells of another value alone that it is of the type.
   abbrev pub WritesDefault : {A : Type 0} → TaggedType V → (V → Type 0) → (V → V → Bool) → V → E → E → Result A EncodeError → Type 0
   WritesDefault type IsDefault eq v old new result =
       (equal : Bool) → ((default_value : V) → IsDefault default_value → eq v default_value ≡ equal) →
