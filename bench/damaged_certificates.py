@@ -60,7 +60,7 @@ def program_answers(path):
 
 def tried_answers(folder):
     """The same for each file of a folder, by `rt try`."""
-    run = subprocess.run(["rt", "try", "--cases", folder], cwd=CRATE, capture_output=True)
+    run = subprocess.run(["rt", "try", "--cases", folder], cwd=CRATE, stdout=subprocess.PIPE, stderr=subprocess.STDOUT)
     text = run.stdout.decode(errors="replace")
     cases = re.findall(r"(?ms)^== (\S+)\n(.*?)^case=\S+ run=(\S+) status=(\S+)", text)
     return {
