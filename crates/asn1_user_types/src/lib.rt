@@ -11,8 +11,8 @@
 //!
 //! What the contracts promise:
 //!
-//! - Each type is written and read by any codec, and is well tagged (`price_is_well_tagged` and the like; for a [`Payment`],
-//!   `signed_payment_comes_back` rests on it).
+//! - Each type is written and read by any codec. Each but the CHOICE types is told to be well tagged (`price_is_well_tagged` and
+//!   the like); of a [`Payment`] it is what `signed_payment_comes_back` rests on, and of a [`Parcel`] a lemma (proofs/ParcelLaws).
 //! - A signed order or payment is read back as it was written, by any codec (`signed_order_comes_back`).
 //!
 //! So one name in `crates.txt` is enough for each kind of type. Only a clause that has the meaning of a CHOICE in it by its type, as
@@ -30,7 +30,7 @@ mod signed;
 
 pub use currency::{Currency, currency_is_well_tagged};
 pub use order::{Order, order_is_well_tagged};
-pub use parcel::{Parcel, parcel_is_well_tagged};
+pub use parcel::Parcel;
 pub use payment::Payment;
 pub use price::{Price, price_is_well_tagged};
 pub use signed::{
