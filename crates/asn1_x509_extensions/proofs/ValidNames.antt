@@ -32,9 +32,10 @@ name_valid accepts (Other other) = (λ valid. valid.1.0, λ taken. (tt, (taken, 
 name_valid accepts (Rfc822 mailbox) = (λ _. tt, λ _. tt)
 name_valid accepts (Dns host) = (λ _. tt, λ _. tt)
 name_valid accepts (X400 address) = (λ valid. valid, λ taken. taken)
-name_valid accepts (Directory (Rdns rdns)) =
-    (λ valid k rdn inside j attribute within. (valid k rdn inside j attribute within).1.0,
-    λ taken k rdn inside j attribute within. (tt, (taken k rdn inside j attribute within, tt)))
+name_valid accepts (Directory (Rdns rdns)) = (
+  λ valid k rdn inside j attribute within. (valid k rdn inside j attribute within).1.0,
+  λ taken k rdn inside j attribute within. (tt, (taken k rdn inside j attribute within, tt)),
+)
 name_valid accepts (EdiParty party) =
     (λ _. tt, λ _. (if_some _ (text_valid accepts) party.name_assigner, (text_valid accepts party.party_name, tt)))
 name_valid accepts (Uri uri) = (λ _. tt, λ _. tt)
@@ -46,14 +47,21 @@ some_names_valid : (accepts : List ℕ → Bool) (names : Option (Vec GeneralNam
     IfSome names (λ list. All (name_type.meaning.IsValid accepts) list.items) ↔
     IfSome names (λ list. All (GeneralNameIsTaken accepts) list.items)
 some_names_valid accepts None = (λ _. tt, λ _. tt)
-some_names_valid accepts (Some list) =
-    (λ valid k name inside. (name_valid accepts (slice_index_or list.items k name)).0 (valid k name inside),
-    λ taken k name inside. (name_valid accepts (slice_index_or list.items k name)).1 (taken k name inside))
+some_names_valid accepts (Some list) = (
+  λ valid k name inside. (name_valid accepts (slice_index_or list.items k name)).0 (valid k name inside),
+  λ taken k name inside. (name_valid accepts (slice_index_or list.items k name)).1 (taken k name inside),
+)
 
 -- and the key of an authority by these
 pub key_valid : (accepts : List ℕ → Bool) (key : AuthorityKeyIdentifier) → key_type.meaning.IsValid accepts key ↔
     IfSome key.authority_cert_issuer (λ names. All (GeneralNameIsTaken accepts) names.items)
-key_valid accepts key =
-    (λ valid. (some_names_valid accepts key.authority_cert_issuer).0 valid.1.0,
-    λ taken. (if_some _ (λ _. tt) key.key_identifier, ((some_names_valid accepts key.authority_cert_issuer).1 taken,
-    (if_some _ (λ _. tt) key.authority_cert_serial_number, tt))))
+key_valid accepts key = (
+  λ valid. (some_names_valid accepts key.authority_cert_issuer).0 valid.1.0,
+  λ taken. (
+    if_some _ (λ _. tt) key.key_identifier,
+    (
+      (some_names_valid accepts key.authority_cert_issuer).1 taken,
+      (if_some _ (λ _. tt) key.authority_cert_serial_number, tt),
+    ),
+  ),
+)
