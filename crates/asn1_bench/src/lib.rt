@@ -14,8 +14,8 @@
 //!
 //! - An output carries the records whose bytes it is, up to the order inside sets (`Carries` of `asn1_packed`). One value of an
 //!   open type is one item (`is_one_item` of `asn1_items`).
-//! - The records that are rejected are those with 2^32 bytes or more inside an item (`rejects` of [`laws`]). So a value that is
-//!   not written is too deep or too long, or memory was short.
+//! - The records that are rejected are those with 2^32 bytes or more inside an item (`rejects` of [`laws`]), which never have an
+//!   output (`what_is_too_long_has_no_output`). So a value that is not written is too deep or too long, or memory was short.
 //! - A reader finds the item with which an input begins, and reads that as a whole (`IsFrontOf` of `specs/Fronts.antt`). It is
 //!   steady (`steady` of [`laws`]) and, for each type that can be inside others, belongs to the rules (`belongs`): so values
 //!   that were written one after another come back in their order, however their bytes are cut.

@@ -13,6 +13,12 @@ use asn1_enc::{Encode, EncodeError};
 /// An output carries lists of records. What `write_value` gives carries the value's own records, and of an output that carries
 /// the own records of a valid value of a well-tagged type `read_value` makes an equal value. Well-formed records that a type refuses
 /// by an error of its own, `read_value` refuses by that error.
+///
+/// # Depth
+/// A type that holds itself takes room on the machine's stack for each nested scope, in writing and in reading, and the depth is
+/// the only bound on it. Of the recursive types that were measured, with each codec over bytes, a stack of 8 MiB holds 2,000
+/// nested scopes at least (`docs/PERFORMANCE.md` has the numbers of each type, also of dropping a value). For bytes that somebody
+/// else wrote, choose the depth that the protocol needs: 64 is more than most need.
 pub trait Rules {
     /// What a value becomes.
     type Output: Drop;
