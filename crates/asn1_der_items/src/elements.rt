@@ -5,7 +5,7 @@ ghost use Rattle.asn1_der_items.specs.Contents.{HasContents, HasNoContents};
 ghost use Rattle.asn1_der_items.specs.Series.{HoldsContents};
 ghost use Rattle.asn1_der_items.specs.declared.error.ElementError.TheVariants.{Memory};
 ghost use Rattle.asn1_items.specs.Contents.{content_of};
-ghost use Rattle.std.specs.Prelude.{◌≡◌, ◌≢◌, ◌++◌, IfErr, IfOk, IsOk, List, MatchResult, Some, ℕ, false, length};
+ghost use Rattle.std.specs.Prelude.{◌≡◌, ◌≢◌, ◌++◌, ◌≤◌, IfErr, IfOk, IsOk, List, MatchResult, Some, ℕ, drop, false, length, take};
 
 use crate::contents::append_contents;
 use crate::error::ElementError;
@@ -57,7 +57,7 @@ pub fn find_element(bytes: &[u8]) -> Result<Element<'_>, ItemError>
     })
 }
 
-/// Makes an element of the bytes from a place on, which become its contents octets. They are moved once.
+/// Makes an element of the bytes from a place on, which become its contents octets. They are moved twice.
 ///
 /// # Errors
 /// [`ElementError::Memory`], and [`ElementError::NotOpen`] where there are fewer bytes. After an error nothing is promised about
@@ -80,8 +80,19 @@ pub fn wrap(
     let size = bytes.len() - start;
     append_identifier(bytes, tag, constructed)?;
     append_length(bytes, size)?;
-    bytes[start..].rotate_left(size);
+    change_places(&mut bytes[start..], size);
     Ok(())
+}
+
+/// Lets the first bytes, this many, and the bytes behind them change places: each part is turned round, and then the whole. So no room
+/// is needed beside them, as `rotate_left` needs it.
+fn change_places(bytes: &mut [u8], size: usize)
+    requires { size ≤ length bytes.now }
+    ensures after { bytes.new ≡ drop size bytes.old ++ take size bytes.old }
+{
+    bytes[..size].reverse();
+    bytes[size..].reverse();
+    bytes.reverse();
 }
 
 /// Appends an element of a content: its tag, the length, and the contents octets.

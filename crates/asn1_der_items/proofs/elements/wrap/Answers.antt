@@ -14,4 +14,4 @@ returns c = λ before contents is at.
     let same : lent ≡ xs = c.deref_mut.ensures.value in
     let long : c.append_length.new.bytes.len ≡ length lent = search (rules, same) in
     wrapped c.args.tag c.args.constructed before contents old _ xs _ _ size i l
-    (rotated lent xs before contents (i.added ++ l.added) c.rotate_left.new.self _ c.args.start _ long (same ∙ whole) at size c.rotate_left.ensures.after)
+    (rotated lent xs before contents (i.added ++ l.added) c.change_places.new.bytes _ c.args.start _ long (same ∙ whole) at size c.change_places.ensures.after)
