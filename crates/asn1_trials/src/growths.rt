@@ -8,6 +8,7 @@ use asn1_sample_tests::samples::each_sample_passes;
 use asn1_streams::{Pieces, read_pieces, write_list};
 use std::alloc::Global;
 use std::io;
+use std::slice;
 
 /// How many nested scopes are opened.
 const DEPTH: usize = 4;
@@ -53,7 +54,7 @@ fn print_answer(rt: &impl Print, answer: Result<(), Failure>) -> io::Result<()> 
 impl<R: Rules<Output = Vec<u8>>> ValueCase for Whole<'_, R> {
     fn try_value<T: Encode + Decode>(&self, value: T) -> Result<(), Failure> {
         comes_back(self.rules, &value)?;
-        match write_list(self.alloc, self.rules, &[value], DEPTH) {
+        match write_list(self.alloc, self.rules, slice::from_ref(&value), DEPTH) {
             Ok(_) => Ok(()),
             Err(error) => Err(Failure::of_writing(error)),
         }
