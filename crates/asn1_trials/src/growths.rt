@@ -8,7 +8,6 @@ use asn1_sample_tests::samples::each_sample_passes;
 use asn1_streams::{Pieces, read_pieces, write_list};
 use std::alloc::Global;
 use std::io;
-use std::slice;
 
 /// How many nested scopes are opened.
 const DEPTH: usize = 4;
@@ -54,7 +53,8 @@ fn print_answer(rt: &impl Print, answer: Result<(), Failure>) -> io::Result<()> 
 impl<R: Rules<Output = Vec<u8>>> ValueCase for Whole<'_, R> {
     fn try_value<T: Encode + Decode>(&self, value: T) -> Result<(), Failure> {
         comes_back(self.rules, &value)?;
-        match write_list(self.alloc, self.rules, slice::from_ref(&value), DEPTH) {
+        let values = list_of_one(self.alloc, value)?;
+        match write_list(self.alloc, self.rules, &values, DEPTH) {
             Ok(_) => Ok(()),
             Err(error) => Err(Failure::of_writing(error)),
         }
@@ -63,11 +63,15 @@ impl<R: Rules<Output = Vec<u8>>> ValueCase for Whole<'_, R> {
 
 impl ValueCase for InPieces {
     fn try_value<T: Encode + Decode>(&self, value: T) -> Result<(), Failure> {
-        let mut values = Vec::new(self.alloc);
-        match values.push(value) {
-            Ok(()) => come_out_of_pieces(self.alloc, &values),
-            Err(_) => Err(Failure::Memory),
-        }
+        come_out_of_pieces(self.alloc, &list_of_one(self.alloc, value)?)
+    }
+}
+
+fn list_of_one<T>(alloc: Global, value: T) -> Result<Vec<T>, Failure> {
+    let mut values = Vec::new(alloc);
+    match values.push(value) {
+        Ok(()) => Ok(values),
+        Err(_) => Err(Failure::Memory),
     }
 }
 

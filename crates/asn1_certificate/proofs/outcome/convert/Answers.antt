@@ -7,14 +7,22 @@ pub returns-in-Ok-clause-report : goal.returns-in-Ok-clause-report
 returns-in-Ok-clause-report g c = λ asked.
     let shown = c.in-Ok.ensures.report asked in
     on_ok_weaker c.write_bytes.result
-      (λ written. (shown.0, (c.in-Ok.bytes.items, (shown.1,
-        subst (Appends (g.W.Write.contents c.args.writer.now) (g.W.Write.contents c.write_bytes.new.writer)) c.as_slice.ensures.value written))))
-      c.write_bytes.ensures
+    (λ written. (
+      shown.0,
+      c.in-Ok.bytes.items,
+      shown.1,
+      subst (Appends (g.W.Write.contents c.args.writer.now) (g.W.Write.contents c.write_bytes.new.writer)) c.as_slice.ensures.value written,
+    ))
+    c.write_bytes.ensures
 
 pub returns-in-Ok-clause-der : goal.returns-in-Ok-clause-der
 returns-in-Ok-clause-der g c = λ asked.
     let shown = c.in-Ok.ensures.der asked in
     on_ok_weaker c.write_bytes.result
-      (λ written. (shown.0, (c.in-Ok.bytes.items, (shown.1,
-        subst (Appends (g.W.Write.contents c.args.writer.now) (g.W.Write.contents c.write_bytes.new.writer)) c.as_slice.ensures.value written))))
-      c.write_bytes.ensures
+    (λ written. (
+      shown.0,
+      c.in-Ok.bytes.items,
+      shown.1,
+      subst (Appends (g.W.Write.contents c.args.writer.now) (g.W.Write.contents c.write_bytes.new.writer)) c.as_slice.ensures.value written,
+    ))
+    c.write_bytes.ensures
