@@ -67,7 +67,7 @@ impl ValueCase for InPieces {
     }
 }
 
-fn list_of_one<T>(alloc: Global, value: T) -> Result<Vec<T>, Failure> {
+fn list_of_one<T: Encode + Decode>(alloc: Global, value: T) -> Result<Vec<T>, Failure> {
     let mut values = Vec::new(alloc);
     match values.push(value) {
         Ok(()) => Ok(values),
