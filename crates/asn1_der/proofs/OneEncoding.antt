@@ -19,10 +19,10 @@ use Rattle.asn1_der_items.proofs.OneElement.{alone, is_one, one_of_tag, some_byt
 use Rattle.asn1_der.proofs.OneElement.{mark_bytes, no_first, no_later, record_is_one, scope_is_one}
 
 -- the contents octets are octets where the element is
-contents_below : (t : Tag) (constructed : Bool) (contents own : List ℕ) → IsElement t constructed contents own → AllBelowBase 256 own → AllBelowBase 256 contents
+pub contents_below : (t : Tag) (constructed : Bool) (contents own : List ℕ) → IsElement t constructed contents own → AllBelowBase 256 own → AllBelowBase 256 contents
 contents_below t constructed contents own e below = below_later 256 e.size contents (below_later 256 e.identifier (e.size ++ contents) (subst (AllBelowBase 256) e.are below))
 
-same_contents : (t : Tag) (constructed : Bool) (own other first second : List ℕ) → IsElement t constructed first own → IsElement t constructed second other → first ≡ second → own ≡ other
+pub same_contents : (t : Tag) (constructed : Bool) (own other first second : List ℕ) → IsElement t constructed first own → IsElement t constructed second other → first ≡ second → own ≡ other
 same_contents t constructed own other first second a b same = one_element t constructed second own other (subst (λ l. IsElement t constructed l own) same a) b
 
 -- what has one encoding in octets

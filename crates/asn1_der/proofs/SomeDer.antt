@@ -1,17 +1,15 @@
 -- Each record in range has DER or has none, in some order inside sets.
-use Rattle.std.proofs.Common.{◌≡◌, ℕ, ◌≤◌, ◌<◌, ◌^◌, Bool, true, false, List, [], ◌++◌, length, Ordering, refl, sym, ap, subst, ◌∙◌, inl, inr}
+use Rattle.std.proofs.Common.{◌≡◌, ℕ, ◌≤◌, ◌<◌, ◌^◌, Bool, true, false, List, [], ◌++◌, length, refl, sym, subst, ◌∙◌, inl, inr}
 use Rattle.std.proofs.lemmas.Bool.{cases_lt, true≢false}
-use Rattle.std.specs.Cmp.Lexicographic.{nat_list_cmp_total, slice_cmp}
-use Rattle.std.specs.Cmp.{IsTotalOrder}
+use Rattle.std.specs.Cmp.Lexicographic.{slice_cmp}
 use Rattle.std.specs.Int.Digits.{AllBelowBase}
-use Rattle.std.specs.Ordering.{is_lt, nat_cmp, ordering_reverse}
+use Rattle.std.specs.Ordering.{is_lt, nat_cmp}
 use Rattle.std.specs.Prelude.{◌⊎◌, ◌&&◌, IsPermutation}
-use Rattle.std.specs.declared.cmp.Ordering.TheVariants.{Less, Equal, Greater}
+use Rattle.asn1_model.proofs.Lists.{held-listed}
 use Rattle.asn1_model.specs.Orders.{SameAll, at_end, equal, in_any_order, in_place, is_unordered, next}
 use Rattle.asn1_model.specs.ConstraintSets.{ConstraintSet}
 use Rattle.asn1_model.specs.Records.{Content, Head, Name, Record, Records, scalar, scope, open_type, presence_mark, none, more, held, listed, listed-held, sequence, set, sequence_of, set_of, explicit_tag, alternative}
 use Rattle.asn1_model.specs.Tags.{head_tag}
-use Rattle.asn1_tags.specs.OrderLaws.{tag_total}
 use Rattle.asn1_tags.specs.Tags.{tag_cmp, tag_eq}
 use Rattle.asn1_tags.specs.declared.tags.Tag.{Tag}
 use Rattle.asn1_der.specs.Bytes.{HasDer, HasNoDer, HaveDer, IsTooLong, SomeHasNoDer}
@@ -19,6 +17,7 @@ use Rattle.asn1_der.specs.Existence.{EachIsInRange, HasDerOrNone, IsInRange}
 use Rattle.asn1_der_items.specs.Contents.{HasContents, HasNoContents}
 use Rattle.asn1_der_items.specs.Series.{AreElements, HasOctets, HoldsContents, RiseByEncoding, RiseByTag, is_one_element, tag_of}
 use Rattle.asn1_der_items.proofs.SomeEncoding.{below_both, some_contents, some_element}
+use Rattle.asn1_der.proofs.SetOrders.{encodings_rank, tags_rank}
 use Rattle.asn1_der.proofs.SomeOrder.{Reordered, reordered}
 
 -- an element of some contents, or too many of them
@@ -31,30 +30,18 @@ element_or_none t constructed AreContents contents fits are below = by (cases_lt
         let e = some_element t constructed contents fits short below in
         inl (record { octets = e.octets; are = record { contents = contents; are = are; element = e.are }; are_octets = e.are_octets })
 
--- an order by which no two are each less than the other
-one_way : {K : Type 0} (R : K → K → Ordering) → IsTotalOrder R → (x y : K) → is_lt (R x y) ≡ true → is_lt (R y x) ≡ false
-one_way R o x y less = ap is_lt (o.antisymm y x) ∙ by (R x y) less
-  where
-    by : (r : Ordering) → is_lt r ≡ true → is_lt (ordering_reverse r) ≡ false
-    by Less e = refl
-    by Equal e = cc
-    by Greater e = cc
-
+-- the orders of a SET and of a SET OF
 by_tag : (x y : List ℕ) → is_lt (tag_cmp (tag_of x) (tag_of y)) ≡ true → is_lt (tag_cmp (tag_of y) (tag_of x)) ≡ false
-by_tag x y = one_way tag_cmp tag_total (tag_of x) (tag_of y)
+by_tag = tags_rank.one_way
 
 by_encoding : (x y : List ℕ) → is_lt (slice_cmp nat_cmp x y) ≡ true → is_lt (slice_cmp nat_cmp y x) ≡ false
-by_encoding = one_way (slice_cmp nat_cmp) nat_list_cmp_total
+by_encoding = encodings_rank.one_way
 
 -- What records have, in some order inside sets.
 record HaveDerOrNone (rs : Records) : Type 0 where
   pub ordered : Records
   pub same : SameAll rs ordered
   pub either : HasOctets (HaveDer ordered) ⊎ SomeHasNoDer ordered
-
-held-listed : (rs : Records) → held (listed rs) ≡ rs
-held-listed none = refl
-held-listed (more r rs) = ap (λ l. more r l) (held-listed rs)
 
 -- what is inside in its order
 defined : (h : Head) (rs ordered : Records) (inside : List ℕ) → (head_tag h).value < 2 ^ 32 → SameAll rs ordered → HaveDer ordered inside → AllBelowBase 256 inside →

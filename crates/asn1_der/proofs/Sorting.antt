@@ -1,7 +1,9 @@
 -- Each list has a rearrangement in which no element is less than the one before it.
-use Rattle.std.proofs.Common.{◌≡◌, zero, suc, ◌+◌, Bool, true, false, List, [], ◌∷◌, get_or, refl, ap, ◌∙◌, arith}
+use Rattle.std.proofs.Common.{◌≡◌, ℕ, zero, suc, ◌+◌, ◌<◌, Bool, true, false, List, [], ◌∷◌, get_or, refl, sym, ap, ◌∙◌, arith}
 use Rattle.std.proofs.lemmas.List.Sorted.{IsPermutation-cons, IsPermutation-middle, IsPermutation-refl, IsPermutation-trans}
-use Rattle.std.specs.Prelude.{⊤, IsPermutation, IsSortedBy, map}
+use Rattle.std.specs.Prelude.{⊤, IsPermutation, IsSortedBy, map, if◌then◌else◌}
+use Rattle.std.specs.Bool.{Decides}
+use Rattle.std.specs.Cmp.{IsStrictWeakOrder}
 
 module _ {X : Type 0} (lt : X → X → Bool) where
   -- No element is less than the one before it.
@@ -19,7 +21,7 @@ module _ {X : Type 0} (lt : X → X → Bool) where
   rises_cons x [] first rises = tt
   rises_cons x (y ∷ ys) first rises = (first, rises)
 
-  rises_tail : (x : X) (xs : List X) → Rises (x ∷ xs) → Rises xs
+  pub rises_tail : (x : X) (xs : List X) → Rises (x ∷ xs) → Rises xs
   rises_tail x [] rises = tt
   rises_tail x (y ∷ ys) rises = rises.1
 
@@ -70,8 +72,67 @@ module _ {X : Type 0} (lt : X → X → Bool) where
       let next : suc k + 1 ≡ suc (k + 1) = omega arith in
       ap (λ i. lt (get_or (x ∷ y ∷ ys) i d) (get_or (y ∷ ys) k d)) next ∙ sorted_by (y ∷ ys) rises.1 k d (omega arith) (omega arith)
 
+  -- and back
+  pub rises_from : (xs : List X) → IsSortedBy lt xs → Rises xs
+  rises_from [] ordered = tt
+  rises_from (x ∷ []) ordered = tt
+  rises_from (x ∷ y ∷ ys) ordered = (
+    ordered 0 x (omega arith) (omega arith),
+    rises_from (y ∷ ys) (λ k d low within.
+        let next : suc k + 1 ≡ suc (k + 1) = omega arith in
+        ap (λ i. lt (get_or (x ∷ y ∷ ys) (suc i) d) (get_or (y ∷ ys) k d)) (omega arith) ∙ ap (λ i. lt (get_or (x ∷ y ∷ ys) i d) (get_or (y ∷ ys) k d)) (sym next) ∙ ordered (suc k) d (omega arith) (omega arith)),
+  )
+
 -- the same of what the elements are mapped to
 pub rises_map : {X Y : Type 0} (lt : Y → Y → Bool) (f : X → Y) (xs : List X) → Rises (λ x y. lt (f x) (f y)) xs → Rises lt (map f xs)
 rises_map lt f [] rises = tt
 rises_map lt f (x ∷ []) rises = tt
 rises_map lt f (x ∷ y ∷ ys) rises = (rises.0, rises_map lt f (y ∷ ys) rises.1)
+
+-- how often it is among the elements
+abbrev pub one_if : Bool → ℕ
+one_if b = if b then 1 else 0
+
+abbrev pub count : {X : Type 0} → (X → X → Bool) → X → List X → ℕ
+count eq e [] = 0
+count eq e (x ∷ xs) = one_if (eq x e) + count eq e xs
+
+-- Lists that rise and have the same elements are the same, where elements of which neither is less are.
+module _ {X : Type 0} (lt eq : X → X → Bool) where
+  module _ (decides : (x y : X) → Decides (eq x y) (x ≡ y)) (order : IsStrictWeakOrder lt) where
+    own : (x : X) (xs : List X) → 0 < count eq x (x ∷ xs)
+    own x xs = let is : one_if (eq x x) ≡ 1 = ap one_if ((decides x x).1 refl) in omega arith
+
+    later : (e x : X) (xs : List X) → 0 < count eq e xs → 0 < count eq e (x ∷ xs)
+    later e x xs some = omega arith
+
+    not_less : (x : X) → lt x x ≡ false
+    not_less x = by (lt x x) refl
+      where
+        by : (b : Bool) → lt x x ≡ b → lt x x ≡ false
+        by false e = e
+        by true e = order.one_way x x e
+
+    -- No element is less than the first.
+    first_least : (e x : X) (xs : List X) → Rises lt (x ∷ xs) → 0 < count eq e (x ∷ xs) → lt e x ≡ false
+    first_least e x [] rises some = by (eq x e) refl some
+      where
+        by : (b : Bool) → eq x e ≡ b → 0 < one_if b + 0 → lt e x ≡ false
+        by true is some = ap (λ w. lt w x) (sym ((decides x e).0 is)) ∙ not_less x
+        by false is some = absurd (omega arith)
+    first_least e x (y ∷ ys) rises some = by (eq x e) refl some (first_least e y ys rises.1)
+      where
+        by : (b : Bool) → eq x e ≡ b → 0 < one_if b + count eq e (y ∷ ys) → (0 < count eq e (y ∷ ys) → lt e y ≡ false) → lt e x ≡ false
+        by true is some rest = ap (λ w. lt w x) (sym ((decides x e).0 is)) ∙ not_less x
+        by false is some rest = order.chain e y x (rest (omega (arith, some))) rises.0
+
+    pub one_order : (xs ys : List X) → Rises lt xs → Rises lt ys → ((x y : X) → 0 < count eq x xs → 0 < count eq y xs → lt x y ≡ false → lt y x ≡ false → x ≡ y) → ((e : X) → count eq e xs ≡ count eq e ys) → xs ≡ ys
+    one_order [] [] rises_x rises_y ties same = refl
+    one_order [] (y ∷ ys) rises_x rises_y ties same = absurd (omega (arith, own y ys, same y))
+    one_order (x ∷ xs) [] rises_x rises_y ties same = absurd (omega (arith, own x xs, same x))
+    one_order (x ∷ xs) (y ∷ ys) rises_x rises_y ties same =
+        let among_x : 0 < count eq y (x ∷ xs) = omega (arith, own y ys, same y) in
+        let among_y : 0 < count eq x (y ∷ ys) = omega (arith, own x xs, same x) in
+        let first : x ≡ y = ties x y (own x xs) among_x (first_least x y ys rises_y among_y) (first_least y x xs rises_x among_x) in
+        let rest = one_order xs ys (rises_tail lt x xs rises_x) (rises_tail lt y ys rises_y) (λ a b p q. ties a b (later a x xs p) (later b x xs q)) (λ e. omega (arith, same e, ap (λ w. one_if (eq w e)) first)) in
+        ap (λ w. w ∷ xs) first ∙ ap (λ l. y ∷ l) rest

@@ -1,9 +1,11 @@
 //! Laws of what no other contract names: definitions, and what derives give.
 ghost use Rattle.asn1_der.specs.Bytes.{HasDer, HasNoDer, HaveDer};
+ghost use Rattle.asn1_der.specs.DistinctTags.{HasDistinctSets};
 ghost use Rattle.asn1_der.specs.Existence.{HasDerOrNone, IsInRange};
 ghost use Rattle.asn1_der.specs.OneElement.{IsElementOfRecord};
 ghost use Rattle.asn1_der_items.specs.Series.{IsElementOf};
 ghost use Rattle.asn1_model.specs.ConstraintSets.{ConstraintSet};
+ghost use Rattle.asn1_model.specs.Orders.{Same};
 ghost use Rattle.asn1_model.specs.Records.{Name, PresenceMark, Record, alternative, held, holding, is_presence_mark, presence_mark};
 ghost use Rattle.asn1_model.specs.Tables.{Line, Table};
 ghost use Rattle.asn1_tags.specs.Derives.{ClonesAll, ComparesAll};
@@ -48,6 +50,14 @@ pub fn no_record_has_both()
 pub fn der_is_unique()
     ensures { (r : Record) (own other : List ℕ) → AllBelowBase 256 own → AllBelowBase 256 other →
         HasDer r own → HasDer r other → own ≡ other }
+{}
+
+/// A law of encodings: records that are the same up to the order inside sets have one, where the components of each SET
+/// have distinct tags.
+pub fn der_is_canonical()
+    ensures { (r s : Record) → Same r s → HasDistinctSets r → (own other : List ℕ) →
+        AllBelowBase 256 own → AllBelowBase 256 other → HasDer r own → HasDer s other →
+        own ≡ other }
 {}
 
 /// A law of the derives: two forms are equal if and only if they are the same, and clones are their sources.

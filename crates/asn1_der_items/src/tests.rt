@@ -237,7 +237,7 @@ fn assert_string(rt: &impl Abort, alloc: Global, tag: Tag, string: AnyStr<'_>, b
     assert_primitive(rt, alloc, tag, Content::String(string), bytes);
 }
 
-// openssl asn1parse -genstr OCT:abc, UTF8:a, NUMERIC:12, T61:Jones and FORMAT:UTF8,BMP:aé
+// openssl asn1parse -genstr OCT:abc, UTF8:a, NUMERIC:12, TELETEXSTRING:Jones and FORMAT:UTF8,BMP:aé
 #[test]
 fn strings_are_those_of_openssl(rt: HostRuntime) {
     let alloc = rt.alloc();

@@ -1,0 +1,31 @@
+-- The components of each SET in a record have distinct tags (X.680, 27.3).
+use Rattle.std.specs.Prelude.{⊤}
+use Rattle.asn1_model.specs.Records.{Head, Record, Records, scalar, scope, open_type, presence_mark, none, more, set}
+use Rattle.asn1_model.specs.Tags.{ShareNone, record_tags}
+
+-- The record begins with no tag with which one of these can begin.
+abbrev pub SharesNoTag : Record → Records → Type 0
+SharesNoTag r none = ⊤
+SharesNoTag r (more s rs) = ShareNone (record_tags r) (record_tags s) × SharesNoTag r rs
+
+-- No two of the records can begin with one tag.
+abbrev pub HaveDistinctTags : Records → Type 0
+HaveDistinctTags none = ⊤
+HaveDistinctTags (more r rs) = SharesNoTag r rs × HaveDistinctTags rs
+
+-- What a SET holds has distinct tags.
+abbrev pub AreDistinctIn : Head → Records → Type 0
+AreDistinctIn (set t table n) rs = HaveDistinctTags rs
+AreDistinctIn _ rs = ⊤
+
+-- So it is in each SET, at every depth.
+abbrev mutual
+  pub HasDistinctSets : Record → Type 0
+  HasDistinctSets (scalar t c n x) = ⊤
+  HasDistinctSets (scope h rs) = AreDistinctIn h rs × HaveDistinctSets rs
+  HasDistinctSets (open_type n own) = ⊤
+  HasDistinctSets (presence_mark m) = ⊤
+
+  pub HaveDistinctSets : Records → Type 0
+  HaveDistinctSets none = ⊤
+  HaveDistinctSets (more r rs) = HasDistinctSets r × HaveDistinctSets rs
