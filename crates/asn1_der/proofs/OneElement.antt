@@ -2,13 +2,16 @@
 use Rattle.std.proofs.Common.{◌≡◌, ℕ, true, false, List, [], ◌∷◌, ◌++◌, refl, sym, ap, ◌∙◌, arith}
 use Rattle.asn1_tags.specs.declared.tags.Tag.{Tag}
 use Rattle.asn1_model.specs.Records.{Record, scalar, scope, open_type, presence_mark, is_presence_mark}
-use Rattle.asn1_model.specs.Tags.{Has, head_tag, only}
+use Rattle.asn1_model.proofs.TagSets.{only_has}
+use Rattle.asn1_model.specs.Tags.{Has, head_tag, only, record_tags}
 use Rattle.asn1_der.specs.declared.form.ScopeForm.{ScopeForm}
 use Rattle.asn1_der.specs.declared.form.ScopeForm.TheVariants.{AsDefined, ByTag, ByEncoding, Chosen}
 use Rattle.asn1_der.specs.Bytes.{HasDer, HaveDer, HoldsInForm, form_of}
-use Rattle.asn1_der.specs.OneElement.{IsElementOfRecord}
-use Rattle.asn1_der_items.specs.Series.{IsElementOf, is_one_element, tag_of}
-use Rattle.asn1_der_items.proofs.OneElement.{element_of_tag, is_one, tag_is}
+use Rattle.asn1_der.specs.OneElement.{IsConstructed, IsElementOfRecord, IsFoundBefore}
+use Rattle.asn1_der_items.specs.Elements.{IsElement}
+use Rattle.asn1_der_items.specs.Series.{IsElementOf, is_one_element, tag_found, tag_of}
+use Rattle.asn1_der_items.proofs.Found.{element-found}
+use Rattle.asn1_der_items.proofs.OneElement.{IsFound, element_of_tag, found, found_behind, is_one, tag_is}
 
 pub scope_is_one : (f : ScopeForm) (t : Tag) (IsInside : List ℕ → Type 0) (bytes : List ℕ) → HoldsInForm f t IsInside bytes → IsElementOf t bytes
 scope_is_one AsDefined t IsInside bytes d = element_of_tag t true d.contents bytes d.element
@@ -45,3 +48,24 @@ no_first (x ∷ xs) ys e = cc
 pub no_later : (xs ys : List ℕ) → xs ++ ys ≡ [] → ys ≡ []
 no_later [] ys e = e
 no_later (x ∷ xs) ys e = cc
+
+-- It is found whatever follows.
+found_in_front : (t : Tag) (r : Record) (constructed : Bool) (contents own back : List ℕ) → IsElement t constructed contents own → Has (record_tags r) t → IsConstructed r constructed → IsFoundBefore r back (own ++ back)
+found_in_front t r constructed contents own back e tag form = record { element = _; at = element-found t constructed contents own back e; tag = tag; constructed = form; left = refl }
+
+found_one : (r : Record) (own back : List ℕ) → is_one_element own ≡ true → Has (record_tags r) (tag_of own) → ((constructed : Bool) → IsConstructed r constructed) → IsFoundBefore r back (own ++ back)
+found_one r own back one tag form = by (found own one)
+  where
+    by : IsFound own → IsFoundBefore r back (own ++ back)
+    by f = record { element = _; at = found_behind own back f; tag = subst (Has (record_tags r)) (ap tag_found f.at) tag; constructed = form f.element.constructed; left = refl }
+
+pub record_found : (r : Record) (own back : List ℕ) → is_presence_mark r ≡ false → HasDer r own → IsFoundBefore r back (own ++ back)
+record_found (scalar t c n x) own back no_mark d = found_in_front t (scalar t c n x) false d.contents own back d.element (only_has t) refl
+record_found (scope (sequence t table n) rs) own back no_mark d = found_in_front t (scope (sequence t table n) rs) true d.contents own back d.element (only_has t) refl
+record_found (scope (set t table n) rs) own back no_mark d = found_in_front t (scope (set t table n) rs) true d.contents own back d.element (only_has t) refl
+record_found (scope (sequence_of t c n) rs) own back no_mark d = found_in_front t (scope (sequence_of t c n) rs) true d.contents own back d.element (only_has t) refl
+record_found (scope (set_of t c n) rs) own back no_mark d = found_in_front t (scope (set_of t c n) rs) true d.contents own back d.element (only_has t) refl
+record_found (scope (explicit_tag t n) rs) own back no_mark d = found_in_front t (scope (explicit_tag t n) rs) true d.contents own back d.element (only_has t) refl
+record_found (scope (alternative t c table n) rs) own back no_mark d = found_one (scope (alternative t c table n) rs) own back (is_one t own d.1) (of_own_tag t own d.1) (λ constructed. tt)
+record_found (open_type n bytes) own back no_mark d = found_one (open_type n bytes) own back (ap is_one_element d.0 ∙ d.1) tt (λ constructed. tt)
+record_found (presence_mark m) own back no_mark d = cc

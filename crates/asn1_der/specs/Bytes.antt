@@ -1,10 +1,9 @@
 -- The DER of records (X.690): an element for each, and what is inside.
 use Rattle.std.specs.Prelude.{◌≡◌, ◌⊎◌, ℕ, ◌≤◌, ◌^◌, false, true, IsTrue, List, [], length}
-use Rattle.std.specs.Int.Digits.{AllBelowBase}
 use Rattle.asn1_der.specs.declared.form.ScopeForm.{ScopeForm}
 use Rattle.asn1_der.specs.declared.form.ScopeForm.TheVariants.{AsDefined, ByTag, ByEncoding, Chosen}
 use Rattle.asn1_der_items.specs.Contents.{HasContents, HasNoContents}
-use Rattle.asn1_der_items.specs.Series.{AreElements, HoldsContents, IsElementOf, RiseByEncoding, RiseByTag, is_one_element}
+use Rattle.asn1_der_items.specs.Series.{AreBytes, AreElements, HoldsContents, IsElementOf, RiseByEncoding, RiseByTag, is_one_element}
 use Rattle.asn1_items.specs.Items.{IsJoined}
 use Rattle.asn1_model.specs.Records.{Head, Record, Records, scalar, scope, open_type, presence_mark, none, more, sequence, set, sequence_of, set_of, explicit_tag, alternative}
 use Rattle.asn1_model.specs.Tags.{head_tag}
@@ -51,7 +50,7 @@ pub record IsNotChosen (t : Tag) (IsInside : List ℕ → Type 0) : Type 0 where
 pub record IsTooLong (IsInside : List ℕ → Type 0) : Type 0 where
   pub inside : List ℕ
   pub are : IsInside inside
-  pub are_octets : AllBelowBase 256 inside
+  pub are_octets : AreBytes inside
   pub long : 2 ^ 64 ≤ length inside
 
 abbrev pub CannotHold : ScopeForm → Tag → (List ℕ → Type 0) → Type 0

@@ -1,9 +1,8 @@
 -- Which records have DER, and which have none.
 use Rattle.std.specs.Prelude.{◌⊎◌, ◌<◌, ◌^◌, ⊤}
-use Rattle.std.specs.Int.Digits.{AllBelowBase}
 use Rattle.asn1_der.specs.Bytes.{HasDer, HasNoDer}
 use Rattle.asn1_der_items.specs.Contents.{IsContentInRange}
-use Rattle.asn1_der_items.specs.Series.{HasOctets}
+use Rattle.asn1_der_items.specs.Series.{AreBytes, HasOctets}
 use Rattle.asn1_model.specs.Orders.{Same}
 use Rattle.asn1_model.specs.Records.{Record, Records, scalar, scope, open_type, presence_mark, none, more}
 use Rattle.asn1_model.specs.Tags.{head_tag}
@@ -14,7 +13,7 @@ abbrev mutual
   pub IsInRange : Record → Type 0
   IsInRange (scalar t c n x) = (t.value < 2 ^ 32) × IsContentInRange x
   IsInRange (scope h rs) = ((head_tag h).value < 2 ^ 32) × EachIsInRange rs
-  IsInRange (open_type n own) = AllBelowBase 256 own
+  IsInRange (open_type n own) = AreBytes own
   IsInRange (presence_mark m) = ⊤
 
   pub EachIsInRange : Records → Type 0

@@ -2,16 +2,15 @@
 ghost use Rattle.asn1_der.specs.Bytes.{HasDer, HasNoDer, HaveDer};
 ghost use Rattle.asn1_der.specs.DistinctTags.{HasDistinctSets};
 ghost use Rattle.asn1_der.specs.Existence.{HasDerOrNone, IsInRange};
-ghost use Rattle.asn1_der.specs.OneElement.{IsElementOfRecord};
-ghost use Rattle.asn1_der_items.specs.Series.{IsElementOf};
+ghost use Rattle.asn1_der.specs.OneElement.{IsElementOfRecord, IsFoundBefore};
+ghost use Rattle.asn1_der_items.specs.Series.{AreBytes, IsElementOf};
 ghost use Rattle.asn1_model.specs.ConstraintSets.{ConstraintSet};
 ghost use Rattle.asn1_model.specs.Orders.{Same};
 ghost use Rattle.asn1_model.specs.Records.{Name, PresenceMark, Record, alternative, held, holding, is_presence_mark, presence_mark};
 ghost use Rattle.asn1_model.specs.Tables.{Line, Table};
 ghost use Rattle.asn1_tags.specs.Derives.{ClonesAll, ComparesAll};
 ghost use Rattle.asn1_tags.specs.declared.tags.Tag.{Tag};
-ghost use Rattle.std.specs.Prelude.{◌≡◌, ◌↔◌, ◌∷◌, List, ℕ, false};
-ghost use Rattle.std.specs.Int.Digits.{AllBelowBase};
+ghost use Rattle.std.specs.Prelude.{◌≡◌, ◌↔◌, ◌∷◌, ◌++◌, List, ℕ, false};
 
 use crate::form::ScopeForm;
 
@@ -34,6 +33,12 @@ pub fn a_record_is_one_element()
         IsElementOfRecord r bytes }
 {}
 
+/// A law of elements: in front of whatever bytes, a record that is no presence mark is found as its element, and these are left.
+pub fn more_bytes_change_nothing()
+    ensures { (r : Record) (own back : List ℕ) → is_presence_mark r ≡ false → HasDer r own →
+        IsFoundBefore r back (own ++ back) }
+{}
+
 /// A law of what there is: each record, in some order inside sets, has DER or has none, where its numbers are within
 /// the types that hold them.
 pub fn a_record_has_der_or_none()
@@ -42,13 +47,13 @@ pub fn a_record_has_der_or_none()
 
 /// A law of what there is: no record has DER and has none.
 pub fn no_record_has_both()
-    ensures { (r : Record) (bytes : List ℕ) → AllBelowBase 256 bytes →
+    ensures { (r : Record) (bytes : List ℕ) → AreBytes bytes →
         HasDer r bytes → ¬ HasNoDer r }
 {}
 
 /// A law of encodings: a record, in one order inside sets, has one.
 pub fn der_is_unique()
-    ensures { (r : Record) (own other : List ℕ) → AllBelowBase 256 own → AllBelowBase 256 other →
+    ensures { (r : Record) (own other : List ℕ) → AreBytes own → AreBytes other →
         HasDer r own → HasDer r other → own ≡ other }
 {}
 
@@ -56,7 +61,7 @@ pub fn der_is_unique()
 /// have distinct tags.
 pub fn der_is_canonical()
     ensures { (r s : Record) → Same r s → HasDistinctSets r → (own other : List ℕ) →
-        AllBelowBase 256 own → AllBelowBase 256 other → HasDer r own → HasDer s other →
+        AreBytes own → AreBytes other → HasDer r own → HasDer s other →
         own ≡ other }
 {}
 

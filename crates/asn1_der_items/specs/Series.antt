@@ -56,8 +56,12 @@ RiseByTag elements = IsSortedByKey tag_of tag_cmp elements
 abbrev pub RiseByEncoding : List (List ℕ) → Type 0
 RiseByEncoding elements = IsSorted (slice_cmp nat_cmp) elements
 
+-- Each number is a byte.
+abbrev pub AreBytes : List ℕ → Type 0
+AreBytes bytes = AllBelowBase 256 bytes
+
 -- Octets of which this holds.
 pub record HasOctets (Are : List ℕ → Type 0) : Type 0 where
   pub octets : List ℕ
   pub are : Are octets
-  pub are_octets : AllBelowBase 256 octets
+  pub are_octets : AreBytes octets
