@@ -1,2 +1,1 @@
-mod FilledSlots
 mod KeptSlots

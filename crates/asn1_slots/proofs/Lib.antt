@@ -1,3 +1,4 @@
+pub mod FilledSlots
 mod NamedErrors
 mod ReadByPlace
 mod ReadChoices

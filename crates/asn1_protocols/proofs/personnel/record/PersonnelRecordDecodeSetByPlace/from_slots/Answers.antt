@@ -1,5 +1,5 @@
 use Rattle.std.proofs.lemmas.Result.{err_from_is_err_and}
-use Rattle.asn1_protocols.proofs.FilledSlots.{both, empty_holds_nothing, filled_holds, is_later, is_this}
+use Rattle.asn1_slots.proofs.FilledSlots.{both, empty_holds_nothing, filled_holds, is_later, is_this}
 use Rattle.asn1_protocols.proofs.personnel.record.PersonnelRecordDecodeSetByPlace.from_slots.Goals as goal
 
 pub returns-in_err-filled-2-clause-made : goal.returns-in_err-filled-2-clause-made
