@@ -3,7 +3,7 @@ pub mod ConstraintKind
 pub mod Admitted
 pub mod Lending
 pub mod Sets
-pub mod Tables
+pub mod ConstraintTables
 -- of the crate below: what is said of a bound
 pub use Rattle.asn1_ranges.specs.Compared
 pub use Rattle.asn1_ranges.specs.Count

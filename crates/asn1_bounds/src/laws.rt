@@ -12,7 +12,7 @@ ghost use Rattle.asn1_bounds.specs.Admitted.{numbers, HasNarrowEnds};
 ghost use Rattle.asn1_bounds.specs.ConstraintKind.{kind_of};
 ghost use Rattle.asn1_bounds.specs.InnerSubtype.{refusal_of, no_memory};
 ghost use Rattle.asn1_bounds.specs.Sets.{fixed, set_of, no_constraints};
-ghost use Rattle.asn1_bounds.specs.Tables.{owned};
+ghost use Rattle.asn1_bounds.specs.ConstraintTables.{owned};
 ghost use Rattle.asn1_bounds.specs.declared.alphabet.PermittedAlphabet.{PermittedAlphabet};
 ghost use Rattle.asn1_bounds.specs.declared.constraint.Constraint.{Constraint};
 ghost use Rattle.asn1_bounds.specs.declared.constraint.Constraint.TheVariants as constraint;

@@ -32,7 +32,7 @@ struct AlphabetTable<'a> {
 }
 
 impl<'a> ConstraintTable<'a> {
-    ghost use Rattle.asn1_bounds.specs.Tables.{owned};
+    ghost use Rattle.asn1_bounds.specs.ConstraintTables.{owned};
 
     /// No constraints: every value is admitted.
     pub const NONE: ConstraintTable<'static> = ConstraintTable {
@@ -127,7 +127,7 @@ impl<'a> ConstraintTable<'a> {
 
 impl From<Value> for ConstraintTable<'_> {
     ghost use Rattle.asn1_bounds.specs.Sets.{no_constraints};
-    ghost use Rattle.asn1_bounds.specs.Tables.{owned};
+    ghost use Rattle.asn1_bounds.specs.ConstraintTables.{owned};
 
     ghost from_gives = { λ kind table. owned table ≡ record no_constraints {
       value =
@@ -141,7 +141,7 @@ impl From<Value> for ConstraintTable<'_> {
 
 impl From<Size> for ConstraintTable<'_> {
     ghost use Rattle.asn1_bounds.specs.Sets.{no_constraints};
-    ghost use Rattle.asn1_bounds.specs.Tables.{owned};
+    ghost use Rattle.asn1_bounds.specs.ConstraintTables.{owned};
 
     ghost from_gives = { λ kind table. owned table ≡ record no_constraints {
       size =

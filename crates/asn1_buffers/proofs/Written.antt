@@ -16,7 +16,7 @@ use Rattle.asn1_model.proofs.SameUpToOrder.{Same-trans, same_holding}
 use Rattle.asn1_model.specs.Composites.{group_records}
 use Rattle.asn1_model.specs.Orders.{Same, SameRecords, at_end, in_place, next}
 use Rattle.asn1_model.specs.Records.{Content, Head, Record, bits, height, holding, units}
-use Rattle.asn1_model.specs.Tables.{Line, Table}
+use Rattle.asn1_model.specs.RecordTables.{Line, Table}
 use Rattle.asn1_rules.specs.Rules.{IsNotWritten}
 use Rattle.asn1_types.specs.AnyStrings.{content_of_str}
 use Rattle.asn1_types.specs.declared.any_string.AnyStr.{AnyStr}
@@ -47,7 +47,7 @@ module _ {B : Type 0} (F : BufferForm B) where
       new.open_scopes ≡ old.open_scopes → new.depth_left ≡ old.depth_left → old.failed ≡ false → new.failed ≡ false → Appends (in_one_order F) old (r ∷ []) ⊤ new
   appended old new r flat written scopes depth_left was now = record {
     written = λ w wrote. (written w wrote.0, scopes ∙ (wrote.1 ∙ sym (scopes_in-followed w (r ∷ []))));
-    no_failure = now ∙ sym was;
+    failed_as_before = now ∙ sym was;
     unless_failed = λ failed. absurd (not_both old.failed was failed);
     same_depth = depth_left;
     within_depth_left = omega (arith, flat);
@@ -142,7 +142,7 @@ module _ {B : Type 0} (F : BufferForm B) where
   pub known : (old : BufferEncoder B) (rs : List Record) (T : Type 0) (new : BufferEncoder B) {A : Type 0} (result : Result A EncodeError) → Writes (buffer_writer F) old rs ⊤ new result → T → Writes (buffer_writer F) old rs T new result
   known old rs T new (Ok x) wrote fact = record {
     written = wrote.written;
-    no_failure = wrote.no_failure;
+    failed_as_before = wrote.failed_as_before;
     unless_failed = wrote.unless_failed;
     same_depth = wrote.same_depth;
     within_depth_left = wrote.within_depth_left;

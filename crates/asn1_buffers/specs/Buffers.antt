@@ -6,7 +6,7 @@ use Rattle.asn1_codec.specs.Writing.{Written, followed_by, in_group, in_scope}
 use Rattle.asn1_model.specs.Composites.{group_records}
 use Rattle.asn1_model.specs.Orders.{Same}
 use Rattle.asn1_model.specs.Records.{Head, Record, holding}
-use Rattle.asn1_model.specs.Tables.{Line, Table}
+use Rattle.asn1_model.specs.RecordTables.{Line, Table}
 
 -- What a buffer says of itself: what has been written in it, in the very order of the records; which records it does not take;
 -- and which bytes are those of records.

@@ -4,7 +4,7 @@ use Rattle.asn1_buffers.specs.declared.kinds.MarkKind.TheVariants.{Present, Abse
 use Rattle.asn1_buffers.specs.declared.kinds.ScopeKind.{ScopeKind}
 use Rattle.asn1_buffers.specs.declared.kinds.ScopeKind.TheVariants.{Sequence, Set, SequenceOf, SetOf, ExplicitTag, Alternative}
 use Rattle.asn1_model.specs.Records.{Content, Head, PresenceMark, present, absent, group_start, group_absent, group_end, sequence, set, sequence_of, set_of, explicit_tag, alternative, null, boolean, number, discriminant, arcs, bits, units}
-use Rattle.asn1_model.specs.Tables.{no_table}
+use Rattle.asn1_model.specs.RecordTables.{no_table}
 
 -- the kind of a presence mark
 abbrev pub kind_of_mark : PresenceMark → MarkKind

@@ -9,7 +9,7 @@ ghost use Rattle.asn1_items.specs.Contents.{content_of};
 ghost use Rattle.asn1_model.specs.ConstraintSets.{ConstraintSet};
 ghost use Rattle.asn1_model.specs.Records as model;
 ghost use Rattle.asn1_model.specs.Records.{Head, Name, PresenceMark, Record, open_type, presence_mark, scalar};
-ghost use Rattle.asn1_model.specs.Tables.{Line, Table};
+ghost use Rattle.asn1_model.specs.RecordTables.{Line, Table};
 ghost use Rattle.asn1_model.specs.Tags.{head_tag};
 ghost use Rattle.std.specs.Prelude.{◌≡◌, [], List};
 

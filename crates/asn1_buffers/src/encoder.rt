@@ -38,7 +38,7 @@ impl<B: RecordBuffer> BufferEncoder<B> {
     ghost use Rattle.asn1_model.specs.ConstraintSets.{ConstraintSet};
     ghost use Rattle.asn1_model.specs.Records as model;
     ghost use Rattle.asn1_model.specs.Records.{Name, presence_mark, open_type, scalar};
-    ghost use Rattle.asn1_model.specs.Tables.{Line, Table};
+    ghost use Rattle.asn1_model.specs.RecordTables.{Line, Table};
     ghost use Rattle.asn1_model.specs.Tags.{head_tag};
     ghost use Rattle.std.specs.Prelude.{◌≡◌, ◌≢◌, ◌∷◌, [], ⊤, List, false, true};
 

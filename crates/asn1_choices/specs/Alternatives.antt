@@ -8,7 +8,7 @@ use Rattle.asn1_tags.specs.Trees.{Trees, none, more, is_open, leaves_of}
 use Rattle.asn1_model.specs.ConstraintSets.{ConstraintSet, unconstrained}
 use Rattle.asn1_model.specs.WellFormed.{AreWellFormed}
 use Rattle.asn1_model.specs.Records.{Record}
-use Rattle.asn1_model.specs.Tables.{Line, Table}
+use Rattle.asn1_model.specs.RecordTables.{Line, Table}
 use Rattle.asn1_model.specs.TaggedTypes.{TaggedType}
 
 -- An alternative is a named type (X.680, 29.1): a name, and a type under a tag.

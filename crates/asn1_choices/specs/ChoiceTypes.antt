@@ -6,7 +6,7 @@ use Rattle.asn1_tags.specs.Trees.{Trees, choice, none}
 use Rattle.asn1_model.specs.ConstraintSets.{ConstraintSet, unconstrained}
 use Rattle.asn1_model.specs.WellFormed.{well_formed_choice}
 use Rattle.asn1_model.specs.Records.{Name}
-use Rattle.asn1_model.specs.Tables.{Line, Table, no_table}
+use Rattle.asn1_model.specs.RecordTables.{Line, Table, no_table}
 use Rattle.asn1_model.specs.Tags.{CHOICE, Has, first_tag, tree_tags}
 use Rattle.asn1_model.specs.Composites.{choice_records}
 use Rattle.asn1_model.specs.Meaning.{Meaning}

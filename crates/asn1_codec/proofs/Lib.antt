@@ -9,7 +9,7 @@ pub mod ReadingConstructed
 pub mod ReadingDefaults
 pub mod ReadingElements
 pub mod ReadingGroups
-pub mod ReadingHolders
+pub mod ReadingBoxes
 pub mod ReadingOnce
 pub mod ReadingOptionals
 pub mod ReadingParts

@@ -3,7 +3,7 @@ use Rattle.std.proofs.Common.{◌≡◌, Bool, true, false, if◌then◌else◌,
 use Rattle.asn1_choices.specs.Alternatives.{Alternatives, OneOf, all_of}
 use Rattle.asn1_choices.specs.ChoiceTypes.{AgreesWithChoice}
 use Rattle.asn1_codec.specs.Reading.{Reader, ReadsBack, ReadsValue}
-use Rattle.asn1_codec.specs.ReadingTypes.{ReadsAlternative}
+use Rattle.asn1_codec.specs.ReadingTypes.{ReadsChoice}
 use Rattle.asn1_codec.specs.TaggedChoices.{ReadsAfterTag, chosen_records}
 use Rattle.asn1_codec.specs.declared.decode_error.DecodeError.{DecodeError}
 use Rattle.asn1_model.specs.Composites.{explicit_tag_records}
@@ -23,7 +23,7 @@ module _ {D V : Type 0} (R : Reader D) (m : Meaning V) (alts : Alternatives) (pi
 
   -- what reads the alternative reads a value of the type, where that is written under no tag
   pub as_untagged : (t : Tag) (c : ConstraintSet) (old new : D) (result : Result V DecodeError) → AgreesWithChoice alts pick m → tag_eq t CHOICE ≡ true →
-      ReadsAlternative R c alts pick eq old new result → ReadsValue R m eq t c old new result
+      ReadsChoice R c alts pick eq old new result → ReadsValue R m eq t c old new result
   as_untagged t c old new result law untagged reads v n rest outer tagged of_type valid follow =
       let both = (law.distinct_tags t).0 tagged in
       subst (λ rs. ReadsBack R old new rs rest outer (λ w. eq w v ≡ true) result) (sym (of_tag law v t c n untagged))

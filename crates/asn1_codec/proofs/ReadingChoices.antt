@@ -8,7 +8,7 @@ use Rattle.asn1_choices.specs.ChosenTags.{TellsAlternative, chosen_has_own, chos
 use Rattle.asn1_codec.proofs.ReadingAlternatives.{as_tagged, as_untagged}
 use Rattle.asn1_codec.proofs.ReadingSteps.{fails_inside, flat_failure, not_opened, to_end, within_scope}
 use Rattle.asn1_codec.specs.Reading.{Remaining, KeepsDepth, AfterReading, MayFail, HasAdvanced, Outside, Reader, ReadsBack, ReadsValue}
-use Rattle.asn1_codec.specs.ReadingTypes.{ReadsChosen, ReadsHeadOfChoice}
+use Rattle.asn1_codec.specs.ReadingTypes.{ReadsAlternative, ReadsHeadOfChoice}
 use Rattle.asn1_codec.specs.declared.decode_error.DecodeError.{DecodeError}
 use Rattle.asn1_codec.specs.declared.decode_error.DecodeError.TheVariants.{Failed}
 use Rattle.asn1_model.specs.Composites.{alternative_records}
@@ -61,7 +61,7 @@ module _ {D V : Type 0} (R : Reader D) {m : Meaning V} {alts : Alternatives} {pi
 
   -- the chosen alternative was not read
   pub alternative_not_read : (c : ConstraintSet) (old mid end new : D) (tag : Tag) {e : DecodeError} → ReadsHeadOfChoice R c alts old mid (Ok tag) → R.depth_left old ≡ suc (R.depth_left mid) →
-      ReadsChosen R tag alts pick eq mid end (Err e) → ReadsValue R m eq CHOICE c old new (Err e)
+      ReadsAlternative R tag alts pick eq mid end (Err e) → ReadsValue R m eq CHOICE c old new (Err e)
   alternative_not_read c old mid end new tag {e} opens less reads =
       as_untagged R m alts pick eq CHOICE c old new (Err e) law refl (λ v n rest outer distinct can of_type valid at.
       let s = opens (first v) distinct can n (held v) rest outer at in
@@ -70,7 +70,7 @@ module _ {D V : Type 0} (R : Reader D) {m : Meaning V} {alts : Alternatives} {pi
 
   -- the CHOICE was not closed
   pub choice_not_closed : (c : ConstraintSet) (old mid end new : D) (tag : Tag) {w : V} {e : DecodeError} → ReadsHeadOfChoice R c alts old mid (Ok tag) →
-      ReadsChosen R tag alts pick eq mid end (Ok w) → EndNotRead end e → ReadsValue R m eq CHOICE c old new (Err e)
+      ReadsAlternative R tag alts pick eq mid end (Ok w) → EndNotRead end e → ReadsValue R m eq CHOICE c old new (Err e)
   choice_not_closed c old mid end new tag {w} {e} opens reads closes =
       as_untagged R m alts pick eq CHOICE c old new (Err e) law refl (λ v n rest outer distinct can of_type valid at.
       let s = opens (first v) distinct can n (held v) rest outer at in
@@ -79,7 +79,7 @@ module _ {D V : Type 0} (R : Reader D) {m : Meaning V} {alts : Alternatives} {pi
 
   -- the CHOICE was read
   pub choice_read : (c : ConstraintSet) (old mid end new : D) (tag : Tag) {w : V} → ReadsHeadOfChoice R c alts old mid (Ok tag) → R.depth_left old ≡ suc (R.depth_left mid) →
-      ReadsChosen R tag alts pick eq mid end (Ok w) → EndRead end new → ReadsValue R m eq CHOICE c old new (Ok w)
+      ReadsAlternative R tag alts pick eq mid end (Ok w) → EndRead end new → ReadsValue R m eq CHOICE c old new (Ok w)
   choice_read c old mid end new tag {w} opens less reads closes =
       as_untagged R m alts pick eq CHOICE c old new (Ok w) law refl (λ v n rest outer distinct can of_type valid at.
       let s = opens (first v) distinct can n (held v) rest outer at in
@@ -150,7 +150,7 @@ module _ {D V W : Type 0} (R : Reader D) (alts : Alternatives) (pick : V → One
   -- it was not read
   pub chosen_not_read : (old new : D) {e : DecodeError} →
       ((w : W) (rest : List Record) (outer : Outside) → (said w).IsOfType → (said w).IsValid R.accepts → R.remains old ((said w).records ++ rest, outer) → MayFail (R.depth_left old) (highest (said w).records) e) →
-      ReadsChosen R tag alts pick eq old new (Err e)
+      ReadsAlternative R tag alts pick eq old new (Err e)
   chosen_not_read old new {e} fails v rest outer distinct can of_type valid has at =
       let o = only v has in
       let is = same v o in
@@ -160,7 +160,7 @@ module _ {D V W : Type 0} (R : Reader D) (alts : Alternatives) (pick : V → One
   -- it was read
   pub chosen_read : (old new : D) (v : V) →
       ((w : W) (rest : List Record) (outer : Outside) → (said w).IsOfType → (said w).IsValid R.accepts → R.remains old ((said w).records ++ rest, outer) → HasAdvanced R old new (highest (said w).records) (rest, outer) (eq v (embed w) ≡ true)) →
-      ReadsChosen R tag alts pick eq old new (Ok v)
+      ReadsAlternative R tag alts pick eq old new (Ok v)
   chosen_read old new v reads u rest outer distinct can of_type valid has at =
       let o = only u has in
       let is = same u o in
@@ -175,7 +175,7 @@ module _ {D V W : Type 0} (R : Reader D) (alts : Alternatives) (pick : V → One
 pub leaves_kept : {D V : Type 0} (R : Reader D) (m : Meaning V) (t : Tag) (c : ConstraintSet) (old new : D) (result : Result V DecodeError) → KeepsDepth R old new result → AfterReading R m t c old new result
 leaves_kept R m t c old new (Ok v) keeps = record {
   same_depth = keeps.same_depth;
-  no_failure = keeps.no_failure ∙ sym (not_failed (R.failed old) keeps.failed_before);
+  failed_as_before = keeps.no_failure ∙ sym (not_failed (R.failed old) keeps.failed_before);
   after_error = inl tt;
   failed_before = λ _. keeps.failed_before;
 }
@@ -185,7 +185,7 @@ leaves_kept R m t c old new (Ok v) keeps = record {
     not_failed true failed_before = let wrong = failed_before refl in cc
 leaves_kept R m t c old new (Err e) keeps = record {
   same_depth = tt;
-  no_failure = tt;
+  failed_as_before = tt;
   after_error = inl keeps.has_failed;
   failed_before = λ _. keeps.failed_before;
 }

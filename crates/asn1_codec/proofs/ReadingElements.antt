@@ -30,8 +30,8 @@ highest-flat_map : {V : Type 0} (own : V → List Record) (xs ys : List V) → h
 highest-flat_map own xs ys = ap highest (flat_map-append own xs ys) ∙ highest-append (flat_map own xs) (flat_map own ys)
 
 -- no element is nested deeper than all of them
-pub no_higher : {V : Type 0} (own : V → List Record) (done todo : List V) (next : V) (vs : List V) → vs ≡ done ++ next ∷ todo → highest (own next) ≤ highest (flat_map own vs)
-no_higher own done todo next vs split =
+pub no_deeper : {V : Type 0} (own : V → List Record) (done todo : List V) (next : V) (vs : List V) → vs ≡ done ++ next ∷ todo → highest (own next) ≤ highest (flat_map own vs)
+no_deeper own done todo next vs split =
     omega (arith, ap (λ l. highest (flat_map own l)) split, highest-flat_map own done (next ∷ todo), highest-append (own next) (flat_map own todo))
 
 one_more : (b : Bool) (n : ℕ) → b ≡ false → (if b then n else suc n) ≡ suc n

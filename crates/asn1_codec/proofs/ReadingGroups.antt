@@ -8,7 +8,7 @@ use Rattle.asn1_fields.specs.declared.presence.FieldPresence.TheVariants.{Option
 use Rattle.asn1_model.specs.Composites.{group_records}
 use Rattle.asn1_model.specs.Records.{Record, presence_mark, group_start, group_absent, group_end, presence_marks_alone, highest}
 use Rattle.asn1_model.specs.Tags.{Tags, BeginsWithin, LiesIn, ShareNone, tree_tags, first_tags}
-use Rattle.asn1_model.specs.Tables.{Line, Table}
+use Rattle.asn1_model.specs.RecordTables.{Line, Table}
 use Rattle.asn1_model.proofs.FirstTags.{alone_append, begins_before, first_stays}
 use Rattle.asn1_codec.specs.declared.decode_error.DecodeError.{DecodeError}
 use Rattle.asn1_codec.specs.Reading.{Reader, MayFail, TellsPresence, Outside}

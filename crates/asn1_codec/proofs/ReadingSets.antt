@@ -81,7 +81,7 @@ module _ {D V P : Type 0} (R : Reader D) (cs : List (ComponentType V)) (v : V) (
     pub counted : (k : ℕ) → parts_at index_of k parts + items_at k todo ≡ length (written_of cs v k)
     pub few : records_in (records todo) + place ≤ bound
     pub low : height ≤ max (R.depth_left d) (highest (records todo))
-    pub no_higher : highest (records todo) ≤ height
+    pub no_deeper : highest (records todo) ≤ height
     pub at : R.remains d (records todo, outer)
 
   -- The same, where the component of this index comes.
@@ -94,7 +94,7 @@ module _ {D V P : Type 0} (R : Reader D) (cs : List (ComponentType V)) (v : V) (
     pub counted : (k : ℕ) → parts_at index_of k parts + (cond (index == k) 1 0 + items_at k todo) ≡ length (written_of cs v k)
     pub few : suc (records_in (records todo)) + place ≤ bound
     pub low : height ≤ max (R.depth_left d) (max (highest (written_of cs v index)) (highest (records todo)))
-    pub no_higher : max (highest (written_of cs v index)) (highest (records todo)) ≤ height
+    pub no_deeper : max (highest (written_of cs v index)) (highest (records todo)) ≤ height
     pub at : R.remains d (written_of cs v index ++ records todo, outer)
 
   -- The same, where the component comes that can begin with the tag.
@@ -122,7 +122,7 @@ module _ {D V P : Type 0} (R : Reader D) (cs : List (ComponentType V)) (v : V) (
         counted = λ k. let all = items_at-permutation k made.order (items_from 0 cs v) made.rearranged ∙ as_many_as_written cs 0 k k v (omega arith) in omega (arith, all);
         few = omega (arith, few, ap records_in made.is);
         low = omega (arith, high);
-        no_higher = omega (arith, high);
+        no_deeper = omega (arith, high);
         at = subst (λ l. R.remains d (l, outer)) made.is at;
       }
 
@@ -144,7 +144,7 @@ module _ {D V P : Type 0} (R : Reader D) (cs : List (ComponentType V)) (v : V) (
         counted = λ k. omega (arith, m.counted k, f.counts k);
         few = omega (arith, m.few, f.as_many);
         low = omega (arith, m.low, f.as_high, kept);
-        no_higher = omega (arith, m.no_higher, f.as_high);
+        no_deeper = omega (arith, m.no_deeper, f.as_high);
         at = subst (λ l. R.remains e (l, outer)) f.passed at;
       }
 
@@ -161,8 +161,8 @@ module _ {D V P : Type 0} (R : Reader D) (cs : List (ComponentType V)) (v : V) (
   comes_first {d} {parts} {height} {outer} {place} {bound} t can m begins u has tells =
       elim m.todo as (λ todo. BeginsWithRecord todo → Has (first_tags (records todo)) u → TellsComponent cs (first_tags (records todo)) t → All (IsAll cs v) todo → ((k : ℕ) → parts_at index_of k parts + items_at k todo ≡ length (written_of cs v k)) →
       records_in (records todo) + place ≤ bound → height ≤ max (R.depth_left d) (highest (records todo)) → highest (records todo) ≤ height → R.remains d (records todo, outer) → AnotherComes d parts height outer place bound t) [
-        | [] ↦ λ begins has tells are counted few low no_higher at. absurd (none_has u has)
-        | j ∷ js ↦ λ no_mark has tells are counted few low no_higher at.
+        | [] ↦ λ begins has tells are counted few low no_deeper at. absurd (none_has u has)
+        | j ∷ js ↦ λ no_mark has tells are counted few low no_deeper at.
             let is : written_of cs v j.0 ≡ j.1 ∷ [] = All-head (IsAll cs v) j js are no_mark in
             record {
               index = j.0;
@@ -176,12 +176,12 @@ module _ {D V P : Type 0} (R : Reader D) (cs : List (ComponentType V)) (v : V) (
                 counted = λ k. let own = ap {B = ℕ} (λ b. cond (if b then false else (j.0 == k)) 1 0) no_mark in omega (arith, counted k, own);
                 few = let one : records_in (records (j ∷ js)) ≡ suc (records_in (records js)) = ap (λ b. if b then records_in (records js) else suc (records_in (records js))) no_mark in omega (arith, few, one);
                 low = omega (arith, low, ap highest is);
-                no_higher = omega (arith, no_higher, ap highest is);
+                no_deeper = omega (arith, no_deeper, ap highest is);
                 at = subst (λ l. R.remains d (l ++ records js, outer)) (sym is) at;
               };
             }
       ]
-      begins has tells m.are m.counted m.few m.low m.no_higher m.at
+      begins has tells m.are m.counted m.few m.low m.no_deeper m.at
 
   pub comes : {d : D} {parts : List P} {height : ℕ} {outer : Outside} {place bound : ℕ} (e : D) (t : Tag) → EachIsWellTagged cs → (m : PartsRead d parts height outer place bound) →
       Advances R d e 0 (records m.todo, outer) (marks_passed (records m.todo), outer) (IsNextTag cs (records m.todo)) (Ok (Some t)) → R.depth_left e ≡ R.depth_left d → AnotherComes e parts height outer place bound t
@@ -245,6 +245,6 @@ module _ {D V P : Type 0} (R : Reader D) (cs : List (ComponentType V)) (v : V) (
     counted = λ k. omega (arith, parts_at-push index_of k parts p, a.counted k, ap {B = ℕ} (λ j. cond (j == k) 1 0) own);
     few = omega (arith, a.few);
     low = omega (arith, a.low, low, kept);
-    no_higher = omega (arith, a.no_higher);
+    no_deeper = omega (arith, a.no_deeper);
     at = at;
   }

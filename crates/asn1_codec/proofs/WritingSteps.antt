@@ -4,7 +4,7 @@ use Rattle.std.proofs.Common.{◌≡◌, Bool, true, false, ◌&&◌, List, [], 
 use Rattle.std.specs.Result.{IsErrAnd}
 use Rattle.asn1_model.specs.Composites.{group_records}
 use Rattle.asn1_model.specs.Records.{Record, Head, scalar, scope, open_type, presence_mark, group_start, group_absent, group_end, holding, height, highest, is_presence_mark, presence_marks_alone}
-use Rattle.asn1_model.specs.Tables.{Line, Table}
+use Rattle.asn1_model.specs.RecordTables.{Line, Table}
 use Rattle.asn1_codec.specs.declared.encode_error.EncodeError.{EncodeError}
 use Rattle.asn1_codec.specs.declared.encode_error.EncodeError.TheVariants.{Memory, Depth, Failed}
 use Rattle.asn1_codec.specs.Writing.{Writer, Written, outermost, in_scope, in_group, followed_by, IsCustom, IsLawful, Appends, IsError, Fails, Writes, ScopeIsOpen, ScopeIsNotOpen, ClosesScope, GroupIsOpen, GroupIsNotOpen, ClosesGroup, IsOutOfMemory}
@@ -69,7 +69,7 @@ module _ {E : Type 0} (W : Writer E) where
   pub appends_none : {T : Type 0} (a : E) → T → Appends W a [] T a
   appends_none a h = record {
     written = λ w wrote. subst (λ w. W.wrote a w) (followed_by_none w) wrote;
-    no_failure = refl;
+    failed_as_before = refl;
     unless_failed = λ _. refl;
     same_depth = refl;
     within_depth_left = zero-le;
@@ -80,8 +80,8 @@ module _ {E : Type 0} (W : Writer E) where
   pub append_both : {a b c : E} {rs ss : List Record} {T U X : Type 0} → (T → U → X) → Appends W a rs T b → Appends W b ss U c → Appends W a (rs ++ ss) X c
   append_both {a} {b} {c} {rs} {ss} f p q = record {
     written = λ w wrote. subst (λ w. W.wrote c w) (followed_twice w rs ss) (q.written (followed_by w rs) (p.written w wrote));
-    no_failure = q.no_failure ∙ p.no_failure;
-    unless_failed = λ failed. ap (λ l. l ++ ss) (p.unless_failed failed) ∙ q.unless_failed (p.no_failure ∙ failed);
+    failed_as_before = q.failed_as_before ∙ p.failed_as_before;
+    unless_failed = λ failed. ap (λ l. l ++ ss) (p.unless_failed failed) ∙ q.unless_failed (p.failed_as_before ∙ failed);
     same_depth = q.same_depth ∙ p.same_depth;
     within_depth_left = omega (arith, highest-append rs ss, p.within_depth_left, q.within_depth_left, p.same_depth);
     of_type = f p.of_type q.of_type;
@@ -90,7 +90,7 @@ module _ {E : Type 0} (W : Writer E) where
   -- a part that fails, and the whole
   pub fails_later : {a b c : E} {rs ss : List Record} {T : Type 0} {e : EncodeError} → IsLawful W → Appends W a rs T b → Fails W b ss c e → Fails W a (rs ++ ss) c e
   fails_later {rs = rs} {ss} law p q = record {
-    error = later_error p.no_failure q.error;
+    error = later_error p.failed_as_before q.error;
     too_deep = λ is. let high = q.too_deep is in omega (arith, highest-append rs ss, high, p.same_depth);
     rejected = λ is w wrote. subst W.rejects (ap (λ l. rs ++ l) (append-nil ss)) (law.part rs ss [] (q.rejected is _ (p.written w wrote)));
   }
@@ -141,14 +141,14 @@ module _ {E : Type 0} (W : Writer E) where
       ScopeIsOpen W a h b → Appends W b rs T c → ClosesScope W c d result → Writes W a (holding h rs ∷ []) T d result
   writes_scope {h = h} {rs} d (Ok x) p q r = record {
     written = λ w wrote. r.closed h rs w (q.written (in_scope h [] w) (p.opened w wrote));
-    no_failure = r.no_failure ∙ sym p.had_not_failed;
+    failed_as_before = r.no_failure ∙ sym p.had_not_failed;
     unless_failed = λ failed. absurd (let x : false ≡ true = sym p.had_not_failed ∙ failed in cc);
     same_depth = omega (arith, p.one_less, q.same_depth, r.one_more);
     within_depth_left = omega (arith, highest-holding h rs, p.one_less, q.within_depth_left);
     of_type = q.of_type;
   }
   writes_scope {h = h} {rs} d (Err e) p q r = record {
-    error = later_error (q.no_failure ∙ p.no_failure ∙ sym p.had_not_failed) r.error;
+    error = later_error (q.failed_as_before ∙ p.no_failure ∙ sym p.had_not_failed) r.error;
     too_deep = λ is. absurd (r.not_too_deep is);
     rejected = λ is w wrote. r.rejected is h rs w (q.written (in_scope h [] w) (p.opened w wrote));
   }
@@ -171,14 +171,14 @@ module _ {E : Type 0} (W : Writer E) where
       GroupIsOpen W a table b → Appends W b rs T c → ClosesGroup W c d result → Writes W a (group_records table (Some rs)) T d result
   writes_group {table = table} {rs} d (Ok x) p q r = record {
     written = λ w wrote. r.closed table rs w (q.written (in_group table [] w) (p.opened w wrote));
-    no_failure = r.no_failure ∙ sym p.had_not_failed;
+    failed_as_before = r.no_failure ∙ sym p.had_not_failed;
     unless_failed = λ failed. absurd (let x : false ≡ true = sym p.had_not_failed ∙ failed in cc);
     same_depth = r.same_depth ∙ q.same_depth ∙ p.same_depth;
     within_depth_left = omega (arith, highest-group table rs, p.same_depth, q.within_depth_left);
     of_type = q.of_type;
   }
   writes_group {table = table} {rs} d (Err e) p q r = record {
-    error = later_error (q.no_failure ∙ p.no_failure ∙ sym p.had_not_failed) r.error;
+    error = later_error (q.failed_as_before ∙ p.no_failure ∙ sym p.had_not_failed) r.error;
     too_deep = λ is. absurd (r.not_too_deep is);
     rejected = λ is w wrote. r.rejected is table rs w (q.written (in_group table [] w) (p.opened w wrote));
   }
@@ -187,7 +187,7 @@ module _ {E : Type 0} (W : Writer E) where
   pub in_other_words : (a b : E) (rs : List Record) {T U : Type 0} {A : Type 0} (result : Result A EncodeError) → (T → U) → Writes W a rs T b result → Writes W a rs U b result
   in_other_words a b rs (Ok x) f q = record {
     written = q.written;
-    no_failure = q.no_failure;
+    failed_as_before = q.failed_as_before;
     unless_failed = q.unless_failed;
     same_depth = q.same_depth;
     within_depth_left = q.within_depth_left;

@@ -4,7 +4,7 @@ use Rattle.std.proofs.Common.{subst, ◌∙◌}
 use Rattle.asn1_model.specs.Composites.{group_records}
 use Rattle.asn1_model.specs.Orders.{SameRecords}
 use Rattle.asn1_model.specs.Records.{Record, Head, holding}
-use Rattle.asn1_model.specs.Tables.{Line, Table}
+use Rattle.asn1_model.specs.RecordTables.{Line, Table}
 use Rattle.asn1_model.proofs.SameUpToOrder.{SameRecords-refl, SameAll-sym, SameAll-trans, SameAll-append, same-marks_alone, same_holding, same_group_records}
 use Rattle.asn1_codec.specs.declared.encode_error.EncodeError.{EncodeError}
 use Rattle.asn1_codec.specs.WritingUpToOrder.{RejectsByParts, WroteUpToOrder, RejectsUpToOrder, up_to_order}
@@ -99,7 +99,7 @@ module _ {E : Type 0} (W : Writer E) where
   pub appends : {old new : E} {rs : List Record} {T : Type 0} → Appends W old rs T new → Appends (up_to_order W) old rs T new
   appends {rs = rs} p = record {
     written = followed_up_to_order rs p.written;
-    no_failure = p.no_failure;
+    failed_as_before = p.failed_as_before;
     unless_failed = p.unless_failed;
     same_depth = p.same_depth;
     within_depth_left = p.within_depth_left;

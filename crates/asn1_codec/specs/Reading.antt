@@ -127,7 +127,7 @@ module _ {D : Type 0} (R : Reader D) where
   -- it is the type's own. Where each value of the type is a record, a failed decoder answers so.
   pub record AfterReading {V : Type 0} (m : Meaning V) (t : Tag) (c : ConstraintSet) (old new : D) (result : Result V DecodeError) : Type 0 where
     pub same_depth : OnOk result (R.depth_left new ≡ R.depth_left old)
-    pub no_failure : OnOk result (R.failed new ≡ R.failed old)
+    pub failed_as_before : OnOk result (R.failed new ≡ R.failed old)
     pub after_error : OnErr result (R.failed new ≡ true) ⊎ HasReadPast m t c old new result
     pub failed_before : m.IsSingleRecord → R.failed old ≡ true → result ≡ Err Failed
 
@@ -141,7 +141,7 @@ module _ {D : Type 0} (R : Reader D) where
   -- What a call leaves that makes the type's own constraints, and then reads a value.
   pub record AfterReadingWithOwnConstraints {V : Type 0} (m : Meaning V) (t : Tag) (old new : D) (result : Result V DecodeError) : Type 0 where
     pub same_depth : OnOk result (R.depth_left new ≡ R.depth_left old)
-    pub no_failure : OnOk result (R.failed new ≡ R.failed old)
+    pub failed_as_before : OnOk result (R.failed new ≡ R.failed old)
     pub after_error : OnErr result (R.failed new ≡ true) ⊎ (HasReadPast m t m.constraints old new result ⊎ HadNoMemory m old new result)
     pub failed_before : m.IsSingleRecord → R.failed old ≡ true → (result ≡ Err Failed) ⊎ HadNoMemory m old new result
 

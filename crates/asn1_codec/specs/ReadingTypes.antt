@@ -109,9 +109,9 @@ module _ {D : Type 0} (R : Reader D) {V : Type 0} where
 
   -- A call that reads a CHOICE by its chosen alternative (29), where its alternatives can be told
   -- apart, under constraints and any name.
-  abbrev pub ReadsAlternative : ConstraintSet → (alternatives : Alternatives) → (V → OneOf (all_of alternatives)) → (V → V → Bool) →
+  abbrev pub ReadsChoice : ConstraintSet → (alternatives : Alternatives) → (V → OneOf (all_of alternatives)) → (V → V → Bool) →
       D → D → Result V DecodeError → Type 0
-  ReadsAlternative c alternatives pick eq old new result =
+  ReadsChoice c alternatives pick eq old new result =
       (v : V) (n : Name) (rest : List Record) (outer : Outside) →
       HaveDistinctTags (all_of alternatives) → Each CanBeChosen (all_of alternatives) →
       (chosen_meaning (all_of alternatives) (pick v)).IsOfType → (chosen_meaning (all_of alternatives) (pick v)).IsValid R.accepts →
@@ -121,9 +121,9 @@ module _ {D : Type 0} (R : Reader D) {V : Type 0} where
       rest outer (λ w. eq w v ≡ true) result
 
   -- A call that reads what a CHOICE holds: the chosen alternative, which can begin with this tag.
-  abbrev pub ReadsChosen : Tag → (alternatives : Alternatives) → (V → OneOf (all_of alternatives)) → (V → V → Bool) →
+  abbrev pub ReadsAlternative : Tag → (alternatives : Alternatives) → (V → OneOf (all_of alternatives)) → (V → V → Bool) →
       D → D → Result V DecodeError → Type 0
-  ReadsChosen t alternatives pick eq old new result =
+  ReadsAlternative t alternatives pick eq old new result =
       (v : V) (rest : List Record) (outer : Outside) →
       HaveDistinctTags (all_of alternatives) → Each CanBeChosen (all_of alternatives) →
       (chosen_meaning (all_of alternatives) (pick v)).IsOfType → (chosen_meaning (all_of alternatives) (pick v)).IsValid R.accepts →

@@ -3,7 +3,7 @@ use Rattle.std.specs.Prelude.{◌≡◌, ◌≢◌, ◌↔◌, ℕ, suc, ◌≤�
 use Rattle.asn1_model.specs.Composites.{group_records}
 use Rattle.asn1_model.specs.Orders.{SameRecords}
 use Rattle.asn1_model.specs.Records.{Record, Head, holding, highest, presence_marks_alone}
-use Rattle.asn1_model.specs.Tables.{Line, Table}
+use Rattle.asn1_model.specs.RecordTables.{Line, Table}
 use Rattle.asn1_codec.specs.declared.encode_error.EncodeError.{EncodeError}
 use Rattle.asn1_codec.specs.declared.encode_error.EncodeError.TheVariants.{Memory, Depth, Failed, Custom}
 
@@ -57,7 +57,7 @@ module _ {E : Type 0} (W : Writer E) where
   -- failed, there were no records to be written.
   pub record Appends (old : E) (rs : List Record) (IsOfType : Type 0) (new : E) : Type 0 where
     pub written : (w : Written) → W.wrote old w → W.wrote new (followed_by w rs)
-    pub no_failure : W.failed new ≡ W.failed old
+    pub failed_as_before : W.failed new ≡ W.failed old
     pub unless_failed : W.failed old ≡ true → rs ≡ []
     pub same_depth : W.depth_left new ≡ W.depth_left old
     pub within_depth_left : highest rs ≤ W.depth_left old

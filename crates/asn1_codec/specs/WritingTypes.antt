@@ -23,18 +23,18 @@ module _ {E : Type 0} (W : Writer E) where
 
   -- A call that writes the chosen alternative of a CHOICE (X.680, 29), by the tag with which it
   -- begins.
-  abbrev pub WritesAlternative : {A : Type 0} → ConstraintSet → Name → (alternatives : Alternatives) →
+  abbrev pub WritesChoice : {A : Type 0} → ConstraintSet → Name → (alternatives : Alternatives) →
       OneOf (all_of alternatives) → E → E → Result A EncodeError → Type 0
-  WritesAlternative c n alternatives x old new result =
+  WritesChoice c n alternatives x old new result =
       Writes W old
       (alternative_records (chosen_tag (all_of alternatives) x) c (table_of alternatives) n
       (chosen_meaning (all_of alternatives) x).records)
       (chosen_meaning (all_of alternatives) x).IsOfType new result
 
   -- A call that writes what a CHOICE holds: the chosen alternative.
-  abbrev pub WritesChosen : {A : Type 0} → (alternatives : Alternatives) → OneOf (all_of alternatives) → E → E →
+  abbrev pub WritesAlternative : {A : Type 0} → (alternatives : Alternatives) → OneOf (all_of alternatives) → E → E →
       Result A EncodeError → Type 0
-  WritesChosen alternatives x old new result =
+  WritesAlternative alternatives x old new result =
       Writes W old (chosen_meaning (all_of alternatives) x).records (chosen_meaning (all_of alternatives) x).IsOfType new result
 
 module _ {E : Type 0} (W : Writer E) {V : Type 0} where

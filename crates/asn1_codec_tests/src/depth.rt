@@ -25,7 +25,7 @@ pub fn needs_depth<R: Rules, T: Encode + Decode>(
     ensures no_less { OnOk result (depth ≤ highest (own_records T.meaning value.now)) }
 {
     let too_little = depth.saturating_sub(1);
-    is_too_high(rules, value, too_little)?;
+    is_too_deep(rules, value, too_little)?;
     match rules.write_value(value, depth) {
         Ok(output) => {
             is_not_read::<T, R>(rules, &output, too_little, DecodeError::Depth)?;
@@ -36,7 +36,7 @@ pub fn needs_depth<R: Rules, T: Encode + Decode>(
 }
 
 /// Whether a value is not written with this many nested scopes.
-fn is_too_high<R: Rules, T: Encode>(rules: &R, value: &T, depth: usize) -> Result<(), Failure>
+fn is_too_deep<R: Rules, T: Encode>(rules: &R, value: &T, depth: usize) -> Result<(), Failure>
     ensures higher { OnOk result (depth < highest (own_records T.meaning value.now)) }
 {
     match rules.write_value(value, depth) {

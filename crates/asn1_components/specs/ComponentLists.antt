@@ -7,7 +7,7 @@ use Rattle.asn1_tags.specs.Trees.{Tree, Trees, choice, leaves, none, more}
 use Rattle.asn1_model.specs.Composites.{group_records}
 use Rattle.asn1_model.specs.Records.{Record, Side, presence_mark, group_start, group_end, group_absent, presence_marks_alone}
 use Rattle.asn1_model.specs.WellFormed.{AreWellFormed, well_formed_append}
-use Rattle.asn1_model.specs.Tables.{Line, Table}
+use Rattle.asn1_model.specs.RecordTables.{Line, Table}
 use Rattle.asn1_model.specs.Tags.{CHOICE, BeginsWithin, LiesIn, tree_tags, first_tags}
 use Rattle.asn1_model.proofs.FirstTags.{begins_before, first_passes, first_stays, alone_append}
 use Rattle.asn1_model.proofs.TagSets.{in_first_tree, in_later_trees}

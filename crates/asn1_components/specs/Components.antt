@@ -7,7 +7,7 @@ use Rattle.asn1_model.specs.ConstraintSets.{ConstraintSet, unconstrained}
 use Rattle.asn1_model.specs.Kinds.{Inside, scope_type}
 use Rattle.asn1_model.specs.Meaning.{Meaning}
 use Rattle.asn1_model.specs.Records.{Name, Record, Head, in_additions, in_root, sequence as sequence_head, set as set_head, holding}
-use Rattle.asn1_model.specs.Tables.{Line, Table, no_table}
+use Rattle.asn1_model.specs.RecordTables.{Line, Table, no_table}
 use Rattle.asn1_model.specs.Tags.{IsATag, HasOwnTag, universal}
 use Rattle.asn1_fields.specs.CanonicalOrder.{in_order}
 use Rattle.asn1_fields.specs.Entries.{Entry, component_of, line_of}

@@ -3,7 +3,7 @@ ghost use Rattle.asn1_choices.specs.Alternatives.{Each, all_of};
 ghost use Rattle.asn1_choices.specs.ChosenTags.{LacksTag};
 ghost use Rattle.asn1_codec.specs.DecodeErrors.{no_memory, no_valid_choice, reason};
 ghost use Rattle.asn1_codec.specs.Reading.{AfterReading, AfterReadingWithOwnConstraints, ReadsValue, Refuses};
-ghost use Rattle.asn1_codec.specs.ReadingTypes.{ReadsChosen, ReadsFields};
+ghost use Rattle.asn1_codec.specs.ReadingTypes.{ReadsAlternative, ReadsFields};
 ghost use Rattle.asn1_codec.specs.Refusals.{Refusals, no_refusals};
 ghost use Rattle.asn1_model.specs.ConstraintSets.{constraint_set};
 ghost use Rattle.std.specs.Prelude.{◌≡◌, ◌≢◌, OnOk, [], unwrap_or};
@@ -113,7 +113,7 @@ pub trait DecodeChoice: AsnType + Choice + Eq + Sized + Drop {
     /// the name of the type, unless memory runs out, as where the alternative is looked for in a table that is made for it.
     /// After an error nothing is promised about the decoder, until the caller makes it failed ([`Decoder::refuse`]).
     fn from_tag<D: Decoder>(decoder: &mut D, tag: Tag) -> Result<Self, DecodeError>
-        ensures read { ReadsChosen D.reader tag Self.alternatives Self.pick Self.eq
+        ensures read { ReadsAlternative D.reader tag Self.alternatives Self.pick Self.eq
             decoder.old decoder.new result }
         ensures unknown { Each (LacksTag tag) (all_of Self.alternatives) →
             IsErrAnd result (λ e. reason e ≢ no_memory →

@@ -4,7 +4,7 @@ ghost use Rattle.asn1_components.specs.Components.{all_components, is_sequence, 
 ghost use Rattle.asn1_codec.specs.Defaults.{MayAnswer};
 ghost use Rattle.asn1_codec.specs.GivenTypes.{as_it_is, given, given_after_tag, with_constraints, with_tag};
 ghost use Rattle.asn1_codec.specs.Reading.{ClosesScope, IsLawful, KeepsDepth, NeedsDepth, OpensNothing, OpensScope, Reader, ReadsEnd, ReadsHead, ReadsHeadOfSet, ReadsMark, ReadsValue, TellsMore, TellsNextTag, TellsPresence, records_in};
-ghost use Rattle.asn1_codec.specs.ReadingTypes.{Reads, ReadsAlternative, ReadsComponents, ReadsContent, ReadsDefault, ReadsElements, ReadsGroup, ReadsHeadOfChoice, ReadsOpenType, ReadsOptional};
+ghost use Rattle.asn1_codec.specs.ReadingTypes.{Reads, ReadsChoice, ReadsComponents, ReadsContent, ReadsDefault, ReadsElements, ReadsGroup, ReadsHeadOfChoice, ReadsOpenType, ReadsOptional};
 ghost use Rattle.asn1_codec.specs.SetParts.{CanBeInSet};
 ghost use Rattle.asn1_enumerations.specs.Enumerations.{number_of};
 ghost use Rattle.asn1_enumerations.specs.Labels.{HasNumber, labels_of};
@@ -701,7 +701,7 @@ pub trait Decoder: Sized {
         &mut self,
         constraints: &Constraints<'_>,
     ) -> Result<T, DecodeError>
-        ensures read { ReadsAlternative reader (constraint_set constraints.now) T.alternatives
+        ensures read { ReadsChoice reader (constraint_set constraints.now) T.alternatives
             T.pick T.eq self.old self.new result }
         ensures keeps_depth { KeepsDepth reader self.old self.new result }
         ensures depth_first { NeedsDepth reader self.old result }

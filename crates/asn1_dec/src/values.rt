@@ -21,7 +21,7 @@ pub(crate) fn read_value<T: Decode, D: Decoder>(
         T.meaning.constraints) decoder.old decoder.new result }
     ensures same_depth { OnOk result
         (D.reader.depth_left decoder.new ≡ D.reader.depth_left decoder.old) }
-    ensures no_failure { OnOk result (D.reader.failed decoder.new ≡ D.reader.failed decoder.old) }
+    ensures failed_as_before { OnOk result (D.reader.failed decoder.new ≡ D.reader.failed decoder.old) }
 {
     match constraints {
         None => T::decode_with_tag(decoder, tag),

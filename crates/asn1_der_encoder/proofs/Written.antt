@@ -24,7 +24,7 @@ use Rattle.asn1_model.specs.ConstraintSets.{ConstraintSet}
 use Rattle.asn1_model.specs.Orders.{equal, is_unordered}
 use Rattle.asn1_model.specs.Records as model
 use Rattle.asn1_model.specs.Records.{Content, Head, Name, Record, held, holding, presence_mark, presence_marks_alone, scalar, group_absent, group_end, group_start}
-use Rattle.asn1_model.specs.Tables.{Line, Table}
+use Rattle.asn1_model.specs.RecordTables.{Line, Table}
 use Rattle.asn1_model.specs.Tags.{head_tag}
 use Rattle.asn1_tags.specs.declared.tags.Tag.{Tag}
 

@@ -7,7 +7,7 @@ ghost use Rattle.asn1_der_items.specs.Series.{IsElementOf};
 ghost use Rattle.asn1_model.specs.ConstraintSets.{ConstraintSet};
 ghost use Rattle.asn1_model.specs.Orders.{Same};
 ghost use Rattle.asn1_model.specs.Records.{Name, PresenceMark, Record, alternative, held, holding, is_presence_mark, presence_mark};
-ghost use Rattle.asn1_model.specs.Tables.{Line, Table};
+ghost use Rattle.asn1_model.specs.RecordTables.{Line, Table};
 ghost use Rattle.asn1_tags.specs.Derives.{ClonesAll, ComparesAll};
 ghost use Rattle.asn1_tags.specs.declared.tags.Tag.{Tag};
 ghost use Rattle.std.specs.Prelude.{◌≡◌, ◌↔◌, ◌∷◌, List, ℕ, false};

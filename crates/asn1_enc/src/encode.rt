@@ -5,7 +5,7 @@ ghost use Rattle.asn1_components.specs.Components.{all_components};
 ghost use Rattle.asn1_codec.specs.Places.{IsOfTypeAt, records_at};
 ghost use Rattle.asn1_codec.specs.Writing.{Writes};
 ghost use Rattle.asn1_codec.specs.GivenTypes.{as_it_is, given, with_constraints, with_tag};
-ghost use Rattle.asn1_codec.specs.WritingTypes.{WritesChosen, WritesFields, WritesValue};
+ghost use Rattle.asn1_codec.specs.WritingTypes.{WritesAlternative, WritesFields, WritesValue};
 ghost use Rattle.asn1_model.specs.ConstraintSets.{constraint_set};
 ghost use Rattle.asn1_model.specs.TaggedTypes.{tagged, untagged};
 ghost use Rattle.asn1_tags.specs.Names.{name_of};
@@ -146,6 +146,6 @@ pub trait EncodeChoice: AsnType + Choice {
 
     /// Writes the chosen alternative.
     fn encode_alternative<E: Encoder>(&self, encoder: &mut E) -> Result<(), EncodeError>
-        ensures { WritesChosen E.writer Self.alternatives (Self.pick self.now) encoder.old
+        ensures { WritesAlternative E.writer Self.alternatives (Self.pick self.now) encoder.old
             encoder.new result };
 }

@@ -4,7 +4,7 @@ ghost use Rattle.asn1_components.specs.Components.{is_sequence, is_set, lines};
 ghost use Rattle.asn1_codec.specs.Defaults.{MayAnswer};
 ghost use Rattle.asn1_codec.specs.GivenTypes.{after_tag, as_it_is, given, with_constraints, with_tag};
 ghost use Rattle.asn1_codec.specs.Writing.{ClosesScope, ClosesGroup, IsLawful, NeedsDepth, OpensScope, OpensGroup, IsOutOfMemory, Writer, Writes};
-ghost use Rattle.asn1_codec.specs.WritingTypes.{WritesAlternative, WritesComponents, WritesContent, WritesDefault, WritesElements, WritesGroup, WritesOptional, WritesValue};
+ghost use Rattle.asn1_codec.specs.WritingTypes.{WritesChoice, WritesComponents, WritesContent, WritesDefault, WritesElements, WritesGroup, WritesOptional, WritesValue};
 ghost use Rattle.asn1_enumerations.specs.Enumerations.{number_of};
 ghost use Rattle.asn1_enumerations.specs.Labels.{labels_of};
 ghost use Rattle.asn1_model.specs.Composites.{option_records, open_type_records, marked};
@@ -502,7 +502,7 @@ pub trait Encoder: Sized {
         value: &T,
         name: Identifier,
     ) -> Result<(), EncodeError>
-        ensures writes { WritesAlternative writer (constraint_set constraints.now) (name_of name)
+        ensures writes { WritesChoice writer (constraint_set constraints.now) (name_of name)
             T.alternatives (T.pick value.now) self.old self.new result }
         ensures depth_first { NeedsDepth writer self.old result }
     {

@@ -6,9 +6,9 @@ use Rattle.std.specs.Ordering.{int_eq}
 use Rattle.std.proofs.lemmas.Option.{slice_get-map}
 use Rattle.asn1_enumerations.specs.Enumerations.{Enumeration, added, items}
 use Rattle.asn1_enumerations.specs.LabelLaws.{all_labels_are}
-use Rattle.asn1_model.specs.Tables.{Label}
+use Rattle.asn1_model.specs.RecordTables.{Label}
 use Rattle.asn1_enumerations.specs.Labels.{all_labels, label_of, labels_of, numbers_in}
-use Rattle.asn1_enumerations.specs.Tables.{line_item, table_items}
+use Rattle.asn1_enumerations.specs.ItemTables.{line_item, table_items}
 use Rattle.asn1_enumerations.specs.declared.items.EnumerationItem.{EnumerationItem}
 use Rattle.asn1_tags.proofs.PlacesInLists.{position-map}
 use Rattle.asn1_enumerations.proofs.Lines.{line_found}

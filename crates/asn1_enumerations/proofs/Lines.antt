@@ -5,7 +5,7 @@ use Rattle.std.specs.Option.{option_map}
 use Rattle.std.proofs.lemmas.List.{map-append}
 use Rattle.std.proofs.lemmas.Option.{slice_get-map}
 use Rattle.asn1_enumerations.specs.Enumerations.{Item, Enumeration, added, items, values}
-use Rattle.asn1_enumerations.specs.Tables.{line_item, table_items}
+use Rattle.asn1_enumerations.specs.ItemTables.{line_item, table_items}
 use Rattle.asn1_enumerations.specs.declared.items.EnumerationItem.{EnumerationItem}
 use Rattle.asn1_enumerations.proofs.Labels.{value_in}
 use Rattle.asn1_tags.proofs.PlacesInLists.{position-map}

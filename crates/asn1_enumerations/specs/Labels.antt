@@ -1,7 +1,7 @@
 -- What tells the items of an ENUMERATED type apart, without its values (X.680, clause 20).
 use Rattle.std.specs.Prelude.{◌≢◌, ◌++◌, ℤ, ℕ, List, [], Option, Contains, map, unwrap_or}
 use Rattle.std.specs.Option.{option_map}
-use Rattle.asn1_model.specs.Tables.{Label, Table}
+use Rattle.asn1_model.specs.RecordTables.{Label, Table}
 use Rattle.asn1_enumerations.specs.Enumerations.{Enumeration, Item}
 
 -- the labels of the items of the root, and where there is an extension marker, of those after the marker

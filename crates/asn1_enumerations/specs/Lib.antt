@@ -3,4 +3,4 @@ pub mod Enumerations
 pub mod LabelLaws
 pub mod Labels
 pub mod Meanings
-pub mod Tables
+pub mod ItemTables

@@ -5,7 +5,7 @@ ghost use Rattle.std.specs.List.{find};
 ghost use Rattle.std.specs.Ordering.{int_eq};
 ghost use Rattle.std.specs.Str.{bytes_eq};
 ghost use Rattle.asn1_enumerations.specs.Enumerations.{Enumeration, IsEnumeration, added, items as items_of, values, numbers, names, item_of, number_of, name_of};
-ghost use Rattle.asn1_enumerations.specs.Tables.{line_item, table_items, variants_left, discriminants_left, identifiers_left};
+ghost use Rattle.asn1_enumerations.specs.ItemTables.{line_item, table_items, variants_left, discriminants_left, identifiers_left};
 
 use crate::items::{EnumerationItem, line_with_name, line_with_number};
 use crate::iterators::{DiscriminantIter, ItemIdentifierIter, VariantIter};

@@ -2,7 +2,7 @@
 ghost use Rattle.std.specs.Prelude.{◌≡◌, ◌++◌};
 ghost use Rattle.std.specs.Iterator.{YieldsFirst, YieldsFirstBy, item_count};
 ghost use Rattle.asn1_enumerations.specs.Enumerations.{values, numbers, names};
-ghost use Rattle.asn1_enumerations.specs.Tables.{table_items, variants_left, discriminants_left, identifiers_left};
+ghost use Rattle.asn1_enumerations.specs.ItemTables.{table_items, variants_left, discriminants_left, identifiers_left};
 
 use crate::items::EnumerationItem;
 use std::slice;

@@ -1,5 +1,5 @@
 //! Laws of what no other contract names: what the iterators of a table give, and the derived clone of a line.
-ghost use Rattle.asn1_enumerations.specs.Tables.{discriminants_left, identifiers_left, variants_left};
+ghost use Rattle.asn1_enumerations.specs.ItemTables.{discriminants_left, identifiers_left, variants_left};
 ghost use Rattle.asn1_enumerations.specs.declared.items.EnumerationItem.{EnumerationItem};
 ghost use Rattle.asn1_enumerations.specs.declared.iterators.DiscriminantIter.{DiscriminantIter};
 ghost use Rattle.asn1_enumerations.specs.declared.iterators.ItemIdentifierIter.{ItemIdentifierIter};

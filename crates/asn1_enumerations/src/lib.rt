@@ -16,7 +16,7 @@
 //! What the contracts promise, and the words that they use:
 //!
 //! - Contracts see a type's items as an `Enumeration`, its root and what comes after the extension marker; the words for
-//!   its values, numbers and names are in `specs/Enumerations.antt`, and those for tables in `specs/Tables.antt`.
+//!   its values, numbers and names are in `specs/Enumerations.antt`, and those for tables in `specs/ItemTables.antt`.
 //! - A type proves that each value has an item (`complete`), and that any two items differ in value, number and name and
 //!   can be counted (`lawful`, by the test `by_test` of `specs/EnumerationLaws.antt`).
 //! - `discriminant` and `identifier` answer the number and the name of a value's item. `from_discriminant` and

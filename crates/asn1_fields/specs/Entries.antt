@@ -3,7 +3,7 @@ use Rattle.std.specs.Prelude.{ℕ, Bool, true, false, List, map}
 use Rattle.asn1_tags.specs.Trees.{Tree, shape}
 use Rattle.asn1_tags.specs.declared.tags.Tag.{Tag}
 use Rattle.asn1_model.specs.Meaning.{Meaning}
-use Rattle.asn1_model.specs.Tables.{Line}
+use Rattle.asn1_model.specs.RecordTables.{Line}
 use Rattle.asn1_fields.specs.declared.field.Field.{Field}
 use Rattle.asn1_fields.specs.declared.presence.FieldPresence.{FieldPresence}
 use Rattle.asn1_fields.specs.declared.presence.FieldPresence.TheVariants.{Required, Optional, Default}

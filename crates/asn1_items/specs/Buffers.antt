@@ -6,7 +6,7 @@ use Rattle.asn1_items.specs.Items.{HaveBytes, MarkBytes, written_with}
 use Rattle.asn1_items.specs.declared.buffer.Buffer.{Buffer}
 use Rattle.asn1_items.specs.declared.frame.Frame.{Frame}
 use Rattle.asn1_model.specs.Records.{Record, Head, group_start, held, presence_marks_alone}
-use Rattle.asn1_model.specs.Tables.{Line, Table}
+use Rattle.asn1_model.specs.RecordTables.{Line, Table}
 use Rattle.asn1_model.specs.Tags.{head_tag}
 
 module _ (marks : MarkBytes) where

@@ -8,7 +8,7 @@ use Rattle.asn1_items.specs.declared.content.Content.{Content}
 use Rattle.asn1_items.specs.declared.content.Content.TheVariants as own
 use Rattle.asn1_model.specs.Records as model
 use Rattle.asn1_model.specs.Records.{StringKind, null, boolean, number, discriminant, arcs, bits, units, octet, utf8, visible, general, graphic, ia5, printable, numeric, teletex, bmp}
-use Rattle.asn1_model.specs.Tables.{no_table}
+use Rattle.asn1_model.specs.RecordTables.{no_table}
 use Rattle.asn1_types.specs.AnyStrings.{IsStringOf, content_of_str, octet_kind}
 use Rattle.asn1_types.specs.declared.any_string.StringKind as kind
 use Rattle.asn1_types.specs.declared.any_string.StringKind.TheVariants as kinds

@@ -9,7 +9,7 @@ ghost use Rattle.asn1_model.specs.Composites.{group_records};
 ghost use Rattle.asn1_model.specs.ConstraintSets.{ConstraintSet};
 ghost use Rattle.asn1_model.specs.Records as model;
 ghost use Rattle.asn1_model.specs.Records.{Name, group_absent, group_end, group_start, held, holding, presence_mark, open_type, scalar};
-ghost use Rattle.asn1_model.specs.Tables.{Line, Table};
+ghost use Rattle.asn1_model.specs.RecordTables.{Line, Table};
 ghost use Rattle.asn1_model.specs.Tags.{head_tag};
 ghost use Rattle.std.specs.Prelude.{◌≡◌, ◌≢◌, ◌≤◌, ◌∷◌, [], IfErr, IfOk, List, MatchResult, OnOk, Some, suc};
 

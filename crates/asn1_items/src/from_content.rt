@@ -3,7 +3,7 @@ ghost use Rattle.asn1_items.specs.Contents.{IsContent, content_kind, kind_number
 ghost use Rattle.asn1_items.specs.declared.error.ItemError.TheVariants.{Memory};
 ghost use Rattle.asn1_model.specs.Records as model;
 ghost use Rattle.asn1_model.specs.Records.{arcs, discriminant, null, number, boolean};
-ghost use Rattle.asn1_model.specs.Tables.{no_table};
+ghost use Rattle.asn1_model.specs.RecordTables.{no_table};
 ghost use Rattle.asn1_types.specs.AnyStrings.{IsStringOf, content_of_string};
 ghost use Rattle.std.specs.Prelude.{◌≡◌, ⊤, Bool, IfOk, List, MatchResult, ℕ, ℤ, refl};
 

@@ -37,14 +37,14 @@ highest_at_most [] n all = zero-le
 highest_at_most (r ∷ rs) n all =
     max-le (All-head (λ s. height s ≤ n) r rs all) (highest_at_most rs n (All-tail (λ s. height s ≤ n) r rs all))
 
-no_higher : (rs ss : List Record) → IsPermutation rs ss → highest ss ≤ highest rs
-no_higher rs ss moved =
+no_deeper : (rs ss : List Record) → IsPermutation rs ss → highest ss ≤ highest rs
+no_deeper rs ss moved =
     highest_at_most ss (highest rs)
     (All-permutation (λ r. height r ≤ highest rs) rs ss moved (each_at_most rs (highest rs) (le_refl (highest rs))))
 
 -- the order of a list means nothing for its height
 pub highest-permutation : (rs ss : List Record) → IsPermutation rs ss → highest rs ≡ highest ss
-highest-permutation rs ss moved = le_antisymm (no_higher ss rs (IsPermutation-sym rs ss moved)) (no_higher rs ss moved)
+highest-permutation rs ss moved = le_antisymm (no_deeper ss rs (IsPermutation-sym rs ss moved)) (no_deeper rs ss moved)
 
 -- they are nested as deep
 mutual

@@ -9,7 +9,7 @@ use Rattle.asn1_model.specs.Composites.{group_records}
 use Rattle.asn1_model.specs.ConstraintSets.{ConstraintSet}
 use Rattle.asn1_model.specs.Orders.{is_unordered, Same, SameAll, SameRecords, equal, in_place, in_any_order, at_end, next}
 use Rattle.asn1_model.specs.Records.{Name, Content, PresenceMark, Head, Record, Records, scalar, scope, open_type, presence_mark, none, more, held, listed, holding, highest, presence_marks_alone, is_presence_mark, group_start, group_absent, group_end, listed-held}
-use Rattle.asn1_model.specs.Tables.{Line, Table}
+use Rattle.asn1_model.specs.RecordTables.{Line, Table}
 use Rattle.asn1_model.specs.Tags.{first_tags, record_tags}
 use Rattle.asn1_model.proofs.Lists.{held-listed, inner_height-held}
 use Rattle.asn1_model.proofs.SameRecords.{same-mark, same-tags, same-inner_height}

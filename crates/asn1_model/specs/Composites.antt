@@ -4,7 +4,7 @@ use Rattle.asn1_tags.specs.declared.tags.Tag.{Tag}
 use Rattle.asn1_tags.specs.Tags.{tag_eq}
 use Rattle.asn1_model.specs.ConstraintSets.{ConstraintSet}
 use Rattle.asn1_model.specs.Records.{Name, name_or, Record, PresenceMark, Side, open_type, presence_mark, holding, presence_marks_alone, sequence, set, sequence_of, set_of, explicit_tag, alternative, present, absent, group_start, group_absent, group_end}
-use Rattle.asn1_model.specs.Tables.{Line, Table}
+use Rattle.asn1_model.specs.RecordTables.{Line, Table}
 use Rattle.asn1_model.specs.Tags.{CHOICE}
 
 -- A SEQUENCE or a SET of components, in the order of their definition (X.680, 25 and 27), by the table of the type.

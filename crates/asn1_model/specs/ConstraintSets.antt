@@ -8,7 +8,7 @@ use Rattle.asn1_bounds.specs.declared.size.Size.{Size}
 use Rattle.asn1_bounds.specs.declared.extensible.Extensible.{Extensible}
 use Rattle.asn1_bounds.specs.declared.constraints.Constraints.{Constraints}
 use Rattle.asn1_bounds.specs.declared.table.ConstraintTable.{ConstraintTable}
-use Rattle.asn1_bounds.specs.Tables.{owned}
+use Rattle.asn1_bounds.specs.ConstraintTables.{owned}
 
 -- One kind of constraint: what the extension root allows, and the additions of an extensible one (X.680, 50.1).
 pub record Part (T : Type 0) : Type 0 where

@@ -10,7 +10,7 @@ use Rattle.asn1_ranges.specs.Members.{IsMember}
 use Rattle.asn1_ranges.specs.declared.bounded.Bounded.{Bounded}
 use Rattle.asn1_model.specs.ConstraintSets.{ConstraintSet, unconstrained, values_of, size_of}
 use Rattle.asn1_model.specs.Records.{Name, Record, name_or, Content, Head, arcs, in_root, number, null, units, utf8, scalar, discriminant, holding, sequence_of}
-use Rattle.asn1_model.specs.Tables.{Label, Line, Table}
+use Rattle.asn1_model.specs.RecordTables.{Label, Line, Table}
 use Rattle.asn1_model.specs.Tags.{universal, CHOICE, Has, HasOwnTag, IsATag, first_tag, tree_tags}
 use Rattle.asn1_model.specs.Composites.{option_records, choice_records}
 use Rattle.asn1_model.specs.Meaning.{Meaning, own_records, IsWellTagged, IsWellTaggedUnder}

@@ -1,5 +1,5 @@
 pub mod ConstraintSets
-pub mod Tables
+pub mod RecordTables
 pub mod Records
 pub mod Tags
 pub mod Orders

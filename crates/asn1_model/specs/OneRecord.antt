@@ -7,7 +7,7 @@ use Rattle.asn1_tags.specs.Trees.{Tree, leaf}
 use Rattle.asn1_model.specs.ConstraintSets.{ConstraintSet}
 use Rattle.asn1_model.specs.Records.{Name, name_or, Content, Head, Record, scalar, holding, explicit_tag, alternative, sequence, set, sequence_of, set_of}
 use Rattle.asn1_model.specs.Composites.{alternative_records, explicit_tag_records, choice_records}
-use Rattle.asn1_model.specs.Tables.{Line, Table}
+use Rattle.asn1_model.specs.RecordTables.{Line, Table}
 use Rattle.asn1_model.specs.Tags.{CHOICE, Tags, Has, HasOwnTag, LiesIn, IsOneRecord, only, head_tag, tree_tags}
 
 -- a content

@@ -3,7 +3,7 @@ use Rattle.std.specs.Prelude.{◌≡◌, ℕ, suc, max, ℤ, Bool, true, false, 
 use Rattle.std.proofs.Common.{ap}
 use Rattle.asn1_tags.specs.declared.tags.Tag.{Tag}
 use Rattle.asn1_model.specs.ConstraintSets.{ConstraintSet}
-use Rattle.asn1_model.specs.Tables.{Label, Line, Table}
+use Rattle.asn1_model.specs.RecordTables.{Label, Line, Table}
 
 -- the name of a type, as the list of its characters, or no name
 abbrev pub Name : Type 0

@@ -1,7 +1,7 @@
 -- Which tags a list of records can begin with.
 use Rattle.std.specs.Prelude.{◌≡◌, ℕ, ⊤, false, List, [], ◌∷◌, Contains, if◌then◌else◌}
 use Rattle.asn1_tags.specs.declared.tags.Tag.{Tag}
-use Rattle.asn1_tags.specs.declared.classes.Class.TheVariants.{Universal, Context}
+use Rattle.asn1_tags.specs.declared.classes.Class.TheVariants.{Universal, Application, Context, Private}
 use Rattle.asn1_tags.specs.Tags.{tag_eq}
 use Rattle.asn1_tags.specs.Trees.{Tree, leaves, is_open}
 use Rattle.asn1_model.specs.Records.{Record, scalar, scope, open_type, presence_mark, is_presence_mark, presence_marks_alone, Head, sequence, set, sequence_of, set_of, explicit_tag, alternative}
@@ -13,6 +13,14 @@ universal n = record { class = Universal; value = n }
 -- a tag that a component gives its type by a number alone (31.1)
 abbrev pub context : ℕ → Tag
 context n = record { class = Context; value = n }
+
+-- [APPLICATION n]: a tag that one application, or one other standard, assigns (8.3)
+abbrev pub application : ℕ → Tag
+application n = record { class = Application; value = n }
+
+-- [PRIVATE n]: a tag that one enterprise assigns (8.3)
+abbrev pub private : ℕ → Tag
+private n = record { class = Private; value = n }
 
 -- the CHOICE marker tag: a CHOICE under it is untagged
 abbrev pub CHOICE : Tag

@@ -9,7 +9,7 @@ use Rattle.asn1_tags.specs.Tags.{tag_eq}
 use Rattle.asn1_model.specs.Composites.{alternative_records, choice_records, option_records, explicit_tag_records}
 use Rattle.asn1_model.specs.ConstraintSets.{ConstraintSet}
 use Rattle.asn1_model.specs.Records.{Head, Name, name_or, Record, Records, Side, alternative, none, more, explicit_tag, scalar, scope, sequence, sequence_of, set, set_of, open_type, presence_mark, held, holding, listed, listed-held}
-use Rattle.asn1_model.specs.Tables.{Line, Table}
+use Rattle.asn1_model.specs.RecordTables.{Line, Table}
 use Rattle.asn1_model.specs.Tags.{CHOICE, HasOwnTag, HoldsItsTag, first_tag}
 
 -- Records are well formed where each open type among them holds bytes that the codec takes as one value (X.681, 14), and each

@@ -28,7 +28,7 @@
 //!   takes, and each chosen tag is the first of what is inside (`records_of_a_valid_value_are_well_formed`).
 //! - A meaning tells apart its type's invariant, which every value meets that a program can make (`IsOfType`), and what is
 //!   asked of whoever writes a value (`IsValid`).
-//! - `specs/Records.antt` has the records, marks and heights; `specs/Tables.antt` the table of a type that records carry
+//! - `specs/Records.antt` has the records, marks and heights; `specs/RecordTables.antt` the table of a type that records carry
 //!   beside a value; `specs/Tags.antt` the first tags of a list of records and the tags of a tree; `specs/Orders.antt` what
 //!   it is to be the same up to order; `specs/WellFormed.antt` what it is to be well formed; `specs/ConstraintSets.antt` a
 //!   set of constraints apart from where it lies in memory; `specs/TypeTables.antt` the tree of tags that a table

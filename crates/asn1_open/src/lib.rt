@@ -37,7 +37,7 @@
 //!   with `k` of them around it takes `1 + 3k` scopes.
 //! - `proofs/ReadingChoices.antt` of `asn1_codec` is for the author of any CHOICE that holds itself: a
 //!   lemma for each way out of its reading functions, which do what `ReadsValue`, `ReadsHeadOfChoice`
-//!   and `ReadsChosen` say.
+//!   and `ReadsAlternative` say.
 //!
 //! A call takes memory where a codec does, and reading for the strings, the numbers and the boxes.
 #![tactic(auto, using(asn1_tags::proofs::Leaves::tree_shapes))]

@@ -3,7 +3,7 @@ ghost use Rattle.asn1_choices.specs.Alternatives.{Each, all_of};
 ghost use Rattle.asn1_choices.specs.ChosenTags.{LacksTag};
 ghost use Rattle.asn1_codec.specs.DecodeErrors.{no_valid_choice, reason};
 ghost use Rattle.asn1_codec.specs.Reading.{KeepsDepth, Outside, ReadsBack, ReadsValue};
-ghost use Rattle.asn1_codec.specs.ReadingTypes.{ReadsChosen};
+ghost use Rattle.asn1_codec.specs.ReadingTypes.{ReadsAlternative};
 ghost use Rattle.asn1_model.specs.ConstraintSets.{constraint_set};
 ghost use Rattle.asn1_model.specs.Meaning.{own_records};
 ghost use Rattle.asn1_model.specs.Records.{Record};
@@ -67,7 +67,7 @@ fn read_untagged<D: Decoder>(
 /// The alternative that can begin with the tag.
 #[cycle(opens)]
 pub(crate) fn read_alternative<D: Decoder>(decoder: &mut D, tag: Tag) -> Result<Open, DecodeError>
-    ensures read { ReadsChosen D.reader tag open_alternatives open_pick ⟦<Open as PartialEq>⟧.eq
+    ensures read { ReadsAlternative D.reader tag open_alternatives open_pick ⟦<Open as PartialEq>⟧.eq
         decoder.old decoder.new result }
     ensures unknown { Each (LacksTag tag) (all_of open_alternatives) →
         IsErrAnd result (λ e. reason e ≡ no_valid_choice (codes "Open")) }

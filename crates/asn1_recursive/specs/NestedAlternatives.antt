@@ -5,7 +5,7 @@ use Rattle.asn1_model.specs.Tags.{context}
 use Rattle.asn1_model.specs.contracts.impls.null.UnitAsnType.TheImpl.{ghosts as null}
 use Rattle.asn1_model.specs.contracts.impls.boolean.BoolAsnType.TheImpl.{ghosts as boolean}
 use Rattle.asn1_model.specs.Meaning.{Meaning}
-use Rattle.asn1_model.specs.Tables.{Line, Table}
+use Rattle.asn1_model.specs.RecordTables.{Line, Table}
 use Rattle.asn1_model.specs.TaggedTypes.{tagged, untagged}
 use Rattle.asn1_choices.specs.Alternatives.{Alternatives, OneOf, SaysTheSame, ValueMeaning, all_of, alternative, closed, chosen_meaning, says_itself, value_meaning}
 use Rattle.asn1_choices.specs.ChoiceTypes.{alternatives_with_itself, choice_holding_itself, itself_under, table_with_itself}

@@ -18,7 +18,7 @@ use Rattle.asn1_model.specs.ConstraintSets.{unconstrained}
 use Rattle.asn1_model.specs.Kinds.{Inside, list_type, utf8_string}
 use Rattle.asn1_model.specs.Meaning.{Meaning, own_records}
 use Rattle.asn1_model.specs.Records.{Record, holding, in_root}
-use Rattle.asn1_model.specs.Tables.{Line, Table}
+use Rattle.asn1_model.specs.RecordTables.{Line, Table}
 use Rattle.asn1_model.specs.TaggedTypes.{untagged}
 use Rattle.asn1_model.specs.Tags.{universal}
 use Rattle.asn1_model.specs.WellFormed.{AreWellFormed}

@@ -3,7 +3,7 @@ ghost use Rattle.asn1_choices.specs.Alternatives.{Each, all_of};
 ghost use Rattle.asn1_choices.specs.ChosenTags.{LacksTag};
 ghost use Rattle.asn1_codec.specs.DecodeErrors.{no_valid_choice, reason};
 ghost use Rattle.asn1_codec.specs.Reading.{KeepsDepth, Advances, Outside, ReadsBack, ReadsValue};
-ghost use Rattle.asn1_codec.specs.ReadingTypes.{ReadsChosen};
+ghost use Rattle.asn1_codec.specs.ReadingTypes.{ReadsAlternative};
 ghost use Rattle.asn1_model.specs.Composites.{set_of_records};
 ghost use Rattle.asn1_model.specs.ConstraintSets.{constraint_set, unconstrained};
 ghost use Rattle.asn1_model.specs.Meaning.{own_records};
@@ -70,7 +70,7 @@ fn read_untagged<D: Decoder>(
 /// The alternative that can begin with the tag.
 #[cycle(filters)]
 pub(crate) fn read_alternative<D: Decoder>(decoder: &mut D, tag: Tag) -> Result<Filter, DecodeError>
-    ensures read { ReadsChosen D.reader tag filter_alternatives filter_pick
+    ensures read { ReadsAlternative D.reader tag filter_alternatives filter_pick
         ⟦<Filter as PartialEq>⟧.eq
         decoder.old decoder.new result }
     ensures unknown { Each (LacksTag tag) (all_of filter_alternatives) →

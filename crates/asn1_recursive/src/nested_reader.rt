@@ -3,7 +3,7 @@ ghost use Rattle.asn1_choices.specs.Alternatives.{Each, all_of};
 ghost use Rattle.asn1_choices.specs.ChosenTags.{LacksTag};
 ghost use Rattle.asn1_codec.specs.DecodeErrors.{no_valid_choice, reason};
 ghost use Rattle.asn1_codec.specs.Reading.{KeepsDepth, ReadsValue};
-ghost use Rattle.asn1_codec.specs.ReadingTypes.{ReadsChosen};
+ghost use Rattle.asn1_codec.specs.ReadingTypes.{ReadsAlternative};
 ghost use Rattle.asn1_model.specs.ConstraintSets.{constraint_set};
 ghost use Rattle.asn1_model.specs.Tags.{CHOICE};
 ghost use Rattle.asn1_recursive.specs.NestedAlternatives.{nested_alternatives, nested_meaning, nested_pick};
@@ -58,7 +58,7 @@ fn read_untagged<D: Decoder>(
 /// The alternative that can begin with the tag.
 #[cycle(nested_values)]
 pub(crate) fn read_alternative<D: Decoder>(decoder: &mut D, tag: Tag) -> Result<Nested, DecodeError>
-    ensures read { ReadsChosen D.reader tag nested_alternatives nested_pick
+    ensures read { ReadsAlternative D.reader tag nested_alternatives nested_pick
         ⟦<Nested as PartialEq>⟧.eq
         decoder.old decoder.new result }
     ensures unknown { Each (LacksTag tag) (all_of nested_alternatives) →

@@ -11,7 +11,7 @@ use Rattle.asn1_report.specs.declared.kind.Kind.TheVariants.{Sequence, Set}
 use Rattle.asn1_report.specs.Flattened.{flat_state, flat_statement, flat_table}
 use Rattle.asn1_report.specs.Report.{Answer, State, answer_of, answer_to, answer_to_end, component_answer, end_answer, in_next_line, refusal}
 use Rattle.asn1_report.specs.Statements.{Statement, says_nothing, names_tree, names_bounds, begins_table, adds_component, ends_table, statement_of}
-use Rattle.asn1_report.specs.Tables.{Table, clash_of, clash_text, has_room, most_components, order_text, table_line, table_verdict, unchecked_text, with_component}
+use Rattle.asn1_report.specs.SchemaTables.{Table, clash_of, clash_text, has_room, most_components, order_text, table_line, table_verdict, unchecked_text, with_component}
 use Rattle.asn1_report.specs.Texts.{named_line, tree_verdict}
 
 -- an answer whose state has flat trees

@@ -4,7 +4,7 @@ use Rattle.asn1_clash.specs.Flat.{flat, flat_component}
 use Rattle.asn1_report.specs.Report.{Answer, State}
 use Rattle.asn1_report.specs.Seen.{state_seen, statement_seen}
 use Rattle.asn1_report.specs.Statements.{Statement, names_tree, adds_component}
-use Rattle.asn1_report.specs.Tables.{Table}
+use Rattle.asn1_report.specs.SchemaTables.{Table}
 use Rattle.asn1_report.specs.declared.reporter.Reporter.{Reporter}
 use Rattle.asn1_report.specs.declared.statement.Statement as declared
 

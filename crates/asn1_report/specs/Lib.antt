@@ -6,7 +6,7 @@ pub mod Grammar
 pub mod Statements
 pub mod Spelling
 pub mod Texts
-pub mod Tables
+pub mod SchemaTables
 pub mod Report
 pub mod Seen
 pub mod Flattened

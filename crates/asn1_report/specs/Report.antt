@@ -7,7 +7,7 @@ use Rattle.asn1_ranges.specs.Intersection.{intersection}
 use Rattle.asn1_tags.specs.Trees.{leaves}
 use Rattle.asn1_report.specs.Lines.{lines_of, within_limit}
 use Rattle.asn1_report.specs.Statements.{Statement, says_nothing, names_tree, names_bounds, begins_table, adds_component, ends_table, statement_of}
-use Rattle.asn1_report.specs.Tables.{Table, new_table, has_room, with_component, unchecked, table_line, table_verdict, unchecked_text}
+use Rattle.asn1_report.specs.SchemaTables.{Table, new_table, has_room, with_component, unchecked, table_line, table_verdict, unchecked_text}
 use Rattle.asn1_report.specs.Texts.{named_line, refusal_text, tree_verdict, common_text}
 
 -- what an answer depends on beside the line itself

@@ -3,7 +3,7 @@ use Rattle.std.specs.Prelude.{ℕ, List, [], ◌∷◌, Option, Some, None, if�
 use Rattle.asn1_clash.specs.Seen.{component_seen, components_seen, tree_seen}
 use Rattle.asn1_report.specs.Report.{State}
 use Rattle.asn1_report.specs.Statements.{Statement, says_nothing, names_tree, names_bounds, begins_table, adds_component, ends_table}
-use Rattle.asn1_report.specs.Tables.{Table}
+use Rattle.asn1_report.specs.SchemaTables.{Table}
 use Rattle.asn1_report.specs.declared.line.Line.{Line}
 use Rattle.asn1_report.specs.declared.parts.Parts.{Parts}
 use Rattle.asn1_report.specs.declared.parts.Parts.TheVariants.{One, Two, Three}

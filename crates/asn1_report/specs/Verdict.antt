@@ -1,6 +1,6 @@
 -- The texts of verdicts.
 use Rattle.std.specs.Prelude.{ℕ, ◌++◌, List, codes}
-use Rattle.asn1_report.specs.Tables.{clash_text, order_text}
+use Rattle.asn1_report.specs.SchemaTables.{clash_text, order_text}
 use Rattle.asn1_report.specs.Texts.{verdict_of}
 use Rattle.asn1_report.specs.declared.verdict.TableVerdict.{TableVerdict}
 use Rattle.asn1_report.specs.declared.verdict.TreeVerdict.{TreeVerdict}

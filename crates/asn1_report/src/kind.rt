@@ -1,7 +1,7 @@
 //! The kinds of table.
 ghost use Rattle.std.specs.Prelude.{◌≡◌};
 ghost use Rattle.asn1_report.specs.Grammar.{kind_of};
-ghost use Rattle.asn1_report.specs.Tables.{kind_word};
+ghost use Rattle.asn1_report.specs.SchemaTables.{kind_word};
 
 /// Whether a table has the components of a SEQUENCE or of a SET.
 #[derive(Clone, Copy)]

@@ -1,7 +1,7 @@
 //! A table whose `end` has not come yet.
 ghost use Rattle.std.specs.Prelude.{◌≡◌, ◌++◌, IfOk, OnOk};
 ghost use Rattle.asn1_clash.specs.Seen.{component_seen, components_seen};
-ghost use Rattle.asn1_report.specs.Tables.{clash_of, has_room, new_table, table_line, table_verdict, unchecked, unchecked_text, with_component};
+ghost use Rattle.asn1_report.specs.SchemaTables.{clash_of, has_room, new_table, table_line, table_verdict, unchecked, unchecked_text, with_component};
 
 use crate::kind::Kind;
 use crate::texts::write_verdict;

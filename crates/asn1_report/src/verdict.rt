@@ -5,7 +5,7 @@ ghost use Rattle.asn1_tags.specs.declared.tags.Tag.{Tag};
 ghost use Rattle.asn1_fields.specs.CanonicalOrder.{IsCanonical, canonical};
 ghost use Rattle.asn1_fields.specs.DistinctTags.{IsLeast, IsSequenceClash, IsSetClash};
 ghost use Rattle.asn1_fields.specs.Entries.{Component};
-ghost use Rattle.asn1_report.specs.Tables.{clash_of};
+ghost use Rattle.asn1_report.specs.SchemaTables.{clash_of};
 
 use crate::kind::Kind;
 use asn1_clash::TreeSummary;
@@ -80,7 +80,7 @@ struct Clash(Option<(usize, usize)>);
 
 impl fmt::Display for Clash {
     ghost use Rattle.std.specs.Prelude.{Some};
-    ghost use Rattle.asn1_report.specs.Tables.{clash_text};
+    ghost use Rattle.asn1_report.specs.SchemaTables.{clash_text};
 
     ghost output = { λ clash. Some (clash_text clash.0) };
 

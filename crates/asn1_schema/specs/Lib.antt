@@ -1,5 +1,4 @@
 pub mod TaggedStrings
-pub mod TagClasses
 pub mod Words
 -- the definitions of the crates below, each under the name of its subject
 pub use Rattle.asn1_bounds.specs as bounds

@@ -1,8 +1,7 @@
 -- What the author of a type writes: the words that say what the type means, and the steps of a reader's proof, from one place.
 
 -- tags, and types under tags (X.680, 31)
-pub use Rattle.asn1_types.specs.Words.{universal, context, untagged, tagged, explicitly_tagged, explicitly_tagged_as}
-pub use Rattle.asn1_schema.specs.TagClasses.{application, private}
+pub use Rattle.asn1_types.specs.Words.{universal, application, context, private, untagged, tagged, explicitly_tagged, explicitly_tagged_as}
 -- the components of a SEQUENCE or a SET (25 and 27)
 pub use Rattle.asn1_types.specs.Words.{required, optional, with_default, addition, addition_with_default}
 pub use Rattle.asn1_types.specs.Words.{lines, group, sequence, extensible_sequence, set, extensible_set}

@@ -9,7 +9,7 @@ use Rattle.asn1_codec.specs.declared.decode_error.DecodeError.TheVariants.{Memor
 use Rattle.asn1_model.specs.Records.{Record, highest}
 use Rattle.asn1_codec.specs.declared.decode_error.DecodeError.{DecodeError}
 use Rattle.asn1_codec.specs.Reading.{HasAdvanced, MayFail, Outside, Reader, ReadsBack}
-use Rattle.asn1_codec.proofs.ReadingComponents.{PartWay, begin, step, stops, through}
+use Rattle.asn1_codec.proofs.ReadingComponents.{ComponentsRead, begin, step, stops, through}
 
 reads_as : {D V : Type 0} (A : Type 0) (R : Reader D) (c d : ComponentType V) (holds : V → Bool) (old new : D) (result : Result A DecodeError) → SameComponent c d →
     ReadsInto R d holds old new result → ReadsInto R c holds old new result
@@ -30,11 +30,11 @@ same_length (c ∷ cs) (d ∷ ds) same = ap suc (same_length cs ds same.1)
 
 -- The next was read.
 record Next {D S V : Type 0} (R : Reader D) (began then : D) (cs : List (ComponentType V)) (ds : List (Slot S V)) (k : ℕ) (s : S) (v : V) (height : ℕ) (rest : List Record) (outer : Outside) : Type 0 where
-  part : PartWay R began then (drop (suc k) cs) v height rest outer
+  part : ComponentsRead R began then (drop (suc k) cs) v height rest outer
   hold : HoldBefore ds (suc k) s v
 
 module _ {D S V A : Type 0} (R : Reader D) (began now then : D) (s : S) (v : V) (height : ℕ) (rest : List Record) (outer : Outside) where
-  step_at : (x : A) (cs : List (ComponentType V)) (ds : List (Slot S V)) → AreSlotsOf cs ds → (k : ℕ) → k < length cs → PartWay R began now (drop k cs) v height rest outer → R.depth_left then ≡ R.depth_left now →
+  step_at : (x : A) (cs : List (ComponentType V)) (ds : List (Slot S V)) → AreSlotsOf cs ds → (k : ℕ) → k < length cs → ComponentsRead R began now (drop k cs) v height rest outer → R.depth_left then ≡ R.depth_left now →
       HoldBefore ds k s v → ReadsAt R ds k now then s (Ok x) → Next R began then cs ds k s v height rest outer
   step_at x [] ds all k low part same kept reads = absurd (omega (arith, low))
   step_at x (c ∷ cs) [] all k low part same kept reads = absurd all
@@ -46,7 +46,7 @@ module _ {D S V A : Type 0} (R : Reader D) (began now then : D) (s : S) (v : V) 
       record { part = next.part; hold = (kept.0, next.hold) }
 
 module _ {D S V : Type 0} (A : Type 0) (R : Reader D) (began now then : D) (s : S) (v : V) (height : ℕ) (rest : List Record) (outer : Outside) where
-  stops_at : (e : DecodeError) (cs : List (ComponentType V)) (ds : List (Slot S V)) → AreSlotsOf cs ds → (k : ℕ) → k < length cs → PartWay R began now (drop k cs) v height rest outer →
+  stops_at : (e : DecodeError) (cs : List (ComponentType V)) (ds : List (Slot S V)) → AreSlotsOf cs ds → (k : ℕ) → k < length cs → ComponentsRead R began now (drop k cs) v height rest outer →
       ReadsAt {A = A} R ds k now then s (Err e) → MayFail (R.depth_left began) height e
   stops_at e [] ds all k low part reads = absurd (omega (arith, low))
   stops_at e (c ∷ cs) [] all k low part reads = absurd all
@@ -57,7 +57,7 @@ module _ {D S V : Type 0} (A : Type 0) (R : Reader D) (began now then : D) (s : 
 module _ {D S V : Type 0} (R : Reader D) (cs : List (ComponentType V)) (ds : List (Slot S V)) where
   -- The components before this place were read into their slots.
   pub record ReadUpTo (place : ℕ) (began now : D) (s : S) (v : V) (rest : List Record) (outer : Outside) : Type 0 where
-    pub part : PartWay R began now (drop place cs) v (highest (all_records cs v)) rest outer
+    pub part : ComponentsRead R began now (drop place cs) v (highest (all_records cs v)) rest outer
     pub hold : HoldBefore ds place s v
 
   module _ (all : AreSlotsOf cs ds) (began : D) (v : V) (rest : List Record) (outer : Outside) where
@@ -79,7 +79,7 @@ module _ {D S V : Type 0} (R : Reader D) (cs : List (ComponentType V)) (ds : Lis
         MatchResult result (λ w. HasAdvanced R began now (highest (all_records cs v)) (rest, outer) (eq w v ≡ true)) (MayFail (R.depth_left began) (highest (all_records cs v)))
     all_read eq now s place result end upto makes = answered result (makes v (subst (λ n. HoldBefore ds n s v) (sym end ∙ same_length cs ds all) upto.hold))
       where
-        none_left : (ds : List (ComponentType V)) (k : ℕ) → length ds ≤ k → PartWay R began now (drop k ds) v (highest (all_records cs v)) rest outer → PartWay R began now [] v (highest (all_records cs v)) rest outer
+        none_left : (ds : List (ComponentType V)) (k : ℕ) → length ds ≤ k → ComponentsRead R began now (drop k ds) v (highest (all_records cs v)) rest outer → ComponentsRead R began now [] v (highest (all_records cs v)) rest outer
         none_left [] zero past part = part
         none_left [] (suc k) past part = part
         none_left (d ∷ ds) zero past part = absurd (omega (arith, past))

@@ -139,7 +139,7 @@ module _ {S V : Type 0} where
 
 module _ {D S V : Type 0} (R : Reader D) (cs : List (ComponentType V)) (hs : List (Slot S V)) (v : V) where
   -- Some components were read into their slots, and others are left. The records of all are so high.
-  pub record SlotsMidway (d : D) (s : S) (height : ℕ) (outer : Outside) (place bound : ℕ) : Type 0 where
+  pub record SlotsRead (d : D) (s : S) (height : ℕ) (outer : Outside) (place bound : ℕ) : Type 0 where
     pub came : List ℕ
     pub so_far : PartsRead R cs v (λ i. i) (λ _. ⊤) d came height outer place bound
     pub in_step : AreInStep hs 0 came s v
@@ -152,7 +152,7 @@ module _ {D S V : Type 0} (R : Reader D) (cs : List (ComponentType V)) (hs : Lis
 
   module _ (all : AreSlotsOf cs hs) (single : has_no_group hs ≡ true) (can : EachIsWellTagged cs) where
     pub begin : (d : D) (s : S) (items : List Record) (outer : Outside) (bound : ℕ) → AreEmpty hs s → IsPermutation items (all_records cs v) → records_in items ≤ bound → R.remains d (items, outer) →
-        SlotsMidway d s (highest items) outer 0 bound
+        SlotsRead d s (highest items) outer 0 bound
     begin d s items outer bound empty moved few at = record {
       came = [];
       so_far = start R cs v (λ i. i) (λ _. ⊤) d items outer bound (one_each cs hs all single v can) moved few at;
@@ -174,7 +174,7 @@ module _ {D S V : Type 0} (R : Reader D) (cs : List (ComponentType V)) (hs : Lis
     -- after it was read
     pub one_more : {d : D} {s : S} {height : ℕ} {outer : Outside} {place bound index : ℕ} (e : D) (after : S) (comes : SlotComes d s height outer place bound index) →
         HasAdvanced R d e (highest (written_of cs v index)) (records comes.next.todo, outer) (HoldsAt hs index after v) → OthersAreKept hs index s after v → R.depth_left e ≡ R.depth_left d →
-        SlotsMidway e after height outer (place + 1) bound
+        SlotsRead e after height outer (place + 1) bound
     one_more {s = s} {index = index} e after comes moved kept same = record {
       came = comes.came ++ index ∷ [];
       so_far = further R cs v (λ i. i) (λ _. ⊤) e index comes.next refl tt moved.within_depth_left moved.at same;
@@ -182,7 +182,7 @@ module _ {D S V : Type 0} (R : Reader D) (cs : List (ComponentType V)) (hs : Lis
     }
 
     -- where a component comes, which begins with the tag
-    pub comes_next : {d : D} {s : S} {height : ℕ} {outer : Outside} {place bound : ℕ} (e : D) (t : Tag) (index : ℕ) (m : SlotsMidway d s height outer place bound) → AllApart cs → CanBeginWith cs index t →
+    pub comes_next : {d : D} {s : S} {height : ℕ} {outer : Outside} {place bound : ℕ} (e : D) (t : Tag) (index : ℕ) (m : SlotsRead d s height outer place bound) → AllApart cs → CanBeginWith cs index t →
         Advances R d e 0 (records m.so_far.todo, outer) (marks_passed (records m.so_far.todo), outer) (IsNextTag cs (records m.so_far.todo)) (Ok (Some t)) → R.depth_left e ≡ R.depth_left d → SlotComes e s height outer place bound index
     comes_next e t index m apart begins moves same = record {
       came = m.came;
@@ -200,13 +200,13 @@ module _ {D S V : Type 0} (R : Reader D) (cs : List (ComponentType V)) (hs : Lis
     }
 
     -- where none is left
-    pub none_is_left : {d : D} {s : S} {height : ℕ} {outer : Outside} {place bound : ℕ} (e : D) (m : SlotsMidway d s height outer place bound) →
+    pub none_is_left : {d : D} {s : S} {height : ℕ} {outer : Outside} {place bound : ℕ} (e : D) (m : SlotsRead d s height outer place bound) →
         Advances R d e 0 (records m.so_far.todo, outer) (marks_passed (records m.so_far.todo), outer) (IsNextTag cs (records m.so_far.todo)) (Ok None) → R.depth_left e ≡ R.depth_left d →
         HasAdvanced R e e height ([], outer) (HoldBefore hs (length hs) s v)
     none_is_left {s = s} e m moves same = all_hold s m.came (through R cs v (λ i. i) (λ _. ⊤) e m.so_far moves same) m.in_step
 
     -- where as many were read as there can be
-    pub as_many_as_can : {d : D} {s : S} {height : ℕ} {outer : Outside} {place bound : ℕ} (e : D) (answer : Option Tag) (m : SlotsMidway d s height outer place bound) → bound ≤ place →
+    pub as_many_as_can : {d : D} {s : S} {height : ℕ} {outer : Outside} {place bound : ℕ} (e : D) (answer : Option Tag) (m : SlotsRead d s height outer place bound) → bound ≤ place →
         Advances R d e 0 (records m.so_far.todo, outer) (marks_passed (records m.so_far.todo), outer) (IsNextTag cs (records m.so_far.todo)) (Ok answer) → R.depth_left e ≡ R.depth_left d →
         HasAdvanced R e e height ([], outer) (HoldBefore hs (length hs) s v)
     as_many_as_can {s = s} e answer m full moves same = all_hold s m.came (filled R cs v (λ i. i) (λ _. ⊤) e answer m.so_far full moves same) m.in_step

@@ -2,7 +2,7 @@
 ghost use Rattle.asn1_choices.specs.Alternatives.{Each, OneOf, all_of, trees_of};
 ghost use Rattle.asn1_choices.specs.ChosenTags.{LacksTag};
 ghost use Rattle.asn1_codec.specs.DecodeErrors.{no_memory, no_valid_choice, reason};
-ghost use Rattle.asn1_codec.specs.ReadingTypes.{ReadsChosen};
+ghost use Rattle.asn1_codec.specs.ReadingTypes.{ReadsAlternative};
 ghost use Rattle.asn1_components.specs.Following.{Where};
 ghost use Rattle.asn1_slots.specs.Cases.{Case, IsMade, ReadsCaseAt, alternatives_of, are_of_cases, choice_of_cases};
 ghost use Rattle.asn1_slots.specs.TagPlaces.{IsPlaceOf};
@@ -42,7 +42,7 @@ fn read_at<T: DecodeChoiceByPlace + ChoiceType, D: Decoder>(
     place: Option<usize>,
 ) -> Result<T, DecodeError>
     ensures read { (t : Tag) → IsPlaceOf t (trees_of (alternatives_of T.cases)) place →
-        ReadsChosen D.reader t (choice_of_cases T.cases) T.case_of T.eq decoder.old decoder.new
+        ReadsAlternative D.reader t (choice_of_cases T.cases) T.case_of T.eq decoder.old decoder.new
         result }
     ensures unknown { (t : Tag) → IsPlaceOf t (trees_of (all_of T.alternatives)) place →
         Each (LacksTag t) (all_of T.alternatives) →
@@ -72,7 +72,7 @@ pub fn from_tag_by_place<T: DecodeChoiceByPlace + ChoiceType, D: Decoder>(
     decoder: &mut D,
     tag: Tag,
 ) -> Result<T, DecodeError>
-    ensures read { Where (are_of_cases T.alternatives T.cases) (ReadsChosen D.reader tag
+    ensures read { Where (are_of_cases T.alternatives T.cases) (ReadsAlternative D.reader tag
         (choice_of_cases T.cases) T.case_of T.eq decoder.old decoder.new result) }
     ensures unknown { Each (LacksTag tag) (all_of T.alternatives) →
         IsErrAnd result (λ e. reason e ≡ no_valid_choice (unwrap_or T.meaning.name [])) }
@@ -90,7 +90,7 @@ pub fn from_tag_by_table<T: DecodeChoiceByPlace + ChoiceType, D: Decoder>(
     tag: Tag,
     table: &[(Tag, usize)],
 ) -> Result<T, DecodeError>
-    ensures read { Where (are_of_cases T.alternatives T.cases) (ReadsChosen D.reader tag
+    ensures read { Where (are_of_cases T.alternatives T.cases) (ReadsAlternative D.reader tag
         (choice_of_cases T.cases) T.case_of T.eq decoder.old decoder.new result) }
     ensures unknown { Each (LacksTag tag) (all_of T.alternatives) →
         IsErrAnd result (λ e. reason e ≢ no_memory →

@@ -15,7 +15,7 @@ use Rattle.std.proofs.lemmas.Map.Keys.{Less-from_sorted, IsDistinct-cons, IsDist
 use Rattle.std.proofs.lemmas.Map.Steps.{length-le_from_distinct_below}
 use Rattle.std.proofs.lemmas.Option.{get_or_from_slice_get, slice_get-get_or, slice_get_within}
 use Rattle.asn1_tags.specs.OrderLaws.{tag_total}
-use Rattle.asn1_tags.specs.Tables.{Entry, EntryFits, TableFits, entry_before, entry_cmp}
+use Rattle.asn1_tags.specs.TagTables.{Entry, EntryFits, TableFits, entry_before, entry_cmp}
 use Rattle.asn1_tags.specs.declared.tags.Tag.{Tag}
 
 -- the order of entries is total

@@ -17,7 +17,7 @@ use Rattle.std.proofs.lemmas.Option.{get_or_from_slice_get, slice_get-get_or, sl
 use Rattle.asn1_tags.proofs.Distinct.{tag_eq-true, tag_eq-refl}
 use Rattle.asn1_tags.proofs.Fitting.{entry_of_place, sorted_fits, sorted_from_fits, tag_at_position, tag_from_fit}
 use Rattle.asn1_tags.specs.OrderLaws.{structure_cmp-Equal, tag_total}
-use Rattle.asn1_tags.specs.Tables.{Entry, TableFits, binary_digits, entry_cmp, first_position}
+use Rattle.asn1_tags.specs.TagTables.{Entry, TableFits, binary_digits, entry_cmp, first_position}
 use Rattle.asn1_tags.specs.Tags.{position_of, smallest, tag_cmp, tag_eq}
 use Rattle.asn1_tags.specs.Trees.{leaf, leaves}
 use Rattle.asn1_tags.specs.declared.tags.Tag.{Tag}

@@ -4,5 +4,5 @@ pub mod Walks
 pub mod Order
 pub mod OrderLaws
 pub mod Names
-pub mod Tables
+pub mod TagTables
 pub mod Derives

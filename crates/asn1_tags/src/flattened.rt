@@ -2,7 +2,7 @@
 #![tactic(auto, using(crate::proofs::Leaves::tree_shapes, crate::proofs::Leaves::flat_steps))]
 
 ghost use Rattle.std.specs.Prelude.{◌≡◌, ◌≢◌, ◌<◌, ◌≤◌, ◌++◌, ℕ, [], length, IsSome, IfOk, OnOk, IsOkUnless, IsErrOf, Some, None};
-ghost use Rattle.asn1_tags.specs.Tables.{FailsFirstAt, TableFits, binary_digits};
+ghost use Rattle.asn1_tags.specs.TagTables.{FailsFirstAt, TableFits, binary_digits};
 ghost use Rattle.asn1_tags.specs.Tags.{position_of};
 ghost use Rattle.asn1_tags.specs.Trees.{leaves, leaves_of, shape, shapes};
 
@@ -25,7 +25,7 @@ pub struct Variants {
 
 impl Model for Variants {
     ghost use Rattle.std.specs.Prelude.{option_map};
-    ghost use Rattle.asn1_tags.specs.Tables.{TagList, TableFitsIfAny};
+    ghost use Rattle.asn1_tags.specs.TagTables.{TagList, TableFitsIfAny};
 
     ghost Value = { TagList };
 

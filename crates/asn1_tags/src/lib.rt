@@ -35,7 +35,7 @@
 //!   first (`FailsFirstAt`, the clause `mismatch`). `position_of` and `find_counted` give the first
 //!   place of a tag. `find_counted` also counts its comparisons of tags: with a table at most as many
 //!   as the length of the list has binary digits (the clause `few`), at most one for each tag in any
-//!   case, and at least one where the list is not empty. `specs/Tables.antt` defines these words.
+//!   case, and at least one where the list is not empty. `specs/TagTables.antt` defines these words.
 //! - An `Identifier` is its text, `name_of` in `specs/Names.antt`: `or` keeps a name and takes the
 //!   other in place of none.
 //! - `laws::derives_take_every_part` does nothing. Its contract says what the derived equality, order, hash

@@ -2,7 +2,7 @@
 
 ghost use Rattle.std.specs.Prelude.{◌≡◌, ◌≢◌, ◌+◌, ◌<◌, ◌≤◌, ◌^◌, [], length};
 ghost use Rattle.std.specs.List.Sorted.{IsStrictlySortedBy};
-ghost use Rattle.asn1_tags.specs.Tables.{binary_digits, entry_cmp, first_position};
+ghost use Rattle.asn1_tags.specs.TagTables.{binary_digits, entry_cmp, first_position};
 ghost use Rattle.asn1_tags.specs.Tags.{position_of, tag_cmp};
 
 use crate::tags::Tag;

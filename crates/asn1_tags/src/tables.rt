@@ -2,7 +2,7 @@
 
 ghost use Rattle.std.specs.Prelude.{◌≡◌, ◌↔◌, ◌<◌, IsTrue, length, slice_get, MatchOption, Some};
 ghost use Rattle.std.specs.declared.cmp.Ordering.TheVariants.{Less};
-ghost use Rattle.asn1_tags.specs.Tables.{EntryFits, FailsFirstAt, TableFits, entry_cmp};
+ghost use Rattle.asn1_tags.specs.TagTables.{EntryFits, FailsFirstAt, TableFits, entry_cmp};
 
 use crate::tags::Tag;
 use std::cmp::Ordering;

@@ -6,7 +6,7 @@ ghost use Rattle.asn1_model.specs.Composites.{sequence_records, group_records, o
 ghost use Rattle.asn1_model.specs.ConstraintSets.{unconstrained, size_of};
 ghost use Rattle.asn1_model.specs.Orders.{Same};
 ghost use Rattle.asn1_model.specs.Records.{Record, scalar, open_type, presence_mark, holding, sequence, set as set_head, set_of, explicit_tag, alternative, in_root, present, absent, group_start, group_absent, group_end, null, highest};
-ghost use Rattle.asn1_model.specs.Tables.{no_table};
+ghost use Rattle.asn1_model.specs.RecordTables.{no_table};
 ghost use Rattle.asn1_model.specs.Tags.{universal, context, CHOICE, every, among, only, first_tags};
 ghost use Rattle.asn1_model.specs.WellFormed.{AreWellFormed};
 

@@ -10,5 +10,5 @@ pub use Rattle.asn1_model.specs.ConstraintSets
 pub use Rattle.asn1_model.specs.Meaning
 pub use Rattle.asn1_model.specs.Orders
 pub use Rattle.asn1_model.specs.Records
-pub use Rattle.asn1_model.specs.Tables
+pub use Rattle.asn1_model.specs.RecordTables
 pub use Rattle.asn1_model.specs.Tags

@@ -1,7 +1,7 @@
 -- The words with which the author of a type says what it means, from one place.
 
 -- tags, and types under tags (X.680, 31)
-pub use Rattle.asn1_model.specs.Tags.{universal, context}
+pub use Rattle.asn1_model.specs.Tags.{universal, application, context, private}
 pub use Rattle.asn1_model.specs.TaggedTypes.{untagged, tagged, explicitly_tagged, explicitly_tagged_as}
 -- the components of a SEQUENCE or a SET (25 and 27)
 pub use Rattle.asn1_components.specs.ComponentTypes.{required, optional, with_default, addition, addition_with_default}

@@ -4,7 +4,7 @@ use Rattle.std.proofs.Common.{inl, inr}
 use Rattle.asn1_schema.specs.model.Tags.{context}
 use Rattle.asn1_schema.specs.model.contracts.impls.null.UnitAsnType.TheImpl.{ghosts as null}
 use Rattle.asn1_schema.specs.model.Meaning.{Meaning}
-use Rattle.asn1_schema.specs.model.Tables.{Line, Table}
+use Rattle.asn1_schema.specs.model.RecordTables.{Line, Table}
 use Rattle.asn1_schema.specs.model.TaggedTypes.{tagged, untagged}
 use Rattle.asn1_schema.specs.choices.Alternatives.{Alternatives, OneOf, SaysTheSame, ValueMeaning, all_of, alternative, closed, chosen_meaning, says_itself, value_meaning}
 use Rattle.asn1_schema.specs.choices.ChoiceTypes.{alternatives_with_itself, choice_holding_itself, itself_under, table_with_itself}

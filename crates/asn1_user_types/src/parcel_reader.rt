@@ -3,7 +3,7 @@ ghost use Rattle.asn1_schema.specs.choices.Alternatives.{Each, all_of};
 ghost use Rattle.asn1_schema.specs.choices.ChosenTags.{LacksTag};
 ghost use Rattle.asn1_schema.specs.codec.DecodeErrors.{no_valid_choice, reason};
 ghost use Rattle.asn1_schema.specs.codec.Reading.{KeepsDepth, ReadsValue};
-ghost use Rattle.asn1_schema.specs.codec.ReadingTypes.{ReadsChosen};
+ghost use Rattle.asn1_schema.specs.codec.ReadingTypes.{ReadsAlternative};
 ghost use Rattle.asn1_schema.specs.model.ConstraintSets.{constraint_set};
 ghost use Rattle.asn1_schema.specs.model.Tags.{CHOICE};
 ghost use Rattle.asn1_user_types.specs.ParcelAlternatives.{parcel_alternatives, parcel_meaning, parcel_pick};
@@ -57,7 +57,7 @@ fn read_untagged<D: Decoder>(
 /// The alternative that can begin with the tag.
 #[cycle(parcels)]
 pub(crate) fn read_alternative<D: Decoder>(decoder: &mut D, tag: Tag) -> Result<Parcel, DecodeError>
-    ensures read { ReadsChosen D.reader tag parcel_alternatives parcel_pick
+    ensures read { ReadsAlternative D.reader tag parcel_alternatives parcel_pick
         ⟦<Parcel as PartialEq>⟧.eq
         decoder.old decoder.new result }
     ensures unknown { Each (LacksTag tag) (all_of parcel_alternatives) →

@@ -1,9 +1,8 @@
 //! `BindRequest ::= [APPLICATION 0] SEQUENCE { version INTEGER (1..127), name LDAPDN, simple [0] OCTET STRING }` (RFC 4511, 4.2),
 //! of whose kinds of authentication only one is here.
 ghost use Rattle.std.specs.Prelude.{Some, [], codes, pos, ◌∷◌, ◌≡◌};
-ghost use Rattle.asn1_protocols.specs.TagClasses.{application};
 ghost use Rattle.asn1_slots.specs.Slots.{required_slot, sequence_of_slots};
-ghost use Rattle.asn1_types.specs.Words.{IsWellTagged, Range, constructed_agrees, constructed_type_under, context, holding, lines, number, octet, own_records, scalar, sequence_head, tagged, unconstrained, units, universal, untagged, values_of};
+ghost use Rattle.asn1_types.specs.Words.{IsWellTagged, Range, application, constructed_agrees, constructed_type_under, context, holding, lines, number, octet, own_records, scalar, sequence_head, tagged, unconstrained, units, universal, untagged, values_of};
 
 use asn1_dec::{Decode, DecodeError, Decoder};
 use asn1_enc::{Encode, EncodeError, EncodeFields, Encoder};

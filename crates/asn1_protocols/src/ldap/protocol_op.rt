@@ -8,9 +8,8 @@
 //! }
 //! ```
 ghost use Rattle.std.specs.Prelude.{[], codes, refl, ◌∷◌};
-ghost use Rattle.asn1_protocols.specs.TagClasses.{application};
 ghost use Rattle.asn1_slots.specs.Cases.{choice_of_cases, variant};
-ghost use Rattle.asn1_types.specs.Words.{IsWellTagged, choice_agrees, choice_of, inl, inr, tagged, untagged};
+ghost use Rattle.asn1_types.specs.Words.{IsWellTagged, application, choice_agrees, choice_of, inl, inr, tagged, untagged};
 ghost use Rattle.asn1_protocols.specs.declared.ldap.protocol_op.ProtocolOp.TheVariants.{Bind, Unbind, Delete};
 
 use crate::ldap::BindRequest;

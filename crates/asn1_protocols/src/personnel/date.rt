@@ -1,7 +1,6 @@
 //! `Date ::= [APPLICATION 3] IMPLICIT VisibleString -- YYYYMMDD`
 ghost use Rattle.std.specs.Prelude.{◌≡◌, [], ◌∷◌, All, IsTrue, Some, codes};
-ghost use Rattle.asn1_protocols.specs.TagClasses.{application};
-ghost use Rattle.asn1_types.specs.Words.{IsWellTagged, own_records, scalar, unconstrained, units, visible};
+ghost use Rattle.asn1_types.specs.Words.{IsWellTagged, application, own_records, scalar, unconstrained, units, visible};
 ghost use Rattle.asn1_model.specs.Kinds.{scalar_type, under_own_name};
 ghost use Rattle.asn1_strings.specs.Alphabets.{is_visible};
 

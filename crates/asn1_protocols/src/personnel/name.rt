@@ -1,8 +1,7 @@
 //! `Name ::= [APPLICATION 1] IMPLICIT SEQUENCE { givenName VisibleString, initial VisibleString, familyName VisibleString }`
 ghost use Rattle.std.specs.Prelude.{[], codes, ◌∷◌};
-ghost use Rattle.asn1_protocols.specs.TagClasses.{application};
 ghost use Rattle.asn1_slots.specs.Slots.{required_slot, sequence_of_slots};
-ghost use Rattle.asn1_types.specs.Words.{IsWellTagged, constructed_agrees, constructed_type_under, untagged};
+ghost use Rattle.asn1_types.specs.Words.{IsWellTagged, application, constructed_agrees, constructed_type_under, untagged};
 
 use asn1_dec::{Decode, DecodeError, Decoder};
 use asn1_enc::{Encode, EncodeError, EncodeFields, Encoder};

@@ -12,9 +12,8 @@
 //! EmployeeNumber ::= [APPLICATION 2] IMPLICIT INTEGER
 //! ```
 ghost use Rattle.std.specs.Prelude.{Some, [], codes, refl, ◌++◌, ◌∷◌, ◌≡◌};
-ghost use Rattle.asn1_protocols.specs.TagClasses.{application};
 ghost use Rattle.asn1_slots.specs.Slots.{default_slot_by, is_empty_list, required_slot, set_of_slots};
-ghost use Rattle.asn1_types.specs.Words.{IsWellTagged, absent, constructed_agrees, constructed_type_under, context, explicit_tag, explicitly_tagged, holding, in_root, lines, number, own_records, presence_mark, scalar, set_head, tagged, unconstrained, units, universal, untagged, visible};
+ghost use Rattle.asn1_types.specs.Words.{IsWellTagged, absent, application, constructed_agrees, constructed_type_under, context, explicit_tag, explicitly_tagged, holding, in_root, lines, number, own_records, presence_mark, scalar, set_head, tagged, unconstrained, units, universal, untagged, visible};
 
 use crate::personnel::{ChildInformation, Date, Name};
 use asn1_dec::{Decode, DecodeError, Decoder};

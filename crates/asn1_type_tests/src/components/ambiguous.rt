@@ -19,7 +19,7 @@ struct Ambiguous {
 /// No type of these components is well tagged: the tag of a component that may be absent is that of the next, also
 /// inside a group; two components of a SET share a tag, also inside a group; an addition is always there; a group is a SET.
 /// With an addition that has a default one is.
-fn ambiguous_cannot_stand_inside()
+fn ambiguous_is_not_well_tagged()
     ensures sequence { ¬ IsWellTagged (constructed_type {V = Ambiguous} (codes "Ambiguous")
         (sequence (optional (codes "a") (λ v. v.a) (tagged (context 0)
         ⟦<bool as AsnType>⟧.meaning) ∷ required (codes "b") (λ v. v.b) (tagged (context 0)

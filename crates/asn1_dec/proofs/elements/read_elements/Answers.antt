@@ -2,7 +2,7 @@ use Rattle.std.proofs.Common.{[], ◌∷◌, inl, arith, ap, length, length-appe
 use Rattle.std.specs.List.{flat_map}
 use Rattle.std.proofs.lemmas.Result.{err_from_is_err_and}
 use Rattle.asn1_model.specs.Meaning.{own_records}
-use Rattle.asn1_codec.proofs.ReadingElements.{not_told, another, through, further, no_higher}
+use Rattle.asn1_codec.proofs.ReadingElements.{not_told, another, through, further, no_deeper}
 use Rattle.asn1_codec.proofs.ReadingSteps.{fails_below}
 use Rattle.asn1_dec.proofs.elements.read_elements.Goals as goal
 
@@ -35,4 +35,4 @@ returns-in-Err-clause-read g c = λ vs scope outer can of_type valid few at.
     let mid = c.loop-index.invariant.so_far vs scope outer can of_type valid at in
     let a = another g.D.Decoder.reader g.T.AsnType.meaning g.T.PartialEq.eq can _ mid c.in_ok-more.ensures.read c.if-not-branch.false c.in_ok-more.ensures.opens_nothing.keeps_depth.same_depth in
     let r = c.in-Err.ensures.read a.next g.T.AsnType.meaning.name (flat_map (own_records g.T.AsnType.meaning) a.todo) (scope ∷ outer) can.1 a.next_of_type a.next_valid (inl can.0) a.at in
-    rw c.refuse.ensures.same (fails_below _ _ _ (omega (arith, c.loop-index.invariant.kept, c.in_ok-more.ensures.opens_nothing.keeps_depth.same_depth)) (no_higher (own_records g.T.AsnType.meaning) a.done a.todo a.next vs a.split) r)
+    rw c.refuse.ensures.same (fails_below _ _ _ (omega (arith, c.loop-index.invariant.kept, c.in_ok-more.ensures.opens_nothing.keeps_depth.same_depth)) (no_deeper (own_records g.T.AsnType.meaning) a.done a.todo a.next vs a.split) r)

@@ -58,7 +58,7 @@ returns-in-Err-clause-read g c = λ v tag n items rest outer can of_type valid m
     let a = comes_at R cs v g.S.DecodeSet.index_of (g.S.DecodeSet.is_part_of v) c.in-Some-component_with_tag.index (set_apart cs can.1.0) c.in-Some-component_with_tag.ensures
     (comes R cs v g.S.DecodeSet.index_of (g.S.DecodeSet.is_part_of v) c.next_component.new.self c.in-Some.tag can.0 m (rw c.in-Some.is at (c.in_ok-tag.ensures.read tag n can (records m.todo) rest outer)) c.in_ok-tag.ensures.opens_nothing.keeps_depth.same_depth) in
     let r = c.in-Err.ensures.read v (records a.todo) ((_, rest) ∷ outer) can.0 of_type valid a.is_there a.at in
-    rw c.refuse-in-Err.ensures.same (fails_below _ _ _ (omega (arith, c.loop-place.invariant.kept, c.in_ok-tag.ensures.opens_nothing.keeps_depth.same_depth)) (omega (arith, a.no_higher)) r)
+    rw c.refuse-in-Err.ensures.same (fails_below _ _ _ (omega (arith, c.loop-place.invariant.kept, c.in_ok-tag.ensures.opens_nothing.keeps_depth.same_depth)) (omega (arith, a.no_deeper)) r)
 
 pub returns-in_err-next_component-clause-read : goal.returns-in_err-next_component-clause-read
 returns-in_err-next_component-clause-read g c = λ v tag n items rest outer can of_type valid moved few at.

@@ -1,7 +1,7 @@
 use Rattle.std.proofs.Common.{sym, ap, ◌∙◌}
 use Rattle.std.specs.Option.{option_map}
 use Rattle.std.proofs.lemmas.Option.{none-some}
-use Rattle.asn1_enumerations.specs.Tables.{line_item}
+use Rattle.asn1_enumerations.specs.ItemTables.{line_item}
 use Rattle.asn1_enumerations.proofs.Labels.{its_item}
 use Rattle.asn1_enumerations.proofs.Lines.{line_found}
 use Rattle.asn1_enumerations.proofs.enumerated.line_of.Goals as goal

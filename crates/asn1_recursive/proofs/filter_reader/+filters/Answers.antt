@@ -4,7 +4,7 @@ use Rattle.std.specs.Prelude.{Some, codes}
 use Rattle.std.proofs.lemmas.Result.{err_from_is_err_and}
 use Rattle.asn1_choices.specs.Alternatives.{all_of, chosen_meaning, value_meaning}
 use Rattle.asn1_codec.proofs.ReadingSetsOf.{before_elements}
-use Rattle.asn1_codec.proofs.ReadingElements.{another, filled, further, no_higher, not_told, start, through}
+use Rattle.asn1_codec.proofs.ReadingElements.{another, filled, further, no_deeper, not_told, start, through}
 use Rattle.asn1_codec.proofs.ReadingSteps.{fails_below, fails_inside, flat_failure, moved_as, within_scope}
 use Rattle.asn1_model.specs.ConstraintSets.{constraint_set, unconstrained}
 use Rattle.asn1_model.specs.Meaning.{own_records}
@@ -283,7 +283,7 @@ read_filters-returns-in_err-filter-clause-read g t c = λ vs scope outer of_type
     let mid = c.loop-index.invariant.so_far vs scope outer of_type valid at in
     let a = another g.D.Decoder.reader filter_meaning ghosts.eq filter_can _ mid c.in_ok-more.ensures.read c.if-not-branch.false c.in_ok-more.ensures.opens_nothing.keeps_depth.same_depth in
     let r = c.in_err-filter.ensures.read a.next filter_meaning.name (flat_map (own_records filter_meaning) a.todo) (scope ∷ outer) filter_can.1 a.next_of_type a.next_valid (inl tt) a.at in
-    rw (p.1, p.2) (fails_below _ _ _ (omega (arith, c.loop-index.invariant.kept, c.in_ok-more.ensures.opens_nothing.keeps_depth.same_depth)) (no_higher (own_records filter_meaning) a.done a.todo a.next vs a.split) r)
+    rw (p.1, p.2) (fails_below _ _ _ (omega (arith, c.loop-index.invariant.kept, c.in_ok-more.ensures.opens_nothing.keeps_depth.same_depth)) (no_deeper (own_records filter_meaning) a.done a.todo a.next vs a.split) r)
 
 pub read_filters-returns-in-Err-clause-read : goal.read_filters-returns-in-Err-clause-read
 read_filters-returns-in-Err-clause-read g t c = λ vs scope outer of_type valid few at. inl c.refuse.ensures.same

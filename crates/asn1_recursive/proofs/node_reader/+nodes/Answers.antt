@@ -2,7 +2,7 @@ use Rattle.std.proofs.Common.{[], ◌∷◌, ap, arith, length, length-append}
 use Rattle.std.specs.List.{flat_map}
 use Rattle.std.specs.Prelude.{Some, codes}
 use Rattle.std.proofs.lemmas.Result.{err_from_is_err_and}
-use Rattle.asn1_codec.proofs.ReadingElements.{another, as_many, filled, further, no_higher, not_told, start, through}
+use Rattle.asn1_codec.proofs.ReadingElements.{another, as_many, filled, further, no_deeper, not_told, start, through}
 use Rattle.asn1_codec.proofs.ReadingSteps.{fails_below, fails_deeper, flat_failure}
 use Rattle.asn1_model.specs.ConstraintSets.{unconstrained}
 use Rattle.asn1_model.specs.Meaning.{own_records}
@@ -50,7 +50,7 @@ read_children-returns-in_err-child-clause-read g t c = λ vs scope outer of_type
     let mid = c.loop-index.invariant.so_far vs scope outer of_type valid at in
     let a = another g.D.Decoder.reader node_meaning ghosts.eq node_can _ mid c.in_ok-more.ensures.read c.if-not-branch.false c.in_ok-more.ensures.opens_nothing.keeps_depth.same_depth in
     let r = c.in_err-child.ensures.read a.next node_meaning.name (flat_map (own_records node_meaning) a.todo) (scope ∷ outer) a.next_of_type a.next_valid a.at in
-    rw (p.1, p.2) (fails_below _ _ _ (omega (arith, c.loop-index.invariant.kept, c.in_ok-more.ensures.opens_nothing.keeps_depth.same_depth)) (no_higher (own_records node_meaning) a.done a.todo a.next vs a.split) r)
+    rw (p.1, p.2) (fails_below _ _ _ (omega (arith, c.loop-index.invariant.kept, c.in_ok-more.ensures.opens_nothing.keeps_depth.same_depth)) (no_deeper (own_records node_meaning) a.done a.todo a.next vs a.split) r)
 
 pub read_children-returns-clause-read : goal.read_children-returns-clause-read
 read_children-returns-clause-read g t c = λ vs scope outer of_type valid few at.

@@ -58,7 +58,7 @@ returns-in-Err-clause-read g c = λ all v tag n items rest outer can of_type val
     let a = comes_next R cs g.S.DecodeSetByPlace.layout v all g.met.S.DecodeSetByPlace.no_group can.0 c.next_component.new.self c.in-Some.tag c.in-Some-component_with_tag.place m (set_apart cs can.1.0) c.in-Some-component_with_tag.ensures
     (rw c.in-Some.is at (c.in_ok-tag.ensures.read tag n can (records m.so_far.todo) rest outer)) c.in_ok-tag.ensures.opens_nothing.keeps_depth.same_depth in
     let r = reads R cs g.S.DecodeSetByPlace.layout v all g.met.S.DecodeSetByPlace.no_group can.0 c.decode_field.new.decoder c.decode_field.new.slots _ a of_type valid c.in-Err.ensures.read a.next.at in
-    rw c.refuse-in-Err.ensures.same (fails_below _ _ _ (omega (arith, c.loop-count.invariant.kept, c.in_ok-tag.ensures.opens_nothing.keeps_depth.same_depth)) (omega (arith, a.next.no_higher)) r)
+    rw c.refuse-in-Err.ensures.same (fails_below _ _ _ (omega (arith, c.loop-count.invariant.kept, c.in_ok-tag.ensures.opens_nothing.keeps_depth.same_depth)) (omega (arith, a.next.no_deeper)) r)
 
 pub returns-in_err-next_component-clause-read : goal.returns-in_err-next_component-clause-read
 returns-in_err-next_component-clause-read g c = λ all v tag n items rest outer can of_type valid moved few at.

@@ -6,7 +6,7 @@ use Rattle.asn1_tags.specs.declared.tags.Tag.{Tag}
 use Rattle.asn1_codec.specs.Reading.{Outside, records_in}
 use Rattle.asn1_model.specs.Records.{Name, Record, highest, set}
 use Rattle.asn1_codec.specs.SetParts.{CanBeInSet}
-use Rattle.asn1_slots.proofs.ReadInSets.{SlotsMidway}
+use Rattle.asn1_slots.proofs.ReadInSets.{SlotsRead}
 use Rattle.asn1_slots.specs.Slots.{AreSlotsOf}
 use Rattle.asn1_slots.proofs.set_by_place.read_slots.Given as goal
 
@@ -17,6 +17,6 @@ invariant-loop-count g l =
       kept : g.D.Decoder.reader.depth_left l.decoder ≡ g.D.Decoder.reader.depth_left l.fn.decoder;
       so_far : AreSlotsOf cs g.S.DecodeSetByPlace.layout → (v : _) (tag : Tag) (n : Name) (items rest : List Record) (outer : Outside) → CanBeInSet cs → EachIsOfType cs v → EachIsValid cs g.D.Decoder.reader.accepts v →
           IsPermutation items (component_records g.S.FieldTable.components v) → records_in items ≤ l.bound → g.D.Decoder.reader.remains l.fn.decoder (items, (set tag (lines g.S.FieldTable.components) n, rest) ∷ outer) →
-          SlotsMidway g.D.Decoder.reader cs g.S.DecodeSetByPlace.layout v l.decoder l.slots (highest items)
+          SlotsRead g.D.Decoder.reader cs g.S.DecodeSetByPlace.layout v l.decoder l.slots (highest items)
           ((set tag (lines g.S.FieldTable.components) n, rest) ∷ outer) l.count l.bound;
     }

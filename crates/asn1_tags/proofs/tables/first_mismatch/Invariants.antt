@@ -1,5 +1,5 @@
 use Rattle.std.proofs.Common.{ℕ, ◌<◌}
-use Rattle.asn1_tags.specs.Tables.{EntryFits}
+use Rattle.asn1_tags.specs.TagTables.{EntryFits}
 use Rattle.asn1_tags.proofs.tables.first_mismatch.Given as goal
 
 -- each entry so far fits

@@ -5,7 +5,7 @@ use Rattle.std.proofs.lemmas.List.Sorted.{IsPermutation-middle}
 use Rattle.asn1_model.specs.ConstraintSets.{unconstrained}
 use Rattle.asn1_model.specs.Orders.{is_unordered, Same, SameAll, equal, in_place, in_any_order, at_end, next}
 use Rattle.asn1_model.specs.Records.{Record, Records, scalar, scope, open_type, presence_mark, none, more, is_presence_mark, sequence, set, set_of}
-use Rattle.asn1_model.specs.Tables.{no_table}
+use Rattle.asn1_model.specs.RecordTables.{no_table}
 use Rattle.asn1_model.specs.Tags.{universal}
 use Rattle.asn1_model.proofs.SameRecords.{same-mark}
 use Rattle.asn1_type_tests.proofs.model.sameness.Goals as goal

@@ -19,13 +19,13 @@ module _ {D V W : Type 0} (R : Reader D) (m : Meaning V) (value : W → V) (t : 
       AfterReading R (under_own_name (through value m)) t c old new result
   leaves_boxed eq (Ok v) (Ok w) read leaves boxed = record {
     same_depth = leaves.same_depth;
-    no_failure = leaves.no_failure;
+    failed_as_before = leaves.failed_as_before;
     after_error = inl tt;
     failed_before = λ single failed. let wrong = leaves.failed_before single failed in cc;
   }
   leaves_boxed eq (Ok v) (Err e) read leaves boxed = record {
     same_depth = tt;
-    no_failure = tt;
+    failed_as_before = tt;
     after_error = elim (R.failed new) as (λ b. R.failed new ≡ b → (R.failed new ≡ true) ⊎ HasReadPast R (under_own_name (through value m)) t c old new (Err e)) [
       | true ↦ λ failed. inl failed
       | false ↦ λ not_failed. inr (record {
@@ -40,7 +40,7 @@ module _ {D V W : Type 0} (R : Reader D) (m : Meaning V) (value : W → V) (t : 
   }
   leaves_boxed eq (Err e) result read leaves boxed = rw boxed (record {
     same_depth = tt;
-    no_failure = tt;
+    failed_as_before = tt;
     after_error = elim leaves.after_error [
       | inl failed ↦ inl failed
       | inr past ↦ inr (record {
