@@ -27,13 +27,17 @@ pub record Entry : Type 0 where
   pub presence : FieldPresence
   pub name : List ℕ
 
+-- the entry of these parts
+abbrev pub entry : ℕ → Tag → Tree → FieldPresence → List ℕ → Entry
+entry index tag tree presence name = record { index = index; tag = tag; tree = tree; presence = presence; name = name }
+
 -- what a field says
 abbrev pub entry_of : Field → Entry
 entry_of f = record { index = f.index; tag = f.tag; tree = shape f.tag_tree; presence = f.presence; name = f.name.now }
 
 -- the entry of a component under a tag
 abbrev pub tagged_entry : {V : Type 0} → ℕ → Meaning V → Tag → FieldPresence → List ℕ → Entry
-tagged_entry index type tag presence name = record { index = index; tag = tag; tree = type.tree tag; presence = presence; name = name }
+tagged_entry index type tag presence name = entry index tag (type.tree tag) presence name
 
 -- the entry of a component under its type's own tag
 abbrev pub typed_entry : {V : Type 0} → ℕ → Meaning V → FieldPresence → List ℕ → Entry

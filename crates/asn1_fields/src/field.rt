@@ -2,7 +2,7 @@
 ghost use Rattle.std.specs.Prelude.{◌≡◌, ◌↔◌, IsTrue, not};
 ghost use Rattle.asn1_model.specs.Tags.{CHOICE};
 ghost use Rattle.asn1_tags.specs.Trees.{choice, leaf, shape, shapes};
-ghost use Rattle.asn1_fields.specs.Entries.{entry_of, may_be_absent, tagged_entry, typed_entry};
+ghost use Rattle.asn1_fields.specs.Entries.{entry, entry_of, may_be_absent, tagged_entry, typed_entry};
 
 use crate::presence::FieldPresence;
 use asn1_model::AsnType;
@@ -29,13 +29,7 @@ impl<'a> Field<'a> {
     /// A component that is always there.
     pub fn new_required(index: usize, tag: Tag, tag_tree: TagTree<'a>, name: &'a str) -> Self
         ensures { entry_of result ≡
-            record {
-              index = index;
-              tag = tag;
-              tree = shape tag_tree.entry;
-              presence = FieldPresence.Required;
-              name = name.now;
-            } }
+            entry index tag (shape tag_tree.entry) FieldPresence.Required name.now }
     {
         Field {
             index,
@@ -49,13 +43,7 @@ impl<'a> Field<'a> {
     /// A component that is marked OPTIONAL.
     pub fn new_optional(index: usize, tag: Tag, tag_tree: TagTree<'a>, name: &'a str) -> Self
         ensures { entry_of result ≡
-            record {
-              index = index;
-              tag = tag;
-              tree = shape tag_tree.entry;
-              presence = FieldPresence.Optional;
-              name = name.now;
-            } }
+            entry index tag (shape tag_tree.entry) FieldPresence.Optional name.now }
     {
         Field {
             index,
@@ -69,13 +57,7 @@ impl<'a> Field<'a> {
     /// A component that is marked DEFAULT.
     pub fn new_default(index: usize, tag: Tag, tag_tree: TagTree<'a>, name: &'a str) -> Self
         ensures { entry_of result ≡
-            record {
-              index = index;
-              tag = tag;
-              tree = shape tag_tree.entry;
-              presence = FieldPresence.Default;
-              name = name.now;
-            } }
+            entry index tag (shape tag_tree.entry) FieldPresence.Default name.now }
     {
         Field {
             index,
@@ -135,13 +117,7 @@ impl<'a> Field<'a> {
     #[tactic(auto, using(asn1_tags::proofs::Leaves::tree_shapes))]
     pub fn new_required_explicit(index: usize, tag: Tag, name: &'a str) -> Self
         ensures { entry_of result ≡
-            record {
-              index = index;
-              tag = tag;
-              tree = leaf tag;
-              presence = FieldPresence.Required;
-              name = name.now;
-            } }
+            entry index tag (leaf tag) FieldPresence.Required name.now }
     {
         Field::new_required(index, tag, TagTree::Leaf(tag), name)
     }
@@ -150,13 +126,7 @@ impl<'a> Field<'a> {
     #[tactic(auto, using(asn1_tags::proofs::Leaves::tree_shapes))]
     pub fn new_optional_explicit(index: usize, tag: Tag, name: &'a str) -> Self
         ensures { entry_of result ≡
-            record {
-              index = index;
-              tag = tag;
-              tree = leaf tag;
-              presence = FieldPresence.Optional;
-              name = name.now;
-            } }
+            entry index tag (leaf tag) FieldPresence.Optional name.now }
     {
         Field::new_optional(index, tag, TagTree::Leaf(tag), name)
     }
@@ -165,13 +135,7 @@ impl<'a> Field<'a> {
     #[tactic(auto, using(asn1_tags::proofs::Leaves::tree_shapes))]
     pub fn new_default_explicit(index: usize, tag: Tag, name: &'a str) -> Self
         ensures { entry_of result ≡
-            record {
-              index = index;
-              tag = tag;
-              tree = leaf tag;
-              presence = FieldPresence.Default;
-              name = name.now;
-            } }
+            entry index tag (leaf tag) FieldPresence.Default name.now }
     {
         Field::new_default(index, tag, TagTree::Leaf(tag), name)
     }
@@ -180,13 +144,7 @@ impl<'a> Field<'a> {
     #[tactic(auto, using(asn1_tags::proofs::Leaves::tree_shapes))]
     pub fn new_group(index: usize, trees: &'a [TagTree<'a>], name: &'a str) -> Self
         ensures { entry_of result ≡
-            record {
-              index = index;
-              tag = CHOICE;
-              tree = choice (shapes trees.now);
-              presence = FieldPresence.Optional;
-              name = name.now;
-            } }
+            entry index CHOICE (choice (shapes trees.now)) FieldPresence.Optional name.now }
     {
         Field::new_optional(index, Tag::CHOICE, TagTree::Choice(trees), name)
     }
