@@ -34,7 +34,7 @@
 //!
 //! A call takes memory only where a codec does, for what is read, for the alphabet of a `Plate` and for the table of a `Shape`.
 //! Types that hold themselves are in the crate `asn1_recursive`. `docs/USING.md` explains how such types are written, and quotes
-//! `Notice`, `Corner`, `Color`, `Pair` and `Ticket`.
+//! `Notice`, and `Contact` and `Profile` for groups.
 #![tactic(auto, using(asn1_tags::proofs::Leaves::tree_shapes))]
 
 mod badge;
