@@ -4,10 +4,11 @@ use asn1_bounds::Constraints;
 use asn1_codec_tests::NAME;
 use asn1_codec_tests::made::letters;
 use asn1_enc::{Encode, EncodeError, Encoder};
-use asn1_packed::PackedEncoder;
+use asn1_packed::{ItemEncoder, PackedEncoder};
 use asn1_rules::Rules;
 use asn1_sample_tests::samples::person;
 use asn1_samples::{Contact, Person, Plate};
+use asn1_tagform::NextItem;
 use asn1_tags::{Identifier, Tag};
 use std::alloc::{AllocError, Global};
 use std::process::Abort;
@@ -157,6 +158,10 @@ fn write_or_no_memory<T: Encode, E: Encoder>(rt: &impl Abort, encoder: &mut E, v
 
 #[test]
 fn memory_for_an_alphabet_runs_out(rt: HostRuntime) {
-    let plate = Plate(letters(rt.alloc(), b"AB").expect(&rt, "memory"));
-    write_or_no_memory(&rt, &mut PackedEncoder::new(rt.alloc(), 0), &plate);
+    let alloc = rt.alloc();
+    if let Ok(letters) = letters(alloc, b"AB") {
+        let plate = Plate(letters);
+        write_or_no_memory(&rt, &mut PackedEncoder::new(alloc, 0), &plate);
+        write_or_no_memory(&rt, &mut ItemEncoder::<NextItem>::new(alloc, 0), &plate);
+    }
 }
