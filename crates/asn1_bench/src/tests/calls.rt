@@ -86,26 +86,12 @@ fn calls_come_back_without_presence_marks(rt: HostRuntime) {
     calls_come_back_over(&rt, alloc, &TagCalls { alloc });
 }
 
-/// Asserts what an encoder and a decoder say that they are, and how many scopes each may open.
-fn assert_codec<E: Encoder, D: Decoder>(rt: &impl Abort, encoder: &E, decoder: &D, codec: Codec) {
-    assert!(rt; encoder.codec() == codec && encoder.depth() == 4);
-    assert!(rt; decoder.codec() == codec && decoder.depth() == 3);
-}
-
 #[test]
 fn the_encoder_and_the_decoder_say_what_they_are(rt: HostRuntime) {
-    let alloc = rt.alloc();
-    let encoder = PackedEncoder::new(alloc, 4);
-    let decoder = PackedDecoder::new(alloc, &[], 3);
-    assert_codec(&rt, &encoder, &decoder, Codec::Other(0));
-}
-
-#[test]
-fn those_of_the_tag_form_say_what_they_are(rt: HostRuntime) {
-    let alloc = rt.alloc();
-    let encoder = ItemEncoder::<NextItem>::new(alloc, 4);
-    let decoder = ItemDecoder::<NextItem>::new(alloc, &[], 3);
-    assert_codec(&rt, &encoder, &decoder, Codec::Other(1));
+    let encoder = PackedEncoder::new(rt.alloc(), 4);
+    assert!(&rt; encoder.codec() == Codec::Other(0) && encoder.depth() == 4);
+    let decoder = PackedDecoder::new(rt.alloc(), &[], 3);
+    assert!(&rt; decoder.codec() == Codec::Other(0) && decoder.depth() == 3);
 }
 
 #[test]
