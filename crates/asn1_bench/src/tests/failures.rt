@@ -156,12 +156,20 @@ fn write_or_no_memory<T: Encode, E: Encoder>(rt: &impl Abort, encoder: &mut E, v
     assert_done_or_memory(rt, encoder, answer);
 }
 
+fn write_plate<E: Encoder>(rt: &impl Abort, alloc: Global, encoder: &mut E) {
+    if let Ok(letters) = letters(alloc, b"AB") {
+        write_or_no_memory(rt, encoder, &Plate(letters));
+    }
+}
+
 #[test]
 fn memory_for_an_alphabet_runs_out(rt: HostRuntime) {
-    let alloc = rt.alloc();
-    if let Ok(letters) = letters(alloc, b"AB") {
-        let plate = Plate(letters);
-        write_or_no_memory(&rt, &mut PackedEncoder::new(alloc, 0), &plate);
-        write_or_no_memory(&rt, &mut ItemEncoder::<NextItem>::new(alloc, 0), &plate);
-    }
+    let mut encoder = PackedEncoder::new(rt.alloc(), 0);
+    write_plate(&rt, rt.alloc(), &mut encoder);
+}
+
+#[test]
+fn memory_for_an_alphabet_runs_out_without_presence_marks(rt: HostRuntime) {
+    let mut encoder = ItemEncoder::<NextItem>::new(rt.alloc(), 0);
+    write_plate(&rt, rt.alloc(), &mut encoder);
 }

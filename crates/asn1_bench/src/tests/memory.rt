@@ -64,6 +64,10 @@ fn reads_plate_without_marks(rt: &impl Abort, alloc: Global) -> bool {
 fn memory_for_an_alphabet_runs_out(rt: HostRuntime) {
     let first = reads_plate(&rt, rt.alloc());
     assert_read(&rt, first, reads_plate(&rt, rt.alloc()));
+}
+
+#[test]
+fn memory_for_an_alphabet_runs_out_without_presence_marks(rt: HostRuntime) {
     let first = reads_plate_without_marks(&rt, rt.alloc());
     assert_read(&rt, first, reads_plate_without_marks(&rt, rt.alloc()));
 }
