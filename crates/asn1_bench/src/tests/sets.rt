@@ -1,6 +1,6 @@
 //! A SET that is read by place: its components come in any order, each of them once.
 use crate::rules::BenchRules;
-use crate::tests::refusals::refused;
+use crate::tests::refusals::{refused, refused_with_marks};
 use asn1_codec_tests::made::list;
 use asn1_dec::DecodeError;
 use asn1_rules::Rules;
@@ -51,5 +51,5 @@ fn a_component_of_a_set_comes_once(rt: HostRuntime) {
     let twice = DecodeError::DuplicateField("seat");
     refused::<Ticket>(&rt, alloc, "twice", SEAT_TWICE, twice);
     let missing = DecodeError::MissingField("seat");
-    refused::<Ticket>(&rt, alloc, "missing", NO_SEAT, missing);
+    refused_with_marks::<Ticket>(&rt, alloc, "missing", NO_SEAT, missing);
 }
