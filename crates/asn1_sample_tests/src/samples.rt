@@ -2,6 +2,7 @@
 mod choices;
 mod each;
 mod filters;
+mod gauges;
 mod nodes;
 mod opens;
 mod people;

@@ -1,6 +1,6 @@
 //! Values of each sample type, and what is tried of them.
 use crate::depth::samples_need_their_depth;
-use crate::samples::{choices, filters, nodes, opens, people, records, tickets, visits};
+use crate::samples::{choices, filters, gauges, nodes, opens, people, records, tickets, visits};
 use asn1_codec_tests::{ComesBack, Failure, ThereAndBack, ValueCase};
 use asn1_rules::Rules;
 use std::alloc::Global;
@@ -42,6 +42,7 @@ fn each_choice_and_set_passes<C: ValueCase>(case: &C, alloc: Global) -> Result<(
         .and(choices::each_color_passes(case))
         .and(choices::each_badge_passes(case, alloc))
         .and(tickets::each_ticket_passes(case, alloc))
+        .and(gauges::each_gauge_passes(case, alloc))
 }
 
 fn each_value_in_itself_passes<C: ValueCase>(case: &C, alloc: Global) -> Result<(), Failure> {
