@@ -13,7 +13,7 @@ ghost use Rattle.asn1_model.specs.RecordTables.{Line, Table};
 ghost use Rattle.asn1_model.specs.Tags.{head_tag};
 ghost use Rattle.std.specs.Prelude.{◌≡◌, ◌≢◌, ◌≤◌, ◌∷◌, [], IfErr, IfOk, List, MatchResult, OnOk, Some, suc};
 
-use crate::bytes::{push_content_header, push_scope_header, write_length};
+use crate::bytes::{push_content_header, push_mark, push_scope_header, write_length};
 use crate::content::Content;
 use crate::error::BufferError;
 use crate::frame::Frame;
@@ -105,7 +105,7 @@ impl Buffer {
         ensures memory { IfErr result (λ e. e ≡ Memory) }
         ensures same_scopes { open_scopes self.new ≡ open_scopes self.old }
     {
-        self.bytes.extend_from_slice(bytes)?;
+        push_mark(&mut self.bytes, bytes)?;
         Ok(())
     }
 
@@ -171,7 +171,7 @@ impl Buffer {
         ensures same_scopes { open_scopes self.new ≡ open_scopes self.old }
     {
         let start = self.bytes.len();
-        self.bytes.extend_from_slice(start_mark)?;
+        push_mark(&mut self.bytes, start_mark)?;
         let has_records = self.has_records;
         if let Err(_) = self.outer.push(Frame {
             start,
@@ -206,12 +206,12 @@ impl Buffer {
             return Err(BufferError::NotOpen);
         }
         if self.has_records {
-            self.bytes.extend_from_slice(end_mark)?;
+            push_mark(&mut self.bytes, end_mark)?;
             return Ok(());
         }
         self.bytes.truncate(frame.start);
         self.has_records = frame.has_records;
-        self.bytes.extend_from_slice(absent_mark)?;
+        push_mark(&mut self.bytes, absent_mark)?;
         Ok(())
     }
 }

@@ -31,6 +31,20 @@ pub(crate) fn push_scope_header(bytes: &mut Vec<u8>, kind: u8, tag: Tag) -> Resu
     bytes.extend_from_slice(&[kind, tag.class as u8, a, b, c, d, 0, 0, 0, 0])
 }
 
+/// Appends the bytes of a presence mark. Most have one byte, or none.
+pub(crate) fn push_mark(bytes: &mut Vec<u8>, mark: &[u8]) -> Result<(), AllocError>
+    ensures { IfOk result (λ _. bytes.new.items ≡ bytes.old.items ++ mark.now) }
+{
+    match mark {
+        [] => Ok(()),
+        [byte] => {
+            bytes.push(*byte)?;
+            Ok(())
+        }
+        _ => bytes.extend_from_slice(mark),
+    }
+}
+
 /// Writes the length of what begins at a place over the four bytes before it.
 pub(crate) fn write_length(bytes: &mut Vec<u8>, start: usize) -> Result<(), BufferError>
     ensures written { (before place inside : List ℕ) →
