@@ -5,7 +5,7 @@ ghost use Rattle.asn1_der_items.specs.Contents.{HasContents, HasNoContents};
 ghost use Rattle.asn1_der_items.specs.Series.{HoldsContents};
 ghost use Rattle.asn1_der_items.specs.declared.error.ElementError.TheVariants.{Memory};
 ghost use Rattle.asn1_items.specs.Contents.{content_of};
-ghost use Rattle.std.specs.Prelude.{◌≡◌, ◌≢◌, ◌++◌, ◌≤◌, IfErr, IfOk, IsOk, List, MatchResult, Some, ℕ, Bool, false, length};
+ghost use Rattle.std.specs.Prelude.{◌≡◌, ◌≢◌, ◌++◌, Bool, IfErr, IfOk, IsOk, List, MatchResult, Some, ℕ, false, length};
 
 use crate::contents::append_contents;
 use crate::error::ElementError;
