@@ -7,13 +7,12 @@ use Rattle.asn1_codec.specs.Reading.{Advances, HasAdvanced, IsNextTag, Outside, 
 use Rattle.asn1_codec.specs.declared.decode_error.DecodeError.{DecodeError}
 use Rattle.asn1_components.specs.ComponentTypes.{ComponentType}
 use Rattle.asn1_der_records.specs.Bytes.{HaveDer}
-use Rattle.asn1_der_decoder.specs.Decoder.{AllHaveDer, AreLeft, RemainsExactly, in_one_order}
+use Rattle.asn1_der_decoder.specs.Decoder.{AreLeft, der_form, in_one_order}
 use Rattle.asn1_items.specs.NextTags.{IsNext}
 use Rattle.asn1_der_decoder.specs.declared.decoder.DerDecoder.{DerDecoder}
 use Rattle.asn1_der_records.proofs.RecordElements.{record_element}
 use Rattle.asn1_der_records.proofs.Marks.{without_mark}
-use Rattle.asn1_der_decoder.proofs.Remaining.{past_mark, some_left}
-use Rattle.asn1_packed.specs.Decoder.{lists_outside}
+use Rattle.asn1_der_decoder.proofs.Remaining.{is_form, past_mark}
 use Rattle.asn1_der_items.proofs.Behind.{element_at-append, element_before}
 use Rattle.asn1_der_items.specs.Elements.{Element, element_at}
 use Rattle.asn1_items.specs.Slices.{left_inside, left_outside}
@@ -22,6 +21,8 @@ use Rattle.asn1_model.proofs.TagSets.{lies_has}
 use Rattle.asn1_model.specs.Records as model
 use Rattle.asn1_model.specs.Records.{held}
 use Rattle.asn1_model.specs.Tags.{Tags, Has, first_tags, record_tags}
+use Rattle.asn1_scopes.proofs.Remaining.{some_left}
+use Rattle.asn1_scopes.specs.Remaining.{AllHave, RemainsExactly, lists_outside}
 use Rattle.asn1_tags.specs.declared.tags.Tag.{Tag}
 
 -- the marks in front are passed over wherever the records are left
@@ -63,7 +64,7 @@ none_next left items none have = by (marks_passed items) refl (passed items left
   where
     by : (l : List model.Record) → marks_passed items ≡ l → HaveDer (held l) left → l ≡ []
     by [] is have = refl
-    by (s ∷ ss) is have = absurd (some_left s ss left (first_left items s ss is).no_mark have none)
+    by (s ∷ ss) is have = absurd (some_left is_form s ss left (first_left items s ss is).no_mark have none)
 
 -- the tag of the next element, and none at the end
 pub element_tells : (s : Slices) (t : Tag) (rs : List model.Record) → (left_inside s ≡ [] → ⊥) → ((e : Element) → element_at (left_inside s) ≡ Some e → t ≡ e.tag) → AreLeft rs s → IsNext rs (Some t)
@@ -93,56 +94,56 @@ false_of false h = refl
 
 module _ (d e : DerDecoder) (there away : model.PresenceMark) (own : Tags) where
   -- an element is next: the component is there if and only if its tag is one of the component's
-  pub told : (t : Tag) (b : Bool) (next : Option Tag) → next ≡ Some t → e.failed ≡ false → e.slices ≡ d.slices → ((rs : List model.Record) → d.failed ≡ false → AreLeft rs d.slices → IsNext rs next) → IsTrue b ↔ Has own t →
+  pub told : (t : Tag) (b : Bool) (next : Option Tag) → next ≡ Some t → e.scopes.failed ≡ false → e.scopes.slices ≡ d.scopes.slices → ((rs : List model.Record) → d.scopes.failed ≡ false → AreLeft rs d.scopes.slices → IsNext rs next) → IsTrue b ↔ Has own t →
       TellsPresence in_one_order d e there away own (Ok b)
   told t b next is no_failure same tells has = record {
     there = λ rest outer begins at.
-        let left = without_mark there rest (left_inside d.slices) at.inside in
+        let left = without_mark there rest (left_inside d.scopes.slices) at.inside in
         record {
           answer = has.1 (lies_has (first_tags rest) own begins.within t ((tells rest at.no_failure left).some t is));
-          at = past_mark d e there rest outer no_failure same at;
+          at = past_mark d.scopes e.scopes there rest outer no_failure same at;
           within_depth_left = omega arith;
         };
     away = λ rest outer apart at.
-        let left = without_mark away rest (left_inside d.slices) at.inside in
+        let left = without_mark away rest (left_inside d.scopes.slices) at.inside in
         record {
           answer = false_of b (λ yes. apart t (has.0 yes) ((tells rest at.no_failure left).some t is));
-          at = past_mark d e away rest outer no_failure same at;
+          at = past_mark d.scopes e.scopes away rest outer no_failure same at;
           within_depth_left = omega arith;
         };
   }
 
   -- none is next: it is absent
-  pub told_none : (next : Option Tag) → next ≡ None → e.failed ≡ false → e.slices ≡ d.slices → ((rs : List model.Record) → d.failed ≡ false → AreLeft rs d.slices → IsNext rs next) →
+  pub told_none : (next : Option Tag) → next ≡ None → e.scopes.failed ≡ false → e.scopes.slices ≡ d.scopes.slices → ((rs : List model.Record) → d.scopes.failed ≡ false → AreLeft rs d.scopes.slices → IsNext rs next) →
       TellsPresence in_one_order d e there away own (Ok false)
   told_none next is no_failure same tells = record {
     there = λ rest outer begins at.
-        let wrong = sym begins.some ∙ (tells rest at.no_failure (without_mark there rest (left_inside d.slices) at.inside)).none is in cc;
-    away = λ rest outer apart at. record { answer = refl; at = past_mark d e away rest outer no_failure same at; within_depth_left = omega arith };
+        let wrong = sym begins.some ∙ (tells rest at.no_failure (without_mark there rest (left_inside d.scopes.slices) at.inside)).none is in cc;
+    away = λ rest outer apart at. record { answer = refl; at = past_mark d.scopes e.scopes away rest outer no_failure same at; within_depth_left = omega arith };
   }
 
   -- where records are left, it is told
-  pub not_told : (result : Result Bool DecodeError) (error : DecodeError) → result ≡ Err error → ((rs : List model.Record) → d.failed ≡ false → AreLeft rs d.slices → ⊥) → TellsPresence in_one_order d e there away own result
+  pub not_told : (result : Result Bool DecodeError) (error : DecodeError) → result ≡ Err error → ((rs : List model.Record) → d.scopes.failed ≡ false → AreLeft rs d.scopes.slices → ⊥) → TellsPresence in_one_order d e there away own result
   not_told result error is never = record {
-    there = λ rest outer begins at. absurd (never rest at.no_failure (without_mark there rest (left_inside d.slices) at.inside));
-    away = λ rest outer apart at. absurd (never rest at.no_failure (without_mark away rest (left_inside d.slices) at.inside));
+    there = λ rest outer begins at. absurd (never rest at.no_failure (without_mark there rest (left_inside d.scopes.slices) at.inside));
+    away = λ rest outer apart at. absurd (never rest at.no_failure (without_mark away rest (left_inside d.scopes.slices) at.inside));
   }
 
 -- the tag of the next record of a SET
-pub next_told : {V : Type 0} (cs : List (ComponentType V)) (d e : DerDecoder) (items : List model.Record) (outer : Outside) (next : Option Tag) → e.failed ≡ false → e.slices ≡ d.slices → IsNext items next →
-    RemainsExactly d (items, outer) → HasAdvanced in_one_order d e 0 (marks_passed items, outer) (IsNextTag cs items next)
+pub next_told : {V : Type 0} (cs : List (ComponentType V)) (d e : DerDecoder) (items : List model.Record) (outer : Outside) (next : Option Tag) → e.scopes.failed ≡ false → e.scopes.slices ≡ d.scopes.slices → IsNext items next →
+    RemainsExactly der_form d.scopes (items, outer) → HasAdvanced in_one_order d e 0 (marks_passed items, outer) (IsNextTag cs items next)
 next_told cs d e items outer next no_failure same is at = record {
   answer = record { none = is.none; some = λ t found. (t, (is.some t found, tells_itself cs (first_tags items) t (is.some t found))) };
   at = record {
     no_failure = no_failure;
-    inside = subst (λ s. HaveDer (held (marks_passed items)) (left_inside s)) (sym same) (passed items (left_inside d.slices) at.inside);
-    outside = subst (λ s. AllHaveDer (lists_outside outer) (left_outside s)) (sym same) at.outside;
+    inside = subst (λ s. HaveDer (held (marks_passed items)) (left_inside s)) (sym same) (passed items (left_inside d.scopes.slices) at.inside);
+    outside = subst (λ s. AllHave der_form (lists_outside outer) (left_outside s)) (sym same) at.outside;
   };
   within_depth_left = omega arith;
 }
 
 pub next_tag_told : {V : Type 0} (cs : List (ComponentType V)) (d e : DerDecoder) (items : List model.Record) (outer : Outside) (result : Result (Option Tag) DecodeError) →
-    ((rs : List model.Record) → d.failed ≡ false → AreLeft rs d.slices → MatchResult result (IsNext rs) (λ _. ⊥)) → OnOk result (e.slices ≡ d.slices) → OnOk result (e.failed ≡ false) →
+    ((rs : List model.Record) → d.scopes.failed ≡ false → AreLeft rs d.scopes.slices → MatchResult result (IsNext rs) (λ _. ⊥)) → OnOk result (e.scopes.slices ≡ d.scopes.slices) → OnOk result (e.scopes.failed ≡ false) →
     Advances in_one_order d e 0 (items, outer) (marks_passed items, outer) (IsNextTag cs items) result
 next_tag_told cs d e items outer (Ok next) told same no_failure at = next_told cs d e items outer next no_failure same (told items at.no_failure at.inside) at
 next_tag_told cs d e items outer (Err error) told same no_failure at = absurd (told items at.no_failure at.inside)

@@ -1,47 +1,36 @@
 -- What remains to be read by a decoder of DER, and what it opens.
-use Rattle.std.specs.Prelude.{◌≡◌, ℕ, ◌≤◌, ⊤, false, true, List, [], ◌∷◌, Option, IfSome, Result}
+use Rattle.std.specs.Prelude.{◌≡◌, ℕ, true, List, Option, IfSome}
 use Rattle.asn1_codec.specs.ReadingUpToOrder.{up_to_order}
-use Rattle.asn1_codec.specs.Reading.{Advances, Outside, Reader, Remaining, records_in}
-use Rattle.asn1_codec.specs.declared.decode_error.DecodeError.{DecodeError}
-use Rattle.asn1_der_records.specs.Bytes.{HaveDer, form_of}
+use Rattle.asn1_codec.specs.Reading.{Reader, Remaining}
+use Rattle.asn1_der_records.specs.Bytes.{HasDer, HaveDer, form_of}
 use Rattle.asn1_der_records.specs.declared.form.ScopeForm.{ScopeForm}
 use Rattle.asn1_der_records.specs.declared.form.ScopeForm.TheVariants.{AsDefined, ByTag, ByEncoding, Chosen}
 use Rattle.asn1_der_decoder.specs.declared.decoder.DerDecoder.{DerDecoder}
-use Rattle.asn1_der_decoder.specs.declared.decoder.Opened.{Opened}
 use Rattle.asn1_der_decoder.specs.declared.taken.Taken.{Taken}
 use Rattle.asn1_der_items.specs.Elements.{Element}
 use Rattle.asn1_der_items.specs.Series.{AreElements, RiseByEncoding, RiseByTag, is_one_element}
-use Rattle.asn1_items.specs.Slices.{left_inside, left_outside}
+use Rattle.asn1_items.specs.Slices.{left_inside}
 use Rattle.asn1_items.specs.declared.slices.Slices.{Slices}
-use Rattle.asn1_model.specs.Records.{Head, Record, held, holding}
+use Rattle.asn1_model.specs.Records.{Head, Record, held}
 use Rattle.asn1_model.specs.Tags.{head_tag}
-use Rattle.asn1_packed.specs.Decoder.{lists_outside}
+use Rattle.asn1_scopes.specs.Remaining.{ReadForm, exact_reader}
 use Rattle.asn1_tags.specs.declared.tags.Tag.{Tag}
 
 -- the records are left of the innermost list
 abbrev pub AreLeft : List Record → Slices → Type 0
 AreLeft rs s = HaveDer (held rs) (left_inside s)
 
--- The bytes are those of the lists, list by list.
-abbrev pub AllHaveDer : List (List Record) → List (List ℕ) → Type 0
-AllHaveDer [] [] = ⊤
-AllHaveDer (rs ∷ lists) (bytes ∷ others) = HaveDer (held rs) bytes × AllHaveDer lists others
-AllHaveDer _ _ = ⊥
-
--- The decoder is before exactly these lists: what is left are their bytes.
-pub record RemainsExactly (d : DerDecoder) (remaining : Remaining) : Type 0 where
-  pub no_failure : d.failed ≡ false
-  pub inside : AreLeft remaining.0 d.slices
-  pub outside : AllHaveDer (lists_outside remaining.1) (left_outside d.slices)
-
--- The decoder in the order in which its bytes come. It takes what is one element as one value of an open type.
-abbrev pub in_one_order : Reader DerDecoder
-in_one_order = record {
-  remains = λ d remaining. RemainsExactly d remaining;
-  failed = λ d. d.failed;
-  depth_left = λ d. d.depth_left;
+-- The form in which the decoder reads records: their DER. It takes what is one element as one value of an open type.
+abbrev pub der_form : ReadForm
+der_form = record {
+  Has = λ r bytes. HasDer r bytes;
+  Have = λ rs bytes. HaveDer (held rs) bytes;
   accepts = λ bytes. is_one_element bytes;
 }
+
+-- the decoder in the order in which its bytes come
+abbrev pub in_one_order : Reader DerDecoder
+in_one_order = exact_reader der_form (λ d. d.scopes)
 
 -- the decoder as types see it: the order inside sets means nothing
 abbrev pub der_reader : Reader DerDecoder
@@ -79,14 +68,3 @@ IsInside AsDefined e own inside = IsHolding e inside
 IsInside ByTag e own inside = IsHolding e inside × AreElements RiseByTag inside
 IsInside ByEncoding e own inside = IsHolding e inside × AreElements RiseByEncoding inside
 IsInside Chosen e own inside = own ≡ inside
-
--- What was opened is a record of this head, which holds these.
-pub record IsOpened (h : Head) (items : List Record) (opened : Opened) : Type 0 where
-  pub has_tag : opened.tag ≡ head_tag h
-  pub is_bound : records_in items ≤ opened.bound
-
--- A call that opens a record whose head is what is wanted, exactly before what is in it, in the order in which it comes.
-abbrev pub OpensWanted : ScopeForm → Option Tag → DerDecoder → DerDecoder → Result Opened DecodeError → Type 0
-OpensWanted form tag old new result =
-    (h : Head) (items rest : List Record) (outer : Outside) → IsWanted form tag h →
-    Advances in_one_order old new 1 (holding h items ∷ rest, outer) (items, (h, rest) ∷ outer) (IsOpened h items) result

@@ -1,25 +1,22 @@
 //! The decoder that reads from the bytes of DER.
-ghost use Rattle.asn1_items.specs.Slices.{open_lists};
-ghost use Rattle.std.specs.Prelude.{◌≡◌, ◌+◌, ◌<◌, ◌^◌, IfSome, true};
+ghost use Rattle.std.specs.Prelude.{◌≡◌, IfSome, true};
 
 use crate::from_contents::FromContents;
 use crate::taken::Taken;
 use asn1_bounds::{Codec, Constraints};
 use asn1_choices::Choice;
 use asn1_components::FieldTable;
-use asn1_dec::{DecodeError, Decoder, Needed};
+use asn1_dec::{DecodeError, Decoder};
 use asn1_der_items::find_element;
 use asn1_der_records::ScopeForm;
 use asn1_enumerations::EnumeratedTable;
-use asn1_items::{ItemError, Slices, StringOf, can_begin_with, group_can_begin_with};
+use asn1_items::{StringOf, can_begin_with, group_can_begin_with};
+use asn1_scopes::{BAD_ITEM, Opened, Scopes};
 use asn1_strings::ObjectIdentifier;
 use asn1_tags::{Tag, TagTree};
 use asn1_types::{Any, CodecString};
 use asn1_values::{Integer, IntegerType};
 use std::alloc::Global;
-
-/// The bytes are not what they are read as.
-const BAD_ITEM: DecodeError = DecodeError::Custom("bad item");
 
 /// A decoder that reads from the bytes of DER. It borrows them, and copies none but those of the values that it answers.
 ///
@@ -32,33 +29,23 @@ const BAD_ITEM: DecodeError = DecodeError::Custom("bad item");
 #[derive(Drop)]
 pub struct DerDecoder<'a> {
     alloc: Global,
-    depth_left: usize,
-    failed: bool,
-    slices: Slices<'a>,
-    ghost counted: { depth_left + open_lists slices < 2 ^ 64 },
-}
-
-/// A scope that was opened: the tag of its head, and how many bytes are in it.
-#[derive(Clone, Copy)]
-struct Opened {
-    tag: Tag,
-    bound: usize,
+    scopes: Scopes<'a>,
 }
 
 impl<'a> DerDecoder<'a> {
     ghost use Rattle.asn1_codec.specs.DecodeErrors.{custom, reason};
     ghost use Rattle.asn1_codec.specs.Reading.{OpensNothing, OpensScope, ReadsHead, ReadsHeadOfSet, TellsPresence, records_in};
     ghost use Rattle.asn1_codec.specs.ReadingTypes.{ReadsContent};
-    ghost use Rattle.asn1_codec.specs.declared.decode_error.DecodeError.TheVariants.{Depth, Failed, Memory};
+    ghost use Rattle.asn1_codec.specs.declared.decode_error.DecodeError.TheVariants.{Failed};
     ghost use Rattle.asn1_der_records.specs.Bytes.{HaveDer};
     ghost use Rattle.asn1_der_items.specs.Series.{IsAlone};
     ghost use Rattle.asn1_der_records.specs.declared.form.ScopeForm.TheVariants.{AsDefined};
-    ghost use Rattle.asn1_der_decoder.specs.Decoder.{AreLeft, IsTaken, IsWanted, OpensWanted, Remains, der_reader};
+    ghost use Rattle.asn1_der_decoder.specs.Decoder.{AreLeft, IsTaken, IsWanted, Remains, der_reader, in_one_order};
+    ghost use Rattle.asn1_scopes.specs.Remaining.{OpensWanted};
     ghost use Rattle.asn1_der_items.specs.Contents.{HasOctetsOf};
     ghost use Rattle.asn1_der_items.specs.Elements.{Element};
     ghost use Rattle.asn1_items.specs.NextTags.{IsNext};
     ghost use Rattle.asn1_items.specs.Slices.{left_inside, left_outside};
-    ghost use Rattle.asn1_items.specs.declared.error.ItemError.TheVariants as item_error;
     ghost use Rattle.asn1_model.specs.ConstraintSets.{ConstraintSet};
     ghost use Rattle.asn1_model.specs.Orders.{SameRecords, is_unordered};
     ghost use Rattle.asn1_model.specs.Records as model;
@@ -76,9 +63,7 @@ impl<'a> DerDecoder<'a> {
     {
         DerDecoder {
             alloc,
-            depth_left: depth,
-            failed: false,
-            slices: Slices::new(alloc, bytes),
+            scopes: Scopes::new(alloc, bytes, depth),
         }
     }
 
@@ -92,64 +77,26 @@ impl<'a> DerDecoder<'a> {
         ensures failed { result ≡ Err Failed ↔ (der_reader.failed self.entry ≡ true) }
         ensures bad_item { IfErr result (λ e. e ≢ Failed → reason e ≡ custom (codes "bad item")) }
     {
-        if self.failed {
-            return Err(DecodeError::Failed);
-        }
-        if !self.slices.is_at_end() {
-            return Err(BAD_ITEM);
-        }
-        if !self.slices.is_outermost() {
-            return Err(BAD_ITEM);
-        }
-        Ok(())
-    }
-
-    /// Makes the decoder failed, and answers the error.
-    fn fail(&mut self, error: DecodeError) -> DecodeError
-        ensures same { result ≡ error }
-        ensures has_failed { self.new.failed ≡ true }
-    {
-        self.failed = true;
-        error
-    }
-
-    /// Makes the decoder failed, since an element was not read.
-    fn fault(&mut self, error: ItemError) -> DecodeError
-        ensures memory { error ≡ item_error.Memory → result ≡ Memory }
-        ensures not_too_deep { result ≢ Depth }
-        ensures not_failed { result ≢ Failed }
-        ensures has_failed { self.new.failed ≡ true }
-    {
-        self.failed = true;
-        match error {
-            ItemError::Memory => DecodeError::Memory,
-            ItemError::Missing(count) => {
-                if self.slices.is_outermost() {
-                    DecodeError::Incomplete(Needed::Size(count))
-                } else {
-                    BAD_ITEM
-                }
-            }
-            ItemError::Malformed => BAD_ITEM,
-        }
+        self.scopes.finish()
     }
 
     /// Takes the next element.
     fn take(&mut self) -> Result<Taken<'a>, DecodeError>
-        ensures took { (own back : List ℕ) (e : Element) → self.old.failed ≡ false →
-            IsAlone e own → left_inside self.old.slices ≡ own ++ back →
-            MatchResult result (λ taken. IsTaken taken e own back self.new.slices) (λ _. ⊥) }
+        ensures took { (own back : List ℕ) (e : Element) → self.old.scopes.failed ≡ false →
+            IsAlone e own → left_inside self.old.scopes.slices ≡ own ++ back →
+            MatchResult result (λ taken. IsTaken taken e own back self.new.scopes.slices) (λ _. ⊥) }
         ensures outside { OnOk result
-            (left_outside self.new.slices ≡ left_outside self.old.slices) }
+            (left_outside self.new.scopes.slices ≡ left_outside self.old.scopes.slices) }
         ensures opens_nothing { OpensNothing der_reader self.old self.new result }
     {
-        if self.failed {
+        let scopes = &mut self.scopes;
+        if scopes.failed {
             return Err(DecodeError::Failed);
         }
-        let left = self.slices.left();
+        let left = scopes.slices.left();
         match find_element(left) {
             Ok(element) => {
-                self.slices.advance_to(element.rest);
+                scopes.slices.advance_to(element.rest);
                 Ok(Taken {
                     tag: element.tag,
                     constructed: element.constructed,
@@ -157,26 +104,26 @@ impl<'a> DerDecoder<'a> {
                     bytes: &left[..left.len() - element.rest.len()],
                 })
             }
-            Err(error) => Err(self.fault(error)),
+            Err(error) => Err(scopes.fault(error)),
         }
     }
 
     /// The tag of the next element, which stays where it is, if one is left.
     fn next_tag(&mut self) -> Result<Option<Tag>, DecodeError>
-        ensures told { (rs : List model.Record) → self.old.failed ≡ false →
-            AreLeft rs self.old.slices → MatchResult result (IsNext rs) (λ _. ⊥) }
-        ensures same_bytes { OnOk result (self.new.slices ≡ self.old.slices) }
+        ensures told { (rs : List model.Record) → self.old.scopes.failed ≡ false →
+            AreLeft rs self.old.scopes.slices → MatchResult result (IsNext rs) (λ _. ⊥) }
+        ensures same_bytes { OnOk result (self.new.scopes.slices ≡ self.old.scopes.slices) }
         ensures opens_nothing { OpensNothing der_reader self.old self.new result }
     {
-        if self.failed {
+        if self.scopes.failed {
             return Err(DecodeError::Failed);
         }
-        if self.slices.is_at_end() {
+        if self.scopes.slices.is_at_end() {
             return Ok(None);
         }
-        match find_element(self.slices.left()) {
+        match find_element(self.scopes.slices.left()) {
             Ok(element) => Ok(Some(element.tag)),
-            Err(error) => Err(self.fault(error)),
+            Err(error) => Err(self.scopes.fault(error)),
         }
     }
 
@@ -189,11 +136,11 @@ impl<'a> DerDecoder<'a> {
     {
         let element = self.take()?;
         let Some(octets) = element.contents_under(tag) else {
-            return Err(self.fail(BAD_ITEM));
+            return Err(self.scopes.fail(BAD_ITEM));
         };
         match V::from_contents(self.alloc, octets) {
             Ok(value) => Ok(value),
-            Err(error) => Err(self.fault(error)),
+            Err(error) => Err(self.scopes.fault(error)),
         }
     }
 
@@ -211,30 +158,23 @@ impl<'a> DerDecoder<'a> {
 
     /// Opens a scope of this form, under this tag, where one is asked for.
     fn open(&mut self, form: ScopeForm, tag: Option<Tag>) -> Result<Opened, DecodeError>
-        ensures read { OpensWanted form tag self.old self.new result }
+        ensures read { OpensWanted in_one_order (IsWanted form tag) self.old self.new result }
         ensures opens_scope { OpensScope der_reader self.old self.new result }
     {
-        if self.failed {
+        if self.scopes.failed {
             return Err(DecodeError::Failed);
         }
-        if self.depth_left == 0 {
-            return Err(self.fail(DecodeError::Depth));
+        if self.scopes.depth_left == 0 {
+            return Err(self.scopes.fail(DecodeError::Depth));
         }
         let element = self.take()?;
         if !is_under(element.tag, tag) {
-            return Err(self.fail(BAD_ITEM));
+            return Err(self.scopes.fail(BAD_ITEM));
         }
         let Some(inside) = element.inside(form) else {
-            return Err(self.fail(BAD_ITEM));
+            return Err(self.scopes.fail(BAD_ITEM));
         };
-        if let Err(_) = self.slices.enter(inside) {
-            return Err(self.fail(DecodeError::Memory));
-        }
-        self.depth_left -= 1;
-        Ok(Opened {
-            tag: element.tag,
-            bound: inside.len(),
-        })
+        self.scopes.open(element.tag, inside)
     }
 
     /// Opens a scope in which the order of the records means something.
@@ -292,7 +232,7 @@ impl<'a> Decoder for DerDecoder<'a> {
     }
 
     fn depth(&self) -> usize {
-        self.depth_left
+        self.scopes.depth_left
     }
 
     fn global(&self) -> Global {
@@ -300,7 +240,7 @@ impl<'a> Decoder for DerDecoder<'a> {
     }
 
     fn refuse(&mut self, error: DecodeError) -> DecodeError {
-        self.fail(error)
+        self.scopes.fail(error)
     }
 
     fn decode_bool(&mut self, tag: Tag) -> Result<bool, DecodeError> {
@@ -318,7 +258,7 @@ impl<'a> Decoder for DerDecoder<'a> {
         let number = self.scalar(tag)?;
         match E::name_of_number(number) {
             Some(_) => Ok(number),
-            None => Err(self.fail(BAD_ITEM)),
+            None => Err(self.scopes.fail(BAD_ITEM)),
         }
     }
 
@@ -334,7 +274,7 @@ impl<'a> Decoder for DerDecoder<'a> {
         let number: Integer = self.scalar(tag)?;
         match I::try_from_integer(number) {
             Some(value) => Ok(value),
-            None => Err(self.fail(BAD_ITEM)),
+            None => Err(self.scopes.fail(BAD_ITEM)),
         }
     }
 
@@ -351,7 +291,7 @@ impl<'a> Decoder for DerDecoder<'a> {
         let element = self.take()?;
         match Vec::from_slice(self.alloc, element.bytes) {
             Ok(bytes) => Ok(Any::new(bytes)),
-            Err(_) => Err(self.fail(DecodeError::Memory)),
+            Err(_) => Err(self.scopes.fail(DecodeError::Memory)),
         }
     }
 
@@ -375,7 +315,7 @@ impl<'a> Decoder for DerDecoder<'a> {
     }
 
     fn close_group(&mut self) -> Result<(), DecodeError> {
-        if self.failed {
+        if self.scopes.failed {
             return Err(DecodeError::Failed);
         }
         Ok(())
@@ -422,24 +362,11 @@ impl<'a> Decoder for DerDecoder<'a> {
     }
 
     fn more(&mut self) -> Result<bool, DecodeError> {
-        if self.failed {
-            return Err(DecodeError::Failed);
-        }
-        Ok(!self.slices.is_at_end())
+        self.scopes.more()
     }
 
     fn close(&mut self) -> Result<(), DecodeError> {
-        if self.failed {
-            return Err(DecodeError::Failed);
-        }
-        if !self.slices.is_at_end() {
-            return Err(self.fail(BAD_ITEM));
-        }
-        if !self.slices.leave() {
-            return Err(self.fail(BAD_ITEM));
-        }
-        self.depth_left += 1;
-        Ok(())
+        self.scopes.close()
     }
 
     ghost lawful = { lawful in_one_order };

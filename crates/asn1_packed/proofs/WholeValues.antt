@@ -9,10 +9,11 @@ use Rattle.asn1_model.proofs.SameRecords.{same-mark}
 use Rattle.asn1_model.proofs.SameUpToOrder.{same_as_mark}
 use Rattle.asn1_model.specs.Orders.{Same}
 use Rattle.asn1_model.specs.Records.{Record, held, is_presence_mark, scalar, scope, open_type, presence_mark}
-use Rattle.asn1_packed.proofs.Remaining.{some_left}
+use Rattle.asn1_packed.proofs.Remaining.{is_form}
 use Rattle.asn1_packed.specs.Carried.{TakesBytes}
 use Rattle.asn1_packed.specs.Decoder.{Remains, in_one_order}
 use Rattle.asn1_packed.specs.declared.decoder.ItemDecoder.{ItemDecoder}
+use Rattle.asn1_scopes.proofs.Remaining.{some_left}
 
 -- records that are alone remain before nothing
 pub before_nothing : {D : Type 0} (R : Reader D) (d : D) (rs : List Record) → R.remains d (rs, []) → R.remains d (rs ++ [], [])
@@ -42,9 +43,9 @@ nothing_first [] ys e = refl
 nothing_first (x ∷ xs) ys e = cc
 
 some_bytes : (marks : MarkBytes) (r : Record) (rest : List Record) (bytes : List ℕ) → TakesBytes marks r → HaveBytes (read_with marks) (held (r ∷ rest)) bytes → bytes ≡ [] → ⊥
-some_bytes marks (scalar t c n x) rest bytes accepts p none = some_left marks (scalar t c n x) rest bytes refl p none
-some_bytes marks (scope h rs) rest bytes accepts p none = some_left marks (scope h rs) rest bytes refl p none
-some_bytes marks (open_type n own) rest bytes accepts p none = some_left marks (open_type n own) rest bytes refl p none
+some_bytes marks (scalar t c n x) rest bytes accepts p none = some_left (is_form marks) (scalar t c n x) rest bytes refl p none
+some_bytes marks (scope h rs) rest bytes accepts p none = some_left (is_form marks) (scope h rs) rest bytes refl p none
+some_bytes marks (open_type n own) rest bytes accepts p none = some_left (is_form marks) (open_type n own) rest bytes refl p none
 some_bytes marks (presence_mark m) rest bytes accepts p none = accepts (sym p.is_first ∙ nothing_first p.first p.others (sym p.are ∙ none))
 
 module _ {P : Type 0} (marks : MarkBytes) where

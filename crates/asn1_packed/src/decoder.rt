@@ -1,23 +1,18 @@
 //! The decoder that reads from the bytes of items.
-ghost use Rattle.asn1_items.specs.Slices.{open_lists};
-ghost use Rattle.std.specs.Prelude.{◌+◌, ◌<◌, ◌^◌};
-
 use crate::presence::Presence;
 use asn1_bounds::{Codec, Constraints};
 use asn1_choices::Choice;
 use asn1_components::FieldTable;
-use asn1_dec::{DecodeError, Decoder, Needed};
+use asn1_dec::{DecodeError, Decoder};
 use asn1_enumerations::EnumeratedTable;
-use asn1_items::{FromContent, Item, ItemError, Slices, StringOf, Wanted};
+use asn1_items::{FromContent, Item, StringOf, Wanted};
+use asn1_scopes::{BAD_ITEM, Opened, Scopes};
 use asn1_strings::ObjectIdentifier;
 use asn1_tags::{Tag, TagTree};
 use asn1_types::{Any, CodecString};
 use asn1_values::{Integer, IntegerType};
 use std::alloc::Global;
 use std::marker::PhantomData;
-
-/// The bytes are not what they are read as.
-const BAD_ITEM: DecodeError = DecodeError::Custom("bad item");
 
 /// A decoder that reads from the bytes of items. It borrows them, and copies none but those of the values that it answers.
 /// `P` says how what may be absent is told.
@@ -28,29 +23,18 @@ const BAD_ITEM: DecodeError = DecodeError::Custom("bad item");
 #[derive(Drop)]
 pub struct ItemDecoder<'a, P> {
     alloc: Global,
-    depth_left: usize,
-    failed: bool,
-    slices: Slices<'a>,
+    scopes: Scopes<'a>,
     presence: PhantomData<P>,
-    ghost counted: { depth_left + open_lists slices < 2 ^ 64 },
-}
-
-/// A scope that was opened: the tag of its head, and how many bytes are in it.
-#[derive(Clone, Copy)]
-struct Opened {
-    tag: Tag,
-    bound: usize,
 }
 
 impl<'a, P: Presence> ItemDecoder<'a, P> {
     ghost use Rattle.asn1_codec.specs.DecodeErrors.{custom, reason};
     ghost use Rattle.asn1_codec.specs.Reading.{OpensNothing, OpensScope, ReadsHead, ReadsHeadOfSet, TellsPresence, records_in};
     ghost use Rattle.asn1_codec.specs.ReadingTypes.{ReadsContent};
-    ghost use Rattle.asn1_codec.specs.declared.decode_error.DecodeError.TheVariants.{Depth, Failed, Memory};
+    ghost use Rattle.asn1_codec.specs.declared.decode_error.DecodeError.TheVariants.{Failed};
     ghost use Rattle.asn1_items.specs.Contents.{LooksLike};
     ghost use Rattle.asn1_items.specs.Headers.{Header, Meets, header_at, is_one_item};
     ghost use Rattle.asn1_items.specs.Slices.{IsTaken, left_inside, left_outside};
-    ghost use Rattle.asn1_items.specs.declared.error.ItemError.TheVariants as item_error;
     ghost use Rattle.asn1_model.specs.ConstraintSets.{ConstraintSet};
     ghost use Rattle.asn1_model.specs.Orders.{is_unordered};
     ghost use Rattle.asn1_model.specs.Records as model;
@@ -58,7 +42,8 @@ impl<'a, P: Presence> ItemDecoder<'a, P> {
     ghost use Rattle.asn1_model.specs.Tags.{tree_tags};
     ghost use Rattle.asn1_model.specs.WellFormed.{AreWellFormed};
     ghost use Rattle.asn1_packed.specs.Carried.{CarriesWith};
-    ghost use Rattle.asn1_packed.specs.Decoder.{IsWanted, OpensWanted, Remains, item_reader};
+    ghost use Rattle.asn1_packed.specs.Decoder.{IsWanted, Remains, in_one_order, item_reader};
+    ghost use Rattle.asn1_scopes.specs.Remaining.{OpensWanted};
     ghost use Rattle.asn1_tags.specs.Trees.{shape};
     ghost use Rattle.asn1_tags.specs.declared.tags.Tag.{Tag as Under};
     ghost use Rattle.std.specs.Prelude.{◌≡◌, ◌≢◌, ◌↔◌, ◌≤◌, ◌++◌, [], ⊤, Err, IfErr, IsOk, List, MatchResult, OnOk, Some, codes, false, length, ℕ, true};
@@ -72,9 +57,7 @@ impl<'a, P: Presence> ItemDecoder<'a, P> {
     {
         ItemDecoder {
             alloc,
-            depth_left: depth,
-            failed: false,
-            slices: Slices::new(alloc, bytes),
+            scopes: Scopes::new(alloc, bytes, depth),
             presence: PhantomData,
         }
     }
@@ -90,65 +73,28 @@ impl<'a, P: Presence> ItemDecoder<'a, P> {
             ((item_reader P.mark_bytes).failed self.entry ≡ true) }
         ensures bad_item { IfErr result (λ e. e ≢ Failed → reason e ≡ custom (codes "bad item")) }
     {
-        if self.failed {
-            return Err(DecodeError::Failed);
-        }
-        if !self.slices.is_at_end() {
-            return Err(BAD_ITEM);
-        }
-        if !self.slices.is_outermost() {
-            return Err(BAD_ITEM);
-        }
-        Ok(())
-    }
-
-    /// Makes the decoder failed, and answers the error.
-    fn fail(&mut self, error: DecodeError) -> DecodeError
-        ensures same { result ≡ error }
-        ensures has_failed { self.new.failed ≡ true }
-    {
-        self.failed = true;
-        error
-    }
-
-    /// Makes the decoder failed, since an item was not read.
-    fn fault(&mut self, error: ItemError) -> DecodeError
-        ensures memory { error ≡ item_error.Memory → result ≡ Memory }
-        ensures not_too_deep { result ≢ Depth }
-        ensures not_failed { result ≢ Failed }
-        ensures has_failed { self.new.failed ≡ true }
-    {
-        self.failed = true;
-        match error {
-            ItemError::Memory => DecodeError::Memory,
-            ItemError::Missing(count) => {
-                if self.slices.is_outermost() {
-                    DecodeError::Incomplete(Needed::Size(count))
-                } else {
-                    BAD_ITEM
-                }
-            }
-            ItemError::Malformed => BAD_ITEM,
-        }
+        self.scopes.finish()
     }
 
     /// Takes the next item, which is to be what is wanted.
     fn take(&mut self, wanted: Wanted) -> Result<Item<'a>, DecodeError>
-        ensures took { (h : Header) (inside back : List ℕ) → self.old.failed ≡ false →
-            header_at (left_inside self.old.slices) ≡ Some h → h.body ≡ inside ++ back →
+        ensures took { (h : Header) (inside back : List ℕ) → self.old.scopes.failed ≡ false →
+            header_at (left_inside self.old.scopes.slices) ≡ Some h → h.body ≡ inside ++ back →
             h.size ≡ length inside → Meets wanted h →
             MatchResult result
-            (λ i. IsTaken i h.tag inside back self.old.slices self.new.slices) (λ _. ⊥) }
+            (λ i. IsTaken i h.tag inside back self.old.scopes.slices self.new.scopes.slices)
+            (λ _. ⊥) }
         ensures outside { OnOk result
-            (left_outside self.new.slices ≡ left_outside self.old.slices) }
+            (left_outside self.new.scopes.slices ≡ left_outside self.old.scopes.slices) }
         ensures opens_nothing { OpensNothing (item_reader P.mark_bytes) self.old self.new result }
     {
-        if self.failed {
+        let scopes = &mut self.scopes;
+        if scopes.failed {
             return Err(DecodeError::Failed);
         }
-        match self.slices.take_item(wanted) {
+        match scopes.slices.take_item(wanted) {
             Ok(item) => Ok(item),
-            Err(error) => Err(self.fault(error)),
+            Err(error) => Err(scopes.fault(error)),
         }
     }
 
@@ -163,7 +109,7 @@ impl<'a, P: Presence> ItemDecoder<'a, P> {
         let item = self.take(Wanted::Content(tag, V::kind()))?;
         match V::from_content(self.alloc, item.body) {
             Ok(value) => Ok(value),
-            Err(error) => Err(self.fault(error)),
+            Err(error) => Err(self.scopes.fault(error)),
         }
     }
 
@@ -174,35 +120,30 @@ impl<'a, P: Presence> ItemDecoder<'a, P> {
             result }
         ensures opens_nothing { OpensNothing (item_reader P.mark_bytes) self.old self.new result }
     {
-        if self.failed {
+        let scopes = &mut self.scopes;
+        if scopes.failed {
             return Err(DecodeError::Failed);
         }
-        match P::component(&mut self.slices, tree) {
+        match P::component(&mut scopes.slices, tree) {
             Ok(is_there) => Ok(is_there),
-            Err(error) => Err(self.fault(error)),
+            Err(error) => Err(scopes.fault(error)),
         }
     }
 
     /// Opens a scope.
     fn open(&mut self, wanted: Wanted) -> Result<Opened, DecodeError>
-        ensures read { OpensWanted P.mark_bytes wanted self.old self.new result }
+        ensures read { OpensWanted (in_one_order P.mark_bytes) (IsWanted wanted)
+            self.old self.new result }
         ensures opens_scope { OpensScope (item_reader P.mark_bytes) self.old self.new result }
     {
-        if self.failed {
+        if self.scopes.failed {
             return Err(DecodeError::Failed);
         }
-        if self.depth_left == 0 {
-            return Err(self.fail(DecodeError::Depth));
+        if self.scopes.depth_left == 0 {
+            return Err(self.scopes.fail(DecodeError::Depth));
         }
         let item = self.take(wanted)?;
-        if let Err(_) = self.slices.enter(item.body) {
-            return Err(self.fail(DecodeError::Memory));
-        }
-        self.depth_left -= 1;
-        Ok(Opened {
-            tag: item.tag,
-            bound: item.body.len(),
-        })
+        self.scopes.open(item.tag, item.body)
     }
 
     /// Opens a scope in which the order of the records means something.
@@ -246,7 +187,7 @@ impl<'a, P: Presence> Decoder for ItemDecoder<'a, P> {
     }
 
     fn depth(&self) -> usize {
-        self.depth_left
+        self.scopes.depth_left
     }
 
     fn global(&self) -> Global {
@@ -254,7 +195,7 @@ impl<'a, P: Presence> Decoder for ItemDecoder<'a, P> {
     }
 
     fn refuse(&mut self, error: DecodeError) -> DecodeError {
-        self.fail(error)
+        self.scopes.fail(error)
     }
 
     fn decode_bool(&mut self, tag: Tag) -> Result<bool, DecodeError> {
@@ -272,7 +213,7 @@ impl<'a, P: Presence> Decoder for ItemDecoder<'a, P> {
         let number = self.scalar(tag)?;
         match E::name_of_number(number) {
             Some(_) => Ok(number),
-            None => Err(self.fail(BAD_ITEM)),
+            None => Err(self.scopes.fail(BAD_ITEM)),
         }
     }
 
@@ -288,7 +229,7 @@ impl<'a, P: Presence> Decoder for ItemDecoder<'a, P> {
         let number: Integer = self.scalar(tag)?;
         match I::try_from_integer(number) {
             Some(value) => Ok(value),
-            None => Err(self.fail(BAD_ITEM)),
+            None => Err(self.scopes.fail(BAD_ITEM)),
         }
     }
 
@@ -305,7 +246,7 @@ impl<'a, P: Presence> Decoder for ItemDecoder<'a, P> {
         let item = self.take(Wanted::Any)?;
         match Vec::from_slice(self.alloc, item.bytes) {
             Ok(bytes) => Ok(Any::new(bytes)),
-            Err(_) => Err(self.fail(DecodeError::Memory)),
+            Err(_) => Err(self.scopes.fail(DecodeError::Memory)),
         }
     }
 
@@ -322,22 +263,24 @@ impl<'a, P: Presence> Decoder for ItemDecoder<'a, P> {
     }
 
     fn open_group<C: FieldTable>(&mut self) -> Result<bool, DecodeError> {
-        if self.failed {
+        let scopes = &mut self.scopes;
+        if scopes.failed {
             return Err(DecodeError::Failed);
         }
-        match P::group::<C>(&mut self.slices) {
+        match P::group::<C>(&mut scopes.slices) {
             Ok(is_there) => Ok(is_there),
-            Err(error) => Err(self.fault(error)),
+            Err(error) => Err(scopes.fault(error)),
         }
     }
 
     fn close_group(&mut self) -> Result<(), DecodeError> {
-        if self.failed {
+        let scopes = &mut self.scopes;
+        if scopes.failed {
             return Err(DecodeError::Failed);
         }
-        match P::end_of_group(&mut self.slices) {
+        match P::end_of_group(&mut scopes.slices) {
             Ok(()) => Ok(()),
-            Err(error) => Err(self.fault(error)),
+            Err(error) => Err(scopes.fault(error)),
         }
     }
 
@@ -350,16 +293,17 @@ impl<'a, P: Presence> Decoder for ItemDecoder<'a, P> {
     }
 
     fn next_component<C: FieldTable>(&mut self) -> Result<Option<Tag>, DecodeError> {
-        if self.failed {
+        let scopes = &mut self.scopes;
+        if scopes.failed {
             return Err(DecodeError::Failed);
         }
-        P::skip_marks(&mut self.slices);
-        if self.slices.is_at_end() {
+        P::skip_marks(&mut scopes.slices);
+        if scopes.slices.is_at_end() {
             return Ok(None);
         }
-        match self.slices.next_header() {
+        match scopes.slices.next_header() {
             Ok(header) => Ok(Some(header.tag)),
-            Err(error) => Err(self.fault(error)),
+            Err(error) => Err(scopes.fault(error)),
         }
     }
 
@@ -392,24 +336,11 @@ impl<'a, P: Presence> Decoder for ItemDecoder<'a, P> {
     }
 
     fn more(&mut self) -> Result<bool, DecodeError> {
-        if self.failed {
-            return Err(DecodeError::Failed);
-        }
-        Ok(!self.slices.is_at_end())
+        self.scopes.more()
     }
 
     fn close(&mut self) -> Result<(), DecodeError> {
-        if self.failed {
-            return Err(DecodeError::Failed);
-        }
-        if !self.slices.is_at_end() {
-            return Err(self.fail(BAD_ITEM));
-        }
-        if !self.slices.leave() {
-            return Err(self.fail(BAD_ITEM));
-        }
-        self.depth_left += 1;
-        Ok(())
+        self.scopes.close()
     }
 
     ghost lawful = { lawful (in_one_order P.mark_bytes) };

@@ -8,14 +8,14 @@ use asn1_dec::{Decode, DecodeError};
 use asn1_enc::{Encode, EncodeError};
 use thiserror::Error;
 
-/// Which of the two failed.
+/// Which of the two failed. Its text is that of the error inside.
 #[derive(Clone, Copy, Debug, Drop, PartialEq, Eq, Error)]
 pub enum RecodeError {
     /// The input was not read.
-    #[error("not read: {0}")]
+    #[error("{0}")]
     Read(DecodeError),
     /// The value that was read was not written.
-    #[error("not written: {0}")]
+    #[error("{0}")]
     Write(EncodeError),
 }
 

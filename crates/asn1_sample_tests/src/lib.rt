@@ -2,7 +2,7 @@
 //!
 //! | Item | What it is |
 //! |---|---|
-//! | [`samples`] | worked values of each sample type, written and read back, and from one codec to another |
+//! | [`samples`] | values of each sample type, with what may be absent and without: written and read back, and from one codec to another |
 //! | [`sets`] | a SET in each order of its components, and what is none |
 //! | [`calls`] | the calls for groups of additions, items of an ENUMERATED and a CHOICE under a tag |
 //! | [`depth`] | how many scopes the values take, up to a hundred nodes in one another |

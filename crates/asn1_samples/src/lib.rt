@@ -9,6 +9,7 @@
 //! | [`Visit`] | a SEQUENCE with an addition after such a group |
 //! | [`Badge`] | a SET |
 //! | [`Ticket`] | a SET with a default |
+//! | [`Gauge`] | a SET with components under constraints of their own |
 //! | [`Shape`], [`Corner`] | a CHOICE, and one that is an alternative of it without a tag |
 //! | [`Color`] | an ENUMERATED with an extension marker |
 //! | [`Envelope`] | a SEQUENCE with an open type |
@@ -34,7 +35,7 @@
 //!
 //! A call takes memory only where a codec does, for what is read, for the alphabet of a `Plate` and for the table of a `Shape`.
 //! Types that hold themselves are in the crate `asn1_recursive`. `docs/USING.md` explains how such types are written, and quotes
-//! `Notice`, `Corner`, `Color`, `Pair` and `Ticket`.
+//! `Notice`, and `Contact` and `Profile` for groups.
 #![tactic(auto, using(asn1_tags::proofs::Leaves::tree_shapes))]
 
 mod badge;
@@ -42,6 +43,7 @@ mod color;
 mod contact;
 mod corner;
 mod envelope;
+mod gauge;
 mod labelled;
 pub mod laws;
 mod notice;
@@ -59,6 +61,7 @@ pub use color::{Color, color_is_well_tagged, color_records};
 pub use contact::Contact;
 pub use corner::{Corner, corner_is_well_tagged, corner_records};
 pub use envelope::{Envelope, envelope_is_valid, envelope_is_well_tagged, envelope_records};
+pub use gauge::{Gauge, gauge_is_well_tagged};
 pub use labelled::{Labelled, labelled_is_well_tagged, labelled_records};
 pub use notice::{Notice, notice_is_well_tagged, notice_records};
 pub use pair::{Pair, pair_is_valid, pair_is_well_tagged, pair_records};

@@ -83,6 +83,7 @@ pub use asn1_slots::from_tag_by_place;
 pub use asn1_slots::from_tag_by_table;
 pub use asn1_slots::group;
 pub use asn1_slots::once;
+pub use asn1_slots::once_with_constraints;
 pub use asn1_slots::optional;
 pub use asn1_slots::optional_with_constraints;
 pub use asn1_slots::or_default;

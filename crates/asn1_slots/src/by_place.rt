@@ -41,8 +41,8 @@ pub trait DecodeByPlace: Eq + Sized + Drop {
 }
 
 /// Reads all components: what [`asn1_dec::DecodeFields::decode_fields`] of a group of additions calls, where the layout is that of
-/// its components. An error of a component is answered with its name ([`DecodeError::in_field`]); another that lacks a name is one
-/// of [`DecodeByPlace::from_slots`].
+/// its components (`read`). A success leaves the depth as it was (`same_depth`). An error of a component is answered with its name
+/// ([`DecodeError::in_field`]); one that lacks a name is one of [`DecodeByPlace::from_slots`] (`named`).
 pub fn decode_fields_by_place<C: DecodeByPlace + FieldTable, D: Decoder>(
     decoder: &mut D,
 ) -> Result<C, DecodeError>
@@ -82,8 +82,14 @@ fn read_sequence<S: DecodeByPlace + FieldTable, D: Decoder>(
     Ok(value)
 }
 
-/// Reads a SEQUENCE, by its components, one after another, where the layout is that of these. Of a type that is one it reads a
-/// value of the type, under whatever constraints. An error of a component is answered with its name.
+/// Reads a SEQUENCE, by its components, one after another. Where the layout is that of the type's components it reads these under
+/// the tag (`components`), and of a type that is a SEQUENCE a value of the type, under whatever constraints (`as_meant`). Where no
+/// depth is left the error is [`DecodeError::Depth`], before anything but that the decoder has failed (`depth_first`). An error
+/// makes the decoder failed, one that had failed answers so, and a success keeps the depth left (`keeps_depth`).
+///
+/// Which name an error has is said of the calls that it rests on: an error of a component is answered with the component's name,
+/// so that one without a name is an error of [`DecodeByPlace::from_slots`] (`named` of [`decode_fields_by_place`]); and of missing
+/// components the first is named (`missing` of [`DecodeByPlace::from_slots`]).
 pub fn decode_sequence_by_place<S: DecodeByPlace + ConstructedType, D: Decoder>(
     decoder: &mut D,
     tag: Tag,

@@ -16,7 +16,7 @@
 //! | [`decode_sequence_by_place`], [`decode_fields_by_place`] | read a SEQUENCE, and the components of a group |
 //! | [`DecodeSetByPlace`], [`decode_set_by_place`] | the same of a SET, whose components come in any order |
 //! | [`required`], [`optional`], [`addition`], [`group`], [`once`] | the calls that read a component into its slot, which answer [`Decoded`] |
-//! | [`required_with_constraints`], [`optional_with_constraints`], [`addition_with_constraints`] | the same under constraints of the component's own |
+//! | [`required_with_constraints`], [`optional_with_constraints`], [`addition_with_constraints`], [`once_with_constraints`] | the same under constraints of the component's own |
 //! | [`filled`], [`or_default`], [`or_empty`] | what is in a slot |
 //! | [`DecodeChoiceByPlace`] | a CHOICE: its cases, and how its alternatives are read |
 //! | [`from_tag_by_place`], [`from_tag_by_table`] | read the alternative that can begin with a tag |
@@ -37,7 +37,7 @@
 //! - Of slots that hold what a value has an equal value is made (`MakesValue`). Where a component is missing that is always
 //!   there, the error says which is the first (`RefusesMissing`).
 //! - An error of a component is answered with the component's name, unless it has one already, or is about more than the component
-//!   (`named` of [`decode_fields_by_place`] and of [`once`]).
+//!   (`named` of [`decode_fields_by_place`], [`once`] and [`once_with_constraints`]).
 //! - So [`decode_fields_by_place`] reads a group as `decode_fields` of `asn1_dec` has to, and [`decode_sequence_by_place`] and
 //!   [`decode_set_by_place`] read a SEQUENCE and a SET as `decode_sequence` and `decode_set` of `Decoder` do, where the layout is
 //!   that of the type's components (`IsLayoutOf`), which the check finds.
@@ -69,7 +69,8 @@ pub use calls::{Decoded, addition, group, once, optional, required};
 pub use cases::{alternative, alternative_with_constraints};
 pub use choice_by_place::{DecodeChoiceByPlace, from_tag_by_place, from_tag_by_table};
 pub use constrained::{
-    addition_with_constraints, optional_with_constraints, required_with_constraints,
+    addition_with_constraints, once_with_constraints, optional_with_constraints,
+    required_with_constraints,
 };
 pub use set_by_place::{DecodeSetByPlace, decode_set_by_place};
 pub use slot_values::{filled, or_default, or_empty};

@@ -91,10 +91,15 @@ fn read_components<S: DecodeSetByPlace + FieldTable, D: Decoder>(
     Ok(value)
 }
 
-/// Reads a SET, by its components, in whatever order they come, where the layout is that of these. Of a type that is one it reads
-/// a value of the type, under whatever constraints. A record whose tag no component has is refused with
-/// [`DecodeError::UnknownField`], by its place among the records; a component that comes twice, or is missing, as the type refuses
-/// it.
+/// Reads a SET, by its components, in whatever order they come. Where the layout is that of the type's components it reads these
+/// under the tag (`components`), and of a type that is a SET a value of the type, under whatever constraints (`as_meant`). Where no
+/// depth is left the error is [`DecodeError::Depth`], before anything but that the decoder has failed (`depth_first`). An error
+/// makes the decoder failed, one that had failed answers so, and a success keeps the depth left (`keeps_depth`).
+///
+/// Which name an error has is said of the calls that it rests on: a component that comes twice is refused by its name (`twice` of
+/// `FillsOnce`, which is `read` of [`crate::once`]), an error of a component is answered with a name (`named` of [`crate::once`]),
+/// and of missing components the first is named (`missing` of [`DecodeSetByPlace::from_slots`]). A record whose tag no component
+/// has is refused with [`DecodeError::UnknownField`], by its place among the records; no clause says so.
 pub fn decode_set_by_place<S: DecodeSetByPlace + ConstructedType, D: Decoder>(
     decoder: &mut D,
     tag: Tag,

@@ -37,7 +37,10 @@ impl DecodeChoiceByPlace for Name {
 
     fn decode_alternative<D: Decoder>(place: usize, decoder: &mut D) -> Result<Self, DecodeError> {
         match place {
-            0 => Ok(Name::Rdns(alternative(decoder, Tagging::Untagged)?)),
+            0 => match alternative(decoder, Tagging::Untagged) {
+                Ok(rdns) => Ok(Name::Rdns(rdns)),
+                Err(error) => Err(error),
+            },
             _ => Err(DecodeError::NoValidChoice("Name")),
         }
     }

@@ -129,10 +129,10 @@ impl DecodeChoiceByPlace for GeneralName {
                 Tagging::Tagged(UNIFORM_RESOURCE_IDENTIFIER),
             )?)),
             7 => Ok(GeneralName::IpAddress(alternative(decoder, Tagging::Tagged(IP_ADDRESS))?)),
-            8 => Ok(GeneralName::RegisteredId(alternative(
-                decoder,
-                Tagging::Tagged(REGISTERED_ID),
-            )?)),
+            8 => match alternative(decoder, Tagging::Tagged(REGISTERED_ID)) {
+                Ok(id) => Ok(GeneralName::RegisteredId(id)),
+                Err(error) => Err(error),
+            },
             _ => Err(DecodeError::NoValidChoice("GeneralName")),
         }
     }

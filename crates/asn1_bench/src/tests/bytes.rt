@@ -55,7 +55,7 @@ pub(super) const BADGE: &[u8] = &[
 ];
 
 /// `AB`.
-const PLATE: &[u8] = &[1, 0, 0, 0, 0, 26, 9, 0, 0, 0, 2, 0x41, 0x42];
+pub(super) const PLATE: &[u8] = &[1, 0, 0, 0, 0, 26, 9, 0, 0, 0, 2, 0x41, 0x42];
 
 /// A `Node` without a label and without children.
 const NODE: &[u8] = &[

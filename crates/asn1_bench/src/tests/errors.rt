@@ -1,7 +1,7 @@
 //! The texts of errors.
 use asn1_dec::{DecodeError, Needed};
 use asn1_enc::EncodeError;
-use asn1_rules::RoundTripError;
+use asn1_rules::{RecodeError, RoundTripError};
 use asn1_tags::Tag;
 use std::alloc::Global;
 use std::process::Abort;
@@ -85,4 +85,18 @@ fn round_trips_say_which_half_failed(rt: HostRuntime) {
     assert_round_trip_text(&rt, alloc, writing, "not written: nested too deep");
     let reading = RoundTripError::Reading(DecodeError::Memory);
     assert_round_trip_text(&rt, alloc, reading, "not read back: no memory");
+}
+
+fn assert_recoding_text(rt: &impl Abort, alloc: Global, error: RecodeError, text: &str) {
+    let written = error.to_string(alloc).expect(rt, "memory");
+    assert!(rt; written.as_str() == text);
+}
+
+#[test]
+fn recoding_says_what_failed(rt: HostRuntime) {
+    let alloc = rt.alloc();
+    let read = RecodeError::Read(DecodeError::Memory);
+    assert_recoding_text(&rt, alloc, read, "no memory");
+    let write = RecodeError::Write(EncodeError::Depth);
+    assert_recoding_text(&rt, alloc, write, "nested too deep");
 }

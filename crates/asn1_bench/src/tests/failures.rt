@@ -4,10 +4,11 @@ use asn1_bounds::Constraints;
 use asn1_codec_tests::NAME;
 use asn1_codec_tests::made::letters;
 use asn1_enc::{Encode, EncodeError, Encoder};
-use asn1_packed::PackedEncoder;
+use asn1_packed::{ItemEncoder, PackedEncoder};
 use asn1_rules::Rules;
 use asn1_sample_tests::samples::person;
 use asn1_samples::{Contact, Person, Plate};
+use asn1_tagform::NextItem;
 use asn1_tags::{Identifier, Tag};
 use std::alloc::{AllocError, Global};
 use std::process::Abort;
@@ -155,8 +156,20 @@ fn write_or_no_memory<T: Encode, E: Encoder>(rt: &impl Abort, encoder: &mut E, v
     assert_done_or_memory(rt, encoder, answer);
 }
 
+fn write_plate<E: Encoder>(rt: &impl Abort, alloc: Global, encoder: &mut E) {
+    if let Ok(letters) = letters(alloc, b"AB") {
+        write_or_no_memory(rt, encoder, &Plate(letters));
+    }
+}
+
 #[test]
 fn memory_for_an_alphabet_runs_out(rt: HostRuntime) {
-    let plate = Plate(letters(rt.alloc(), b"AB").expect(&rt, "memory"));
-    write_or_no_memory(&rt, &mut PackedEncoder::new(rt.alloc(), 0), &plate);
+    let mut encoder = PackedEncoder::new(rt.alloc(), 0);
+    write_plate(&rt, rt.alloc(), &mut encoder);
+}
+
+#[test]
+fn memory_for_an_alphabet_runs_out_without_presence_marks(rt: HostRuntime) {
+    let mut encoder = ItemEncoder::<NextItem>::new(rt.alloc(), 0);
+    write_plate(&rt, rt.alloc(), &mut encoder);
 }

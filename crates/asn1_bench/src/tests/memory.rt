@@ -1,10 +1,18 @@
-//! Memory that a type wants for itself, beside the decoder. Each allocation of a run may be refused, which is tried by hand: what
-//! is read is then read twice, so that one reading has all its memory.
-use crate::tests::bytes::written;
+//! Memory that runs out: what a type wants for itself, beside the decoder, and any of what a value is written and read with.
+//!
+//! `rt try --test --fail-alloc N` refuses the Nth growth of each test. All is done twice, so that one of the two has its memory.
+use crate::rules::BenchRules;
+use crate::tests::bytes::{NULL, PLATE, written};
+use crate::tests::cases::passes;
 use asn1_codec_tests::made::letters;
+use asn1_codec_tests::types::each_type_comes_back;
+use asn1_codec_tests::{ComesBack, ValueCase, one_passes};
 use asn1_dec::{Decode, DecodeError, Decoder};
-use asn1_packed::PackedDecoder;
+use asn1_packed::{ItemDecoder, PackedDecoder};
+use asn1_rules::Rules;
+use asn1_sample_tests::samples::each_sample_passes;
 use asn1_samples::Plate;
+use asn1_tagform::{NextItem, TagRules};
 use std::alloc::Global;
 use std::process::Abort;
 
@@ -44,15 +52,46 @@ fn reads_or_stays<T: Decode, D: Decoder>(rt: &impl Abort, decoder: &mut D) -> bo
     false
 }
 
-fn reads_plate(rt: &impl Abort, alloc: Global, records: &[u8]) -> bool {
-    reads_or_stays::<Plate, _>(rt, &mut PackedDecoder::new(alloc, records, 0))
+fn reads_plate(rt: &impl Abort, alloc: Global) -> bool {
+    reads_or_stays::<Plate, _>(rt, &mut PackedDecoder::new(alloc, PLATE, 0))
+}
+
+fn reads_plate_without_marks(rt: &impl Abort, alloc: Global) -> bool {
+    reads_or_stays::<Plate, _>(rt, &mut ItemDecoder::<NextItem>::new(alloc, PLATE, 0))
 }
 
 #[test]
 fn memory_for_an_alphabet_runs_out(rt: HostRuntime) {
-    let letters = letters(rt.alloc(), b"AB").expect(&rt, "memory");
-    let records = written(&rt, rt.alloc(), &Plate(letters));
-    let first = reads_plate(&rt, rt.alloc(), &records);
-    let second = reads_plate(&rt, rt.alloc(), &records);
-    assert_read(&rt, first, second);
+    let first = reads_plate(&rt, rt.alloc());
+    assert_read(&rt, first, reads_plate(&rt, rt.alloc()));
+}
+
+#[test]
+fn memory_for_an_alphabet_runs_out_without_presence_marks(rt: HostRuntime) {
+    let first = reads_plate_without_marks(&rt, rt.alloc());
+    assert_read(&rt, first, reads_plate_without_marks(&rt, rt.alloc()));
+}
+
+/// Asserts that of two runs of a case over these rules one passes, and the other passes or has no memory.
+fn tells_of_refused_growths<R: Rules>(rt: &impl Abort, alloc: Global, rules: &R) {
+    let case = ComesBack(rules);
+    let first = case.try_made(letters(alloc, b"AB").map(Plate));
+    let second = case.try_made(letters(alloc, b"AB").map(Plate));
+    passes(rt, "plate", one_passes(first, second));
+    let first = each_type_comes_back(rules, alloc, NULL);
+    let second = each_type_comes_back(rules, alloc, NULL);
+    passes(rt, "types", one_passes(first, second));
+    let first = each_sample_passes(&case, alloc, NULL);
+    let second = each_sample_passes(&case, alloc, NULL);
+    passes(rt, "samples", one_passes(first, second));
+}
+
+#[test]
+fn a_refused_growth_is_told(rt: HostRuntime) {
+    tells_of_refused_growths(&rt, rt.alloc(), &BenchRules::new(rt.alloc()));
+}
+
+#[test]
+fn a_refused_growth_is_told_without_presence_marks(rt: HostRuntime) {
+    tells_of_refused_growths(&rt, rt.alloc(), &TagRules::new(rt.alloc()));
 }

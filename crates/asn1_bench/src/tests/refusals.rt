@@ -7,9 +7,11 @@ use asn1_codec_tests::is_not_read;
 use asn1_codec_tests::made::list;
 use asn1_dec::{Decode, DecodeError, Needed};
 use asn1_open::Open;
+use asn1_rules::Rules;
 use asn1_samples::{Badge, Color, Corner, Person, Profile, Shape};
 use asn1_streams::FrontReader;
 use asn1_strings::{BitString, BmpString, Ia5String, ObjectIdentifier, VisibleString};
+use asn1_tagform::TagRules;
 use asn1_tags::Tag;
 use asn1_types::Any;
 use asn1_values::{ConstrainedInteger, Integer};
@@ -19,8 +21,21 @@ use std::process::Abort;
 
 const BAD_ITEM: DecodeError = DecodeError::Custom("bad item");
 
-/// Asserts why bytes are no value of the type.
-pub(super) fn refused<T: Decode>(
+/// Asserts why bytes are no value of the type, by these rules.
+pub(super) fn refused_by<T: Decode, R: Rules<Output = Vec<u8>>>(
+    rt: &impl Abort,
+    alloc: Global,
+    rules: &R,
+    case: &str,
+    bytes: &[u8],
+    error: DecodeError,
+) {
+    let bytes = list(alloc, bytes).expect(rt, "memory");
+    passes(rt, case, is_not_read::<T, R>(rules, &bytes, 4, error));
+}
+
+/// The same by the packed codec alone, where a presence mark is looked at.
+pub(super) fn refused_with_marks<T: Decode>(
     rt: &impl Abort,
     alloc: Global,
     case: &str,
@@ -28,15 +43,23 @@ pub(super) fn refused<T: Decode>(
     error: DecodeError,
 ) {
     let rules = BenchRules::new(alloc);
-    let bytes = list(alloc, bytes).expect(rt, "memory");
-    passes(
-        rt,
-        case,
-        is_not_read::<T, BenchRules>(&rules, &bytes, 4, error),
-    );
+    refused_by::<T, BenchRules>(rt, alloc, &rules, case, bytes, error);
 }
 
-/// Asserts that bytes are not those of a value of the type.
+/// The same by the packed codec and by the tag form.
+pub(super) fn refused<T: Decode>(
+    rt: &impl Abort,
+    alloc: Global,
+    case: &str,
+    bytes: &[u8],
+    error: DecodeError,
+) {
+    refused_with_marks::<T>(rt, alloc, case, bytes, error);
+    let rules = TagRules::new(alloc);
+    refused_by::<T, TagRules>(rt, alloc, &rules, case, bytes, error);
+}
+
+/// Asserts that bytes are not those of a value of the type, by both.
 fn is_bad<T: Decode>(rt: &impl Abort, alloc: Global, case: &str, bytes: &[u8]) {
     refused::<T>(rt, alloc, case, bytes, BAD_ITEM);
 }
@@ -71,7 +94,8 @@ fn missing_bytes_are_counted(rt: HostRuntime) {
     lacks::<Vec<bool>>(&rt, alloc, "no body", &[4, 0, 0, 0, 0, 16, 0, 0, 0, 7], 7);
     let long = [1, 0, 0, 0, 0, 1, 1, 0xff, 0xff, 0xff, 0xff, 1];
     lacks::<bool>(&rt, alloc, "a great length", &long, 4_294_967_294);
-    lacks::<Option<bool>>(&rt, alloc, "no mark", &[], 1);
+    let mark = DecodeError::Incomplete(Needed::Size(1));
+    refused_with_marks::<Option<bool>>(&rt, alloc, "no mark", &[], mark);
 }
 
 #[test]
@@ -238,7 +262,7 @@ fn what_is_missing_inside_a_scope_is_bad(rt: HostRuntime) {
     };
     let empty = [2, 0, 0, 0, 0, 16, 0, 0, 0, 0];
     refused::<Person>(&rt, alloc, "none", &empty, no_age);
-    refused::<Profile>(&rt, alloc, "no mark", &empty, no_nick);
+    refused_with_marks::<Profile>(&rt, alloc, "no mark", &empty, no_nick);
     let other = [2, 0, 0, 0, 0, 16, 0, 0, 0, 1, 18];
     refused::<Profile>(&rt, alloc, "another mark", &other, no_nick);
 }
@@ -324,7 +348,7 @@ fn a_component_of_another_tag_is_unknown(rt: HostRuntime) {
         index: 1,
         tag: Tag::REAL,
     };
-    refused::<Badge>(&rt, rt.alloc(), "a REAL", UNKNOWN, unknown);
+    refused_with_marks::<Badge>(&rt, rt.alloc(), "a REAL", UNKNOWN, unknown);
 }
 
 /// An error of a type's own is answered as it is, also from inside a list.
@@ -360,25 +384,43 @@ fn each_beginning_is_too_short(rt: HostRuntime) {
     assert_each_beginning::<Badge>(&rt, rt.alloc(), BADGE);
 }
 
-/// How long the person is that is read at the front, of which one byte is another.
-fn length_of_damaged(rt: &impl Abort, alloc: Global, place: usize, byte: u8) -> usize {
+/// A person, of which one byte is another.
+fn damaged(rt: &impl Abort, alloc: Global, place: usize, byte: u8) -> Vec<u8> {
     let mut bytes = list(alloc, PERSON).expect(rt, "memory");
     if let Some(changed) = bytes.get_mut(place) {
         *changed = byte;
     }
-    let front: Result<(Person, usize), _> = BenchReader::new(alloc, 4).read_front(&bytes);
+    bytes
+}
+
+/// How long the person is that is read at the front.
+fn length_of_front(alloc: Global, bytes: &[u8]) -> usize {
+    let front: Result<(Person, usize), _> = BenchReader::new(alloc, 4).read_front(bytes);
     match front {
         Ok((_, length)) => length,
         Err(_) => 0,
     }
 }
 
+/// Asserts that a person is read of these bytes only if they may be one.
+fn assert_person_only<R: Rules<Output = Vec<u8>>>(
+    rt: &impl Abort,
+    rules: &R,
+    bytes: &Vec<u8>,
+    may_be: bool,
+) {
+    assert!(rt; may_be || rules.read_value::<Person>(bytes, 4).is_err());
+}
+
 /// Asserts that the sign, the age and the letters of the name alone may be another byte.
 fn assert_damaged(rt: &impl Abort, alloc: Global, place: usize, byte: u8) {
-    let length = length_of_damaged(rt, alloc, place, byte);
+    let bytes = damaged(rt, alloc, place, byte);
     let is_value = place == 21 || place == 22 || place >= 34;
     let may_be = is_value || PERSON.get(place) == Some(&byte);
+    let length = length_of_front(alloc, &bytes);
     assert!(rt; length == 0 || length == 37 && may_be);
+    assert_person_only(rt, &BenchRules::new(alloc), &bytes, may_be);
+    assert_person_only(rt, &TagRules::new(alloc), &bytes, may_be);
 }
 
 fn assert_each_byte(rt: &impl Abort, alloc: Global, place: usize) {

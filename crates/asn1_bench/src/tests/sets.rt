@@ -1,10 +1,11 @@
 //! A SET that is read by place: its components come in any order, each of them once.
 use crate::rules::BenchRules;
-use crate::tests::refusals::refused;
+use crate::tests::refusals::{refused, refused_with_marks};
 use asn1_codec_tests::made::list;
 use asn1_dec::DecodeError;
 use asn1_rules::Rules;
 use asn1_samples::Ticket;
+use asn1_tags::Tag;
 use std::alloc::Global;
 use std::process::Abort;
 
@@ -31,6 +32,12 @@ const NO_SEAT: &[u8] = &[
     3, 0, 0, 0, 0, 17, 0, 0, 0, 13, 0x10, 1, 2, 0, 0, 0, 2, 1, 0, 0, 0, 1, 1,
 ];
 
+/// The seat, and a REAL.
+const UNKNOWN: &[u8] = &[
+    3, 0, 0, 0, 0, 17, 0, 0, 0, 24, 1, 2, 0, 0, 0, 0, 2, 0, 0, 0, 2, 0, 7, 1, 0, 0, 0, 0, 9, 4, 0,
+    0, 0, 0,
+];
+
 fn assert_seat_seven(rt: &impl Abort, alloc: Global, bytes: &[u8]) {
     let bytes = list(alloc, bytes).expect(rt, "memory");
     let ticket: Ticket = BenchRules::new(alloc)
@@ -51,5 +58,14 @@ fn a_component_of_a_set_comes_once(rt: HostRuntime) {
     let twice = DecodeError::DuplicateField("seat");
     refused::<Ticket>(&rt, alloc, "twice", SEAT_TWICE, twice);
     let missing = DecodeError::MissingField("seat");
-    refused::<Ticket>(&rt, alloc, "missing", NO_SEAT, missing);
+    refused_with_marks::<Ticket>(&rt, alloc, "missing", NO_SEAT, missing);
+}
+
+#[test]
+fn a_tag_of_no_component_is_refused_in_a_set(rt: HostRuntime) {
+    let unknown = DecodeError::UnknownField {
+        index: 1,
+        tag: Tag::REAL,
+    };
+    refused::<Ticket>(&rt, rt.alloc(), "a REAL", UNKNOWN, unknown);
 }

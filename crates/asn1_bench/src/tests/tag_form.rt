@@ -1,12 +1,12 @@
 //! The tag form: the bytes of worked values, which were made by hand, and what is refused.
 use crate::tests::bytes::{assert_node, assert_plate, assert_reached, assert_settings, profile};
-use crate::tests::cases::{passes, why_not_read, writes};
-use asn1_codec_tests::is_not_read;
-use asn1_codec_tests::made::list;
+use crate::tests::cases::{why_not_read, writes};
+use crate::tests::refusals::refused_by;
 use asn1_dec::{Decode, DecodeError, Needed};
 use asn1_recursive::Node;
-use asn1_samples::{Contact, Profile};
+use asn1_samples::{Badge, Contact, Profile, Ticket};
 use asn1_tagform::TagRules;
+use asn1_tags::Tag;
 use std::alloc::Global;
 use std::process::Abort;
 
@@ -64,26 +64,61 @@ const LATE: &[u8] = &[
 /// A profile of which three bytes are missing inside.
 const CUT: &[u8] = &[2, 0, 0, 0, 0, 16, 0, 0, 0, 13, 1, 2, 0, 0, 0, 1, 2, 0, 0, 0];
 
-/// Asserts why bytes are no profile.
-fn refused(rt: &impl Abort, alloc: Global, case: &str, bytes: &[u8], error: DecodeError) {
+/// Asserts why bytes are no value of the type.
+fn refused<T: Decode>(
+    rt: &impl Abort,
+    alloc: Global,
+    case: &str,
+    bytes: &[u8],
+    error: DecodeError,
+) {
     let rules = TagRules::new(alloc);
-    let bytes = list(alloc, bytes).expect(rt, "memory");
-    passes(
-        rt,
-        case,
-        is_not_read::<Profile, TagRules>(&rules, &bytes, 4, error),
-    );
+    refused_by::<T, TagRules>(rt, alloc, &rules, case, bytes, error);
 }
 
 #[test]
 fn what_is_no_profile_is_refused(rt: HostRuntime) {
     let alloc = rt.alloc();
     let bad_item = DecodeError::Custom("bad item");
-    refused(&rt, alloc, "twice", TWICE, bad_item);
-    refused(&rt, alloc, "no profile", LEVEL, bad_item);
-    refused(&rt, alloc, "late", LATE, bad_item);
+    refused::<Profile>(&rt, alloc, "twice", TWICE, bad_item);
+    refused::<Profile>(&rt, alloc, "no profile", LEVEL, bad_item);
+    refused::<Profile>(&rt, alloc, "late", LATE, bad_item);
     let missing = DecodeError::Incomplete(Needed::Size(3));
-    refused(&rt, alloc, "cut", CUT, missing);
+    refused::<Profile>(&rt, alloc, "cut", CUT, missing);
+}
+
+/// A badge `{ id 7 }` with a REAL.
+const UNKNOWN: &[u8] = &[
+    3, 0, 0, 0, 0, 17, 0, 0, 0, 24, 1, 0, 0, 0, 0, 2, 2, 0, 0, 0, 2, 0, 7, 1, 0, 0, 0, 0, 9, 4, 0,
+    0, 0, 0,
+];
+
+/// A ticket with what is paid alone.
+const NO_SEAT: &[u8] = &[
+    3, 0, 0, 0, 0, 17, 0, 0, 0, 12, 1, 2, 0, 0, 0, 2, 1, 0, 0, 0, 1, 1,
+];
+
+#[test]
+fn an_error_names_the_component(rt: HostRuntime) {
+    let alloc = rt.alloc();
+    let no_level = DecodeError::FieldError {
+        name: "level",
+        cause: 1,
+    };
+    refused::<Profile>(
+        &rt,
+        alloc,
+        "no level",
+        &[2, 0, 0, 0, 0, 16, 0, 0, 0, 0],
+        no_level,
+    );
+    let unknown = DecodeError::UnknownField {
+        index: 1,
+        tag: Tag::REAL,
+    };
+    refused::<Badge>(&rt, alloc, "a REAL", UNKNOWN, unknown);
+    let missing = DecodeError::MissingField("seat");
+    refused::<Ticket>(&rt, alloc, "no seat", NO_SEAT, missing);
 }
 
 /// Asserts that the bytes end before a value does.

@@ -1,46 +1,50 @@
-//! `Shape` and `Corner`, and `Badge`, which has one of them.
+//! `Shape`, `Corner` and `Color`, and `Badge`, which has a `Shape`.
 use asn1_codec_tests::made::{letters, units};
-use asn1_codec_tests::{Failure, comes_back, made_comes_back};
-use asn1_rules::Rules;
-use asn1_samples::{Badge, Corner, Shape};
+use asn1_codec_tests::{Failure, ValueCase};
+use asn1_samples::{Badge, Color, Corner, Shape};
+use asn1_strings::VisibleString;
 use std::alloc::Global;
 
-/// Whether each alternative of each CHOICE comes back.
-///
-/// # Errors
-/// Why one did not.
-pub fn alternatives_come_back<R: Rules>(rules: &R, alloc: Global) -> Result<(), Failure> {
-    shape_comes_back(rules, Shape::Dot(()))
-        .and(shape_comes_back(rules, Shape::Ring(300)))
-        .and(shape_comes_back(rules, Shape::Inner(Corner::Left(true))))
-        .and(made_comes_back(rules, units(alloc, &[7u8]).map(Corner::Right)))
+/// Whether a case passes of each alternative of each CHOICE.
+pub(super) fn each_alternative_passes<C: ValueCase>(
+    case: &C,
+    alloc: Global,
+) -> Result<(), Failure> {
+    case.try_value(Shape::Dot(()))
+        .and(case.try_value(Shape::Ring(300)))
+        .and(case.try_value(Shape::Inner(Corner::Left(true))))
+        .and(case.try_made(right(alloc).map(Shape::Inner)))
+        .and(case.try_value(Corner::Left(false)))
+        .and(case.try_made(right(alloc)))
 }
 
-fn shape_comes_back<R: Rules>(rules: &R, shape: Shape) -> Result<(), Failure> {
-    comes_back(rules, &shape)
+fn right(alloc: Global) -> Result<Corner, Failure> {
+    units(alloc, &[7u8]).map(Corner::Right)
 }
 
-/// Whether badges come back, with a label and without.
-///
-/// # Errors
-/// Why one did not.
-pub fn badges_come_back<R: Rules>(rules: &R, alloc: Global) -> Result<(), Failure> {
-    made_comes_back(rules, Ok(bare())).and(made_comes_back(rules, labelled(alloc)))
+/// The same of each item of an ENUMERATED.
+pub(super) fn each_color_passes<C: ValueCase>(case: &C) -> Result<(), Failure> {
+    case.try_value(Color::Red)
+        .and(case.try_value(Color::Green))
+        .and(case.try_value(Color::Blue))
 }
 
-fn bare() -> Badge {
+/// The same of badges with a label and without.
+pub(super) fn each_badge_passes<C: ValueCase>(case: &C, alloc: Global) -> Result<(), Failure> {
+    case.try_value(badge(None, Shape::Dot(())))
+        .and(case.try_value(badge(None, Shape::Ring(300))))
+        .and(case.try_made(labelled(alloc)))
+}
+
+fn badge(label: Option<VisibleString>, shape: Shape) -> Badge {
     Badge {
         id: 7,
-        label: None,
-        shape: Shape::Dot(()),
+        label,
+        shape,
     }
 }
 
-pub(super) fn labelled(alloc: Global) -> Result<Badge, Failure> {
+fn labelled(alloc: Global) -> Result<Badge, Failure> {
     let label = letters(alloc, b"x")?;
-    Ok(Badge {
-        id: 7,
-        label: Some(label),
-        shape: Shape::Inner(Corner::Left(true)),
-    })
+    Ok(badge(Some(label), Shape::Inner(Corner::Left(true))))
 }

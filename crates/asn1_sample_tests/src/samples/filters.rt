@@ -1,6 +1,6 @@
 //! `Filter` and `Nested`.
 use asn1_codec_tests::made::units;
-use asn1_codec_tests::{Failure, comes_back, made_comes_back, needs_depth};
+use asn1_codec_tests::{Failure, ValueCase, needs_depth};
 use asn1_recursive::{
     AttributeValueAssertion, Filter, MatchingRuleAssertion, Nested, Substring, SubstringFilter,
 };
@@ -8,7 +8,7 @@ use asn1_rules::Rules;
 use asn1_types::SetOf;
 use std::alloc::Global;
 
-pub(super) fn present(alloc: Global, name: &[u8]) -> Result<Filter, Failure> {
+fn present(alloc: Global, name: &[u8]) -> Result<Filter, Failure> {
     units(alloc, name).map(Filter::Present)
 }
 
@@ -75,44 +75,70 @@ fn bare_match(alloc: Global) -> Result<MatchingRuleAssertion, Failure> {
     })
 }
 
-/// The set of a name that is there and of one that is not.
-fn names(alloc: Global) -> Result<SetOf<Filter>, Failure> {
+/// The set of these two filters.
+fn both(
+    alloc: Global,
+    first: Result<Filter, Failure>,
+    second: Result<Filter, Failure>,
+) -> Result<SetOf<Filter>, Failure> {
     let mut filters = SetOf::new(alloc);
-    let there = present(alloc, b"cn")?;
-    let away = not(alloc, present(alloc, b"sn")?)?;
-    match filters.insert(there) {
-        Ok(()) => match filters.insert(away) {
-            Ok(()) => Ok(filters),
-            Err(_) => Err(Failure::Memory),
-        },
+    insert(&mut filters, first)?;
+    insert(&mut filters, second)?;
+    Ok(filters)
+}
+
+fn insert(filters: &mut SetOf<Filter>, filter: Result<Filter, Failure>) -> Result<(), Failure> {
+    match filters.insert(filter?) {
+        Ok(()) => Ok(()),
         Err(_) => Err(Failure::Memory),
     }
 }
 
-/// Whether filters come back: each alternative, and sets in any order.
-///
-/// # Errors
-/// Why one did not.
-pub fn filters_come_back<R: Rules>(rules: &R, alloc: Global) -> Result<(), Failure> {
-    made_comes_back(rules, present(alloc, b"cn"))
-        .and(filter_needs_depth(rules, names(alloc).map(Filter::Or), 5))
-        .and(filter_needs_depth(rules, names(alloc).map(Filter::And), 5))
-        .and(assertions_come_back(rules, alloc))
-        .and(matches_come_back(rules, alloc))
+/// The set of two names that are there.
+fn names(alloc: Global) -> Result<SetOf<Filter>, Failure> {
+    both(alloc, present(alloc, b"cn"), present(alloc, b"sn"))
+}
+
+/// A name that is not there.
+fn away(alloc: Global) -> Result<Filter, Failure> {
+    not(alloc, present(alloc, b"sn")?)
+}
+
+/// The set of a name that is there and of one that is not.
+fn there_and_away(alloc: Global) -> Result<SetOf<Filter>, Failure> {
+    both(alloc, present(alloc, b"cn"), away(alloc))
+}
+
+/// Whether a case passes of each alternative of a filter.
+pub(super) fn each_filter_passes<C: ValueCase>(case: &C, alloc: Global) -> Result<(), Failure> {
+    case.try_made(present(alloc, b"cn"))
+        .and(case.try_made(away(alloc)))
+        .and(case.try_made(names(alloc).map(Filter::And)))
+        .and(case.try_made(names(alloc).map(Filter::Or)))
+        .and(each_assertion_passes(case, alloc))
+        .and(each_match_passes(case, alloc))
 }
 
 /// The four alternatives that say the same of an attribute.
-fn assertions_come_back<R: Rules>(rules: &R, alloc: Global) -> Result<(), Failure> {
-    made_comes_back(rules, assertion(alloc).map(Filter::EqualityMatch))
-        .and(made_comes_back(rules, assertion(alloc).map(Filter::GreaterOrEqual)))
-        .and(made_comes_back(rules, assertion(alloc).map(Filter::LessOrEqual)))
-        .and(made_comes_back(rules, assertion(alloc).map(Filter::ApproxMatch)))
+fn each_assertion_passes<C: ValueCase>(case: &C, alloc: Global) -> Result<(), Failure> {
+    case.try_made(assertion(alloc).map(Filter::EqualityMatch))
+        .and(case.try_made(assertion(alloc).map(Filter::GreaterOrEqual)))
+        .and(case.try_made(assertion(alloc).map(Filter::LessOrEqual)))
+        .and(case.try_made(assertion(alloc).map(Filter::ApproxMatch)))
 }
 
-fn matches_come_back<R: Rules>(rules: &R, alloc: Global) -> Result<(), Failure> {
+/// Each part of a text, and matches with all that may be absent and without.
+fn each_match_passes<C: ValueCase>(case: &C, alloc: Global) -> Result<(), Failure> {
+    case.try_made(substrings(alloc).map(Filter::Substrings))
+        .and(case.try_made(whole_match(alloc).map(Filter::ExtensibleMatch)))
+        .and(case.try_made(bare_match(alloc).map(Filter::ExtensibleMatch)))
+}
+
+/// Whether the parts of a text take four scopes, and a set of a filter and of one that is not five.
+pub(super) fn filters_need_their_depth<R: Rules>(rules: &R, alloc: Global) -> Result<(), Failure> {
     filter_needs_depth(rules, substrings(alloc).map(Filter::Substrings), 4)
-        .and(made_comes_back(rules, whole_match(alloc).map(Filter::ExtensibleMatch)))
-        .and(made_comes_back(rules, bare_match(alloc).map(Filter::ExtensibleMatch)))
+        .and(filter_needs_depth(rules, there_and_away(alloc).map(Filter::Or), 5))
+        .and(filter_needs_depth(rules, there_and_away(alloc).map(Filter::And), 5))
 }
 
 fn filter_needs_depth<R: Rules>(
@@ -139,14 +165,22 @@ pub fn flag_inside(alloc: Global, around: usize) -> Result<Nested, Failure> {
     Ok(value)
 }
 
-/// Whether values that hold themselves come back, each two scopes deeper than the one inside.
-///
-/// # Errors
-/// Why one did not.
-pub fn nested_values_come_back<R: Rules>(rules: &R, alloc: Global) -> Result<(), Failure> {
-    comes_back(rules, &Nested::Null)
-        .and(nested_needs_depth(rules, alloc, 1, 3))
-        .and(nested_needs_depth(rules, alloc, 100, 201))
+/// Whether a case passes of each alternative of a value that holds itself.
+pub(super) fn each_nested_value_passes<C: ValueCase>(
+    case: &C,
+    alloc: Global,
+) -> Result<(), Failure> {
+    case.try_value(Nested::Null)
+        .and(case.try_value(Nested::Flag(true)))
+        .and(case.try_made(flag_inside(alloc, 1)))
+}
+
+/// Whether each takes two scopes more than the one inside.
+pub(super) fn nested_values_need_their_depth<R: Rules>(
+    rules: &R,
+    alloc: Global,
+) -> Result<(), Failure> {
+    nested_needs_depth(rules, alloc, 1, 3).and(nested_needs_depth(rules, alloc, 100, 201))
 }
 
 fn nested_needs_depth<R: Rules>(

@@ -1,7 +1,7 @@
 //! `Node`.
-use asn1_codec_tests::{Failure, made_comes_back};
+use asn1_codec_tests::made::text;
+use asn1_codec_tests::{Failure, ValueCase};
 use asn1_recursive::Node;
-use asn1_rules::Rules;
 use std::alloc::{AllocError, Global};
 
 /// A node with a label and without children, with so many nodes around it, one in another.
@@ -22,32 +22,39 @@ pub fn bare_chain(alloc: Global, around: usize) -> Result<Node, AllocError> {
 }
 
 fn chain(alloc: Global, label: Option<String>, around: usize) -> Result<Node, AllocError> {
-    let mut node = Node {
-        label,
-        children: Vec::new(alloc),
-    };
+    let mut node = childless(alloc, label);
     for _index in 0..around {
-        node = parent(alloc, node)?;
+        node = with_child(childless(alloc, None), node)?;
     }
     Ok(node)
 }
 
-/// A node without a label, with one child.
-fn parent(alloc: Global, child: Node) -> Result<Node, AllocError> {
-    let mut children = Vec::new(alloc);
-    match children.push(child) {
-        Ok(()) => Ok(Node {
-            label: None,
-            children,
-        }),
+fn childless(alloc: Global, label: Option<String>) -> Node {
+    Node {
+        label,
+        children: Vec::new(alloc),
+    }
+}
+
+/// The node with one more child.
+fn with_child(mut node: Node, child: Node) -> Result<Node, AllocError> {
+    match node.children.push(child) {
+        Ok(()) => Ok(node),
         Err(_) => Err(AllocError),
     }
 }
 
-/// Whether a node with a child comes back.
-///
-/// # Errors
-/// Why it did not.
-pub fn nodes_come_back<R: Rules>(rules: &R, alloc: Global) -> Result<(), Failure> {
-    made_comes_back(rules, node_chain(alloc, 1).map_err(Failure::from))
+/// A node with a label and with a child.
+fn labelled_parent(alloc: Global) -> Result<Node, Failure> {
+    let child = bare_chain(alloc, 0)?;
+    let label = text(alloc, "b")?;
+    Ok(with_child(childless(alloc, Some(label)), child)?)
+}
+
+/// Whether a case passes of nodes with a label and without, and with a child and without.
+pub(super) fn each_node_passes<C: ValueCase>(case: &C, alloc: Global) -> Result<(), Failure> {
+    case.try_made(bare_chain(alloc, 0).map_err(Failure::from))
+        .and(case.try_made(node_chain(alloc, 0).map_err(Failure::from)))
+        .and(case.try_made(node_chain(alloc, 1).map_err(Failure::from)))
+        .and(case.try_made(labelled_parent(alloc)))
 }

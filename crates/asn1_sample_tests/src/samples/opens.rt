@@ -1,6 +1,6 @@
 //! `Open`.
 use asn1_codec_tests::made::{letters, text, units};
-use asn1_codec_tests::{Failure, comes_back, made_comes_back, needs_depth};
+use asn1_codec_tests::{Failure, ValueCase, needs_depth};
 use asn1_open::Open;
 use asn1_rules::Rules;
 use asn1_types::{Implicit, InstanceOf};
@@ -27,20 +27,17 @@ fn instance(alloc: Global, value: Open) -> Result<Open, Failure> {
     }
 }
 
-/// Whether each alternative of an `Open` comes back, an INSTANCE OF around a NULL among them.
-///
-/// # Errors
-/// Why one did not.
-pub fn opens_come_back<R: Rules>(rules: &R, alloc: Global) -> Result<(), Failure> {
-    comes_back(rules, &Open::Null)
-        .and(comes_back(rules, &Open::Bool(true)))
-        .and(comes_back(rules, &Open::Integer(Integer::from_i128(-300))))
-        .and(made_comes_back(rules, units(alloc, &[true, false]).map(Open::BitString)))
-        .and(made_comes_back(rules, units(alloc, &[1, 3]).map(Open::ObjectIdentifier)))
-        .and(made_comes_back(rules, units(alloc, &[7u8]).map(Open::OctetString)))
-        .and(made_comes_back(rules, text(alloc, "Ann").map(universal)))
-        .and(made_comes_back(rules, letters(alloc, b"Ann").map(Open::VisibleString)))
-        .and(made_comes_back(rules, null_inside_instances(alloc, 1)))
+/// Whether a case passes of each alternative of an `Open`, an INSTANCE OF around a NULL among them.
+pub(super) fn each_open_passes<C: ValueCase>(case: &C, alloc: Global) -> Result<(), Failure> {
+    case.try_value(Open::Null)
+        .and(case.try_value(Open::Bool(true)))
+        .and(case.try_value(Open::Integer(Integer::from_i128(-300))))
+        .and(case.try_made(units(alloc, &[true, false]).map(Open::BitString)))
+        .and(case.try_made(units(alloc, &[1, 3]).map(Open::ObjectIdentifier)))
+        .and(case.try_made(units(alloc, &[7u8]).map(Open::OctetString)))
+        .and(case.try_made(text(alloc, "Ann").map(universal)))
+        .and(case.try_made(letters(alloc, b"Ann").map(Open::VisibleString)))
+        .and(case.try_made(null_inside_instances(alloc, 1)))
 }
 
 fn universal(text: String) -> Open {
@@ -49,10 +46,7 @@ fn universal(text: String) -> Open {
 
 /// Whether an INSTANCE OF around a NULL takes four scopes, and each further one three more: a hundred 301. None is written or
 /// read with one less.
-///
-/// # Errors
-/// Why one was not.
-pub fn opens_need_their_depth<R: Rules>(rules: &R, alloc: Global) -> Result<(), Failure> {
+pub(super) fn opens_need_their_depth<R: Rules>(rules: &R, alloc: Global) -> Result<(), Failure> {
     needs_depth(rules, &Open::Null, 1)
         .and(instances(rules, alloc, 1, 4))
         .and(instances(rules, alloc, 2, 7))

@@ -1,6 +1,6 @@
 //! `Person` and `Profile`.
 use asn1_codec_tests::made::{letters, text};
-use asn1_codec_tests::{Failure, comes_back_as, made_comes_back};
+use asn1_codec_tests::{Failure, ValueCase, comes_back_as};
 use asn1_rules::Rules;
 use asn1_samples::{Color, Contact, Person, Profile};
 use asn1_strings::{Alphabet, AlphabetString};
@@ -17,14 +17,6 @@ pub fn person(alloc: Global) -> Result<Person, AllocError> {
         age: Integer::from_i128(30),
         name,
     })
-}
-
-/// Whether a person comes back.
-///
-/// # Errors
-/// Why it did not.
-pub fn persons_come_back<R: Rules>(rules: &R, alloc: Global) -> Result<(), Failure> {
-    made_comes_back(rules, person(alloc).map_err(Failure::from))
 }
 
 /// Letters that may be absent.
@@ -59,7 +51,7 @@ fn bare(contact: Option<Contact>) -> Profile {
     }
 }
 
-pub(super) fn with_contact(
+fn with_contact(
     alloc: Global,
     phone: Option<&[u8]>,
     mail: Option<&[u8]>,
@@ -68,7 +60,7 @@ pub(super) fn with_contact(
     Ok(bare(Some(contact)))
 }
 
-pub(super) fn full(alloc: Global) -> Result<Profile, Failure> {
+fn full(alloc: Global) -> Result<Profile, Failure> {
     let contact = contact(alloc, Some(b"12"), Some(b"a@b"))?;
     let nick = text(alloc, "Al")?;
     Ok(Profile {
@@ -79,19 +71,19 @@ pub(super) fn full(alloc: Global) -> Result<Profile, Failure> {
     })
 }
 
-/// Whether profiles come back: bare, with the second component of the group alone, and full. One whose group writes nothing comes
-/// back without it.
-///
-/// # Errors
-/// Why one did not.
-pub fn profiles_come_back<R: Rules>(rules: &R, alloc: Global) -> Result<(), Failure> {
-    made_comes_back(rules, Ok(bare(None)))
-        .and(without_contact(rules))
-        .and(made_comes_back(rules, with_contact(alloc, None, Some(b"a@b"))))
-        .and(made_comes_back(rules, full(alloc)))
+/// Whether a case passes of a person, and of profiles: bare, with one component of the group alone, with both, and full.
+pub(super) fn each_person_passes<C: ValueCase>(case: &C, alloc: Global) -> Result<(), Failure> {
+    let (phone, mail) = (Some(b"12".as_slice()), Some(b"a@b".as_slice()));
+    case.try_made(person(alloc).map_err(Failure::from))
+        .and(case.try_value(bare(None)))
+        .and(case.try_made(with_contact(alloc, phone, None)))
+        .and(case.try_made(with_contact(alloc, None, mail)))
+        .and(case.try_made(with_contact(alloc, phone, mail)))
+        .and(case.try_made(full(alloc)))
 }
 
-fn without_contact<R: Rules>(rules: &R) -> Result<(), Failure> {
+/// Whether a profile whose group writes nothing comes back without it.
+pub(super) fn empty_groups_come_back_as_none<R: Rules>(rules: &R) -> Result<(), Failure> {
     let nothing = Contact {
         phone: None,
         mail: None,

@@ -1,6 +1,6 @@
 //! The other SEQUENCEs, and `Plate`.
 use asn1_codec_tests::made::{letters, list, text};
-use asn1_codec_tests::{Failure, comes_back, is_refused, is_same, made_comes_back};
+use asn1_codec_tests::{Failure, ValueCase, is_refused, is_same};
 use asn1_dec::{Decode, DecodeError};
 use asn1_rules::{Rules, round_trip};
 use asn1_samples::{Envelope, Labelled, Notice, Pair, Plate, Settings};
@@ -10,68 +10,43 @@ use std::alloc::Global;
 
 type OneToTen = ConstrainedInteger<1, 10>;
 
-/// Whether settings come back whose entry is the default, by the label that is compared, and those of another.
-///
-/// # Errors
-/// Why one did not.
-pub fn settings_come_back<R: Rules>(rules: &R) -> Result<(), Failure> {
-    settings(rules, 1).and(settings(rules, 2))
+/// Whether a case passes of an entry, and of settings whose entry is the default, by the label that is compared, and of others.
+pub(super) fn each_setting_passes<C: ValueCase>(case: &C) -> Result<(), Failure> {
+    case.try_value(entry(1))
+        .and(case.try_value(Settings { entry: entry(1) }))
+        .and(case.try_value(Settings { entry: entry(2) }))
 }
 
-fn settings<R: Rules>(rules: &R, key: u8) -> Result<(), Failure> {
-    let entry = Labelled { key, note: 9 };
-    comes_back(rules, &Settings { entry })
+fn entry(key: u8) -> Labelled {
+    Labelled { key, note: 9 }
 }
 
 /// Whether an entry that equals the default comes back as the default, whose note is 0.
-///
-/// # Errors
-/// [`Failure::Another`] where it has another note; else why it did not come back.
-pub fn default_settings_come_back<R: Rules>(rules: &R) -> Result<(), Failure> {
-    let entry = Labelled { key: 1, note: 9 };
-    match round_trip(rules, &Settings { entry }, 1, 1) {
+pub(super) fn default_settings_come_back<R: Rules>(rules: &R) -> Result<(), Failure> {
+    match round_trip(rules, &Settings { entry: entry(1) }, 1, 1) {
         Ok(back) => is_same(&back.entry.note, &0),
         Err(error) => Err(Failure::of_round_trip(error)),
     }
 }
 
-/// Whether an envelope comes back whose open type has these bytes, which are one value of it.
-///
-/// # Errors
-/// Why it did not.
-pub fn envelopes_come_back<R: Rules>(
-    rules: &R,
-    alloc: Global,
-    value: &[u8],
-) -> Result<(), Failure> {
-    made_comes_back(rules, envelope(alloc, value))
-}
-
+/// An envelope whose open type has these bytes, which are one value of it.
 pub(super) fn envelope(alloc: Global, value: &[u8]) -> Result<Envelope, Failure> {
     let body = Any::new(list(alloc, value)?);
     Ok(Envelope { kind: 1, body })
 }
 
-/// Whether a plate comes back.
-///
-/// # Errors
-/// Why it did not.
-pub fn plates_come_back<R: Rules>(rules: &R, alloc: Global) -> Result<(), Failure> {
-    made_comes_back(rules, letters(alloc, b"AB").map(Plate))
+/// Whether a case passes of a plate.
+pub(super) fn each_plate_passes<C: ValueCase>(case: &C, alloc: Global) -> Result<(), Failure> {
+    case.try_made(letters(alloc, b"AB").map(Plate))
 }
 
-/// Whether notices come back, with the component after an explicit tag and without.
-///
-/// # Errors
-/// Why one did not.
-pub fn notices_come_back<R: Rules>(rules: &R, alloc: Global) -> Result<(), Failure> {
-    made_comes_back(rules, notice(alloc, None)).and(made_comes_back(
-        rules,
-        notice(alloc, Some(true)),
-    ))
+/// Whether a case passes of notices with the component after an explicit tag and without.
+pub(super) fn each_notice_passes<C: ValueCase>(case: &C, alloc: Global) -> Result<(), Failure> {
+    case.try_made(notice(alloc, None))
+        .and(case.try_made(notice(alloc, Some(true))))
 }
 
-pub(super) fn notice(alloc: Global, urgent: Option<bool>) -> Result<Notice, Failure> {
+fn notice(alloc: Global, urgent: Option<bool>) -> Result<Notice, Failure> {
     let text = text(alloc, "Fire")?;
     Ok(Notice {
         id: 7,
@@ -80,24 +55,20 @@ pub(super) fn notice(alloc: Global, urgent: Option<bool>) -> Result<Notice, Fail
     })
 }
 
-/// Whether a pair comes back.
-///
-/// # Errors
-/// Why it did not.
-pub fn pairs_come_back<R: Rules>(rules: &R) -> Result<(), Failure> {
-    let pair = Pair {
-        first: true,
-        second: Some(8u16),
-    };
-    comes_back(rules, &pair)
+/// Whether a case passes of pairs with the second component and without.
+pub(super) fn each_pair_passes<C: ValueCase>(case: &C) -> Result<(), Failure> {
+    case.try_value(pair(true, Some(8u16)))
+        .and(case.try_value(pair(true, None::<u16>)))
+        .and(case.try_value(pair(7u8, Some(8u16))))
+}
+
+fn pair<T, U>(first: T, second: Option<U>) -> Pair<T, U> {
+    Pair { first, second }
 }
 
 /// Whether a pair is refused for the number in it that is outside its limits, by a codec that writes an INTEGER the same under all
 /// limits. The error names the component.
-///
-/// # Errors
-/// How else it ended.
-pub fn pairs_outside_limits_are_refused<R: Rules>(rules: &R) -> Result<(), Failure> {
+pub(super) fn pairs_outside_limits_are_refused<R: Rules>(rules: &R) -> Result<(), Failure> {
     elevens_are_refused::<Pair<OneToTen, u8>, R>(rules, "first").and(elevens_are_refused::<
         Pair<u8, OneToTen>,
         R,

@@ -1,26 +1,26 @@
 //! `Ticket`.
 use asn1_codec_tests::made::text;
-use asn1_codec_tests::{Failure, comes_back, made_comes_back};
-use asn1_rules::Rules;
+use asn1_codec_tests::{Failure, ValueCase};
 use asn1_samples::Ticket;
 use std::alloc::Global;
 
-/// Whether tickets come back, with a name and without.
-///
-/// # Errors
-/// Why one did not.
-pub fn tickets_come_back<R: Rules>(rules: &R, alloc: Global) -> Result<(), Failure> {
-    comes_back(rules, &ticket(None)).and(made_comes_back(rules, named(alloc)))
+/// Whether a case passes of tickets with a name and without, paid and, as is the default, not paid.
+pub(super) fn each_ticket_passes<C: ValueCase>(case: &C, alloc: Global) -> Result<(), Failure> {
+    case.try_value(ticket(None, true))
+        .and(case.try_value(ticket(None, false)))
+        .and(case.try_made(named(alloc, true)))
+        .and(case.try_made(named(alloc, false)))
 }
 
-fn ticket(name: Option<String>) -> Ticket {
+fn ticket(name: Option<String>, paid: bool) -> Ticket {
     Ticket {
         seat: 7,
         name,
-        paid: true,
+        paid,
     }
 }
 
-pub(super) fn named(alloc: Global) -> Result<Ticket, Failure> {
-    text(alloc, "Ann").map(Some).map(ticket)
+fn named(alloc: Global, paid: bool) -> Result<Ticket, Failure> {
+    let name = text(alloc, "Ann")?;
+    Ok(ticket(Some(name), paid))
 }

@@ -1,17 +1,17 @@
 //! `Visit`.
 use crate::samples::contact;
 use asn1_codec_tests::made::text;
-use asn1_codec_tests::{Failure, made_comes_back};
-use asn1_rules::Rules;
+use asn1_codec_tests::{Failure, ValueCase};
 use asn1_samples::{Contact, Visit};
 use std::alloc::Global;
 
-/// Whether visits come back: without any addition, and with a group whose last component is absent and the addition after it.
-///
-/// # Errors
-/// Why one did not.
-pub fn visits_come_back<R: Rules>(rules: &R, alloc: Global) -> Result<(), Failure> {
-    made_comes_back(rules, Ok(visit(None, None))).and(made_comes_back(rules, with_both(alloc)))
+/// Whether a case passes of visits with and without a group whose last component is absent, and with and without the addition
+/// after it.
+pub(super) fn each_visit_passes<C: ValueCase>(case: &C, alloc: Global) -> Result<(), Failure> {
+    case.try_value(visit(None, None))
+        .and(case.try_made(with_contact(alloc, None)))
+        .and(case.try_made(with_note(alloc)))
+        .and(case.try_made(with_both(alloc)))
 }
 
 fn visit(contact: Option<Contact>, note: Option<String>) -> Visit {
@@ -22,8 +22,17 @@ fn visit(contact: Option<Contact>, note: Option<String>) -> Visit {
     }
 }
 
-pub(super) fn with_both(alloc: Global) -> Result<Visit, Failure> {
+fn with_contact(alloc: Global, note: Option<String>) -> Result<Visit, Failure> {
     let contact = contact(alloc, Some(b"12"), None)?;
+    Ok(visit(Some(contact), note))
+}
+
+fn with_note(alloc: Global) -> Result<Visit, Failure> {
     let note = text(alloc, "ok")?;
-    Ok(visit(Some(contact), Some(note)))
+    Ok(visit(None, Some(note)))
+}
+
+fn with_both(alloc: Global) -> Result<Visit, Failure> {
+    let note = text(alloc, "ok")?;
+    with_contact(alloc, Some(note))
 }

@@ -1,7 +1,7 @@
 use Rattle.std.proofs.Common.{rules, ◌∙◌, arith}
 use Rattle.asn1_der_decoder.proofs.InOrder.{begin, goes, next_found}
 use Rattle.asn1_der_items.proofs.Behind.{element_at-shorter}
-use Rattle.asn1_packed.proofs.Remaining.{not_both}
+use Rattle.asn1_scopes.proofs.Remaining.{not_both}
 use Rattle.asn1_der_decoder.proofs.rising.rises.Goals as goal
 
 pub loop-before-init : goal.loop-before-init

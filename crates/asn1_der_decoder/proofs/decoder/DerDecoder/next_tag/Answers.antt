@@ -4,14 +4,14 @@ use Rattle.asn1_der_decoder.proofs.Telling.{element_tells, end_tells, found_tag,
 use Rattle.asn1_der_decoder.proofs.decoder.DerDecoder.next_tag.Goals as goal
 
 pub returns-then-is_at_end-clause-told : goal.returns-then-is_at_end-clause-told
-returns-then-is_at_end-clause-told c = λ rs no_failure left. end_tells c.args.self.now.slices rs (c.is_at_end.ensures.at_end.0 c.if-is_at_end.true) left
+returns-then-is_at_end-clause-told c = λ rs no_failure left. end_tells c.args.self.now.scopes.slices rs (c.is_at_end.ensures.at_end.0 c.if-is_at_end.true) left
 
 pub returns-in-Ok-clause-told : goal.returns-in-Ok-clause-told
 returns-in-Ok-clause-told c = λ rs no_failure left.
-    element_tells c.args.self.now.slices c.in-Ok.element.tag rs (λ none. let wrong = c.is_at_end.ensures.at_end.1 none in cc)
-    (found_tag c.args.self.now.slices c.left.result.now _ c.left.ensures.inside c.in-Ok.ensures.only) left
+    element_tells c.args.self.now.scopes.slices c.in-Ok.element.tag rs (λ none. let wrong = c.is_at_end.ensures.at_end.1 none in cc)
+    (found_tag c.args.self.now.scopes.slices c.left.result.now _ c.left.ensures.inside c.in-Ok.ensures.only) left
 
 pub returns-in-Err-clause-told : goal.returns-in-Err-clause-told
 returns-in-Err-clause-told c = λ rs no_failure left.
-    absurd (has_element c.args.self.now.slices rs (λ none. let wrong = c.is_at_end.ensures.at_end.1 none in cc)
+    absurd (has_element c.args.self.now.scopes.slices rs (λ none. let wrong = c.is_at_end.ensures.at_end.1 none in cc)
     (λ e at. let wrong = c.in-Err.ensures.found e (ap element_at c.left.ensures.inside ∙ at) in cc) left)

@@ -1,37 +1,38 @@
-use Rattle.std.proofs.Common.{arith, ap, ◌∙◌, length}
+use Rattle.std.proofs.Common.{arith, ◌∙◌}
 use Rattle.asn1_der_decoder.proofs.Inside.{asked_tag, inside_wanted}
-use Rattle.asn1_der_decoder.proofs.Remaining.{next_is, scope_opened}
+use Rattle.asn1_der_decoder.proofs.Remaining.{is_form}
 use Rattle.asn1_model.specs.Records.{holding}
 use Rattle.asn1_model.specs.Tags.{head_tag}
-use Rattle.asn1_packed.proofs.Remaining.{not_both}
+use Rattle.asn1_scopes.proofs.Remaining.{next_is, not_both, scope_opened}
 use Rattle.asn1_der_decoder.proofs.decoder.DerDecoder.open.Goals as goal
 
 pub returns-in_err-element-clause-read : goal.returns-in_err-element-clause-read
 returns-in_err-element-clause-read c = λ h items rest outer wanted at.
-    let next = next_is c.args.self.now (holding h items) rest outer at in
+    let next = next_is is_form c.args.self.now.scopes (holding h items) rest outer at in
     let s = inside_wanted c.args.form c.args.tag h items next.front wanted next.has in
     absurd (c.in_err-element.ensures.took next.front next.back s.element at.no_failure s.alone next.left)
 
 pub returns-then-not-is_under-clause-read : goal.returns-then-not-is_under-clause-read
 returns-then-not-is_under-clause-read c = λ h items rest outer wanted at.
-    let next = next_is c.args.self.now (holding h items) rest outer at in
+    let next = next_is is_form c.args.self.now.scopes (holding h items) rest outer at in
     let s = inside_wanted c.args.form c.args.tag h items next.front wanted next.has in
     let taken = c.in_ok-element.ensures.took next.front next.back s.element at.no_failure s.alone next.left in
     absurd (not_both c.is_under.result c.if-not-is_under.true (c.is_under.ensures (asked_tag c.args.tag c.in_ok-element.element.tag (head_tag h) (taken.seen.tag ∙ s.tag) wanted.has_tag)))
 
 pub returns-in_default-clause-read : goal.returns-in_default-clause-read
 returns-in_default-clause-read c = λ h items rest outer wanted at.
-    let next = next_is c.args.self.now (holding h items) rest outer at in
+    let next = next_is is_form c.args.self.now.scopes (holding h items) rest outer at in
     let s = inside_wanted c.args.form c.args.tag h items next.front wanted next.has in
     let taken = c.in_ok-element.ensures.took next.front next.back s.element at.no_failure s.alone next.left in
     absurd (c.in_default.ensures s.element next.front s.inside taken.seen s.is)
 
 pub returns-clause-read : goal.returns-clause-read
 returns-clause-read c = λ h items rest outer wanted at.
-    let next = next_is c.args.self.now (holding h items) rest outer at in
+    let next = next_is is_form c.args.self.now.scopes (holding h items) rest outer at in
     let s = inside_wanted c.args.form c.args.tag h items next.front wanted next.has in
     let taken = c.in_ok-element.ensures.took next.front next.back s.element at.no_failure s.alone next.left in
     let inside = c.in-Some.ensures s.element next.front s.inside taken.seen s.is in
-    scope_opened c.args.self.now c.take.new.self _ h items rest outer s.inside _ s.have
-    (next.after c.take.new.self c.in_ok-element.ensures.opens_nothing.keeps_depth.no_failure taken.left c.in_ok-element.ensures.outside) (omega arith)
-    (c.in_default-enter.ensures.inside ∙ inside) c.in_default-enter.ensures.outside c.in_ok-element.ensures.opens_nothing.keeps_depth.no_failure (taken.seen.tag ∙ s.tag) (ap length inside)
+    let kept = c.in_ok-element.ensures in
+    let opened = c.open.ensures in
+    scope_opened is_form (λ d. d.scopes) c.args.self.now c.take.new.self _ h items rest outer s.inside _ _ c.open.result s.have
+    (next.after c.take.new.self.scopes kept.opens_nothing.keeps_depth.no_failure taken.left kept.outside) (omega arith) (taken.seen.tag ∙ s.tag) inside opened.opened opened.same_failure opened.memory

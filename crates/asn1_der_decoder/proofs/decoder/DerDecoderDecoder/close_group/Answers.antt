@@ -8,4 +8,4 @@ use Rattle.asn1_der_decoder.proofs.decoder.DerDecoderDecoder.close_group.Goals a
 pub returns-clause-read : goal.returns-clause-read
 returns-clause-read c =
     reads_mark in_one_order c.args.self.now c.args.self.now group_end (Ok (tt {0}))
-    (λ rest outer at. record { answer = tt; at = past_mark c.args.self.now c.args.self.now group_end rest outer c.if-self.false refl at; within_depth_left = omega arith })
+    (λ rest outer at. record { answer = tt; at = past_mark c.args.self.now.scopes c.args.self.now.scopes group_end rest outer c.if-self.false refl at; within_depth_left = omega arith })

@@ -1,6 +1,10 @@
-use Rattle.std.proofs.Common.{refl}
-use Rattle.asn1_packed.proofs.Remaining.{begins}
+use Rattle.asn1_packed.proofs.Forms.{carried_is_read}
+use Rattle.asn1_packed.proofs.Remaining.{is_form}
+use Rattle.asn1_scopes.proofs.Remaining.{begins}
 use Rattle.asn1_packed.proofs.decoder.ItemDecoder.new.Goals as goal
 
 pub returns-clause-before : goal.returns-clause-before
-returns-clause-before g c = λ rs carried well. begins g.P.Presence.mark_bytes _ c.args.bytes.now rs refl c.new.ensures.inside c.new.ensures.outside carried well
+returns-clause-before g c = λ rs carried well.
+    let marks = g.P.Presence.mark_bytes in
+    let begun = c.new.ensures in
+    begins (is_form marks) (λ d. d.scopes) _ c.args.bytes.now carried.exactly rs begun.no_failure begun.inside begun.outside (carried_is_read marks c.args.bytes.now rs carried well) carried.same

@@ -10,10 +10,10 @@ pub returns-in-Ok-clause-read : goal.returns-in-Ok-clause-read
 returns-in-Ok-clause-read g c =
     let marks = g.P.Presence.mark_bytes in
     reads_mark (in_one_order marks) c.args.self.now _ group_end (Ok (tt {0}))
-    (λ rest outer. mark_passed marks c.args.self.now _ group_end rest outer (λ _. ⊤) (tt {0}) c.if-self.false c.in-Ok.ensures.keeps_outside (c.in-Ok.ensures.passed rest))
+    (λ rest outer. mark_passed marks c.args.self.now _ group_end rest outer (λ _. ⊤) (tt {0}) c.if-scopes.false c.in-Ok.ensures.keeps_outside (c.in-Ok.ensures.passed rest))
 
 pub returns-in-Err-clause-read : goal.returns-in-Err-clause-read
 returns-in-Err-clause-read g c =
     let marks = g.P.Presence.mark_bytes in
-    reads_mark (in_one_order marks) {V = ⊤} c.args.self.now c.fault.new.self group_end (Err c.fault.result)
-    (λ rest outer. mark_not_passed marks {V = ⊤} c.args.self.now c.fault.new.self group_end rest outer (λ _. ⊤) c.in-Err.error c.fault.result (c.in-Err.ensures.passed rest))
+    reads_mark (in_one_order marks) {V = ⊤} c.args.self.now c.args.self.now group_end (Err c.fault.result)
+    (λ rest outer. mark_not_passed marks {V = ⊤} c.args.self.now c.args.self.now group_end rest outer (λ _. ⊤) c.in-Err.error c.fault.result (c.in-Err.ensures.passed rest))

@@ -1,11 +1,6 @@
-use Rattle.std.proofs.Common.{Ok}
-use Rattle.std.specs.Prelude.{not}
-use Rattle.asn1_codec.proofs.ReadingUpToOrder.{tells_more}
-use Rattle.asn1_packed.proofs.Remaining.{more_told}
-use Rattle.asn1_packed.specs.Decoder.{in_one_order}
+use Rattle.asn1_packed.proofs.Remaining.{is_form}
+use Rattle.asn1_scopes.proofs.Remaining.{more_is_told}
 use Rattle.asn1_packed.proofs.decoder.ItemDecoderDecoder.more.Goals as goal
 
 pub returns-clause-read : goal.returns-clause-read
-returns-clause-read g c =
-    let marks = g.P.Presence.mark_bytes in
-    tells_more (in_one_order marks) c.args.self.now c.args.self.now (Ok (not c.is_at_end.result)) (more_told marks c.args.self.now c.is_at_end.result c.is_at_end.ensures.at_end)
+returns-clause-read g c = more_is_told (is_form g.P.Presence.mark_bytes) (λ d. d.scopes) c.args.self.now c.more.result c.more.ensures.told c.more.ensures.has_failed

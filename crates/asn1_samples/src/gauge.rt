@@ -1,0 +1,141 @@
+//! `Gauge ::= SET { level INTEGER, limit [0] INTEGER OPTIONAL, unit [1] UTF8String }`
+ghost use Rattle.std.specs.Prelude.{[], ◌∷◌, None, Some, codes, refl};
+ghost use Rattle.asn1_slots.specs.Slots.{optional_slot, required_slot, set_of_slots};
+ghost use Rattle.asn1_slots.specs.Taggings.{under_constraints};
+ghost use Rattle.asn1_types.specs.Words.{context, tagged, constructed_type, constructed_agrees, IsWellTagged, unconstrained};
+
+use asn1_dec::{Decode, DecodeError, Decoder};
+use asn1_enc::{Encode, EncodeError, EncodeFields, Encoder};
+use asn1_slots::{
+    DecodeSetByPlace, Decoded, Tagging, decode_set_by_place, filled, once, once_with_constraints,
+};
+use asn1_strings::Utf8String;
+use asn1_tags::tag;
+use asn1_types::{
+    AsnType, Constraints, ConstructedType, Field, FieldTable, Identifier, Tag, TypeTable,
+};
+use std::alloc::Global;
+
+/// What a gauge shows: a SET two of whose components are under constraints of their own. The definition has no limits for the
+/// numbers, and a value keeps those that a `u16` has.
+#[derive(PartialEq, Eq, Debug, Drop)]
+pub struct Gauge {
+    /// `level INTEGER`
+    pub level: u16,
+    /// `limit [0] INTEGER OPTIONAL`
+    pub limit: Option<u16>,
+    /// `unit [1] UTF8String`
+    pub unit: Utf8String,
+}
+
+const LIMIT: Tag = tag!(context 0);
+
+const UNIT: Tag = tag!(context 1);
+
+impl DecodeSetByPlace for Gauge {
+    type Slots = (Option<u16>, Option<u16>, Option<Utf8String>);
+
+    ghost layout = { required_slot (codes "level") (λ g. g.level) (λ s. s.0) (under_constraints None unconstrained ⟦<u16 as AsnType>⟧.meaning) ⟦<u16 as PartialEq>⟧.eq ∷
+        optional_slot (codes "limit") (λ g. g.limit) (λ s. s.1) (under_constraints (Some (context 0)) unconstrained ⟦<u16 as AsnType>⟧.meaning) ⟦<u16 as PartialEq>⟧.eq ∷
+        required_slot (codes "unit") (λ g. g.unit) (λ s. s.2) (tagged (context 1) ⟦<Utf8String as AsnType>⟧.meaning) ⟦<Utf8String as PartialEq>⟧.eq ∷ [] };
+
+    fn from_slots(_alloc: Global, slots: Self::Slots) -> Result<Gauge, DecodeError> {
+        Ok(Gauge {
+            level: filled(slots.0, "level")?,
+            limit: slots.1,
+            unit: filled(slots.2, "unit")?,
+        })
+    }
+
+    fn decode_field<D: Decoder>(place: usize, slots: &mut Self::Slots, decoder: &mut D) -> Decoded {
+        let any = &Constraints::NONE;
+        match place {
+            0 => once_with_constraints(&mut slots.0, decoder, None, any, "level"),
+            1 => once_with_constraints(&mut slots.1, decoder, Some(LIMIT), any, "limit"),
+            2 => once(&mut slots.2, decoder, Tagging::Tagged(UNIT), "unit"),
+            _ => Ok(()),
+        }
+    }
+
+    ghost no_group = { refl };
+
+    ghost empty_at_first = { λ slots empty. (empty.0, (empty.1, empty.2)) };
+}
+
+impl FieldTable for Gauge {
+    ghost components = { set_of_slots ⟦<Gauge as DecodeSetByPlace>⟧.layout };
+
+    fn field_count() -> usize {
+        3
+    }
+
+    fn field_at(place: usize) -> Option<Field<'static>> {
+        match place {
+            0 => Some(Field::new_required_type::<u16>(0, "level")),
+            1 => Some(Field::new_optional_type_with_tag::<u16>(1, LIMIT, "limit")),
+            2 => Some(Field::new_required_type_with_tag::<Utf8String>(2, UNIT, "unit")),
+            _ => None,
+        }
+    }
+
+    fn marker_place() -> Option<usize> {
+        None
+    }
+}
+
+impl AsnType for Gauge {
+    ghost meaning = { constructed_type (codes "Gauge") ⟦<Gauge as FieldTable>⟧.components };
+
+    fn table() -> TypeTable {
+        TypeTable::new(Tag::SET, Identifier(Some("Gauge")))
+    }
+
+    fn is_present(&self) -> bool {
+        true
+    }
+}
+
+impl ConstructedType for Gauge {
+    ghost agrees = { constructed_agrees };
+}
+
+/// A `Gauge` can be inside other types: no two of its components share a tag.
+pub fn gauge_is_well_tagged()
+    ensures { IsWellTagged ⟦<Gauge as AsnType>⟧.meaning }
+{}
+
+impl Encode for Gauge {
+    fn encode_with_tag_and_constraints<E: Encoder>(
+        &self,
+        encoder: &mut E,
+        tag: Tag,
+        _constraints: &Constraints<'_>,
+        name: Identifier,
+    ) -> Result<(), EncodeError> {
+        encoder.encode_set(tag, self, name)
+    }
+}
+
+impl EncodeFields for Gauge {
+    fn encode_field<E: Encoder>(&self, place: usize, encoder: &mut E) -> Result<(), EncodeError> {
+        let any = &Constraints::NONE;
+        match place {
+            0 => self.level.encode_with_constraints(encoder, any),
+            1 => self
+                .limit
+                .encode_with_tag_and_constraints(encoder, LIMIT, any, u16::identifier()),
+            2 => self.unit.encode_with_tag(encoder, UNIT),
+            _ => Ok(()),
+        }
+    }
+}
+
+impl Decode for Gauge {
+    fn decode_with_tag_and_constraints<D: Decoder>(
+        decoder: &mut D,
+        tag: Tag,
+        _constraints: &Constraints<'_>,
+    ) -> Result<Gauge, DecodeError> {
+        decode_set_by_place(decoder, tag)
+    }
+}
