@@ -5,15 +5,16 @@
 //! | [`DerDecoder`] | reads from the bytes of DER |
 //! | [`laws`] | what types see of it |
 //!
-//! `asn1_der_records` has what the DER of records is, and `asn1_der_items` the bytes of elements. There is nothing in the bytes that says
-//! whether a component is there: it is if and only if an element follows in the scope whose tag is one of its own. A CHOICE has no
-//! element of its own, so to open one is to go inside the element of its alternative.
+//! `asn1_der_records` has what the DER of records is, `asn1_der_items` the bytes of elements, and `asn1_scopes` what a decoder
+//! keeps of the scopes that are open. There is nothing in the bytes that says whether a component is there: it is if and only
+//! if an element follows in the scope whose tag is one of its own. A CHOICE has no element of its own, so to open one is to go
+//! inside the element of its alternative.
 //!
 //! What the contracts promise, and the words that they use:
 //!
 //! - The decoder keeps the laws of every decoder (`Decoder`). It is before the lists whose DER is left, up to the order inside
-//!   sets (`Remains` of `specs/Decoder.antt`), and reads a set in the order in which its elements come. It takes one element as one
-//!   value of an open type (`is_one_element` of `asn1_der_items`).
+//!   sets (`Remains` of `specs/Decoder.antt`, over `der_form`), and reads a set in the order in which its elements come. It
+//!   takes one element as one value of an open type (`is_one_element` of `asn1_der_items`).
 //! - A decoder of the DER of some records begins before these, and before the same records in another order inside sets (`before`
 //!   of [`DerDecoder::new`]). [`DerDecoder::finish`] succeeds if and only if all has been read (`all_read`), and says else that a
 //!   call has failed (`failed`) or that some is left (`bad_item`). With it `read_whole` of `asn1_packed` reads a value from all of

@@ -10,7 +10,7 @@ use Rattle.asn1_der_records.specs.declared.form.ScopeForm.{ScopeForm}
 use Rattle.asn1_der_records.specs.declared.form.ScopeForm.TheVariants.{AsDefined, ByTag, ByEncoding, Chosen}
 use Rattle.asn1_der_encoder.proofs.Arranging.{CanBeRearranged}
 use Rattle.asn1_der_encoder.specs.Sorting.{AreSorted}
-use Rattle.asn1_der_encoder.specs.Written.{IsHeld, IsOpenScope, IsWritten}
+use Rattle.asn1_der_encoder.specs.Written.{IsFront, IsHeld, IsOpenScope, IsWritten}
 use Rattle.asn1_der_encoder.specs.declared.frame.Frame.{Frame}
 use Rattle.asn1_der_encoder.specs.declared.sorting.Order.{Order}
 use Rattle.asn1_der_encoder.specs.declared.sorting.Order.TheVariants.{Tags, Encodings}
@@ -62,9 +62,11 @@ followed (outermost rs) (f ∷ fs) bytes more ss p q = absurd p
 followed (in_scope h rs w) [] bytes more ss p q = absurd p
 followed (in_scope h rs w) (f ∷ fs) bytes more ss p q = record {
   before = p.before;
+  front = p.front;
   inside = p.inside ++ more;
   outside = p.outside;
-  are = ap (λ l. l ++ more) p.are ∙ append_assoc p.before p.inside more;
+  begins = p.begins;
+  are = ap (λ l. l ++ more) p.are ∙ append_assoc (p.before ++ p.front) p.inside more;
   starts = p.starts;
   tag = p.tag;
   form = p.form;
@@ -99,10 +101,11 @@ mark_appended fs bytes m = appended fs bytes bytes (presence_mark m) (record { a
 reverse-last : (fs : List Frame) (f : Frame) → reverse (fs ++ f ∷ []) ≡ f ∷ reverse fs
 reverse-last fs f = reverse-append fs (f ∷ [])
 
-pub scope_begun : (fs gs : List Frame) (f : Frame) (h : Head) (bytes : List ℕ) → f.start ≡ length bytes → f.tag ≡ head_tag h → f.form ≡ form_of h → gs ≡ fs ++ f ∷ [] → (w : Written) → IsWritten w (reverse fs) bytes → IsWritten (in_scope h [] w) (reverse gs) bytes
-scope_begun fs gs f h bytes starts tag form outer w wrote =
-    subst (λ l. IsWritten (in_scope h [] w) l bytes) (sym (ap reverse outer ∙ reverse-last fs f))
-    (record { before = bytes; inside = []; outside = wrote; are = sym (append-nil bytes); starts = starts; tag = tag; form = form; have_der = refl })
+pub scope_begun : (fs gs : List Frame) (f : Frame) (h : Head) (bytes new : List ℕ) → Appended (IsFront f.form f.tag) bytes new → f.start ≡ length new → f.tag ≡ head_tag h → f.form ≡ form_of h → gs ≡ fs ++ f ∷ [] → (w : Written) → IsWritten w (reverse fs) bytes →
+    IsWritten (in_scope h [] w) (reverse gs) new
+scope_begun fs gs f h bytes new a starts tag form outer w wrote =
+    subst (λ l. IsWritten (in_scope h [] w) l new) (sym (ap reverse outer ∙ reverse-last fs f))
+    (record { before = bytes; front = a.added; inside = []; outside = wrote; begins = a.is; are = a.joined ∙ sym (append-nil (bytes ++ a.added)); starts = starts ∙ ap length a.joined; tag = tag; form = form; have_der = refl })
 
 pub scope_of : (fs gs : List Frame) (f : Frame) (h : Head) (rs : List Record) (bytes : List ℕ) (w : Written) → fs ≡ gs ++ f ∷ [] → IsWritten (in_scope h rs w) (reverse fs) bytes → IsOpenScope (λ before. IsWritten w (reverse gs) before) h rs f bytes
 scope_of fs gs f h rs bytes w outer wrote = subst (λ l. IsWritten (in_scope h rs w) l bytes) (ap reverse outer ∙ reverse-last gs f) wrote

@@ -9,19 +9,32 @@ use Rattle.asn1_codec.specs.WritingUpToOrder.{RejectsByParts}
 use Rattle.asn1_der_records.specs.Bytes.{HasDer, HasNoDer, HaveDer, SomeHasNoDer, form_of}
 use Rattle.asn1_der_encoder.specs.declared.buffer.DerBuffer.{DerBuffer}
 use Rattle.asn1_der_encoder.specs.declared.frame.Frame.{Frame}
+use Rattle.asn1_der_items.specs.Elements.{IsBegun}
+use Rattle.asn1_der_records.specs.declared.form.ScopeForm.{ScopeForm}
+use Rattle.asn1_der_records.specs.declared.form.ScopeForm.TheVariants.{AsDefined, ByTag, ByEncoding, Chosen}
 use Rattle.asn1_items.specs.Items.{IsJoined}
 use Rattle.asn1_model.specs.Orders.{Same}
 use Rattle.asn1_model.specs.Records as model
 use Rattle.asn1_model.specs.Records.{Head, Record, held, holding, is_presence_mark, presence_marks_alone}
 use Rattle.asn1_model.specs.Tags.{head_tag}
+use Rattle.asn1_tags.specs.declared.tags.Tag.{Tag}
 
--- A scope that is open: what is outside, and what is inside, which has no identifier and no length yet.
+-- What a scope begins with: the identifier octets of its element, and an octet in the place of its length; of a CHOICE nothing.
+abbrev pub IsFront : ScopeForm → Tag → List ℕ → Type 0
+IsFront AsDefined t front = IsBegun t true front
+IsFront ByTag t front = IsBegun t true front
+IsFront ByEncoding t front = IsBegun t true front
+IsFront Chosen t front = front ≡ []
+
+-- A scope that is open: what is outside, what it begins with, and what is inside.
 pub record IsOpenScope (IsOutside : List ℕ → Type 0) (h : Head) (rs : List Record) (f : Frame) (bytes : List ℕ) : Type 0 where
   pub before : List ℕ
+  pub front : List ℕ
   pub inside : List ℕ
   pub outside : IsOutside before
-  pub are : bytes ≡ before ++ inside
-  pub starts : f.start ≡ length before
+  pub begins : IsFront f.form f.tag front
+  pub are : bytes ≡ (before ++ front) ++ inside
+  pub starts : f.start ≡ length (before ++ front)
   pub tag : f.tag ≡ head_tag h
   pub form : f.form ≡ form_of h
   pub have_der : HaveDer (held rs) inside

@@ -8,7 +8,7 @@ ghost use Rattle.std.specs.Prelude.{◌≡◌, ◌↔◌};
 
 use crate::elements::is_one_element;
 use crate::frame::Frame;
-use crate::holding::hold;
+use crate::holding::{begin, hold};
 use asn1_bounds::Codec;
 use asn1_buffers::{MarkKind, RecordBuffer, ScopeKind, WriteError};
 use asn1_der_items::{ElementError, append_primitive};
@@ -17,8 +17,8 @@ use asn1_items::Content;
 use asn1_tags::Tag;
 use std::alloc::Global;
 
-/// A buffer of the DER of records (X.690). An element gets its identifier and its length when what is inside has been written, and
-/// a set is sorted then. A CHOICE has no element of its own, and presence marks and groups have no bytes.
+/// A buffer of the DER of records (X.690). An element gets its length when what is inside has been written, and a set is sorted
+/// then. A CHOICE has no element of its own, and presence marks and groups have no bytes.
 ///
 /// It does not take records that have no DER: [`WriteError::Rejected`], with the text `no such object identifier`, `unit above
 /// 255`, `an open type is not one element` or `a choice is not one element of its tag`.
@@ -73,8 +73,9 @@ impl RecordBuffer for DerBuffer {
     }
 
     fn begin_scope(&mut self, kind: ScopeKind, tag: Tag) -> Result<(), WriteError> {
-        let start = self.bytes.len();
         let form = form_of(kind);
+        begin(&mut self.bytes, form, tag)?;
+        let start = self.bytes.len();
         if let Err(_) = self.outer.push(Frame { start, tag, form }) {
             return Err(WriteError::Memory);
         }

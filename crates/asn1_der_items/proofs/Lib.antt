@@ -2,11 +2,11 @@ pub mod Behind
 mod Complements
 pub mod Encodings
 pub mod Found
+mod Measuring
 mod Narrow
 pub mod OneContents
 pub mod OneElement
 mod ReadingArcs
 mod Septets
 pub mod SomeEncoding
-mod Wrapping
 mod WritingArcs

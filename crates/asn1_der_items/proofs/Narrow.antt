@@ -1,13 +1,13 @@
 -- Octets in two's complement without those that tell nothing.
-use Rattle.std.proofs.Common.{◌≡◌, ℕ, suc, ◌-◌, ◌*◌, ◌≤◌, ◌<◌, ◌^◌, Bool, true, false, List, [], ◌∷◌, length, take, drop, refl, sym, subst, to_z, of_z, ap, ◌∙◌, arith}
+use Rattle.std.proofs.Common.{◌≡◌, ℕ, suc, ◌-◌, ◌*◌, ◌≤◌, ◌<◌, ◌^◌, Bool, true, false, List, [], ◌∷◌, length, take, drop, refl, sym, subst, to_z, of_z, ap, ◌∙◌, arith, negsuc}
 use Rattle.std.proofs.Math.Nat.{pow-suc}
 use Rattle.std.proofs.lemmas.List.{take_all}
 use Rattle.std.proofs.lemmas.Bool.{lt-ltb, le-ltb, ltb-true, ltb-false, eqb-true, eqb-false}
-use Rattle.std.specs.Prelude.{nat_eq, nat_lt, ℤ, pos, neg_ℤ, All, FitsSigned, if◌then◌else◌}
+use Rattle.std.specs.Prelude.{nat_eq, nat_lt, ℤ, pos, neg_ℤ, ◌≤ℤ◌, unsigned_abs, All, FitsSigned, if◌then◌else◌}
 use Rattle.std.specs.Int.{byte_at, bytes_high_first, w128}
 use Rattle.std.proofs.Math.Facts.{Fits-of_z, to_z-neg, to_z-of_z}
 use Rattle.std.proofs.lemmas.List.Elements.{All-get_or, All-tail}
-use Rattle.std.proofs.lemmas.Int.{to_z_pos}
+use Rattle.std.proofs.lemmas.Int.{ints, to_z_pos}
 use Rattle.asn1_values.proofs.Digits.{magnitude-bytes_high_first}
 use Rattle.asn1_values.specs.Numbers.{magnitude}
 use Rattle.asn1_der_items.specs.Integers.{IsInteger, IsShortest, first_nine_bits, twos_complement}
@@ -86,3 +86,19 @@ least z octets own fits are same shortest = record {
   value = same ∙ ap twos_complement are ∙ sixteen (of_z w128 z) (Fits-of_z fits).fits ∙ to_z-of_z fits;
   shortest = shortest (omega (arith, ap length are));
 }
+
+-- a number below 2^32, in four octets after a zero
+pub least_small : (z : ℤ) (n : ℕ) (octets own : List ℕ) → n < 2 ^ 32 → pos n ≡ z → octets ≡ 0 ∷ bytes_high_first 4 n → twos_complement own ≡ twos_complement octets → (0 < length octets → IsShortest own) → IsInteger z own
+least_small z n octets own fits is are same shortest =
+    let digits = bytes_high_first 4 n in
+    let none : 0 * 256 ^ length digits ≡ 0 = omega arith in
+    let value : magnitude (0 ∷ digits) ≡ n = omega (arith, magnitude-cons 0 digits, none, magnitude-bytes_high_first 4 n (omega (arith, fits))) in
+    record {
+      value = same ∙ ap twos_complement are ∙ ap pos value ∙ is;
+      shortest = shortest (omega (arith, ap length are));
+    }
+
+-- what a number that is not negative is, as a size
+pub not_negative : (z : ℤ) (n : ℕ) → pos 0 ≤ℤ z → n ≡ unsigned_abs z → pos n ≡ z
+not_negative (pos m) n low is = ap pos is
+not_negative (negsuc m) n low is = absurd (omega (arith, ints))

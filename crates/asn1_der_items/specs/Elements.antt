@@ -1,5 +1,5 @@
 -- An element (X.690, 8.1.1): identifier octets, length octets and contents octets.
-use Rattle.std.specs.Prelude.{◌≡◌, ℕ, Bool, Option, None, Some, List, ◌++◌, length, nat_le, take, drop, if◌then◌else◌}
+use Rattle.std.specs.Prelude.{◌≡◌, ℕ, Bool, Option, None, Some, List, [], ◌∷◌, ◌++◌, length, nat_le, take, drop, if◌then◌else◌}
 use Rattle.std.specs.Option.{option_and_then}
 use Rattle.asn1_tags.specs.declared.tags.Tag.{Tag}
 use Rattle.asn1_der_items.specs.Base128.{Front}
@@ -13,6 +13,13 @@ pub record IsElement (t : Tag) (constructed : Bool) (contents bytes : List ℕ) 
   pub is_identifier : IsIdentifier t constructed identifier
   pub is_size : IsLength (length contents) size
   pub are : bytes ≡ identifier ++ (size ++ contents)
+
+-- The bytes are the identifier octets of an element, and an octet in the place of its length.
+pub record IsBegun (t : Tag) (constructed : Bool) (bytes : List ℕ) : Type 0 where
+  pub identifier : List ℕ
+  pub room : ℕ
+  pub is_identifier : IsIdentifier t constructed identifier
+  pub are : bytes ≡ identifier ++ room ∷ []
 
 -- an element that was read in front of some bytes, and the bytes after it
 pub record Element : Type 0 where

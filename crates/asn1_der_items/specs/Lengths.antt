@@ -1,5 +1,5 @@
 -- The length octets of an element (X.690, 8.1.3 and 10.1): definite, and as few as there can be.
-use Rattle.std.specs.Prelude.{◌≡◌, ◌⊎◌, ℕ, ◌+◌, ◌-◌, ◌<◌, ◌≤◌, ◌^◌, Bool, false, ◌&&◌, Option, None, Some, List, [], ◌∷◌, length, nat_le, nat_lt, take, drop, if◌then◌else◌}
+use Rattle.std.specs.Prelude.{◌≡◌, ◌⊎◌, ℕ, ◌+◌, ◌-◌, ◌<◌, ◌≤◌, ◌^◌, Bool, false, ◌&&◌, Option, None, Some, List, [], ◌∷◌, ◌++◌, length, nat_le, nat_lt, take, drop, if◌then◌else◌}
 use Rattle.asn1_values.specs.Numbers.{IsMagnitude, magnitude}
 use Rattle.asn1_der_items.specs.Base128.{Front}
 
@@ -21,6 +21,12 @@ pub record IsLongLength (size : ℕ) (octets : List ℕ) : Type 0 where
 -- The octets are this length.
 abbrev pub IsLength : ℕ → List ℕ → Type 0
 IsLength size octets = IsShortLength size octets ⊎ IsLongLength size octets
+
+-- The bytes are these contents octets with their length in front of them.
+pub record IsMeasured (contents bytes : List ℕ) : Type 0 where
+  pub size : List ℕ
+  pub is_size : IsLength (length contents) size
+  pub are : bytes ≡ size ++ contents
 
 -- whether there is a first digit, and it is not 0
 abbrev pub begins_with_digit : List ℕ → Bool

@@ -1,19 +1,19 @@
 //! An element: identifier octets, length octets and contents octets.
 ghost use Rattle.asn1_items.specs.Numbers.{Appended};
-ghost use Rattle.asn1_der_items.specs.Elements.{Element as Seen, IsElement, element_at};
+ghost use Rattle.asn1_der_items.specs.Elements.{Element as Seen, IsBegun, IsElement, element_at};
 ghost use Rattle.asn1_der_items.specs.Contents.{HasContents, HasNoContents};
 ghost use Rattle.asn1_der_items.specs.Series.{HoldsContents};
 ghost use Rattle.asn1_der_items.specs.declared.error.ElementError.TheVariants.{Memory};
 ghost use Rattle.asn1_items.specs.Contents.{content_of};
-ghost use Rattle.std.specs.Prelude.{◌≡◌, ◌≢◌, ◌++◌, ◌≤◌, IfErr, IfOk, IsOk, List, MatchResult, Some, ℕ, drop, false, length, take};
+ghost use Rattle.std.specs.Prelude.{◌≡◌, ◌≢◌, ◌++◌, Bool, IfErr, IfOk, IsOk, List, MatchResult, Some, ℕ, false, length};
 
 use crate::contents::append_contents;
 use crate::error::ElementError;
 use crate::identifiers::{append_identifier, read_identifier};
-use crate::lengths::{append_length, read_length};
+use crate::lengths::{read_length, write_length};
 use asn1_items::{Content, ItemError};
 use asn1_tags::Tag;
-use std::alloc::Global;
+use std::alloc::{AllocError, Global};
 
 /// An element that was read.
 #[derive(Clone, Copy, Debug)]
@@ -57,42 +57,34 @@ pub fn find_element(bytes: &[u8]) -> Result<Element<'_>, ItemError>
     })
 }
 
-/// Makes an element of the bytes from a place on, which become its contents octets. They are moved twice.
+/// Begins an element: appends its identifier octets, and an octet in the place of its length. Its contents octets are to follow, and
+/// then [`end_element`].
+///
+/// # Errors
+/// Where there is no memory. There may be some of the octets then.
+pub fn begin_element(bytes: &mut Vec<u8>, tag: Tag, constructed: bool) -> Result<(), AllocError>
+    ensures { IfOk result (λ _.
+        Appended (IsBegun tag constructed) bytes.old.items bytes.new.items) }
+{
+    append_identifier(bytes, tag, constructed)?;
+    bytes.push(0)?;
+    Ok(())
+}
+
+/// Ends the element whose contents octets are the bytes from a place on, and writes its length. They are moved only where the length
+/// has more than one octet.
 ///
 /// # Errors
 /// [`ElementError::Memory`], and [`ElementError::NotOpen`] where there are fewer bytes. After an error nothing is promised about
 /// the bytes.
-pub fn wrap(
-    bytes: &mut Vec<u8>,
-    start: usize,
-    tag: Tag,
-    constructed: bool,
-) -> Result<(), ElementError>
-    ensures { (before contents : List ℕ) → bytes.old.items ≡ before ++ contents →
-        start ≡ length before →
-        MatchResult result
-        (λ _. Appended (IsElement tag constructed contents) before bytes.new.items)
+pub fn end_element(bytes: &mut Vec<u8>, start: usize) -> Result<(), ElementError>
+    ensures { (t : Tag) (constructed : Bool) (before front contents : List ℕ) →
+        IsBegun t constructed front → bytes.old.items ≡ (before ++ front) ++ contents →
+        start ≡ length (before ++ front) → MatchResult result
+        (λ _. Appended (IsElement t constructed contents) before bytes.new.items)
         (λ e. e ≡ Memory) }
 {
-    if bytes.len() < start {
-        return Err(ElementError::NotOpen);
-    }
-    let size = bytes.len() - start;
-    append_identifier(bytes, tag, constructed)?;
-    append_length(bytes, size)?;
-    change_places(&mut bytes[start..], size);
-    Ok(())
-}
-
-/// Lets the first bytes, this many, and the bytes behind them change places: each part is turned round, and then the whole. So no room
-/// is needed beside them, as `rotate_left` needs it.
-fn change_places(bytes: &mut [u8], size: usize)
-    requires { size ≤ length bytes.now }
-    ensures after { bytes.new ≡ drop size bytes.old ++ take size bytes.old }
-{
-    bytes[..size].reverse();
-    bytes[size..].reverse();
-    bytes.reverse();
+    write_length(bytes, start)
 }
 
 /// Appends an element of a content: its tag, the length, and the contents octets.
@@ -111,7 +103,8 @@ pub fn append_primitive(
         bytes.old.items bytes.new.items) }
     ensures refused { IfErr result (λ e. e ≢ Memory → HasNoContents (content_of content.entry)) }
 {
+    begin_element(bytes, tag, false)?;
     let start = bytes.len();
     append_contents(bytes, alloc, content)?;
-    wrap(bytes, start, tag, false)
+    end_element(bytes, start)
 }

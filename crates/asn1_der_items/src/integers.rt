@@ -33,6 +33,10 @@ pub fn append_integer(
 pub(crate) fn append_narrow(bytes: &mut Vec<u8>, number: i128) -> Result<(), AllocError>
     ensures { IfOk result (λ _. Appended (IsInteger number) bytes.old.items bytes.new.items) }
 {
+    if let Ok(small) = u32::try_from(number) {
+        let [a, b, c, d] = small.to_be_bytes();
+        return bytes.extend_from_slice(shortest(&[0, a, b, c, d]));
+    }
     let octets = number.to_be_bytes();
     bytes.extend_from_slice(shortest(&octets))
 }

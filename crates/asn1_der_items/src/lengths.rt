@@ -2,26 +2,49 @@
 ghost use Rattle.asn1_values.specs.Numbers.{magnitude};
 ghost use Rattle.asn1_der_items.specs.Base128.{Front as Seen};
 ghost use Rattle.asn1_items.specs.Numbers.{Appended};
-ghost use Rattle.asn1_der_items.specs.Lengths.{IsLength, length_at};
+ghost use Rattle.asn1_der_items.specs.Lengths.{IsMeasured, length_at};
+ghost use Rattle.asn1_der_items.specs.declared.error.ElementError.TheVariants.{Memory};
 ghost use Rattle.std.specs.Option.{SomeIff};
-ghost use Rattle.std.specs.Prelude.{◌≡◌, ◌<◌, ◌^◌, IfOk, IsOk, Some};
+ghost use Rattle.std.specs.Prelude.{◌≡◌, ◌<◌, ◌≤◌, ◌^◌, ◌∷◌, ◌++◌, IfOk, IsOk, List, MatchResult, Some, length, suc, ℕ};
 
 use crate::base128::Front;
+use crate::error::ElementError;
 use asn1_items::{ItemError, significant};
 use std::alloc::AllocError;
 
-/// Appends a length.
-pub(crate) fn append_length(bytes: &mut Vec<u8>, size: usize) -> Result<(), AllocError>
-    ensures { IfOk result (λ _. Appended (IsLength size) bytes.old.items bytes.new.items) }
+/// Writes the length of the bytes from a place on in front of them. Its first octet is written over the one before that place.
+pub(crate) fn write_length(bytes: &mut Vec<u8>, start: usize) -> Result<(), ElementError>
+    ensures { (before contents : List ℕ) (room : ℕ) → bytes.old.items ≡ before ++ room ∷ contents →
+        start ≡ suc (length before) →
+        MatchResult result (λ _. Appended (IsMeasured contents) before bytes.new.items)
+        (λ e. e ≡ Memory) }
 {
+    if start == 0 || bytes.len() < start {
+        return Err(ElementError::NotOpen);
+    }
+    let size = bytes.len() - start;
     if size < 128 {
-        bytes.push(size as u8)?;
+        bytes[start - 1] = size as u8;
         return Ok(());
     }
     let octets = (size as u64).to_be_bytes();
     let digits = significant(&octets);
-    bytes.push(digits.len() as u8 + 128)?;
-    bytes.extend_from_slice(digits)
+    bytes[start - 1] = digits.len() as u8 + 128;
+    Ok(insert_octets(bytes, start, digits)?)
+}
+
+/// Puts octets in front of the bytes from a place on.
+fn insert_octets(bytes: &mut Vec<u8>, place: usize, octets: &[u8]) -> Result<(), AllocError>
+    requires { place ≤ length bytes.old.items }
+    ensures { (before after : List ℕ) → bytes.old.items ≡ before ++ after → place ≡ length before →
+        IfOk result (λ _. bytes.new.items ≡ before ++ (octets.now ++ after)) }
+{
+    let mut left = octets.len();
+    while left > 0 {
+        left -= 1;
+        bytes.insert(place, octets[left])?;
+    }
+    Ok(())
 }
 
 /// Reads a length that is below 2^64.

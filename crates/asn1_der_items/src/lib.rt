@@ -3,7 +3,7 @@
 //! | Item | What it is |
 //! |---|---|
 //! | [`find_element`], [`Element`] | the element with which some bytes begin |
-//! | [`wrap`] | makes an element of the bytes from a place on |
+//! | [`begin_element`], [`end_element`] | write an element around its contents octets |
 //! | [`append_primitive`], [`append_contents`] | writes an element of a content, and the contents octets alone |
 //! | [`append_integer`], [`read_integer`] | the contents octets of an INTEGER and an ENUMERATED |
 //! | [`append_arcs`], [`read_arcs`] | the contents octets of an OBJECT IDENTIFIER |
@@ -18,7 +18,7 @@
 //! - The bytes of an element are a tag, whether it is constructed, a length and the contents octets (`IsElement` of
 //!   `specs/Elements.antt`). A tag has the shortest identifier octets (`IsIdentifier` of `specs/Identifiers.antt`, with the numbers to
 //!   the base 128 of `specs/Base128.antt`), and a length is definite and has the fewest octets (`IsLength` of `specs/Lengths.antt`).
-//!   [`wrap`] makes these bytes of contents that were written first.
+//!   [`end_element`] makes these bytes of contents that were written after [`begin_element`].
 //! - Which element bytes begin with is a function of the bytes (`element_at`). [`find_element`] answers it where there is one
 //!   (`found`), and nothing else (`only`). The bytes of an element are found as that element, whatever follows
 //!   ([`laws::elements_are_found`]).
@@ -46,7 +46,7 @@ mod teletex;
 pub use arcs_read::read_arcs;
 pub use arcs_written::append_arcs;
 pub use contents::append_contents;
-pub use elements::{Element, append_primitive, find_element, wrap};
+pub use elements::{Element, append_primitive, begin_element, end_element, find_element};
 pub use error::ElementError;
 pub use integers::{append_integer, read_integer};
 pub use teletex::append_teletex;

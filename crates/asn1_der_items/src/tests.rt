@@ -1,6 +1,6 @@
 use crate::{
-    ElementError, append_contents, append_integer, append_primitive, find_element, read_integer,
-    wrap,
+    ElementError, append_contents, append_integer, append_primitive, begin_element, end_element,
+    find_element, read_integer,
 };
 use asn1_items::{Content, ItemError};
 use asn1_tags::Tag;
@@ -18,8 +18,11 @@ fn assert_element(
     contents: &[u8],
     bytes: &[u8],
 ) {
-    let mut written = Vec::from_slice(alloc, contents).expect(rt, "memory");
-    wrap(&mut written, 0, tag, constructed).expect(rt, "memory");
+    let mut written = Vec::new(alloc);
+    begin_element(&mut written, tag, constructed).expect(rt, "memory");
+    let start = written.len();
+    written.extend_from_slice(contents).expect(rt, "memory");
+    end_element(&mut written, start).expect(rt, "memory");
     assert!(rt; written.as_slice() == bytes);
     assert_found(rt, tag, constructed, contents, bytes);
 }
@@ -71,8 +74,10 @@ fn tags_from_31_on_are_those_of_openssl(rt: HostRuntime) {
 /// Asserts that an OCTET STRING of this many octets begins with these bytes.
 fn assert_length(rt: &impl Abort, alloc: Global, size: usize, header: &[u8]) {
     let mut bytes = Vec::new(alloc);
-    bytes.resize(size, 7).expect(rt, "memory");
-    wrap(&mut bytes, 0, Tag::OCTET_STRING, false).expect(rt, "memory");
+    begin_element(&mut bytes, Tag::OCTET_STRING, false).expect(rt, "memory");
+    let start = bytes.len();
+    bytes.resize(start + size, 7).expect(rt, "memory");
+    end_element(&mut bytes, start).expect(rt, "memory");
     assert!(rt; bytes.starts_with(header) && bytes.len() == header.len() + size);
     let found = find_element(&bytes).expect(rt, "an element");
     assert!(rt; found.contents.len() == size);

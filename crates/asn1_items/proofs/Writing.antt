@@ -42,17 +42,18 @@ pub record ScalarPlaced (y : model.Content) (t : Tag) (bytes filled : List ℕ) 
   pub starts : start ≡ length front + 4
   pub is : IsContent y inside
 
-pub placed : (y : model.Content) (t : Tag) (bytes headed opened filled : List ℕ) (k start : ℕ) → headed ≡ bytes ++ 1 ∷ tag_bytes t → opened ≡ headed ++ k ∷ 0 ∷ 0 ∷ 0 ∷ 0 ∷ [] → k ≡ content_kind y → start ≡ length opened →
-    Appended (IsContent y) opened filled → ScalarPlaced y t bytes filled start
-placed y t bytes headed opened filled k start one two kind starts a =
-    let front = headed ++ k ∷ [] in
-    let split : opened ≡ front ++ 0 ∷ 0 ∷ 0 ∷ 0 ∷ [] = two ∙ sym (append_assoc headed (k ∷ []) (0 ∷ 0 ∷ 0 ∷ 0 ∷ [])) in
+pub placed : (y : model.Content) (t : Tag) (bytes opened filled : List ℕ) (k start : ℕ) → opened ≡ bytes ++ 1 ∷ (tag_bytes t ++ k ∷ 0 ∷ 0 ∷ 0 ∷ 0 ∷ []) → k ≡ content_kind y → start ≡ length opened → Appended (IsContent y) opened filled →
+    ScalarPlaced y t bytes filled start
+placed y t bytes opened filled k start header kind starts a =
+    let front = bytes ++ (1 ∷ tag_bytes t ++ k ∷ []) in
+    let zeros : List ℕ = 0 ∷ 0 ∷ 0 ∷ 0 ∷ [] in
+    let split : opened ≡ front ++ zeros = header ∙ ap (λ l. bytes ++ 1 ∷ l) (sym (append_assoc (tag_bytes t) (k ∷ []) zeros)) ∙ sym (append_assoc bytes (1 ∷ tag_bytes t ++ k ∷ []) zeros) in
     record {
       front = front;
       inside = a.added;
-      front_is = ap (λ l. l ++ k ∷ []) one ∙ append_assoc bytes (1 ∷ tag_bytes t) (k ∷ []) ∙ ap (λ j. bytes ++ (1 ∷ tag_bytes t ++ j ∷ [])) kind;
-      filled_is = a.joined ∙ ap (λ l. l ++ a.added) split ∙ append_assoc front (0 ∷ 0 ∷ 0 ∷ 0 ∷ []) a.added;
-      starts = omega (arith, starts, ap length split, length-append front (0 ∷ 0 ∷ 0 ∷ 0 ∷ []));
+      front_is = ap (λ j. bytes ++ (1 ∷ tag_bytes t ++ j ∷ [])) kind;
+      filled_is = a.joined ∙ ap (λ l. l ++ a.added) split ∙ append_assoc front zeros a.added;
+      starts = omega (arith, starts, ap length split, length-append front zeros);
       is = a.is;
     }
 

@@ -13,7 +13,7 @@ ghost use Rattle.asn1_model.specs.RecordTables.{Line, Table};
 ghost use Rattle.asn1_model.specs.Tags.{head_tag};
 ghost use Rattle.std.specs.Prelude.{◌≡◌, ◌≢◌, ◌≤◌, ◌∷◌, [], IfErr, IfOk, List, MatchResult, OnOk, Some, suc};
 
-use crate::bytes::{push_tag, write_length};
+use crate::bytes::{push_content_header, push_mark, push_scope_header, write_length};
 use crate::content::Content;
 use crate::error::BufferError;
 use crate::frame::Frame;
@@ -69,8 +69,7 @@ impl Buffer {
             IfErr result (λ e. e ≢ Memory → IsTooLong (written_with marks) (scalar tag c n x)) }
         ensures same_scopes { open_scopes self.new ≡ open_scopes self.old }
     {
-        push_tag(&mut self.bytes, 1, tag)?;
-        self.bytes.extend_from_slice(&[content.kind(), 0, 0, 0, 0])?;
+        push_content_header(&mut self.bytes, tag, content.kind())?;
         let start = self.bytes.len();
         content.append_to(&mut self.bytes, self.alloc)?;
         write_length(&mut self.bytes, start)?;
@@ -106,7 +105,7 @@ impl Buffer {
         ensures memory { IfErr result (λ e. e ≡ Memory) }
         ensures same_scopes { open_scopes self.new ≡ open_scopes self.old }
     {
-        self.bytes.extend_from_slice(bytes)?;
+        push_mark(&mut self.bytes, bytes)?;
         Ok(())
     }
 
@@ -122,8 +121,7 @@ impl Buffer {
         ensures one_more { OnOk result (open_scopes self.new ≡ suc (open_scopes self.old)) }
         ensures none_after_error { IfErr result (λ _. open_scopes self.new ≡ open_scopes self.old) }
     {
-        push_tag(&mut self.bytes, kind, tag)?;
-        self.bytes.extend_from_slice(&[0, 0, 0, 0])?;
+        push_scope_header(&mut self.bytes, kind, tag)?;
         let start = self.bytes.len();
         let has_records = self.has_records;
         if let Err(_) = self.outer.push(Frame {
@@ -173,7 +171,7 @@ impl Buffer {
         ensures same_scopes { open_scopes self.new ≡ open_scopes self.old }
     {
         let start = self.bytes.len();
-        self.bytes.extend_from_slice(start_mark)?;
+        push_mark(&mut self.bytes, start_mark)?;
         let has_records = self.has_records;
         if let Err(_) = self.outer.push(Frame {
             start,
@@ -208,12 +206,12 @@ impl Buffer {
             return Err(BufferError::NotOpen);
         }
         if self.has_records {
-            self.bytes.extend_from_slice(end_mark)?;
+            push_mark(&mut self.bytes, end_mark)?;
             return Ok(());
         }
         self.bytes.truncate(frame.start);
         self.has_records = frame.has_records;
-        self.bytes.extend_from_slice(absent_mark)?;
+        push_mark(&mut self.bytes, absent_mark)?;
         Ok(())
     }
 }

@@ -1,20 +1,48 @@
 //! The bytes of headers, of which a length is written later than what is around it.
 ghost use Rattle.asn1_items.specs.Headers.{tag_bytes};
 ghost use Rattle.asn1_items.specs.Numbers.{four_bytes};
-ghost use Rattle.std.specs.Prelude.{◌≡◌, ◌+◌, ◌<◌, ◌^◌, ◌≤◌, ◌∷◌, ◌++◌, IfOk, List, MatchResult, OnOk, ℕ, length};
+ghost use Rattle.std.specs.Prelude.{◌≡◌, ◌+◌, ◌<◌, ◌^◌, ◌≤◌, ◌∷◌, ◌++◌, [], IfOk, List, MatchResult, OnOk, ℕ, length};
 
 use crate::error::BufferError;
 use asn1_tags::Tag;
 use std::alloc::AllocError;
 
-/// Appends a kind and a tag.
-pub(crate) fn push_tag(bytes: &mut Vec<u8>, kind: u8, tag: Tag) -> Result<(), AllocError>
-    ensures appended { IfOk result (λ _. bytes.new.items ≡ bytes.old.items ++ kind ∷
-        tag_bytes tag) }
+/// Appends the header of an item of a content of this kind, with zeros for the length of what is inside.
+pub(crate) fn push_content_header(
+    bytes: &mut Vec<u8>,
+    tag: Tag,
+    content: u8,
+) -> Result<(), AllocError>
+    ensures appended { IfOk result (λ _. bytes.new.items ≡ bytes.old.items ++
+        1 ∷ (tag_bytes tag ++ content ∷ 0 ∷ 0 ∷ 0 ∷ 0 ∷ [])) }
     ensures fits { OnOk result (tag.value < 2 ^ 32) }
 {
     let [a, b, c, d] = tag.value.to_be_bytes();
-    bytes.extend_from_slice(&[kind, tag.class as u8, a, b, c, d])
+    bytes.extend_from_slice(&[1, tag.class as u8, a, b, c, d, content, 0, 0, 0, 0])
+}
+
+/// Appends the header of an item of this kind that holds others, with zeros for the length of what is inside.
+pub(crate) fn push_scope_header(bytes: &mut Vec<u8>, kind: u8, tag: Tag) -> Result<(), AllocError>
+    ensures appended { IfOk result (λ _. bytes.new.items ≡ bytes.old.items ++
+        kind ∷ (tag_bytes tag ++ 0 ∷ 0 ∷ 0 ∷ 0 ∷ [])) }
+    ensures fits { OnOk result (tag.value < 2 ^ 32) }
+{
+    let [a, b, c, d] = tag.value.to_be_bytes();
+    bytes.extend_from_slice(&[kind, tag.class as u8, a, b, c, d, 0, 0, 0, 0])
+}
+
+/// Appends the bytes of a presence mark. Most have one byte, or none.
+pub(crate) fn push_mark(bytes: &mut Vec<u8>, mark: &[u8]) -> Result<(), AllocError>
+    ensures { IfOk result (λ _. bytes.new.items ≡ bytes.old.items ++ mark.now) }
+{
+    match mark {
+        [] => Ok(()),
+        [byte] => {
+            bytes.push(*byte)?;
+            Ok(())
+        }
+        _ => bytes.extend_from_slice(mark),
+    }
 }
 
 /// Writes the length of what begins at a place over the four bytes before it.

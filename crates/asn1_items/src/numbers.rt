@@ -38,6 +38,10 @@ fn append_absolute(bytes: &mut Vec<u8>, negative: bool, absolute: u128) -> Resul
     ensures { (z : ℤ) → unsigned_abs z ≡ absolute → (IsTrue negative ↔ (z <ℤ pos 0)) →
         IfOk result (λ _. Appended (IsInteger z) bytes.old.items bytes.new.items) }
 {
+    if let Ok(small) = u32::try_from(absolute) {
+        let digits = small.to_be_bytes();
+        return append_signed(bytes, negative, significant(&digits));
+    }
     let digits = absolute.to_be_bytes();
     append_signed(bytes, negative, significant(&digits))
 }

@@ -10,8 +10,8 @@
 //! | [`ItemBuffer`], [`ItemEncoder`], [`ItemDecoder`] | the buffer, the encoder and the decoder of any codec over items |
 //! | [`laws`] | what types see of these |
 //!
-//! `asn1_items` has the bytes of items. What differs between codecs over items is [`Presence`] alone: the bytes of presence marks,
-//! and how a decoder finds what they tell.
+//! `asn1_items` has the bytes of items, and `asn1_scopes` what a decoder keeps of the scopes that are open. What differs between
+//! codecs over items is [`Presence`] alone: the bytes of presence marks, and how a decoder finds what they tell.
 //!
 //! What the contracts promise, and the words that they use:
 //!
@@ -21,9 +21,9 @@
 //! - It rejects the records that are too long, with 2^32 bytes or more inside an item (`IsTooLong` of `asn1_items`), and no
 //!   others. So an error of a type's writing is `Memory`, `Depth`, `Custom` with the text `item too long` or, after another
 //!   error, `Failed`; another `Custom` comes only where a scope or a group is closed and no such is innermost.
-//! - The decoder keeps the laws of every decoder (`Decoder`). What remains to be read are the lists whose bytes are left,
-//!   up to the order inside sets (`Remains` of `specs/Decoder.antt`); it reads a set in the order in which its items come. It takes
-//!   one item as one value of an open type (`is_one_item` of `asn1_items`).
+//! - The decoder keeps the laws of every decoder (`Decoder`). What remains to be read are the lists whose bytes are left, up to
+//!   the order inside sets (`Remains` of `specs/Decoder.antt`, over `item_form`); it reads a set in the order in which its
+//!   items come. It takes one item as one value of an open type (`is_one_item` of `asn1_items`).
 //! - A decoder of bytes that carry well-formed records (`CarriesWith` of `specs/Carried.antt`) begins where these remain (`before` of
 //!   [`ItemDecoder::new`]), and [`ItemDecoder::finish`] succeeds if and only if all has been read (`all_read`), and says else that a
 //!   call has failed (`failed`) or that some is left (`bad_item`).

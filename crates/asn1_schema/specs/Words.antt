@@ -8,6 +8,8 @@ pub use Rattle.asn1_types.specs.Words.{lines, group, sequence, extensible_sequen
 -- the same, each with the slot into which it is read
 pub use Rattle.asn1_slots.specs.Slots.{required_slot, optional_slot, default_slot, default_slot_by, is_empty_list, addition_slot, addition_with_default_slot, addition_with_default_slot_by, group_slot}
 pub use Rattle.asn1_slots.specs.Slots.{sequence_of_slots, extensible_sequence_after, set_of_slots, extensible_set_after, slots_agree}
+-- the type of a component under constraints of its own
+pub use Rattle.asn1_slots.specs.Taggings.{under_constraints}
 -- its meaning; one whose own tag is not that of its kind, as [APPLICATION 0] SEQUENCE, is `constructed_type_under` that tag
 pub use Rattle.asn1_types.specs.Words.{constructed_type, constructed_type_under, constructed_agrees}
 -- the alternatives of a CHOICE (29), and which of them a value is

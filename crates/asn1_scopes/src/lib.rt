@@ -11,11 +11,12 @@
 //!
 //! What the contracts promise, and the words that they use:
 //!
-//! - [`Scopes::new`] begins outside all scopes, with all of the bytes left. [`Scopes::finish`] succeeds if and only if nothing is
-//!   left and no call has failed (`all_read`).
+//! - [`Scopes::new`] begins outside all scopes, with all of the bytes left. [`Scopes::finish`] succeeds if and only if no call has
+//!   failed, no scope is open and no byte is left (`all_read`).
 //! - [`Scopes::open`] goes into a scope (`IsOpen` of `specs/Remaining.antt`), and takes one from the depth left. [`Scopes::close`]
 //!   leaves the innermost one if nothing is left of it (`IsClosed`), and gives it back.
-//! - [`Scopes::fail`] and [`Scopes::fault`] make the state failed, and each error of the other calls does.
+//! - [`Scopes::fail`] and [`Scopes::fault`] make the state failed, and so does every error of [`Scopes::open`] and
+//!   [`Scopes::close`] (`has_failed`).
 //! - What remains to be read of a decoder that keeps this state are the lists whose bytes are left, in its form (`exact_reader` of
 //!   `specs/Remaining.antt`).
 //!

@@ -12,7 +12,8 @@ pub const BAD_ITEM: DecodeError = DecodeError::Custom("bad item");
 
 /// The state of a decoder over bytes. It borrows them, and copies none.
 ///
-/// After an error the state is failed, and each call that can says so from then on.
+/// After an error the state is failed, and [`Scopes::more`], [`Scopes::close`] and [`Scopes::finish`] answer
+/// [`DecodeError::Failed`] from then on.
 #[derive(Drop)]
 pub struct Scopes<'a> {
     /// How many nested scopes may still be opened.

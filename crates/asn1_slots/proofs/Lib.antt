@@ -1,4 +1,5 @@
 pub mod FilledSlots
+pub mod KeptSlots
 mod NamedErrors
 mod ReadByPlace
 mod ReadChoices

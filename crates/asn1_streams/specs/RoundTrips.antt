@@ -10,6 +10,6 @@ use Rattle.asn1_streams.specs.Outputs.{OneIsNotWritten}
 
 -- One of the values was not written, or there was no memory for a piece or for a value that was
 -- read.
-abbrev pub FailsAs : {V : Type 0} → Format (Vec ℕ Global) → Meaning V → ℕ → List V → RoundTripError → Type 0
-FailsAs format m depth vs (Writing e) = OneIsNotWritten format m depth vs e
-FailsAs format m depth vs (Reading e) = e ≡ Memory
+abbrev pub FailsInPieces : {V : Type 0} → Format (Vec ℕ Global) → Meaning V → ℕ → List V → RoundTripError → Type 0
+FailsInPieces format m depth vs (Writing e) = OneIsNotWritten format m depth vs e
+FailsInPieces format m depth vs (Reading e) = e ≡ Memory

@@ -4,7 +4,7 @@ ghost use Rattle.asn1_model.specs.Records.{highest};
 ghost use Rattle.asn1_streams.specs.Fronts.{BelongsTo, IsSteady};
 ghost use Rattle.asn1_streams.specs.Pieces.{AreFronts, ComeBack, joined};
 ghost use Rattle.asn1_streams.specs.Outputs.{AreOutputs};
-ghost use Rattle.asn1_streams.specs.RoundTrips.{FailsAs};
+ghost use Rattle.asn1_streams.specs.RoundTrips.{FailsInPieces};
 ghost use Rattle.std.specs.Prelude.{◌≡◌, ◌≤◌, ◌<◌, ◌↔◌, All, IfErr, IfOk, List, None, length, ℕ};
 
 use crate::front_reader::FrontReader;
@@ -45,7 +45,7 @@ pub fn round_trip_in_pieces<
     ensures at_most { IfOk result (λ read. length read.values.items ≤ length values.now) }
     ensures ended { IfOk result (λ read.
         (read.last ≡ None) ↔ (length read.values.items ≡ length values.now)) }
-    ensures fails { IfErr result (FailsAs R.format T.meaning depth values.now) }
+    ensures fails { IfErr result (FailsInPieces R.format T.meaning depth values.now) }
 {
     let bytes = write_list(alloc, rules, values, depth).map_err(RoundTripError::Writing)?;
     let pieces = match cut(alloc, &bytes, lengths) {

@@ -1,4 +1,5 @@
-use Rattle.std.proofs.Common.{◌≡◌, ◌<◌, ◌≤◌, ◌+◌, ◌-◌, ℕ, List, Option, None, Some, IfSome, length, false, true, arith, refl, subst, sym}
+use Rattle.std.specs.Bool.{◌==◌}
+use Rattle.std.proofs.Common.{◌≡◌, ◌≢◌, [], ◌∷◌, ◌<◌, ℕ, List, Option, None, Some, IfSome, length, false, true, arith, refl, subst, sym}
 use Rattle.asn1_der_items.specs.Elements.{Element, element_at}
 use Rattle.asn1_der_items.proofs.Behind.{element_at-shorter}
 use Rattle.asn1_faults.specs.Faults.{IsFault, here, behind, inside}
@@ -16,6 +17,11 @@ none_at bytes not = by (element_at bytes) refl
 never : false ≡ true → ⊥
 never same = cc
 
+-- a list whose length is not 0
+some_left : (bytes : List ℕ) → false ≡ (length bytes == 0) → bytes ≢ []
+some_left [] test is = absurd (never test)
+some_left (b ∷ bytes) test is = cc
+
 -- a fault at another name of its place
 at_place : (bytes : List ℕ) (place other : ℕ) → place ≡ other → IsFault bytes place → IsFault bytes other
 at_place bytes place other same fault = subst (λ (p : ℕ). IsFault bytes p) same fault
@@ -28,7 +34,7 @@ if_sum bytes (Some sum) place is fault = at_place bytes place sum (sym is) fault
 pub returns-in_default : goal.returns-in_default
 returns-in_default t c =
     let none : element_at c.loop-left.left.now ≡ None = none_at c.loop-left.left.now (λ e at. never (c.in_default.ensures.found e at)) in
-    at_place c.args.bytes.now _ _ (omega arith) (c.loop-left.invariant.faults 0 (here c.loop-left.left.now none))
+    at_place c.args.bytes.now _ _ (omega arith) (c.loop-left.invariant.faults 0 (here c.loop-left.left.now (some_left c.loop-left.left.now c.loop-left-test.ensures) none))
 
 pub returns-in-Some : goal.returns-in-Some
 returns-in-Some t c =

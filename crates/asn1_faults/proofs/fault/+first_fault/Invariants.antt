@@ -1,4 +1,4 @@
-use Rattle.std.proofs.Common.{◌≡◌, ℕ, ◌+◌, ◌-◌, ◌≤◌, length}
+use Rattle.std.proofs.Common.{ℕ, ◌+◌, ◌-◌, ◌≤◌, length}
 use Rattle.asn1_faults.specs.Faults.{IsFault}
 use Rattle.asn1_faults.proofs.fault.+first_fault.Given as goal
 

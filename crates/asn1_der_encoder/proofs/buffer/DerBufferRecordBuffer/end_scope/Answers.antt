@@ -8,7 +8,7 @@ returns c = λ h rs w wrote.
     let old = c.args.self.now in
     let s = scope_of old.outer.items c.pop.new.self.items c.in-Some.frame h rs old.bytes.items w c.in-Some.ensures.items wrote in
     MatchResult-weaker c.hold.result
-    (c.hold.ensures h rs s.before s.inside s.are s.starts s.tag s.form s.have_der)
+    (c.hold.ensures h rs s.before s.front s.inside s.are s.starts s.begins s.tag s.form s.have_der)
     (λ done a. record {
       closed = a.is.closed;
       same = a.is.same;

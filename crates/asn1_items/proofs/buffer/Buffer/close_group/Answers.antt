@@ -11,12 +11,12 @@ returns-then-not-frame-clause-closed c = λ marks table rs w ends absent wrote.
 pub returns-then-self-clause-closed : goal.returns-then-self-clause-closed
 returns-then-self-clause-closed c = λ marks table rs w ends absent wrote.
     let old = c.args.self.now in
-    group_closed marks old.outer.items c.pop.new.self.items c.in-Some.frame old.bytes.items c.extend_from_slice.new.self.items c.args.end_mark.now old.has_records c.in-Some.ensures.items c.if-self.true c.in_ok-extend_from_slice.ensures.items ends table rs w wrote
+    group_closed marks old.outer.items c.pop.new.self.items c.in-Some.frame old.bytes.items c.push_mark.new.bytes.items c.args.end_mark.now old.has_records c.in-Some.ensures.items c.if-self.true c.in_ok-push_mark.ensures ends table rs w wrote
 
 pub returns-clause-closed : goal.returns-clause-closed
 returns-clause-closed c = λ marks table rs w ends absent wrote.
     let old = c.args.self.now in
-    absent_group_closed marks old.outer.items c.pop.new.self.items c.in-Some.frame old.bytes.items c.truncate.new.self.items c.extend_from_slice-2.new.self.items c.args.absent_mark.now old.has_records c.in-Some.ensures.items c.if-self.false c.truncate.ensures.items c.in_ok-extend_from_slice-2.ensures.items absent table rs w wrote
+    absent_group_closed marks old.outer.items c.pop.new.self.items c.in-Some.frame old.bytes.items c.truncate.new.self.items c.push_mark-2.new.bytes.items c.args.absent_mark.now old.has_records c.in-Some.ensures.items c.if-self.false c.truncate.ensures.items c.in_ok-push_mark-2.ensures absent table rs w wrote
 
 pub returns-then-self-clause-same_scopes : goal.returns-then-self-clause-same_scopes
 returns-then-self-clause-same_scopes c = sym (same_scopes c.pop.new.self.items c.args.self.now.outer.items c.in-Some.frame (is_a_group c.in-Some.frame.is_group c.if-not-frame.false) c.in-Some.ensures.items)
@@ -27,14 +27,14 @@ returns-clause-same_scopes c = sym (same_scopes c.pop.new.self.items c.args.self
 pub returns-then-not-frame-clause-no_more : goal.returns-then-not-frame-clause-no_more
 returns-then-not-frame-clause-no_more c = no_more_scopes c.args.self.now.outer.items c.pop.new.self.items c.in-Some.frame c.in-Some.ensures.items
 
-pub returns-in_err-extend_from_slice-clause-no_more : goal.returns-in_err-extend_from_slice-clause-no_more
-returns-in_err-extend_from_slice-clause-no_more c = no_more_scopes c.args.self.now.outer.items c.pop.new.self.items c.in-Some.frame c.in-Some.ensures.items
+pub returns-in_err-push_mark-clause-no_more : goal.returns-in_err-push_mark-clause-no_more
+returns-in_err-push_mark-clause-no_more c = no_more_scopes c.args.self.now.outer.items c.pop.new.self.items c.in-Some.frame c.in-Some.ensures.items
 
 pub returns-then-self-clause-no_more : goal.returns-then-self-clause-no_more
 returns-then-self-clause-no_more c = no_more_scopes c.args.self.now.outer.items c.pop.new.self.items c.in-Some.frame c.in-Some.ensures.items
 
-pub returns-in_err-extend_from_slice-2-clause-no_more : goal.returns-in_err-extend_from_slice-2-clause-no_more
-returns-in_err-extend_from_slice-2-clause-no_more c = no_more_scopes c.args.self.now.outer.items c.pop.new.self.items c.in-Some.frame c.in-Some.ensures.items
+pub returns-in_err-push_mark-2-clause-no_more : goal.returns-in_err-push_mark-2-clause-no_more
+returns-in_err-push_mark-2-clause-no_more c = no_more_scopes c.args.self.now.outer.items c.pop.new.self.items c.in-Some.frame c.in-Some.ensures.items
 
 pub returns-clause-no_more : goal.returns-clause-no_more
 returns-clause-no_more c = no_more_scopes c.args.self.now.outer.items c.pop.new.self.items c.in-Some.frame c.in-Some.ensures.items

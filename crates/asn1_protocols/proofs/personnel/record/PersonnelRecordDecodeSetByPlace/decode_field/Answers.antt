@@ -1,4 +1,4 @@
-use Rattle.asn1_protocols.proofs.KeptSlots.{as_they_were}
+use Rattle.asn1_slots.proofs.KeptSlots.{as_they_were}
 use Rattle.asn1_protocols.specs.contracts.personnel.record.PersonnelRecordDecodeSetByPlace.TheImpl.{ghosts as personnel}
 use Rattle.asn1_protocols.proofs.personnel.record.PersonnelRecordDecodeSetByPlace.decode_field.Goals as goal
 
