@@ -27,22 +27,37 @@ pub(crate) enum Failure {
 }
 
 /// Reads a certificate and writes it again, each as often as is asked and then once more, and answers the bytes that were
-/// written at last.
+/// written at last: the DER of a certificate.
 pub(crate) fn repeated(
     alloc: Global,
     input: &Vec<u8>,
     reads: u32,
     writes: u32,
-) -> Result<Vec<u8>, Failure> {
+) -> Result<Vec<u8>, Failure>
+    ensures { IfOk result (λ bytes. (c : Certificate)
+        × Carries bytes.items (own_records ⟦<Certificate as AsnType>⟧.meaning c)) }
+{
     let rules = DerRules::new(alloc);
-    for _time in 0..reads {
-        let _certificate = read(&rules, input)?;
-    }
+    read_times(&rules, input, reads)?;
     let certificate = read(&rules, input)?;
-    for _time in 0..writes {
-        let _bytes = written(&rules, &certificate)?;
-    }
+    write_times(&rules, &certificate, writes)?;
     written(&rules, &certificate)
+}
+
+/// Reads a certificate this many times.
+fn read_times(rules: &DerRules, input: &Vec<u8>, times: u32) -> Result<(), Failure> {
+    for _time in 0..times {
+        let _certificate = read(rules, input)?;
+    }
+    Ok(())
+}
+
+/// Writes a certificate this many times.
+fn write_times(rules: &DerRules, certificate: &Certificate, times: u32) -> Result<(), Failure> {
+    for _time in 0..times {
+        let _bytes = written(rules, certificate)?;
+    }
+    Ok(())
 }
 
 /// The certificate that these bytes are.
