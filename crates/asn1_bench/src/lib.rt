@@ -1,5 +1,5 @@
-//! A codec for tests and examples, over packed bytes: of each item there are its kind, its tag, the kind of its content, its
-//! length, and what is inside.
+//! The packed codec as a whole, for programs: values become packed bytes, and are read from them. Of each item there are its
+//! kind, its tag, the kind of its content, its length, and what is inside.
 //!
 //! | Item | What it is |
 //! |---|---|

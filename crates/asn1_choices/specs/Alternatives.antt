@@ -90,8 +90,8 @@ CanBeChosen a = a.type.IsWellTagged × (is_open a.type.tree ≡ false)
 abbrev pub HaveDistinctTags : List Alternative → Type 0
 HaveDistinctTags alts = IsTrue (distinct (leaves_of (trees_of alts)))
 
--- What a type says of one value: what it is to a codec, whether it has what each value of the type has, and whether it
--- is valid, when its records are well formed.
+-- What a type says of one value: what it is to a codec, whether it meets its type's invariant, and whether it is valid, when
+-- its records are well formed.
 pub record ValueMeaning : Type 1 where
   pub records : List Record
   pub IsOfType : Type 0

@@ -13,7 +13,7 @@
 //!   are rejected that have no DER, and no others.
 //! - [`DerReader`] is steady and belongs to these rules, so that values come out of a stream in the order in which they were
 //!   written, however the bytes are cut (`round_trip_in_pieces` of `asn1_streams`).
-//! - Of bytes that are not the DER of a value nothing is said but by tests.
+//! - About bytes that are not the DER of a value nothing is promised; tests try such bytes.
 #![tactic(auto)]
 
 pub mod laws;

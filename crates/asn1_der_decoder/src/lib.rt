@@ -22,7 +22,7 @@
 //! - A SET whose elements are in the order of their tags is opened, and a SET OF whose elements are in the order of their
 //!   encodings (`IsInOrder` of `specs/Rising.antt`).
 //!
-//! Of bytes that are not the DER of the type nothing is said but by tests. They have that each of these is an error: a length
+//! About bytes that are not the DER of the type nothing is promised. Tests have that each of these is an error: a length
 //! that is indefinite or not the shortest, an integer, a tag or an arc that is not the shortest, a BOOLEAN other than 0 and 255,
 //! unused bits that are not 0, a string in parts, elements of a SET or a SET OF in another order, and bytes that are left. A
 //! length that the bytes tell reserves no memory. A component that is there though it is its DEFAULT is read: no call tells a

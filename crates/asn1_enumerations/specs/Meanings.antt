@@ -18,7 +18,7 @@ enumeration_type name e eq = enumerated_type (universal 10) unconstrained (Some 
 
 -- The law of an ENUMERATED type: its meaning is that of its enumeration. A value begins with the tag that the type is written
 -- under, and is one record without constraints, which has its number beside the labels of all; the type is well tagged under
--- every tag there is; and each value is there, has what its type says, and is valid.
+-- every tag there is; and each value is there, meets its type's invariant, and is valid.
 pub record AgreesWithEnumeration {V : Type 0} (eq : V → V → Bool) (enumeration : Enumeration V) (m : Meaning V) : Type 0 where
   pub tree : (t : Tag) → m.tree t ≡ leaf t
   pub records : (v : V) (t : Tag) (c : ConstraintSet) (n : Name) →

@@ -31,9 +31,9 @@
 //!   what it gives [`read_whole`] reads back equal (`read`); what a type refuses it refuses (`refuses`), and bytes that are left
 //!   (`none_left`).
 //!
-//! Of bytes that are not those of the type nothing is said but by tests. Where they are not what is asked for, the error is
-//! `Custom` with the text `bad item`; where they end outside all scopes, it is `Incomplete`, with the number of bytes that are missing of
-//! the part that is read.
+//! About bytes that are not those of the type nothing is promised. Tests have that the error is `Custom` with the text
+//! `bad item` where they are not what is asked for, and `Incomplete` where they end outside all scopes, with the number of
+//! bytes that are missing of the part that is read.
 #![tactic(auto)]
 
 mod decoder;

@@ -85,7 +85,7 @@ node_records n = (written_node n).records
 abbrev pub labels : Node → List (Option (String Global))
 labels = fold-Node (List (Option (String Global))) (λ n. n.label ∷ flat_map (λ inside. inside) n.children.items)
 
--- each label that is there has what it has by its type
+-- each label that is there meets its type's invariant
 abbrev pub node_is_of_type : Node → Type 0
 node_is_of_type n = All (λ label. IfSome label text.IsOfType) (labels n)
 

@@ -15,8 +15,8 @@
 //! - A CHOICE says by recursion on a value what the chosen alternative says of it (`specs/FilterAlternatives.antt` and
 //!   `specs/NestedAlternatives.antt`). Tables and meaning are proved to say the same.
 //! - A `Node` states its components by what is inside a value. `specs/NodeComponents.antt` has the form: the records follow by a
-//!   fold, and what a value has by its type is said of all labels inside it. Tables, meaning and writer are proved to say the
-//!   same.
+//!   fold, and a node meets its type's invariant if and only if all labels inside it meet theirs. Tables, meaning and writer
+//!   are proved to say the same.
 //! - The records of a `Node` are written out (`node_records`, `node_is_two_higher_than_its_children`).
 //! - A `Node` is read by two functions that call each other. Each node opens two scopes, so the depth left of the decoder ends the
 //!   recursion, whatever the input.

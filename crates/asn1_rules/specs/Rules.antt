@@ -24,8 +24,8 @@ module _ {O : Type 0} (F : Format O) where
     pub part : (before rs after : List Record) → F.rejects rs → F.rejects (before ++ (rs ++ after))
     pub inner : (h : Head) (rs : List Record) → F.rejects rs → F.rejects (holding h rs ∷ [])
 
-  -- The output carries the records, which are nested no deeper than the depth, and the value that they are of has what it has by its
-  -- type.
+  -- The output carries the records, which are nested no deeper than the depth, and the value that they are of meets its type's
+  -- invariant.
   pub record IsWritten (rs : List Record) (IsOfType : Type 0) (depth : ℕ) (output : O) : Type 0 where
     pub carried : F.carries output rs
     pub within_depth_left : highest rs ≤ depth

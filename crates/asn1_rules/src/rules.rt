@@ -40,7 +40,7 @@ pub trait Rules {
     /// # Errors
     /// Where the output carries the own records of a valid value of a well-tagged type, [`DecodeError::Depth`] only where these
     /// are nested deeper than the depth, and else [`DecodeError::Memory`]. Where it carries well-formed records that the type refuses, the error of
-    /// the type, or one of these two in the same way. Of other outputs nothing is said.
+    /// the type, or one of these two in the same way. About other outputs nothing is promised.
     fn read_value<T: Decode>(&self, output: &Self::Output, depth: usize) -> Result<T, DecodeError>
         ensures read { (v : T) → IsWellTagged T.meaning → T.meaning.IsOfType v →
             T.meaning.IsValid format.accepts v →

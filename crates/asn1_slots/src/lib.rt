@@ -36,8 +36,8 @@
 //! - At each place of a type its call has to promise that (`ReadsAt`, `ReadsOnceAt`), and to leave what other slots hold (`kept`).
 //! - Of slots that hold what a value has an equal value is made (`MakesValue`). Where a component is missing that is always
 //!   there, the error says which is the first (`RefusesMissing`).
-//! - An error of a component is answered with the component's name, unless it has one already, or is about more than the component
-//!   (`named` of [`decode_fields_by_place`], [`once`] and [`once_with_constraints`]).
+//! - An error of a component has a component's name, unless it is about more than the component (`named` of
+//!   [`decode_fields_by_place`], [`once`] and [`once_with_constraints`]). That the name is that of this component is tested.
 //! - So [`decode_fields_by_place`] reads a group as `decode_fields` of `asn1_dec` has to, and [`decode_sequence_by_place`] and
 //!   [`decode_set_by_place`] read a SEQUENCE and a SET as `decode_sequence` and `decode_set` of `Decoder` do, where the layout is
 //!   that of the type's components (`IsLayoutOf`), which the check finds.

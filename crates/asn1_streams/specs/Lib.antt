@@ -1,3 +1,4 @@
+-- Bytes and NoRules are for the tests of this crate alone, though asn1_schema passes them on with the rest.
 pub mod Bytes
 pub mod Fronts
 pub mod ItemFronts

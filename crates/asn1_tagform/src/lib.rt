@@ -16,7 +16,7 @@
 //! - [`TagRules`] keep the laws of every codec (`Rules` of `asn1_rules`), so that what is written is read back equal. Their format
 //!   is `tag_format` of `specs/Format.antt`: bytes carry the records whose items they are, up to the order inside sets
 //!   (`CarriesWith` of `asn1_packed`, with `no_marks` of `specs/Next.antt`). Records are rejected that are too long, and no others.
-//! - Of bytes that no value gave nothing is said but by tests. The errors are those of the packed form.
+//! - About bytes that no value gave nothing is promised; tests try such bytes. The errors are those of the packed form.
 #![tactic(auto)]
 
 pub mod laws;

@@ -16,7 +16,8 @@
 //!   the same. Components are read by place, each into a slot of its own. So a valid value comes back equal (`round_trip` of
 //!   `asn1_schema`).
 //! - Each type can be inside other types (`certificate_is_well_tagged` and the like): no tag is where another is expected.
-//! - A component that is its default is written as absent (`first_version_is_absent`).
+//! - A version that is the first is its default, and is written as absent: `first_version_is_absent` says it of a certificate
+//!   without unique names and extensions, which are absent too.
 //! - The parameters of algorithms and the values of attributes are open types. A certificate is valid if and only if the codec
 //!   takes each of them as one value (`certificate_is_valid`; `specs/OpenValues.antt`). All else is valid as it is.
 //!

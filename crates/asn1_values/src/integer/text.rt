@@ -12,7 +12,7 @@ use std::fmt;
 impl fmt::Display for Integer {
     ghost output = { λ z. Some (integer_text z) };
 
-    // Options, as in `{:>8}`, are kept for what an `i128` holds. Nothing is said of them at any other number.
+    // Options, as in `{:>8}`, are kept for what an `i128` holds. Nothing is promised about them at any other number.
     ghost styled_output = { λ z options. if is_narrow z then Some (styled_signed_decimal options z) else None };
 
     fn fmt<W: fmt::Write>(&self, f: &mut fmt::Formatter<W>) -> fmt::Result {
