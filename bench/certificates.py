@@ -1,0 +1,164 @@
+#!/usr/bin/env python3
+"""Times how many certificates a second are read and written, beside plain Rust.
+
+    python3 bench/certificates.py
+    python3 bench/certificates.py PROGRAM
+
+proves and builds the program asn1_certificate_bench, which reads a certificate and writes it again as often as it is told; or takes
+this PROGRAM in its place. It builds bench/plain_certificates.rs, a program in plain Rust that does the same job, by `rustc -O`, and sees
+that both write the same bytes for each certificate of examples/certificates.
+
+Then it prints a line for each certificate, read and written: how many go in a second, how many by plain Rust, and the ratio of the
+times; and the instructions for one, if valgrind is there. The time is that of the processor, the best of seven, less what it takes
+to start. The last lines are of all four together. Where Debian's librust-x509-cert-dev is there (it stands on librust-der-dev), its
+rate and the ratio to it are a third part of each line, and else a line says that it could not be built.
+"""
+import glob
+import os
+import resource
+import shutil
+import subprocess
+import sys
+import tempfile
+
+ROOT = os.path.dirname(os.path.dirname(os.path.abspath(__file__)))
+CRATE = os.path.join(ROOT, "crates", "asn1_certificate_bench")
+PROGRAM = os.path.join(CRATE, "out", "asn1_certificate_bench")
+PLAIN = os.path.join(ROOT, "bench", "plain_certificates.rs")
+LIBRARY = os.path.join(ROOT, "bench", "library_certificates.rs")
+REGISTRY = "/usr/share/cargo/registry"
+CERTIFICATES = sorted(glob.glob(os.path.join(ROOT, "examples", "certificates", "*.der")))
+RUNS = 7
+
+MANIFEST = """[package]
+name = "library_certificates"
+version = "0.0.0"
+edition = "2021"
+
+[dependencies]
+x509-cert = "*"
+
+[[bin]]
+name = "library_certificates"
+path = "{source}"
+"""
+
+CONFIG = """[source.crates-io]
+replace-with = "debian"
+
+[source.debian]
+directory = "{registry}"
+"""
+
+
+def build_program():
+    """Proves and builds the program, and gives its path."""
+    with open(CERTIFICATES[0], "rb") as source:
+        subprocess.run(["rt", "run"], cwd=CRATE, stdin=source, check=True)
+    return PROGRAM
+
+
+def build_plain(folder):
+    """Builds the program in plain Rust, and gives its path."""
+    plain = os.path.join(folder, "plain_certificates")
+    subprocess.run(["rustc", "-O", "--edition", "2024", PLAIN, "-o", plain], check=True)
+    return plain
+
+
+def build_library(folder):
+    """Builds the program over Debian's library, and gives its path, or None where that cannot be."""
+    if not glob.glob(os.path.join(REGISTRY, "x509-cert-*")):
+        print(f"librust-x509-cert-dev could not be built: {REGISTRY} does not have it", flush=True)
+        return None
+    os.makedirs(os.path.join(folder, ".cargo"))
+    for name, text in ("Cargo.toml", MANIFEST.format(source=LIBRARY)), (".cargo/config.toml", CONFIG.format(registry=REGISTRY)):
+        with open(os.path.join(folder, name), "w") as file:
+            file.write(text)
+    words = ["cargo", "build", "--release", "--offline", "--quiet"]
+    built = subprocess.run(words, cwd=folder, capture_output=True, text=True)
+    if built.returncode != 0:
+        print("librust-x509-cert-dev could not be built:", *built.stderr.strip().splitlines()[-1:], flush=True)
+        return None
+    return os.path.join(folder, "target", "release", "library_certificates")
+
+
+def answer(words, path):
+    """What a program writes of a certificate."""
+    with open(path, "rb") as source:
+        return subprocess.run(words, stdin=source, capture_output=True, check=True).stdout.decode()
+
+
+def seconds(words, path):
+    """The processor time in seconds that a program takes."""
+    before = resource.getrusage(resource.RUSAGE_CHILDREN)
+    answer(words, path)
+    after = resource.getrusage(resource.RUSAGE_CHILDREN)
+    return after.ru_utime + after.ru_stime - before.ru_utime - before.ru_stime
+
+
+def instructions(words, path):
+    """How many instructions a program takes."""
+    with tempfile.NamedTemporaryFile() as log:
+        answer(["valgrind", "--tool=callgrind", f"--callgrind-out-file={log.name}", *words], path)
+        return next(int(text.split()[1]) for text in log if text.startswith(b"totals:"))
+
+
+def arguments(action, times):
+    """The arguments by which a program does this so often."""
+    return [str(times), "0"] if action == "read" else ["0", str(times)]
+
+
+def microseconds(programs, action, path):
+    """What one time costs each program in microseconds: the least of some runs, in which the programs take turns, each long enough
+    to be measured."""
+    times = {}
+    for program in programs:
+        times[program] = 1000
+        while seconds([program, *arguments(action, times[program])], path) < 0.3:
+            times[program] *= 2
+    least = dict.fromkeys(programs, float("inf"))
+    for _ in range(RUNS):
+        for program in programs:
+            start = seconds([program, "0", "0"], path)
+            taken = seconds([program, *arguments(action, times[program])], path) - start
+            least[program] = min(least[program], taken * 10**6 / times[program])
+    return [least[program] for program in programs]
+
+
+def steps(program, action, path):
+    """How many instructions one time costs."""
+    most, none = (instructions([program, *arguments(action, times)], path) for times in (100, 0))
+    return (most - none) / 100
+
+
+def line(what, costs, counts, certificates):
+    """Prints what was measured of these programs: of ours, of plain Rust, and of the library if it is there."""
+    ours, plain, *library = (certificates * 10**6 / cost for cost in costs)
+    text = f"{what}: {ours:.0f} a second, plain Rust {plain:.0f}, ratio {plain / ours:.2f}"
+    text += "".join(f", librust-x509-cert-dev {rate:.0f}, ratio {rate / ours:.2f}" for rate in library)
+    if counts:
+        ours, plain = (count / certificates for count in counts)
+        text += f"; {ours:.0f} and {plain:.0f} instructions for one, ratio {ours / plain:.2f}"
+    print(text, flush=True)
+
+
+def main():
+    ours = os.path.abspath(sys.argv[1]) if len(sys.argv) > 1 else build_program()
+    with tempfile.TemporaryDirectory() as folder:
+        programs = [it for it in (ours, build_plain(folder), build_library(folder)) if it]
+        for path in CERTIFICATES:
+            said = {program: answer([program, "1", "1"], path) for program in programs}
+            if len(set(said.values())) != 1:
+                sys.exit(f"{path}: {said}")
+        for action in "read", "written":
+            all_costs, all_counts = [0] * len(programs), [0, 0]
+            for path in CERTIFICATES:
+                costs = microseconds(programs, action, path)
+                counts = [steps(program, action, path) for program in programs[:2]] if shutil.which("valgrind") else []
+                line(f"{os.path.basename(path)}, {action}", costs, counts, 1)
+                all_costs = [total + cost for total, cost in zip(all_costs, costs)]
+                all_counts = [total + count for total, count in zip(all_counts, counts)]
+            line(f"all, {action}", all_costs, all_counts, len(CERTIFICATES))
+
+
+main()

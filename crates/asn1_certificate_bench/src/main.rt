@@ -1,0 +1,41 @@
+//! Reads a certificate and writes it again, over and over: what `bench/certificates.py` measures.
+//!
+//! Its DER comes on standard input. The first argument says how often it is read, the second how often it is written; then it is
+//! read and written once more. It writes how many bytes were written at last, and their checksum, or why there are none.
+#![tactic(auto)]
+
+mod repeated;
+
+use repeated::repeated;
+use std::env;
+use std::io::{self, Read};
+
+fn main(rt: HostRuntime) -> io::Result<()> {
+    let mut words = env::args(&rt)?;
+    let _program = words.next();
+    let reads = number(words.next());
+    let writes = number(words.next());
+    let mut input = Vec::new(rt.alloc());
+    rt.reader().read_to_end(&mut input)?;
+    match repeated(rt.alloc(), &input, reads, writes) {
+        Ok(bytes) => println!(rt; "{} bytes, checksum {}", bytes.len(), checksum(&bytes)),
+        Err(failure) => println!(rt; "{failure}"),
+    }
+}
+
+/// The number that a word is, or 0.
+fn number(word: Option<String>) -> u32 {
+    match word {
+        Some(word) => word.parse::<u32>().unwrap_or(0),
+        None => 0,
+    }
+}
+
+/// A sum of bytes that tells in which order they are.
+fn checksum(bytes: &[u8]) -> u32 {
+    let mut sum = 0u32;
+    for byte in bytes {
+        sum = sum.wrapping_mul(31).wrapping_add(u32::from(*byte));
+    }
+    sum
+}
