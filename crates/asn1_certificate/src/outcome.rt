@@ -1,14 +1,10 @@
 //! How the program ends.
 ghost use Rattle.std.specs.Prelude.{◌≡◌, List, OnOk, ℕ};
 ghost use Rattle.std.specs.Io.KnownBytes.{Appends, IsAtEnd};
-ghost use Rattle.asn1_certificate.specs.Shown.{AreLinesOf};
-ghost use Rattle.asn1_der_encoder.specs.Format.{Carries};
-ghost use Rattle.asn1_model.specs.Meaning.{own_records};
+ghost use Rattle.asn1_certificate.specs.Shown.{AreLinesOfInput, IsDerOfInput};
 
 use crate::form::Form;
 use crate::show::{ShowError, written};
-use asn1_types::AsnType;
-use asn1_x509::Certificate;
 use std::alloc::Global;
 use std::fmt;
 use std::io::{Eprint, Read, Write};
@@ -84,11 +80,12 @@ fn convert<R: Read, W: Write>(
     writer: &mut W,
 ) -> Result<(), Failure>
     ensures read { OnOk result (IsAtEnd (R.remaining reader.new)) }
-    ensures report { form ≡ Form.Report → OnOk result ((c : Certificate) × (lines : List ℕ)
-        × AreLinesOf c lines × Appends (W.contents writer.old) (W.contents writer.new) lines) }
-    ensures der { form ≡ Form.Der → OnOk result ((c : Certificate) × (der : List ℕ)
-        × Carries der (own_records ⟦<Certificate as AsnType>⟧.meaning c)
-        × Appends (W.contents writer.old) (W.contents writer.new) der) }
+    ensures report { form ≡ Form.Report → OnOk result ((input : List ℕ) × (lines : List ℕ) ×
+        AreLinesOfInput input lines ×
+        Appends (W.contents writer.old) (W.contents writer.new) lines) }
+    ensures der { form ≡ Form.Der → OnOk result ((input : List ℕ) × (der : List ℕ) ×
+        IsDerOfInput input der ×
+        Appends (W.contents writer.old) (W.contents writer.new) der) }
 {
     let mut input = Vec::new(alloc);
     if reader.read_to_end(&mut input).is_err() {

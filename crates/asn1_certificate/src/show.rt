@@ -1,12 +1,12 @@
 //! An input as a report.
 ghost use Rattle.std.specs.Prelude.{◌≡◌, IfErr, IfOk};
-ghost use Rattle.asn1_certificate.specs.Shown.{AreLinesOf, IsPlaced};
-ghost use Rattle.asn1_der_encoder.specs.Format.{Carries};
-ghost use Rattle.asn1_model.specs.Meaning.{own_records};
+ghost use Rattle.asn1_certificate.specs.Inputs.{AreOfNoCertificate, IsCertificateOf, IsReadOf, records_of};
+ghost use Rattle.asn1_certificate.specs.Shown.{AreLinesOf, AreLinesOfInput, IsAboutCertificate, IsDerOfInput, IsPlaced, IsRefusalOfInput, IsRefusalOfOctets};
 ghost use Rattle.asn1_certificate.specs.declared.show.ShowError.TheVariants.{Memory};
+ghost use Rattle.asn1_der_encoder.specs.Format.{Carries};
 
 use crate::form::Form;
-use asn1_certificate_reader::{MAX_DEPTH, report_of};
+use asn1_certificate_reader::{MAX_DEPTH, has_bad_string, report_of};
 use asn1_certificate_report::report_text;
 use asn1_certificate_text::{PemError, certificate_octets};
 use asn1_dec::DecodeError;
@@ -14,8 +14,7 @@ use asn1_der::DerRules;
 use asn1_enc::EncodeError;
 use asn1_faults::first_fault;
 use asn1_rules::Rules;
-use asn1_types::AsnType;
-use asn1_x509::Certificate;
+use asn1_x509::{Certificate, certificate_is_well_tagged};
 use std::alloc::{AllocError, Global};
 use thiserror::Error;
 
@@ -31,6 +30,9 @@ pub(crate) enum ShowError {
     /// The octets are elements, and those of no certificate.
     #[error("no certificate: {0}")]
     NoCertificate(DecodeError),
+    /// The value of an attribute of a name has the tag of a string, and is none.
+    #[error("no certificate: a string in a name is none")]
+    BadString,
     /// The certificate was read, and is not written again.
     #[error("not written: {0}")]
     NotWritten(EncodeError),
@@ -47,33 +49,39 @@ impl From<AllocError> for ShowError {
     }
 }
 
-impl From<PemError> for ShowError {
-    fn from(error: PemError) -> ShowError {
-        match error {
-            PemError::Memory => ShowError::Memory,
-            _ => ShowError::Text(error),
-        }
-    }
-}
-
 /// What is written of an input, which is the DER of a certificate or a text with it in base64: the certificate in a form.
 pub(crate) fn written(alloc: Global, form: Form, input: Vec<u8>) -> Result<Vec<u8>, ShowError>
-    ensures report { form ≡ Form.Report → IfOk result (λ bytes.
-        (c : Certificate) × AreLinesOf c bytes.items) }
-    ensures der { form ≡ Form.Der → IfOk result (λ bytes. (c : Certificate)
-        × Carries bytes.items (own_records ⟦<Certificate as AsnType>⟧.meaning c)) }
+    ensures report { form ≡ Form.Report →
+        IfOk result (λ bytes. AreLinesOfInput input.items bytes.items) }
+    ensures der { form ≡ Form.Der → IfOk result (λ bytes. IsDerOfInput input.items bytes.items) }
+    ensures refused { IfErr result (IsRefusalOfInput input.items) }
 {
-    let octets = certificate_octets(alloc, input)?;
-    let certificate = read(alloc, &octets)?;
+    let certificate = certificate_of(alloc, input)?;
+    check_names(alloc, &certificate)?;
     match form {
         Form::Report => lines_of(alloc, &certificate),
         Form::Der => der_of(alloc, &certificate),
     }
 }
 
+/// Refuses a certificate with a name in which a string is none.
+fn check_names(alloc: Global, certificate: &Certificate) -> Result<(), ShowError>
+    ensures { IfErr result IsAboutCertificate }
+{
+    let rules = DerRules::new(alloc);
+    let signed = &certificate.tbs_certificate;
+    if has_bad_string(&rules, alloc, &signed.issuer)?
+        || has_bad_string(&rules, alloc, &signed.subject)?
+    {
+        return Err(ShowError::BadString);
+    }
+    Ok(())
+}
+
 /// The lines that are shown of a certificate.
 fn lines_of(alloc: Global, certificate: &Certificate) -> Result<Vec<u8>, ShowError>
-    ensures { IfOk result (λ bytes. AreLinesOf certificate.now bytes.items) }
+    ensures shown { IfOk result (λ bytes. AreLinesOf certificate.now bytes.items) }
+    ensures refused { IfErr result IsAboutCertificate }
 {
     let report = report_of(&DerRules::new(alloc), alloc, certificate)?;
     Ok(report_text(alloc, &report)?.into_bytes())
@@ -81,8 +89,8 @@ fn lines_of(alloc: Global, certificate: &Certificate) -> Result<Vec<u8>, ShowErr
 
 /// The DER of a certificate.
 fn der_of(alloc: Global, certificate: &Certificate) -> Result<Vec<u8>, ShowError>
-    ensures { IfOk result (λ bytes. Carries bytes.items
-        (own_records ⟦<Certificate as AsnType>⟧.meaning certificate.now)) }
+    ensures written { IfOk result (λ bytes. Carries bytes.items (records_of certificate.now)) }
+    ensures refused { IfErr result IsAboutCertificate }
 {
     match DerRules::new(alloc).write_value(certificate, MAX_DEPTH) {
         Ok(bytes) => Ok(bytes),
@@ -91,10 +99,25 @@ fn der_of(alloc: Global, certificate: &Certificate) -> Result<Vec<u8>, ShowError
     }
 }
 
+/// The certificate of an input.
+fn certificate_of(alloc: Global, input: Vec<u8>) -> Result<Certificate, ShowError>
+    ensures read { IfOk result (IsCertificateOf input.items) }
+    ensures refused { IfErr result (IsRefusalOfInput input.items) }
+{
+    match certificate_octets(alloc, input) {
+        Ok(octets) => read(alloc, &octets),
+        Err(PemError::Memory) => Err(ShowError::Memory),
+        Err(error) => Err(ShowError::Text(error)),
+    }
+}
+
 /// The certificate of which these octets are the DER.
 fn read(alloc: Global, octets: &Vec<u8>) -> Result<Certificate, ShowError>
-    ensures refused { IfErr result (IsPlaced octets.now.items) }
+    ensures read { IfOk result (IsReadOf octets.now.items) }
+    ensures refused { IfErr result (IsRefusalOfOctets octets.now.items) }
+    ensures placed { IfErr result (IsPlaced octets.now.items) }
 {
+    certificate_is_well_tagged();
     match DerRules::new(alloc).read_value(octets, MAX_DEPTH) {
         Ok(certificate) => Ok(certificate),
         Err(DecodeError::Memory) => Err(ShowError::Memory),
@@ -104,7 +127,8 @@ fn read(alloc: Global, octets: &Vec<u8>) -> Result<Certificate, ShowError>
 
 /// Why octets are not read, with the first place at which no element begins.
 fn refusal(octets: &[u8], error: DecodeError) -> ShowError
-    ensures { IsPlaced octets.now result }
+    ensures octets { AreOfNoCertificate octets.now → IsRefusalOfOctets octets.now result }
+    ensures placed { IsPlaced octets.now result }
 {
     match first_fault(octets, MAX_DEPTH) {
         Some(place) => ShowError::NoElement(place, error),

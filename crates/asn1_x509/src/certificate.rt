@@ -1,8 +1,9 @@
 //! `Certificate ::= SEQUENCE { tbsCertificate TBSCertificate, signatureAlgorithm AlgorithmIdentifier, signatureValue BIT STRING }`
 //! (RFC 5280, 4.1).
-ghost use Rattle.std.specs.Prelude.{Bool, List, [], codes, ℕ, ◌↔◌, ◌∷◌};
+ghost use Rattle.std.specs.Prelude.{Bool, List, [], codes, true, ℕ, ◌↔◌, ◌∷◌, ◌≡◌};
 ghost use Rattle.asn1_slots.specs.Slots.{required_slot, sequence_of_slots};
-ghost use Rattle.asn1_types.specs.Words.{IsWellTagged, constructed_agrees, constructed_type, untagged};
+ghost use Rattle.asn1_types.specs.Words.{IsWellTagged, constructed_agrees, constructed_type, own_records, untagged};
+ghost use Rattle.asn1_model.specs.Orders.{SameRecords};
 ghost use Rattle.asn1_x509.specs.OpenValues.{CertificateIsTaken};
 
 use crate::algorithm_identifier::AlgorithmIdentifier;
@@ -106,6 +107,13 @@ pub fn certificate_is_valid(certificate: &Certificate)
     ensures { (accepts : List ℕ → Bool) →
         ⟦<Certificate as AsnType>⟧.meaning.IsValid accepts certificate.now ↔
         CertificateIsTaken accepts certificate.now }
+{}
+
+/// Equal certificates have the same records, up to the order inside sets: what is written of the one is written of the other.
+pub fn equal_certificates_have_the_same_records()
+    ensures { (one other : Certificate) → ⟦<Certificate as PartialEq>⟧.eq one other ≡ true →
+        SameRecords (own_records ⟦<Certificate as AsnType>⟧.meaning one)
+        (own_records ⟦<Certificate as AsnType>⟧.meaning other) }
 {}
 
 impl Encode for Certificate {

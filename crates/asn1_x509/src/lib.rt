@@ -44,7 +44,10 @@ pub use attribute::{
     AttributeTypeAndValue, attribute_type_and_value_is_valid,
     attribute_type_and_value_is_well_tagged,
 };
-pub use certificate::{Certificate, certificate_is_valid, certificate_is_well_tagged};
+pub use certificate::{
+    Certificate, certificate_is_valid, certificate_is_well_tagged,
+    equal_certificates_have_the_same_records,
+};
 pub use directory_string::{
     DirectoryString, directory_string_is_valid, directory_string_is_well_tagged,
 };

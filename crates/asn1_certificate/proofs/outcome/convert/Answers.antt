@@ -8,9 +8,9 @@ returns-in-Ok-clause-report g c = λ asked.
     let shown = c.in-Ok.ensures.report asked in
     on_ok_weaker c.write_bytes.result
     (λ written. (
-      shown.0,
+      _,
       c.in-Ok.bytes.items,
-      shown.1,
+      shown,
       subst (Appends (g.W.Write.contents c.args.writer.now) (g.W.Write.contents c.write_bytes.new.writer)) c.as_slice.ensures.value written,
     ))
     c.write_bytes.ensures
@@ -20,9 +20,9 @@ returns-in-Ok-clause-der g c = λ asked.
     let shown = c.in-Ok.ensures.der asked in
     on_ok_weaker c.write_bytes.result
     (λ written. (
-      shown.0,
+      _,
       c.in-Ok.bytes.items,
-      shown.1,
+      shown,
       subst (Appends (g.W.Write.contents c.args.writer.now) (g.W.Write.contents c.write_bytes.new.writer)) c.as_slice.ensures.value written,
     ))
     c.write_bytes.ensures
