@@ -76,9 +76,11 @@ fn assert_length(rt: &impl Abort, alloc: Global, size: usize, header: &[u8]) {
     let mut bytes = Vec::new(alloc);
     begin_element(&mut bytes, Tag::OCTET_STRING, false).expect(rt, "memory");
     let start = bytes.len();
-    bytes.resize(start + size, 7).expect(rt, "memory");
+    bytes
+        .resize(start.saturating_add(size), 7)
+        .expect(rt, "memory");
     end_element(&mut bytes, start).expect(rt, "memory");
-    assert!(rt; bytes.starts_with(header) && bytes.len() == header.len() + size);
+    assert!(rt; bytes.starts_with(header) && bytes.len() == header.len().saturating_add(size));
     let found = find_element(&bytes).expect(rt, "an element");
     assert!(rt; found.contents.len() == size);
 }
