@@ -1,6 +1,6 @@
 //! How the program ends.
 ghost use Rattle.std.specs.Prelude.{◌≡◌, List, OnOk, ℕ};
-ghost use Rattle.std.specs.Io.KnownBytes.{Appends, IsAtEnd};
+ghost use Rattle.std.specs.Io.KnownBytes.{Appends, Consumes, IsAtEnd};
 ghost use Rattle.asn1_certificate.specs.Shown.{AreLinesOfInput, IsDerOfInput};
 
 use crate::form::Form;
@@ -81,9 +81,11 @@ fn convert<R: Read, W: Write>(
 ) -> Result<(), Failure>
     ensures read { OnOk result (IsAtEnd (R.remaining reader.new)) }
     ensures report { form ≡ Form.Report → OnOk result ((input : List ℕ) × (lines : List ℕ) ×
+        Consumes (R.remaining reader.old) (R.remaining reader.new) input ×
         AreLinesOfInput input lines ×
         Appends (W.contents writer.old) (W.contents writer.new) lines) }
     ensures der { form ≡ Form.Der → OnOk result ((input : List ℕ) × (der : List ℕ) ×
+        Consumes (R.remaining reader.old) (R.remaining reader.new) input ×
         IsDerOfInput input der ×
         Appends (W.contents writer.old) (W.contents writer.new) der) }
 {

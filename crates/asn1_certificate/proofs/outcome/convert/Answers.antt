@@ -1,7 +1,12 @@
-use Rattle.std.proofs.Common.{subst}
+use Rattle.std.proofs.Common.{◌≡◌, List, Option, [], subst, ℕ}
 use Rattle.std.proofs.lemmas.Result.{on_ok_weaker}
-use Rattle.std.specs.Io.KnownBytes.{Appends}
+use Rattle.std.specs.Io.{appended_bytes}
+use Rattle.std.specs.Io.KnownBytes.{Appends, Consumes}
 use Rattle.asn1_certificate.proofs.outcome.convert.Goals as goal
+
+-- What was read into a list that was empty is all that the reader gave.
+all_given : (before after : List ℕ) (old new : Option (List ℕ)) → before ≡ [] → Consumes old new (appended_bytes before after) → Consumes old new after
+all_given before after old new none given = subst (λ b. Consumes old new (appended_bytes b after)) none given
 
 pub returns-in-Ok-clause-report : goal.returns-in-Ok-clause-report
 returns-in-Ok-clause-report g c = λ asked.
@@ -10,6 +15,7 @@ returns-in-Ok-clause-report g c = λ asked.
     (λ written. (
       _,
       c.in-Ok.bytes.items,
+      all_given c.new-input.result.items c.read_to_end.new.buf.items (g.R.Read.remaining c.args.reader.now) (g.R.Read.remaining c.read_to_end.new.self) c.new-input.ensures.items c.read_to_end.ensures.none_lost,
       shown,
       subst (Appends (g.W.Write.contents c.args.writer.now) (g.W.Write.contents c.write_bytes.new.writer)) c.as_slice.ensures.value written,
     ))
@@ -22,6 +28,7 @@ returns-in-Ok-clause-der g c = λ asked.
     (λ written. (
       _,
       c.in-Ok.bytes.items,
+      all_given c.new-input.result.items c.read_to_end.new.buf.items (g.R.Read.remaining c.args.reader.now) (g.R.Read.remaining c.read_to_end.new.self) c.new-input.ensures.items c.read_to_end.ensures.none_lost,
       shown,
       subst (Appends (g.W.Write.contents c.args.writer.now) (g.W.Write.contents c.write_bytes.new.writer)) c.as_slice.ensures.value written,
     ))
