@@ -1,4 +1,4 @@
-//! What `asn1_trials` does with lists and chains, in plain Rust, for comparing times: the same values and bytes, the same refusals,
+//! What `asn1_speed` does with lists and chains, in plain Rust, for comparing times: the same values and bytes, the same refusals,
 //! and no proof. Its arguments are as there: `packed write person 100000 10`.
 //!
 //!     rustc -O --edition 2024 bench/plain_codecs.rs -o plain_codecs && ./plain_codecs packed read person 100000 10

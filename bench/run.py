@@ -1,6 +1,6 @@
 #!/usr/bin/env python3
 """Times asn1_check on inputs of 1, 10 and 100 MB, and measures its peak memory; or compares it with plain Rust; or does the same
-with the codecs over bytes, of which asn1_trials is the program.
+with the codecs over bytes, of which asn1_speed is the program; or tries them, by asn1_trials.
 
     python3 bench/run.py
     python3 bench/run.py --plain
@@ -32,6 +32,8 @@ import time
 ROOT = os.path.dirname(os.path.dirname(os.path.abspath(__file__)))
 CRATE = os.path.join(ROOT, "crates", "asn1_check")
 PROGRAM = os.path.join(CRATE, "out", "asn1_check")
+SPEED = os.path.join(ROOT, "crates", "asn1_speed")
+SPEED_PROGRAM = os.path.join(SPEED, "out", "asn1_speed")
 TRIALS = os.path.join(ROOT, "crates", "asn1_trials")
 TRIALS_PROGRAM = os.path.join(TRIALS, "out", "asn1_trials")
 
@@ -185,7 +187,7 @@ LISTS = {"person": (10**4, 10**5), "profile": (10**4, 10**5), "badge": (10**4, 1
 
 def compare_job(folder, plain, job):
     """Prints what a job costs, and what it costs plain Rust."""
-    programs = [[TRIALS_PROGRAM, *job], [plain, *job]]
+    programs = [[SPEED_PROGRAM, *job], [plain, *job]]
     said = [answer([*words, "1"]) for words in programs]
     if said[0] != said[1]:
         sys.exit(f"{job}: {said[0]} but plain Rust: {said[1]}")
@@ -207,9 +209,9 @@ def reaches(words, step):
 
 
 def most_levels(words, step):
-    """The most levels that get past a step, of which up to one in a thousand is missing."""
+    """The most levels that get past a step, of which up to one in a thousand is missing. Where two million do, no more are tried."""
     low, high = 1, 2
-    while reaches([*words, str(high)], step):
+    while high < 2**21 and reaches([*words, str(high)], step):
         low, high = high, 2 * high
     while high - low > max(1, low // 1000):
         middle = (low + high) // 2
@@ -271,13 +273,16 @@ def refused_growths(library, job):
 
 
 def main():
-    if {"--codecs", "--stack", "--damage", "--growths"} & set(sys.argv):
+    if "--codecs" in sys.argv:
+        subprocess.run(["rt", "run"], cwd=SPEED, stdin=subprocess.DEVNULL, check=True)
+        return compare_codecs()
+    if {"--stack", "--damage", "--growths"} & set(sys.argv):
         subprocess.run(["rt", "run"], cwd=TRIALS, stdin=subprocess.DEVNULL, check=True)
         if "--damage" in sys.argv:
             return damage(float(sys.argv[-1]))
         if "--growths" in sys.argv:
             return refuse_growths()
-        return compare_codecs() if "--codecs" in sys.argv else measure_stack()
+        return measure_stack()
     subprocess.run(["rt", "run"], cwd=CRATE, stdin=subprocess.DEVNULL, check=True)
     print(f"cores: {os.cpu_count()}")
     if "--plain" in sys.argv:

@@ -33,12 +33,7 @@ impl BenchRules {
 
 impl Rules for BenchRules {
     ghost use Rattle.asn1_packed.specs.Format.{packed_format, packed_is_lawful};
-    ghost use Rattle.asn1_model.specs.Meaning.{IsWellTagged, own_records};
-    ghost use Rattle.asn1_model.specs.Records as model;
-    ghost use Rattle.asn1_model.specs.Records.{highest};
-    ghost use Rattle.asn1_model.specs.WellFormed.{AreWellFormed};
-    ghost use Rattle.asn1_rules.specs.Rules.{ReadsWhole, RefusesWhole};
-    ghost use Rattle.std.specs.Prelude.{◌≡◌, ◌∷◌, ◌++◌, IsErr, List, true};
+    ghost use Rattle.asn1_rules.specs.Rules.{ReadsCarried, RefusesCarried, RefusesMore};
 
     type Output = Vec<u8>;
 
@@ -49,19 +44,12 @@ impl Rules for BenchRules {
     }
 
     fn read_value<T: Decode>(&self, output: &Vec<u8>, depth: usize) -> Result<T, DecodeError>
-        ensures read { (v : T) → IsWellTagged T.meaning → T.meaning.IsOfType v →
-            T.meaning.IsValid packed_format.accepts v →
-            packed_format.carries output.now (own_records T.meaning v) →
-            ReadsWhole (highest (own_records T.meaning v)) depth (λ w. T.eq w v ≡ true) result }
-        ensures refuses { (rs : List model.Record) (error : _) →
-            T.refusals packed_format.accepts T.meaning.tag T.meaning.constraints rs error →
-            AreWellFormed packed_format.accepts rs → packed_format.carries output.now rs →
-            RefusesWhole (highest rs) depth error result }
-        ensures none_left { (v : T) (r : model.Record) (rest : List model.Record) →
-            IsWellTagged T.meaning → T.meaning.IsOfType v →
-            T.meaning.IsValid packed_format.accepts v →
-            AreWellFormed packed_format.accepts (r ∷ rest) →
-            packed_format.carries output.now (own_records T.meaning v ++ r ∷ rest) → IsErr result }
+        ensures read { ReadsCarried packed_format.accepts (packed_format.carries output.now)
+            T.meaning T.eq depth result }
+        ensures refuses { RefusesCarried packed_format.accepts (packed_format.carries output.now)
+            T.meaning T.refusals depth result }
+        ensures none_left { RefusesMore packed_format.accepts (packed_format.carries output.now)
+            T.meaning result }
     {
         let decoder = PackedDecoder::new(self.alloc, output.as_slice(), depth);
         read_whole(decoder)

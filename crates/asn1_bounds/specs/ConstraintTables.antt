@@ -1,4 +1,5 @@
 -- What a constraint table comes to.
+use Rattle.std.specs.Prelude.{Some}
 use Rattle.std.specs.Option.{option_map}
 use Rattle.asn1_bounds.specs.declared.alphabet.PermittedAlphabet.{PermittedAlphabet}
 use Rattle.asn1_bounds.specs.declared.extensible.Extensible.{Extensible}
@@ -18,3 +19,7 @@ owned table = record {
   permitted_alphabet = option_map owned_alphabet table.permitted_alphabet;
   extensible = table.extensible;
 }
+
+-- the set with this part on characters in place of its own
+abbrev pub with_alphabet : Constraints → Extensible PermittedAlphabet → Constraints
+with_alphabet set part = record set { permitted_alphabet = Some part }

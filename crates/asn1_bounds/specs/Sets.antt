@@ -1,5 +1,6 @@
 -- Constraint sets: what a list of constraints comes to, and what its root admits (X.680, 50).
 use Rattle.std.specs.Prelude.{ℕ, ℤ, ⊤, Bool, true, false, ◌||◌, is_some, List, [], ◌∷◌, Option, None, Some, MatchOption, if◌then◌else◌}
+use Rattle.asn1_bounds.specs.declared.alphabet.PermittedAlphabet.{PermittedAlphabet}
 use Rattle.asn1_bounds.specs.declared.value.Value.{Value}
 use Rattle.asn1_bounds.specs.declared.size.Size.{Size}
 use Rattle.asn1_bounds.specs.declared.extensible.Extensible.{Extensible}
@@ -45,6 +46,11 @@ set_intersection a b = record {
   permitted_alphabet = parts_intersection common_characters a.permitted_alphabet b.permitted_alphabet;
   extensible = a.extensible || b.extensible;
 }
+
+-- the set of these parts, with the extension marker or without
+abbrev pub set_of_parts : Option (Extensible Value) → Option (Extensible Size) → Option (Extensible PermittedAlphabet) → Bool → Constraints
+set_of_parts value size alphabet extensible =
+    record { value = value; size = size; permitted_alphabet = alphabet; extensible = extensible }
 
 -- the set that restricts nothing
 abbrev pub no_constraints : Constraints

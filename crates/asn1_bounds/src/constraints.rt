@@ -2,7 +2,7 @@
 ghost use Rattle.std.specs.Prelude.{◌≡◌, ◌↔◌, ◌++◌, ℕ, ℤ, All, List, IsOk, IfOk, IsNone};
 ghost use Rattle.std.specs.Option.{option_copied};
 ghost use Rattle.asn1_bounds.specs.Admitted.{common_characters};
-ghost use Rattle.asn1_bounds.specs.Sets.{parts_intersection, both_values, both_sizes, is_part_extensible};
+ghost use Rattle.asn1_bounds.specs.Sets.{parts_intersection, both_values, both_sizes, is_part_extensible, set_of_parts};
 
 use crate::alphabet::PermittedAlphabet;
 use crate::constraint::Constraint;
@@ -89,18 +89,15 @@ impl<'a> Constraints<'a> {
     }
 
     // The set of these parts.
+    #[inline(always)]
     pub(crate) fn of_parts(
         value: Option<Extensible<'a, Value>>,
         size: Option<Extensible<'a, Size>>,
         permitted_alphabet: Option<Extensible<'a, PermittedAlphabet>>,
         extensible: bool,
     ) -> Self
-        ensures { result ≡ record {
-          value = value.entry;
-          size = size.entry;
-          permitted_alphabet = permitted_alphabet.entry;
-          extensible = extensible;
-        } }
+        ensures { result ≡
+            set_of_parts value.entry size.entry permitted_alphabet.entry extensible }
     {
         Constraints {
             value,
@@ -150,6 +147,7 @@ impl<'a> Constraints<'a> {
     }
 
     /// What the lengths are restricted to.
+    #[inline(always)]
     pub fn size(&self) -> Option<&Extensible<'a, Size>>
         ensures { option_copied result ≡ self.now.size }
     {
@@ -157,6 +155,7 @@ impl<'a> Constraints<'a> {
     }
 
     /// What the values are restricted to.
+    #[inline(always)]
     pub fn value(&self) -> Option<&Extensible<'a, Value>>
         ensures { option_copied result ≡ self.now.value }
     {
@@ -164,6 +163,7 @@ impl<'a> Constraints<'a> {
     }
 
     /// What the characters are restricted to.
+    #[inline(always)]
     pub fn permitted_alphabet(&self) -> Option<&Extensible<'a, PermittedAlphabet>>
         ensures { option_copied result ≡ self.now.permitted_alphabet }
     {

@@ -22,6 +22,7 @@ impl<'a, T> Extensible<'a, T> {
     ghost use Rattle.asn1_bounds.specs.Sets.{common_additions};
 
     /// The constraint, not extensible.
+    #[inline(always)]
     pub fn new(constraint: T) -> Self
         ensures { result ≡ record { constraint = constraint; extensible = None } }
     {
@@ -32,6 +33,7 @@ impl<'a, T> Extensible<'a, T> {
     }
 
     /// The constraint, extensible by these.
+    #[inline(always)]
     pub fn new_extensible(constraint: T, constraints: &'a [T]) -> Self
         ensures { result ≡ record { constraint = constraint; extensible = Some constraints.entry } }
     {

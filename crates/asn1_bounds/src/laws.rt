@@ -101,9 +101,8 @@ pub fn constraints_are_compared_by_parts<'a>()
     ensures sizes { (a b : Extensible Size) →
         ⟦<Constraint<'a> as PartialEq>⟧.eq (constraint.Size a) (constraint.Size b)
         ≡ ⟦<Extensible<'a, Size> as PartialEq>⟧.eq a b }
-    ensures alphabets { (a b : Extensible PermittedAlphabet) →
-        ⟦<Constraint<'a> as PartialEq>⟧.eq (constraint.PermittedAlphabet a)
-        (constraint.PermittedAlphabet b)
+    ensures alphabets { (a b : Extensible PermittedAlphabet) → ⟦<Constraint<'a> as PartialEq>⟧.eq
+        (constraint.PermittedAlphabet a) (constraint.PermittedAlphabet b)
         ≡ ⟦<Extensible<'a, PermittedAlphabet> as PartialEq>⟧.eq a b }
     ensures markers { IsTrue
         (⟦<Constraint<'a> as PartialEq>⟧.eq constraint.Extensible constraint.Extensible) }

@@ -32,7 +32,8 @@ struct AlphabetTable<'a> {
 }
 
 impl<'a> ConstraintTable<'a> {
-    ghost use Rattle.asn1_bounds.specs.ConstraintTables.{owned};
+    ghost use Rattle.asn1_bounds.specs.ConstraintTables.{owned, with_alphabet};
+    ghost use Rattle.asn1_bounds.specs.Sets.{fixed};
 
     /// No constraints: every value is admitted.
     pub const NONE: ConstraintTable<'static> = ConstraintTable {
@@ -43,6 +44,7 @@ impl<'a> ConstraintTable<'a> {
     };
 
     /// The table with this part on values in place of its own.
+    #[inline(always)]
     pub fn with_value(self, part: Extensible<'a, Value>) -> Self
         ensures { owned result ≡ record (owned self.entry) { value = Some part.entry } }
     {
@@ -53,6 +55,7 @@ impl<'a> ConstraintTable<'a> {
     }
 
     /// The table with this part on lengths in place of its own.
+    #[inline(always)]
     pub fn with_size(self, part: Extensible<'a, Size>) -> Self
         ensures { owned result ≡ record (owned self.entry) { size = Some part.entry } }
     {
@@ -63,11 +66,9 @@ impl<'a> ConstraintTable<'a> {
     }
 
     /// The table with these characters as its permitted alphabet, not extensible.
+    #[inline(always)]
     pub fn with_permitted_alphabet(self, characters: &'a [u32]) -> Self
-        ensures { owned result ≡ record (owned self.entry) {
-          permitted_alphabet =
-              Some (record { constraint = characters.now; extensible = None });
-        } }
+        ensures { owned result ≡ with_alphabet (owned self.entry) (fixed characters.now) }
     {
         ConstraintTable {
             permitted_alphabet: Some(AlphabetTable {
@@ -79,15 +80,14 @@ impl<'a> ConstraintTable<'a> {
     }
 
     /// The table with these characters as its permitted alphabet, extensible by these additions.
+    #[inline(always)]
     pub fn with_extensible_alphabet(
         self,
         characters: &'a [u32],
         additions: &'a [PermittedAlphabet],
     ) -> Self
-        ensures { owned result ≡ record (owned self.entry) {
-          permitted_alphabet =
-              Some (record { constraint = characters.now; extensible = Some additions.entry });
-        } }
+        ensures { owned result ≡ with_alphabet (owned self.entry)
+            (record (fixed characters.now) { extensible = Some additions.entry }) }
     {
         ConstraintTable {
             permitted_alphabet: Some(AlphabetTable {
@@ -99,6 +99,7 @@ impl<'a> ConstraintTable<'a> {
     }
 
     /// The table with the extension marker.
+    #[inline(always)]
     pub fn with_extension_marker(self) -> Self
         ensures { owned result ≡ record (owned self.entry) { extensible = true } }
     {
@@ -110,6 +111,7 @@ impl<'a> ConstraintTable<'a> {
 
     /// The set of the constraints. Takes memory only for a permitted alphabet, and fails only where the allocator
     /// refuses it.
+    #[inline(always)]
     pub fn to_constraints(&self, alloc: Global) -> Result<Constraints<'a>, AllocError>
         ensures set { IfOk result (λ set. set ≡ owned self.now) }
         ensures without_alphabet { IsNone (owned self.now).permitted_alphabet → IsOk result }
@@ -134,6 +136,7 @@ impl From<Value> for ConstraintTable<'_> {
           Some (record { constraint = kind; extensible = None });
     } };
 
+    #[inline(always)]
     fn from(kind: Value) -> Self {
         ConstraintTable::NONE.with_value(Extensible::new(kind))
     }
@@ -148,6 +151,7 @@ impl From<Size> for ConstraintTable<'_> {
           Some (record { constraint = kind; extensible = None });
     } };
 
+    #[inline(always)]
     fn from(kind: Size) -> Self {
         ConstraintTable::NONE.with_size(Extensible::new(kind))
     }

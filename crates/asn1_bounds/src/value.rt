@@ -18,6 +18,7 @@ pub struct Value {
 
 impl Value {
     /// The constraint to the members of the bound.
+    #[inline(always)]
     pub fn new(bound: Bounded<i128>) -> Self
         ensures { result ≡ record { bound = bound } }
     {
@@ -39,6 +40,7 @@ impl Value {
     }
 
     /// The bound.
+    #[inline(always)]
     pub fn bounded(&self) -> &Bounded<i128>
         ensures { result.now ≡ self.now.bound }
     {

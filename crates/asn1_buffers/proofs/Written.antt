@@ -5,11 +5,11 @@ use Rattle.std.specs.Prelude.{⊤, Some}
 use Rattle.asn1_buffers.specs.Buffers.{BufferForm, ScopeIsHeld}
 use Rattle.asn1_buffers.specs.Encoder.{CarriesUpToOrder, buffer_writer, in_one_order, scopes_in}
 use Rattle.asn1_buffers.specs.Format.{buffer_format}
-use Rattle.asn1_buffers.specs.Kinds.{unlabelled}
+use Rattle.asn1_buffers.specs.MarksAndScopes.{unlabelled}
 use Rattle.asn1_buffers.specs.declared.encoder.BufferEncoder.{BufferEncoder}
 use Rattle.asn1_codec.proofs.WritingUpToOrder.{rejects_exactly, same_as_outermost, same_as_scope, same_followed_by}
 use Rattle.asn1_codec.specs.WritingUpToOrder.{WroteUpToOrder}
-use Rattle.asn1_codec.specs.Writing.{Written, outermost, in_scope, in_group, followed_by, Appends, Fails, IsCustom, IsError, ScopeIsOpen, ScopeIsNotOpen, ScopeIsClosed, ScopeIsNotClosed, GroupIsOpen, GroupIsNotOpen, GroupIsClosed, GroupIsNotClosed, Writes}
+use Rattle.asn1_codec.specs.Writing.{Written, outermost, in_scope, in_group, followed_by, Appends, Fails, IsRejection, IsError, ScopeIsOpen, ScopeIsNotOpen, ScopeIsClosed, ScopeIsNotClosed, GroupIsOpen, GroupIsNotOpen, GroupIsClosed, GroupIsNotClosed, Writes}
 use Rattle.asn1_codec.specs.declared.encode_error.EncodeError.{EncodeError}
 use Rattle.asn1_codec.specs.declared.encode_error.EncodeError.TheVariants.{Depth, Failed}
 use Rattle.asn1_model.proofs.SameUpToOrder.{Same-trans, same_holding}
@@ -59,7 +59,7 @@ module _ {B : Type 0} (F : BufferForm B) where
   is_error old new e other was now = record { has_failed = now; failed_before = (λ is. absurd (other is), λ failed. absurd (not_both old.failed was failed)) }
 
   -- a record was not appended
-  pub not_appended : (old new : BufferEncoder B) (r : Record) (e : EncodeError) → (IsCustom e → F.rejects (r ∷ [])) → e ≢ Depth → e ≢ Failed → old.failed ≡ false → new.failed ≡ true →
+  pub not_appended : (old new : BufferEncoder B) (r : Record) (e : EncodeError) → (IsRejection e → F.rejects (r ∷ [])) → e ≢ Depth → e ≢ Failed → old.failed ≡ false → new.failed ≡ true →
       Fails (in_one_order F) old (r ∷ []) new e
   not_appended old new r e rejected not_deep other was now = record {
     error = is_error old new e other was now;
@@ -72,12 +72,12 @@ module _ {B : Type 0} (F : BufferForm B) where
       old.failed ≡ false → new.failed ≡ false → old.depth_left ≡ suc new.depth_left → ScopeIsOpen (in_one_order F) old h new
   scope_is_opened old new h opened scopes was now less = record {
     opened = λ w wrote. (opened w wrote.0, scopes ∙ ap suc wrote.1);
-    had_not_failed = was;
+    no_failure_before = was;
     no_failure = now;
     one_less = less;
   }
 
-  pub scope_is_not_opened : (old new : BufferEncoder B) (h : Head) (e : EncodeError) → ¬ IsCustom e → e ≢ Depth → e ≢ Failed → ¬ (old.depth_left ≡ 0) → old.failed ≡ false → new.failed ≡ true → ScopeIsNotOpen (in_one_order F) old h new e
+  pub scope_is_not_opened : (old new : BufferEncoder B) (h : Head) (e : EncodeError) → ¬ IsRejection e → e ≢ Depth → e ≢ Failed → ¬ (old.depth_left ≡ 0) → old.failed ≡ false → new.failed ≡ true → ScopeIsNotOpen (in_one_order F) old h new e
   scope_is_not_opened old new h e not_custom not_deep other some was now = record {
     error = is_error old new e other was now;
     too_deep = λ deep. absurd (not_deep deep);
@@ -99,12 +99,12 @@ module _ {B : Type 0} (F : BufferForm B) where
           wrote = (last.wrote, counted ∙ sym (scopes_in-followed s.outer (last.closed ∷ [])));
           same = same_followed_by (last.closed ∷ []) (holding h rs ∷ []) s.same_outer (next (Same-trans last.same (in_place h s.same)) at_end);
         };
-    had_not_failed = was;
+    no_failure_before = was;
     no_failure = now;
     one_more = more;
   }
 
-  pub scope_is_not_closed : (old new : BufferEncoder B) (e : EncodeError) → (IsCustom e → (h : Head) (rs : List Record) (w : Written) → (in_one_order F).wrote old (in_scope h rs w) → F.rejects (holding h rs ∷ [])) →
+  pub scope_is_not_closed : (old new : BufferEncoder B) (e : EncodeError) → (IsRejection e → (h : Head) (rs : List Record) (w : Written) → (in_one_order F).wrote old (in_scope h rs w) → F.rejects (holding h rs ∷ [])) →
       e ≢ Depth → e ≢ Failed → old.failed ≡ false → new.failed ≡ true → ScopeIsNotClosed (in_one_order F) old new e
   scope_is_not_closed old new e rejected not_deep other was now = record { error = is_error old new e other was now; not_too_deep = not_deep; rejected = rejected }
 
@@ -113,24 +113,24 @@ module _ {B : Type 0} (F : BufferForm B) where
       old.failed ≡ false → new.failed ≡ false → new.depth_left ≡ old.depth_left → GroupIsOpen (in_one_order F) old table new
   group_is_opened old new table opened scopes was now same = record {
     opened = λ w wrote. (opened w wrote.0, scopes ∙ wrote.1);
-    had_not_failed = was;
+    no_failure_before = was;
     no_failure = now;
     same_depth = same;
   }
 
-  pub group_is_not_opened : (old new : BufferEncoder B) (e : EncodeError) → ¬ IsCustom e → e ≢ Depth → e ≢ Failed → old.failed ≡ false → new.failed ≡ true → GroupIsNotOpen (in_one_order F) old new e
+  pub group_is_not_opened : (old new : BufferEncoder B) (e : EncodeError) → ¬ IsRejection e → e ≢ Depth → e ≢ Failed → old.failed ≡ false → new.failed ≡ true → GroupIsNotOpen (in_one_order F) old new e
   group_is_not_opened old new e not_custom not_deep other was now = record { error = is_error old new e other was now; not_too_deep = not_deep; not_rejected = not_custom }
 
   pub group_is_closed : (old new : BufferEncoder B) → ((table : Table Line) (rs : List Record) (w : Written) → F.wrote old.buffer (in_group table rs w) → F.wrote new.buffer (followed_by w (group_records table (Some rs)))) →
       new.open_scopes ≡ old.open_scopes → old.failed ≡ false → new.failed ≡ false → new.depth_left ≡ old.depth_left → GroupIsClosed (in_one_order F) old new
   group_is_closed old new closed scopes was now same = record {
     closed = λ table rs w wrote. (closed table rs w wrote.0, scopes ∙ (wrote.1 ∙ sym (scopes_in-followed w (group_records table (Some rs)))));
-    had_not_failed = was;
+    no_failure_before = was;
     no_failure = now;
     same_depth = same;
   }
 
-  pub group_is_not_closed : (old new : BufferEncoder B) (e : EncodeError) → (IsCustom e → (table : Table Line) (rs : List Record) (w : Written) → ¬ F.wrote old.buffer (in_group table rs w)) →
+  pub group_is_not_closed : (old new : BufferEncoder B) (e : EncodeError) → (IsRejection e → (table : Table Line) (rs : List Record) (w : Written) → ¬ F.wrote old.buffer (in_group table rs w)) →
       e ≢ Depth → e ≢ Failed → old.failed ≡ false → new.failed ≡ true → GroupIsNotClosed (in_one_order F) old new e
   group_is_not_closed old new e none not_deep other was now = record {
     error = is_error old new e other was now;

@@ -1,4 +1,4 @@
 pub mod Buffers
 pub mod Encoder
 pub mod Format
-pub mod Kinds
+pub mod MarksAndScopes

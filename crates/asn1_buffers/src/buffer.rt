@@ -2,7 +2,7 @@
 ghost use Rattle.asn1_bounds.specs.declared.codec.Codec.{Codec};
 ghost use Rattle.asn1_buffers.specs.Buffers.{AppendsRecord, BeginsGroup, BeginsScope, BufferForm, EndsGroup, EndsScope};
 ghost use Rattle.asn1_buffers.specs.Encoder.{in_one_order};
-ghost use Rattle.asn1_buffers.specs.Kinds.{kind_of_mark, kind_of_scope, unlabelled};
+ghost use Rattle.asn1_buffers.specs.MarksAndScopes.{kind_of_mark, kind_of_scope, unlabelled};
 ghost use Rattle.asn1_codec.specs.Writing.{outermost};
 ghost use Rattle.asn1_codec.specs.WritingUpToOrder.{RejectsByParts};
 ghost use Rattle.asn1_items.specs.Contents.{content_of};

@@ -30,9 +30,9 @@ pub struct BufferEncoder<B> {
 
 impl<B: RecordBuffer> BufferEncoder<B> {
     ghost use Rattle.asn1_buffers.specs.Encoder.{CarriesUpToOrder, buffer_writer};
-    ghost use Rattle.asn1_buffers.specs.Kinds.{kind_of_mark, kind_of_scope, unlabelled};
+    ghost use Rattle.asn1_buffers.specs.MarksAndScopes.{kind_of_mark, kind_of_scope, unlabelled};
     ghost use Rattle.asn1_buffers.specs.declared.error.WriteError.TheVariants as write_error;
-    ghost use Rattle.asn1_codec.specs.Writing.{ClosesScope, ClosesGroup, IsCustom, OpensScope, OpensGroup, IsOutOfMemory, Writes, outermost};
+    ghost use Rattle.asn1_codec.specs.Writing.{WritesEnd, ClosesGroup, IsRejection, WritesHead, OpensGroup, IsOutOfMemory, Writes, outermost};
     ghost use Rattle.asn1_codec.specs.declared.encode_error.EncodeError.TheVariants.{Depth, Failed, Memory};
     ghost use Rattle.asn1_items.specs.Contents.{content_of};
     ghost use Rattle.asn1_model.specs.ConstraintSets.{ConstraintSet};
@@ -66,6 +66,8 @@ impl<B: RecordBuffer> BufferEncoder<B> {
     }
 
     /// Makes the encoder failed, and answers the error, or `Failed` if it had failed before.
+    #[cold]
+    #[inline(never)]
     fn fail(&mut self, error: EncodeError) -> EncodeError
         ensures { error ≡ Memory → IsOutOfMemory (buffer_writer B.form) self.old self.new result }
     {
@@ -77,8 +79,10 @@ impl<B: RecordBuffer> BufferEncoder<B> {
     }
 
     /// Makes the encoder failed by an error of the buffer.
+    #[cold]
+    #[inline(never)]
     fn refuse(&mut self, error: WriteError) -> EncodeError
-        ensures custom { IsCustom result → error ≢ write_error.Memory }
+        ensures rejection { IsRejection result → error ≢ write_error.Memory }
         ensures not_too_deep { result ≢ Depth }
         ensures not_failed { result ≢ Failed }
         ensures has_failed { self.new.failed ≡ true }
@@ -91,6 +95,7 @@ impl<B: RecordBuffer> BufferEncoder<B> {
     }
 
     /// Appends a content under a tag.
+    #[inline(always)]
     fn append_scalar(&mut self, tag: Tag, content: Content<'_>) -> Result<(), EncodeError>
         ensures { (c : ConstraintSet) (n : Name) (x : model.Content) →
             unlabelled x ≡ content_of content.entry →
@@ -106,6 +111,7 @@ impl<B: RecordBuffer> BufferEncoder<B> {
     }
 
     /// Appends the bytes of an open type.
+    #[inline(always)]
     fn append_open_type(&mut self, bytes: &[u8]) -> Result<(), EncodeError>
         ensures { (n : Name) →
             Writes (buffer_writer B.form) self.old (open_type n bytes.now ∷ []) ⊤ self.new result }
@@ -120,6 +126,7 @@ impl<B: RecordBuffer> BufferEncoder<B> {
     }
 
     /// Appends a presence mark of this kind.
+    #[inline(always)]
     fn append_mark(&mut self, kind: MarkKind) -> Result<(), EncodeError>
         ensures { (m : model.PresenceMark) → kind_of_mark m ≡ kind →
             Writes (buffer_writer B.form) self.old (presence_mark m ∷ []) ⊤ self.new result }
@@ -134,9 +141,10 @@ impl<B: RecordBuffer> BufferEncoder<B> {
     }
 
     /// Opens a scope of this kind.
+    #[inline(always)]
     fn open_scope(&mut self, kind: ScopeKind, tag: Tag) -> Result<(), EncodeError>
         ensures { (h : model.Head) → kind_of_scope h ≡ kind → head_tag h ≡ tag →
-            OpensScope (buffer_writer B.form) self.old h self.new result }
+            WritesHead (buffer_writer B.form) self.old h self.new result }
     {
         if self.failed {
             return Err(EncodeError::Failed);
@@ -156,8 +164,9 @@ impl<B: RecordBuffer> BufferEncoder<B> {
     }
 
     /// Closes the innermost scope.
+    #[inline(always)]
     fn close_scope(&mut self) -> Result<(), EncodeError>
-        ensures { ClosesScope (buffer_writer B.form) self.old self.new result }
+        ensures { WritesEnd (buffer_writer B.form) self.old self.new result }
     {
         if self.failed {
             return Err(EncodeError::Failed);
@@ -177,6 +186,7 @@ impl<B: RecordBuffer> BufferEncoder<B> {
     }
 
     /// Opens a group.
+    #[inline(always)]
     fn open_inner_group(&mut self) -> Result<(), EncodeError>
         ensures { (table : Table Line) →
             OpensGroup (buffer_writer B.form) self.old table self.new result }
@@ -191,6 +201,7 @@ impl<B: RecordBuffer> BufferEncoder<B> {
     }
 
     /// Closes the innermost group.
+    #[inline(always)]
     fn close_inner_group(&mut self) -> Result<(), EncodeError>
         ensures { ClosesGroup (buffer_writer B.form) self.old self.new result }
     {
@@ -212,32 +223,39 @@ impl<B: RecordBuffer> Encoder for BufferEncoder<B> {
 
     ghost writer = { buffer_writer B.form };
 
+    #[inline(always)]
     fn codec(&self) -> Codec
         ensures { result ≡ B.own_codec }
     {
         B::codec()
     }
 
+    #[inline(always)]
     fn depth(&self) -> usize {
         self.depth_left
     }
 
+    #[inline(always)]
     fn global(&self) -> Global {
         self.alloc
     }
 
+    #[inline(always)]
     fn refuse_memory(&mut self) -> EncodeError {
         self.fail(EncodeError::Memory)
     }
 
+    #[inline(always)]
     fn encode_bool(&mut self, tag: Tag, value: bool, _name: Identifier) -> Result<(), EncodeError> {
         self.append_scalar(tag, Content::Boolean(value))
     }
 
+    #[inline(always)]
     fn encode_null(&mut self, tag: Tag, _name: Identifier) -> Result<(), EncodeError> {
         self.append_scalar(tag, Content::Null)
     }
 
+    #[inline(always)]
     fn encode_enumerated_number<E: EnumeratedTable>(
         &mut self,
         tag: Tag,
@@ -247,6 +265,7 @@ impl<B: RecordBuffer> Encoder for BufferEncoder<B> {
         self.append_scalar(tag, Content::Discriminant(number))
     }
 
+    #[inline(always)]
     fn encode_object_identifier(
         &mut self,
         tag: Tag,
@@ -256,6 +275,7 @@ impl<B: RecordBuffer> Encoder for BufferEncoder<B> {
         self.append_scalar(tag, Content::Arcs(value))
     }
 
+    #[inline(always)]
     fn encode_integer<T: IntegerType>(
         &mut self,
         tag: Tag,
@@ -269,6 +289,7 @@ impl<B: RecordBuffer> Encoder for BufferEncoder<B> {
         }
     }
 
+    #[inline(always)]
     fn encode_string<U, K: CodecString<U>>(
         &mut self,
         tag: Tag,
@@ -279,30 +300,37 @@ impl<B: RecordBuffer> Encoder for BufferEncoder<B> {
         self.append_scalar(tag, Content::String(K::as_any(value)))
     }
 
+    #[inline(always)]
     fn encode_any(&mut self, _tag: Tag, value: &Any, _name: Identifier) -> Result<(), EncodeError> {
         self.append_open_type(value.as_bytes())
     }
 
+    #[inline(always)]
     fn mark_present(&mut self, _tag: Tag) -> Result<(), EncodeError> {
         self.append_mark(MarkKind::Present)
     }
 
+    #[inline(always)]
     fn mark_absent(&mut self, _tag: Tag) -> Result<(), EncodeError> {
         self.append_mark(MarkKind::Absent)
     }
 
+    #[inline(always)]
     fn mark_addition_present(&mut self, _tag: Tag) -> Result<(), EncodeError> {
         self.append_mark(MarkKind::Present)
     }
 
+    #[inline(always)]
     fn mark_addition_absent(&mut self, _tag: Tag) -> Result<(), EncodeError> {
         self.append_mark(MarkKind::Absent)
     }
 
+    #[inline(always)]
     fn mark_group_absent(&mut self) -> Result<(), EncodeError> {
         self.append_mark(MarkKind::GroupAbsent)
     }
 
+    #[inline(always)]
     fn open_sequence<C: FieldTable>(
         &mut self,
         tag: Tag,
@@ -311,10 +339,12 @@ impl<B: RecordBuffer> Encoder for BufferEncoder<B> {
         self.open_scope(ScopeKind::Sequence, tag)
     }
 
+    #[inline(always)]
     fn open_set<C: FieldTable>(&mut self, tag: Tag, _name: Identifier) -> Result<(), EncodeError> {
         self.open_scope(ScopeKind::Set, tag)
     }
 
+    #[inline(always)]
     fn open_sequence_of(
         &mut self,
         tag: Tag,
@@ -325,6 +355,7 @@ impl<B: RecordBuffer> Encoder for BufferEncoder<B> {
         self.open_scope(ScopeKind::SequenceOf, tag)
     }
 
+    #[inline(always)]
     fn open_set_of(
         &mut self,
         tag: Tag,
@@ -335,10 +366,12 @@ impl<B: RecordBuffer> Encoder for BufferEncoder<B> {
         self.open_scope(ScopeKind::SetOf, tag)
     }
 
+    #[inline(always)]
     fn open_explicit_prefix(&mut self, tag: Tag, _name: Identifier) -> Result<(), EncodeError> {
         self.open_scope(ScopeKind::ExplicitTag, tag)
     }
 
+    #[inline(always)]
     fn open_choice<T: Choice>(
         &mut self,
         chosen: Tag,
@@ -348,14 +381,17 @@ impl<B: RecordBuffer> Encoder for BufferEncoder<B> {
         self.open_scope(ScopeKind::Alternative, chosen)
     }
 
+    #[inline(always)]
     fn close(&mut self) -> Result<(), EncodeError> {
         self.close_scope()
     }
 
+    #[inline(always)]
     fn open_group<C: FieldTable>(&mut self) -> Result<(), EncodeError> {
         self.open_inner_group()
     }
 
+    #[inline(always)]
     fn close_group(&mut self) -> Result<(), EncodeError> {
         self.close_inner_group()
     }

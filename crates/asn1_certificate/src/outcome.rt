@@ -80,13 +80,11 @@ fn convert<R: Read, W: Write>(
     writer: &mut W,
 ) -> Result<(), Failure>
     ensures read { OnOk result (IsAtEnd (R.remaining reader.new)) }
-    ensures report { form ≡ Form.Report → OnOk result ((input : List ℕ) × (lines : List ℕ) ×
-        Consumes (R.remaining reader.old) (R.remaining reader.new) input ×
-        AreLinesOfInput input lines ×
-        Appends (W.contents writer.old) (W.contents writer.new) lines) }
-    ensures der { form ≡ Form.Der → OnOk result ((input : List ℕ) × (der : List ℕ) ×
-        Consumes (R.remaining reader.old) (R.remaining reader.new) input ×
-        IsDerOfInput input der ×
+    ensures report { form ≡ Form.Report → OnOk result ((all : List ℕ) × (text : List ℕ) ×
+        Consumes (R.remaining reader.old) (R.remaining reader.new) all × AreLinesOfInput all text ×
+        Appends (W.contents writer.old) (W.contents writer.new) text) }
+    ensures der { form ≡ Form.Der → OnOk result ((all : List ℕ) × (der : List ℕ) ×
+        Consumes (R.remaining reader.old) (R.remaining reader.new) all × IsDerOfInput all der ×
         Appends (W.contents writer.old) (W.contents writer.new) der) }
 {
     let mut input = Vec::new(alloc);

@@ -8,7 +8,7 @@ use Rattle.asn1_certificate_text.specs.Escapes.{shown}
 use Rattle.asn1_certificate_text.specs.Octets.{octets_text}
 use Rattle.asn1_certificate_report.specs.declared.general_name.ShownGeneralName.{ShownGeneralName}
 use Rattle.asn1_certificate_report.specs.declared.general_name.ShownGeneralName.TheVariants.{Other, Mail, Host, X400, Directory, Party, Uri, Address, Registered}
-use Rattle.asn1_certificate_report.specs.Names.{name_text}
+use Rattle.asn1_certificate_report.specs.ShownNames.{name_text}
 use Rattle.asn1_certificate_report.specs.Objects.{object_text}
 
 -- who named a party, if that is said

@@ -2,7 +2,7 @@ pub mod Extensions
 pub mod GeneralNames
 pub mod Keys
 pub mod Lines
-pub mod Names
+pub mod ShownNames
 pub mod Numbers
 pub mod Objects
 pub mod Reports

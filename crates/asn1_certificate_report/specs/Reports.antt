@@ -6,7 +6,7 @@ use Rattle.asn1_certificate_report.specs.declared.report.Report.{Report}
 use Rattle.asn1_certificate_report.specs.Extensions.{extension_text}
 use Rattle.asn1_certificate_report.specs.Keys.{key_text, signature_text}
 use Rattle.asn1_certificate_report.specs.Lines.{labelled}
-use Rattle.asn1_certificate_report.specs.Names.{name_text}
+use Rattle.asn1_certificate_report.specs.ShownNames.{name_text}
 use Rattle.asn1_certificate_report.specs.Numbers.{octet_number_text, version_text}
 use Rattle.asn1_certificate_report.specs.Times.{time_text}
 

@@ -1,5 +1,5 @@
 //! Names, as RFC 4514 writes them.
-ghost use Rattle.asn1_certificate_report.specs.Names.{attribute_text, name_text, part_text, value_text};
+ghost use Rattle.asn1_certificate_report.specs.ShownNames.{attribute_text, name_text, part_text, value_text};
 
 use crate::object::Object;
 use crate::shows::{Shows, push_joined};

@@ -7,7 +7,7 @@ use Rattle.asn1_model.specs.Records.{Record, Head, scalar, scope, open_type, pre
 use Rattle.asn1_model.specs.RecordTables.{Line, Table}
 use Rattle.asn1_codec.specs.declared.encode_error.EncodeError.{EncodeError}
 use Rattle.asn1_codec.specs.declared.encode_error.EncodeError.TheVariants.{Memory, Depth, Failed}
-use Rattle.asn1_codec.specs.Writing.{Writer, Written, outermost, in_scope, in_group, followed_by, IsCustom, IsLawful, Appends, IsError, Fails, Writes, ScopeIsOpen, ScopeIsNotOpen, ClosesScope, GroupIsOpen, GroupIsNotOpen, ClosesGroup, IsOutOfMemory}
+use Rattle.asn1_codec.specs.Writing.{Writer, Written, outermost, in_scope, in_group, followed_by, IsRejection, IsLawful, Appends, IsError, Fails, Writes, ScopeIsOpen, ScopeIsNotOpen, WritesEnd, GroupIsOpen, GroupIsNotOpen, ClosesGroup, IsOutOfMemory}
 
 followed_twice : (w : Written) (rs ss : List Record) → followed_by (followed_by w rs) ss ≡ followed_by w (rs ++ ss)
 followed_twice (outermost done) rs ss = ap outermost (append_assoc done rs ss)
@@ -54,9 +54,9 @@ refusal_is_not_deep : (b : Bool) (e : EncodeError) → (b ≡ false → e ≡ Me
 refusal_is_not_deep false e memory failed deep = let x : Memory ≡ Depth = sym (memory refl) ∙ deep in cc
 refusal_is_not_deep true e memory failed deep = let x : Failed ≡ Depth = sym (failed refl) ∙ deep in cc
 
-refusal_is_not_custom : (b : Bool) (e : EncodeError) → (b ≡ false → e ≡ Memory) → (b ≡ true → e ≡ Failed) → ¬ IsCustom e
-refusal_is_not_custom false e memory failed custom = absurd (subst IsCustom (memory refl) custom)
-refusal_is_not_custom true e memory failed custom = absurd (subst IsCustom (failed refl) custom)
+refusal_is_no_rejection : (b : Bool) (e : EncodeError) → (b ≡ false → e ≡ Memory) → (b ≡ true → e ≡ Failed) → ¬ IsRejection e
+refusal_is_no_rejection false e memory failed rejection = absurd (subst IsRejection (memory refl) rejection)
+refusal_is_no_rejection true e memory failed rejection = absurd (subst IsRejection (failed refl) rejection)
 
 module _ {E : Type 0} (W : Writer E) where
   -- an error after calls that left the encoder as failed as it was
@@ -120,7 +120,7 @@ module _ {E : Type 0} (W : Writer E) where
   refused {a} {e = e} rs r = record {
     error = r.error;
     too_deep = λ is. absurd (refusal_is_not_deep (W.failed a) e r.memory r.error.failed_before.1 is);
-    rejected = λ is w wrote. absurd (refusal_is_not_custom (W.failed a) e r.memory r.error.failed_before.1 is);
+    rejected = λ is w wrote. absurd (refusal_is_no_rejection (W.failed a) e r.memory r.error.failed_before.1 is);
   }
 
   pub open_fails : {a b : E} {h : Head} {e : EncodeError} (rs : List Record) → ScopeIsNotOpen W a h b e → Fails W a (holding h rs ∷ []) b e
@@ -132,23 +132,23 @@ module _ {E : Type 0} (W : Writer E) where
 
   pub inside_fails : {a b c : E} {h : Head} {rs : List Record} {e : EncodeError} → IsLawful W → ScopeIsOpen W a h b → Fails W b rs c e → Fails W a (holding h rs ∷ []) c e
   inside_fails {h = h} {rs} law p q = record {
-    error = later_error (p.no_failure ∙ sym p.had_not_failed) q.error;
+    error = later_error (p.no_failure ∙ sym p.no_failure_before) q.error;
     too_deep = λ is. let high = q.too_deep is in omega (arith, highest-holding h rs, high, p.one_less);
     rejected = λ is w wrote. law.inner h rs (q.rejected is _ (p.opened w wrote));
   }
 
   pub writes_scope : {a b c : E} {h : Head} {rs : List Record} {T : Type 0} (d : E) {A : Type 0} (result : Result A EncodeError) →
-      ScopeIsOpen W a h b → Appends W b rs T c → ClosesScope W c d result → Writes W a (holding h rs ∷ []) T d result
+      ScopeIsOpen W a h b → Appends W b rs T c → WritesEnd W c d result → Writes W a (holding h rs ∷ []) T d result
   writes_scope {h = h} {rs} d (Ok x) p q r = record {
     written = λ w wrote. r.closed h rs w (q.written (in_scope h [] w) (p.opened w wrote));
-    failed_as_before = r.no_failure ∙ sym p.had_not_failed;
-    unless_failed = λ failed. absurd (let x : false ≡ true = sym p.had_not_failed ∙ failed in cc);
+    failed_as_before = r.no_failure ∙ sym p.no_failure_before;
+    unless_failed = λ failed. absurd (let x : false ≡ true = sym p.no_failure_before ∙ failed in cc);
     same_depth = omega (arith, p.one_less, q.same_depth, r.one_more);
     within_depth_left = omega (arith, highest-holding h rs, p.one_less, q.within_depth_left);
     of_type = q.of_type;
   }
   writes_scope {h = h} {rs} d (Err e) p q r = record {
-    error = later_error (q.failed_as_before ∙ p.no_failure ∙ sym p.had_not_failed) r.error;
+    error = later_error (q.failed_as_before ∙ p.no_failure ∙ sym p.no_failure_before) r.error;
     too_deep = λ is. absurd (r.not_too_deep is);
     rejected = λ is w wrote. r.rejected is h rs w (q.written (in_scope h [] w) (p.opened w wrote));
   }
@@ -162,7 +162,7 @@ module _ {E : Type 0} (W : Writer E) where
 
   pub group_fails : {a b c : E} {table : Table Line} {rs : List Record} {e : EncodeError} → IsLawful W → GroupIsOpen W a table b → Fails W b rs c e → Fails W a (group_records table (Some rs)) c e
   group_fails {table = table} {rs} law p q = record {
-    error = later_error (p.no_failure ∙ sym p.had_not_failed) q.error;
+    error = later_error (p.no_failure ∙ sym p.no_failure_before) q.error;
     too_deep = λ is. let high = q.too_deep is in omega (arith, highest-group table rs, high, p.same_depth);
     rejected = λ is w wrote. group_rejected table W.rejects (presence_marks_alone rs) rs law.part (law.marks rs) (q.rejected is _ (p.opened w wrote));
   }
@@ -171,14 +171,14 @@ module _ {E : Type 0} (W : Writer E) where
       GroupIsOpen W a table b → Appends W b rs T c → ClosesGroup W c d result → Writes W a (group_records table (Some rs)) T d result
   writes_group {table = table} {rs} d (Ok x) p q r = record {
     written = λ w wrote. r.closed table rs w (q.written (in_group table [] w) (p.opened w wrote));
-    failed_as_before = r.no_failure ∙ sym p.had_not_failed;
-    unless_failed = λ failed. absurd (let x : false ≡ true = sym p.had_not_failed ∙ failed in cc);
+    failed_as_before = r.no_failure ∙ sym p.no_failure_before;
+    unless_failed = λ failed. absurd (let x : false ≡ true = sym p.no_failure_before ∙ failed in cc);
     same_depth = r.same_depth ∙ q.same_depth ∙ p.same_depth;
     within_depth_left = omega (arith, highest-group table rs, p.same_depth, q.within_depth_left);
     of_type = q.of_type;
   }
   writes_group {table = table} {rs} d (Err e) p q r = record {
-    error = later_error (q.failed_as_before ∙ p.no_failure ∙ sym p.had_not_failed) r.error;
+    error = later_error (q.failed_as_before ∙ p.no_failure ∙ sym p.no_failure_before) r.error;
     too_deep = λ is. absurd (r.not_too_deep is);
     rejected = λ is w wrote. r.rejected is table rs w (q.written (in_group table [] w) (p.opened w wrote));
   }

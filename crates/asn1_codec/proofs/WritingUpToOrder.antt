@@ -8,7 +8,7 @@ use Rattle.asn1_model.specs.RecordTables.{Line, Table}
 use Rattle.asn1_model.proofs.SameUpToOrder.{SameRecords-refl, SameAll-sym, SameAll-trans, SameAll-append, same-marks_alone, same_holding, same_group_records}
 use Rattle.asn1_codec.specs.declared.encode_error.EncodeError.{EncodeError}
 use Rattle.asn1_codec.specs.WritingUpToOrder.{RejectsByParts, WroteUpToOrder, RejectsUpToOrder, up_to_order}
-use Rattle.asn1_codec.specs.Writing.{Writer, Written, outermost, in_scope, in_group, followed_by, SameWritten, same_outermost, same_scope, same_group, IsLawful, Appends, IsError, Fails, Writes, ScopeIsOpen, ScopeIsNotOpen, OpensScope, ScopeIsClosed, ScopeIsNotClosed, ClosesScope, GroupIsOpen, GroupIsNotOpen, OpensGroup, GroupIsClosed, GroupIsNotClosed, ClosesGroup, IsOutOfMemory}
+use Rattle.asn1_codec.specs.Writing.{Writer, Written, outermost, in_scope, in_group, followed_by, SameWritten, same_outermost, same_scope, same_group, IsLawful, Appends, IsError, Fails, Writes, ScopeIsOpen, ScopeIsNotOpen, WritesHead, ScopeIsClosed, ScopeIsNotClosed, WritesEnd, GroupIsOpen, GroupIsNotOpen, OpensGroup, GroupIsClosed, GroupIsNotClosed, ClosesGroup, IsOutOfMemory}
 
 -- What has been written is the same.
 pub SameWritten-refl : (w : Written) → SameWritten w w
@@ -110,13 +110,13 @@ module _ {E : Type 0} (W : Writer E) where
   fails {rs = rs} p = record {
     error = is_error p.error;
     too_deep = p.too_deep;
-    rejected = λ custom w q. rejects_exactly rs (p.rejected custom q.exactly q.wrote);
+    rejected = λ rejection w q. rejects_exactly rs (p.rejected rejection q.exactly q.wrote);
   }
 
   pub scope_is_open : {old new : E} {h : Head} → ScopeIsOpen W old h new → ScopeIsOpen (up_to_order W) old h new
   scope_is_open {h = h} p = record {
     opened = λ w q. record { exactly = in_scope h [] q.exactly; wrote = p.opened q.exactly q.wrote; same = same_scope h (SameRecords-refl []) q.same };
-    had_not_failed = p.had_not_failed;
+    no_failure_before = p.no_failure_before;
     no_failure = p.no_failure;
     one_less = p.one_less;
   }
@@ -126,13 +126,13 @@ module _ {E : Type 0} (W : Writer E) where
     error = is_error p.error;
     too_deep = p.too_deep;
     depth_first = p.depth_first;
-    rejected = λ custom rs. rejects_exactly (holding h rs ∷ []) (p.rejected custom rs);
+    rejected = λ rejection rs. rejects_exactly (holding h rs ∷ []) (p.rejected rejection rs);
   }
 
   pub scope_is_closed : {old new : E} → ScopeIsClosed W old new → ScopeIsClosed (up_to_order W) old new
   scope_is_closed {old} {new} p = record {
     closed = λ h rs w q. closed_up_to_order h rs w q.exactly q.wrote (same_as_scope q.same);
-    had_not_failed = p.had_not_failed;
+    no_failure_before = p.no_failure_before;
     no_failure = p.no_failure;
     one_more = p.one_more;
   }
@@ -148,11 +148,11 @@ module _ {E : Type 0} (W : Writer E) where
   scope_is_not_closed {old} p = record {
     error = is_error p.error;
     not_too_deep = p.not_too_deep;
-    rejected = λ custom h rs w q.
+    rejected = λ rejection h rs w q.
         let s = same_as_scope q.same in
         record {
           exactly = holding h s.records ∷ [];
-          rejects = p.rejected custom h s.records s.outer (subst (λ y. W.wrote old y) s.is q.wrote);
+          rejects = p.rejected rejection h s.records s.outer (subst (λ y. W.wrote old y) s.is q.wrote);
           same = same_holding h s.records rs s.same;
         };
   }
@@ -160,7 +160,7 @@ module _ {E : Type 0} (W : Writer E) where
   pub group_is_open : {old new : E} {table : Table Line} → GroupIsOpen W old table new → GroupIsOpen (up_to_order W) old table new
   group_is_open {table = table} p = record {
     opened = λ w q. record { exactly = in_group table [] q.exactly; wrote = p.opened q.exactly q.wrote; same = same_group table (SameRecords-refl []) q.same };
-    had_not_failed = p.had_not_failed;
+    no_failure_before = p.no_failure_before;
     no_failure = p.no_failure;
     same_depth = p.same_depth;
   }
@@ -177,7 +177,7 @@ module _ {E : Type 0} (W : Writer E) where
           wrote = p.closed table s.records s.outer (subst (λ y. W.wrote old y) s.is q.wrote);
           same = same_followed_by (group_records table (Some s.records)) (group_records table (Some rs)) s.same_outer (same_group_records table s.records rs s.same);
         };
-    had_not_failed = p.had_not_failed;
+    no_failure_before = p.no_failure_before;
     no_failure = p.no_failure;
     same_depth = p.same_depth;
   }
@@ -186,11 +186,11 @@ module _ {E : Type 0} (W : Writer E) where
   group_is_not_closed {old} p = record {
     error = is_error p.error;
     not_too_deep = p.not_too_deep;
-    rejected = λ custom table rs w q.
+    rejected = λ rejection table rs w q.
         let s = same_as_group q.same in
         record {
           exactly = group_records table (Some s.records);
-          rejects = p.rejected custom table s.records s.outer (subst (λ y. W.wrote old y) s.is q.wrote);
+          rejects = p.rejected rejection table s.records s.outer (subst (λ y. W.wrote old y) s.is q.wrote);
           same = same_group_records table s.records rs s.same;
         };
   }
@@ -203,11 +203,11 @@ module _ {E : Type 0} (W : Writer E) where
   writes old rs T new (Ok x) p = appends p
   writes old rs T new (Err e) p = fails p
 
-  pub opens : (old : E) (h : Head) (new : E) {A : Type 0} (result : Result A EncodeError) → OpensScope W old h new result → OpensScope (up_to_order W) old h new result
+  pub opens : (old : E) (h : Head) (new : E) {A : Type 0} (result : Result A EncodeError) → WritesHead W old h new result → WritesHead (up_to_order W) old h new result
   opens old h new (Ok x) p = scope_is_open p
   opens old h new (Err e) p = scope_is_not_open p
 
-  pub closes : (old new : E) {A : Type 0} (result : Result A EncodeError) → ClosesScope W old new result → ClosesScope (up_to_order W) old new result
+  pub closes : (old new : E) {A : Type 0} (result : Result A EncodeError) → WritesEnd W old new result → WritesEnd (up_to_order W) old new result
   closes old new (Ok x) p = scope_is_closed p
   closes old new (Err e) p = scope_is_not_closed p
 

@@ -1,9 +1,12 @@
 -- A type under the tag, constraints and name that a call is given, by default the type's own.
-use Rattle.std.specs.Prelude.{refl}
+use Rattle.std.specs.Borrow.{Bor}
+use Rattle.std.specs.Option.{option_copied, option_map}
+use Rattle.std.specs.Prelude.{Option, refl, unwrap_or}
+use Rattle.asn1_bounds.specs.declared.constraints.Constraints.{Constraints}
 use Rattle.asn1_tags.specs.Trees.{leaf}
 use Rattle.asn1_tags.specs.declared.tags.Tag.{Tag}
 use Rattle.asn1_model.specs.Composites.{explicit_tag_records}
-use Rattle.asn1_model.specs.ConstraintSets.{ConstraintSet}
+use Rattle.asn1_model.specs.ConstraintSets.{ConstraintSet, constraint_set}
 use Rattle.asn1_model.specs.Meaning.{Meaning, IsWellTagged, IsWellTaggedUnder}
 use Rattle.asn1_model.specs.OneRecord.{scope_is_one}
 use Rattle.asn1_model.specs.Records.{Name, explicit_tag}
@@ -12,6 +15,10 @@ use Rattle.asn1_model.specs.TaggedTypes.{TaggedType, explicitly_tagged_as}
 -- A type under whatever name: a call that writes is given one, and one that reads takes any.
 abbrev pub Named : Type 0 → Type 1
 Named V = Name → TaggedType V
+
+-- The constraints that a call is given, and the type's own where it is given none.
+abbrev pub constraints_or_own : {V : Type 0} → Option (Bor Constraints) → Meaning V → ConstraintSet
+constraints_or_own c m = unwrap_or (option_map constraint_set (option_copied c)) m.constraints
 
 -- A type under the tag and the constraints that a call is given.
 abbrev pub given : {V : Type 0} → Tag → ConstraintSet → Meaning V → Named V

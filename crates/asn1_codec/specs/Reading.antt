@@ -222,9 +222,9 @@ module _ {D : Type 0} (R : Reader D) where
       (h : Head) (rest : List Record) (outer : Outside) →
       Advances old new 0 ([], (h, rest) ∷ outer) (rest, outer) (λ _. ⊤) result
 
-  -- What a call does to the decoder that leaves as many scopes open as there were: after a success
-  -- the depth left is as it was and the decoder has not failed, an error makes it failed, and a
-  -- failed one answers so.
+  -- What follows is what a call does to the depth left and to failure, whatever remained to be read.
+  -- A call that leaves as many scopes open as there were: after a success the depth left is as it was
+  -- and the decoder has not failed, an error makes it failed, and a failed one answers so.
   pub record KeepsDepth {V : Type 0} (old new : D) (result : Result V DecodeError) : Type 0 where
     pub same_depth : OnOk result (R.depth_left new ≡ R.depth_left old)
     pub no_failure : OnOk result (R.failed new ≡ false)
@@ -241,9 +241,9 @@ module _ {D : Type 0} (R : Reader D) where
   abbrev pub NeedsDepth : {V : Type 0} → D → Result V DecodeError → Type 0
   NeedsDepth old result = R.failed old ≡ false → R.depth_left old ≡ 0 → result ≡ Err Depth
 
-  -- A call that opens a scope takes one from the depth left. It is too deep if and only if there is
-  -- none.
-  pub record OpensScope {V : Type 0} (old new : D) (result : Result V DecodeError) : Type 0 where
+  -- The same of a call that opens a scope, and takes one from the depth left. It is too deep if and
+  -- only if there is none.
+  pub record TakesDepth {V : Type 0} (old new : D) (result : Result V DecodeError) : Type 0 where
     pub one_less : OnOk result (R.depth_left old ≡ suc (R.depth_left new))
     pub no_failure : OnOk result (R.failed new ≡ false)
     pub has_failed : OnErr result (R.failed new ≡ true)
@@ -251,8 +251,8 @@ module _ {D : Type 0} (R : Reader D) where
     pub too_deep : result ≡ Err Depth → R.depth_left old ≡ 0
     pub depth_first : NeedsDepth old result
 
-  -- A call that closes a scope gives it back.
-  pub record ClosesScope {V : Type 0} (old new : D) (result : Result V DecodeError) : Type 0 where
+  -- The same of a call that closes a scope, and gives one back.
+  pub record GivesDepthBack {V : Type 0} (old new : D) (result : Result V DecodeError) : Type 0 where
     pub one_more : OnOk result (R.depth_left new ≡ suc (R.depth_left old))
     pub no_failure : OnOk result (R.failed new ≡ false)
     pub has_failed : OnErr result (R.failed new ≡ true)

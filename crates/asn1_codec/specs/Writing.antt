@@ -27,12 +27,12 @@ pub data SameWritten : Written → Written → Type 0 where
   same_group : (table : Table Line) {rs ss : List Record} {w x : Written} → SameRecords rs ss →
       SameWritten w x → SameWritten (in_group table rs w) (in_group table ss x)
 
--- the error has a message of the codec's own: the records were rejected
-abbrev pub IsCustom : EncodeError → Type 0
-IsCustom Memory = ⊥
-IsCustom Depth = ⊥
-IsCustom Failed = ⊥
-IsCustom (Custom message) = ⊤
+-- The error says that the codec rejects the records, by a message of its own.
+abbrev pub IsRejection : EncodeError → Type 0
+IsRejection Memory = ⊥
+IsRejection Depth = ⊥
+IsRejection Failed = ⊥
+IsRejection (Custom message) = ⊤
 
 -- What an encoder says of itself: what it has written, whether it has failed, how many nested
 -- scopes may still be opened (the depth left), and which records it rejects.
@@ -73,7 +73,7 @@ module _ {E : Type 0} (W : Writer E) where
   pub record Fails (old : E) (rs : List Record) (new : E) (e : EncodeError) : Type 0 where
     pub error : IsError old new e
     pub too_deep : e ≡ Depth → W.depth_left old < highest rs
-    pub rejected : IsCustom e → (w : Written) → W.wrote old w → W.rejects rs
+    pub rejected : IsRejection e → (w : Written) → W.wrote old w → W.rejects rs
 
   -- a call that writes records
   abbrev pub Writes : {A : Type 0} → E → List Record → Type 0 → E → Result A EncodeError → Type 0
@@ -82,7 +82,7 @@ module _ {E : Type 0} (W : Writer E) where
   -- A scope has been opened, which takes one from the depth left.
   pub record ScopeIsOpen (old : E) (h : Head) (new : E) : Type 0 where
     pub opened : (w : Written) → W.wrote old w → W.wrote new (in_scope h [] w)
-    pub had_not_failed : W.failed old ≡ false
+    pub no_failure_before : W.failed old ≡ false
     pub no_failure : W.failed new ≡ false
     pub one_less : W.depth_left old ≡ suc (W.depth_left new)
 
@@ -92,21 +92,23 @@ module _ {E : Type 0} (W : Writer E) where
     pub error : IsError old new e
     pub too_deep : e ≡ Depth → W.depth_left old ≡ 0
     pub depth_first : W.failed old ≡ false → W.depth_left old ≡ 0 → e ≡ Depth
-    pub rejected : IsCustom e → (rs : List Record) → W.rejects (holding h rs ∷ [])
+    pub rejected : IsRejection e → (rs : List Record) → W.rejects (holding h rs ∷ [])
 
   -- A call that opens a scope before anything else: where no depth is left it says so, and so
   -- before anything but that the encoder has failed.
   abbrev pub NeedsDepth : {A : Type 0} → E → Result A EncodeError → Type 0
   NeedsDepth old result = W.failed old ≡ false → W.depth_left old ≡ 0 → result ≡ Err Depth
 
-  -- a call that opens a scope
-  abbrev pub OpensScope : {A : Type 0} → E → Head → E → Result A EncodeError → Type 0
-  OpensScope old h new result = MatchResult result (λ _. ScopeIsOpen old h new) (ScopeIsNotOpen old h new)
+  -- A call that opens a scope for a record of this head, and takes one from the depth left. It says
+  -- what has been written then, the depth left, and whether the encoder has failed, whatever had
+  -- been written before.
+  abbrev pub WritesHead : {A : Type 0} → E → Head → E → Result A EncodeError → Type 0
+  WritesHead old h new result = MatchResult result (λ _. ScopeIsOpen old h new) (ScopeIsNotOpen old h new)
 
   -- The innermost scope has been closed, and is a record. The depth left is one more again.
   pub record ScopeIsClosed (old new : E) : Type 0 where
     pub closed : (h : Head) (rs : List Record) (w : Written) → W.wrote old (in_scope h rs w) → W.wrote new (followed_by w (holding h rs ∷ []))
-    pub had_not_failed : W.failed old ≡ false
+    pub no_failure_before : W.failed old ≡ false
     pub no_failure : W.failed new ≡ false
     pub one_more : W.depth_left new ≡ suc (W.depth_left old)
 
@@ -114,16 +116,16 @@ module _ {E : Type 0} (W : Writer E) where
   pub record ScopeIsNotClosed (old new : E) (e : EncodeError) : Type 0 where
     pub error : IsError old new e
     pub not_too_deep : e ≢ Depth
-    pub rejected : IsCustom e → (h : Head) (rs : List Record) (w : Written) → W.wrote old (in_scope h rs w) → W.rejects (holding h rs ∷ [])
+    pub rejected : IsRejection e → (h : Head) (rs : List Record) (w : Written) → W.wrote old (in_scope h rs w) → W.rejects (holding h rs ∷ [])
 
-  -- a call that closes the innermost scope
-  abbrev pub ClosesScope : {A : Type 0} → E → E → Result A EncodeError → Type 0
-  ClosesScope old new result = MatchResult result (λ _. ScopeIsClosed old new) (ScopeIsNotClosed old new)
+  -- a call that closes the innermost scope, and gives one back to the depth left
+  abbrev pub WritesEnd : {A : Type 0} → E → E → Result A EncodeError → Type 0
+  WritesEnd old new result = MatchResult result (λ _. ScopeIsClosed old new) (ScopeIsNotClosed old new)
 
   -- A group of additions of this table has been opened, which is no scope.
   pub record GroupIsOpen (old : E) (table : Table Line) (new : E) : Type 0 where
     pub opened : (w : Written) → W.wrote old w → W.wrote new (in_group table [] w)
-    pub had_not_failed : W.failed old ≡ false
+    pub no_failure_before : W.failed old ≡ false
     pub no_failure : W.failed new ≡ false
     pub same_depth : W.depth_left new ≡ W.depth_left old
 
@@ -131,7 +133,7 @@ module _ {E : Type 0} (W : Writer E) where
   pub record GroupIsNotOpen (old new : E) (e : EncodeError) : Type 0 where
     pub error : IsError old new e
     pub not_too_deep : e ≢ Depth
-    pub not_rejected : ¬ IsCustom e
+    pub not_rejected : ¬ IsRejection e
 
   -- a call that opens a group
   abbrev pub OpensGroup : {A : Type 0} → E → Table Line → E → Result A EncodeError → Type 0
@@ -143,7 +145,7 @@ module _ {E : Type 0} (W : Writer E) where
     pub closed : (table : Table Line) (rs : List Record) (w : Written) →
         W.wrote old (in_group table rs w) →
         W.wrote new (followed_by w (group_records table (Some rs)))
-    pub had_not_failed : W.failed old ≡ false
+    pub no_failure_before : W.failed old ≡ false
     pub no_failure : W.failed new ≡ false
     pub same_depth : W.depth_left new ≡ W.depth_left old
 
@@ -151,7 +153,7 @@ module _ {E : Type 0} (W : Writer E) where
   pub record GroupIsNotClosed (old new : E) (e : EncodeError) : Type 0 where
     pub error : IsError old new e
     pub not_too_deep : e ≢ Depth
-    pub rejected : IsCustom e → (table : Table Line) (rs : List Record) (w : Written) →
+    pub rejected : IsRejection e → (table : Table Line) (rs : List Record) (w : Written) →
         W.wrote old (in_group table rs w) → W.rejects (group_records table (Some rs))
 
   -- a call that closes the innermost group

@@ -10,6 +10,7 @@ use std::alloc::AllocError;
 ///
 /// It takes a closure so that its contract can name what the reading left. By the contract of a type, an error of its own reading
 /// may be one of memory too, so the contract of a box's reading cannot tell the two apart.
+#[inline(always)]
 pub(crate) fn read_boxed<
     T: Drop,
     E: From<AllocError> + Drop,

@@ -11,6 +11,7 @@ use asn1_codec::DecodeError;
 use asn1_tags::Tag;
 
 /// A CHOICE after an explicit tag, under its own constraints.
+#[inline(always)]
 fn read_after_tag<T: DecodeChoice, D: Decoder>(decoder: &mut D, tag: Tag) -> Result<T, DecodeError>
     ensures read { ReadsAfterTag D.reader tag T.meaning.constraints T.meaning.name T.alternatives
         T.pick T.eq decoder.old decoder.new result }
@@ -28,6 +29,7 @@ fn read_after_tag<T: DecodeChoice, D: Decoder>(decoder: &mut D, tag: Tag) -> Res
 
 /// A CHOICE under a tag: untagged under the CHOICE marker tag; under any other, after that tag, with its own constraints inside
 /// (X.680, 31.2.7).
+#[inline(always)]
 pub(crate) fn read_choice<T: DecodeChoice + ChoiceType, D: Decoder>(
     decoder: &mut D,
     tag: Tag,

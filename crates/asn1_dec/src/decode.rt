@@ -55,6 +55,7 @@ pub trait Decode: AsnType + Eq + Sized + Drop {
 
     /// Reads a value under the type's own tag and constraints. Where there is no memory for these, the error is
     /// [`DecodeError::Memory`].
+    #[inline(always)]
     final fn decode<D: Decoder>(decoder: &mut D) -> Result<Self, DecodeError>
         ensures read { ReadsValue D.reader Self.meaning Self.eq Self.meaning.tag
             Self.meaning.constraints decoder.old decoder.new result }
@@ -69,6 +70,7 @@ pub trait Decode: AsnType + Eq + Sized + Drop {
     }
 
     /// Reads a value under a tag.
+    #[inline(always)]
     final fn decode_with_tag<D: Decoder>(decoder: &mut D, tag: Tag) -> Result<Self, DecodeError>
         ensures read { ReadsValue D.reader Self.meaning Self.eq tag Self.meaning.constraints
             decoder.old decoder.new result }
@@ -82,6 +84,7 @@ pub trait Decode: AsnType + Eq + Sized + Drop {
     }
 
     /// Reads a value under constraints.
+    #[inline(always)]
     final fn decode_with_constraints<D: Decoder>(
         decoder: &mut D,
         constraints: &Constraints<'_>,

@@ -1,9 +1,10 @@
 //! SET types that are read.
 ghost use Rattle.asn1_components.specs.ComponentLists.{EachIsWellTagged};
 ghost use Rattle.asn1_components.specs.Components.{all_components};
+ghost use Rattle.asn1_codec.specs.DecodeErrors.{duplicate_field, reason};
 ghost use Rattle.asn1_codec.specs.declared.decode_error.DecodeError.TheVariants.{UnknownField};
 ghost use Rattle.asn1_codec.specs.SetParts.{EachFits, EachIsOneRecord, MakesValue, ReadsPart};
-ghost use Rattle.std.specs.Prelude.{◌≡◌, ◌≤◌, Err, OnOk, length, ℕ};
+ghost use Rattle.std.specs.Prelude.{◌≡◌, ◌≤◌, Err, IfErr, IsSome, None, OnErr, OnOk, Some, length, ℕ};
 
 use crate::decoder::Decoder;
 use asn1_codec::DecodeError;
@@ -53,4 +54,24 @@ pub trait DecodeSet: FieldTable + Eq + Sized + Drop {
     // The law: no component is a group.
     ghost one_record_each: { (v : Self) → EachIsWellTagged (all_components Self.components) →
         EachIsOneRecord (all_components Self.components) v };
+}
+
+/// Keeps a component that was read. Where it was read before, the error is [`DecodeError::DuplicateField`] with the name, and the
+/// slot is as it was.
+#[inline(always)]
+pub fn keep_once<T: Drop>(
+    slot: &mut Option<T>,
+    value: T,
+    name: &'static str,
+) -> Result<(), DecodeError>
+    ensures kept { OnOk result ((slot.old ≡ None) × (slot.new ≡ Some value)) }
+    ensures twice { IfErr result (λ error. IsSome slot.old ×
+        (reason error ≡ duplicate_field name.now)) }
+    ensures unchanged { OnErr result (slot.new ≡ slot.old) }
+{
+    if slot.is_some() {
+        return Err(DecodeError::DuplicateField(name));
+    }
+    *slot = Some(value);
+    Ok(())
 }

@@ -3,7 +3,7 @@ ghost use Rattle.asn1_components.specs.ComponentLists.{trees_of};
 ghost use Rattle.asn1_components.specs.Components.{all_components, is_sequence, is_set, lines};
 ghost use Rattle.asn1_codec.specs.Defaults.{MayAnswer};
 ghost use Rattle.asn1_codec.specs.GivenTypes.{as_it_is, given, given_after_tag, with_constraints, with_tag};
-ghost use Rattle.asn1_codec.specs.Reading.{ClosesScope, IsLawful, KeepsDepth, NeedsDepth, OpensNothing, OpensScope, Reader, ReadsEnd, ReadsHead, ReadsHeadOfSet, ReadsMark, ReadsValue, TellsMore, TellsNextTag, TellsPresence, records_in};
+ghost use Rattle.asn1_codec.specs.Reading.{GivesDepthBack, IsLawful, KeepsDepth, NeedsDepth, OpensNothing, TakesDepth, Reader, ReadsEnd, ReadsHead, ReadsHeadOfSet, ReadsMark, ReadsValue, TellsMore, TellsNextTag, TellsPresence, records_in};
 ghost use Rattle.asn1_codec.specs.ReadingTypes.{Reads, ReadsChoice, ReadsComponents, ReadsContent, ReadsDefault, ReadsElements, ReadsGroup, ReadsHeadOfChoice, ReadsOpenType, ReadsOptional};
 ghost use Rattle.asn1_codec.specs.SetParts.{CanBeInSet};
 ghost use Rattle.asn1_enumerations.specs.Enumerations.{number_of};
@@ -22,7 +22,7 @@ ghost use Rattle.std.specs.String.{string_bytes};
 use crate::choices::read_choice;
 use crate::decode::{Decode, DecodeChoice, DecodeFields};
 use crate::decode_set::DecodeSet;
-use crate::defaults::{or_default, read_default};
+use crate::defaults::{or_make_default, read_default};
 use crate::elements::read_elements;
 use crate::explicit_tags::read_after_explicit_tag;
 use crate::optionals::{read_optional, read_optional_after_tag};
@@ -159,14 +159,14 @@ pub trait Decoder: Sized {
     fn open_sequence<C: FieldTable>(&mut self, tag: Tag) -> Result<(), DecodeError>
         ensures read { ReadsHead reader self.old self.new (sequence tag (lines C.components))
             (λ _ _. ⊤) result }
-        ensures opens_scope { OpensScope reader self.old self.new result };
+        ensures takes_depth { TakesDepth reader self.old self.new result };
 
     /// Opens a SET, whose components are those of the table of `C`, and come in any order. Answers a bound on the number of its
     /// records.
     fn open_set<C: FieldTable>(&mut self, tag: Tag) -> Result<usize, DecodeError>
         ensures read { ReadsHeadOfSet reader self.old self.new (set tag (lines C.components))
             (λ items bound. records_in items ≤ bound) result }
-        ensures opens_scope { OpensScope reader self.old self.new result };
+        ensures takes_depth { TakesDepth reader self.old self.new result };
 
     /// A tag of the component of the next record of a SET, if one is left. Presence marks before it are passed over. It is asked
     /// inside a SET that was opened by the table of `C`, whose components can be told apart.
@@ -185,25 +185,25 @@ pub trait Decoder: Sized {
         ensures read { ReadsHead reader self.old self.new
             (sequence_of tag (constraint_set constraints.now))
             (λ items bound. records_in items ≤ bound) result }
-        ensures opens_scope { OpensScope reader self.old self.new result };
+        ensures takes_depth { TakesDepth reader self.old self.new result };
 
     /// Opens a SET OF, whose elements come in any order, and answers a bound on their number.
     fn open_set_of(&mut self, tag: Tag, constraints: &Constraints<'_>) -> Result<usize, DecodeError>
         ensures read { ReadsHeadOfSet reader self.old self.new
             (set_of tag (constraint_set constraints.now)) (λ items bound. records_in items ≤ bound)
             result }
-        ensures opens_scope { OpensScope reader self.old self.new result };
+        ensures takes_depth { TakesDepth reader self.old self.new result };
 
     /// Opens what follows an explicit tag.
     fn open_explicit_prefix(&mut self, tag: Tag) -> Result<(), DecodeError>
         ensures read { ReadsHead reader self.old self.new (explicit_tag tag) (λ _ _. ⊤) result }
-        ensures opens_scope { OpensScope reader self.old self.new result };
+        ensures takes_depth { TakesDepth reader self.old self.new result };
 
     /// Opens a CHOICE, whose alternatives are those of `T`, which can be told apart, and answers a tag of the chosen one.
     fn open_choice<T: Choice>(&mut self, constraints: &Constraints<'_>) -> Result<Tag, DecodeError>
         ensures read { ReadsHeadOfChoice reader (constraint_set constraints.now) T.alternatives
             self.old self.new result }
-        ensures opens_scope { OpensScope reader self.old self.new result };
+        ensures takes_depth { TakesDepth reader self.old self.new result };
 
     /// Whether a record is left in the innermost scope. Reads nothing. It is asked inside a scope: at the outermost list a codec
     /// need not know whether all was read.
@@ -214,7 +214,7 @@ pub trait Decoder: Sized {
     /// Closes the innermost scope, of which all was read.
     fn close(&mut self) -> Result<(), DecodeError>
         ensures read { ReadsEnd reader self.old self.new result }
-        ensures closes_scope { ClosesScope reader self.old self.new result };
+        ensures gives_depth_back { GivesDepthBack reader self.old self.new result };
 
     // The law of a codec.
     ghost lawful: { IsLawful reader };
@@ -377,6 +377,7 @@ pub trait Decoder: Sized {
     }
 
     /// A value after an explicit tag.
+    #[inline(always)]
     final fn decode_explicit_prefix<T: Decode>(&mut self, tag: Tag) -> Result<T, DecodeError>
         ensures read { Reads reader (given_after_tag tag T.meaning.constraints T.meaning) T.eq
             self.old self.new result }
@@ -387,6 +388,7 @@ pub trait Decoder: Sized {
     }
 
     /// The same as `decode_explicit_prefix`, with constraints of the value.
+    #[inline(always)]
     final fn decode_explicit_prefix_with_constraints<T: Decode>(
         &mut self,
         tag: Tag,
@@ -401,6 +403,7 @@ pub trait Decoder: Sized {
     }
 
     /// A SEQUENCE OF, by its elements.
+    #[inline(always)]
     final fn decode_sequence_of<T: Decode>(
         &mut self,
         tag: Tag,
@@ -418,6 +421,7 @@ pub trait Decoder: Sized {
     }
 
     /// A component that may be absent.
+    #[inline(always)]
     final fn decode_optional<T: Decode>(&mut self) -> Result<Option<T>, DecodeError>
         ensures read { ReadsOptional reader in_root (as_it_is T.meaning) T.eq
             self.old self.new result }
@@ -427,6 +431,7 @@ pub trait Decoder: Sized {
     }
 
     /// The same as `decode_optional`, under a tag.
+    #[inline(always)]
     final fn decode_optional_with_tag<T: Decode>(
         &mut self,
         tag: Tag,
@@ -439,6 +444,7 @@ pub trait Decoder: Sized {
     }
 
     /// The same as `decode_optional`, under constraints.
+    #[inline(always)]
     final fn decode_optional_with_constraints<T: Decode>(
         &mut self,
         constraints: &Constraints<'_>,
@@ -452,6 +458,7 @@ pub trait Decoder: Sized {
     }
 
     /// The same as `decode_optional`, under a tag and constraints.
+    #[inline(always)]
     final fn decode_optional_with_tag_and_constraints<T: Decode>(
         &mut self,
         tag: Tag,
@@ -465,6 +472,7 @@ pub trait Decoder: Sized {
     }
 
     /// The same as `decode_optional`, after an explicit tag.
+    #[inline(always)]
     final fn decode_optional_with_explicit_prefix<T: Decode>(
         &mut self,
         tag: Tag,
@@ -477,6 +485,7 @@ pub trait Decoder: Sized {
     }
 
     /// An addition, which may be absent.
+    #[inline(always)]
     final fn decode_extension_addition<T: Decode>(&mut self) -> Result<Option<T>, DecodeError>
         ensures read { ReadsOptional reader in_additions (as_it_is T.meaning) T.eq
             self.old self.new result }
@@ -486,6 +495,7 @@ pub trait Decoder: Sized {
     }
 
     /// The same as `decode_extension_addition`, under a tag.
+    #[inline(always)]
     final fn decode_extension_addition_with_tag<T: Decode>(
         &mut self,
         tag: Tag,
@@ -498,6 +508,7 @@ pub trait Decoder: Sized {
     }
 
     /// The same as `decode_extension_addition`, under constraints.
+    #[inline(always)]
     final fn decode_extension_addition_with_constraints<T: Decode>(
         &mut self,
         constraints: &Constraints<'_>,
@@ -511,6 +522,7 @@ pub trait Decoder: Sized {
     }
 
     /// The same as `decode_extension_addition`, under a tag and constraints.
+    #[inline(always)]
     final fn decode_extension_addition_with_tag_and_constraints<T: Decode>(
         &mut self,
         tag: Tag,
@@ -524,6 +536,7 @@ pub trait Decoder: Sized {
     }
 
     /// The same as `decode_extension_addition`, after an explicit tag, with constraints of the value.
+    #[inline(always)]
     final fn decode_extension_addition_with_explicit_tag_and_constraints<T: Decode>(
         &mut self,
         tag: Tag,
@@ -605,7 +618,7 @@ pub trait Decoder: Sized {
         ensures keeps_depth { KeepsDepth reader self.old self.new result }
     {
         let value = self.decode_optional_with_explicit_prefix(tag)?;
-        or_default(self, value, default)
+        or_make_default(self, value, default)
     }
 
     /// An addition with a default, which is what the closure answers where the addition is absent.
@@ -664,6 +677,7 @@ pub trait Decoder: Sized {
 
     /// A group of additions, which may be absent. One that is there writes a component. What follows it begins with no tag of its
     /// components.
+    #[inline(always)]
     final fn decode_extension_addition_group<C: DecodeFields>(
         &mut self,
     ) -> Result<Option<C>, DecodeError>
@@ -682,6 +696,7 @@ pub trait Decoder: Sized {
     }
 
     /// A SEQUENCE, by its components. Of a type that is one it reads a value of the type, under whatever constraints.
+    #[inline(always)]
     final fn decode_sequence<C: DecodeFields + ConstructedType>(
         &mut self,
         tag: Tag,
@@ -697,6 +712,7 @@ pub trait Decoder: Sized {
     }
 
     /// A CHOICE that has no tag of its own, by its chosen alternative.
+    #[inline(always)]
     final fn decode_choice<T: DecodeChoice>(
         &mut self,
         constraints: &Constraints<'_>,
@@ -717,6 +733,7 @@ pub trait Decoder: Sized {
 
     /// A CHOICE under a tag: the same as `decode_choice` under the CHOICE marker tag; under any other, after that tag, with its own
     /// constraints inside (X.680, 31.2.7).
+    #[inline(always)]
     final fn decode_choice_with_tag<T: DecodeChoice + ChoiceType>(
         &mut self,
         tag: Tag,
@@ -731,6 +748,7 @@ pub trait Decoder: Sized {
     }
 
     /// A SET OF, by its elements, in whatever order they come.
+    #[inline(always)]
     final fn decode_set_of<T: Decode>(
         &mut self,
         tag: Tag,
@@ -746,6 +764,7 @@ pub trait Decoder: Sized {
 
     /// A SET, by its components, in whatever order they come. Of a type that is one it reads a value of the type, under whatever
     /// constraints. A record whose tag no component has is refused with [`DecodeError::UnknownField`], by its place.
+    #[inline(always)]
     final fn decode_set<S: DecodeSet + ConstructedType>(
         &mut self,
         tag: Tag,

@@ -1,12 +1,10 @@
 //! A component that is absent where it equals a default.
 ghost use Rattle.asn1_codec.specs.Defaults.{MayAnswer};
-ghost use Rattle.asn1_codec.specs.GivenTypes.{given};
+ghost use Rattle.asn1_codec.specs.GivenTypes.{constraints_or_own, given};
 ghost use Rattle.asn1_codec.specs.Reading.{KeepsDepth};
 ghost use Rattle.asn1_codec.specs.ReadingTypes.{ReadsDefault};
 ghost use Rattle.asn1_codec.specs.Sides.{side_of};
 ghost use Rattle.asn1_codec.specs.declared.decode_error.DecodeError.TheVariants.{Memory};
-ghost use Rattle.asn1_model.specs.ConstraintSets.{constraint_set};
-ghost use Rattle.std.specs.Option.{option_copied, option_map};
 ghost use Rattle.std.specs.Prelude.{◌≡◌, IfNone, IfSome, MatchResult, Ok, true, unwrap_or};
 
 use crate::decode::Decode;
@@ -19,7 +17,8 @@ use std::alloc::{AllocError, Global};
 
 /// The value that was read, or what the closure answers where there is none. Where it answers nothing, because memory ran out, the
 /// decoder has failed.
-pub(crate) fn or_default<T: Drop, D: Decoder, F: FnOnce(Global) -> Result<T, AllocError>>(
+#[inline(always)]
+pub(crate) fn or_make_default<T: Drop, D: Decoder, F: FnOnce(Global) -> Result<T, AllocError>>(
     decoder: &mut D,
     value: Option<T>,
     default: F,
@@ -40,6 +39,7 @@ pub(crate) fn or_default<T: Drop, D: Decoder, F: FnOnce(Global) -> Result<T, All
 }
 
 /// A component with a default, under a tag and constraints, or the type's own where they are not given.
+#[inline(always)]
 pub(crate) fn read_default<T: Decode, D: Decoder, F: FnOnce(Global) -> Result<T, AllocError>>(
     decoder: &mut D,
     side: Side,
@@ -49,11 +49,10 @@ pub(crate) fn read_default<T: Decode, D: Decoder, F: FnOnce(Global) -> Result<T,
 ) -> Result<T, DecodeError>
     requires { F.IsAlwaysCallable default }
     ensures read { ReadsDefault D.reader (side_of side) (given (unwrap_or tag T.meaning.tag)
-        (unwrap_or (option_map constraint_set (option_copied constraints.entry))
-        T.meaning.constraints) T.meaning) (MayAnswer F.FnOnce default) T.eq decoder.old decoder.new
-        result }
+        (constraints_or_own constraints.entry T.meaning) T.meaning) (MayAnswer F.FnOnce default)
+        T.eq decoder.old decoder.new result }
     ensures keeps_depth { KeepsDepth D.reader decoder.old decoder.new result }
 {
     let value = read_optional::<T, D>(decoder, side, tag, constraints)?;
-    or_default(decoder, value, default)
+    or_make_default(decoder, value, default)
 }

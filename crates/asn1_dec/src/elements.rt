@@ -8,6 +8,7 @@ use crate::decoder::Decoder;
 use asn1_codec::DecodeError;
 
 /// The elements that are left in the innermost scope, of which there are at most this many.
+#[inline(always)]
 pub(crate) fn read_elements<T: Decode, D: Decoder>(
     decoder: &mut D,
     bound: usize,

@@ -1,10 +1,7 @@
 //! A value after an explicit tag.
-ghost use Rattle.asn1_codec.specs.GivenTypes.{given_after_tag};
+ghost use Rattle.asn1_codec.specs.GivenTypes.{constraints_or_own, given_after_tag};
 ghost use Rattle.asn1_codec.specs.Reading.{KeepsDepth, NeedsDepth};
 ghost use Rattle.asn1_codec.specs.ReadingTypes.{Reads};
-ghost use Rattle.asn1_model.specs.ConstraintSets.{constraint_set};
-ghost use Rattle.std.specs.Option.{option_copied, option_map};
-ghost use Rattle.std.specs.Prelude.{unwrap_or};
 
 use crate::decode::Decode;
 use crate::decoder::Decoder;
@@ -14,14 +11,15 @@ use asn1_codec::DecodeError;
 use asn1_tags::Tag;
 
 /// A value after an explicit tag, under its type's own tag, and constraints, or the type's own where none are given.
+#[inline(always)]
 pub(crate) fn read_after_explicit_tag<T: Decode, D: Decoder>(
     decoder: &mut D,
     tag: Tag,
     constraints: Option<&Constraints<'_>>,
 ) -> Result<T, DecodeError>
     ensures read { Reads D.reader (given_after_tag tag
-        (unwrap_or (option_map constraint_set (option_copied constraints.entry))
-        T.meaning.constraints) T.meaning) T.eq decoder.old decoder.new result }
+        (constraints_or_own constraints.entry T.meaning) T.meaning) T.eq decoder.old decoder.new
+        result }
     ensures keeps_depth { KeepsDepth D.reader decoder.old decoder.new result }
     ensures depth_first { NeedsDepth D.reader decoder.old result }
 {

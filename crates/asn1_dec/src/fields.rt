@@ -9,6 +9,7 @@ use asn1_components::FieldTable;
 use asn1_tags::{Tag, TagTree};
 
 /// Whether a value with this tree can begin with the tag.
+#[inline(always)]
 fn can_begin_with(tree: TagTree<'static>, tag: Tag) -> bool
     ensures { IsTrue result ↔ Has (tree_tags (shape tree.entry)) tag }
 {
@@ -16,6 +17,7 @@ fn can_begin_with(tree: TagTree<'static>, tag: Tag) -> bool
 }
 
 /// The index of a component that can begin with the tag; `None` where there is none.
+#[inline(always)]
 pub fn component_with_tag<C: FieldTable>(tag: Tag) -> Option<usize>
     ensures { MatchOption result ((k : ℕ) → CanBeginWith (all_components C.components) k tag → ⊥)
         (λ k. CanBeginWith (all_components C.components) k tag) }

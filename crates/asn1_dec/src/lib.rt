@@ -29,9 +29,9 @@
 //!   number outside its limits, and a list of another length than the array's, are read, and refused after that by an error of
 //!   the type's own (`Refuses`, `specs/Refusals.antt`).
 //! - A decoder's call that fails makes the decoder failed, one that succeeds leaves it not failed, and a failed one answers
-//!   `Failed` (`KeepsDepth`). Of a codec's own calls, `Depth` comes only from opening a scope, if and only if no depth is left
-//!   (`OpensScope`), and before anything else but `Failed` (`depth_first`); opening takes one from the depth left, and closing gives
-//!   it back (`ClosesScope`).
+//!   `Failed` (`KeepsDepth`). Of a codec's own calls, `Depth` comes only from opening a scope, if and only if no depth is left,
+//!   and before anything else but `Failed` (`depth_first`); opening takes one from the depth left (`TakesDepth`), and closing
+//!   gives it back (`GivesDepthBack`).
 //! - An error of a type's entry point made the decoder failed, or is the type's own (`AfterReading`): then the decoder has not
 //!   failed, the depth left is as it was, and the decoder, if it was before the records of a valid value, is after them
 //!   (`HasReadPast`), or it is as it was, where there was no memory for the permitted alphabet of the type's own constraints
@@ -70,12 +70,10 @@ mod optionals;
 mod sequences;
 mod sets;
 mod sets_of;
-mod slots;
 mod values;
 
 pub use asn1_codec::{DecodeError, Needed};
 pub use decode::{Decode, DecodeChoice, DecodeFields};
-pub use decode_set::DecodeSet;
+pub use decode_set::{DecodeSet, keep_once};
 pub use decoder::Decoder;
 pub use fields::component_with_tag;
-pub use slots::keep_once;

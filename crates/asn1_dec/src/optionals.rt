@@ -1,13 +1,12 @@
 //! A component that may be absent, on either side of an extension marker.
-ghost use Rattle.asn1_codec.specs.GivenTypes.{given, given_after_tag};
+ghost use Rattle.asn1_codec.specs.GivenTypes.{constraints_or_own, given, given_after_tag};
 ghost use Rattle.asn1_codec.specs.Reading.{KeepsDepth, OpensNothing, TellsPresence};
 ghost use Rattle.asn1_codec.specs.ReadingTypes.{Reads, ReadsOptional};
 ghost use Rattle.asn1_codec.specs.Sides.{side_of};
-ghost use Rattle.asn1_model.specs.ConstraintSets.{constraint_set};
 ghost use Rattle.asn1_model.specs.Records.{absent, present};
 ghost use Rattle.asn1_model.specs.Tags.{tree_tags};
 ghost use Rattle.asn1_tags.specs.Trees.{shape};
-ghost use Rattle.std.specs.Option.{option_copied, option_eq, option_map};
+ghost use Rattle.std.specs.Option.{option_eq};
 ghost use Rattle.std.specs.Prelude.{◌≡◌, OnErr, OnOk, Some, true, unwrap_or};
 
 use crate::decode::Decode;
@@ -19,6 +18,7 @@ use asn1_codec::{DecodeError, Side};
 use asn1_tags::{Tag, TagTree};
 
 /// Whether the component is there that is written under this tag, and begins with a tag of the tree.
+#[inline(always)]
 fn is_there<D: Decoder>(
     decoder: &mut D,
     side: Side,
@@ -37,15 +37,15 @@ fn is_there<D: Decoder>(
 
 /// A value that is there, under a tag, and constraints, or the type's own where none are given. Where it is not read the decoder
 /// has failed.
+#[inline(always)]
 fn read_present<T: Decode, D: Decoder>(
     decoder: &mut D,
     tag: Tag,
     constraints: Option<&Constraints<'_>>,
 ) -> Result<Option<T>, DecodeError>
-    ensures read { Reads D.reader (given tag
-        (unwrap_or (option_map constraint_set (option_copied constraints.entry))
-        T.meaning.constraints) T.meaning) (λ w v. option_eq T.eq w (Some v)) decoder.old decoder.new
-        result }
+    ensures read { Reads D.reader
+        (given tag (constraints_or_own constraints.entry T.meaning) T.meaning)
+        (λ w v. option_eq T.eq w (Some v)) decoder.old decoder.new result }
     ensures same_depth { OnOk result
         (D.reader.depth_left decoder.new ≡ D.reader.depth_left decoder.old) }
     ensures failed_as_before { OnOk result (D.reader.failed decoder.new ≡ D.reader.failed decoder.old) }
@@ -58,6 +58,7 @@ fn read_present<T: Decode, D: Decoder>(
 }
 
 /// A component that may be absent, under a tag and constraints, or the type's own where they are not given.
+#[inline(always)]
 pub(crate) fn read_optional<T: Decode, D: Decoder>(
     decoder: &mut D,
     side: Side,
@@ -65,8 +66,8 @@ pub(crate) fn read_optional<T: Decode, D: Decoder>(
     constraints: Option<&Constraints<'_>>,
 ) -> Result<Option<T>, DecodeError>
     ensures read { ReadsOptional D.reader (side_of side) (given (unwrap_or tag T.meaning.tag)
-        (unwrap_or (option_map constraint_set (option_copied constraints.entry))
-        T.meaning.constraints) T.meaning) T.eq decoder.old decoder.new result }
+        (constraints_or_own constraints.entry T.meaning) T.meaning) T.eq decoder.old decoder.new
+        result }
     ensures keeps_depth { KeepsDepth D.reader decoder.old decoder.new result }
 {
     let table = T::table();
@@ -78,6 +79,7 @@ pub(crate) fn read_optional<T: Decode, D: Decoder>(
 }
 
 /// A component that may be absent, after an explicit tag, under constraints, or the type's own where none are given.
+#[inline(always)]
 pub(crate) fn read_optional_after_tag<T: Decode, D: Decoder>(
     decoder: &mut D,
     side: Side,
@@ -85,8 +87,8 @@ pub(crate) fn read_optional_after_tag<T: Decode, D: Decoder>(
     constraints: Option<&Constraints<'_>>,
 ) -> Result<Option<T>, DecodeError>
     ensures read { ReadsOptional D.reader (side_of side) (given_after_tag tag
-        (unwrap_or (option_map constraint_set (option_copied constraints.entry))
-        T.meaning.constraints) T.meaning) T.eq decoder.old decoder.new result }
+        (constraints_or_own constraints.entry T.meaning) T.meaning) T.eq decoder.old decoder.new
+        result }
     ensures keeps_depth { KeepsDepth D.reader decoder.old decoder.new result }
 {
     if !is_there(decoder, side, tag, TagTree::Leaf(tag))? {

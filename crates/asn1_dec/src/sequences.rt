@@ -9,6 +9,7 @@ use asn1_codec::DecodeError;
 use asn1_tags::Tag;
 
 /// A SEQUENCE under a tag.
+#[inline(always)]
 pub(crate) fn read_sequence<C: DecodeFields, D: Decoder>(
     decoder: &mut D,
     tag: Tag,

@@ -13,6 +13,7 @@ use asn1_components::ConstructedType;
 use asn1_tags::Tag;
 
 /// The components that are left in a SET, of which there are at most this many records.
+#[inline(always)]
 fn read_parts<S: DecodeSet, D: Decoder>(
     decoder: &mut D,
     bound: usize,
@@ -47,6 +48,7 @@ fn read_parts<S: DecodeSet, D: Decoder>(
 }
 
 /// A SET under a tag.
+#[inline(always)]
 fn read_components<S: DecodeSet, D: Decoder>(decoder: &mut D, tag: Tag) -> Result<S, DecodeError>
     ensures read { ReadsComponents D.reader is_set tag S.components S.eq
         decoder.old decoder.new result }
@@ -65,6 +67,7 @@ fn read_components<S: DecodeSet, D: Decoder>(decoder: &mut D, tag: Tag) -> Resul
 
 /// A SET, by its components, in whatever order they come. Of a type that is one it reads a value of the type, under whatever
 /// constraints. A record whose tag no component has is refused with [`DecodeError::UnknownField`], by its place.
+#[inline(always)]
 pub(crate) fn read_set<S: DecodeSet + ConstructedType, D: Decoder>(
     decoder: &mut D,
     tag: Tag,

@@ -13,6 +13,7 @@ use asn1_tags::Tag;
 use asn1_types::SetOf;
 
 /// A SET OF, by its elements, in whatever order they come.
+#[inline(always)]
 pub(crate) fn read_set_of<T: Decode, D: Decoder>(
     decoder: &mut D,
     tag: Tag,

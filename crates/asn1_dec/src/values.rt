@@ -1,8 +1,7 @@
 //! A value under what a call is given.
+ghost use Rattle.asn1_codec.specs.GivenTypes.{constraints_or_own};
 ghost use Rattle.asn1_codec.specs.Reading.{ReadsValue};
-ghost use Rattle.asn1_model.specs.ConstraintSets.{constraint_set};
-ghost use Rattle.std.specs.Option.{option_copied, option_map};
-ghost use Rattle.std.specs.Prelude.{◌≡◌, OnOk, unwrap_or};
+ghost use Rattle.std.specs.Prelude.{◌≡◌, OnOk};
 
 use crate::decode::Decode;
 use crate::decoder::Decoder;
@@ -11,14 +10,14 @@ use asn1_codec::DecodeError;
 use asn1_tags::Tag;
 
 /// A value under a tag, and constraints, or the type's own where none are given.
+#[inline(always)]
 pub(crate) fn read_value<T: Decode, D: Decoder>(
     decoder: &mut D,
     tag: Tag,
     constraints: Option<&Constraints<'_>>,
 ) -> Result<T, DecodeError>
     ensures read { ReadsValue D.reader T.meaning T.eq tag
-        (unwrap_or (option_map constraint_set (option_copied constraints.entry))
-        T.meaning.constraints) decoder.old decoder.new result }
+        (constraints_or_own constraints.entry T.meaning) decoder.old decoder.new result }
     ensures same_depth { OnOk result
         (D.reader.depth_left decoder.new ≡ D.reader.depth_left decoder.old) }
     ensures failed_as_before { OnOk result (D.reader.failed decoder.new ≡ D.reader.failed decoder.old) }

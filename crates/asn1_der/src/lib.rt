@@ -4,6 +4,7 @@
 //! |---|---|
 //! | [`DerRules`] | the codec |
 //! | [`DerReader`] | reads values one after another from DER |
+//! | [`canonical`] | that records without a SET have one output |
 //! | [`laws`] | what the codec and its reader come to, and what the derives give |
 //!
 //! What the contracts promise, and the words that they use:
@@ -13,9 +14,12 @@
 //!   are rejected that have no DER, and no others.
 //! - [`DerReader`] is steady and belongs to these rules, so that values come out of a stream in the order in which they were
 //!   written, however the bytes are cut (`round_trip_in_pieces` of `asn1_streams`).
+//! - Records without a SET have one output (`output_is_unique`): what was read is written again as the same bytes, where it has
+//!   the same records.
 //! - About bytes that are not the DER of a value nothing is promised; tests try such bytes.
 #![tactic(auto)]
 
+pub mod canonical;
 pub mod laws;
 mod reader;
 mod rules;

@@ -24,10 +24,8 @@ pub struct DerReader {
 impl DerReader {
     ghost use Rattle.asn1_der_encoder.specs.Format.{Carries};
     ghost use Rattle.asn1_der_items.specs.Series.{is_one_element};
-    ghost use Rattle.asn1_model.specs.Meaning.{IsWellTagged, own_records};
-    ghost use Rattle.asn1_model.specs.Records.{highest};
-    ghost use Rattle.asn1_rules.specs.Rules.{ReadsWhole};
-    ghost use Rattle.std.specs.Prelude.{◌≡◌, true};
+    ghost use Rattle.asn1_rules.specs.Rules.{ReadsCarried};
+    ghost use Rattle.std.specs.Prelude.{◌≡◌};
 
     /// A reader that may open this many nested scopes, with the allocator that values are made by.
     pub fn new(alloc: Global, depth: usize) -> DerReader
@@ -39,11 +37,8 @@ impl DerReader {
 
     /// Reads the value whose bytes these are.
     fn read<D: Decode>(&self, bytes: &[u8]) -> Result<D, DecodeError>
-        ensures { (v : D) → IsWellTagged D.meaning → D.meaning.IsOfType v →
-            D.meaning.IsValid (λ own. is_one_element own) v →
-            Carries bytes.now (own_records D.meaning v) →
-            ReadsWhole (highest (own_records D.meaning v)) self.now.depth
-            (λ w. D.eq w v ≡ true) result }
+        ensures { ReadsCarried (λ own. is_one_element own) (Carries bytes.now) D.meaning D.eq
+            self.now.depth result }
     {
         let decoder = DerDecoder::new(self.alloc, bytes, self.depth);
         read_whole(decoder)

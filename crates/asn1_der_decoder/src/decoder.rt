@@ -34,25 +34,25 @@ pub struct DerDecoder<'a> {
 
 impl<'a> DerDecoder<'a> {
     ghost use Rattle.asn1_codec.specs.DecodeErrors.{custom, reason};
-    ghost use Rattle.asn1_codec.specs.Reading.{OpensNothing, OpensScope, ReadsHead, ReadsHeadOfSet, TellsPresence, records_in};
+    ghost use Rattle.asn1_codec.specs.Reading.{OpensNothing, TakesDepth, TellsPresence};
     ghost use Rattle.asn1_codec.specs.ReadingTypes.{ReadsContent};
     ghost use Rattle.asn1_codec.specs.declared.decode_error.DecodeError.TheVariants.{Failed};
     ghost use Rattle.asn1_der_records.specs.Bytes.{HaveDer};
     ghost use Rattle.asn1_der_items.specs.Series.{IsAlone};
     ghost use Rattle.asn1_der_records.specs.declared.form.ScopeForm.TheVariants.{AsDefined};
     ghost use Rattle.asn1_der_decoder.specs.Decoder.{AreLeft, IsTaken, IsWanted, Remains, der_reader, in_one_order};
-    ghost use Rattle.asn1_scopes.specs.Remaining.{OpensWanted};
+    ghost use Rattle.asn1_scopes.specs.Remaining.{IsWithinBound, OpensWanted, ReadsWantedHead, ReadsWantedSet};
     ghost use Rattle.asn1_der_items.specs.Contents.{HasOctetsOf};
     ghost use Rattle.asn1_der_items.specs.Elements.{Element};
     ghost use Rattle.asn1_items.specs.NextTags.{IsNext};
     ghost use Rattle.asn1_items.specs.Slices.{left_inside, left_outside};
     ghost use Rattle.asn1_model.specs.ConstraintSets.{ConstraintSet};
-    ghost use Rattle.asn1_model.specs.Orders.{SameRecords, is_unordered};
+    ghost use Rattle.asn1_model.specs.Orders.{SameRecords};
     ghost use Rattle.asn1_model.specs.Records as model;
-    ghost use Rattle.asn1_model.specs.Records.{Name, PresenceMark, held};
+    ghost use Rattle.asn1_model.specs.Records.{PresenceMark, held};
     ghost use Rattle.asn1_model.specs.Tags.{tree_tags};
     ghost use Rattle.asn1_tags.specs.Trees.{shape};
-    ghost use Rattle.std.specs.Prelude.{◌≡◌, ◌≢◌, ◌↔◌, ◌≤◌, ◌++◌, [], ⊤, Err, IfErr, IsOk, List, MatchResult, OnOk, Some, codes, false, ℕ, true};
+    ghost use Rattle.std.specs.Prelude.{◌≡◌, ◌≢◌, ◌↔◌, ◌++◌, [], ⊤, Err, IfErr, IsOk, List, MatchResult, OnOk, Some, codes, false, ℕ, true};
 
     /// A decoder that is before these bytes, and may open this many nested scopes.
     pub fn new(alloc: Global, bytes: &'a [u8], depth: usize) -> DerDecoder<'a>
@@ -159,7 +159,7 @@ impl<'a> DerDecoder<'a> {
     /// Opens a scope of this form, under this tag, where one is asked for.
     fn open(&mut self, form: ScopeForm, tag: Option<Tag>) -> Result<Opened, DecodeError>
         ensures read { OpensWanted in_one_order (IsWanted form tag) self.old self.new result }
-        ensures opens_scope { OpensScope der_reader self.old self.new result }
+        ensures takes_depth { TakesDepth der_reader self.old self.new result }
     {
         if self.scopes.failed {
             return Err(DecodeError::Failed);
@@ -179,11 +179,9 @@ impl<'a> DerDecoder<'a> {
 
     /// Opens a scope in which the order of the records means something.
     fn open_in_order(&mut self, tag: Tag) -> Result<(), DecodeError>
-        ensures read { (head : Name → model.Head) →
-            ((n : Name) → IsWanted AsDefined (Some tag) (head n)) →
-            ((n : Name) → is_unordered (head n) ≡ false) →
-            ReadsHead der_reader self.old self.new head (λ _ _. ⊤) result }
-        ensures opens_scope { OpensScope der_reader self.old self.new result }
+        ensures read { ReadsWantedHead der_reader (IsWanted AsDefined (Some tag)) (λ _ _. ⊤)
+            self.old self.new result }
+        ensures takes_depth { TakesDepth der_reader self.old self.new result }
     {
         self.open(ScopeForm::AsDefined, Some(tag))?;
         Ok(())
@@ -191,16 +189,11 @@ impl<'a> DerDecoder<'a> {
 
     /// Opens a list of elements or the components of a set, and answers how many bytes are in it.
     fn open_list(&mut self, form: ScopeForm, tag: Tag) -> Result<usize, DecodeError>
-        ensures read { (head : Name → model.Head) →
-            ((n : Name) → IsWanted form (Some tag) (head n)) →
-            ((n : Name) → is_unordered (head n) ≡ false) →
-            ReadsHead der_reader self.old self.new head (λ items bound. records_in items ≤ bound)
-            result }
-        ensures read_set { (head : Name → model.Head) →
-            ((n : Name) → IsWanted form (Some tag) (head n)) →
-            ReadsHeadOfSet der_reader self.old self.new head
-            (λ items bound. records_in items ≤ bound) result }
-        ensures opens_scope { OpensScope der_reader self.old self.new result }
+        ensures read { ReadsWantedHead der_reader (IsWanted form (Some tag)) IsWithinBound
+            self.old self.new result }
+        ensures read_set { ReadsWantedSet der_reader (IsWanted form (Some tag)) IsWithinBound
+            self.old self.new result }
+        ensures takes_depth { TakesDepth der_reader self.old self.new result }
     {
         let opened = self.open(form, Some(tag))?;
         Ok(opened.bound)
@@ -221,7 +214,7 @@ impl<'a> Decoder for DerDecoder<'a> {
     ghost use Rattle.asn1_bounds.specs.declared.codec.Codec.TheVariants.{Der};
     ghost use Rattle.asn1_codec.proofs.ReadingUpToOrder.{lawful};
     ghost use Rattle.asn1_der_decoder.specs.Decoder.{der_reader, in_one_order};
-    ghost use Rattle.std.specs.Prelude.{◌≡◌};
+    ghost use Rattle.std.specs.Prelude.{◌≡◌, true};
 
     ghost reader = { der_reader };
 
@@ -239,7 +232,11 @@ impl<'a> Decoder for DerDecoder<'a> {
         self.alloc
     }
 
-    fn refuse(&mut self, error: DecodeError) -> DecodeError {
+    fn refuse(&mut self, error: DecodeError) -> DecodeError
+        ensures same { result ≡ error }
+        ensures has_failed { self.new.scopes.failed ≡ true }
+        ensures same_depth { self.new.scopes.depth_left ≡ self.old.scopes.depth_left }
+    {
         self.scopes.fail(error)
     }
 

@@ -1,3 +1,4 @@
 pub mod Format
+pub mod Holding
 pub mod Sorting
 pub mod Written

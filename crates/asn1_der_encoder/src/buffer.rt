@@ -1,5 +1,5 @@
 //! The bytes of DER, as an encoder writes them.
-ghost use Rattle.asn1_buffers.specs.Kinds.{kind_of_scope};
+ghost use Rattle.asn1_buffers.specs.MarksAndScopes.{kind_of_scope};
 ghost use Rattle.asn1_buffers.specs.declared.error.WriteError.TheVariants.{Memory};
 ghost use Rattle.asn1_der_records.specs.Bytes.{form_of};
 ghost use Rattle.asn1_der_items.specs.declared.error.ElementError.TheVariants as element_error;
@@ -53,6 +53,7 @@ impl RecordBuffer for DerBuffer {
         self.bytes
     }
 
+    #[inline(always)]
     fn append_scalar(&mut self, tag: Tag, content: Content<'_>) -> Result<(), WriteError> {
         match append_primitive(&mut self.bytes, self.alloc, tag, content) {
             Ok(()) => Ok(()),
@@ -68,10 +69,12 @@ impl RecordBuffer for DerBuffer {
         Ok(())
     }
 
+    #[inline(always)]
     fn append_mark(&mut self, _kind: MarkKind) -> Result<(), WriteError> {
         Ok(())
     }
 
+    #[inline(always)]
     fn begin_scope(&mut self, kind: ScopeKind, tag: Tag) -> Result<(), WriteError> {
         let form = form_of(kind);
         begin(&mut self.bytes, form, tag)?;
@@ -82,6 +85,7 @@ impl RecordBuffer for DerBuffer {
         Ok(())
     }
 
+    #[inline(always)]
     fn end_scope(&mut self) -> Result<(), WriteError> {
         let Some(frame) = self.outer.pop() else {
             return Err(WriteError::Rejected("nothing is open"));
@@ -89,10 +93,12 @@ impl RecordBuffer for DerBuffer {
         hold(self.alloc, &mut self.bytes, frame)
     }
 
+    #[inline(always)]
     fn begin_group(&mut self) -> Result<(), WriteError> {
         Ok(())
     }
 
+    #[inline(always)]
     fn end_group(&mut self) -> Result<(), WriteError> {
         Ok(())
     }
@@ -101,6 +107,7 @@ impl RecordBuffer for DerBuffer {
 }
 
 /// In which form a scope of a kind holds what is inside.
+#[inline(always)]
 fn form_of(kind: ScopeKind) -> ScopeForm
     ensures { (h : Head) → kind_of_scope h ≡ kind → result ≡ form_of h }
 {
@@ -115,6 +122,7 @@ fn form_of(kind: ScopeKind) -> ScopeForm
 }
 
 /// The error, as an encoder is told it.
+#[cold]
 pub(crate) fn told(error: ElementError) -> WriteError
     ensures { (result ≡ Memory) ↔ (error ≡ element_error.Memory) }
 {

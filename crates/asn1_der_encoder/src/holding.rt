@@ -1,14 +1,9 @@
 //! What a scope holds, as a record when the scope ends.
-ghost use Rattle.asn1_buffers.specs.declared.error.WriteError.TheVariants.{Memory};
-ghost use Rattle.asn1_der_records.specs.Bytes.{HasNoDer, HaveDer, form_of};
-ghost use Rattle.asn1_der_encoder.specs.Sorting.{AreJoined, AreSorted};
-ghost use Rattle.asn1_der_encoder.specs.Written.{IsFront, IsHeld};
-ghost use Rattle.asn1_der_items.specs.Elements.{IsBegun, IsElement};
-ghost use Rattle.asn1_der_items.specs.Series.{HoldsContents, IsElementOf};
+ghost use Rattle.asn1_der_encoder.specs.Holding.{EndsAsWritten, EndsSorted, HoldsWhatIsInside};
+ghost use Rattle.asn1_der_encoder.specs.Written.{IsFront};
+ghost use Rattle.asn1_der_items.specs.Series.{IsElementOf};
 ghost use Rattle.asn1_items.specs.Numbers.{Appended};
-ghost use Rattle.asn1_model.specs.Records.{Head, Record, held, holding};
-ghost use Rattle.asn1_model.specs.Tags.{head_tag};
-ghost use Rattle.std.specs.Prelude.{◌≡◌, ◌≢◌, ◌++◌, IfOk, List, MatchResult, length, true, ℕ};
+ghost use Rattle.std.specs.Prelude.{◌≡◌, ◌++◌, IfOk, List, MatchResult, length, ℕ};
 
 use crate::buffer::told;
 use crate::elements::{bytes_from, is_element_of};
@@ -21,6 +16,7 @@ use asn1_tags::Tag;
 use std::alloc::{AllocError, Global};
 
 /// Appends what a scope begins with: the identifier of its element and an octet for its length, and of a CHOICE nothing.
+#[inline(always)]
 pub(crate) fn begin(bytes: &mut Vec<u8>, form: ScopeForm, tag: Tag) -> Result<(), AllocError>
     ensures { IfOk result (λ _.
         Appended (IsFront form tag) bytes.old.items bytes.new.items) }
@@ -40,12 +36,7 @@ pub(crate) fn begin(bytes: &mut Vec<u8>, form: ScopeForm, tag: Tag) -> Result<()
 /// [`WriteError::Memory`], and [`WriteError::Rejected`] where a CHOICE is not one element of its tag. After an error nothing is
 /// promised about the bytes.
 pub(crate) fn hold(alloc: Global, bytes: &mut Vec<u8>, frame: Frame) -> Result<(), WriteError>
-    ensures { (h : Head) (rs : List Record) (before front inside : List ℕ) →
-        bytes.old.items ≡ (before ++ front) ++ inside → frame.start ≡ length (before ++ front) →
-        IsFront frame.form frame.tag front →
-        frame.tag ≡ head_tag h → frame.form ≡ form_of h → HaveDer (held rs) inside →
-        MatchResult result (λ _. Appended (IsHeld h rs) before bytes.new.items)
-        (λ e. e ≢ Memory → HasNoDer (holding h rs)) }
+    ensures { HoldsWhatIsInside frame bytes.old.items bytes.new.items result }
 {
     match frame.form {
         ScopeForm::AsDefined => end_as_written(bytes, frame.start),
@@ -56,11 +47,9 @@ pub(crate) fn hold(alloc: Global, bytes: &mut Vec<u8>, frame: Frame) -> Result<(
 }
 
 /// Ends an element of the bytes from a place on.
+#[inline(always)]
 fn end_as_written(bytes: &mut Vec<u8>, start: usize) -> Result<(), WriteError>
-    ensures { (t : Tag) (before front inside : List ℕ) → IsBegun t true front →
-        bytes.old.items ≡ (before ++ front) ++ inside → start ≡ length (before ++ front) →
-        MatchResult result (λ _. Appended (IsElement t true inside) before bytes.new.items)
-        (λ e. e ≡ Memory) }
+    ensures { EndsAsWritten start bytes.old.items bytes.new.items result }
 {
     match end_element(bytes, start) {
         Ok(()) => Ok(()),
@@ -75,11 +64,7 @@ fn end_sorted(
     start: usize,
     order: Order,
 ) -> Result<(), WriteError>
-    ensures { (t : Tag) (before front inside : List ℕ) (elements : List (List ℕ)) →
-        IsBegun t true front → bytes.old.items ≡ (before ++ front) ++ inside →
-        start ≡ length (before ++ front) → AreJoined elements inside → MatchResult result
-        (λ _. Appended (HoldsContents (AreSorted order elements) t true) before bytes.new.items)
-        (λ e. e ≡ Memory) }
+    ensures { EndsSorted order start bytes.old.items bytes.new.items result }
 {
     sort_elements(alloc, bytes, start, order)?;
     end_as_written(bytes, start)

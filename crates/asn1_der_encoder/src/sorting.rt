@@ -1,8 +1,8 @@
 //! Elements in the orders that DER has inside sets.
 ghost use Rattle.asn1_buffers.specs.declared.error.WriteError.TheVariants.{Memory};
+ghost use Rattle.asn1_der_encoder.specs.Holding.{SortsElements};
 ghost use Rattle.asn1_der_encoder.specs.Sorting.{AreJoined, ArePieces, AreSorted, IsCutAs, key_of};
 ghost use Rattle.asn1_der_items.specs.Series.{is_one_element};
-ghost use Rattle.asn1_items.specs.Numbers.{Appended};
 ghost use Rattle.std.specs.List.{flat_map};
 ghost use Rattle.std.specs.Prelude.{◌≡◌, ◌++◌, ◌<◌, IfOk, IfSome, IsSomeAnd, IsTrue, List, MatchResult, length, ℕ};
 
@@ -46,10 +46,7 @@ pub(crate) fn sort_elements(
     start: usize,
     order: Order,
 ) -> Result<(), WriteError>
-    ensures { (before inside : List ℕ) (elements : List (List ℕ)) →
-        bytes.old.items ≡ before ++ inside → start ≡ length before → AreJoined elements inside →
-        MatchResult result (λ _. Appended (AreSorted order elements) before bytes.new.items)
-        (λ e. e ≡ Memory) }
+    ensures { SortsElements order start bytes.old.items bytes.new.items result }
 {
     let Some(inside) = bytes_from(bytes, start) else {
         return Err(WriteError::Rejected("nothing is open"));

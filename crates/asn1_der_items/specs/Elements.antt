@@ -1,10 +1,14 @@
 -- An element (X.690, 8.1.1): identifier octets, length octets and contents octets.
-use Rattle.std.specs.Prelude.{◌≡◌, ℕ, Bool, Option, None, Some, List, [], ◌∷◌, ◌++◌, length, nat_le, take, drop, if◌then◌else◌}
+use Rattle.std.specs.Prelude.{◌≡◌, ℕ, Bool, Result, MatchResult, Option, None, Some, List, [], ◌∷◌, ◌++◌, length, nat_le, take, drop, if◌then◌else◌}
 use Rattle.std.specs.Option.{option_and_then}
 use Rattle.asn1_tags.specs.declared.tags.Tag.{Tag}
 use Rattle.asn1_der_items.specs.Base128.{Front}
 use Rattle.asn1_der_items.specs.Identifiers.{Identified, IsIdentifier, identifier_at}
 use Rattle.asn1_der_items.specs.Lengths.{IsLength, length_at}
+use Rattle.asn1_der_items.specs.declared.elements.Element.{Element as Found}
+use Rattle.asn1_der_items.specs.declared.error.ElementError.{ElementError}
+use Rattle.asn1_der_items.specs.declared.error.ElementError.TheVariants.{Memory}
+use Rattle.asn1_items.specs.Numbers.{Appended}
 
 -- The bytes are one element of this tag and form, with these contents octets.
 pub record IsElement (t : Tag) (constructed : Bool) (contents bytes : List ℕ) : Type 0 where
@@ -28,6 +32,10 @@ pub record Element : Type 0 where
   pub contents : List ℕ
   pub rest : List ℕ
 
+-- the same of an element that the program found
+abbrev pub element_of : Found → Element
+element_of e = record { tag = e.tag; constructed = e.constructed; contents = e.contents.now; rest = e.rest.now }
+
 -- the element of this identifier, after its length
 abbrev pub of_length : Identified → Front → Option Element
 of_length i f = if nat_le f.number (length f.rest)
@@ -41,3 +49,17 @@ of_identifier i = option_and_then (of_length i) (length_at i.rest)
 -- the element with which the bytes begin
 abbrev pub element_at : List ℕ → Option Element
 element_at bytes = option_and_then of_identifier (identifier_at bytes)
+
+-- The bytes of an element are found as that element, whatever follows.
+abbrev pub ElementsAreFound : Type 0
+ElementsAreFound =
+    (t : Tag) (constructed : Bool) (contents own back : List ℕ) → IsElement t constructed contents own →
+    element_at (own ++ back) ≡ Some (record { tag = t; constructed = constructed; contents = contents; rest = back })
+
+-- A call that ends an element. Where it was begun, and its contents octets are the bytes from this place on, it is appended to
+-- what was in front of it.
+abbrev pub EndsElement : {V : Type 0} → ℕ → List ℕ → List ℕ → Result V ElementError → Type 0
+EndsElement start old new result =
+    (t : Tag) (constructed : Bool) (before front contents : List ℕ) → IsBegun t constructed front →
+    old ≡ (before ++ front) ++ contents → start ≡ length (before ++ front) →
+    MatchResult result (λ _. Appended (IsElement t constructed contents) before new) (λ e. e ≡ Memory)

@@ -2,11 +2,18 @@
 use Rattle.std.specs.Prelude.{◌≡◌, ◌≢◌, ℕ, ℤ, pos, neg_ℤ, ◌+◌, ◌-◌, ◌*◌, ◌/◌, ◌%◌, ◌^◌, ⊤, List, [], ◌∷◌, length, nat_lt, if◌then◌else◌}
 use Rattle.asn1_values.specs.Numbers.{magnitude}
 
--- the number of some octets in two's complement: where bit 8 of the first is 1, it is less by 256 to the number of octets
--- (8.3.3)
+-- the number below 0 of these digits
+abbrev pub below_zero : List ℕ → ℤ
+below_zero digits = neg_ℤ (pos (magnitude digits))
+
+-- the number of some octets of which bit 8 of the first is 1: it is less by 256 to the number of octets (8.3.3)
+abbrev pub negative_value : List ℕ → ℤ
+negative_value octets = neg_ℤ (pos (256 ^ length octets - magnitude octets))
+
+-- the number of some octets in two's complement
 abbrev pub twos_complement : List ℕ → ℤ
 twos_complement [] = pos 0
-twos_complement (o ∷ octets) = if nat_lt o 128 then pos (magnitude (o ∷ octets)) else neg_ℤ (pos (256 ^ length (o ∷ octets) - magnitude (o ∷ octets)))
+twos_complement (o ∷ octets) = if nat_lt o 128 then pos (magnitude (o ∷ octets)) else negative_value (o ∷ octets)
 
 -- the bits of an octet, and bit 8 of the next
 abbrev pub first_nine_bits : ℕ → ℕ → ℕ

@@ -1,7 +1,10 @@
 -- The length octets of an element (X.690, 8.1.3 and 10.1): definite, and as few as there can be.
-use Rattle.std.specs.Prelude.{◌≡◌, ◌⊎◌, ℕ, ◌+◌, ◌-◌, ◌<◌, ◌≤◌, ◌^◌, Bool, false, ◌&&◌, Option, None, Some, List, [], ◌∷◌, ◌++◌, length, nat_le, nat_lt, take, drop, if◌then◌else◌}
+use Rattle.std.specs.Prelude.{◌≡◌, ◌⊎◌, ℕ, ◌+◌, ◌-◌, ◌<◌, ◌≤◌, ◌^◌, Bool, false, ◌&&◌, Result, MatchResult, Option, None, Some, List, [], ◌∷◌, ◌++◌, suc, length, nat_le, nat_lt, take, drop, if◌then◌else◌}
 use Rattle.asn1_values.specs.Numbers.{IsMagnitude, magnitude}
 use Rattle.asn1_der_items.specs.Base128.{Front}
+use Rattle.asn1_der_items.specs.declared.error.ElementError.{ElementError}
+use Rattle.asn1_der_items.specs.declared.error.ElementError.TheVariants.{Memory}
+use Rattle.asn1_items.specs.Numbers.{Appended}
 
 -- A length below 128 is one octet (8.1.3.4).
 pub record IsShortLength (size : ℕ) (octets : List ℕ) : Type 0 where
@@ -27,6 +30,12 @@ pub record IsMeasured (contents bytes : List ℕ) : Type 0 where
   pub size : List ℕ
   pub is_size : IsLength (length contents) size
   pub are : bytes ≡ size ++ contents
+
+-- A call that writes the length of the bytes from this place on in front of them, over the byte before that place.
+abbrev pub WritesLength : {V : Type 0} → ℕ → List ℕ → List ℕ → Result V ElementError → Type 0
+WritesLength start old new result =
+    (before contents : List ℕ) (room : ℕ) → old ≡ before ++ room ∷ contents → start ≡ suc (length before) →
+    MatchResult result (λ _. Appended (IsMeasured contents) before new) (λ e. e ≡ Memory)
 
 -- whether there is a first digit, and it is not 0
 abbrev pub begins_with_digit : List ℕ → Bool

@@ -14,6 +14,7 @@ pub(crate) struct Front<'a> {
 }
 
 /// Appends a number to the base 128.
+#[inline(always)]
 pub(crate) fn append_base128(bytes: &mut Vec<u8>, number: u64) -> Result<(), AllocError>
     ensures { IfOk result (λ _. Appended (IsBase128 number) bytes.old.items bytes.new.items) }
 {
@@ -27,6 +28,7 @@ pub(crate) fn append_base128(bytes: &mut Vec<u8>, number: u64) -> Result<(), All
 }
 
 /// Appends the digits of a number that is not 0 to the base 128, each with bit 8 set.
+#[inline(never)]
 fn append_leading(bytes: &mut Vec<u8>, number: u64) -> Result<(), AllocError>
     ensures { 0 < number → IfOk result (λ _.
         Appended (AreLeading number) bytes.old.items bytes.new.items) }

@@ -19,6 +19,7 @@ use std::alloc::Global;
 /// # Errors
 /// [`ElementError::Memory`], after which there may be some of them; and [`ElementError::NoSuchArcs`] and [`ElementError::WideUnit`]
 /// for a content that has none.
+#[inline(always)]
 pub fn append_contents(
     bytes: &mut Vec<u8>,
     alloc: Global,
@@ -39,6 +40,7 @@ pub fn append_contents(
 }
 
 /// The octet of a BOOLEAN.
+#[inline(always)]
 fn octet_of(value: bool) -> u8
     ensures { result ≡ (if value then 255 else 0) }
 {
@@ -46,6 +48,7 @@ fn octet_of(value: bool) -> u8
 }
 
 /// Appends a string.
+#[inline(always)]
 fn append_string(bytes: &mut Vec<u8>, alloc: Global, string: AnyStr<'_>) -> Result<(), ElementError>
     ensures appended { IfOk result (λ _.
         Appended (HasContents (content_of_str string.entry)) bytes.old.items bytes.new.items) }

@@ -1,11 +1,11 @@
 //! An element: identifier octets, length octets and contents octets.
 ghost use Rattle.asn1_items.specs.Numbers.{Appended};
-ghost use Rattle.asn1_der_items.specs.Elements.{Element as Seen, IsBegun, IsElement, element_at};
+ghost use Rattle.asn1_der_items.specs.Elements.{Element as Seen, EndsElement, IsBegun, element_at, element_of};
 ghost use Rattle.asn1_der_items.specs.Contents.{HasContents, HasNoContents};
 ghost use Rattle.asn1_der_items.specs.Series.{HoldsContents};
 ghost use Rattle.asn1_der_items.specs.declared.error.ElementError.TheVariants.{Memory};
 ghost use Rattle.asn1_items.specs.Contents.{content_of};
-ghost use Rattle.std.specs.Prelude.{◌≡◌, ◌≢◌, ◌++◌, Bool, IfErr, IfOk, IsOk, List, MatchResult, Some, ℕ, false, length};
+ghost use Rattle.std.specs.Prelude.{◌≡◌, ◌≢◌, IfErr, IfOk, IsOk, Some, false};
 
 use crate::contents::append_contents;
 use crate::error::ElementError;
@@ -35,12 +35,7 @@ pub struct Element<'a> {
 /// that is read; and [`ItemError::Malformed`] where the number of the tag is 2^32 or more or not the shortest, and where the
 /// length is indefinite, 2^64 or more, or not the shortest.
 pub fn find_element(bytes: &[u8]) -> Result<Element<'_>, ItemError>
-    ensures only { IfOk result (λ e. element_at bytes.now ≡ Some (record {
-      tag = e.tag;
-      constructed = e.constructed;
-      contents = e.contents.now;
-      rest = e.rest.now;
-    })) }
+    ensures only { IfOk result (λ e. element_at bytes.now ≡ Some (element_of e)) }
     ensures found { (e : Seen) → element_at bytes.now ≡ Some e → IsOk result }
 {
     let identifier = read_identifier(bytes)?;
@@ -62,6 +57,7 @@ pub fn find_element(bytes: &[u8]) -> Result<Element<'_>, ItemError>
 ///
 /// # Errors
 /// Where there is no memory. There may be some of the octets then.
+#[inline(always)]
 pub fn begin_element(bytes: &mut Vec<u8>, tag: Tag, constructed: bool) -> Result<(), AllocError>
     ensures { IfOk result (λ _.
         Appended (IsBegun tag constructed) bytes.old.items bytes.new.items) }
@@ -77,12 +73,9 @@ pub fn begin_element(bytes: &mut Vec<u8>, tag: Tag, constructed: bool) -> Result
 /// # Errors
 /// [`ElementError::Memory`], and [`ElementError::NotOpen`] where there are fewer bytes. After an error nothing is promised about
 /// the bytes.
+#[inline(always)]
 pub fn end_element(bytes: &mut Vec<u8>, start: usize) -> Result<(), ElementError>
-    ensures { (t : Tag) (constructed : Bool) (before front contents : List ℕ) →
-        IsBegun t constructed front → bytes.old.items ≡ (before ++ front) ++ contents →
-        start ≡ length (before ++ front) → MatchResult result
-        (λ _. Appended (IsElement t constructed contents) before bytes.new.items)
-        (λ e. e ≡ Memory) }
+    ensures { EndsElement start bytes.old.items bytes.new.items result }
 {
     write_length(bytes, start)
 }
@@ -92,6 +85,7 @@ pub fn end_element(bytes: &mut Vec<u8>, start: usize) -> Result<(), ElementError
 /// # Errors
 /// [`ElementError::Memory`]; and [`ElementError::NoSuchArcs`] and [`ElementError::WideUnit`] for a content that has no contents
 /// octets. After an error nothing is promised about the bytes.
+#[inline(always)]
 pub fn append_primitive(
     bytes: &mut Vec<u8>,
     alloc: Global,

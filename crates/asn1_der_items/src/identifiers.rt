@@ -18,6 +18,7 @@ pub(crate) struct Identified<'a> {
 }
 
 /// Appends a tag, of a primitive or a constructed element.
+#[inline(always)]
 pub(crate) fn append_identifier(
     bytes: &mut Vec<u8>,
     tag: Tag,
@@ -36,6 +37,7 @@ pub(crate) fn append_identifier(
 }
 
 /// The first octet without a number in bits 5 to 1.
+#[inline(always)]
 fn first_octet(class: Class, constructed: bool) -> u8
     ensures { result ≡ class_number class * 64 + form_bit constructed }
 {

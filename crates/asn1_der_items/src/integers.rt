@@ -1,10 +1,10 @@
 //! Whole numbers in two's complement.
 ghost use Rattle.asn1_values.specs.Numbers.{IsShortest as BeginsWithDigit, magnitude, signed};
 ghost use Rattle.asn1_items.specs.Numbers.{Appended};
-ghost use Rattle.asn1_der_items.specs.Integers.{IsComplement, IsInteger, IsShortest, twos_complement};
+ghost use Rattle.asn1_der_items.specs.Integers.{IsComplement, IsInteger, IsShortest, below_zero, negative_value, twos_complement};
 ghost use Rattle.asn1_items.specs.declared.error.ItemError.TheVariants.{Memory};
 ghost use Rattle.std.specs.Bool.{Decides};
-ghost use Rattle.std.specs.Prelude.{◌≡◌, ◌↔◌, ◌-◌, ◌<◌, ◌<ℤ◌, ◌≤◌, ◌^◌, IfOk, IsTrue, List, MatchResult, ℕ, ℤ, false, length, neg_ℤ, pos, slice_index, true};
+ghost use Rattle.std.specs.Prelude.{◌≡◌, ◌↔◌, ◌<◌, ◌<ℤ◌, ◌≤◌, IfOk, IsTrue, List, MatchResult, ℕ, ℤ, false, length, pos, slice_index, true};
 
 use asn1_items::ItemError;
 use asn1_values::Integer;
@@ -14,6 +14,7 @@ use std::alloc::{AllocError, Global};
 /// magnitude is copied first.
 ///
 /// After an error there may be some of them.
+#[inline(always)]
 pub fn append_integer(
     bytes: &mut Vec<u8>,
     alloc: Global,
@@ -91,9 +92,8 @@ fn append_natural(bytes: &mut Vec<u8>, digits: &[u8]) -> Result<(), AllocError>
 
 /// Appends the negative number of which these octets are the complement.
 fn append_negative(bytes: &mut Vec<u8>, octets: &[u8]) -> Result<(), AllocError>
-    ensures { (digits : List ℕ) → BeginsWithDigit digits →
-        IsComplement digits octets.now →
-        IfOk result (λ _. Appended (IsInteger (neg_ℤ (pos (magnitude digits))))
+    ensures { (digits : List ℕ) → BeginsWithDigit digits → IsComplement digits octets.now →
+        IfOk result (λ _. Appended (IsInteger (below_zero digits))
         bytes.old.items bytes.new.items) }
 {
     if is_high(octets) {
@@ -160,9 +160,7 @@ pub fn read_integer(alloc: Global, octets: &[u8]) -> Result<Integer, ItemError>
 
 /// Reads a number whose first octet has bit 8 set.
 fn read_negative(alloc: Global, octets: &[u8]) -> Result<Integer, ItemError>
-    ensures { MatchResult result
-        (λ n. 0 < magnitude octets.now →
-        n ≡ neg_ℤ (pos (256 ^ length octets.now - magnitude octets.now)))
+    ensures { MatchResult result (λ n. 0 < magnitude octets.now → n ≡ negative_value octets.now)
         (λ e. e ≡ Memory) }
 {
     let digits = negated(Vec::from_slice(alloc, octets)?);

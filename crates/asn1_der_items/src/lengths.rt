@@ -1,11 +1,9 @@
 //! The length octets of an element.
 ghost use Rattle.asn1_values.specs.Numbers.{magnitude};
 ghost use Rattle.asn1_der_items.specs.Base128.{Front as Seen};
-ghost use Rattle.asn1_items.specs.Numbers.{Appended};
-ghost use Rattle.asn1_der_items.specs.Lengths.{IsMeasured, length_at};
-ghost use Rattle.asn1_der_items.specs.declared.error.ElementError.TheVariants.{Memory};
+ghost use Rattle.asn1_der_items.specs.Lengths.{WritesLength, length_at};
 ghost use Rattle.std.specs.Option.{SomeIff};
-ghost use Rattle.std.specs.Prelude.{◌≡◌, ◌<◌, ◌≤◌, ◌^◌, ◌∷◌, ◌++◌, IfOk, IsOk, List, MatchResult, Some, length, suc, ℕ};
+ghost use Rattle.std.specs.Prelude.{◌≡◌, ◌<◌, ◌≤◌, ◌^◌, ◌++◌, IfOk, IsOk, List, Some, length, ℕ};
 
 use crate::base128::Front;
 use crate::error::ElementError;
@@ -13,11 +11,9 @@ use asn1_items::{ItemError, significant};
 use std::alloc::AllocError;
 
 /// Writes the length of the bytes from a place on in front of them. Its first octet is written over the one before that place.
+#[inline(always)]
 pub(crate) fn write_length(bytes: &mut Vec<u8>, start: usize) -> Result<(), ElementError>
-    ensures { (before contents : List ℕ) (room : ℕ) → bytes.old.items ≡ before ++ room ∷ contents →
-        start ≡ suc (length before) →
-        MatchResult result (λ _. Appended (IsMeasured contents) before bytes.new.items)
-        (λ e. e ≡ Memory) }
+    ensures { WritesLength start bytes.old.items bytes.new.items result }
 {
     if start == 0 || bytes.len() < start {
         return Err(ElementError::NotOpen);
@@ -34,6 +30,7 @@ pub(crate) fn write_length(bytes: &mut Vec<u8>, start: usize) -> Result<(), Elem
 }
 
 /// Puts octets in front of the bytes from a place on.
+#[inline(never)]
 fn insert_octets(bytes: &mut Vec<u8>, place: usize, octets: &[u8]) -> Result<(), AllocError>
     requires { place ≤ length bytes.old.items }
     ensures { (before after : List ℕ) → bytes.old.items ≡ before ++ after → place ≡ length before →

@@ -16,6 +16,7 @@ use asn1_model::TypeTable;
 use asn1_tags::{Identifier, Tag};
 
 /// A CHOICE after an explicit tag, under the constraints and the name of its table.
+#[inline(always)]
 fn write_after_tag<T: EncodeChoice, E: Encoder>(
     encoder: &mut E,
     tag: Tag,
@@ -36,6 +37,7 @@ fn write_after_tag<T: EncodeChoice, E: Encoder>(
 
 /// A CHOICE under a tag: untagged under the CHOICE marker tag; under any other, after that tag, with its own constraints and name
 /// (X.680, 31.2.7). Without a name it is written under the type's own.
+#[inline(always)]
 pub(crate) fn write_choice<T: EncodeChoice + ChoiceType, E: Encoder>(
     encoder: &mut E,
     tag: Tag,

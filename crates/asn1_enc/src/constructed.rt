@@ -1,9 +1,9 @@
 //! A SEQUENCE or a SET, by its components.
 ghost use Rattle.asn1_components.specs.Components.{head_in, lines};
 ghost use Rattle.asn1_codec.specs.GivenTypes.{given};
-ghost use Rattle.asn1_codec.specs.Writing.{NeedsDepth, OpensScope};
+ghost use Rattle.asn1_codec.specs.Writing.{NeedsDepth, WritesHead};
 ghost use Rattle.asn1_codec.specs.WritingTypes.{WritesComponents, WritesValue};
-ghost use Rattle.asn1_enc.specs.Kinds.{kind_of};
+ghost use Rattle.asn1_enc.specs.SequencesAndSets.{kind_of};
 ghost use Rattle.asn1_model.specs.ConstraintSets.{unconstrained};
 ghost use Rattle.asn1_tags.specs.Names.{name_of};
 ghost use Rattle.std.specs.Prelude.{◌≡◌};
@@ -22,13 +22,14 @@ pub(crate) enum Kind {
 }
 
 /// Opens a SEQUENCE or a SET, whose components are those of the table of `C`.
+#[inline(always)]
 fn open<C: FieldTable, E: Encoder>(
     encoder: &mut E,
     kind: Kind,
     tag: Tag,
     name: Identifier,
 ) -> Result<(), EncodeError>
-    ensures { OpensScope E.writer encoder.old
+    ensures { WritesHead E.writer encoder.old
         (head_in (kind_of kind) tag (lines C.components) (name_of name)) encoder.new result }
 {
     match kind {
@@ -38,6 +39,7 @@ fn open<C: FieldTable, E: Encoder>(
 }
 
 /// The components in the order of their definition, in the scope of their kind.
+#[inline(always)]
 fn write_components<C: EncodeFields, E: Encoder>(
     encoder: &mut E,
     kind: Kind,
@@ -55,6 +57,7 @@ fn write_components<C: EncodeFields, E: Encoder>(
 }
 
 /// The same. Of a type of this kind it writes the records of the type, which are the same under all constraints.
+#[inline(always)]
 pub(crate) fn write_constructed<C: EncodeFields + ConstructedType, E: Encoder>(
     encoder: &mut E,
     kind: Kind,

@@ -1,12 +1,10 @@
 //! A component that is absent where it equals a default.
 ghost use Rattle.asn1_codec.specs.Defaults.{MayAnswer};
-ghost use Rattle.asn1_codec.specs.GivenTypes.{given};
+ghost use Rattle.asn1_codec.specs.GivenTypes.{constraints_or_own, given};
 ghost use Rattle.asn1_codec.specs.Writing.{IsOutOfMemory};
 ghost use Rattle.asn1_codec.specs.WritingTypes.{WritesDefault};
-ghost use Rattle.asn1_model.specs.ConstraintSets.{constraint_set};
 ghost use Rattle.asn1_tags.specs.Names.{name_of};
-ghost use Rattle.std.specs.Option.{option_copied, option_map};
-ghost use Rattle.std.specs.Prelude.{◌≡◌, IfErr, IfOk, OnOk, unwrap_or};
+ghost use Rattle.std.specs.Prelude.{◌≡◌, IfErr, IfOk, OnOk};
 
 use crate::encode::Encode;
 use crate::encoder::Encoder;
@@ -17,6 +15,7 @@ use asn1_tags::{Identifier, Tag};
 use std::alloc::{AllocError, Global};
 
 /// Whether the value equals the default that the closure makes. Where there is no memory for that, the encoder has failed.
+#[inline(always)]
 pub(crate) fn equals_default<
     T: PartialEq + Drop,
     E: Encoder,
@@ -36,6 +35,7 @@ pub(crate) fn equals_default<
 
 /// A component of the root with a default, which is what the closure answers, under a tag, a name and constraints, or the type's own
 /// where none are given.
+#[inline(always)]
 pub(crate) fn write_default<
     T: Encode + PartialEq + Drop,
     E: Encoder,
@@ -49,10 +49,9 @@ pub(crate) fn write_default<
     name: Identifier,
 ) -> Result<(), EncodeError>
     requires { F.IsAlwaysCallable default }
-    ensures { WritesDefault E.writer (given tag
-        (unwrap_or (option_map constraint_set (option_copied constraints.entry))
-        T.meaning.constraints) T.meaning (name_of name)) (MayAnswer F.FnOnce default) T.eq
-        value.now encoder.old encoder.new result }
+    ensures { WritesDefault E.writer
+        (given tag (constraints_or_own constraints.entry T.meaning) T.meaning (name_of name))
+        (MayAnswer F.FnOnce default) T.eq value.now encoder.old encoder.new result }
 {
     if equals_default(encoder, value, default)? {
         encoder.encode_none_with_tag(tag, name)

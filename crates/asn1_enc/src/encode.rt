@@ -39,6 +39,7 @@ pub trait Encode: AsnType {
             encoder.old encoder.new result };
 
     /// Writes the value under the type's own tag, constraints and name.
+    #[inline(always)]
     final fn encode<E: Encoder>(&self, encoder: &mut E) -> Result<(), EncodeError>
         ensures { WritesValue E.writer (untagged Self.meaning) self.now encoder.old encoder.new
             result }
@@ -49,6 +50,7 @@ pub trait Encode: AsnType {
     }
 
     /// Writes the value under a tag.
+    #[inline(always)]
     final fn encode_with_tag<E: Encoder>(
         &self,
         encoder: &mut E,
@@ -63,6 +65,7 @@ pub trait Encode: AsnType {
     }
 
     /// Writes the value under a name.
+    #[inline(always)]
     final fn encode_with_identifier<E: Encoder>(
         &self,
         encoder: &mut E,
@@ -77,6 +80,7 @@ pub trait Encode: AsnType {
     }
 
     /// Writes the value under a tag and a name.
+    #[inline(always)]
     final fn encode_with_tag_and_identifier<E: Encoder>(
         &self,
         encoder: &mut E,
@@ -91,6 +95,7 @@ pub trait Encode: AsnType {
     }
 
     /// Writes the value under constraints.
+    #[inline(always)]
     final fn encode_with_constraints<E: Encoder>(
         &self,
         encoder: &mut E,
@@ -105,6 +110,7 @@ pub trait Encode: AsnType {
     }
 
     /// Writes the value under constraints and a name.
+    #[inline(always)]
     final fn encode_with_constraints_and_identifier<E: Encoder>(
         &self,
         encoder: &mut E,
@@ -128,6 +134,7 @@ pub trait EncodeFields: FieldTable {
             (IsOfTypeAt (all_components Self.components) place self.now) encoder.new result };
 
     /// Writes all components, in the order of their definition.
+    #[inline(always)]
     final fn encode_fields<E: Encoder>(&self, encoder: &mut E) -> Result<(), EncodeError>
         ensures { WritesFields E.writer Self.components self.now encoder.old encoder.new result }
     {

@@ -3,7 +3,7 @@ ghost use Rattle.asn1_choices.specs.Alternatives.{table_of};
 ghost use Rattle.asn1_components.specs.Components.{is_sequence, is_set, lines};
 ghost use Rattle.asn1_codec.specs.Defaults.{MayAnswer};
 ghost use Rattle.asn1_codec.specs.GivenTypes.{after_tag, as_it_is, given, with_constraints, with_tag};
-ghost use Rattle.asn1_codec.specs.Writing.{ClosesScope, ClosesGroup, IsLawful, NeedsDepth, OpensScope, OpensGroup, IsOutOfMemory, Writer, Writes};
+ghost use Rattle.asn1_codec.specs.Writing.{ClosesGroup, IsLawful, IsOutOfMemory, NeedsDepth, OpensGroup, Writer, Writes, WritesEnd, WritesHead};
 ghost use Rattle.asn1_codec.specs.WritingTypes.{WritesChoice, WritesComponents, WritesContent, WritesDefault, WritesElements, WritesGroup, WritesOptional, WritesValue};
 ghost use Rattle.asn1_enumerations.specs.Enumerations.{number_of};
 ghost use Rattle.asn1_enumerations.specs.Labels.{labels_of};
@@ -153,12 +153,12 @@ pub trait Encoder: Sized {
         tag: Tag,
         name: Identifier,
     ) -> Result<(), EncodeError>
-        ensures { OpensScope writer self.old (sequence tag (lines C.components) (name_of name))
+        ensures { WritesHead writer self.old (sequence tag (lines C.components) (name_of name))
             self.new result };
 
     /// Opens a SET, whose components are those of the table of `C`.
     fn open_set<C: FieldTable>(&mut self, tag: Tag, name: Identifier) -> Result<(), EncodeError>
-        ensures { OpensScope writer self.old (set tag (lines C.components) (name_of name))
+        ensures { WritesHead writer self.old (set tag (lines C.components) (name_of name))
             self.new result };
 
     /// Opens a SEQUENCE OF this many elements.
@@ -169,7 +169,7 @@ pub trait Encoder: Sized {
         name: Identifier,
         count: usize,
     ) -> Result<(), EncodeError>
-        ensures { OpensScope writer self.old (sequence_of tag (constraint_set constraints.now)
+        ensures { WritesHead writer self.old (sequence_of tag (constraint_set constraints.now)
             (name_of name)) self.new result };
 
     /// Opens a SET OF this many elements.
@@ -180,12 +180,12 @@ pub trait Encoder: Sized {
         name: Identifier,
         count: usize,
     ) -> Result<(), EncodeError>
-        ensures { OpensScope writer self.old
+        ensures { WritesHead writer self.old
             (set_of tag (constraint_set constraints.now) (name_of name)) self.new result };
 
     /// Opens what follows an explicit tag.
     fn open_explicit_prefix(&mut self, tag: Tag, name: Identifier) -> Result<(), EncodeError>
-        ensures { OpensScope writer self.old (explicit_tag tag (name_of name)) self.new result };
+        ensures { WritesHead writer self.old (explicit_tag tag (name_of name)) self.new result };
 
     /// Opens a CHOICE, whose alternatives are those of `T`, by the tag of the chosen one.
     fn open_choice<T: Choice>(
@@ -194,13 +194,13 @@ pub trait Encoder: Sized {
         constraints: &Constraints<'_>,
         name: Identifier,
     ) -> Result<(), EncodeError>
-        ensures { OpensScope writer self.old
+        ensures { WritesHead writer self.old
             (alternative chosen (constraint_set constraints.now) (table_of T.alternatives)
             (name_of name)) self.new result };
 
     /// Closes the innermost scope.
     fn close(&mut self) -> Result<(), EncodeError>
-        ensures { ClosesScope writer self.old self.new result };
+        ensures { WritesEnd writer self.old self.new result };
 
     /// Opens a group of additions, whose components are those of the table of `C`. It is no scope, and takes nothing from the
     /// depth left.
@@ -391,6 +391,7 @@ pub trait Encoder: Sized {
     }
 
     /// A value after an explicit tag.
+    #[inline(always)]
     final fn encode_explicit_prefix<T: Encode>(
         &mut self,
         tag: Tag,
@@ -408,6 +409,7 @@ pub trait Encoder: Sized {
 
     /// A SEQUENCE, by its components. Of a type that is one it writes the records of the type, which are the same under all
     /// constraints.
+    #[inline(always)]
     final fn encode_sequence<C: EncodeFields + ConstructedType>(
         &mut self,
         tag: Tag,
@@ -424,6 +426,7 @@ pub trait Encoder: Sized {
     }
 
     /// A SEQUENCE OF, by its elements.
+    #[inline(always)]
     final fn encode_sequence_of<T: Encode>(
         &mut self,
         tag: Tag,
@@ -444,6 +447,7 @@ pub trait Encoder: Sized {
     }
 
     /// A component that may be absent, and is there, under a tag, constraints and a name.
+    #[inline(always)]
     final fn encode_some_with_tag_and_constraints<T: Encode>(
         &mut self,
         tag: Tag,
@@ -460,6 +464,7 @@ pub trait Encoder: Sized {
 
     /// A SET, by its components in the order of their definition. Of a type that is one it writes the records of the type, which
     /// are the same under all constraints.
+    #[inline(always)]
     final fn encode_set<C: EncodeFields + ConstructedType>(
         &mut self,
         tag: Tag,
@@ -476,6 +481,7 @@ pub trait Encoder: Sized {
     }
 
     /// A SET OF, by its elements.
+    #[inline(always)]
     final fn encode_set_of<T: Encode>(
         &mut self,
         tag: Tag,
@@ -496,6 +502,7 @@ pub trait Encoder: Sized {
     }
 
     /// A CHOICE that has no tag of its own, by its chosen alternative.
+    #[inline(always)]
     final fn encode_choice<T: EncodeChoice>(
         &mut self,
         constraints: &Constraints<'_>,
@@ -513,6 +520,7 @@ pub trait Encoder: Sized {
 
     /// A CHOICE under a tag: untagged under the CHOICE marker tag; under any other, after that tag, with its own constraints and name
     /// (X.680, 31.2.7). Without a name it is written under the type's own.
+    #[inline(always)]
     final fn encode_choice_with_tag<T: EncodeChoice + ChoiceType>(
         &mut self,
         tag: Tag,
@@ -541,6 +549,7 @@ pub trait Encoder: Sized {
     }
 
     /// A component that may be absent, and is there, under a tag and a name.
+    #[inline(always)]
     final fn encode_some_with_tag<T: Encode>(
         &mut self,
         tag: Tag,
@@ -554,6 +563,7 @@ pub trait Encoder: Sized {
     }
 
     /// A component that may be absent, and is there, after an explicit tag.
+    #[inline(always)]
     final fn encode_some_with_explicit_prefix<T: Encode>(
         &mut self,
         tag: Tag,
@@ -567,6 +577,7 @@ pub trait Encoder: Sized {
     }
 
     /// A component that may be absent, after an explicit tag.
+    #[inline(always)]
     final fn encode_optional_with_explicit_prefix<T: Encode>(
         &mut self,
         tag: Tag,
@@ -690,6 +701,7 @@ pub trait Encoder: Sized {
     }
 
     /// The same as `encode_or_default`, under a tag.
+    #[inline(always)]
     final fn encode_with_tag_or_default<T: Encode + Default + PartialEq + Drop>(
         &mut self,
         tag: Tag,
@@ -707,6 +719,7 @@ pub trait Encoder: Sized {
     }
 
     /// An addition, which may be absent, under a tag, constraints and a name.
+    #[inline(always)]
     final fn encode_extension_addition<T: Encode>(
         &mut self,
         tag: Tag,
@@ -727,6 +740,7 @@ pub trait Encoder: Sized {
     }
 
     /// The same as `encode_extension_addition`, under the constraints of the type.
+    #[inline(always)]
     final fn encode_extension_addition_with_tag<T: Encode>(
         &mut self,
         tag: Tag,
@@ -743,6 +757,7 @@ pub trait Encoder: Sized {
     }
 
     /// An addition, which may be absent, after an explicit tag.
+    #[inline(always)]
     final fn encode_extension_addition_with_explicit_prefix<T: Encode>(
         &mut self,
         tag: Tag,
@@ -760,6 +775,7 @@ pub trait Encoder: Sized {
     }
 
     /// A group of additions: absent where there is none, and where its components are marks alone.
+    #[inline(always)]
     final fn encode_extension_addition_group<C: EncodeFields>(
         &mut self,
         value: Option<&C>,

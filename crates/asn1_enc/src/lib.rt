@@ -26,9 +26,9 @@
 //!   rejects them, of an encoder that has written something (`Fails`). Where memory runs out for a type's own constraints, the
 //!   type says so by `refuse_memory`.
 //! - A codec states what it has written, whether it has failed, its depth left, and which records it rejects (`Writer`). Its own
-//!   calls have the laws of these: opening a scope takes one from the depth left and closing gives it back (`OpensScope`, `ClosesScope`),
-//!   a group is no scope (`OpensGroup`, `ClosesGroup`), and where no depth is left the error is `Depth`, before any other
-//!   but `Failed`. What it rejects and has written keeps to `IsLawful`: a list is rejected where a part of it is, or what a
+//!   calls have the laws of these: opening a scope takes one from the depth left (`WritesHead`) and closing gives it back
+//!   (`WritesEnd`), a group is no scope (`OpensGroup`, `ClosesGroup`), and where no depth is left the error is `Depth`, before
+//!   any other but `Failed`. What it rejects and has written keeps to `IsLawful`: a list is rejected where a part of it is, or what a
 //!   record of it holds, presence marks alone never are, and the order inside sets means nothing.
 //! - The calls for whole types that open a scope at once answer `Depth` before any other error but `Failed` too
 //!   (`NeedsDepth`).

@@ -1,14 +1,12 @@
 //! A component that may be absent, on either side of an extension marker.
-ghost use Rattle.asn1_codec.specs.GivenTypes.{after_tag, given};
+ghost use Rattle.asn1_codec.specs.GivenTypes.{after_tag, constraints_or_own, given};
 ghost use Rattle.asn1_codec.specs.Sides.{side_of};
 ghost use Rattle.asn1_codec.specs.Writing.{Writes};
 ghost use Rattle.asn1_codec.specs.WritingTypes.{WritesOptional};
 ghost use Rattle.asn1_model.specs.Composites.{marked};
-ghost use Rattle.asn1_model.specs.ConstraintSets.{constraint_set};
 ghost use Rattle.asn1_model.specs.Records.{in_root, present};
 ghost use Rattle.asn1_tags.specs.Names.{name_of};
-ghost use Rattle.std.specs.Option.{option_copied, option_map};
-ghost use Rattle.std.specs.Prelude.{⊤, Some, unwrap_or};
+ghost use Rattle.std.specs.Prelude.{⊤, Some};
 
 use crate::encode::Encode;
 use crate::encoder::Encoder;
@@ -18,6 +16,7 @@ use asn1_model::AsnType;
 use asn1_tags::{Identifier, Tag};
 
 /// The mark of a component that is there.
+#[inline(always)]
 fn mark_present<E: Encoder>(encoder: &mut E, side: Side, tag: Tag) -> Result<(), EncodeError>
     ensures { Writes E.writer encoder.old (marked (present (side_of side) tag)) ⊤ encoder.new
         result }
@@ -29,6 +28,7 @@ fn mark_present<E: Encoder>(encoder: &mut E, side: Side, tag: Tag) -> Result<(),
 }
 
 /// A component that is there, under a tag, a name and constraints, or the type's own where none are given.
+#[inline(always)]
 pub(crate) fn write_present<T: Encode, E: Encoder>(
     encoder: &mut E,
     side: Side,
@@ -37,10 +37,9 @@ pub(crate) fn write_present<T: Encode, E: Encoder>(
     value: &T,
     name: Identifier,
 ) -> Result<(), EncodeError>
-    ensures { WritesOptional E.writer (side_of side) (given tag
-        (unwrap_or (option_map constraint_set (option_copied constraints.entry))
-        T.meaning.constraints) T.meaning (name_of name)) (Some value.now) encoder.old encoder.new
-        result }
+    ensures { WritesOptional E.writer (side_of side)
+        (given tag (constraints_or_own constraints.entry T.meaning) T.meaning (name_of name))
+        (Some value.now) encoder.old encoder.new result }
 {
     mark_present(encoder, side, tag)?;
     match constraints {
@@ -50,6 +49,7 @@ pub(crate) fn write_present<T: Encode, E: Encoder>(
 }
 
 /// A component that is there, after an explicit tag.
+#[inline(always)]
 pub(crate) fn write_present_after_tag<T: Encode, E: Encoder>(
     encoder: &mut E,
     side: Side,
@@ -66,6 +66,7 @@ pub(crate) fn write_present_after_tag<T: Encode, E: Encoder>(
 
 /// Writes a component that may be absent, after an explicit tag, under the name of its type:
 /// [`Encoder::encode_optional_with_explicit_prefix`] for a field that is an option.
+#[inline(always)]
 pub fn encode_explicit_optional<T: Encode, E: Encoder>(
     encoder: &mut E,
     tag: Tag,

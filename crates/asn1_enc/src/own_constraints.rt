@@ -9,6 +9,7 @@ use asn1_codec::EncodeError;
 use asn1_model::TypeTable;
 
 /// Makes the constraints of a table. Where there is no memory for them, the encoder has failed.
+#[inline(always)]
 pub(crate) fn make_constraints<E: Encoder>(
     encoder: &mut E,
     table: &TypeTable,

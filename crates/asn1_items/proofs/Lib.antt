@@ -6,3 +6,4 @@ mod Lists
 mod Octets
 mod Twos
 mod Writing
+mod SizedItems

@@ -4,9 +4,9 @@ use Rattle.std.proofs.Math.Seq.{take-append_seam}
 use Rattle.std.specs.Prelude.{Some, ◌&&◌, ◌||◌, not, if◌then◌else◌}
 use Rattle.asn1_codec.specs.Writing.{Written, outermost, in_scope, in_group, followed_by}
 use Rattle.asn1_items.specs.Buffers.{IsList, IsOpenScope, IsOpenGroup, IsWritten, inward, scopes_in}
-use Rattle.asn1_items.specs.Contents.{IsContent, LooksLike, content_kind}
+use Rattle.asn1_items.specs.Contents.{LooksLike}
 use Rattle.asn1_items.specs.Headers.{kind_of, tag_bytes}
-use Rattle.asn1_items.specs.Items.{HasBytes, HaveBytes, IsTooLong, MarkBytes, written_with}
+use Rattle.asn1_items.specs.Items.{HasBytes, HaveBytes, IsItem, IsItemOf, IsLong, IsTooLong, MarkBytes, written_with}
 use Rattle.asn1_items.specs.Numbers.{Appended, four_bytes}
 use Rattle.asn1_items.specs.declared.frame.Frame.{Frame}
 use Rattle.asn1_model.specs.Composites.{group_records}
@@ -32,30 +32,6 @@ or_true false = refl
 or_false : (b : Bool) → b ≡ (b || false)
 or_false true = refl
 or_false false = refl
-
--- The bytes of an item of a content, whose length was written over four zeros.
-pub record ScalarPlaced (y : model.Content) (t : Tag) (bytes filled : List ℕ) (start : ℕ) : Type 0 where
-  pub front : List ℕ
-  pub inside : List ℕ
-  pub front_is : front ≡ bytes ++ (1 ∷ tag_bytes t ++ content_kind y ∷ [])
-  pub filled_is : filled ≡ front ++ ((0 ∷ 0 ∷ 0 ∷ 0 ∷ []) ++ inside)
-  pub starts : start ≡ length front + 4
-  pub is : IsContent y inside
-
-pub placed : (y : model.Content) (t : Tag) (bytes opened filled : List ℕ) (k start : ℕ) → opened ≡ bytes ++ 1 ∷ (tag_bytes t ++ k ∷ 0 ∷ 0 ∷ 0 ∷ 0 ∷ []) → k ≡ content_kind y → start ≡ length opened → Appended (IsContent y) opened filled →
-    ScalarPlaced y t bytes filled start
-placed y t bytes opened filled k start header kind starts a =
-    let front = bytes ++ (1 ∷ tag_bytes t ++ k ∷ []) in
-    let zeros : List ℕ = 0 ∷ 0 ∷ 0 ∷ 0 ∷ [] in
-    let split : opened ≡ front ++ zeros = header ∙ ap (λ l. bytes ++ 1 ∷ l) (sym (append_assoc (tag_bytes t) (k ∷ []) zeros)) ∙ sym (append_assoc bytes (1 ∷ tag_bytes t ++ k ∷ []) zeros) in
-    record {
-      front = front;
-      inside = a.added;
-      front_is = ap (λ j. bytes ++ (1 ∷ tag_bytes t ++ j ∷ [])) kind;
-      filled_is = a.joined ∙ ap (λ l. l ++ a.added) split ∙ append_assoc front zeros a.added;
-      starts = omega (arith, starts, ap length split, length-append front zeros);
-      is = a.is;
-    }
 
 -- Frames.
 
@@ -183,19 +159,14 @@ module _ (marks : MarkBytes) where
       subst (λ b. IsWritten marks (followed_by w (model.presence_mark m ∷ [])) (inward [] fs) b some) (sym is)
       (subst (λ s. IsWritten marks (followed_by w (model.presence_mark m ∷ [])) (inward [] fs) (bytes ++ more) s) (sym (or_false some)) (followed w (inward [] fs) bytes more some (model.presence_mark m ∷ []) wrote (one_record (model.presence_mark m) more has)))
 
-  -- what was written is the content
-  pub scalar_written : (y x : model.Content) (t : Tag) (c : ConstraintSet) (n : Name) (bytes filled new : List ℕ) (start : ℕ) → LooksLike y x → (p : ScalarPlaced y t bytes filled start) → t.value < 2 ^ 32 →
-      length p.inside < 2 ^ 32 → new ≡ p.front ++ (four_bytes (length p.inside) ++ p.inside) → (fs : List Frame) (some : Bool) (w : Written) → IsWritten marks w (inward [] fs) bytes some →
+  -- what was written is an item of the content
+  pub scalar_written : (y x : model.Content) (t : Tag) (c : ConstraintSet) (n : Name) (bytes new : List ℕ) → LooksLike y x → Appended (IsItemOf t y) bytes new → (fs : List Frame) (some : Bool) (w : Written) → IsWritten marks w (inward [] fs) bytes some →
       IsWritten marks (followed_by w (scalar t c n x ∷ [])) (inward [] fs) new true
-  scalar_written y x t c n bytes filled new start like p tag_fits small is fs some w wrote =
-      let front = 1 ∷ tag_bytes t ++ content_kind y ∷ [] in
-      let rest = four_bytes (length p.inside) ++ p.inside in
-      let whole : new ≡ bytes ++ (front ++ rest) = is ∙ ap (λ l. l ++ rest) p.front_is ∙ append_assoc bytes front rest in
-      let same : new ≡ bytes ++ (1 ∷ tag_bytes t ++ (content_kind x ∷ []) ++ rest) = whole ∙ ap (λ k. bytes ++ (1 ∷ tag_bytes t ++ (k ∷ []) ++ rest)) like.kind in
-      appended fs bytes (1 ∷ tag_bytes t ++ (content_kind x ∷ []) ++ rest) new some (scalar t c n x) refl (record { inside = p.inside; is = like.bytes p.inside p.is; item = record { are = refl; tag_fits = tag_fits; size_fits = small } }) same w wrote
+  scalar_written y x t c n bytes new like a fs some w wrote =
+      appended fs bytes a.added new some (scalar t c n x) refl (record { inside = a.is.inside; is = like.bytes a.is.inside a.is.is; item = subst (λ k. IsItem 1 t (k ∷ []) a.is.inside a.added) like.kind a.is.item }) a.joined w wrote
 
-  pub scalar_too_long : (y x : model.Content) (t : Tag) (c : ConstraintSet) (n : Name) (bytes filled : List ℕ) (start : ℕ) → LooksLike y x → (p : ScalarPlaced y t bytes filled start) → 2 ^ 32 ≤ length p.inside → IsTooLong (written_with marks) (scalar t c n x)
-  scalar_too_long y x t c n bytes filled start like p long = (p.inside, like.bytes p.inside p.is, long)
+  pub scalar_too_long : (y x : model.Content) (t : Tag) (c : ConstraintSet) (n : Name) → LooksLike y x → IsLong y → IsTooLong (written_with marks) (scalar t c n x)
+  scalar_too_long y x t c n like long = (long.0, like.bytes long.0 long.1, long.2)
 
   -- a scope was opened
   pub scope_opened : (fs gs : List Frame) (f : Frame) (h : model.Head) (bytes new size : List ℕ) (some : Bool) → f.is_group ≡ false → f.has_records ≡ some → f.start ≡ length new → (head_tag h).value < 2 ^ 32 → length size ≡ 4 →

@@ -11,7 +11,11 @@ abbrev pub bits_of_octet : ℕ → List Bool
 bits_of_octet o = bit_of_worth o 128 ∷ bit_of_worth o 64 ∷ bit_of_worth o 32 ∷ bit_of_worth o 16 ∷
     bit_of_worth o 8 ∷ bit_of_worth o 4 ∷ bit_of_worth o 2 ∷ (o % 2 == 1) ∷ []
 
--- and of several
+-- the four bits of half an octet
+abbrev pub bits_of_half : ℕ → List Bool
+bits_of_half h = bit_of_worth h 8 ∷ bit_of_worth h 4 ∷ bit_of_worth h 2 ∷ (h % 2 == 1) ∷ []
+
+-- the bits of several octets
 abbrev pub bits_of_octets : List ℕ → List Bool
 bits_of_octets octets = flat_map (λ o. bits_of_octet o) octets
 

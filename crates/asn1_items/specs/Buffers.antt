@@ -1,11 +1,15 @@
 -- What a buffer has written, with presence marks of these bytes.
-use Rattle.std.specs.Prelude.{◌≡◌, ℕ, suc, ◌+◌, ◌<◌, ◌^◌, Bool, true, false, not, List, [], ◌∷◌, ◌++◌, length, if◌then◌else◌}
-use Rattle.asn1_codec.specs.Writing.{Written, outermost, in_scope, in_group}
+use Rattle.std.specs.Prelude.{◌≡◌, ℕ, suc, ◌+◌, ◌<◌, ◌≤◌, ◌^◌, Bool, true, false, not, List, [], ◌∷◌, ◌++◌, length, if◌then◌else◌, IfOk, MatchResult, Result, Some}
+use Rattle.asn1_codec.specs.Writing.{Written, followed_by, outermost, in_scope, in_group}
 use Rattle.asn1_items.specs.Headers.{kind_of, tag_bytes}
-use Rattle.asn1_items.specs.Items.{HaveBytes, MarkBytes, written_with}
+use Rattle.asn1_items.specs.Items.{HaveBytes, IsTooLong, MarkBytes, written_with}
+use Rattle.asn1_items.specs.Numbers.{four_bytes}
 use Rattle.asn1_items.specs.declared.buffer.Buffer.{Buffer}
+use Rattle.asn1_items.specs.declared.error.BufferError.{BufferError}
+use Rattle.asn1_items.specs.declared.error.BufferError.TheVariants.{Memory}
 use Rattle.asn1_items.specs.declared.frame.Frame.{Frame}
-use Rattle.asn1_model.specs.Records.{Record, Head, group_start, held, presence_marks_alone}
+use Rattle.asn1_model.specs.Composites.{group_records}
+use Rattle.asn1_model.specs.Records.{Record, Head, group_absent, group_end, group_start, held, holding, presence_marks_alone}
 use Rattle.asn1_model.specs.RecordTables.{Line, Table}
 use Rattle.asn1_model.specs.Tags.{head_tag}
 
@@ -54,6 +58,22 @@ inward inner (f ∷ fs) = inward (f ∷ inner) fs
 abbrev pub HasWritten : MarkBytes → Written → Buffer → Type 0
 HasWritten marks w b = IsWritten marks w (inward [] b.outer.items) b.bytes.items b.has_records
 
+module _ (marks : MarkBytes) where
+  -- a call that appends records to the innermost list
+  abbrev pub AppendsRecords : {A : Type 0} → Buffer → List Record → Buffer → Result A BufferError → Type 0
+  AppendsRecords old rs new result = (w : Written) → HasWritten marks w old → IfOk result (λ _. HasWritten marks (followed_by w rs) new)
+
+  -- a call that closes the innermost scope, which fails only where 2^32 bytes or more are inside
+  abbrev pub EndsScope : {A : Type 0} → Buffer → Buffer → Result A BufferError → Type 0
+  EndsScope old new result = (h : Head) (rs : List Record) (w : Written) → HasWritten marks (in_scope h rs w) old →
+      MatchResult result (λ _. HasWritten marks (followed_by w (holding h rs ∷ [])) new) (λ _. IsTooLong (written_with marks) (holding h rs))
+
+  -- A call that closes the innermost group, and is given the bytes of the presence mark of its end, and of that of an absent group.
+  -- It fails only where memory runs out.
+  abbrev pub EndsGroup : {A : Type 0} → List ℕ → List ℕ → Buffer → Buffer → Result A BufferError → Type 0
+  EndsGroup end absent old new result = (table : Table Line) (rs : List Record) (w : Written) → marks group_end ≡ end → marks group_absent ≡ absent → HasWritten marks (in_group table rs w) old →
+      MatchResult result (λ _. HasWritten marks (followed_by w (group_records table (Some rs))) new) (λ e. e ≡ Memory)
+
 -- how many of the lists that are open are scopes
 abbrev pub scopes_in : List Frame → ℕ
 scopes_in [] = 0
@@ -62,3 +82,8 @@ scopes_in (f ∷ fs) = if f.is_group then scopes_in fs else suc (scopes_in fs)
 -- how many scopes of a buffer are open
 abbrev pub open_scopes : Buffer → ℕ
 open_scopes b = scopes_in b.outer.items
+
+-- A call that writes the length of what begins at a place over the four bytes before it, and fails where it is 2^32 or more.
+abbrev pub FillsLength : {A E : Type 0} → List ℕ → ℕ → List ℕ → Result A E → Type 0
+FillsLength old start new result = (before place inside : List ℕ) → old ≡ before ++ (place ++ inside) → length place ≡ 4 → start ≡ length before + 4 →
+    MatchResult result (λ _. (length inside < 2 ^ 32) × (new ≡ before ++ (four_bytes (length inside) ++ inside))) (λ _. 2 ^ 32 ≤ length inside)

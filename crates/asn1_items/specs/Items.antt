@@ -3,7 +3,7 @@ use Rattle.std.specs.Prelude.{◌≡◌, ◌⊎◌, ℕ, ◌<◌, ◌≤◌, ◌
 use Rattle.asn1_items.specs.Contents.{IsContent, content_kind}
 use Rattle.asn1_items.specs.Headers.{is_one_item, kind_of, tag_bytes}
 use Rattle.asn1_items.specs.Numbers.{four_bytes}
-use Rattle.asn1_model.specs.Records.{Record, Records, PresenceMark, scalar, scope, open_type, presence_mark, none, more, present, absent, group_start, group_absent, group_end}
+use Rattle.asn1_model.specs.Records.{Content, Record, Records, PresenceMark, scalar, scope, open_type, presence_mark, none, more, present, absent, group_start, group_absent, group_end}
 use Rattle.asn1_model.specs.Tags.{head_tag}
 use Rattle.asn1_tags.specs.declared.tags.Tag.{Tag}
 
@@ -85,3 +85,11 @@ written_with marks = record { mark_bytes = marks; IsOpenType = λ own. ⊤ }
 
 abbrev pub read_with : MarkBytes → ItemForm
 read_with marks = record { mark_bytes = marks; IsOpenType = λ own. IsTrue (is_one_item own) }
+
+-- The bytes are an item of a content under a tag.
+abbrev pub IsItemOf : Tag → Content → List ℕ → Type 0
+IsItemOf t x bytes = Holds (IsContent x) 1 t (content_kind x ∷ []) bytes
+
+-- The content is too long for an item: 2^32 bytes or more.
+abbrev pub IsLong : Content → Type 0
+IsLong x = (own : List ℕ) × IsContent x own × (2 ^ 32 ≤ length own)

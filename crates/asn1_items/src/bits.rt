@@ -1,5 +1,5 @@
 //! Bits as octets, the first bit the highest.
-ghost use Rattle.asn1_items.specs.Bits.{AreBits, bits_of_octet, bits_of_octets};
+ghost use Rattle.asn1_items.specs.Bits.{AreBits, bits_of_half, bits_of_octet, bits_of_octets};
 ghost use Rattle.asn1_items.specs.Numbers.{Appended};
 ghost use Rattle.asn1_items.specs.declared.error.ItemError.TheVariants.{Memory};
 ghost use Rattle.std.specs.Bool.{Decides};
@@ -13,6 +13,7 @@ pub(crate) fn append_bits(bytes: &mut Vec<u8>, bits: &[bool]) -> Result<(), Allo
     ensures { IfOk result (λ _. Appended (AreBits bits.now) bytes.old.items bytes.new.items) }
 {
     let last = bits.len() % 8;
+    bytes.reserve(bits.len() / 8 + 2)?;
     bytes.push(((8 - last) % 8) as u8)?;
     let mut left = bits;
     while let [a, b, c, d, e, f, g, h, rest @ ..] = left {
@@ -26,17 +27,13 @@ pub(crate) fn append_bits(bytes: &mut Vec<u8>, bits: &[bool]) -> Result<(), Allo
 }
 
 /// The octet of these bits, the highest first.
+#[inline(always)]
 fn octet_of(a: bool, b: bool, c: bool, d: bool, e: bool, f: bool, g: bool, h: bool) -> u8
     ensures { bits_of_octet result ≡ a ∷ b ∷ c ∷ d ∷ e ∷ f ∷ g ∷ h ∷ [] }
 {
-    u8::from(a) * 128
-        + u8::from(b) * 64
-        + u8::from(c) * 32
-        + u8::from(d) * 16
-        + u8::from(e) * 8
-        + u8::from(f) * 4
-        + u8::from(g) * 2
-        + u8::from(h)
+    let high = ((u8::from(a) * 2 + u8::from(b)) * 2 + u8::from(c)) * 2 + u8::from(d);
+    let low = ((u8::from(e) * 2 + u8::from(f)) * 2 + u8::from(g)) * 2 + u8::from(h);
+    high * 16 + low
 }
 
 /// The octet of the last bits, fewer than eight, if there are some. Its other bits are 0.
@@ -94,7 +91,7 @@ fn are_clear(bits: &[bool]) -> bool
 fn bits_in(alloc: Global, octets: &[u8]) -> Result<Vec<bool>, AllocError>
     ensures { IfOk result (λ v. v.items ≡ bits_of_octets octets.now) }
 {
-    let mut bits = Vec::new(alloc);
+    let mut bits = Vec::with_capacity(alloc, octets.len().saturating_mul(8))?;
     let mut left = octets;
     while let [octet, rest @ ..] = left {
         push_octet(&mut bits, *octet)?;
@@ -104,16 +101,37 @@ fn bits_in(alloc: Global, octets: &[u8]) -> Result<Vec<bool>, AllocError>
 }
 
 /// Appends the bits of an octet, the highest first.
+#[inline(always)]
 fn push_octet(bits: &mut Vec<bool>, octet: u8) -> Result<(), AllocError>
     ensures { IfOk result (λ _. bits.new.items ≡ bits.old.items ++ bits_of_octet octet) }
 {
-    bits.push(octet / 128 % 2 == 1)?;
-    bits.push(octet / 64 % 2 == 1)?;
-    bits.push(octet / 32 % 2 == 1)?;
-    bits.push(octet / 16 % 2 == 1)?;
-    bits.push(octet / 8 % 2 == 1)?;
-    bits.push(octet / 4 % 2 == 1)?;
-    bits.push(octet / 2 % 2 == 1)?;
-    bits.push(octet % 2 == 1)?;
+    bits.extend_from_slice(bits_of_half(octet / 16))?;
+    bits.extend_from_slice(bits_of_half(octet % 16))?;
     Ok(())
+}
+
+/// The four bits of half an octet, the highest first.
+#[inline(always)]
+fn bits_of_half(half: u8) -> &'static [bool]
+    requires { half < 16 }
+    ensures { result.now ≡ bits_of_half half }
+{
+    match half {
+        0 => &[false, false, false, false],
+        1 => &[false, false, false, true],
+        2 => &[false, false, true, false],
+        3 => &[false, false, true, true],
+        4 => &[false, true, false, false],
+        5 => &[false, true, false, true],
+        6 => &[false, true, true, false],
+        7 => &[false, true, true, true],
+        8 => &[true, false, false, false],
+        9 => &[true, false, false, true],
+        10 => &[true, false, true, false],
+        11 => &[true, false, true, true],
+        12 => &[true, true, false, false],
+        13 => &[true, true, false, true],
+        14 => &[true, true, true, false],
+        _ => &[true, true, true, true],
+    }
 }

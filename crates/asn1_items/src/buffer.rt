@@ -1,22 +1,22 @@
 //! The bytes of items that are written.
 ghost use Rattle.asn1_codec.specs.Writing.{Written, followed_by, in_group, in_scope, outermost};
-ghost use Rattle.asn1_items.specs.Buffers.{HasWritten, open_scopes};
+ghost use Rattle.asn1_items.specs.Buffers.{AppendsRecords, EndsGroup, EndsScope, HasWritten, open_scopes};
 ghost use Rattle.asn1_items.specs.Contents.{LooksLike, content_of};
 ghost use Rattle.asn1_items.specs.Headers.{kind_of};
 ghost use Rattle.asn1_items.specs.Items.{HaveBytes, IsTooLong, MarkBytes, written_with};
 ghost use Rattle.asn1_items.specs.declared.error.BufferError.TheVariants.{Memory};
-ghost use Rattle.asn1_model.specs.Composites.{group_records};
 ghost use Rattle.asn1_model.specs.ConstraintSets.{ConstraintSet};
 ghost use Rattle.asn1_model.specs.Records as model;
-ghost use Rattle.asn1_model.specs.Records.{Name, group_absent, group_end, group_start, held, holding, presence_mark, open_type, scalar};
+ghost use Rattle.asn1_model.specs.Records.{Name, group_start, held, presence_mark, open_type, scalar};
 ghost use Rattle.asn1_model.specs.RecordTables.{Line, Table};
 ghost use Rattle.asn1_model.specs.Tags.{head_tag};
-ghost use Rattle.std.specs.Prelude.{◌≡◌, ◌≢◌, ◌≤◌, ◌∷◌, [], IfErr, IfOk, List, MatchResult, OnOk, Some, suc};
+ghost use Rattle.std.specs.Prelude.{◌≡◌, ◌≢◌, ◌≤◌, ◌∷◌, [], IfErr, IfOk, List, OnOk, suc};
 
-use crate::bytes::{push_content_header, push_mark, push_scope_header, write_length};
+use crate::bytes::{push_mark, push_scope_header, write_length};
 use crate::content::Content;
 use crate::error::BufferError;
 use crate::frame::Frame;
+use crate::scalars::push_item;
 use asn1_tags::Tag;
 use std::alloc::Global;
 
@@ -60,6 +60,7 @@ impl Buffer {
     ///
     /// # Errors
     /// [`BufferError::Memory`], and [`BufferError::TooLong`] where the content is 2^32 bytes long or more.
+    #[inline(always)]
     pub fn append_scalar(&mut self, tag: Tag, content: Content<'_>) -> Result<(), BufferError>
         ensures written { (marks : MarkBytes) (c : ConstraintSet) (n : Name) (x : model.Content)
             (w : Written) → LooksLike (content_of content.entry) x → HasWritten marks w self.old →
@@ -69,10 +70,9 @@ impl Buffer {
             IfErr result (λ e. e ≢ Memory → IsTooLong (written_with marks) (scalar tag c n x)) }
         ensures same_scopes { open_scopes self.new ≡ open_scopes self.old }
     {
-        push_content_header(&mut self.bytes, tag, content.kind())?;
-        let start = self.bytes.len();
-        content.append_to(&mut self.bytes, self.alloc)?;
-        write_length(&mut self.bytes, start)?;
+        if let Err(error) = push_item(&mut self.bytes, self.alloc, tag, content) {
+            return Err(error);
+        }
         self.has_records = true;
         Ok(())
     }
@@ -82,10 +82,8 @@ impl Buffer {
     /// # Errors
     /// [`BufferError::Memory`].
     pub fn append_open_type(&mut self, bytes: &[u8]) -> Result<(), BufferError>
-        ensures written { (marks : MarkBytes) (n : Name) (w : Written) →
-            HasWritten marks w self.old →
-            IfOk result (λ _. HasWritten marks (followed_by w (open_type n bytes.now ∷ []))
-            self.new) }
+        ensures written { (marks : MarkBytes) (n : Name) →
+            AppendsRecords marks self.old (open_type n bytes.now ∷ []) self.new result }
         ensures memory { IfErr result (λ e. e ≡ Memory) }
         ensures same_scopes { open_scopes self.new ≡ open_scopes self.old }
     {
@@ -98,6 +96,7 @@ impl Buffer {
     ///
     /// # Errors
     /// [`BufferError::Memory`].
+    #[inline(always)]
     pub fn append_mark(&mut self, bytes: &[u8]) -> Result<(), BufferError>
         ensures written { (marks : MarkBytes) (m : model.PresenceMark) (w : Written) →
             marks m ≡ bytes.now → HasWritten marks w self.old →
@@ -113,6 +112,7 @@ impl Buffer {
     ///
     /// # Errors
     /// [`BufferError::Memory`].
+    #[inline(always)]
     pub fn open_scope(&mut self, kind: u8, tag: Tag) -> Result<(), BufferError>
         ensures opened { (marks : MarkBytes) (h : model.Head) (w : Written) →
             kind_of h ≡ kind → head_tag h ≡ tag → HasWritten marks w self.old →
@@ -139,12 +139,9 @@ impl Buffer {
     ///
     /// # Errors
     /// [`BufferError::TooLong`] where 2^32 bytes or more are inside, and [`BufferError::NotOpen`] where no scope is innermost.
+    #[inline(always)]
     pub fn close_scope(&mut self) -> Result<(), BufferError>
-        ensures closed { (marks : MarkBytes) (h : model.Head) (rs : List model.Record)
-            (w : Written) → HasWritten marks (in_scope h rs w) self.old →
-            MatchResult result
-            (λ _. HasWritten marks (followed_by w (holding h rs ∷ [])) self.new)
-            (λ _. IsTooLong (written_with marks) (holding h rs)) }
+        ensures closed { (marks : MarkBytes) → EndsScope marks self.old self.new result }
         ensures one_less { OnOk result (open_scopes self.old ≡ suc (open_scopes self.new)) }
         ensures no_more { open_scopes self.new ≤ open_scopes self.old }
     {
@@ -190,12 +187,8 @@ impl Buffer {
     /// # Errors
     /// [`BufferError::Memory`], and [`BufferError::NotOpen`] where no group is innermost.
     pub fn close_group(&mut self, end_mark: &[u8], absent_mark: &[u8]) -> Result<(), BufferError>
-        ensures closed { (marks : MarkBytes) (table : Table Line) (rs : List model.Record)
-            (w : Written) → marks group_end ≡ end_mark.now → marks group_absent ≡ absent_mark.now →
-            HasWritten marks (in_group table rs w) self.old →
-            MatchResult result
-            (λ _. HasWritten marks (followed_by w (group_records table (Some rs))) self.new)
-            (λ e. e ≡ Memory) }
+        ensures closed { (marks : MarkBytes) →
+            EndsGroup marks end_mark.now absent_mark.now self.old self.new result }
         ensures same_scopes { OnOk result (open_scopes self.new ≡ open_scopes self.old) }
         ensures no_more { open_scopes self.new ≤ open_scopes self.old }
     {

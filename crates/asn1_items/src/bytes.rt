@@ -1,13 +1,16 @@
 //! The bytes of headers, of which a length is written later than what is around it.
+ghost use Rattle.asn1_items.specs.Buffers.{FillsLength};
 ghost use Rattle.asn1_items.specs.Headers.{tag_bytes};
 ghost use Rattle.asn1_items.specs.Numbers.{four_bytes};
-ghost use Rattle.std.specs.Prelude.{◌≡◌, ◌+◌, ◌<◌, ◌^◌, ◌≤◌, ◌∷◌, ◌++◌, [], IfOk, List, MatchResult, OnOk, ℕ, length};
+ghost use Rattle.asn1_items.specs.declared.error.BufferError.TheVariants.{Memory};
+ghost use Rattle.std.specs.Prelude.{◌≡◌, ◌≢◌, ◌+◌, ◌<◌, ◌^◌, ◌≤◌, ◌∷◌, ◌++◌, [], IfErr, IfOk, List, OnOk, ℕ, length};
 
 use crate::error::BufferError;
 use asn1_tags::Tag;
 use std::alloc::AllocError;
 
 /// Appends the header of an item of a content of this kind, with zeros for the length of what is inside.
+#[inline(always)]
 pub(crate) fn push_content_header(
     bytes: &mut Vec<u8>,
     tag: Tag,
@@ -21,7 +24,34 @@ pub(crate) fn push_content_header(
     bytes.extend_from_slice(&[1, tag.class as u8, a, b, c, d, content, 0, 0, 0, 0])
 }
 
+/// Appends the header of an item of a content of this kind with this many bytes, and makes room for them.
+///
+/// # Errors
+/// [`BufferError::Memory`], and [`BufferError::TooLong`] where they are 2^32 or more.
+#[inline(always)]
+pub(crate) fn push_sized_header(
+    bytes: &mut Vec<u8>,
+    tag: Tag,
+    content: u8,
+    size: usize,
+) -> Result<(), BufferError>
+    ensures appended { IfOk result (λ _. bytes.new.items ≡ bytes.old.items ++
+        1 ∷ (tag_bytes tag ++ content ∷ four_bytes size)) }
+    ensures fits { OnOk result ((tag.value < 2 ^ 32) × (size < 2 ^ 32)) }
+    ensures too_long { IfErr result (λ e. e ≢ Memory → 2 ^ 32 ≤ size) }
+{
+    let Ok(length) = u32::try_from(size) else {
+        return Err(BufferError::TooLong);
+    };
+    let [a, b, c, d] = tag.value.to_be_bytes();
+    let [e, f, g, h] = length.to_be_bytes();
+    bytes.reserve(11 + size)?;
+    bytes.extend_from_slice(&[1, tag.class as u8, a, b, c, d, content, e, f, g, h])?;
+    Ok(())
+}
+
 /// Appends the header of an item of this kind that holds others, with zeros for the length of what is inside.
+#[inline(always)]
 pub(crate) fn push_scope_header(bytes: &mut Vec<u8>, kind: u8, tag: Tag) -> Result<(), AllocError>
     ensures appended { IfOk result (λ _. bytes.new.items ≡ bytes.old.items ++
         kind ∷ (tag_bytes tag ++ 0 ∷ 0 ∷ 0 ∷ 0 ∷ [])) }
@@ -32,6 +62,7 @@ pub(crate) fn push_scope_header(bytes: &mut Vec<u8>, kind: u8, tag: Tag) -> Resu
 }
 
 /// Appends the bytes of a presence mark. Most have one byte, or none.
+#[inline(always)]
 pub(crate) fn push_mark(bytes: &mut Vec<u8>, mark: &[u8]) -> Result<(), AllocError>
     ensures { IfOk result (λ _. bytes.new.items ≡ bytes.old.items ++ mark.now) }
 {
@@ -46,14 +77,9 @@ pub(crate) fn push_mark(bytes: &mut Vec<u8>, mark: &[u8]) -> Result<(), AllocErr
 }
 
 /// Writes the length of what begins at a place over the four bytes before it.
+#[inline(always)]
 pub(crate) fn write_length(bytes: &mut Vec<u8>, start: usize) -> Result<(), BufferError>
-    ensures written { (before place inside : List ℕ) →
-        bytes.old.items ≡ before ++ (place ++ inside) → length place ≡ 4 →
-        start ≡ length before + 4 →
-        MatchResult result
-        (λ _. (length inside < 2 ^ 32) ×
-        (bytes.new.items ≡ before ++ (four_bytes (length inside) ++ inside)))
-        (λ _. 2 ^ 32 ≤ length inside) }
+    ensures written { FillsLength bytes.old.items start bytes.new.items result }
 {
     let end = bytes.len();
     if end < start {
@@ -67,6 +93,7 @@ pub(crate) fn write_length(bytes: &mut Vec<u8>, start: usize) -> Result<(), Buff
 }
 
 /// Writes a length over the four bytes that end at a place.
+#[inline(always)]
 fn patch(bytes: &mut Vec<u8>, start: usize, size: u32)
     ensures { (before place inside : List ℕ) → bytes.old.items ≡ before ++ (place ++ inside) →
         length place ≡ 4 → start ≡ length before + 4 →

@@ -30,6 +30,7 @@ pub enum Content<'a> {
 
 impl Content<'_> {
     /// The number of the kind of content, by which a header tells it.
+    #[inline(always)]
     pub fn kind(self) -> u8
         ensures { result ≡ content_kind (content_of self.entry) }
     {
@@ -46,6 +47,7 @@ impl Content<'_> {
     /// Appends the bytes of the content.
     ///
     /// After an error there are some of them.
+    #[inline(always)]
     pub fn append_to(self, bytes: &mut Vec<u8>, alloc: Global) -> Result<(), AllocError>
         ensures appended { IfOk result (λ _.
             Appended (IsContent (content_of self.entry)) bytes.old.items bytes.new.items) }
@@ -62,6 +64,7 @@ impl Content<'_> {
 }
 
 /// The number of the kind of a string.
+#[inline(always)]
 fn kind_of_string(string: AnyStr<'_>) -> u8
     ensures { result ≡ content_kind (content_of_str string.entry) }
 {
@@ -74,6 +77,7 @@ fn kind_of_string(string: AnyStr<'_>) -> u8
 }
 
 /// The number of a kind of string whose units are octets.
+#[inline(always)]
 pub(crate) fn kind_of_octets(kind: OctetKind) -> u8
     ensures { result ≡ string_kind (octet_kind kind) }
 {
@@ -90,6 +94,7 @@ pub(crate) fn kind_of_octets(kind: OctetKind) -> u8
 }
 
 /// Appends the bytes of a string.
+#[inline(always)]
 fn append_string(bytes: &mut Vec<u8>, string: AnyStr<'_>) -> Result<(), AllocError>
     ensures { IfOk result (λ _.
         Appended (IsContent (content_of_str string.entry)) bytes.old.items bytes.new.items) }

@@ -44,6 +44,7 @@ mod from_content;
 mod header;
 pub mod laws;
 mod numbers;
+mod scalars;
 mod slices;
 mod tags;
 

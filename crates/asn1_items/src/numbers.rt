@@ -2,7 +2,7 @@
 ghost use Rattle.asn1_items.specs.declared.error.ItemError.TheVariants.{Memory};
 ghost use Rattle.asn1_items.specs.Numbers.{Appended, AreFours, AreTwos, IsInteger};
 ghost use Rattle.asn1_values.specs.Numbers.{IsMagnitude, IsShortest, magnitude, signed};
-ghost use Rattle.std.specs.Prelude.{◌≡◌, ◌↔◌, ◌<ℤ◌, ◌≤◌, IfOk, IsTrue, List, MatchResult, ℕ, ℤ, length, pos, unsigned_abs};
+ghost use Rattle.std.specs.Prelude.{◌≡◌, ◌↔◌, ◌+◌, ◌<ℤ◌, ◌≤◌, IfOk, IsTrue, List, MatchResult, OnOk, ℕ, ℤ, length, pos, unsigned_abs};
 
 use crate::error::ItemError;
 use asn1_values::Integer;
@@ -46,17 +46,31 @@ fn append_absolute(bytes: &mut Vec<u8>, negative: bool, absolute: u128) -> Resul
     append_signed(bytes, negative, significant(&digits))
 }
 
-/// Appends a sign and a magnitude.
-fn append_signed(bytes: &mut Vec<u8>, negative: bool, digits: &[u8]) -> Result<(), AllocError>
-    ensures { (z : ℤ) → signed negative (magnitude digits.now) ≡ z → IsShortest digits.now →
+/// Appends a sign and a magnitude. One of one or two bytes is written as it is, with no call that copies it.
+#[inline(always)]
+pub(crate) fn append_signed(
+    bytes: &mut Vec<u8>,
+    negative: bool,
+    digits: &[u8],
+) -> Result<(), AllocError>
+    ensures appended { (z : ℤ) → signed negative (magnitude digits.now) ≡ z → IsShortest digits.now →
         (IsTrue negative ↔ (z <ℤ pos 0)) →
         IfOk result (λ _. Appended (IsInteger z) bytes.old.items bytes.new.items) }
+    ensures long { OnOk result
+        (length bytes.new.items ≡ length bytes.old.items + 1 + length digits.now) }
 {
-    bytes.push(u8::from(negative))?;
-    bytes.extend_from_slice(digits)
+    match digits {
+        [digit] => bytes.extend_from_slice(&[u8::from(negative), *digit]),
+        [high, low] => bytes.extend_from_slice(&[u8::from(negative), *high, *low]),
+        _ => {
+            bytes.push(u8::from(negative))?;
+            bytes.extend_from_slice(digits)
+        }
+    }
 }
 
 /// The bytes from the first that is not 0 on.
+#[inline(always)]
 pub fn significant(bytes: &[u8]) -> &[u8]
     ensures number { magnitude result.now ≡ magnitude bytes.now }
     ensures shortest { IsMagnitude result.now }

@@ -1,9 +1,9 @@
 //! The bytes that are read, list by list, in the packed form.
-ghost use Rattle.asn1_items.specs.Headers.{IsHeader, Meets, header_at, Header as Seen};
+ghost use Rattle.asn1_items.specs.Headers.{IsHeader, header_at, Header as Seen};
 ghost use Rattle.asn1_items.specs.Items.{marks_skipped};
-ghost use Rattle.asn1_items.specs.Slices.{IsTaken, left_inside, left_outside, open_lists};
+ghost use Rattle.asn1_items.specs.Slices.{TakesItem, left_inside, left_outside, open_lists};
 ghost use Rattle.std.specs.Bool.{Decides};
-ghost use Rattle.std.specs.Prelude.{◌≡◌, ◌∷◌, ◌++◌, [], IfErr, IsOkAnd, List, MatchResult, OnOk, Some, ℕ, false, length, suc, true};
+ghost use Rattle.std.specs.Prelude.{◌≡◌, ◌∷◌, [], IfErr, IsOkAnd, List, MatchResult, OnOk, Some, ℕ, false, suc, true};
 
 use crate::error::ItemError;
 use crate::header::{Header, Wanted, find_header};
@@ -83,10 +83,7 @@ impl<'a> Slices<'a> {
     /// As [`find_header`]; [`ItemError::Malformed`] where the header is not what is wanted; and [`ItemError::Missing`] where the
     /// bytes end before the item does, with the number of bytes that are missing inside it. Nothing is taken then.
     pub fn take_item(&mut self, wanted: Wanted) -> Result<Item<'a>, ItemError>
-        ensures took { (h : Seen) (inside back : List ℕ) →
-            header_at (left_inside self.old) ≡ Some h → h.body ≡ inside ++ back →
-            h.size ≡ length inside → Meets wanted h →
-            MatchResult result (λ i. IsTaken i h.tag inside back self.old self.new) (λ _. ⊥) }
+        ensures took { TakesItem wanted self.old self.new result }
         ensures outside { left_outside self.new ≡ left_outside self.old }
         ensures same_lists { open_lists self.new ≡ open_lists self.old }
     {

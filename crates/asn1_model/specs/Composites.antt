@@ -1,9 +1,10 @@
 -- The records of what is put together of parts, by the records of the parts.
-use Rattle.std.specs.Prelude.{ℕ, Bool, List, [], ◌∷◌, ◌++◌, Option, None, Some, if◌then◌else◌}
+use Rattle.std.specs.Prelude.{ℕ, Bool, List, [], ◌∷◌, ◌++◌, Option, None, Some, codes, if◌then◌else◌}
+use Rattle.std.specs.List.{flat_map}
 use Rattle.asn1_tags.specs.declared.tags.Tag.{Tag}
 use Rattle.asn1_tags.specs.Tags.{tag_eq}
 use Rattle.asn1_model.specs.ConstraintSets.{ConstraintSet}
-use Rattle.asn1_model.specs.Records.{Name, name_or, Record, PresenceMark, Side, open_type, presence_mark, holding, presence_marks_alone, sequence, set, sequence_of, set_of, explicit_tag, alternative, present, absent, group_start, group_absent, group_end}
+use Rattle.asn1_model.specs.Records.{Name, name_or, Record, scalar, units, utf8, PresenceMark, Side, open_type, presence_mark, holding, presence_marks_alone, sequence, set, sequence_of, set_of, explicit_tag, alternative, present, absent, group_start, group_absent, group_end}
 use Rattle.asn1_model.specs.RecordTables.{Line, Table}
 use Rattle.asn1_model.specs.Tags.{CHOICE}
 
@@ -20,6 +21,15 @@ list_records t c n elements = holding (sequence_of t c n) elements ∷ []
 
 abbrev pub set_of_records : Tag → ConstraintSet → Name → List Record → List Record
 set_of_records t c n elements = holding (set_of t c n) elements ∷ []
+
+-- A list of elements that have these records each, under the name that is given, or its own where that is none.
+abbrev pub elements_records : {V : Type 0} → (V → List Record) → Tag → ConstraintSet → Name → List V → List Record
+elements_records own t c n elements =
+    list_records t c (name_or n (Some (codes "SEQUENCE_OF"))) (flat_map own elements)
+
+-- A UTF8String of these bytes, in the same way.
+abbrev pub text_records : Tag → ConstraintSet → Name → List ℕ → List Record
+text_records t c n bytes = scalar t c (name_or n (Some (codes "UTF8String"))) (units utf8 bytes) ∷ []
 
 -- What follows an explicit tag (X.680, 31.2.7).
 abbrev pub explicit_tag_records : Tag → Name → List Record → List Record

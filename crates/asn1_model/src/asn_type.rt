@@ -34,6 +34,7 @@ pub trait AsnType {
         ensures { result ≡ meaning.is_present self.now };
 
     /// The type's own tag.
+    #[inline(always)]
     final fn tag() -> Tag
         ensures { result ≡ meaning.tag }
     {
@@ -41,6 +42,7 @@ pub trait AsnType {
     }
 
     /// The tags with which a value can begin under the type's own tag.
+    #[inline(always)]
     final fn tag_tree() -> TagTree<'static>
         ensures { shape result ≡ meaning.tree meaning.tag }
     {
@@ -49,6 +51,7 @@ pub trait AsnType {
 
     /// The tags with which a value can begin, where the type is written under this tag: the tag alone, but for
     /// an untagged CHOICE and an open type.
+    #[inline(always)]
     final fn tag_tree_under(tag: Tag) -> TagTree<'static>
         ensures { shape result ≡ meaning.tree tag }
     {
@@ -56,6 +59,7 @@ pub trait AsnType {
     }
 
     /// Whether the type is a CHOICE.
+    #[inline(always)]
     final fn is_choice() -> bool
         ensures { result ≡ meaning.is_choice }
     {
@@ -63,6 +67,7 @@ pub trait AsnType {
     }
 
     /// The type's name.
+    #[inline(always)]
     final fn identifier() -> Identifier
         ensures { name_of result ≡ meaning.name }
     {
@@ -71,6 +76,7 @@ pub trait AsnType {
 
     /// The type's constraints. Takes memory only where a permitted alphabet is among them, and fails only where the
     /// allocator refuses it.
+    #[inline(always)]
     final fn constraints(alloc: Global) -> Result<Constraints<'static>, AllocError>
         ensures set { IfOk result (λ set. constraint_set set ≡ meaning.constraints) }
         ensures without_alphabet { IsNone meaning.constraints.permitted_alphabet → IsOk result }

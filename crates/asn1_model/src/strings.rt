@@ -39,6 +39,7 @@ impl StringType<bool> for Bits {
 
     ghost content = { bits };
 
+    #[inline(always)]
     fn table() -> TypeTable {
         TypeTable::new(Tag::BIT_STRING, Identifier::BIT_STRING)
     }
@@ -51,6 +52,7 @@ impl StringType<u8> for Octets {
 
     ghost content = { units octet };
 
+    #[inline(always)]
     fn table() -> TypeTable {
         TypeTable::new(Tag::OCTET_STRING, Identifier::OCTET_STRING)
     }
@@ -63,6 +65,7 @@ impl StringType<u8> for General {
 
     ghost content = { units general };
 
+    #[inline(always)]
     fn table() -> TypeTable {
         TypeTable::new(Tag::GENERAL_STRING, Identifier::GENERAL_STRING)
     }
@@ -75,6 +78,7 @@ impl StringType<u8> for Graphic {
 
     ghost content = { units graphic };
 
+    #[inline(always)]
     fn table() -> TypeTable {
         TypeTable::new(Tag::GRAPHIC_STRING, Identifier::GRAPHIC_STRING)
     }
@@ -87,6 +91,7 @@ impl StringType<u32> for Teletex {
 
     ghost content = { units teletex };
 
+    #[inline(always)]
     fn table() -> TypeTable {
         TypeTable::new(Tag::TELETEX_STRING, Identifier::TELETEX_STRING)
     }
@@ -99,6 +104,7 @@ impl StringType<u16> for Bmp {
 
     ghost content = { units bmp };
 
+    #[inline(always)]
     fn table() -> TypeTable {
         TypeTable::new(Tag::BMP_STRING, Identifier::BMP_STRING)
     }
@@ -111,6 +117,7 @@ impl StringType<u8> for Visible {
 
     ghost content = { units visible };
 
+    #[inline(always)]
     fn table() -> TypeTable {
         TypeTable::new(Tag::VISIBLE_STRING, Identifier::VISIBLE_STRING)
     }
@@ -123,6 +130,7 @@ impl StringType<u8> for Ia5 {
 
     ghost content = { units ia5 };
 
+    #[inline(always)]
     fn table() -> TypeTable {
         TypeTable::new(Tag::IA5_STRING, Identifier::IA5_STRING)
     }
@@ -135,6 +143,7 @@ impl StringType<u8> for Numeric {
 
     ghost content = { units numeric };
 
+    #[inline(always)]
     fn table() -> TypeTable {
         TypeTable::new(Tag::NUMERIC_STRING, Identifier::NUMERIC_STRING)
     }
@@ -147,6 +156,7 @@ impl StringType<u8> for Printable {
 
     ghost content = { units printable };
 
+    #[inline(always)]
     fn table() -> TypeTable {
         TypeTable::new(Tag::PRINTABLE_STRING, Identifier::PRINTABLE_STRING)
     }

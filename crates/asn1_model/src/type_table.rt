@@ -21,6 +21,7 @@ pub enum TreeForm {
 
 impl TreeForm {
     /// The tags with which a value can begin under a tag.
+    #[inline(always)]
     pub fn under(self, tag: Tag) -> TagTree<'static>
         ensures { shape result ≡ tree_under self tag }
     {
@@ -32,6 +33,7 @@ impl TreeForm {
     }
 
     /// Whether it is that of a CHOICE.
+    #[inline(always)]
     pub fn is_choice(self) -> bool
         ensures { result ≡ is_of_choice self }
     {
@@ -56,6 +58,7 @@ impl TypeTable {
     ghost use Rattle.asn1_model.specs.declared.type_table.TreeForm.TheVariants.{Choice, Leaf};
 
     /// The table of a type of this tag and name, without constraints, whose values begin with its tag.
+    #[inline(always)]
     pub fn new(tag: Tag, identifier: Identifier) -> TypeTable
         ensures tag { result.tag ≡ tag }
         ensures tree { result.tree ≡ Leaf }
@@ -71,6 +74,7 @@ impl TypeTable {
     }
 
     /// The table of a CHOICE of these alternatives, of this name and without constraints.
+    #[inline(always)]
     pub fn choice(identifier: Identifier, alternatives: &'static [TagTree<'static>]) -> TypeTable
         ensures tag { result.tag ≡ CHOICE }
         ensures tree { result.tree ≡ Choice alternatives.entry }
@@ -86,6 +90,7 @@ impl TypeTable {
     }
 
     /// The table with these constraints in the place of its own.
+    #[inline(always)]
     pub fn with_constraints(self, constraints: ConstraintTable<'static>) -> TypeTable
         ensures tag { result.tag ≡ self.tag }
         ensures tree { result.tree ≡ self.tree }

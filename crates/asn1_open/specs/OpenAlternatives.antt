@@ -1,13 +1,15 @@
 -- Open ::= CHOICE of nine alternatives, each under its own tag, of which the last holds another such value.
-use Rattle.std.specs.Prelude.{ℕ, Bool as Truth, List, [], ◌∷◌, IsTrue, codes, refl}
+use Rattle.std.specs.Prelude.{◌≡◌, ℕ, Bool as Truth, true, List, [], ◌∷◌, IsTrue, Result, codes, refl}
 use Rattle.std.specs.String.{string_bytes}
 use Rattle.std.proofs.Common.{inl, inr}
 use Rattle.asn1_choices.specs.Alternatives.{Alternatives, OneOf, SaysTheSame, ValueMeaning, all_of, alternative, chosen_meaning, closed, says_itself, value_meaning}
 use Rattle.asn1_choices.specs.ChoiceTypes.{alternatives_with_itself, choice_holding_itself, inside_itself, table_with_itself}
+use Rattle.asn1_codec.specs.Reading.{Outside, Reader, ReadsBack}
+use Rattle.asn1_codec.specs.declared.decode_error.DecodeError.{DecodeError}
 use Rattle.asn1_components.specs.Components.{constructed_type_under}
 use Rattle.asn1_model.specs.Kinds.{object_identifier, string_type, utf8_string}
-use Rattle.asn1_model.specs.Meaning.{Meaning}
-use Rattle.asn1_model.specs.Records.{bits, units, octet, visible}
+use Rattle.asn1_model.specs.Meaning.{Meaning, own_records}
+use Rattle.asn1_model.specs.Records.{Record, bits, units, octet, visible}
 use Rattle.asn1_model.specs.RecordTables.{Line, Table}
 use Rattle.asn1_model.specs.TaggedTypes.{untagged}
 use Rattle.asn1_model.specs.Tags.{universal}
@@ -44,6 +46,11 @@ abbrev pub instance_type : {V : Type 0} → Meaning V → Meaning (Instance V)
 instance_type value = constructed_type_under
     (instance_of_components (λ instance. instance.type_id) (λ instance. instance.value) value)
     (universal 8) (codes "SEQUENCE")
+
+-- the names of the alternatives, which are rasn's words for them
+abbrev pub open_names : List (List ℕ)
+open_names = codes "BitString" ∷ codes "Bool" ∷ codes "Integer" ∷ codes "Null" ∷ codes "ObjectIdentifier" ∷
+    codes "OctetString" ∷ codes "UniversalString" ∷ codes "VisibleString" ∷ codes "InstanceOf" ∷ []
 
 -- the alternatives, beside what a value inside another is to them
 abbrev pub open_alternatives_with : Meaning Open → Alternatives
@@ -107,3 +114,10 @@ open_agrees (InstanceOf' place type_id value) = record { records = refl; of_type
 -- What an `Open` means.
 abbrev pub open_meaning : Meaning Open
 open_meaning = choice_holding_itself (codes "Open") open_alternatives_with open_means open_pick open_agrees
+
+-- A call that reads an INSTANCE OF around an `Open`: of each that is of its type and valid, it answers one that is equal.
+abbrev pub ReadsInstance : {D W : Type 0} → Reader D → (W → Instance Open → Truth) → D → D → Result W DecodeError → Type 0
+ReadsInstance R eq old new result =
+    (v : Instance Open) (rest : List Record) (outer : Outside) →
+    (instance_type open_meaning).IsOfType v → (instance_type open_meaning).IsValid R.accepts v →
+    ReadsBack R old new (own_records (instance_type open_meaning) v) rest outer (λ w. eq w v ≡ true) result

@@ -2,6 +2,7 @@
 ghost use Rattle.asn1_choices.specs.Alternatives.{all_of, names_of, trees_of, variance_of};
 ghost use Rattle.asn1_model.specs.ConstraintSets.{values_of};
 ghost use Rattle.asn1_model.specs.Tags.{universal};
+ghost use Rattle.asn1_open.specs.OpenAlternatives.{open_names};
 ghost use Rattle.asn1_ranges.specs.declared.bounded.Bounded.TheVariants.{Range};
 ghost use Rattle.asn1_tags.specs.Trees.{leaves_of};
 ghost use Rattle.std.specs.Prelude.{◌≡◌, [], ◌∷◌, Some, codes, pos};
@@ -12,10 +13,7 @@ use asn1_types::{AsnType, Choice};
 /// A law of the names: those of the alternatives are rasn's words for them, and the type's own is
 /// `Open`.
 pub fn alternatives_have_their_names()
-    ensures alternatives { names_of (all_of ⟦<Open as Choice>⟧.alternatives) ≡
-        codes "BitString" ∷ codes "Bool" ∷ codes "Integer" ∷ codes "Null" ∷
-        codes "ObjectIdentifier" ∷ codes "OctetString" ∷ codes "UniversalString" ∷
-        codes "VisibleString" ∷ codes "InstanceOf" ∷ [] }
+    ensures alternatives { names_of (all_of ⟦<Open as Choice>⟧.alternatives) ≡ open_names }
     ensures own { ⟦<Open as AsnType>⟧.meaning.name ≡ Some (codes "Open") }
 {}
 

@@ -2,16 +2,14 @@
 ghost use Rattle.asn1_choices.specs.Alternatives.{Each, all_of};
 ghost use Rattle.asn1_choices.specs.ChosenTags.{LacksTag};
 ghost use Rattle.asn1_codec.specs.DecodeErrors.{no_valid_choice, reason};
-ghost use Rattle.asn1_codec.specs.Reading.{KeepsDepth, Outside, ReadsBack, ReadsValue};
+ghost use Rattle.asn1_codec.specs.Reading.{KeepsDepth, ReadsValue};
 ghost use Rattle.asn1_codec.specs.ReadingTypes.{ReadsAlternative};
 ghost use Rattle.asn1_model.specs.ConstraintSets.{constraint_set};
-ghost use Rattle.asn1_model.specs.Meaning.{own_records};
-ghost use Rattle.asn1_model.specs.Records.{Record};
 ghost use Rattle.asn1_model.specs.Tags.{CHOICE};
-ghost use Rattle.asn1_open.specs.OpenAlternatives.{instance_type, open_alternatives, open_meaning, open_pick};
+ghost use Rattle.asn1_open.specs.OpenAlternatives.{ReadsInstance, open_alternatives, open_meaning, open_pick};
 ghost use Rattle.asn1_open.specs.declared.open_value.Open.{Open};
 ghost use Rattle.asn1_types.specs.declared.instance_of.InstanceOf.{InstanceOf};
-ghost use Rattle.std.specs.Prelude.{◌≡◌, List, OnOk, codes, true};
+ghost use Rattle.std.specs.Prelude.{◌≡◌, OnOk, codes};
 ghost use Rattle.std.specs.Result.{IsErrAnd};
 
 use crate::open_value::Open;
@@ -67,8 +65,8 @@ fn read_untagged<D: Decoder>(
 /// The alternative that can begin with the tag.
 #[cycle(opens)]
 pub(crate) fn read_alternative<D: Decoder>(decoder: &mut D, tag: Tag) -> Result<Open, DecodeError>
-    ensures read { ReadsAlternative D.reader tag open_alternatives open_pick ⟦<Open as PartialEq>⟧.eq
-        decoder.old decoder.new result }
+    ensures read { ReadsAlternative D.reader tag open_alternatives open_pick
+        ⟦<Open as PartialEq>⟧.eq decoder.old decoder.new result }
     ensures unknown { Each (LacksTag tag) (all_of open_alternatives) →
         IsErrAnd result (λ e. reason e ≡ no_valid_choice (codes "Open")) }
     ensures same_depth { OnOk result (D.reader.depth_left decoder.new ≡
@@ -121,11 +119,8 @@ pub(crate) fn read_alternative<D: Decoder>(decoder: &mut D, tag: Tag) -> Result<
 /// An INSTANCE OF around an `Open`.
 #[cycle(opens)]
 fn read_instance<D: Decoder>(decoder: &mut D) -> Result<InstanceOf<Open>, DecodeError>
-    ensures read { (v : InstanceOf Open) (rest : List Record) (outer : Outside) →
-        (instance_type open_meaning).IsOfType v →
-        (instance_type open_meaning).IsValid D.reader.accepts v →
-        ReadsBack D.reader decoder.old decoder.new (own_records (instance_type open_meaning) v) rest
-        outer (λ w. ⟦<InstanceOf<Open> as PartialEq>⟧.eq w v ≡ true) result }
+    ensures read { ReadsInstance D.reader ⟦<InstanceOf<Open> as PartialEq>⟧.eq decoder.old
+        decoder.new result }
     ensures same_depth { OnOk result (D.reader.depth_left decoder.new ≡
         D.reader.depth_left decoder.old) }
 {

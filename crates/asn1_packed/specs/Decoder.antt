@@ -1,15 +1,24 @@
 -- What remains to be read by a decoder over items, and what it opens.
-use Rattle.std.specs.Prelude.{◌≡◌}
+use Rattle.std.specs.Prelude.{◌≡◌, ℕ, false, List, ◌++◌, Some, Result, MatchResult, length}
 use Rattle.asn1_codec.specs.ReadingUpToOrder.{up_to_order}
 use Rattle.asn1_codec.specs.Reading.{Reader, Remaining}
-use Rattle.asn1_items.specs.Headers.{is_one_item, kind_of}
+use Rattle.asn1_codec.specs.ReadingTypes.{ReadsContent}
+use Rattle.asn1_codec.specs.declared.decode_error.DecodeError.{DecodeError}
+use Rattle.asn1_items.specs.Contents.{LooksLike}
+use Rattle.asn1_items.specs.Headers.{Header, Meets, header_at, is_one_item, kind_of}
 use Rattle.asn1_items.specs.Items.{HasBytes, HaveBytes, MarkBytes, read_with}
+use Rattle.asn1_items.specs.Slices.{IsTaken, left_inside}
 use Rattle.asn1_items.specs.declared.header.Wanted.{Wanted}
 use Rattle.asn1_items.specs.declared.header.Wanted.TheVariants.{Content, Scope, Alternative, Any}
+use Rattle.asn1_items.specs.declared.slices.Item.{Item}
+use Rattle.asn1_model.specs.ConstraintSets.{ConstraintSet}
+use Rattle.asn1_model.specs.Records as model
 use Rattle.asn1_model.specs.Records.{Head, held}
 use Rattle.asn1_model.specs.Tags.{head_tag}
 use Rattle.asn1_packed.specs.declared.decoder.ItemDecoder.{ItemDecoder}
 use Rattle.asn1_scopes.specs.Remaining.{ReadForm, exact_reader}
+use Rattle.asn1_scopes.specs.declared.scopes.Scopes.{Scopes}
+use Rattle.asn1_tags.specs.declared.tags.Tag.{Tag}
 
 -- The form in which the decoder reads records: that of items, with presence marks of these bytes. It takes what is one item as
 -- one value of an open type.
@@ -39,3 +48,17 @@ IsWanted (Content t k) h = ⊥
 IsWanted (Scope k t) h = (kind_of h ≡ k) × (head_tag h ≡ t)
 IsWanted Alternative h = kind_of h ≡ 7
 IsWanted Any h = ⊥
+
+-- A call that takes the next item. Where no call has failed and the bytes that are left begin with the item of a header that is
+-- what is wanted, it is taken, and what follows it is left.
+abbrev pub TakesItem : Wanted → Scopes → Scopes → Result Item DecodeError → Type 0
+TakesItem wanted old new result =
+    (h : Header) (inside back : List ℕ) → old.failed ≡ false → header_at (left_inside old.slices) ≡ Some h →
+    h.body ≡ inside ++ back → h.size ≡ length inside → Meets wanted h →
+    MatchResult result (λ i. IsTaken i h.tag inside back old.slices new.slices) (λ _. ⊥)
+
+-- a call that reads each content under this tag which has the bytes and the kind of this one, with any constraints
+abbrev pub ReadsContentLike : {D X V : Type 0} → Reader D → Tag → (X → model.Content) → (X → Type 0) → (V → X → Type 0) → D → D → Result V DecodeError → Type 0
+ReadsContentLike {X = X} R t own IsOfType Is old new result =
+    (content : X → model.Content) → ((x : X) → LooksLike (content x) (own x)) → (c : ConstraintSet) →
+    ReadsContent R t c content IsOfType Is old new result

@@ -29,24 +29,20 @@ pub struct ItemDecoder<'a, P> {
 
 impl<'a, P: Presence> ItemDecoder<'a, P> {
     ghost use Rattle.asn1_codec.specs.DecodeErrors.{custom, reason};
-    ghost use Rattle.asn1_codec.specs.Reading.{OpensNothing, OpensScope, ReadsHead, ReadsHeadOfSet, TellsPresence, records_in};
-    ghost use Rattle.asn1_codec.specs.ReadingTypes.{ReadsContent};
+    ghost use Rattle.asn1_codec.specs.Reading.{OpensNothing, TakesDepth, TellsPresence};
     ghost use Rattle.asn1_codec.specs.declared.decode_error.DecodeError.TheVariants.{Failed};
-    ghost use Rattle.asn1_items.specs.Contents.{LooksLike};
-    ghost use Rattle.asn1_items.specs.Headers.{Header, Meets, header_at, is_one_item};
-    ghost use Rattle.asn1_items.specs.Slices.{IsTaken, left_inside, left_outside};
-    ghost use Rattle.asn1_model.specs.ConstraintSets.{ConstraintSet};
-    ghost use Rattle.asn1_model.specs.Orders.{is_unordered};
+    ghost use Rattle.asn1_items.specs.Headers.{is_one_item};
+    ghost use Rattle.asn1_items.specs.Slices.{left_outside};
     ghost use Rattle.asn1_model.specs.Records as model;
-    ghost use Rattle.asn1_model.specs.Records.{Name, Side, absent, present};
+    ghost use Rattle.asn1_model.specs.Records.{Side, absent, present};
     ghost use Rattle.asn1_model.specs.Tags.{tree_tags};
     ghost use Rattle.asn1_model.specs.WellFormed.{AreWellFormed};
     ghost use Rattle.asn1_packed.specs.Carried.{CarriesWith};
-    ghost use Rattle.asn1_packed.specs.Decoder.{IsWanted, Remains, in_one_order, item_reader};
-    ghost use Rattle.asn1_scopes.specs.Remaining.{OpensWanted};
+    ghost use Rattle.asn1_packed.specs.Decoder.{IsWanted, ReadsContentLike, Remains, TakesItem, in_one_order, item_reader};
+    ghost use Rattle.asn1_scopes.specs.Remaining.{IsWithinBound, OpensWanted, ReadsWantedHead, ReadsWantedSet};
     ghost use Rattle.asn1_tags.specs.Trees.{shape};
     ghost use Rattle.asn1_tags.specs.declared.tags.Tag.{Tag as Under};
-    ghost use Rattle.std.specs.Prelude.{◌≡◌, ◌≢◌, ◌↔◌, ◌≤◌, ◌++◌, [], ⊤, Err, IfErr, IsOk, List, MatchResult, OnOk, Some, codes, false, length, ℕ, true};
+    ghost use Rattle.std.specs.Prelude.{◌≡◌, ◌≢◌, ◌↔◌, [], ⊤, Err, IfErr, IsOk, List, OnOk, codes, false, true};
 
     /// A decoder of these bytes, which may open this many nested scopes.
     pub fn new(alloc: Global, bytes: &'a [u8], depth: usize) -> ItemDecoder<'a, P>
@@ -78,12 +74,7 @@ impl<'a, P: Presence> ItemDecoder<'a, P> {
 
     /// Takes the next item, which is to be what is wanted.
     fn take(&mut self, wanted: Wanted) -> Result<Item<'a>, DecodeError>
-        ensures took { (h : Header) (inside back : List ℕ) → self.old.scopes.failed ≡ false →
-            header_at (left_inside self.old.scopes.slices) ≡ Some h → h.body ≡ inside ++ back →
-            h.size ≡ length inside → Meets wanted h →
-            MatchResult result
-            (λ i. IsTaken i h.tag inside back self.old.scopes.slices self.new.scopes.slices)
-            (λ _. ⊥) }
+        ensures took { TakesItem wanted self.old.scopes self.new.scopes result }
         ensures outside { OnOk result
             (left_outside self.new.scopes.slices ≡ left_outside self.old.scopes.slices) }
         ensures opens_nothing { OpensNothing (item_reader P.mark_bytes) self.old self.new result }
@@ -100,9 +91,7 @@ impl<'a, P: Presence> ItemDecoder<'a, P> {
 
     /// A content under a tag.
     fn scalar<V: FromContent>(&mut self, tag: Tag) -> Result<V, DecodeError>
-        ensures read { (content : V.Value → model.Content) →
-            ((x : V.Value) → LooksLike (content x) (V.content x)) → (c : ConstraintSet) →
-            ReadsContent (item_reader P.mark_bytes) tag c content V.IsOfType V.Is
+        ensures read { ReadsContentLike (item_reader P.mark_bytes) tag V.content V.IsOfType V.Is
             self.old self.new result }
         ensures opens_nothing { OpensNothing (item_reader P.mark_bytes) self.old self.new result }
     {
@@ -134,7 +123,7 @@ impl<'a, P: Presence> ItemDecoder<'a, P> {
     fn open(&mut self, wanted: Wanted) -> Result<Opened, DecodeError>
         ensures read { OpensWanted (in_one_order P.mark_bytes) (IsWanted wanted)
             self.old self.new result }
-        ensures opens_scope { OpensScope (item_reader P.mark_bytes) self.old self.new result }
+        ensures takes_depth { TakesDepth (item_reader P.mark_bytes) self.old self.new result }
     {
         if self.scopes.failed {
             return Err(DecodeError::Failed);
@@ -148,10 +137,9 @@ impl<'a, P: Presence> ItemDecoder<'a, P> {
 
     /// Opens a scope in which the order of the records means something.
     fn open_in_order(&mut self, wanted: Wanted) -> Result<(), DecodeError>
-        ensures read { (head : Name → model.Head) → ((n : Name) → IsWanted wanted (head n)) →
-            ((n : Name) → is_unordered (head n) ≡ false) →
-            ReadsHead (item_reader P.mark_bytes) self.old self.new head (λ _ _. ⊤) result }
-        ensures opens_scope { OpensScope (item_reader P.mark_bytes) self.old self.new result }
+        ensures read { ReadsWantedHead (item_reader P.mark_bytes) (IsWanted wanted) (λ _ _. ⊤)
+            self.old self.new result }
+        ensures takes_depth { TakesDepth (item_reader P.mark_bytes) self.old self.new result }
     {
         self.open(wanted)?;
         Ok(())
@@ -159,14 +147,11 @@ impl<'a, P: Presence> ItemDecoder<'a, P> {
 
     /// Opens a list of elements or the components of a set, and answers how many bytes are in it.
     fn open_list(&mut self, wanted: Wanted) -> Result<usize, DecodeError>
-        ensures read { (head : Name → model.Head) → ((n : Name) → IsWanted wanted (head n)) →
-            ((n : Name) → is_unordered (head n) ≡ false) →
-            ReadsHead (item_reader P.mark_bytes) self.old self.new head
-            (λ items bound. records_in items ≤ bound) result }
-        ensures read_set { (head : Name → model.Head) → ((n : Name) → IsWanted wanted (head n)) →
-            ReadsHeadOfSet (item_reader P.mark_bytes) self.old self.new head
-            (λ items bound. records_in items ≤ bound) result }
-        ensures opens_scope { OpensScope (item_reader P.mark_bytes) self.old self.new result }
+        ensures read { ReadsWantedHead (item_reader P.mark_bytes) (IsWanted wanted) IsWithinBound
+            self.old self.new result }
+        ensures read_set { ReadsWantedSet (item_reader P.mark_bytes) (IsWanted wanted) IsWithinBound
+            self.old self.new result }
+        ensures takes_depth { TakesDepth (item_reader P.mark_bytes) self.old self.new result }
     {
         let opened = self.open(wanted)?;
         Ok(opened.bound)
@@ -176,7 +161,7 @@ impl<'a, P: Presence> ItemDecoder<'a, P> {
 impl<'a, P: Presence> Decoder for ItemDecoder<'a, P> {
     ghost use Rattle.asn1_codec.proofs.ReadingUpToOrder.{lawful};
     ghost use Rattle.asn1_packed.specs.Decoder.{in_one_order, item_reader};
-    ghost use Rattle.std.specs.Prelude.{◌≡◌};
+    ghost use Rattle.std.specs.Prelude.{◌≡◌, true};
 
     ghost reader = { item_reader P.mark_bytes };
 
@@ -194,7 +179,11 @@ impl<'a, P: Presence> Decoder for ItemDecoder<'a, P> {
         self.alloc
     }
 
-    fn refuse(&mut self, error: DecodeError) -> DecodeError {
+    fn refuse(&mut self, error: DecodeError) -> DecodeError
+        ensures same { result ≡ error }
+        ensures has_failed { self.new.scopes.failed ≡ true }
+        ensures same_depth { self.new.scopes.depth_left ≡ self.old.scopes.depth_left }
+    {
         self.scopes.fail(error)
     }
 

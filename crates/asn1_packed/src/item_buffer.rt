@@ -1,6 +1,6 @@
 //! The bytes of items, as an encoder writes them.
 ghost use Rattle.asn1_buffers.specs.declared.error.WriteError.TheVariants.{Memory};
-ghost use Rattle.asn1_buffers.specs.Kinds.{kind_of_scope};
+ghost use Rattle.asn1_buffers.specs.MarksAndScopes.{kind_of_scope};
 ghost use Rattle.asn1_items.specs.Headers.{kind_of};
 ghost use Rattle.asn1_items.specs.declared.error.BufferError.TheVariants as buffer_error;
 ghost use Rattle.asn1_model.specs.Records.{Head};
@@ -46,6 +46,7 @@ impl<P: Presence> RecordBuffer for ItemBuffer<P> {
         self.items.finish()
     }
 
+    #[inline(always)]
     fn append_scalar(&mut self, tag: Tag, content: Content<'_>) -> Result<(), WriteError> {
         match self.items.append_scalar(tag, content) {
             Ok(()) => Ok(()),
@@ -60,6 +61,7 @@ impl<P: Presence> RecordBuffer for ItemBuffer<P> {
         }
     }
 
+    #[inline(always)]
     fn append_mark(&mut self, kind: MarkKind) -> Result<(), WriteError> {
         match self.items.append_mark(P::bytes_of_mark(kind)) {
             Ok(()) => Ok(()),
@@ -67,6 +69,7 @@ impl<P: Presence> RecordBuffer for ItemBuffer<P> {
         }
     }
 
+    #[inline(always)]
     fn begin_scope(&mut self, kind: ScopeKind, tag: Tag) -> Result<(), WriteError> {
         match self.items.open_scope(number_of(kind), tag) {
             Ok(()) => Ok(()),
@@ -74,6 +77,7 @@ impl<P: Presence> RecordBuffer for ItemBuffer<P> {
         }
     }
 
+    #[inline(always)]
     fn end_scope(&mut self) -> Result<(), WriteError> {
         match self.items.close_scope() {
             Ok(()) => Ok(()),
@@ -104,6 +108,7 @@ impl<P: Presence> RecordBuffer for ItemBuffer<P> {
 }
 
 /// The error, as an encoder is told it.
+#[cold]
 fn told(error: BufferError) -> WriteError
     ensures { (result ≡ Memory) ↔ (error ≡ buffer_error.Memory) }
 {
@@ -115,6 +120,7 @@ fn told(error: BufferError) -> WriteError
 }
 
 /// The number of a kind of scope, by which a header tells it.
+#[inline(always)]
 fn number_of(kind: ScopeKind) -> u8
     ensures { (h : Head) → kind_of_scope h ≡ kind → kind_of h ≡ result }
 {

@@ -29,7 +29,7 @@
 //!   call has failed (`failed`) or that some is left (`bad_item`).
 //! - The format of a codec over items (`item_format` of `specs/Format.antt`) keeps to its law. [`write_whole`] writes by it, and
 //!   what it gives [`read_whole`] reads back equal (`read`); what a type refuses it refuses (`refuses`), and bytes that are left
-//!   (`none_left`).
+//!   (`none_left`; the words are in `specs/Whole.antt`).
 //!
 //! About bytes that are not those of the type nothing is promised. Tests have that the error is `Custom` with the text
 //! `bad item` where they are not what is asked for, and `Incomplete` where they end outside all scopes, with the number of

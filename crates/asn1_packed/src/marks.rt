@@ -27,6 +27,7 @@ impl Presence for PresenceMarks {
         Codec::Other(0)
     }
 
+    #[inline(always)]
     fn bytes_of_mark(kind: MarkKind) -> &'static [u8] {
         match kind {
             MarkKind::Present => &[0x10],

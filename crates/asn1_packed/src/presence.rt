@@ -1,6 +1,6 @@
 //! How what may be absent is told.
 ghost use Rattle.asn1_bounds.specs.declared.codec.Codec.{Codec};
-ghost use Rattle.asn1_buffers.specs.Kinds.{kind_of_mark};
+ghost use Rattle.asn1_buffers.specs.MarksAndScopes.{kind_of_mark};
 ghost use Rattle.asn1_codec.specs.Reading.{marks_passed};
 ghost use Rattle.asn1_components.specs.ComponentLists.{trees_of};
 ghost use Rattle.asn1_components.specs.Components.{all_components, lines};

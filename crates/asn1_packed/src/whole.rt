@@ -1,9 +1,6 @@
 //! A value that is read of all of its bytes.
-ghost use Rattle.asn1_model.specs.Meaning.{IsWellTagged, own_records};
-ghost use Rattle.asn1_model.specs.Records as model;
-ghost use Rattle.asn1_model.specs.Records.{highest};
-ghost use Rattle.asn1_rules.specs.Rules.{ReadsWhole, RefusesWhole};
-ghost use Rattle.std.specs.Prelude.{◌≡◌, ◌↔◌, ◌++◌, [], IsErr, IsOk, List, true};
+ghost use Rattle.asn1_packed.specs.Whole.{ReadsOwnRecords, RefusesAsItsType, RefusesWhatFollows};
+ghost use Rattle.std.specs.Prelude.{◌↔◌, [], IsOk};
 
 use crate::decoder::ItemDecoder;
 use crate::presence::Presence;
@@ -32,19 +29,9 @@ impl<'a, P: Presence> WholeDecoder for ItemDecoder<'a, P> {
 /// than the depth left, and else [`DecodeError::Memory`]. Where records remain that the type refuses, the error of the type, or
 /// one of these two in the same way. Before others, the error of the decoder.
 pub fn read_whole<T: Decode, D: WholeDecoder>(mut decoder: D) -> Result<T, DecodeError>
-    ensures read { (v : T) → IsWellTagged T.meaning → T.meaning.IsOfType v →
-        T.meaning.IsValid D.reader.accepts v →
-        D.reader.remains decoder (own_records T.meaning v, []) →
-        ReadsWhole (highest (own_records T.meaning v)) (D.reader.depth_left decoder)
-        (λ w. T.eq w v ≡ true) result }
-    ensures refuses { (rs : List model.Record) (error : _) →
-        T.refusals D.reader.accepts T.meaning.tag T.meaning.constraints rs error →
-        D.reader.remains decoder (rs, []) →
-        RefusesWhole (highest rs) (D.reader.depth_left decoder) error result }
-    ensures none_left { (v : T) (rest : List model.Record) → IsWellTagged T.meaning →
-        T.meaning.IsOfType v → T.meaning.IsValid D.reader.accepts v →
-        D.reader.remains decoder (own_records T.meaning v ++ rest, []) →
-        ((d : D) → D.reader.remains d (rest, []) → D.reader.remains d ([], []) → ⊥) → IsErr result }
+    ensures read { ReadsOwnRecords D.reader T.meaning T.eq decoder result }
+    ensures refuses { RefusesAsItsType D.reader T.meaning T.refusals decoder result }
+    ensures none_left { RefusesWhatFollows D.reader T.meaning decoder result }
 {
     let value = T::decode(&mut decoder)?;
     decoder.end()?;

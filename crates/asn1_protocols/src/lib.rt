@@ -7,11 +7,15 @@
 //!
 //! What the contracts promise:
 //!
-//! - Each type can be inside other types (`bind_request_is_well_tagged` and the like). Tables, meaning, writer and reader are proved
+//! - Each type can be inside other types (`bind_request_is_well_tagged` and the like), and which of its values are valid is said
+//!   (`bind_request_is_valid` and the like). Tables, meaning, writer and reader are proved
 //!   to say the same.
-//! - A component that is its default is written as absent (`no_children_are_absent` of [`personnel`]), and a type with a tag of its
-//!   own is under it (`bind_request_records` of [`ldap`]).
+//! - A component that is its default is written as absent (`no_children_are_absent`), and a type with a tag of its
+//!   own is under it (`bind_request_has_its_records`).
 #![tactic(auto, using(asn1_tags::proofs::Leaves::tree_shapes))]
 
+mod laws;
 pub mod ldap;
 pub mod personnel;
+
+pub use laws::{bind_request_has_its_records, date_has_its_records, no_children_are_absent};

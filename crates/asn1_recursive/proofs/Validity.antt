@@ -15,17 +15,17 @@ use Rattle.asn1_recursive.specs.declared.substring.Substring.{Substring}
 use Rattle.asn1_recursive.specs.declared.substring.Substring.TheVariants.{Initial, Any, Final}
 
 -- a part of a text, and the parts
-substring_valid : (accepts : List ℕ → Bool) (part : Substring) → substring.meaning.IsValid accepts part
+pub substring_valid : (accepts : List ℕ → Bool) (part : Substring) → substring.meaning.IsValid accepts part
 substring_valid accepts (Initial octets) = tt
 substring_valid accepts (Any octets) = tt
 substring_valid accepts (Final octets) = tt
 
-substrings_valid : (accepts : List ℕ → Bool) (parts : List Substring) → All (substring.meaning.IsValid accepts) parts
+pub substrings_valid : (accepts : List ℕ → Bool) (parts : List Substring) → All (substring.meaning.IsValid accepts) parts
 substrings_valid accepts [] = All-nil (substring.meaning.IsValid accepts)
 substrings_valid accepts (part ∷ rest) = All-cons (substring.meaning.IsValid accepts) part rest (substring_valid accepts part) (substrings_valid accepts rest)
 
 -- nothing is asked of what may be absent
-if_some : {X : Type 0} (o : Option X) → IfSome o (λ _. ⊤)
+pub if_some : {X : Type 0} (o : Option X) → IfSome o (λ _. ⊤)
 if_some None = tt
 if_some (Some x) = tt
 

@@ -26,6 +26,11 @@ use Rattle.asn1_recursive.specs.declared.filter.Filter.{Filter, And', Or', Not',
 abbrev pub octet_string : Meaning (List ℕ)
 octet_string = string_type octets.own_tag octets.own_name octet.IsInRange octets.content
 
+-- the names of the alternatives, in the order of the definition
+abbrev pub filter_names : List (List ℕ)
+filter_names = codes "and" ∷ codes "or" ∷ codes "not" ∷ codes "equalityMatch" ∷ codes "substrings" ∷ codes "greaterOrEqual" ∷
+    codes "lessOrEqual" ∷ codes "present" ∷ codes "approxMatch" ∷ codes "extensibleMatch" ∷ []
+
 -- the alternatives, beside what a filter is to them
 abbrev pub filter_alternatives_with : Meaning Filter → Alternatives
 filter_alternatives_with itself = extensible (

@@ -1,3 +1,4 @@
 pub mod NodeComponents
 pub mod FilterAlternatives
 pub mod NestedAlternatives
+pub mod ReadingWhole

@@ -13,7 +13,7 @@ use Rattle.asn1_components.specs.ComponentLists.{all_well_formed}
 use Rattle.asn1_components.specs.Components.{AgreesWithComponents, Components, all_components, component_records, components_with_itself, head_in, holding_itself, inside_itself, is_sequence, sequence, table_with_itself}
 use Rattle.asn1_components.specs.ComponentTypes.{optional, required}
 use Rattle.asn1_recursive.specs.declared.node.Node.{Node, Node-F, out-Node, fold-Node, fold_out-Node}
-use Rattle.asn1_model.specs.Composites.{list_records, option_records}
+use Rattle.asn1_model.specs.Composites.{list_records, option_records, sequence_records}
 use Rattle.asn1_model.specs.ConstraintSets.{unconstrained}
 use Rattle.asn1_model.specs.Kinds.{Inside, list_type, utf8_string}
 use Rattle.asn1_model.specs.Meaning.{Meaning, own_records}
@@ -141,3 +141,10 @@ node_agrees = record {
   of_type = each_label (λ label. IfSome label text.IsOfType);
   valid = λ accepts. each_label (λ label. IfSome label (text.IsValid accepts));
 }
+
+-- Node ::= SEQUENCE { label UTF8String OPTIONAL, children SEQUENCE OF Node }: what a node is to every codec, by what its
+-- children are
+abbrev pub records_by_children : Node → List Record
+records_by_children n = sequence_records (universal 16) node_table (Some (codes "Node")) (
+    option_records in_root (universal 12) (option_map (own_records text) (out-Node n).label) ++
+    list_records (universal 16) unconstrained (Some (codes "SEQUENCE_OF")) (flat_map (own_records node_meaning) (out-Node n).children.items))

@@ -2,18 +2,15 @@
 ghost use Rattle.asn1_choices.specs.Alternatives.{Each, all_of};
 ghost use Rattle.asn1_choices.specs.ChosenTags.{LacksTag};
 ghost use Rattle.asn1_codec.specs.DecodeErrors.{no_valid_choice, reason};
-ghost use Rattle.asn1_codec.specs.Reading.{KeepsDepth, Advances, Outside, ReadsBack, ReadsValue};
+ghost use Rattle.asn1_codec.specs.Reading.{KeepsDepth, ReadsValue};
 ghost use Rattle.asn1_codec.specs.ReadingTypes.{ReadsAlternative};
-ghost use Rattle.asn1_model.specs.Composites.{set_of_records};
-ghost use Rattle.asn1_model.specs.ConstraintSets.{constraint_set, unconstrained};
-ghost use Rattle.asn1_model.specs.Meaning.{own_records};
-ghost use Rattle.asn1_model.specs.Records.{Head, Name, Record, highest};
+ghost use Rattle.asn1_model.specs.ConstraintSets.{constraint_set};
 ghost use Rattle.asn1_model.specs.Tags.{CHOICE};
 ghost use Rattle.asn1_recursive.specs.FilterAlternatives.{filter_alternatives, filter_meaning, filter_pick};
+ghost use Rattle.asn1_recursive.specs.ReadingWhole.{ReadsAllLeft, ReadsSetUnder};
 ghost use Rattle.asn1_recursive.specs.declared.filter.Filter.{Filter};
 ghost use Rattle.std.specs.Cmp.Lexicographic.{pointwise};
-ghost use Rattle.std.specs.List.{flat_map};
-ghost use Rattle.std.specs.Prelude.{◌≡◌, ◌≤◌, [], ◌∷◌, All, List, OnErr, OnOk, codes, length, true};
+ghost use Rattle.std.specs.Prelude.{◌≡◌, OnErr, OnOk, codes, true};
 ghost use Rattle.std.specs.Result.{IsErrAnd};
 
 use crate::attribute_value_assertion::AttributeValueAssertion;
@@ -120,11 +117,8 @@ pub(crate) fn read_alternative<D: Decoder>(decoder: &mut D, tag: Tag) -> Result<
 /// A set of filters under a tag, in whatever order they come.
 #[cycle(filters)]
 fn read_set<D: Decoder>(decoder: &mut D, tag: Tag) -> Result<SetOf<Filter>, DecodeError>
-    ensures read { (vs : List Filter) (n : Name) (rest : List Record) (outer : Outside) →
-        All filter_meaning.IsOfType vs → All (filter_meaning.IsValid D.reader.accepts) vs →
-        ReadsBack D.reader decoder.old decoder.new (set_of_records tag unconstrained n
-        (flat_map (own_records filter_meaning) vs)) rest outer
-        (λ w. ⟦<SetOf<Filter> as PartialEq>⟧.eq w vs ≡ true) result }
+    ensures read { ReadsSetUnder D.reader filter_meaning tag ⟦<SetOf<Filter> as PartialEq>⟧.eq
+        decoder.old decoder.new result }
     ensures keeps_depth { KeepsDepth D.reader decoder.old decoder.new result }
 {
     let bound = decoder.open_set_of(tag, &Constraints::NONE)?;
@@ -136,13 +130,8 @@ fn read_set<D: Decoder>(decoder: &mut D, tag: Tag) -> Result<SetOf<Filter>, Deco
 /// The filters that are left in the innermost scope, of which there are at most `bound`.
 #[cycle(filters)]
 fn read_filters<D: Decoder>(decoder: &mut D, bound: usize) -> Result<Vec<Filter>, DecodeError>
-    ensures read { (vs : List Filter) (scope : Head × List Record) (outer : Outside) →
-        All filter_meaning.IsOfType vs → All (filter_meaning.IsValid D.reader.accepts) vs →
-        length vs ≤ bound →
-        Advances D.reader decoder.old decoder.new
-        (highest (flat_map (own_records filter_meaning) vs))
-        (flat_map (own_records filter_meaning) vs, scope ∷ outer) ([], scope ∷ outer)
-        (λ w. pointwise ⟦<Filter as PartialEq>⟧.eq w.items vs ≡ true) result }
+    ensures read { ReadsAllLeft D.reader filter_meaning bound
+        (λ w. pointwise ⟦<Filter as PartialEq>⟧.eq w.items) decoder.old decoder.new result }
     ensures same_depth { OnOk result (D.reader.depth_left decoder.new ≡
         D.reader.depth_left decoder.old) }
     ensures has_failed { OnErr result (D.reader.failed decoder.new ≡ true) }

@@ -1,16 +1,22 @@
-//! Laws of what no other contract names: the names in the tables, and which trees are equal.
+//! Laws of what no other contract names: the names in the tables, that the parts of a filter are valid, and
+//! which trees are equal.
 ghost use Rattle.asn1_choices.specs.Alternatives.{all_of, names_of};
 ghost use Rattle.asn1_components.specs.Components.{table};
+ghost use Rattle.asn1_recursive.specs.FilterAlternatives.{filter_names};
 ghost use Rattle.std.specs.Cmp.Lexicographic.{pointwise};
 ghost use Rattle.std.specs.Option.{option_eq};
-ghost use Rattle.std.specs.Prelude.{◌≡◌, ◌&&◌, [], ◌∷◌, codes, map};
+ghost use Rattle.std.specs.Prelude.{◌≡◌, ◌&&◌, [], ◌∷◌, codes, map, List, Bool, ℕ};
 ghost use Rattle.std.specs.String.{string_eq};
 ghost use Rattle.asn1_recursive.specs.declared.node.Node.{out-Node};
 
+use crate::attribute_value_assertion::AttributeValueAssertion;
 use crate::filter::Filter;
+use crate::matching_rule_assertion::MatchingRuleAssertion;
 use crate::nested::Nested;
 use crate::node::Node;
-use asn1_types::{Choice, FieldTable};
+use crate::substring::Substring;
+use crate::substring_filter::SubstringFilter;
+use asn1_types::{AsnType, Choice, FieldTable};
 
 /// A law of the table: the names of the components.
 pub fn components_have_their_names()
@@ -20,12 +26,26 @@ pub fn components_have_their_names()
 
 /// A law of the tables: the names of the alternatives of a CHOICE.
 pub fn alternatives_have_their_names()
-    ensures filter { names_of (all_of ⟦<Filter as Choice>⟧.alternatives) ≡
-        codes "and" ∷ codes "or" ∷ codes "not" ∷ codes "equalityMatch" ∷ codes "substrings" ∷
-        codes "greaterOrEqual" ∷ codes "lessOrEqual" ∷ codes "present" ∷ codes "approxMatch" ∷
-        codes "extensibleMatch" ∷ [] }
+    ensures filter { names_of (all_of ⟦<Filter as Choice>⟧.alternatives) ≡ filter_names }
     ensures nested { names_of (all_of ⟦<Nested as Choice>⟧.alternatives) ≡
         codes "null" ∷ codes "flag" ∷ codes "inner" ∷ [] }
+{}
+
+/// A law of validity: the parts of a filter are valid whatever is in them.
+pub fn parts_of_filters_are_valid(
+    substring: &Substring,
+    substrings: &SubstringFilter,
+    assertion: &AttributeValueAssertion,
+    rule: &MatchingRuleAssertion,
+)
+    ensures substring { (accepts : List ℕ → Bool) →
+        ⟦<Substring as AsnType>⟧.meaning.IsValid accepts substring.now }
+    ensures substrings { (accepts : List ℕ → Bool) →
+        ⟦<SubstringFilter as AsnType>⟧.meaning.IsValid accepts substrings.now }
+    ensures assertion { (accepts : List ℕ → Bool) →
+        ⟦<AttributeValueAssertion as AsnType>⟧.meaning.IsValid accepts assertion.now }
+    ensures rule { (accepts : List ℕ → Bool) →
+        ⟦<MatchingRuleAssertion as AsnType>⟧.meaning.IsValid accepts rule.now }
 {}
 
 /// Whether two nodes have the same label, and equal children in the same order.

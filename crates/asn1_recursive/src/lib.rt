@@ -17,12 +17,13 @@
 //! - A `Node` states its components by what is inside a value. `specs/NodeComponents.antt` has the form: the records follow by a
 //!   fold, and a node meets its type's invariant if and only if all labels inside it meet theirs. Tables, meaning and writer
 //!   are proved to say the same.
-//! - The records of a `Node` are written out (`node_records`, `node_is_two_higher_than_its_children`).
+//! - The records of a `Node` are written out, by those of its children (`node_has_its_records`), and how deep they are nested
+//!   (`node_is_two_higher_than_its_children`).
 //! - A `Node` is read by two functions that call each other. Each node opens two scopes, so the depth left of the decoder ends the
 //!   recursion, whatever the input.
 //! - A `Nested` and a `Filter` are read by functions that call one another too, and open a scope before each alternative. Their
 //!   proofs go by the lemmas of `asn1_codec` for a CHOICE that holds itself (`proofs/ReadingChoices.antt`).
-//! - [`laws`] says when two nodes are equal, and which names the tables have.
+//! - [`laws`] says when two nodes are equal, which names the tables have, and that the parts of a filter are valid.
 //!
 //! The prover wants such a type, its tables, its writer and its reader in one crate. A call takes memory where a codec does,
 //! and reading for the labels and the lists of children.
@@ -47,8 +48,8 @@ pub use filter::{Filter, each_filter_is_valid, filter_is_well_tagged};
 pub use matching_rule_assertion::{MatchingRuleAssertion, matching_rule_assertion_is_well_tagged};
 pub use nested::{Nested, each_nested_is_valid, nested_is_well_tagged};
 pub use node::{
-    Node, each_node_is_valid, node_is_two_higher_than_its_children, node_is_well_tagged,
-    node_records,
+    Node, each_node_is_valid, node_has_its_records, node_is_two_higher_than_its_children,
+    node_is_well_tagged,
 };
 pub use substring::{Substring, substring_is_well_tagged};
 pub use substring_filter::{SubstringFilter, Substrings, substring_filter_is_well_tagged};

@@ -1,10 +1,9 @@
 //! `Node ::= SEQUENCE { label UTF8String OPTIONAL, children SEQUENCE OF Node }`
 ghost use Rattle.std.specs.List.{flat_map};
-ghost use Rattle.std.specs.Prelude.{◌≡◌, ◌+◌, Bool, List, [], ◌∷◌, None, Some, codes, ℕ};
-ghost use Rattle.std.specs.String.{string_bytes};
-ghost use Rattle.asn1_types.specs.Words.{lines, in_root, universal, IsWellTagged, own_records, holding, sequence_head, sequence_of, scalar, presence_mark, absent, present, units, utf8, unconstrained};
+ghost use Rattle.std.specs.Prelude.{◌≡◌, ◌+◌, Bool, List, [], ℕ};
+ghost use Rattle.asn1_types.specs.Words.{IsWellTagged, own_records};
 ghost use Rattle.asn1_model.specs.Records.{highest};
-ghost use Rattle.asn1_recursive.specs.NodeComponents.{node_components, node_agrees, node_meaning};
+ghost use Rattle.asn1_recursive.specs.NodeComponents.{node_components, node_agrees, node_meaning, records_by_children};
 ghost use Rattle.asn1_recursive.specs.declared.node.Node.{out-Node};
 
 use crate::node_reader::read_node;
@@ -105,21 +104,9 @@ impl Decode for Node {
     }
 }
 
-/// What `Node { label: None, children: [Node { label: Some(label), children: [] }] }` is to every codec.
-pub fn node_records(parent: &Node, child: &Node, label: &Utf8String)
-    ensures { (out-Node parent.now).label ≡ None →
-        (out-Node parent.now).children.items ≡ child.now ∷ [] →
-        (out-Node child.now).label ≡ Some label.now → (out-Node child.now).children.items ≡ [] →
-        own_records ⟦<Node as AsnType>⟧.meaning parent.now ≡
-        holding (sequence_head (universal 16) (lines ⟦<Node as FieldTable>⟧.components)
-        (Some (codes "Node"))) (presence_mark (absent in_root (universal 12)) ∷
-        holding (sequence_of (universal 16) unconstrained (Some (codes "SEQUENCE_OF")))
-        (holding (sequence_head (universal 16) (lines ⟦<Node as FieldTable>⟧.components)
-        (Some (codes "Node"))) (presence_mark (present in_root (universal 12)) ∷
-        scalar (universal 12) unconstrained (Some (codes "UTF8String"))
-        (units utf8 (string_bytes label.now)) ∷ holding
-        (sequence_of (universal 16) unconstrained (Some (codes "SEQUENCE_OF"))) [] ∷
-        []) ∷ []) ∷ []) ∷ [] }
+/// What a node is to every codec, by what its children are.
+pub fn node_has_its_records(node: &Node)
+    ensures { own_records ⟦<Node as AsnType>⟧.meaning node.now ≡ records_by_children node.now }
 {}
 
 /// How deep the records of a node are nested: two more than in its children, which are in a SEQUENCE and in a SEQUENCE OF.

@@ -9,7 +9,7 @@ use Rattle.asn1_tags.specs.declared.classes.Class.{Class}
 use Rattle.asn1_tags.specs.declared.tags.Tag.{Tag}
 use Rattle.asn1_tags.specs.Trees.{Tree, Trees, leaf, choice, none, more, leaves, leaves_of}
 use Rattle.asn1_report.specs.Grammar.{class_of}
-use Rattle.asn1_report.specs.Names.{begins_with_digit, BeginsWithNumber}
+use Rattle.asn1_report.specs.NamesAndNumbers.{begins_with_digit, BeginsWithNumber}
 use Rattle.asn1_report.specs.Spelling.{letter_of, spelling, spelling_of, spelling_after, may_follow, BeginsWithTree}
 use Rattle.asn1_report.proofs.Numbers.{number-value}
 use Rattle.asn1_report.proofs.Respellings.{HasSmallNumber, class_of-letter, letter_above_brackets, small_front, small_back}

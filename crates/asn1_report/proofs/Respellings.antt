@@ -21,7 +21,7 @@ use Rattle.asn1_tags.specs.declared.classes.Class.{Class}
 use Rattle.asn1_tags.specs.declared.classes.Class.TheVariants.{Universal, Application, Context, Private}
 use Rattle.asn1_tags.specs.declared.tags.Tag.{Tag}
 use Rattle.asn1_tags.specs.Trees.{Tree, Trees, leaf, choice, none, more, leaves, leaves_of}
-use Rattle.asn1_report.specs.Names.{is_plain_number, number_of}
+use Rattle.asn1_report.specs.NamesAndNumbers.{is_plain_number, number_of}
 use Rattle.asn1_report.specs.Elements.{depth_after, elements_at, elements_of}
 use Rattle.asn1_report.specs.Grammar.{class_of, tag_of, between_brackets, all_trees, tree_of}
 use Rattle.asn1_report.specs.Spelling.{letter_of, spelling, spelling_of, spelling_after, brackets, brackets_of}

@@ -8,7 +8,7 @@ use Rattle.asn1_tags.specs.declared.tags.Tag.{Tag}
 use Rattle.asn1_tags.specs.Trees.{Tree, Trees, leaf, choice, none, more, leaves, leaves_of, is_nothing}
 use Rattle.asn1_clash.specs.Seen.{Adds}
 use Rattle.asn1_clash.specs.declared.flat_tree.FlatTree.{FlatTree}
-use Rattle.asn1_report.specs.Names.{begins_with_digit, BeginsWithNumber}
+use Rattle.asn1_report.specs.NamesAndNumbers.{begins_with_digit, BeginsWithNumber}
 use Rattle.asn1_report.specs.Spelling.{letter_of, spelling, spelling_of, spelling_after, brackets, brackets_of, BeginsWithTree, BeginsWithTrees, ReadsTree, ReadsChoice}
 use Rattle.asn1_report.proofs.Beginnings.{follows_in_choice, not_false, one_tree_begins, tag_no_bracket}
 use Rattle.asn1_report.proofs.Respellings.{HasSmallNumber, small_front, small_back}

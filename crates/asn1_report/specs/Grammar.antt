@@ -13,7 +13,7 @@ use Rattle.asn1_fields.specs.declared.presence.FieldPresence.{FieldPresence}
 use Rattle.asn1_fields.specs.declared.presence.FieldPresence.TheVariants.{Required, Optional, Default}
 use Rattle.asn1_report.specs.declared.kind.Kind.{Kind}
 use Rattle.asn1_report.specs.declared.kind.Kind.TheVariants.{Sequence, Set}
-use Rattle.asn1_report.specs.Names.{number_of, integer_of}
+use Rattle.asn1_report.specs.NamesAndNumbers.{number_of, integer_of}
 use Rattle.asn1_report.specs.Elements.{elements_of}
 use Rattle.asn1_report.specs.Parts.{split_once}
 

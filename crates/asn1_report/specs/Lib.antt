@@ -1,7 +1,7 @@
 pub mod Lines
 pub mod Parts
 pub mod Elements
-pub mod Names
+pub mod NamesAndNumbers
 pub mod Grammar
 pub mod Statements
 pub mod Spelling

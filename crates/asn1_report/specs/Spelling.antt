@@ -7,7 +7,7 @@ use Rattle.asn1_clash.specs.declared.flat_tree.FlatTree.{FlatTree}
 use Rattle.asn1_tags.specs.Trees.{Tree, Trees, leaf, choice, none, more, leaves, leaves_of}
 use Rattle.asn1_tags.specs.declared.classes.Class.{Class}
 use Rattle.asn1_tags.specs.declared.classes.Class.TheVariants.{Universal, Application, Context, Private}
-use Rattle.asn1_report.specs.Names.{begins_with_digit}
+use Rattle.asn1_report.specs.NamesAndNumbers.{begins_with_digit}
 
 -- the letter of a class
 abbrev pub letter_of : Class → ℕ

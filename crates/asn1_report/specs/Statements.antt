@@ -7,7 +7,7 @@ use Rattle.asn1_fields.specs.Entries.{Component}
 use Rattle.asn1_fields.specs.declared.presence.FieldPresence.{FieldPresence}
 use Rattle.asn1_report.specs.declared.kind.Kind.{Kind}
 use Rattle.asn1_report.specs.Grammar.{deepest, tree_of, bounds_of, kind_of, presence_of}
-use Rattle.asn1_report.specs.Names.{is_name}
+use Rattle.asn1_report.specs.NamesAndNumbers.{is_name}
 use Rattle.asn1_report.specs.Parts.{parts_of}
 
 -- what a line says

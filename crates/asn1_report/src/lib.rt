@@ -13,7 +13,7 @@
 //! * `reading`, `memory`: what is written after a failed read, and after memory ran out.
 //!
 //! The definition is a function over the lines, from what an answer depends on to an answer. Its words: `specs/Lines.antt` has
-//! the lines of an input, `specs/Parts.antt` how a line is cut, `specs/Statements.antt` what a line says, `specs/Names.antt` and
+//! the lines of an input, `specs/Parts.antt` how a line is cut, `specs/Statements.antt` what a line says, `specs/NamesAndNumbers.antt` and
 //! `specs/Grammar.antt` names, numbers, tags, trees and bounds, `specs/SchemaTables.antt` and `specs/Texts.antt` tables and what is
 //! said of them; clashes and the canonical order are words of asn1_fields. The code has the same steps and the same types:
 //! `Parts` is what a line is cut into, `Statement` what it says, and `Reporter` answers it.

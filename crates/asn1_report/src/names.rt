@@ -1,7 +1,7 @@
 //! Names, as they are written.
 ghost use Rattle.std.specs.Prelude.{◌≡◌};
 ghost use Rattle.std.specs.List.{list_all};
-ghost use Rattle.asn1_report.specs.Names.{is_name, is_name_byte};
+ghost use Rattle.asn1_report.specs.NamesAndNumbers.{is_name, is_name_byte};
 
 /// Whether the text is a name: 1 to 64 ASCII letters, digits, `-` and `_`.
 pub(crate) fn is_name(text: &[u8]) -> bool

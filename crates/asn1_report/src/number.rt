@@ -3,7 +3,7 @@ ghost use Rattle.std.specs.Prelude.{◌≡◌, ℕ, ◌^◌, ◌<◌, ◌≤◌,
 ghost use Rattle.std.specs.List.{list_all, prefix_len, take_while};
 ghost use Rattle.std.specs.Char.{is_ascii_digit};
 ghost use Rattle.std.specs.Str.Parse.{digits_value};
-ghost use Rattle.asn1_report.specs.Names.{BeginsWithNumber, begins_with_digit, is_plain_number, integer_of};
+ghost use Rattle.asn1_report.specs.NamesAndNumbers.{BeginsWithNumber, SpellsNumber, begins_with_digit, is_plain_number, integer_of};
 
 /// Reads the decimal number below 2^32, without leading zeros, with which the text begins, and gives what is left of the text
 /// after its last digit.
@@ -68,9 +68,7 @@ fn negative_of(magnitude: u128) -> Option<i128>
 
 // The number that the text spells in decimal, without leading zeros; one above 2^127 may be refused.
 fn read_magnitude(text: &[u8]) -> Option<u128>
-    ensures read { MatchOption result
-        (is_plain_number text.now ≡ true → 2 ^ 127 < digits_value 10 text.now)
-        (λ number. (is_plain_number text.now ≡ true) × (number ≡ digits_value 10 text.now)) }
+    ensures read { SpellsNumber (is_plain_number text.now) (digits_value 10 text.now) result }
 {
     match text {
         [] | [b'0', _, ..] => None,
@@ -83,10 +81,8 @@ const DIGITS_OF_64_BITS: usize = 19;
 
 // The number that the text writes, if it is digits alone; one above 2^127 may be refused.
 fn read_u128(text: &[u8]) -> Option<u128>
-    ensures read { MatchOption result
-        (list_all is_ascii_digit text.now ≡ true → 2 ^ 127 < digits_value 10 text.now)
-        (λ number. (list_all is_ascii_digit text.now ≡ true)
-        × (number ≡ digits_value 10 text.now)) }
+    ensures read { SpellsNumber (list_all is_ascii_digit text.now) (digits_value 10 text.now)
+        result }
 {
     let (high, low) = text.split_at(text.len().saturating_sub(DIGITS_OF_64_BITS));
     let high = read_u64(high)?;

@@ -1,7 +1,7 @@
 -- What is read by one codec and written by another.
-use Rattle.std.specs.Prelude.{◌≡◌, ◌⊎◌, ⊤, ℕ, Bool, true, ◌<◌, List}
+use Rattle.std.specs.Prelude.{◌≡◌, ◌⊎◌, ⊤, ℕ, Bool, true, ◌<◌, MatchResult, Result}
 use Rattle.asn1_codec.specs.declared.decode_error.DecodeError.TheVariants.{Memory, Depth}
-use Rattle.asn1_model.specs.Meaning.{Meaning, own_records}
+use Rattle.asn1_model.specs.Meaning.{Meaning, IsWellTagged, own_records}
 use Rattle.asn1_model.specs.Records.{highest}
 use Rattle.asn1_rules.specs.Rules.{Format, IsWritten, IsNotWritten}
 use Rattle.asn1_rules.specs.declared.recoding.RecodeError.{RecodeError}
@@ -18,6 +18,13 @@ module _ {O V : Type 0} (F : Format O) (m : Meaning V) where
   abbrev pub RecodingFails : (V → V → Bool) → V → ℕ → RecodeError → Type 0
   RecodingFails eq v depth (Read e) = (e ≡ Memory) ⊎ ((e ≡ Depth) × (depth < highest (own_records m v)))
   RecodingFails eq v depth (Write e) = (w : V) × (eq w v ≡ true) × IsNotWritten F (own_records m w) depth e
+
+  -- A call that reads an input and writes what it has read, by another codec: where the input carries
+  -- the own records of a valid value of a well-tagged type, the output carries those of an equal value.
+  abbrev pub Recodes : {I : Type 0} → Format I → I → (V → V → Bool) → ℕ → Result O RecodeError → Type 0
+  Recodes from input eq depth result =
+      (v : V) → IsWellTagged m → m.IsOfType v → m.IsValid from.accepts v → from.carries input (own_records m v) →
+      MatchResult result (IsRecoded eq v depth) (RecodingFails eq v depth)
 
   -- Whatever the input was: where writing failed, it was as it may for some value.
   abbrev pub WritingFailsAsItMay : ℕ → RecodeError → Type 0

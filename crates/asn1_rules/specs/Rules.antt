@@ -1,12 +1,15 @@
 -- What a codec as a whole says of itself, and what writing and reading a value answer.
-use Rattle.std.specs.Prelude.{◌≡◌, ◌≢◌, ◌⊎◌, ℕ, ◌≤◌, ◌<◌, Bool, List, [], ◌∷◌, ◌++◌, MatchResult, Result}
-use Rattle.asn1_codec.specs.Writing.{IsCustom}
+use Rattle.std.specs.Prelude.{◌≡◌, ◌≢◌, ◌⊎◌, ℕ, ◌≤◌, ◌<◌, Bool, true, List, [], ◌∷◌, ◌++◌, IsErr, MatchResult, Result}
+use Rattle.asn1_codec.specs.Writing.{IsRejection}
 use Rattle.asn1_codec.specs.declared.encode_error.EncodeError.{EncodeError}
 use Rattle.asn1_codec.specs.declared.encode_error.EncodeError.TheVariants as writing
 use Rattle.asn1_codec.specs.declared.decode_error.DecodeError.{DecodeError}
 use Rattle.asn1_codec.specs.Reading.{MayFail}
+use Rattle.asn1_codec.specs.Refusals.{Refusals}
+use Rattle.asn1_model.specs.Meaning.{Meaning, IsWellTagged, own_records}
 use Rattle.asn1_model.specs.Orders.{SameRecords}
 use Rattle.asn1_model.specs.Records.{Record, Head, highest, holding}
+use Rattle.asn1_model.specs.WellFormed.{AreWellFormed}
 
 -- What the outputs of a codec are: which records an output carries, which records may be refused, and which byte strings are
 -- one value each of an open type. One output may carry many lists of records.
@@ -34,7 +37,7 @@ module _ {O : Type 0} (F : Format O) where
   -- There was no memory, or the records are nested deeper than the depth, or rejected.
   pub record IsNotWritten (rs : List Record) (depth : ℕ) (e : EncodeError) : Type 0 where
     pub too_deep : e ≡ writing.Depth → depth < highest rs
-    pub rejected : IsCustom e → F.rejects rs
+    pub rejected : IsRejection e → F.rejects rs
     pub not_failed : e ≢ writing.Failed
 
   -- a call that writes records as a whole output
@@ -50,3 +53,27 @@ ReadsWhole height depth Is result =
 -- The answer is this error of the type; or there was no memory, or the records are nested deeper than the depth.
 abbrev pub RefusesWhole : {V : Type 0} → ℕ → ℕ → DecodeError → Result V DecodeError → Type 0
 RefusesWhole height depth own result = MatchResult result (λ _. ⊥) (λ e. MayFail depth height e ⊎ (e ≡ own))
+
+-- A call that reads a whole input as a value of a type: `accepts` is the codec's test of the bytes of
+-- an open type, and `Carried` holds of the records that the input carries.
+module _ {V : Type 0} (accepts : List ℕ → Bool) (Carried : List Record → Type 0) (m : Meaning V) where
+  -- Of an input that carries the own records of a valid value of a well-tagged type the answer is an
+  -- equal value, unless memory runs out or the records are nested deeper than the depth.
+  abbrev pub ReadsCarried : (V → V → Bool) → ℕ → Result V DecodeError → Type 0
+  ReadsCarried eq depth result =
+      (v : V) → IsWellTagged m → m.IsOfType v → m.IsValid accepts v → Carried (own_records m v) →
+      ReadsWhole (highest (own_records m v)) depth (λ w. eq w v ≡ true) result
+
+  -- Of an input that carries well-formed records which the type refuses, under its own tag and
+  -- constraints, the answer is the error of the type, unless memory runs out or the depth is too
+  -- little in the same way.
+  abbrev pub RefusesCarried : Refusals → ℕ → Result V DecodeError → Type 0
+  RefusesCarried refusals depth result =
+      (rs : List Record) (e : DecodeError) → refusals accepts m.tag m.constraints rs e → AreWellFormed accepts rs →
+      Carried rs → RefusesWhole (highest rs) depth e result
+
+  -- Where well-formed records follow those of a valid value of a well-tagged type, the answer is an error.
+  abbrev pub RefusesMore : Result V DecodeError → Type 0
+  RefusesMore result =
+      (v : V) (r : Record) (rest : List Record) → IsWellTagged m → m.IsOfType v → m.IsValid accepts v →
+      AreWellFormed accepts (r ∷ rest) → Carried (own_records m v ++ r ∷ rest) → IsErr result

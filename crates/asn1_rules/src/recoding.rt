@@ -1,7 +1,6 @@
 //! From one codec to another.
-ghost use Rattle.asn1_model.specs.Meaning.{IsWellTagged, own_records};
-ghost use Rattle.asn1_rules.specs.Recoding.{IsRecoded, RecodingFails, WritingFailsAsItMay};
-ghost use Rattle.std.specs.Prelude.{IfErr, MatchResult};
+ghost use Rattle.asn1_rules.specs.Recoding.{Recodes, WritingFailsAsItMay};
+ghost use Rattle.std.specs.Prelude.{IfErr};
 
 use crate::rules::Rules;
 use asn1_dec::{Decode, DecodeError};
@@ -35,11 +34,7 @@ pub fn recode<T: Encode + Decode, A: Rules, B: Rules>(
     to: &B,
     depth: usize,
 ) -> Result<B::Output, RecodeError>
-    ensures recoded { (v : T) → IsWellTagged T.meaning → T.meaning.IsOfType v →
-        T.meaning.IsValid A.format.accepts v →
-        A.format.carries input.now (own_records T.meaning v) →
-        MatchResult result (IsRecoded B.format T.meaning T.eq v depth)
-        (RecodingFails B.format T.meaning T.eq v depth) }
+    ensures recoded { Recodes B.format T.meaning A.format input.now T.eq depth result }
     ensures writing { IfErr result (WritingFailsAsItMay B.format T.meaning depth) }
 {
     let value: T = from.read_value(input, depth).map_err(RecodeError::Read)?;

@@ -2,7 +2,7 @@
 ghost use Rattle.asn1_model.specs.Meaning.{IsWellTagged, own_records};
 ghost use Rattle.asn1_model.specs.Records.{highest};
 ghost use Rattle.asn1_rules.specs.RoundTrips.{FailsAs, WritesFirst};
-ghost use Rattle.std.specs.Prelude.{◌≡◌, ◌≤◌, true, MatchResult};
+ghost use Rattle.std.specs.Prelude.{◌≡◌, ◌≤◌, true, MatchResult, OnOk};
 
 use crate::rules::Rules;
 use asn1_dec::{Decode, DecodeError};
@@ -24,8 +24,8 @@ pub enum RoundTripError {
 ///
 /// The round trip: for every codec, and every type that is well tagged, a valid value whose writing succeeds is read back
 /// equal, by the type's own equality, unless memory runs out or the value's records are nested deeper than the depth of reading
-/// (`back`). Whatever the type and the value, one that was written is nested no deeper than the depth of writing, and
-/// writing fails as it may (`written`).
+/// (`back`). A value that is read back was nested no deeper than that (`within_depth`). Whatever the type and the value, one that was
+/// written is nested no deeper than the depth of writing, and writing fails as it may (`written`).
 ///
 /// # Errors
 /// [`RoundTripError::Writing`] with the error of writing, and [`RoundTripError::Reading`] with that of reading.
@@ -36,9 +36,10 @@ pub fn round_trip<R: Rules, T: Encode + Decode>(
     read_depth: usize,
 ) -> Result<T, RoundTripError>
     ensures back { IsWellTagged T.meaning → T.meaning.IsValid R.format.accepts value.now →
-        MatchResult result
-        (λ w. (T.eq w value.now ≡ true) × (highest (own_records T.meaning value.now) ≤ read_depth))
+        MatchResult result (λ w. T.eq w value.now ≡ true)
         (FailsAs R.format (own_records T.meaning value.now) write_depth read_depth) }
+    ensures within_depth { IsWellTagged T.meaning → T.meaning.IsValid R.format.accepts value.now →
+        OnOk result (highest (own_records T.meaning value.now) ≤ read_depth) }
     ensures written { WritesFirst R.format (own_records T.meaning value.now) write_depth result }
 {
     let output = rules

@@ -1,9 +1,6 @@
 //! A codec as a whole.
-ghost use Rattle.asn1_model.specs.Meaning.{IsWellTagged, own_records};
-ghost use Rattle.asn1_model.specs.Records.{Record, highest};
-ghost use Rattle.asn1_model.specs.WellFormed.{AreWellFormed};
-ghost use Rattle.asn1_rules.specs.Rules.{Format, IsLawful, ReadsWhole, RefusesWhole, WritesWhole};
-ghost use Rattle.std.specs.Prelude.{◌≡◌, List, true};
+ghost use Rattle.asn1_model.specs.Meaning.{own_records};
+ghost use Rattle.asn1_rules.specs.Rules.{Format, IsLawful, ReadsCarried, RefusesCarried, WritesWhole};
 
 use asn1_dec::{Decode, DecodeError};
 use asn1_enc::{Encode, EncodeError};
@@ -42,14 +39,10 @@ pub trait Rules {
     /// are nested deeper than the depth, and else [`DecodeError::Memory`]. Where it carries well-formed records that the type refuses, the error of
     /// the type, or one of these two in the same way. About other outputs nothing is promised.
     fn read_value<T: Decode>(&self, output: &Self::Output, depth: usize) -> Result<T, DecodeError>
-        ensures read { (v : T) → IsWellTagged T.meaning → T.meaning.IsOfType v →
-            T.meaning.IsValid format.accepts v →
-            format.carries output.now (own_records T.meaning v) →
-            ReadsWhole (highest (own_records T.meaning v)) depth (λ w. T.eq w v ≡ true) result }
-        ensures refuses { (rs : List Record) (error : _) →
-            T.refusals format.accepts T.meaning.tag T.meaning.constraints rs error →
-            AreWellFormed format.accepts rs → format.carries output.now rs →
-            RefusesWhole (highest rs) depth error result };
+        ensures read { ReadsCarried format.accepts (format.carries output.now) T.meaning T.eq depth
+            result }
+        ensures refuses { RefusesCarried format.accepts (format.carries output.now) T.meaning
+            T.refusals depth result };
 
     // The law of a codec.
     ghost lawful: { IsLawful format };

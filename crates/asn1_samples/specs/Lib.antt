@@ -1,2 +1,3 @@
 pub mod BadgeParts
-pub mod Names
+pub mod ComponentNames
+pub mod SampleRecords

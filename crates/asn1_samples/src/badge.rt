@@ -1,11 +1,10 @@
 //! `Badge ::= SET { id INTEGER (0..4294967295), label VisibleString OPTIONAL, shape Shape }`
-ghost use Rattle.std.specs.Prelude.{◌≡◌, [], ◌∷◌, None, OnOk, Some, map, pos, codes};
-ghost use Rattle.asn1_types.specs.Words.{lines, table_of, in_root, context, universal, untagged, required, optional, set, constructed_type, constructed_agrees, IsWellTagged, own_records, holding, set_head, alternative_head, scalar, presence_mark, absent, present, number, null, units, visible, unconstrained, values_of, Range};
+ghost use Rattle.std.specs.Prelude.{◌≡◌, [], ◌∷◌, OnOk, map, codes};
+ghost use Rattle.asn1_types.specs.Words.{untagged, required, optional, set, constructed_type, constructed_agrees, IsWellTagged};
 ghost use Rattle.asn1_components.specs.Components.{all_components, root_entries, table};
 ghost use Rattle.asn1_codec.specs.SetParts.{EachFits, MakesValue};
 ghost use Rattle.asn1_fields.specs.CanonicalOrder.{IsCanonical};
 ghost use Rattle.asn1_fields.specs.Entries.{component_of};
-ghost use Rattle.asn1_samples.specs.declared.shape.Shape.TheVariants.{Dot, Ring};
 
 use crate::shape::Shape;
 use asn1_dec::{Decode, DecodeError, DecodeSet, Decoder, keep_once};
@@ -175,29 +174,3 @@ impl Decode for Badge {
         decoder.decode_set(tag)
     }
 }
-
-/// What a badge is to every codec, its components in the order of the definition: `Badge { id: 7, label: Some("x"), shape:
-/// Ring(300) }` (`ring`), and `Badge { id: 7, label: None, shape: Dot }` (`dot`).
-pub fn badge_records(badge: &Badge, label: &VisibleString)
-    ensures ring { label.now ≡ codes "x" →
-        badge.now ≡ record { id = 7; label = Some label.now; shape = Ring 300 } →
-        own_records ⟦<Badge as AsnType>⟧.meaning badge.now ≡
-        holding (set_head (universal 17) (lines ⟦<Badge as FieldTable>⟧.components)
-        (Some (codes "Badge"))) (scalar (universal 2)
-        (values_of (Range (Some (pos 0)) (Some (pos 4294967295)))) (Some (codes "INTEGER"))
-        (number (pos 7)) ∷ presence_mark (present in_root (universal 26)) ∷
-        scalar (universal 26) unconstrained (Some (codes "VisibleString"))
-        (units visible (codes "x")) ∷ holding (alternative_head (context 0) unconstrained
-        (table_of ⟦<Shape as Choice>⟧.alternatives) (Some (codes "Shape"))) (scalar (context 0)
-        (values_of (Range (Some (pos 0)) (Some (pos 65535)))) (Some (codes "INTEGER"))
-        (number (pos 300)) ∷ []) ∷ []) ∷ [] }
-    ensures dot { badge.now ≡ record { id = 7; label = None; shape = Dot tt } →
-        own_records ⟦<Badge as AsnType>⟧.meaning badge.now ≡
-        holding (set_head (universal 17) (lines ⟦<Badge as FieldTable>⟧.components)
-        (Some (codes "Badge"))) (scalar (universal 2)
-        (values_of (Range (Some (pos 0)) (Some (pos 4294967295)))) (Some (codes "INTEGER"))
-        (number (pos 7)) ∷ presence_mark (absent in_root (universal 26)) ∷
-        holding (alternative_head (universal 5) unconstrained
-        (table_of ⟦<Shape as Choice>⟧.alternatives) (Some (codes "Shape"))) (scalar (universal 5)
-        unconstrained (Some (codes "NULL")) null ∷ []) ∷ []) ∷ [] }
-{}

@@ -1,6 +1,6 @@
 //! `Color ::= ENUMERATED { red(0), green(1), ..., blue(5) }`
-ghost use Rattle.std.specs.Prelude.{◌≡◌, [], ◌∷◌, Some, pos, codes, refl};
-ghost use Rattle.asn1_types.specs.Words.{labels_of, universal, item, by_test, extensible_enumeration, enumeration_type, enumeration_agrees, IsWellTagged, own_records, scalar, discriminant, unconstrained};
+ghost use Rattle.std.specs.Prelude.{[], ◌∷◌, pos, codes, refl};
+ghost use Rattle.asn1_types.specs.Words.{item, by_test, extensible_enumeration, enumeration_type, enumeration_agrees, IsWellTagged};
 ghost use Rattle.asn1_samples.specs.declared.color.Color.TheVariants.{Red, Green, Blue};
 
 use asn1_dec::{Decode, DecodeError, Decoder};
@@ -88,16 +88,3 @@ impl Decode for Color {
         decoder.decode_enumerated(tag)
     }
 }
-
-/// What each color is to every codec.
-pub fn color_records(color: Color)
-    ensures red { color ≡ Red → own_records ⟦<Color as AsnType>⟧.meaning color ≡
-        scalar (universal 10) unconstrained (Some (codes "Color"))
-        (discriminant (labels_of ⟦<Color as Enumerated>⟧.enumeration) (pos 0)) ∷ [] }
-    ensures green { color ≡ Green → own_records ⟦<Color as AsnType>⟧.meaning color ≡
-        scalar (universal 10) unconstrained (Some (codes "Color"))
-        (discriminant (labels_of ⟦<Color as Enumerated>⟧.enumeration) (pos 1)) ∷ [] }
-    ensures blue { color ≡ Blue → own_records ⟦<Color as AsnType>⟧.meaning color ≡
-        scalar (universal 10) unconstrained (Some (codes "Color"))
-        (discriminant (labels_of ⟦<Color as Enumerated>⟧.enumeration) (pos 5)) ∷ [] }
-{}

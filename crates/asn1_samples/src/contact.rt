@@ -1,7 +1,7 @@
 //! `[[ phone [3] NumericString OPTIONAL, mail [4] IA5String OPTIONAL ]]`: the group of additions of a `Profile`.
 ghost use Rattle.std.specs.Prelude.{[], ◌∷◌, codes};
 ghost use Rattle.asn1_slots.specs.Slots.{optional_slot, sequence_of_slots};
-ghost use Rattle.asn1_types.specs.Words.{context, tagged, sequence};
+ghost use Rattle.asn1_types.specs.Words.{context, tagged};
 
 use asn1_dec::{DecodeError, DecodeFields, Decoder};
 use asn1_enc::{Encode, EncodeError, EncodeFields, Encoder};

@@ -1,7 +1,7 @@
 //! `Corner ::= CHOICE { left BOOLEAN, right OCTET STRING }`
-ghost use Rattle.std.specs.Prelude.{◌≡◌, [], ◌∷◌, Some, true, codes, refl};
+ghost use Rattle.std.specs.Prelude.{[], ◌∷◌, codes, refl};
 ghost use Rattle.asn1_slots.specs.Cases.{choice_of_cases, variant};
-ghost use Rattle.asn1_types.specs.Words.{table_of, universal, untagged, inl, inr, choice_of, choice_agrees, IsWellTagged, own_records, holding, alternative_head, scalar, boolean, unconstrained};
+ghost use Rattle.asn1_types.specs.Words.{untagged, inl, inr, choice_of, choice_agrees, IsWellTagged};
 ghost use Rattle.asn1_samples.specs.declared.corner.Corner.TheVariants.{Left, Right};
 
 use asn1_dec::{Decode, DecodeChoice, DecodeError, Decoder};
@@ -124,12 +124,3 @@ impl DecodeChoice for Corner {
         from_tag_by_place(decoder, tag)
     }
 }
-
-/// What `Corner::Left(true)` is to every codec.
-pub fn corner_records(corner: &Corner)
-    ensures { corner.now ≡ Left true →
-        own_records ⟦<Corner as AsnType>⟧.meaning corner.now ≡
-        holding (alternative_head (universal 1) unconstrained
-        (table_of ⟦<Corner as Choice>⟧.alternatives) (Some (codes "Corner"))) (scalar (universal 1)
-        unconstrained (Some (codes "BOOLEAN")) (boolean true) ∷ []) ∷ [] }
-{}

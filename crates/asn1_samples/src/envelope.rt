@@ -1,6 +1,6 @@
 //! `Envelope ::= SEQUENCE { kind INTEGER (0..255), body ANY }`, where ANY is an open type.
-ghost use Rattle.std.specs.Prelude.{◌≡◌, ◌↔◌, ℕ, Bool, IsTrue, List, [], ◌∷◌, None, Some, pos, codes};
-ghost use Rattle.asn1_types.specs.Words.{lines, universal, untagged, required, sequence, constructed_type, constructed_agrees, IsWellTagged, own_records, holding, sequence_head, scalar, open_type, number, values_of, Range};
+ghost use Rattle.std.specs.Prelude.{◌↔◌, ℕ, Bool, IsTrue, List, [], ◌∷◌, codes};
+ghost use Rattle.asn1_types.specs.Words.{untagged, required, sequence, constructed_type, constructed_agrees, IsWellTagged};
 
 use asn1_dec::{Decode, DecodeError, DecodeFields, Decoder};
 use asn1_enc::{Encode, EncodeError, EncodeFields, Encoder};
@@ -99,15 +99,6 @@ impl DecodeFields for Envelope {
         Ok(Envelope { kind, body })
     }
 }
-
-/// What `Envelope { kind: 1, body }` is to every codec.
-pub fn envelope_records(envelope: &Envelope)
-    ensures { envelope.now.kind ≡ 1 → own_records ⟦<Envelope as AsnType>⟧.meaning envelope.now ≡
-        holding (sequence_head (universal 16) (lines ⟦<Envelope as FieldTable>⟧.components)
-        (Some (codes "Envelope"))) (scalar (universal 2)
-        (values_of (Range (Some (pos 0)) (Some (pos 255)))) (Some (codes "INTEGER"))
-        (number (pos 1)) ∷ open_type None envelope.now.body ∷ []) ∷ [] }
-{}
 
 /// An envelope is valid if and only if the codec takes the bytes of its body as one value.
 pub fn envelope_is_valid(envelope: &Envelope)

@@ -1,11 +1,11 @@
 //! `Labelled ::= SEQUENCE { key [0] INTEGER (0..255), note [1] INTEGER (0..255) }`, compared by its key.
-ghost use Rattle.std.specs.Prelude.{◌≡◌, [], ◌∷◌, Some, pos, codes, nat_eq};
+ghost use Rattle.std.specs.Prelude.{[], ◌∷◌, codes, nat_eq};
 ghost use Rattle.std.specs.Cmp.{nat_eq_equiv, on_equiv, on_per, partial_equiv_from_equiv, unsigned_Decides};
 ghost use Rattle.std.specs.Hash as fed;
 ghost use Rattle.std.specs.Hash.{on_Alike, same_Alike};
 ghost use Rattle.std.specs.Ordering.{on};
 ghost use Rattle.asn1_slots.specs.Slots.{required_slot, sequence_of_slots};
-ghost use Rattle.asn1_types.specs.Words.{lines, context, universal, tagged, constructed_type, constructed_agrees, IsWellTagged, own_records, holding, sequence_head, scalar, number, values_of, Range};
+ghost use Rattle.asn1_types.specs.Words.{context, tagged, constructed_type, constructed_agrees, IsWellTagged};
 
 use asn1_dec::{Decode, DecodeError, Decoder};
 use asn1_enc::{Encode, EncodeError, EncodeFields, Encoder};
@@ -144,14 +144,3 @@ impl Decode for Labelled {
         decode_sequence_by_place(decoder, tag)
     }
 }
-
-/// What `Labelled { key: 1, note: 9 }` is to every codec: the note is written too.
-pub fn labelled_records(labelled: Labelled)
-    ensures { labelled ≡ record { key = 1; note = 9 } →
-        own_records ⟦<Labelled as AsnType>⟧.meaning labelled ≡
-        holding (sequence_head (universal 16) (lines ⟦<Labelled as FieldTable>⟧.components)
-        (Some (codes "Labelled"))) (scalar (context 0)
-        (values_of (Range (Some (pos 0)) (Some (pos 255)))) (Some (codes "INTEGER"))
-        (number (pos 1)) ∷ scalar (context 1) (values_of (Range (Some (pos 0)) (Some (pos 255))))
-        (Some (codes "INTEGER")) (number (pos 9)) ∷ []) ∷ [] }
-{}

@@ -1,9 +1,9 @@
-//! Laws of what no other contract names: the names in the tables, which types have an extension marker, which values of a type
-//! are equal, and what a clone is.
+//! Laws of what no other contract names: the records of each value, the names in the tables, which types have an extension
+//! marker, which values are valid, which values of a type are equal, and what a clone is.
 ghost use Rattle.asn1_choices.specs.Alternatives.{all_of, names_of};
 ghost use Rattle.asn1_components.specs.Components.{has_marker};
 ghost use Rattle.asn1_enumerations.specs.Enumerations.{items, names};
-ghost use Rattle.asn1_samples.specs.Names.{component_names};
+ghost use Rattle.asn1_samples.specs.ComponentNames.{component_names};
 ghost use Rattle.std.specs.Hash as fed;
 ghost use Rattle.std.specs.Option.{option_eq};
 ghost use Rattle.std.specs.Prelude.{◌≡◌, ◌↔◌, ◌&&◌, [], ◌∷◌, IsTrue, codes, false, nat_eq, true};
@@ -11,6 +11,7 @@ ghost use Rattle.std.specs.String.{string_bytes, string_eq};
 ghost use Rattle.asn1_samples.specs.declared.labelled.Labelled.{Labelled};
 ghost use Rattle.asn1_tags.specs.Derives.{ClonesAll, ComparesAll};
 
+mod records;
 mod validity;
 
 use crate::badge::Badge;
@@ -18,6 +19,7 @@ use crate::color::Color;
 use crate::contact::Contact;
 use crate::corner::Corner;
 use crate::envelope::Envelope;
+use crate::gauge::Gauge;
 use crate::labelled::Labelled;
 use crate::notice::Notice;
 use crate::pair::Pair;
@@ -26,8 +28,13 @@ use crate::plate::Plate;
 use crate::profile::Profile;
 use crate::settings::Settings;
 use crate::shape::Shape;
+use crate::ticket::Ticket;
 use crate::visit::Visit;
 use asn1_types::{AsnType, Choice, Enumerated, FieldTable};
+pub use records::{
+    alternatives_and_items_have_their_records, pairs_have_their_records,
+    sequences_have_their_records, sets_have_their_records,
+};
 use std::hash::Hash;
 pub use validity::{
     each_alternative_is_valid, each_value_is_valid, groups_that_write_a_component_are_valid,
@@ -52,6 +59,10 @@ pub fn components_have_their_names()
     ensures labelled { component_names ⟦<Labelled as FieldTable>⟧.components ≡ codes "key" ∷
         codes "note" ∷ [] }
     ensures settings { component_names ⟦<Settings as FieldTable>⟧.components ≡ codes "entry" ∷ [] }
+    ensures ticket { component_names ⟦<Ticket as FieldTable>⟧.components ≡ codes "seat" ∷
+        codes "name" ∷ codes "paid" ∷ [] }
+    ensures gauge { component_names ⟦<Gauge as FieldTable>⟧.components ≡ codes "level" ∷
+        codes "limit" ∷ codes "unit" ∷ [] }
 {}
 
 /// A law of the table of a `Pair`, whatever its types: the names of its components, and no extension marker.
@@ -82,6 +93,8 @@ pub fn some_types_have_an_extension_marker()
     ensures envelope { has_marker ⟦<Envelope as FieldTable>⟧.components.extension ≡ false }
     ensures labelled { has_marker ⟦<Labelled as FieldTable>⟧.components.extension ≡ false }
     ensures settings { has_marker ⟦<Settings as FieldTable>⟧.components.extension ≡ false }
+    ensures ticket { has_marker ⟦<Ticket as FieldTable>⟧.components.extension ≡ false }
+    ensures gauge { has_marker ⟦<Gauge as FieldTable>⟧.components.extension ≡ false }
 {}
 
 /// A law of the derived equalities: two values of these types are equal if and only if they are the same.
@@ -140,6 +153,23 @@ pub fn visits_are_compared_by_their_components(a: &Visit, b: &Visit) -> bool
     a == b
 }
 
+/// Whether two tickets have the same seat, the same name or none, and are both paid or both not.
+pub fn tickets_are_compared_by_their_components(a: &Ticket, b: &Ticket) -> bool
+    ensures { result ≡ (nat_eq a.now.seat b.now.seat &&
+        (option_eq string_eq a.now.name b.now.name &&
+        ⟦<bool as PartialEq>⟧.eq a.now.paid b.now.paid)) }
+{
+    a == b
+}
+
+/// Whether two gauges have the same level, the same limit or none, and the same unit.
+pub fn gauges_are_compared_by_their_components(a: &Gauge, b: &Gauge) -> bool
+    ensures { result ≡ (nat_eq a.now.level b.now.level &&
+        (option_eq nat_eq a.now.limit b.now.limit && string_eq a.now.unit b.now.unit)) }
+{
+    a == b
+}
+
 /// Whether two of them have the same key. Their notes are not looked at, and a hasher is fed the key alone.
 pub fn labelled_are_compared_by_key(a: &Labelled, b: &Labelled) -> bool
     ensures same { IsTrue result ↔ (a.now.key ≡ b.now.key) }
@@ -158,5 +188,6 @@ pub fn settings_are_compared_by_key(a: &Settings, b: &Settings) -> bool
 /// A law of the derived clones: a clone is its source.
 pub fn clones_are_their_sources()
     ensures color { ClonesAll ⟦<Color as Clone>⟧.is_clone ⟦<Color as Clone>⟧.is_infallible }
-    ensures labelled { ClonesAll ⟦<Labelled as Clone>⟧.is_clone ⟦<Labelled as Clone>⟧.is_infallible }
+    ensures labelled { ClonesAll ⟦<Labelled as Clone>⟧.is_clone
+        ⟦<Labelled as Clone>⟧.is_infallible }
 {}

@@ -29,9 +29,9 @@
 //!   so it is in a group whose last components are absent, where what follows is after the group, as the note of a `Visit` is. A
 //!   tag that no alternative has is refused with the name of the CHOICE.
 //! - Each can be inside other types: `person_is_well_tagged` and the like.
-//! - The records of some values are written out: `person_records` and the like.
-//! - [`laws`] says which values are valid, when two values are equal, which names the tables have, and which types have an
-//!   extension marker. `envelope_is_valid` and `pair_is_valid` say when an `Envelope` and a `Pair` are valid.
+//! - [`laws`] says what the records of each value are (`specs/SampleRecords` writes them out), which values are valid, when two
+//!   values are equal, which names the tables have, and which types have an extension marker. `envelope_is_valid` and
+//!   `pair_is_valid` say when an `Envelope` and a `Pair` are valid.
 //!
 //! A call takes memory only where a codec does, for what is read, for the alphabet of a `Plate` and for the table of a `Shape`.
 //! Types that hold themselves are in the crate `asn1_recursive`. `docs/USING.md` explains how such types are written, and quotes
@@ -56,19 +56,19 @@ mod shape;
 mod ticket;
 mod visit;
 
-pub use badge::{Badge, badge_is_well_tagged, badge_records, badge_table_is_canonical};
-pub use color::{Color, color_is_well_tagged, color_records};
+pub use badge::{Badge, badge_is_well_tagged, badge_table_is_canonical};
+pub use color::{Color, color_is_well_tagged};
 pub use contact::Contact;
-pub use corner::{Corner, corner_is_well_tagged, corner_records};
-pub use envelope::{Envelope, envelope_is_valid, envelope_is_well_tagged, envelope_records};
+pub use corner::{Corner, corner_is_well_tagged};
+pub use envelope::{Envelope, envelope_is_valid, envelope_is_well_tagged};
 pub use gauge::{Gauge, gauge_is_well_tagged};
-pub use labelled::{Labelled, labelled_is_well_tagged, labelled_records};
-pub use notice::{Notice, notice_is_well_tagged, notice_records};
-pub use pair::{Pair, pair_is_valid, pair_is_well_tagged, pair_records};
-pub use person::{Person, person_is_well_tagged, person_records};
-pub use plate::{Plate, plate_is_well_tagged, plate_records};
-pub use profile::{Profile, profile_is_well_tagged, profile_records};
-pub use settings::{Settings, settings_is_well_tagged, settings_records};
-pub use shape::{Shape, shape_is_well_tagged, shape_records};
-pub use ticket::{Ticket, ticket_is_well_tagged, ticket_records};
-pub use visit::{Visit, visit_is_well_tagged, visit_records};
+pub use labelled::{Labelled, labelled_is_well_tagged};
+pub use notice::{Notice, notice_is_well_tagged};
+pub use pair::{Pair, pair_is_valid, pair_is_well_tagged};
+pub use person::{Person, person_is_well_tagged};
+pub use plate::{Plate, plate_is_well_tagged};
+pub use profile::{Profile, profile_is_well_tagged};
+pub use settings::{Settings, settings_is_well_tagged};
+pub use shape::{Shape, shape_is_well_tagged};
+pub use ticket::{Ticket, ticket_is_well_tagged};
+pub use visit::{Visit, visit_is_well_tagged};

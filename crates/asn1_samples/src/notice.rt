@@ -1,8 +1,7 @@
 //! `Notice ::= SEQUENCE { id [0] INTEGER (0..255), urgent [1] EXPLICIT BOOLEAN OPTIONAL, text [2] UTF8String }`
-ghost use Rattle.std.specs.Prelude.{◌≡◌, [], ◌∷◌, None, Some, true, pos, codes};
-ghost use Rattle.std.specs.String.{string_bytes};
+ghost use Rattle.std.specs.Prelude.{[], ◌∷◌, codes};
 ghost use Rattle.asn1_slots.specs.Slots.{optional_slot, required_slot, sequence_of_slots};
-ghost use Rattle.asn1_types.specs.Words.{lines, in_root, context, universal, tagged, explicitly_tagged, constructed_type, constructed_agrees, IsWellTagged, own_records, holding, sequence_head, explicit_tag, scalar, presence_mark, absent, present, number, boolean, units, utf8, unconstrained, values_of, Range};
+ghost use Rattle.asn1_types.specs.Words.{context, tagged, explicitly_tagged, constructed_type, constructed_agrees, IsWellTagged};
 
 use asn1_dec::{Decode, DecodeError, Decoder};
 use asn1_enc::{Encode, EncodeError, EncodeFields, Encoder, encode_explicit_optional};
@@ -126,30 +125,3 @@ impl Decode for Notice {
         decode_sequence_by_place(decoder, tag)
     }
 }
-
-/// What a notice is to every codec: `Notice { id: 7, urgent: Some(true), text: "Come" }` (`urgent`), and the same without
-/// `urgent` (`plain`).
-pub fn notice_records(notice: &Notice)
-    ensures urgent { notice.now.id ≡ 7 → notice.now.urgent ≡ Some true →
-        string_bytes notice.now.text ≡ codes "Come" →
-        own_records ⟦<Notice as AsnType>⟧.meaning notice.now ≡
-        holding (sequence_head (universal 16)
-        (lines ⟦<Notice as FieldTable>⟧.components) (Some (codes "Notice"))) (
-        scalar (context 0) (values_of (Range (Some (pos 0)) (Some (pos 255))))
-        (Some (codes "INTEGER")) (number (pos 7)) ∷
-        presence_mark (present in_root (context 1)) ∷
-        holding (explicit_tag (context 1) (Some (codes "BOOLEAN"))) (
-        scalar (universal 1) unconstrained (Some (codes "BOOLEAN")) (boolean true) ∷ []) ∷
-        scalar (context 2) unconstrained
-        (Some (codes "UTF8String")) (units utf8 (codes "Come")) ∷ []) ∷ [] }
-    ensures plain { notice.now.id ≡ 7 → notice.now.urgent ≡ None →
-        string_bytes notice.now.text ≡ codes "Come" →
-        own_records ⟦<Notice as AsnType>⟧.meaning notice.now ≡
-        holding (sequence_head (universal 16)
-        (lines ⟦<Notice as FieldTable>⟧.components) (Some (codes "Notice"))) (
-        scalar (context 0) (values_of (Range (Some (pos 0)) (Some (pos 255))))
-        (Some (codes "INTEGER")) (number (pos 7)) ∷
-        presence_mark (absent in_root (context 1)) ∷
-        scalar (context 2) unconstrained
-        (Some (codes "UTF8String")) (units utf8 (codes "Come")) ∷ []) ∷ [] }
-{}

@@ -1,7 +1,7 @@
 //! `Pair{T, U} ::= SEQUENCE { first T, second [0] U OPTIONAL }`
-ghost use Rattle.std.specs.Prelude.{◌≡◌, ◌↔◌, ℕ, Bool, List, [], ◌∷◌, None, Some, IfSome, true, pos, codes};
+ghost use Rattle.std.specs.Prelude.{◌↔◌, ℕ, Bool, List, [], ◌∷◌, IfSome, codes};
 ghost use Rattle.asn1_slots.specs.Slots.{optional_slot, required_slot};
-ghost use Rattle.asn1_types.specs.Words.{lines, in_root, context, universal, tagged, untagged, required, optional, sequence, constructed_type, constructed_agrees, IsWellTagged, IsWellTaggedUnder, own_records, holding, sequence_head, scalar, presence_mark, absent, present, number, boolean, unconstrained, values_of, Range};
+ghost use Rattle.asn1_types.specs.Words.{context, tagged, untagged, required, optional, sequence, constructed_type, constructed_agrees, IsWellTagged, IsWellTaggedUnder};
 
 use asn1_dec::{Decode, DecodeError, Decoder};
 use asn1_enc::{Encode, EncodeError, EncodeFields, Encoder};
@@ -92,8 +92,8 @@ pub fn pair_is_well_tagged<T: AsnType, U: AsnType>()
 /// A `Pair` is valid if and only if its first is, and its second where there is one.
 pub fn pair_is_valid<T: AsnType, U: AsnType>(pair: &Pair<T, U>)
     ensures { (accepts : List ℕ → Bool) →
-        ⟦<Pair<T, U> as AsnType>⟧.meaning.IsValid accepts pair.now ↔
-        (T.meaning.IsValid accepts pair.now.first × IfSome pair.now.second (U.meaning.IsValid accepts)) }
+        ⟦<Pair<T, U> as AsnType>⟧.meaning.IsValid accepts pair.now ↔ (T.meaning.IsValid accepts
+        pair.now.first × IfSome pair.now.second (U.meaning.IsValid accepts)) }
 {}
 
 impl<T: Encode, U: Encode> Encode for Pair<T, U> {
@@ -127,23 +127,3 @@ impl<T: Decode, U: Decode> Decode for Pair<T, U> {
         decode_sequence_by_place(decoder, tag)
     }
 }
-
-/// What a pair of a number and a truth value is to every codec: `Pair { first: 7, second: Some(true) }` (`both`), and
-/// `Pair { first: 7, second: None }` (`alone`).
-pub fn pair_records(pair: &Pair<u8, bool>)
-    ensures both { pair.now ≡ record { first = 7; second = Some true } →
-        own_records ⟦<Pair<u8, bool> as AsnType>⟧.meaning pair.now ≡
-        holding (sequence_head (universal 16)
-        (lines ⟦<Pair<u8, bool> as FieldTable>⟧.components) (Some (codes "Pair"))) (
-        scalar (universal 2) (values_of (Range (Some (pos 0)) (Some (pos 255))))
-        (Some (codes "INTEGER")) (number (pos 7)) ∷
-        presence_mark (present in_root (context 0)) ∷
-        scalar (context 0) unconstrained (Some (codes "BOOLEAN")) (boolean true) ∷ []) ∷ [] }
-    ensures alone { pair.now ≡ record { first = 7; second = None } →
-        own_records ⟦<Pair<u8, bool> as AsnType>⟧.meaning pair.now ≡
-        holding (sequence_head (universal 16)
-        (lines ⟦<Pair<u8, bool> as FieldTable>⟧.components) (Some (codes "Pair"))) (
-        scalar (universal 2) (values_of (Range (Some (pos 0)) (Some (pos 255))))
-        (Some (codes "INTEGER")) (number (pos 7)) ∷
-        presence_mark (absent in_root (context 0)) ∷ []) ∷ [] }
-{}

@@ -1,8 +1,7 @@
 //! `Person ::= SEQUENCE { age INTEGER, name UTF8String }`
-ghost use Rattle.std.specs.Prelude.{◌≡◌, [], ◌∷◌, Some, pos, codes};
-ghost use Rattle.std.specs.String.{string_bytes};
+ghost use Rattle.std.specs.Prelude.{[], ◌∷◌, codes};
 ghost use Rattle.asn1_slots.specs.Slots.{required_slot, sequence_of_slots};
-ghost use Rattle.asn1_types.specs.Words.{lines, universal, untagged, constructed_type, constructed_agrees, IsWellTagged, own_records, holding, sequence_head, scalar, number, units, utf8, unconstrained};
+ghost use Rattle.asn1_types.specs.Words.{untagged, constructed_type, constructed_agrees, IsWellTagged};
 
 use asn1_dec::{Decode, DecodeError, Decoder};
 use asn1_enc::{Encode, EncodeError, EncodeFields, Encoder};
@@ -117,13 +116,3 @@ impl Decode for Person {
         decode_sequence_by_place(decoder, tag)
     }
 }
-
-/// What `Person { age: 30, name: "Ann" }` is to every codec.
-pub fn person_records(person: &Person)
-    ensures { person.now.age ≡ pos 30 → string_bytes person.now.name ≡ codes "Ann" →
-        own_records ⟦<Person as AsnType>⟧.meaning person.now ≡
-        holding (sequence_head (universal 16) (lines ⟦<Person as FieldTable>⟧.components)
-        (Some (codes "Person"))) (scalar (universal 2) unconstrained (Some (codes "INTEGER"))
-        (number (pos 30)) ∷ scalar (universal 12) unconstrained (Some (codes "UTF8String"))
-        (units utf8 (codes "Ann")) ∷ []) ∷ [] }
-{}

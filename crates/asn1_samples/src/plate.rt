@@ -1,7 +1,7 @@
 //! `Plate ::= VisibleString (FROM ("A" | "B" | "C"))`
-ghost use Rattle.std.specs.Prelude.{◌≡◌, [], ◌∷◌, Some, IsTrue, All, codes};
+ghost use Rattle.std.specs.Prelude.{Some, IsTrue, All, codes};
 ghost use Rattle.asn1_model.specs.Kinds.{scalar_type, under_own_name};
-ghost use Rattle.asn1_types.specs.Words.{universal, characters_of, IsWellTagged, own_records, scalar, units, visible};
+ghost use Rattle.asn1_types.specs.Words.{universal, characters_of, IsWellTagged, units, visible};
 ghost use Rattle.asn1_strings.specs.Alphabets.{is_visible};
 
 use asn1_dec::{Decode, DecodeError, Decoder};
@@ -55,11 +55,3 @@ impl Decode for Plate {
         Ok(Plate(letters))
     }
 }
-
-/// What the plate `AB` is to every codec.
-pub fn plate_records(plate: &Plate)
-    ensures { plate.now.0 ≡ codes "AB" →
-        own_records ⟦<Plate as AsnType>⟧.meaning plate.now ≡
-        scalar (universal 26) (characters_of (codes "ABC")) (Some (codes "Plate"))
-        (units visible (codes "AB")) ∷ [] }
-{}

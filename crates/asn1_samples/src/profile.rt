@@ -9,11 +9,10 @@
 //!     [[ phone [3] NumericString OPTIONAL, mail [4] IA5String OPTIONAL ]]
 //! }
 //! ```
-ghost use Rattle.std.specs.Prelude.{◌≡◌, [], ◌∷◌, None, Some, pos, codes};
-ghost use Rattle.std.specs.String.{string_bytes};
+ghost use Rattle.std.specs.Prelude.{[], ◌∷◌, codes};
 ghost use Rattle.asn1_slots.specs.Slots.{default_slot, extensible_sequence_after, group_slot, optional_slot, required_slot};
-ghost use Rattle.asn1_types.specs.Words.{lines, labels_of, in_root, context, universal, tagged, constructed_type, constructed_agrees, IsWellTagged, own_records, holding, sequence_head, scalar, presence_mark, absent, present, group_start, group_end, group_absent, number, discriminant, units, utf8, ia5, unconstrained, values_of, Range};
-ghost use Rattle.asn1_samples.specs.declared.color.Color.TheVariants.{Red, Blue};
+ghost use Rattle.asn1_types.specs.Words.{context, tagged, constructed_type, constructed_agrees, IsWellTagged};
+ghost use Rattle.asn1_samples.specs.declared.color.Color.TheVariants.{Red};
 
 use crate::color::Color;
 use crate::contact::{CONTACT, Contact};
@@ -157,46 +156,3 @@ impl Decode for Profile {
         decode_sequence_by_place(decoder, tag)
     }
 }
-
-/// What a profile is to every codec: `Profile { nick: None, level: 7, color: Red, contact: None }` (`empty`), the same with a
-/// contact of nothing (`empty_contact`), and `Profile { nick: Some("Al"), level: 255, color: Blue, contact: Some(Contact {
-/// phone: None, mail: Some("a@b") }) }` (`full`).
-pub fn profile_records(profile: &Profile, nick: &Utf8String, mail: &Ia5String)
-    ensures empty { profile.now ≡ record { nick = None; level = 7; color = Red; contact = None } →
-        own_records ⟦<Profile as AsnType>⟧.meaning profile.now ≡
-        holding (sequence_head (universal 16) (lines ⟦<Profile as FieldTable>⟧.components)
-        (Some (codes "Profile"))) (presence_mark (absent in_root (context 0)) ∷
-        scalar (context 1) (values_of (Range (Some (pos 0)) (Some (pos 255))))
-        (Some (codes "INTEGER")) (number (pos 7)) ∷ presence_mark (absent in_root (context 2)) ∷
-        presence_mark group_absent ∷ []) ∷ [] }
-    ensures empty_contact { profile.now ≡ record {
-      nick = None;
-      level = 7;
-      color = Red;
-      contact =
-          Some (record { phone = None; mail = None });
-    } → own_records ⟦<Profile as AsnType>⟧.meaning profile.now ≡ holding (sequence_head (universal 16)
-        (lines ⟦<Profile as FieldTable>⟧.components) (Some (codes "Profile"))) (presence_mark
-        (absent in_root (context 0)) ∷ scalar (context 1)
-        (values_of (Range (Some (pos 0)) (Some (pos 255)))) (Some (codes "INTEGER"))
-        (number (pos 7)) ∷ presence_mark (absent in_root (context 2)) ∷ presence_mark group_absent ∷ []) ∷ [] }
-    ensures full { string_bytes nick.now ≡ codes "Al" → mail.now ≡ codes "a@b" →
-        profile.now ≡ record {
-          nick = Some nick.now;
-          level = 255;
-          color = Blue;
-          contact = Some
-              (record { phone = None; mail = Some mail.now });
-        } → own_records ⟦<Profile as AsnType>⟧.meaning profile.now ≡ holding (sequence_head (universal 16)
-        (lines ⟦<Profile as FieldTable>⟧.components) (Some (codes "Profile"))) (presence_mark
-        (present in_root (context 0)) ∷ scalar (context 0) unconstrained (Some (codes "UTF8String"))
-        (units utf8 (codes "Al")) ∷ scalar (context 1)
-        (values_of (Range (Some (pos 0)) (Some (pos 255)))) (Some (codes "INTEGER"))
-        (number (pos 255)) ∷ presence_mark (present in_root (context 2)) ∷
-        scalar (context 2) unconstrained (Some (codes "Color"))
-        (discriminant (labels_of ⟦<Color as asn1_types::Enumerated>⟧.enumeration) (pos 5)) ∷
-        presence_mark (group_start (lines ⟦<Contact as FieldTable>⟧.components)) ∷
-        presence_mark (absent in_root (context 3)) ∷ presence_mark (present in_root (context 4)) ∷
-        scalar (context 4) unconstrained (Some (codes "IA5String")) (units ia5 (codes "a@b")) ∷
-        presence_mark group_end ∷ []) ∷ [] }
-{}

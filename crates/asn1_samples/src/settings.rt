@@ -1,7 +1,7 @@
 //! `Settings ::= SEQUENCE { entry [0] Labelled DEFAULT { key 1, note 0 } }`
-ghost use Rattle.std.specs.Prelude.{◌≡◌, [], ◌∷◌, Some, pos, codes};
+ghost use Rattle.std.specs.Prelude.{[], ◌∷◌, codes};
 ghost use Rattle.asn1_slots.specs.Slots.{default_slot, sequence_of_slots};
-ghost use Rattle.asn1_types.specs.Words.{lines, in_root, context, universal, tagged, constructed_type, constructed_agrees, IsWellTagged, own_records, holding, sequence_head, scalar, presence_mark, absent, present, number, values_of, Range};
+ghost use Rattle.asn1_types.specs.Words.{context, tagged, constructed_type, constructed_agrees, IsWellTagged};
 
 use crate::labelled::Labelled;
 use asn1_dec::{Decode, DecodeError, Decoder};
@@ -114,21 +114,3 @@ impl Decode for Settings {
         decode_sequence_by_place(decoder, tag)
     }
 }
-
-/// What settings are to every codec: an entry with the key 1 and the note 9, which equals the default (`default`), and one
-/// with the key 2 (`another`).
-pub fn settings_records(settings: &Settings)
-    ensures default { settings.now.entry ≡ record { key = 1; note = 9 } →
-        own_records ⟦<Settings as AsnType>⟧.meaning settings.now ≡
-        holding (sequence_head (universal 16) (lines ⟦<Settings as FieldTable>⟧.components)
-        (Some (codes "Settings"))) (presence_mark (absent in_root (context 0)) ∷ []) ∷ [] }
-    ensures another { settings.now.entry ≡ record { key = 2; note = 9 } →
-        own_records ⟦<Settings as AsnType>⟧.meaning settings.now ≡
-        holding (sequence_head (universal 16) (lines ⟦<Settings as FieldTable>⟧.components)
-        (Some (codes "Settings"))) (presence_mark (present in_root (context 0)) ∷
-        holding (sequence_head (context 0) (lines ⟦<Labelled as FieldTable>⟧.components)
-        (Some (codes "Labelled"))) (scalar (context 0)
-        (values_of (Range (Some (pos 0)) (Some (pos 255)))) (Some (codes "INTEGER"))
-        (number (pos 2)) ∷ scalar (context 1) (values_of (Range (Some (pos 0)) (Some (pos 255))))
-        (Some (codes "INTEGER")) (number (pos 9)) ∷ []) ∷ []) ∷ [] }
-{}

@@ -1,7 +1,7 @@
 //! `Shape ::= CHOICE { dot NULL, ring [0] INTEGER (0..65535), inner Corner }`
-ghost use Rattle.std.specs.Prelude.{◌≡◌, [], ◌∷◌, Some, true, pos, codes, refl};
+ghost use Rattle.std.specs.Prelude.{[], ◌∷◌, codes, refl};
 ghost use Rattle.asn1_slots.specs.Cases.{choice_of_cases, variant};
-ghost use Rattle.asn1_types.specs.Words.{table_of, context, universal, untagged, tagged, inl, inr, choice_of, choice_agrees, IsWellTagged, own_records, holding, alternative_head, scalar, number, boolean, unconstrained, values_of, Range};
+ghost use Rattle.asn1_types.specs.Words.{context, untagged, tagged, inl, inr, choice_of, choice_agrees, IsWellTagged};
 ghost use Rattle.asn1_samples.specs.declared.corner.Corner.TheVariants as corner;
 ghost use Rattle.asn1_samples.specs.declared.shape.Shape.TheVariants.{Dot, Ring, Inner};
 
@@ -143,21 +143,3 @@ impl DecodeChoice for Shape {
         from_tag_by_table(decoder, tag, LEAVES)
     }
 }
-
-/// What a shape is to every codec: `Shape::Ring(300)` (`ring`), and `Shape::Inner(Corner::Left(true))`, of which the chosen
-/// tag is that of the corner's alternative (`inner`).
-pub fn shape_records(shape: &Shape)
-    ensures ring { shape.now ≡ Ring 300 →
-        own_records ⟦<Shape as AsnType>⟧.meaning shape.now ≡
-        holding (alternative_head (context 0) unconstrained
-        (table_of ⟦<Shape as Choice>⟧.alternatives) (Some (codes "Shape"))) (scalar (context 0)
-        (values_of (Range (Some (pos 0)) (Some (pos 65535)))) (Some (codes "INTEGER"))
-        (number (pos 300)) ∷ []) ∷ [] }
-    ensures inner { shape.now ≡ Inner (corner.Left true) →
-        own_records ⟦<Shape as AsnType>⟧.meaning shape.now ≡
-        holding (alternative_head (universal 1) unconstrained
-        (table_of ⟦<Shape as Choice>⟧.alternatives) (Some (codes "Shape"))) (holding
-        (alternative_head (universal 1) unconstrained (table_of ⟦<Corner as Choice>⟧.alternatives)
-        (Some (codes "Corner"))) (scalar (universal 1) unconstrained (Some (codes "BOOLEAN"))
-        (boolean true) ∷ []) ∷ []) ∷ [] }
-{}

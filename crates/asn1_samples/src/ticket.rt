@@ -1,7 +1,7 @@
 //! `Ticket ::= SET { seat [0] INTEGER (0..65535), name [1] UTF8String OPTIONAL, paid [2] BOOLEAN DEFAULT FALSE }`
-ghost use Rattle.std.specs.Prelude.{◌≡◌, [], ◌∷◌, None, Some, false, pos, codes, refl};
+ghost use Rattle.std.specs.Prelude.{[], ◌∷◌, false, codes, refl};
 ghost use Rattle.asn1_slots.specs.Slots.{default_slot, optional_slot, required_slot, set_of_slots};
-ghost use Rattle.asn1_types.specs.Words.{lines, in_root, context, universal, tagged, constructed_type, constructed_agrees, IsWellTagged, own_records, holding, set_head, scalar, presence_mark, absent, number, values_of, Range};
+ghost use Rattle.asn1_types.specs.Words.{context, tagged, constructed_type, constructed_agrees, IsWellTagged};
 
 use asn1_dec::{Decode, DecodeError, Decoder};
 use asn1_enc::{Encode, EncodeError, EncodeFields, Encoder};
@@ -140,14 +140,3 @@ impl Decode for Ticket {
         decode_set_by_place(decoder, tag)
     }
 }
-
-/// What `Ticket { seat: 7, name: None, paid: false }` is to every codec: the default is not written.
-pub fn ticket_records(ticket: &Ticket)
-    ensures { ticket.now ≡ record { seat = 7; name = None; paid = false } →
-        own_records ⟦<Ticket as AsnType>⟧.meaning ticket.now ≡
-        holding (set_head (universal 17) (lines ⟦<Ticket as FieldTable>⟧.components)
-        (Some (codes "Ticket"))) (scalar (context 0)
-        (values_of (Range (Some (pos 0)) (Some (pos 65535)))) (Some (codes "INTEGER"))
-        (number (pos 7)) ∷ presence_mark (absent in_root (context 1)) ∷
-        presence_mark (absent in_root (context 2)) ∷ []) ∷ [] }
-{}

@@ -8,10 +8,9 @@
 //!     note [5] UTF8String OPTIONAL
 //! }
 //! ```
-ghost use Rattle.std.specs.Prelude.{◌≡◌, [], ◌∷◌, None, Some, pos, codes};
-ghost use Rattle.std.specs.String.{string_bytes};
+ghost use Rattle.std.specs.Prelude.{[], ◌∷◌, codes};
 ghost use Rattle.asn1_slots.specs.Slots.{addition_slot, extensible_sequence_after, group_slot, required_slot};
-ghost use Rattle.asn1_types.specs.Words.{lines, in_root, in_additions, context, universal, tagged, constructed_type, constructed_agrees, IsWellTagged, own_records, holding, sequence_head, scalar, presence_mark, absent, present, group_start, group_end, number, units, utf8, numeric, unconstrained, values_of, Range};
+ghost use Rattle.asn1_types.specs.Words.{context, tagged, constructed_type, constructed_agrees, IsWellTagged};
 
 use crate::contact::{CONTACT, Contact};
 use asn1_dec::{Decode, DecodeError, Decoder};
@@ -140,37 +139,3 @@ impl Decode for Visit {
         decode_sequence_by_place(decoder, tag)
     }
 }
-
-/// What a visit is to every codec: `Visit { day: 7, contact: Some(Contact { phone: Some("12"), mail: None }), note }`, of which the
-/// group's last component is absent, where the note is there (`noted`), and where it is absent too (`bare`).
-pub fn visit_records(visit: &Visit, phone: &NumericString, note: &Utf8String)
-    ensures noted { phone.now ≡ codes "12" → string_bytes note.now ≡ codes "ok" →
-        visit.now ≡ record {
-          day = 7;
-          contact = Some (record
-              { phone = Some phone.now; mail = None });
-          note = Some note.now;
-        } → own_records ⟦<Visit as AsnType>⟧.meaning visit.now ≡ holding (sequence_head (universal 16)
-        (lines ⟦<Visit as FieldTable>⟧.components) (Some (codes "Visit"))) (scalar (context 0)
-        (values_of (Range (Some (pos 0)) (Some (pos 65535)))) (Some (codes "INTEGER"))
-        (number (pos 7)) ∷ presence_mark (group_start (lines ⟦<Contact as FieldTable>⟧.components)) ∷
-        presence_mark (present in_root (context 3)) ∷ scalar (context 3) unconstrained
-        (Some (codes "NumericString")) (units numeric (codes "12")) ∷
-        presence_mark (absent in_root (context 4)) ∷ presence_mark group_end ∷
-        presence_mark (present in_additions (context 5)) ∷ scalar (context 5) unconstrained
-        (Some (codes "UTF8String")) (units utf8 (codes "ok")) ∷ []) ∷ [] }
-    ensures bare { phone.now ≡ codes "12" →
-        visit.now ≡ record {
-          day = 7;
-          contact = Some (record
-              { phone = Some phone.now; mail = None });
-          note = None;
-        } → own_records ⟦<Visit as AsnType>⟧.meaning visit.now ≡ holding (sequence_head (universal 16)
-        (lines ⟦<Visit as FieldTable>⟧.components) (Some (codes "Visit"))) (scalar (context 0)
-        (values_of (Range (Some (pos 0)) (Some (pos 65535)))) (Some (codes "INTEGER"))
-        (number (pos 7)) ∷ presence_mark (group_start (lines ⟦<Contact as FieldTable>⟧.components)) ∷
-        presence_mark (present in_root (context 3)) ∷ scalar (context 3) unconstrained
-        (Some (codes "NumericString")) (units numeric (codes "12")) ∷
-        presence_mark (absent in_root (context 4)) ∷ presence_mark group_end ∷
-        presence_mark (absent in_additions (context 5)) ∷ []) ∷ [] }
-{}

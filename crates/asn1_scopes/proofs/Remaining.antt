@@ -1,11 +1,11 @@
 -- What remains exactly to be read of the scopes that are open, from call to call.
 use Rattle.std.proofs.Common.{◌≡◌, ℕ, ◌+◌, ◌≤◌, Bool, true, false, List, [], ◌∷◌, ◌++◌, refl, sym, ap, subst, arith, length, length-append, ◌∙◌, inl}
-use Rattle.std.specs.Prelude.{⊤, Decides, Result, Ok, Err, IfErr, IfOk, OnErr, OnOk, MatchResult, not}
+use Rattle.std.specs.Prelude.{⊤, ◌≢◌, ◌↔◌, Decides, Result, Ok, Err, IfErr, IfOk, OnErr, OnOk, MatchResult, not}
 use Rattle.asn1_codec.proofs.ReadingUpToOrder.{at_the_end, reads_end, remains_exactly, tells_more}
 use Rattle.asn1_codec.specs.Reading.{HasAdvanced, MayFail, Outside, ReadsEnd, ReadsHead, Reader, TellsMore, nothing, records_in}
 use Rattle.asn1_codec.specs.ReadingUpToOrder.{up_to_order}
 use Rattle.asn1_codec.specs.declared.decode_error.DecodeError.{DecodeError}
-use Rattle.asn1_codec.specs.declared.decode_error.DecodeError.TheVariants.{Memory}
+use Rattle.asn1_codec.specs.declared.decode_error.DecodeError.TheVariants.{Depth, Failed, Memory}
 use Rattle.asn1_items.specs.Items.{IsJoined}
 use Rattle.asn1_items.specs.Slices.{left_inside, left_of, left_outside, open_lists}
 use Rattle.asn1_items.specs.declared.slices.Rest.{Rest}
@@ -102,21 +102,30 @@ module _ {F : ReadForm} (form : IsReadForm F) where
       same = record { here = same; outside = nothing };
     }
 
+    -- where no call has failed and some depth is left, a scope that was not opened wanted memory
+    no_memory : (s : Scopes) (result : Result Opened DecodeError) → s.failed ≡ false → 1 ≤ s.depth_left → result ≡ Err Failed ↔ (s.failed ≡ true) → (result ≡ Err Depth → s.depth_left ≡ 0) →
+        IfErr result (λ e. e ≢ Failed → e ≢ Depth → e ≡ Memory) → IfErr result (λ e. e ≡ Memory)
+    no_memory s (Ok w) no_failure some failed too_deep memory = tt
+    no_memory s (Err e) no_failure some failed too_deep memory =
+        memory (λ is. not_both s.failed no_failure (failed.0 (ap Err is))) (λ is. omega (arith, some, too_deep (ap Err is)))
+
     -- a scope was opened, or there was no memory
     pub scope_opened : (old mid new : D) (h : Head) (items rest : List Record) (outer : Outside) (inside bytes : List ℕ) (tag : Tag) (result : Result Opened DecodeError) →
-        F.Have items inside → RemainsExactly F (scopes mid) (rest, outer) → 1 ≤ (scopes old).depth_left → tag ≡ head_tag h → bytes ≡ inside →
-        IfOk result (IsOpen (scopes mid) (scopes new) tag bytes) → OnOk result ((scopes new).failed ≡ (scopes mid).failed) → IfErr result (λ e. e ≡ Memory) →
+        F.Have items inside → RemainsExactly F (scopes mid) (rest, outer) → 1 ≤ (scopes old).depth_left → (scopes mid).depth_left ≡ (scopes old).depth_left → tag ≡ head_tag h → bytes ≡ inside →
+        IfOk result (IsOpen (scopes mid) (scopes new) tag bytes) → OnOk result ((scopes new).failed ≡ false) →
+        result ≡ Err Failed ↔ ((scopes mid).failed ≡ true) → (result ≡ Err Depth → (scopes mid).depth_left ≡ 0) → IfErr result (λ e. e ≢ Failed → e ≢ Depth → e ≡ Memory) →
         MatchResult result (λ w. HasAdvanced (exact_reader F scopes) old new 1 (items, (h, rest) ∷ outer) (IsOpened h items w)) (MayFail ((scopes old).depth_left) 1)
-    scope_opened old mid new h items rest outer inside bytes tag (Ok w) have at allowed has_tag are is same memory = record {
+    scope_opened old mid new h items rest outer inside bytes tag (Ok w) have at allowed same has_tag are is no_failure failed too_deep memory = record {
       answer = record { has_tag = is.has_tag ∙ has_tag; is_bound = omega (arith, as_long items inside have, is.is_bound, ap length are) };
       at = record {
-        no_failure = same ∙ at.no_failure;
+        no_failure = no_failure;
         inside = subst (λ l. F.Have items l) (sym (is.inside_is ∙ are)) have;
         outside = subst (AllHave F (rest ∷ lists_outside outer)) (sym is.outside) (at.inside, at.outside);
       };
       within_depth_left = allowed;
     }
-    scope_opened old mid new h items rest outer inside bytes tag (Err e) have at allowed has_tag are is same memory = inl memory
+    scope_opened old mid new h items rest outer inside bytes tag (Err e) have at allowed same has_tag are is no_failure failed too_deep memory =
+        inl (no_memory (scopes mid) (Err e) at.no_failure (omega (arith, allowed, same)) failed too_deep memory)
 
     -- whether something is left
     some_or_none : (d : D) (some : Bool) → Decides (not some) (left_inside (scopes d).slices ≡ []) → TellsMore (exact_reader F scopes) d d (Ok some)

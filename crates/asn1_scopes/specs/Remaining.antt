@@ -1,10 +1,11 @@
 -- What remains to be read of the scopes that are open, and what the calls do to them.
 use Rattle.std.specs.Prelude.{◌≡◌, ℕ, ◌≤◌, ⊤, Bool, false, List, [], ◌∷◌, length, map, Result}
-use Rattle.asn1_codec.specs.Reading.{Advances, Outside, Reader, Remaining, records_in}
+use Rattle.asn1_codec.specs.Reading.{Advances, Outside, Reader, ReadsHead, ReadsHeadOfSet, Remaining, records_in}
 use Rattle.asn1_codec.specs.declared.decode_error.DecodeError.{DecodeError}
 use Rattle.asn1_items.specs.Items.{IsJoined}
 use Rattle.asn1_items.specs.Slices.{left_inside, left_outside}
-use Rattle.asn1_model.specs.Records.{Head, Record, holding, is_presence_mark}
+use Rattle.asn1_model.specs.Orders.{is_unordered}
+use Rattle.asn1_model.specs.Records.{Head, Name, Record, holding, is_presence_mark}
 use Rattle.asn1_model.specs.Tags.{head_tag}
 use Rattle.asn1_scopes.specs.declared.scopes.Opened.{Opened}
 use Rattle.asn1_scopes.specs.declared.scopes.Scopes.{Scopes}
@@ -82,3 +83,18 @@ abbrev pub OpensWanted : {D : Type 0} → Reader D → (Head → Type 0) → D �
 OpensWanted R IsWanted old new result =
     (h : Head) (items rest : List Record) (outer : Outside) → IsWanted h →
     Advances R old new 1 (holding h items ∷ rest, outer) (items, (h, rest) ∷ outer) (IsOpened h items) result
+
+-- no more records are in it than this bound
+abbrev pub IsWithinBound : List Record → ℕ → Type 0
+IsWithinBound items bound = records_in items ≤ bound
+
+-- a call that opens each record whose head is what is wanted, if the order of what it holds means something
+abbrev pub ReadsWantedHead : {D V : Type 0} → Reader D → (Head → Type 0) → (List Record → V → Type 0) → D → D → Result V DecodeError → Type 0
+ReadsWantedHead R IsWanted Is old new result =
+    (head : Name → Head) → ((n : Name) → IsWanted (head n)) → ((n : Name) → is_unordered (head n) ≡ false) →
+    ReadsHead R old new head Is result
+
+-- the same whether it means something or not: what it holds remains in some order
+abbrev pub ReadsWantedSet : {D V : Type 0} → Reader D → (Head → Type 0) → (List Record → V → Type 0) → D → D → Result V DecodeError → Type 0
+ReadsWantedSet R IsWanted Is old new result =
+    (head : Name → Head) → ((n : Name) → IsWanted (head n)) → ReadsHeadOfSet R old new head Is result

@@ -12,7 +12,7 @@ pub const BAD_ITEM: DecodeError = DecodeError::Custom("bad item");
 
 /// The state of a decoder over bytes. It borrows them, and copies none.
 ///
-/// After an error the state is failed, and [`Scopes::more`], [`Scopes::close`] and [`Scopes::finish`] answer
+/// After an error the state is failed, and [`Scopes::open`], [`Scopes::more`], [`Scopes::close`] and [`Scopes::finish`] answer
 /// [`DecodeError::Failed`] from then on.
 #[derive(Drop)]
 pub struct Scopes<'a> {
@@ -37,11 +37,11 @@ pub struct Opened {
 impl<'a> Scopes<'a> {
     ghost use Rattle.asn1_codec.specs.DecodeErrors.{custom, reason};
     ghost use Rattle.asn1_codec.specs.declared.decode_error.DecodeError.TheVariants.{Depth, Failed, Memory};
-    ghost use Rattle.asn1_items.specs.Slices.{left_inside, left_outside};
+    ghost use Rattle.asn1_items.specs.Slices.{left_inside, left_outside, open_lists};
     ghost use Rattle.asn1_items.specs.declared.error.ItemError.TheVariants as item_error;
     ghost use Rattle.asn1_scopes.specs.Remaining.{IsAtEnd, IsClosed, IsOpen, NoneToClose};
     ghost use Rattle.std.specs.Bool.{Decides};
-    ghost use Rattle.std.specs.Prelude.{◌≡◌, ◌≢◌, ◌↔◌, ◌≤◌, [], Err, IfErr, IfOk, IsOk, OnErr, OnOk, codes, false, not, suc, true};
+    ghost use Rattle.std.specs.Prelude.{◌≡◌, ◌≢◌, ◌↔◌, [], Err, IfErr, IfOk, IsOk, OnErr, OnOk, codes, false, not, suc, true};
 
     /// All of these bytes, outside all scopes. This many nested scopes may be opened.
     pub fn new(alloc: Global, bytes: &'a [u8], depth: usize) -> Scopes<'a>
@@ -80,22 +80,27 @@ impl<'a> Scopes<'a> {
         Ok(())
     }
 
-    /// Makes the state failed, and answers the error.
+    /// Makes the state failed, and answers the error. The depth left stays, and what is left of each scope.
     pub fn fail(&mut self, error: DecodeError) -> DecodeError
         ensures same { result ≡ error }
         ensures has_failed { self.new.failed ≡ true }
+        ensures same_depth { self.new.depth_left ≡ self.old.depth_left }
+        ensures same_bytes { self.new.slices ≡ self.old.slices }
     {
         self.failed = true;
         error
     }
 
     /// Makes the state failed, since an item was not read. Where bytes are missing outside all scopes the error is
-    /// [`DecodeError::Incomplete`], and else, unless memory ran out, [`DecodeError::Custom`] with the text `bad item`.
+    /// [`DecodeError::Incomplete`], and else, unless memory ran out, [`DecodeError::Custom`] with the text `bad item`. The depth
+    /// left stays, and what is left of each scope.
     pub fn fault(&mut self, error: ItemError) -> DecodeError
         ensures memory { error ≡ item_error.Memory → result ≡ Memory }
         ensures not_too_deep { result ≢ Depth }
         ensures not_failed { result ≢ Failed }
         ensures has_failed { self.new.failed ≡ true }
+        ensures same_depth { self.new.depth_left ≡ self.old.depth_left }
+        ensures same_bytes { self.new.slices ≡ self.old.slices }
     {
         self.failed = true;
         match error {
@@ -114,15 +119,28 @@ impl<'a> Scopes<'a> {
     /// Goes into a scope, with these bytes in it, whose head has this tag.
     ///
     /// # Errors
-    /// [`DecodeError::Memory`].
+    /// [`DecodeError::Failed`] where a call has failed before, else [`DecodeError::Depth`] where no depth is left, and else
+    /// [`DecodeError::Memory`]. No scope is opened then, and the depth left stays.
     pub fn open(&mut self, tag: Tag, inside: &'a [u8]) -> Result<Opened, DecodeError>
-        requires may_open { 1 ≤ self.old.depth_left }
         ensures opened { IfOk result (IsOpen self.old self.new tag inside.now) }
         ensures one_less { OnOk result (self.old.depth_left ≡ suc self.new.depth_left) }
-        ensures same_failure { OnOk result (self.new.failed ≡ self.old.failed) }
-        ensures memory { IfErr result (λ e. e ≡ Memory) }
+        ensures no_failure { OnOk result (self.new.failed ≡ false) }
+        ensures failed { result ≡ Err Failed ↔ (self.old.failed ≡ true) }
+        ensures too_deep { result ≡ Err Depth → self.old.depth_left ≡ 0 }
+        ensures depth_first { self.old.failed ≡ false → self.old.depth_left ≡ 0 →
+            result ≡ Err Depth }
+        ensures memory { IfErr result (λ e. e ≢ Failed → e ≢ Depth → e ≡ Memory) }
         ensures has_failed { OnErr result (self.new.failed ≡ true) }
+        ensures same_depth { OnErr result (self.new.depth_left ≡ self.old.depth_left) }
+        ensures same_scopes { OnErr result
+            (open_lists self.new.slices ≡ open_lists self.old.slices) }
     {
+        if self.failed {
+            return Err(DecodeError::Failed);
+        }
+        if self.depth_left == 0 {
+            return Err(self.fail(DecodeError::Depth));
+        }
         if let Err(_) = self.slices.enter(inside) {
             return Err(self.fail(DecodeError::Memory));
         }
@@ -161,6 +179,7 @@ impl<'a> Scopes<'a> {
         ensures no_failure { OnOk result (self.new.failed ≡ false) }
         ensures not_closed { OnErr result (NoneToClose self.old) }
         ensures has_failed { OnErr result (self.new.failed ≡ true) }
+        ensures same_depth { OnErr result (self.new.depth_left ≡ self.old.depth_left) }
         ensures failed_before { self.old.failed ≡ true → result ≡ Err Failed }
         ensures not_too_deep { result ≢ Err Depth }
     {

@@ -4,7 +4,7 @@ use Rattle.std.specs.Prelude.{IfErr}
 use Rattle.asn1_codec.specs.DecodeErrors.{lacks_name, reason}
 use Rattle.asn1_codec.specs.Reading.{MayFail}
 use Rattle.asn1_codec.specs.declared.decode_error.DecodeError.{DecodeError}
-use Rattle.asn1_slots.specs.Slots.{IsOfSlots, MakesValue, RefusesMissing, Slot}
+use Rattle.asn1_slots.specs.Slots.{IsOfSlots, MakesValueOfSlots, RefusesMissing, Slot}
 
 -- what is given to no error of memory or of depth changes nothing before records of a value
 pub fails_alike : (depth_left height : ℕ) (e named : DecodeError) → (lacks_name (reason e) ≡ false → named ≡ e) →
@@ -14,7 +14,7 @@ fails_alike depth_left height e named same (inr deep) = inr (same (ap (λ x. lac
 
 -- an error that is made of slots is one
 pub of_slots : {S V : Type 0} (slots : List (Slot S V)) (eq : V → V → Bool) (s : S) (result : Result V DecodeError) →
-    MakesValue slots eq s result → RefusesMissing slots s result →
+    MakesValueOfSlots slots eq s result → RefusesMissing slots s result →
     IfErr result (λ e. lacks_name (reason e) ≡ true → IsOfSlots slots eq e)
 of_slots slots eq s (Ok v) makes missing = tt
 of_slots slots eq s (Err e) makes missing = λ _. (s, (makes, missing))

@@ -1,6 +1,6 @@
 -- How components are read one by one, each by its place.
 use Rattle.std.proofs.Common.{◌≡◌, ℕ, zero, suc, ◌+◌, ◌<◌, ◌≤◌, Bool, true, List, [], ◌∷◌, ◌++◌, Result, Ok, Err, drop, length, arith, refl, sym, subst, ap, ◌∙◌, add-one, inl}
-use Rattle.asn1_slots.specs.Slots.{AreSlotsOf, HoldBefore, MakesValue, ReadsAt, ReadsInto, SameComponent, Slot}
+use Rattle.asn1_slots.specs.Slots.{AreSlotsOf, HoldBefore, MakesValueOfSlots, ReadsAt, ReadsInto, SameComponent, Slot}
 use Rattle.asn1_components.specs.ComponentLists.{CanBeInSequence, EachIsOfType, EachIsValid, all_records}
 use Rattle.asn1_components.specs.ComponentTypes.{ComponentType}
 use Rattle.asn1_components.specs.Following.{EndsApart, records_then}
@@ -75,7 +75,7 @@ module _ {D S V : Type 0} (R : Reader D) (cs : List (ComponentType V)) (ds : Lis
       pub not_read : (e : DecodeError) → ReadsAt {A = A} R ds place now then new (Err e) → MayFail (R.depth_left began) (highest (all_records cs v)) e
       not_read e reads = stops_at A R began now then new v (highest (all_records cs v)) rest outer e cs ds all place low upto.part reads
 
-    pub all_read : (eq : V → V → Bool) (now : D) (s : S) (place : ℕ) (result : Result V DecodeError) → length cs ≡ place → ReadUpTo place began now s v rest outer → MakesValue ds eq s result →
+    pub all_read : (eq : V → V → Bool) (now : D) (s : S) (place : ℕ) (result : Result V DecodeError) → length cs ≡ place → ReadUpTo place began now s v rest outer → MakesValueOfSlots ds eq s result →
         MatchResult result (λ w. HasAdvanced R began now (highest (all_records cs v)) (rest, outer) (eq w v ≡ true)) (MayFail (R.depth_left began) (highest (all_records cs v)))
     all_read eq now s place result end upto makes = answered result (makes v (subst (λ n. HoldBefore ds n s v) (sym end ∙ same_length cs ds all) upto.hold))
       where

@@ -24,9 +24,9 @@ module _ {D W A : Type 0} (R : Reader D) where
 
   -- A call that reads a component that may be absent, on this side: what follows it begins with
   -- none of its tags.
-  abbrev pub ReadsOptional : Side → TaggedType W → (Option W → A → Type 0) → D → D →
+  abbrev pub ReadsOptionalComponent : Side → TaggedType W → (Option W → A → Type 0) → D → D →
       Result A DecodeError → Type 0
-  ReadsOptional side type Is old new result =
+  ReadsOptionalComponent side type Is old new result =
       (v : Option W) (rest : List Record) (outer : Outside) → type.IsWellTagged →
       IfSome v type.IsOfType → IfSome v (type.IsValid R.accepts) → BeginsApart type.tree rest →
       ReadsBack R old new (option_records side type.tag (option_map type.records v)) rest outer
@@ -41,7 +41,7 @@ module _ {D W A : Type 0} (R : Reader D) where
   -- one that may be absent, on this side: then the slot holds an equal value, or nothing
   pub record FillsOptional (side : Side) (type : TaggedType W) (eq : W → W → Bool) (old new : D)
       (slot : Option W) (result : Result A DecodeError) : Type 0 where
-    pub reads : ReadsOptional side type (λ v _. option_eq eq slot v ≡ true) old new result
+    pub reads : ReadsOptionalComponent side type (λ v _. option_eq eq slot v ≡ true) old new result
 
   -- A call that reads a component of a SET, of this name, into this slot. Where the slot was empty
   -- it reads as one that is always there; where it was not, the component has come before, and is

@@ -303,15 +303,15 @@ module _ {S V : Type 0} where
       IfSome (first_missing slots s) (λ name. IsErrAnd result (λ e. reason e ≡ missing_field name))
 
   -- of the slots of a value an equal one is made, unless memory runs out
-  abbrev pub MakesValue : List (Slot S V) → (V → V → Bool) → S → Result V DecodeError → Type 0
-  MakesValue slots eq s result =
+  abbrev pub MakesValueOfSlots : List (Slot S V) → (V → V → Bool) → S → Result V DecodeError → Type 0
+  MakesValueOfSlots slots eq s result =
       (v : V) → HoldBefore slots (length slots) s v →
       MatchResult result (λ w. eq w v ≡ true) (λ e. e ≡ Memory)
 
 -- The error is one that can be made of slots.
 abbrev pub IsOfSlots : {S V : Type 0} → List (Slot S V) → (V → V → Bool) → DecodeError → Type 0
 IsOfSlots {S = S} {V = V} slots eq e =
-    (s : S) × (MakesValue slots eq s (Err e) × RefusesMissing {A = V} slots s (Err e))
+    (s : S) × (MakesValueOfSlots slots eq s (Err e) × RefusesMissing {A = V} slots s (Err e))
 
 -- Two components are the same to a reader.
 abbrev pub SameComponent : {V : Type 0} → ComponentType V → ComponentType V → Type 0

@@ -4,7 +4,7 @@ ghost use Rattle.asn1_codec.specs.Reading.{KeepsDepth, NeedsDepth, ReadsValue};
 ghost use Rattle.asn1_codec.specs.ReadingTypes.{ReadsComponents, ReadsFields};
 ghost use Rattle.asn1_components.specs.Components.{is_sequence};
 ghost use Rattle.asn1_model.specs.ConstraintSets.{ConstraintSet};
-ghost use Rattle.asn1_slots.specs.Slots.{HoldBefore, IsLayoutOf, IsOfSlots, MakesValue, ReadsAt, RefusesMissing, Slot};
+ghost use Rattle.asn1_slots.specs.Slots.{HoldBefore, IsLayoutOf, IsOfSlots, MakesValueOfSlots, ReadsAt, RefusesMissing, Slot};
 ghost use Rattle.std.specs.Prelude.{◌≡◌, IfErr, List, OnOk, true};
 
 use crate::calls::Decoded;
@@ -27,7 +27,7 @@ pub trait DecodeByPlace: Eq + Sized + Drop {
     /// The value of these slots. Where a component is missing that is always there, the error is
     /// [`DecodeError::MissingField`], with the name of the first. Of the slots of a value it fails only if memory runs out.
     fn from_slots(alloc: Global, slots: Self::Slots) -> Result<Self, DecodeError>
-        ensures made { MakesValue layout Self.eq slots result }
+        ensures made { MakesValueOfSlots layout Self.eq slots result }
         ensures missing { RefusesMissing layout slots result };
 
     /// Reads the component at a place into its slot, and leaves the slots before it. At the places after the last component it
@@ -43,6 +43,7 @@ pub trait DecodeByPlace: Eq + Sized + Drop {
 /// Reads all components: what [`asn1_dec::DecodeFields::decode_fields`] of a group of additions calls, where the layout is that of
 /// its components (`read`). A success leaves the depth as it was (`same_depth`). An error of a component is answered with its name
 /// ([`DecodeError::in_field`]); one that lacks a name is one of [`DecodeByPlace::from_slots`] (`named`).
+#[inline(always)]
 pub fn decode_fields_by_place<C: DecodeByPlace + FieldTable, D: Decoder>(
     decoder: &mut D,
 ) -> Result<C, DecodeError>
@@ -64,6 +65,7 @@ pub fn decode_fields_by_place<C: DecodeByPlace + FieldTable, D: Decoder>(
 }
 
 /// A SEQUENCE under a tag.
+#[inline(always)]
 fn read_sequence<S: DecodeByPlace + FieldTable, D: Decoder>(
     decoder: &mut D,
     tag: Tag,
@@ -90,6 +92,7 @@ fn read_sequence<S: DecodeByPlace + FieldTable, D: Decoder>(
 /// Which name an error has is said of the calls that it rests on: an error of a component is answered with the component's name,
 /// so that one without a name is an error of [`DecodeByPlace::from_slots`] (`named` of [`decode_fields_by_place`]); and of missing
 /// components the first is named (`missing` of [`DecodeByPlace::from_slots`]).
+#[inline(always)]
 pub fn decode_sequence_by_place<S: DecodeByPlace + ConstructedType, D: Decoder>(
     decoder: &mut D,
     tag: Tag,

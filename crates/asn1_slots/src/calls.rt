@@ -14,6 +14,7 @@ use asn1_dec::{Decode, DecodeFields, Decoder};
 pub type Decoded = Result<(), DecodeError>;
 
 /// Reads a component that is always there.
+#[inline(always)]
 pub fn required<T: Decode, D: Decoder>(
     slot: &mut Option<T>,
     decoder: &mut D,
@@ -29,6 +30,7 @@ pub fn required<T: Decode, D: Decoder>(
 }
 
 /// Reads a component that may be absent, or has a default.
+#[inline(always)]
 pub fn optional<T: Decode, D: Decoder>(
     slot: &mut Option<T>,
     decoder: &mut D,
@@ -44,6 +46,7 @@ pub fn optional<T: Decode, D: Decoder>(
 }
 
 /// Reads an addition, which may be absent, or has a default.
+#[inline(always)]
 pub fn addition<T: Decode, D: Decoder>(
     slot: &mut Option<T>,
     decoder: &mut D,
@@ -59,6 +62,7 @@ pub fn addition<T: Decode, D: Decoder>(
 }
 
 /// Reads a group of additions, which may be absent.
+#[inline(always)]
 pub fn group<C: DecodeFields, D: Decoder>(slot: &mut Option<C>, decoder: &mut D) -> Decoded
     ensures read { FillsGroup D.reader C.components C.eq decoder.old decoder.new slot.new result }
     ensures same_depth { OnOk result (D.reader.depth_left decoder.new ≡
@@ -70,6 +74,7 @@ pub fn group<C: DecodeFields, D: Decoder>(slot: &mut Option<C>, decoder: &mut D)
 
 /// Reads a component of a SET. Where it was read before, the error is [`DecodeError::DuplicateField`], with the name; an error of
 /// the component is answered with its name ([`DecodeError::in_field`]).
+#[inline(always)]
 pub fn once<T: Decode, D: Decoder>(
     slot: &mut Option<T>,
     decoder: &mut D,

@@ -12,6 +12,7 @@ use asn1_dec::{Decode, Decoder};
 use asn1_tags::Tag;
 
 /// Reads the value of an alternative.
+#[inline(always)]
 pub fn alternative<T: Decode, D: Decoder>(
     decoder: &mut D,
     tagging: Tagging,
@@ -25,6 +26,7 @@ pub fn alternative<T: Decode, D: Decoder>(
 }
 
 /// Reads the value of an alternative under these constraints, and a tag, or the type's own where none is given.
+#[inline(always)]
 pub fn alternative_with_constraints<T: Decode, D: Decoder>(
     decoder: &mut D,
     tag: Option<Tag>,

@@ -37,6 +37,7 @@ pub trait DecodeChoiceByPlace: Eq + Sized + Drop {
 }
 
 /// Reads the alternative at the place of a tag, if there is one.
+#[inline(always)]
 fn read_at<T: DecodeChoiceByPlace + ChoiceType, D: Decoder>(
     decoder: &mut D,
     place: Option<usize>,
@@ -57,6 +58,8 @@ fn read_at<T: DecodeChoiceByPlace + ChoiceType, D: Decoder>(
 }
 
 /// The error that no alternative of the type has the tag.
+#[cold]
+#[inline(never)]
 fn no_alternative<T: AsnType>() -> DecodeError
     ensures { reason result ≡ no_valid_choice (unwrap_or T.meaning.name []) }
 {
@@ -68,6 +71,7 @@ fn no_alternative<T: AsnType>() -> DecodeError
 
 /// Reads the alternative that can begin with the tag, where the alternatives are those of the cases: what
 /// [`asn1_dec::DecodeChoice::from_tag`] of the type calls. It takes no memory beside what the alternative takes.
+#[inline(always)]
 pub fn from_tag_by_place<T: DecodeChoiceByPlace + ChoiceType, D: Decoder>(
     decoder: &mut D,
     tag: Tag,

@@ -13,6 +13,7 @@ use asn1_dec::{Decode, Decoder};
 use asn1_tags::Tag;
 
 /// Reads a component that is always there under these constraints, and a tag, or the type's own where none is given.
+#[inline(always)]
 pub fn required_with_constraints<T: Decode, D: Decoder>(
     slot: &mut Option<T>,
     decoder: &mut D,
@@ -30,6 +31,7 @@ pub fn required_with_constraints<T: Decode, D: Decoder>(
 }
 
 /// The same of a component that may be absent, or has a default.
+#[inline(always)]
 pub fn optional_with_constraints<T: Decode, D: Decoder>(
     slot: &mut Option<T>,
     decoder: &mut D,
@@ -48,6 +50,7 @@ pub fn optional_with_constraints<T: Decode, D: Decoder>(
 }
 
 /// The same of an addition.
+#[inline(always)]
 pub fn addition_with_constraints<T: Decode, D: Decoder>(
     slot: &mut Option<T>,
     decoder: &mut D,
@@ -67,6 +70,7 @@ pub fn addition_with_constraints<T: Decode, D: Decoder>(
 
 /// The same of a component of a SET, which is always there, may be absent or has a default. Where it was read before, the error is
 /// [`DecodeError::DuplicateField`], with the name; an error of the component is answered with its name.
+#[inline(always)]
 pub fn once_with_constraints<T: Decode, D: Decoder>(
     slot: &mut Option<T>,
     decoder: &mut D,

@@ -7,6 +7,8 @@ use asn1_codec::DecodeError;
 use asn1_components::FieldTable;
 
 /// The error as that of the component at this place of the table ([`DecodeError::in_field`]).
+#[cold]
+#[inline(never)]
 pub(crate) fn in_component<C: FieldTable>(place: usize, error: DecodeError) -> DecodeError
     requires { place < length (table C.components) }
     ensures named { lacks_name (reason error) ≡ true → IfSome (slice_get (table C.components) place)

@@ -34,7 +34,7 @@
 //!   (`Fills`, `FillsOptional`, `FillsGroup` of `specs/Filling.antt`). In a SET the slot was empty before, or the component has
 //!   come twice, and is refused by its name (`FillsOnce`).
 //! - At each place of a type its call has to promise that (`ReadsAt`, `ReadsOnceAt`), and to leave what other slots hold (`kept`).
-//! - Of slots that hold what a value has an equal value is made (`MakesValue`). Where a component is missing that is always
+//! - Of slots that hold what a value has an equal value is made (`MakesValueOfSlots`). Where a component is missing that is always
 //!   there, the error says which is the first (`RefusesMissing`).
 //! - An error of a component has a component's name, unless it is about more than the component (`named` of
 //!   [`decode_fields_by_place`], [`once`] and [`once_with_constraints`]). That the name is that of this component is tested.

@@ -12,6 +12,7 @@ use std::alloc::{AllocError, Global};
 use std::slice;
 
 /// The place of the first tree that has the tag as a leaf.
+#[inline(always)]
 fn first_with_leaf(trees: &[TagTree<'static>], tag: Tag) -> Option<usize>
     ensures { IsPlaceOf tag (shapes trees.now) result }
 {
@@ -75,6 +76,7 @@ fn find_in_table(
 }
 
 /// The place of the alternative that can begin with the tag, in the order of the definition.
+#[inline(always)]
 pub(crate) fn place_of_tag<T: ChoiceType>(tag: Tag) -> Option<usize>
     ensures { IsPlaceOf tag (trees_of (all_of T.alternatives)) result }
 {

@@ -3,7 +3,7 @@ ghost use Rattle.asn1_codec.specs.Reading.{KeepsDepth, NeedsDepth, ReadsValue};
 ghost use Rattle.asn1_codec.specs.ReadingTypes.{ReadsComponents};
 ghost use Rattle.asn1_components.specs.Components.{is_set};
 ghost use Rattle.asn1_model.specs.ConstraintSets.{ConstraintSet};
-ghost use Rattle.asn1_slots.specs.Slots.{AreEmpty, IsLayoutOf, MakesValue, OthersAreKept, ReadsOnceAt, ReadsSlotsLeft, RefusesMissing, Slot, has_no_group};
+ghost use Rattle.asn1_slots.specs.Slots.{AreEmpty, IsLayoutOf, MakesValueOfSlots, OthersAreKept, ReadsOnceAt, ReadsSlotsLeft, RefusesMissing, Slot, has_no_group};
 ghost use Rattle.std.specs.Prelude.{◌≡◌, List, OnErr, OnOk, true};
 
 use crate::calls::Decoded;
@@ -23,7 +23,7 @@ pub trait DecodeSetByPlace: Eq + Sized + Drop {
 
     /// The value of these slots, as [`crate::DecodeByPlace::from_slots`] makes it.
     fn from_slots(alloc: Global, slots: Self::Slots) -> Result<Self, DecodeError>
-        ensures made { MakesValue layout Self.eq slots result }
+        ensures made { MakesValueOfSlots layout Self.eq slots result }
         ensures missing { RefusesMissing layout slots result };
 
     /// Reads the component at a place of the definition into its slot, and leaves the other slots. Where it was read before, the
@@ -42,6 +42,7 @@ pub trait DecodeSetByPlace: Eq + Sized + Drop {
 }
 
 /// The slots of the components that are left in a SET, of which there are at most this many records.
+#[inline(always)]
 fn read_slots<S: DecodeSetByPlace + FieldTable, D: Decoder>(
     decoder: &mut D,
     bound: usize,
@@ -72,6 +73,7 @@ fn read_slots<S: DecodeSetByPlace + FieldTable, D: Decoder>(
 }
 
 /// A SET under a tag.
+#[inline(always)]
 fn read_components<S: DecodeSetByPlace + FieldTable, D: Decoder>(
     decoder: &mut D,
     tag: Tag,
@@ -100,6 +102,7 @@ fn read_components<S: DecodeSetByPlace + FieldTable, D: Decoder>(
 /// `FillsOnce`, which is `read` of [`crate::once`]), an error of a component is answered with a name (`named` of [`crate::once`]),
 /// and of missing components the first is named (`missing` of [`DecodeSetByPlace::from_slots`]). A record whose tag no component
 /// has is refused with [`DecodeError::UnknownField`], by its place among the records; no clause says so.
+#[inline(always)]
 pub fn decode_set_by_place<S: DecodeSetByPlace + ConstructedType, D: Decoder>(
     decoder: &mut D,
     tag: Tag,

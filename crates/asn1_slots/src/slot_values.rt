@@ -8,6 +8,7 @@ use asn1_codec::DecodeError;
 use std::alloc::Global;
 
 /// The component that is in a slot. Where there is none, the error is [`DecodeError::MissingField`], with the name.
+#[inline(always)]
 pub fn filled<T: Drop>(slot: Option<T>, name: &'static str) -> Result<T, DecodeError>
     ensures { MatchOption slot (IsErrAnd result (λ error. reason error ≡ missing_field name.now))
         (λ value. result ≡ Ok value) }
@@ -19,6 +20,7 @@ pub fn filled<T: Drop>(slot: Option<T>, name: &'static str) -> Result<T, DecodeE
 }
 
 /// The component that is in a slot, or the default where there is none.
+#[inline(always)]
 pub fn or_default<T: Eq + Drop>(slot: Option<T>, default_value: T) -> T
     ensures { (v : T) → holds_or_default T.eq default_value slot v ≡ true → T.eq result v ≡ true }
 {
@@ -26,6 +28,7 @@ pub fn or_default<T: Eq + Drop>(slot: Option<T>, default_value: T) -> T
 }
 
 /// The list that is in a slot, or the empty list where there is none: a component with `DEFAULT {}`.
+#[inline(always)]
 pub fn or_empty<T: Eq + Drop>(alloc: Global, slot: Option<Vec<T>>) -> Vec<T>
     ensures { (v : Vec T Global) →
         holds_or_passes ⟦<Vec<T> as PartialEq>⟧.eq (is_empty_list T.eq) slot v ≡ true →

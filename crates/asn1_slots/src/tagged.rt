@@ -2,7 +2,7 @@
 ghost use Rattle.asn1_codec.specs.DecodeErrors.{lacks_name, reason};
 ghost use Rattle.asn1_codec.specs.Reading.{Outside, ReadsBack};
 ghost use Rattle.asn1_model.specs.Records.{in_additions, in_root};
-ghost use Rattle.asn1_slots.specs.Filling.{ReadsComponent, ReadsOptional};
+ghost use Rattle.asn1_slots.specs.Filling.{ReadsComponent, ReadsOptionalComponent};
 ghost use Rattle.asn1_slots.specs.Taggings.{under};
 ghost use Rattle.std.specs.Option.{option_eq};
 ghost use Rattle.std.specs.Prelude.{◌≡◌, false, IfErr, OnOk, true};
@@ -12,6 +12,7 @@ use asn1_codec::DecodeError;
 use asn1_dec::{Decode, Decoder};
 
 /// A component that is always there.
+#[inline(always)]
 pub(crate) fn read_component<T: Decode, D: Decoder>(
     decoder: &mut D,
     tagging: Tagging,
@@ -29,6 +30,7 @@ pub(crate) fn read_component<T: Decode, D: Decoder>(
 }
 
 /// A component that is always there, whose errors have its name.
+#[inline(always)]
 pub(crate) fn read_named<T: Decode, D: Decoder>(
     decoder: &mut D,
     tagging: Tagging,
@@ -47,11 +49,12 @@ pub(crate) fn read_named<T: Decode, D: Decoder>(
 }
 
 /// A component that may be absent.
+#[inline(always)]
 pub(crate) fn read_optional<T: Decode, D: Decoder>(
     decoder: &mut D,
     tagging: Tagging,
 ) -> Result<Option<T>, DecodeError>
-    ensures read { ReadsOptional D.reader in_root (under tagging T.meaning)
+    ensures read { ReadsOptionalComponent D.reader in_root (under tagging T.meaning)
         (λ v w. option_eq T.eq w v ≡ true) decoder.old decoder.new result }
     ensures same_depth { OnOk result (D.reader.depth_left decoder.new ≡
         D.reader.depth_left decoder.old) }
@@ -64,11 +67,12 @@ pub(crate) fn read_optional<T: Decode, D: Decoder>(
 }
 
 /// An addition, which may be absent.
+#[inline(always)]
 pub(crate) fn read_addition<T: Decode, D: Decoder>(
     decoder: &mut D,
     tagging: Tagging,
 ) -> Result<Option<T>, DecodeError>
-    ensures read { ReadsOptional D.reader in_additions (under tagging T.meaning)
+    ensures read { ReadsOptionalComponent D.reader in_additions (under tagging T.meaning)
         (λ v w. option_eq T.eq w v ≡ true) decoder.old decoder.new result }
     ensures same_depth { OnOk result (D.reader.depth_left decoder.new ≡
         D.reader.depth_left decoder.old) }

@@ -4,7 +4,7 @@ use Rattle.std.specs.Prelude.{Contains, Vec}
 use Rattle.std.specs.declared.alloc.Global.{Global}
 use Rattle.std.proofs.lemmas.List.{take_more}
 use Rattle.std.proofs.lemmas.List.Elements.{Contains-get_or}
-use Rattle.asn1_codec.specs.Writing.{IsCustom}
+use Rattle.asn1_codec.specs.Writing.{IsRejection}
 use Rattle.asn1_codec.specs.declared.encode_error.EncodeError.{EncodeError}
 use Rattle.asn1_codec.specs.declared.encode_error.EncodeError.TheVariants.{Memory, Depth, Failed}
 use Rattle.asn1_model.specs.Meaning.{Meaning, own_records}
@@ -36,6 +36,6 @@ module _ {V : Type 0} (format : Format (Vec ℕ Global)) (m : Meaning V) (depth 
 pub no_memory : (F : Format (Vec ℕ Global)) (rs : List Record) (depth : ℕ) (e : EncodeError) → e ≡ Memory → IsNotWritten F rs depth e
 no_memory F rs depth e is = record {
   too_deep = λ deep. let x : Memory ≡ Depth = sym is ∙ deep in cc;
-  rejected = λ custom. absurd (subst IsCustom is custom);
+  rejected = λ rejection. absurd (subst IsRejection is rejection);
   not_failed = λ failed. let x : Memory ≡ Failed = sym is ∙ failed in cc;
 }

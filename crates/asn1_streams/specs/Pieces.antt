@@ -24,3 +24,7 @@ ComeBack same height depth [] [] last = ⊤
 ComeBack same height depth [] (v ∷ vs) last = IfSome last (MayFail depth (height v))
 ComeBack same height depth (w ∷ ws) [] last = ⊤
 ComeBack same height depth (w ∷ ws) (v ∷ vs) last = (same w v ≡ true) × ComeBack same height depth ws vs last
+
+-- The same, with the equality, height and depth of a reader of fronts.
+abbrev pub FrontsComeBack : {R V : Type 0} → Fronts R V → R → List V → List V → Option DecodeError → Type 0
+FrontsComeBack F reader ws vs last = ComeBack F.same F.height (F.depth reader) ws vs last

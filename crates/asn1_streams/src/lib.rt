@@ -28,7 +28,7 @@
 //! - Of pieces that joined are fronts of some values, and any rest, `read_pieces` answers these
 //!   values in their order, whatever the pieces are, where the reader is steady (`come_back`, by
 //!   `ComeBack` of `specs/Pieces.antt`).
-//! - `round_trip_in_pieces` is the theorem (`come_back`): for every codec, and every steady reader
+//! - `round_trip_in_pieces` is the theorem (`back`): for every codec, and every steady reader
 //!   that belongs to its rules, valid values that were written come back equal and in their order,
 //!   however their bytes are cut, unless memory runs out or a value is nested deeper than the
 //!   reader's depth. [`outputs_are_fronts`] has the part of it that is for pieces from elsewhere.

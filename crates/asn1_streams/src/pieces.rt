@@ -2,9 +2,9 @@
 ghost use Rattle.asn1_codec.specs.declared.decode_error.DecodeError.TheVariants.{Memory};
 ghost use Rattle.asn1_streams.specs.Fronts.{IsNoFront, IsSteady};
 ghost use Rattle.asn1_streams.specs.Iters.{state};
-ghost use Rattle.asn1_streams.specs.Pieces.{AreFronts, ComeBack, joined};
-ghost use Rattle.asn1_streams.specs.Remaining.{Remains};
-ghost use Rattle.std.specs.Prelude.{◌≡◌, ◌≤◌, ◌<◌, ◌↔◌, ◌⊎◌, ◌++◌, [], IfErr, IfOk, List, MatchOption, None, length, ℕ};
+ghost use Rattle.asn1_streams.specs.Pieces.{AreFronts, FrontsComeBack, joined};
+ghost use Rattle.asn1_streams.specs.Remaining.{KeepsRemaining};
+ghost use Rattle.std.specs.Prelude.{◌≡◌, ◌≤◌, ◌<◌, ◌↔◌, ◌⊎◌, [], IfErr, IfOk, List, MatchOption, None, length};
 
 use crate::front_reader::FrontReader;
 use crate::iter::Iter;
@@ -33,8 +33,7 @@ pub fn read_pieces<D: Drop, R: FrontReader<D> + Drop>(
 ) -> Result<Pieces<D>, DecodeError>
     ensures come_back { IfOk result (λ read. (vs : List D) → IsSteady R.fronts reader →
         AreFronts R.fronts reader vs (joined pieces.now) →
-        ComeBack R.fronts.same R.fronts.height (R.fronts.depth reader) read.values.items vs
-        read.last) }
+        FrontsComeBack R.fronts reader read.values.items vs read.last) }
     ensures at_most { IfOk result (λ read. length read.values.items ≤ n) }
     ensures ended { IfOk result (λ read.
         (read.last ≡ None) ↔ ((length read.values.items ≡ n) ⊎ (pieces.now ≡ []))) }
@@ -65,12 +64,8 @@ fn read_more<D: Drop, R: FrontReader<D> + Drop>(
 ) -> Result<Option<DecodeError>, DecodeError>
     requires { length values.old.items ≤ n }
     ensures same_reader { (state iter.new).reader ≡ (state iter.old).reader }
-    ensures remains { IfOk result (λ _. (vs : List D) (behind : List ℕ) →
-        IsSteady R.fronts (state iter.old).reader →
-        Remains R.fronts (state iter.old).reader values.old.items vs
-        ((state iter.old).unread ++ behind) →
-        Remains R.fronts (state iter.old).reader values.new.items vs
-        ((state iter.new).unread ++ behind)) }
+    ensures remains { IfOk result (λ _. KeepsRemaining R.fronts (state iter.old) (state iter.new)
+        values.old.items values.new.items) }
     ensures ended { IfOk result (λ last. MatchOption last (length values.new.items ≡ n)
         (λ e. (length values.new.items < n) ×
         IsNoFront R.fronts (state iter.new).reader (state iter.new).unread e)) }

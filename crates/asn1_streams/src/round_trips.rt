@@ -1,11 +1,9 @@
 //! What was written as a list is read back from pieces.
-ghost use Rattle.asn1_model.specs.Meaning.{own_records};
-ghost use Rattle.asn1_model.specs.Records.{highest};
 ghost use Rattle.asn1_streams.specs.Fronts.{BelongsTo, IsSteady};
-ghost use Rattle.asn1_streams.specs.Pieces.{AreFronts, ComeBack, joined};
-ghost use Rattle.asn1_streams.specs.Outputs.{AreOutputs};
-ghost use Rattle.asn1_streams.specs.RoundTrips.{FailsInPieces};
-ghost use Rattle.std.specs.Prelude.{◌≡◌, ◌≤◌, ◌<◌, ◌↔◌, All, IfErr, IfOk, List, None, length, ℕ};
+ghost use Rattle.asn1_streams.specs.Pieces.{joined};
+ghost use Rattle.asn1_streams.specs.Outputs.{OutputsAreFronts};
+ghost use Rattle.asn1_streams.specs.RoundTrips.{FailsInPieces, ValuesComeBack};
+ghost use Rattle.std.specs.Prelude.{◌≡◌, ◌≤◌, ◌<◌, ◌↔◌, All, IfErr, IfOk, None, length, ℕ};
 
 use crate::front_reader::FrontReader;
 use crate::lists::write_list;
@@ -20,7 +18,7 @@ use std::alloc::{AllocError, Global};
 ///
 /// The round trip of streams: for every codec, and every steady reader that belongs to it, valid
 /// values that were written are read back equal, in their order, however their bytes are cut,
-/// unless memory runs out, or a value is nested deeper than the reader's depth (`come_back`).
+/// unless memory runs out, or a value is nested deeper than the reader's depth (`back`).
 ///
 /// # Errors
 /// [`RoundTripError::Writing`] with the error of [`write_list`], and [`RoundTripError::Reading`]
@@ -37,11 +35,9 @@ pub fn round_trip_in_pieces<
     depth: usize,
     lengths: &[usize],
 ) -> Result<Pieces<T>, RoundTripError>
-    ensures come_back { IsSteady F.fronts reader →
-        BelongsTo F.fronts reader R.format T.meaning T.eq →
+    ensures back { IsSteady F.fronts reader → BelongsTo F.fronts reader R.format T.meaning T.eq →
         All (T.meaning.IsValid R.format.accepts) values.now →
-        IfOk result (λ read. ComeBack T.eq (λ v. highest (own_records T.meaning v))
-        (F.fronts.depth reader) read.values.items values.now read.last) }
+        IfOk result (ValuesComeBack T.meaning T.eq (F.fronts.depth reader) values.now) }
     ensures at_most { IfOk result (λ read. length read.values.items ≤ length values.now) }
     ensures ended { IfOk result (λ read.
         (read.last ≡ None) ↔ (length read.values.items ≡ length values.now)) }
@@ -60,10 +56,8 @@ pub fn round_trip_in_pieces<
 /// bytes come in.
 #[tactic(auto, using(crate::proofs::Streams::outputs_are_fronts))]
 pub fn outputs_are_fronts<T: Encode + Eq, R: Rules<Output = Vec<u8>>, F: FrontReader<T>>(reader: &F)
-    ensures fronts { (depth : ℕ) (vs : List T) (bytes : List ℕ) →
-        BelongsTo F.fronts reader.now R.format T.meaning T.eq →
-        All (T.meaning.IsValid R.format.accepts) vs →
-        AreOutputs R.format T.meaning depth vs bytes → AreFronts F.fronts reader.now vs bytes }
+    ensures fronts { (depth : ℕ) → BelongsTo F.fronts reader.now R.format T.meaning T.eq →
+        OutputsAreFronts F.fronts reader.now R.format T.meaning depth }
 {}
 
 /// Cuts bytes into pieces of these lengths, in order, as far as there are bytes, and a last piece

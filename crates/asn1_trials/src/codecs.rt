@@ -1,6 +1,6 @@
 //! The codecs that are tried.
 use crate::request::Request;
-use crate::{damage, growths, lists, nested};
+use crate::{damage, growths, nested};
 use asn1_bench::BenchRules;
 use asn1_der::DerRules;
 use asn1_rules::Rules;
@@ -51,7 +51,6 @@ fn run_if_asked<R: Rules<Output = Vec<u8>>>(
             print!(rt; "{name}: ")?;
             growths::run(rt, alloc, rules, null)
         }
-        "write" | "read" => lists::run(rt, alloc, rules, request),
         "nest" | "drop" => nested::run(rt, alloc, rules, request),
         _ => println!(rt; "not understood"),
     }

@@ -6,25 +6,21 @@
 //! | `each damage SEED TRIES` | the bytes of a value of each sample type are damaged, this many times, and read | a line for each codec, and one for each damage of which another value comes back |
 //! | `each growths` | a value of each sample type is written and read, and written in a list | a line for each codec: whether all come back, or there was no memory |
 //! | `packed pieces` | the same out of two pieces of packed bytes | such a line |
-//! | `packed write LIST COUNT TIMES` | a list of this many values is written this many times | how many bytes it has, and their checksum |
-//! | `packed read LIST COUNT TIMES` | the same list is written once, and read this many times | the same |
 //! | `packed nest TYPE LEVELS` | a value that holds itself is made, written, read and dropped | a line after each step |
 //! | `packed drop TYPE LEVELS` | such a value is made and dropped | the same |
 //!
-//! `LIST` is `person`, `profile` or `badge`, or `node` for a chain of `COUNT` nodes, which is written and read as a list is. `TYPE`
-//! is `node`, `not` or `and` for two kinds of filter, `nested` or `open`.
+//! `TYPE` is `node`, `not` or `and` for two kinds of filter, `nested` or `open`.
 //!
-//! `bench/run.py` runs it, to measure how fast codecs are and how deep the machine's stack reaches, to damage bytes for as long as
-//! is wanted, and to refuse each growth in turn. No contract speaks of what is written here: that a valid value comes back is the theorem of `round_trip`, and that no
-//! call panics is proved of each. The program asks both of what was built.
+//! `bench/run.py` runs it, to measure how deep the machine's stack reaches, to damage bytes for as long as is wanted, and to refuse
+//! each growth in turn; how fast codecs are is the job of `asn1_speed`. No contract speaks of what is written here: that a valid
+//! value comes back is the theorem of `round_trip`, and that no call panics is proved of each. The program asks both of what was
+//! built.
 #![tactic(auto)]
 
 mod codecs;
 mod damage;
 mod growths;
-mod lists;
 mod nested;
-mod numbered;
 mod request;
 mod source;
 

@@ -1,17 +1,16 @@
 //! What the definitions give for a few CHOICE types, written out by hand.
 //!
 //! The clauses of the functions without a body are worked examples: the prover computes the definitions on them.
-ghost use Rattle.std.specs.Prelude.{◌≡◌, ℕ, Bool, List, pos, true, false, [], ◌∷◌, Some, codes};
-ghost use Rattle.asn1_tags.specs.Trees.{leaf};
+ghost use Rattle.std.specs.Prelude.{◌≡◌, ℕ, Bool, List, pos, true, [], ◌∷◌, Some, codes};
 ghost use Rattle.asn1_ranges.specs.declared.bounded.Bounded.TheVariants.{Range};
-ghost use Rattle.asn1_model.specs.ConstraintSets.{unconstrained, values_of};
+ghost use Rattle.asn1_model.specs.ConstraintSets.{values_of};
 ghost use Rattle.asn1_model.specs.Meaning.{IsWellTagged, own_records};
-ghost use Rattle.asn1_model.specs.Records.{scalar, holding, explicit_tag, alternative as chosen, number, boolean};
 ghost use Rattle.asn1_model.specs.TaggedTypes.{tagged, untagged};
-ghost use Rattle.asn1_model.specs.Tags.{universal, context};
+ghost use Rattle.asn1_model.specs.Tags.{context};
 ghost use Rattle.asn1_choices.specs.Alternatives.{alternative, closed, extensible, table_of, variance_of};
 ghost use Rattle.asn1_choices.specs.ChoiceTypes.{choice_of};
 ghost use Rattle.asn1_recursive.specs.declared.nested.Nested.TheVariants.{Flag, Inner};
+ghost use Rattle.asn1_type_tests.specs.ChoiceExamples.{inner_flag_true, later_nine, reply_table, two_places_and_more};
 ghost use Rattle.asn1_type_tests.specs.declared.choices.reply.Reply.TheVariants as reply;
 ghost use Rattle.asn1_samples.specs.declared.shape.Shape.TheVariants as shape;
 
@@ -39,35 +38,18 @@ fn same_tag_twice()
 
 /// `later : 9`, of an alternative after the extension marker.
 fn records()
-    ensures { own_records ⟦<Reply as AsnType>⟧.meaning (reply.Later 9) ≡
-        holding (chosen (context 0) unconstrained (table_of
-        ⟦<Reply as asn1_choices::Choice>⟧.alternatives) (Some (codes "Reply"))) (scalar (context
-        0) (values_of (Range (Some (pos 0)) (Some (pos 255)))) (Some (codes "INTEGER")) (number
-        (pos 9)) ∷ []) ∷ [] }
+    ensures { own_records ⟦<Reply as AsnType>⟧.meaning (reply.Later 9) ≡ later_nine }
 {}
 
 /// `inner : flag : TRUE`, whose inner value is under an explicit tag.
 fn nested(inner: Box<Nested>)
-    ensures { inner.value ≡ Flag true →
-        own_records ⟦<Nested as AsnType>⟧.meaning (Inner inner) ≡
-        holding (chosen (context 0) unconstrained (table_of
-        ⟦<Nested as asn1_choices::Choice>⟧.alternatives) (Some (codes "Nested")))
-        (holding (explicit_tag
-        (context 0) (Some (codes "Nested"))) (holding
-        (chosen (universal 1) unconstrained
-        (table_of ⟦<Nested as asn1_choices::Choice>⟧.alternatives) (Some (codes
-        "Nested"))) (scalar (universal 1) unconstrained (Some (codes
-        "BOOLEAN")) (boolean true) ∷ []) ∷ []) ∷ []) ∷ [] }
+    ensures { inner.value ≡ Flag true → own_records ⟦<Nested as AsnType>⟧.meaning (Inner inner) ≡
+        inner_flag_true (table_of ⟦<Nested as Choice>⟧.alternatives) }
 {}
 
 /// The table beside a chosen alternative: the names and tags of those in the root, and of those after the extension marker.
 fn table_of_replies()
-    ensures { table_of ⟦<Reply as Choice>⟧.alternatives ≡ record {
-      root = record { name = codes "accepted"; tree = leaf (universal 1); may_be_absent = false } ∷
-          record { name = codes "refused"; tree = leaf (universal 5); may_be_absent = false } ∷ [];
-      additions = Some (
-          record { name = codes "later"; tree = leaf (context 0); may_be_absent = false } ∷ []);
-    } }
+    ensures { table_of ⟦<Reply as Choice>⟧.alternatives ≡ reply_table }
 {}
 
 /// The constraint of an alternative's place counts those of the root, and is extensible where there is a marker.
@@ -75,11 +57,7 @@ fn places()
     ensures closed { variance_of ⟦<Corner as Choice>⟧.alternatives ≡
         values_of (Range (Some (pos 0)) (Some (pos 1))) }
     ensures extensible { (variance_of ⟦<Reply as Choice>⟧.alternatives).value ≡
-        Some (record {
-          root = record { bound = Range (Some (pos 0)) (Some (pos 1)) };
-          additions =
-              Some [];
-        }) }
+        Some two_places_and_more }
 {}
 
 /// A reply is well tagged, and each is valid, also one after the extension marker.

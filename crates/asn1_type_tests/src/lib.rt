@@ -18,6 +18,8 @@
 //! | `samples` | a type whose constraints take memory |
 //! | `clash` | the search for components without distinct tags, against that of `asn1_fields` |
 //!
+//! The records that an example expects, and the types that it is about, are written out in `specs/`.
+//!
 //! A test is a list of calls of helpers; a helper makes one value, asserts, and drops it, which is the form that takes least
 //! to prove.
 #![tactic(auto)]

@@ -2,13 +2,14 @@
 //!
 //! The clauses of the functions without a body are worked examples: the prover computes the definitions on them.
 ghost use Rattle.std.specs.Prelude.{◌≡◌, ℕ, Bool, true, false, List, [], ◌∷◌, ◌++◌, None, Some, codes};
-ghost use Rattle.asn1_model.specs.Composites.{sequence_records, group_records, option_records, choice_records, explicit_tag_records};
+ghost use Rattle.asn1_model.specs.Composites.{sequence_records, default_records, group_records, option_records, explicit_tag_records};
 ghost use Rattle.asn1_model.specs.ConstraintSets.{unconstrained, size_of};
 ghost use Rattle.asn1_model.specs.Orders.{Same};
-ghost use Rattle.asn1_model.specs.Records.{Record, scalar, open_type, presence_mark, holding, sequence, set as set_head, set_of, explicit_tag, alternative, in_root, present, absent, group_start, group_absent, group_end, null, highest};
+ghost use Rattle.asn1_model.specs.Records.{Record, scalar, open_type, presence_mark, holding, explicit_tag, alternative, in_root, present, absent, group_start, group_absent, group_end, null, highest};
 ghost use Rattle.asn1_model.specs.RecordTables.{no_table};
 ghost use Rattle.asn1_model.specs.Tags.{universal, context, CHOICE, every, among, only, first_tags};
 ghost use Rattle.asn1_model.specs.WellFormed.{AreWellFormed};
+ghost use Rattle.asn1_type_tests.specs.RecordExamples.{choice_of_null, chosen_null, sequence_with, set_of_with, set_with};
 
 /// A group whose components are marks alone is absent.
 fn empty_group()
@@ -16,36 +17,33 @@ fn empty_group()
         option_records in_root (context 4) None)) ≡ presence_mark group_absent ∷ [] }
 {}
 
+/// A component that is its DEFAULT is the mark that it is absent; another is the mark that it is present, and its records.
+fn defaults()
+    ensures default { (rs : List Record) → default_records in_root true (context 0) rs ≡
+        presence_mark (absent in_root (context 0)) ∷ [] }
+    ensures other { (rs : List Record) → default_records in_root false (context 0) rs ≡
+        presence_mark (present in_root (context 0)) ∷ rs }
+{}
+
 /// A CHOICE of a NULL, untagged and under Context 1: untagged it has the constraints and the name that it is given, and
 /// under a tag its own within.
 fn choice()
-    ensures untagged { choice_records (universal 5) no_table
-        (scalar (universal 5) unconstrained None null ∷ []) (size_of 1) (Some (codes "C")) CHOICE
-        (size_of 2) (Some (codes "n")) ≡ holding (alternative (universal 5) (size_of 2) no_table
-        (Some (codes "n"))) (scalar (universal 5) unconstrained None null ∷ []) ∷ [] }
-    ensures unnamed { choice_records (universal 5) no_table [] (size_of 1) (Some (codes "C")) CHOICE
-        (size_of 2) None ≡ holding (alternative (universal 5) (size_of 2) no_table
-        (Some (codes "C"))) [] ∷ [] }
-    ensures tagged { choice_records (universal 5) no_table
-        (scalar (universal 5) unconstrained None null ∷ []) (size_of 1) (Some (codes "C"))
-        (context 1) (size_of 2) (Some (codes "n")) ≡
+    ensures untagged { choice_of_null CHOICE (Some (codes "n")) ≡
+        chosen_null (size_of 2) (codes "n") ∷ [] }
+    ensures unnamed { choice_of_null CHOICE None ≡ chosen_null (size_of 2) (codes "C") ∷ [] }
+    ensures tagged { choice_of_null (context 1) (Some (codes "n")) ≡
         holding (explicit_tag (context 1) (Some (codes "n")))
-        (holding (alternative (universal 5) (size_of 1) no_table (Some (codes "C")))
-        (scalar (universal 5) unconstrained None null ∷ []) ∷ []) ∷ [] }
+        (chosen_null (size_of 1) (codes "C") ∷ []) ∷ [] }
 {}
 
 /// The order means nothing in a SET and in a SET OF, also within other records, and something in a SEQUENCE.
 fn sameness()
-    ensures set { (r s : Record) → Same (holding (set_head (universal 17) no_table None)
-        (r ∷ s ∷ [])) (holding (set_head (universal 17) no_table None) (s ∷ r ∷ [])) }
-    ensures inside { (r s : Record) → Same (holding (sequence (universal 16) no_table None)
-        (holding (set_of (universal 17) unconstrained None) (r ∷ s ∷ []) ∷ [])) (holding
-        (sequence (universal 16) no_table None) (holding (set_of (universal 17) unconstrained None)
-        (s ∷ r ∷ []) ∷ [])) }
-    ensures sequence { ¬ Same (holding (sequence (universal 16) no_table None)
-        (open_type None [] ∷ presence_mark (group_start no_table) ∷ [])) (holding
-        (sequence (universal 16) no_table None)
-        (presence_mark (group_start no_table) ∷ open_type None [] ∷ [])) }
+    ensures set { (r s : Record) → Same (set_with (r ∷ s ∷ [])) (set_with (s ∷ r ∷ [])) }
+    ensures inside { (r s : Record) → Same (sequence_with (set_of_with (r ∷ s ∷ []) ∷ []))
+        (sequence_with (set_of_with (s ∷ r ∷ []) ∷ [])) }
+    ensures sequence { ¬ Same
+        (sequence_with (open_type None [] ∷ presence_mark (group_start no_table) ∷ []))
+        (sequence_with (presence_mark (group_start no_table) ∷ open_type None [] ∷ [])) }
     ensures contents { ¬ Same (open_type None []) (open_type None (0 ∷ [])) }
 {}
 
@@ -71,9 +69,7 @@ fn firsts()
     ensures any { first_tags (presence_mark (present in_root CHOICE) ∷ open_type None [] ∷ []) ≡
         every }
     ensures scope { first_tags (presence_mark (absent in_root (context 0)) ∷
-        sequence_records (universal 16) no_table None (presence_mark group_absent ∷ [])) ≡
-        only (universal
-        16) }
+        sequence_with (presence_mark group_absent ∷ []) ∷ []) ≡ only (universal 16) }
     ensures under_a_tag { first_tags (presence_mark (present in_root (context 0)) ∷
         explicit_tag_records (context 0) None (sequence_records (universal 16) no_table None
         (presence_mark group_absent ∷ []))) ≡ only (context 0) }

@@ -6,11 +6,13 @@ ghost use Rattle.std.specs.String.{string_bytes};
 ghost use Rattle.asn1_tags.specs.declared.tags.Tag.{Tag};
 ghost use Rattle.asn1_model.specs.ConstraintSets.{unconstrained};
 ghost use Rattle.asn1_model.specs.Meaning.{own_records, tags};
-ghost use Rattle.asn1_model.specs.Records.{scalar, open_type, holding, sequence, sequence_of, set_of, explicit_tag, boolean, arcs, units, utf8};
+ghost use Rattle.asn1_model.specs.Records.{open_type, holding, set_of};
 ghost use Rattle.asn1_model.specs.Tags.{universal, context, CHOICE, every};
 ghost use Rattle.asn1_components.specs.Components.{lines};
 ghost use Rattle.asn1_types.specs.Multisets.{same_counts};
+ghost use Rattle.asn1_type_tests.specs.TypeExamples.{ann_under, explicit_true, instance_of_true, sequence_of_true, set_of_true_and_false};
 
+use asn1_components::FieldTable;
 use asn1_types::{Any, AsnType, Explicit, Implicit, InstanceOf, SequenceOf, SetOf, tag};
 use std::alloc::Global;
 use std::process::Abort;
@@ -27,10 +29,7 @@ fn sets_by_definition()
 /// The set of `true` and `false`, and of nothing under another tag and name.
 fn set_of_booleans(set: &SetOf<bool>)
     ensures own { set.now ≡ true ∷ false ∷ [] →
-        own_records ⟦<SetOf<bool> as AsnType>⟧.meaning set.now ≡
-        holding (set_of (universal 17) unconstrained (Some (codes "SET_OF")))
-        (scalar (universal 1) unconstrained (Some (codes "BOOLEAN")) (boolean true) ∷
-        scalar (universal 1) unconstrained (Some (codes "BOOLEAN")) (boolean false) ∷ []) ∷ [] }
+        own_records ⟦<SetOf<bool> as AsnType>⟧.meaning set.now ≡ set_of_true_and_false }
     ensures named { set.now ≡ [] → ⟦<SetOf<bool> as AsnType>⟧.meaning.records set.now (context 3)
         unconstrained (Some (codes "s")) ≡ holding (set_of (context 3) unconstrained
         (Some (codes "s"))) [] ∷ [] }
@@ -39,9 +38,7 @@ fn set_of_booleans(set: &SetOf<bool>)
 /// A SEQUENCE OF is what a vector is.
 fn sequence_of_truths(list: &SequenceOf<bool>, vector: &Vec<bool>)
     ensures { list.now.items ≡ true ∷ [] → vector.now ≡ list.now →
-        own_records ⟦<Vec<bool> as AsnType>⟧.meaning vector.now ≡
-        holding (sequence_of (universal 16) unconstrained (Some (codes "SEQUENCE_OF"))) (
-        scalar (universal 1) unconstrained (Some (codes "BOOLEAN")) (boolean true) ∷ []) ∷ [] }
+        own_records ⟦<Vec<bool> as AsnType>⟧.meaning vector.now ≡ sequence_of_true }
 {}
 
 /// An open type is its bytes under whatever tag, and can begin with every tag.
@@ -58,36 +55,27 @@ fn open_type(null: &Any)
 fn implicit_text(text: &Implicit<tag::UNIVERSAL_STRING, String>)
     ensures own { string_bytes text.now.value ≡ codes "Ann" →
         own_records ⟦<Implicit<tag::UNIVERSAL_STRING, String> as AsnType>⟧.meaning text.now ≡
-        scalar (universal 28) unconstrained (Some (codes "UTF8String")) (units utf8 (codes "Ann")) ∷
-        [] }
+        ann_under (universal 28) (codes "UTF8String") }
     ensures named { string_bytes text.now.value ≡ codes "Ann" →
         ⟦<Implicit<tag::UNIVERSAL_STRING, String> as AsnType>⟧.meaning.records text.now (context 3)
-        unconstrained (Some (codes "n")) ≡ scalar (context 3) unconstrained (Some (codes "n"))
-        (units utf8 (codes "Ann")) ∷ [] }
+        unconstrained (Some (codes "n")) ≡ ann_under (context 3) (codes "n") }
 {}
 
 /// `true` under an explicit tag, and under another in its place.
 fn explicit_truth(truth: &Explicit<tag::SET, bool>)
     ensures own { truth.now.value ≡ true →
         own_records ⟦<Explicit<tag::SET, bool> as AsnType>⟧.meaning truth.now ≡
-        holding (explicit_tag (universal 17) None) (scalar (universal 1) unconstrained
-        (Some (codes "BOOLEAN")) (boolean true) ∷ []) ∷ [] }
+        explicit_true (universal 17) None }
     ensures named { truth.now.value ≡ true →
         ⟦<Explicit<tag::SET, bool> as AsnType>⟧.meaning.records truth.now (context 3) unconstrained
-        (Some (codes "n")) ≡ holding (explicit_tag (context 3) (Some (codes "n")))
-        (scalar (universal 1) unconstrained (Some (codes "BOOLEAN")) (boolean true) ∷ []) ∷ [] }
+        (Some (codes "n")) ≡ explicit_true (context 3) (Some (codes "n")) }
 {}
 
 /// `true` beside the name 1.2 of its type.
 fn instance_of_truth(instance: &InstanceOf<bool>)
     ensures { instance.now.type_id ≡ 1 ∷ 2 ∷ [] → instance.now.value ≡ true →
         own_records ⟦<InstanceOf<bool> as AsnType>⟧.meaning instance.now ≡
-        holding (sequence (universal 8)
-        (lines ⟦<InstanceOf<bool> as asn1_components::FieldTable>⟧.components) (Some (codes
-        "SEQUENCE"))) (scalar (universal 6) unconstrained (Some (codes
-        "OBJECT_IDENTIFIER")) (arcs (1 ∷ 2 ∷ [])) ∷ holding (explicit_tag (context 0) (Some
-        (codes "SEQUENCE"))) (scalar (universal 1) unconstrained (Some (codes "BOOLEAN")) (boolean
-        true) ∷ []) ∷ []) ∷ [] }
+        instance_of_true (lines ⟦<InstanceOf<bool> as FieldTable>⟧.components) }
 {}
 
 /// Which tags a wrapper may have: none that means no tag, and an implicit one no open type.

@@ -122,6 +122,7 @@ impl Hash for Any {
 impl AsnType for Any {
     ghost meaning = { any_type (λ any. any) };
 
+    #[inline(always)]
     fn table() -> TypeTable {
         TypeTable {
             tree: TreeForm::Open,
@@ -129,6 +130,7 @@ impl AsnType for Any {
         }
     }
 
+    #[inline(always)]
     fn is_present(&self) -> bool {
         true
     }

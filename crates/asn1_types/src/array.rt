@@ -59,10 +59,12 @@ impl<T: Drop, const N: usize> TryFrom<Vec<T>> for Array<T, N> {
 impl<T: AsnType, const N: usize> AsnType for Array<T, N> {
     ghost meaning = { through (λ array. array.elements) (array_type N T.meaning) };
 
+    #[inline(always)]
     fn table() -> TypeTable {
         <[T; N]>::table()
     }
 
+    #[inline(always)]
     fn is_present(&self) -> bool {
         true
     }

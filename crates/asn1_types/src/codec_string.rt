@@ -66,6 +66,7 @@ impl StringType<u8> for Utf8 {
 
     ghost content = { units utf8 };
 
+    #[inline(always)]
     fn table() -> TypeTable {
         TypeTable::new(Tag::UTF8_STRING, Identifier::UTF8_STRING)
     }

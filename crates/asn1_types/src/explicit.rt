@@ -58,10 +58,12 @@ impl<T, V> From<V> for Explicit<T, V> {
 impl<T: AsnType, V: AsnType> AsnType for Explicit<T, V> {
     ghost meaning = { explicit_type T.meaning.tag (λ explicit. explicit.value) V.meaning };
 
+    #[inline(always)]
     fn table() -> TypeTable {
         TypeTable::new(T::tag(), Identifier::EMPTY)
     }
 
+    #[inline(always)]
     fn is_present(&self) -> bool {
         true
     }

@@ -58,10 +58,12 @@ impl<T, V> From<V> for Implicit<T, V> {
 impl<T: AsnType, V: AsnType> AsnType for Implicit<T, V> {
     ghost meaning = { implicit_type T.meaning.tag (λ implicit. implicit.value) V.meaning };
 
+    #[inline(always)]
     fn table() -> TypeTable {
         TypeTable::new(T::tag(), Identifier::EMPTY)
     }
 
+    #[inline(always)]
     fn is_present(&self) -> bool {
         true
     }

@@ -22,10 +22,12 @@ pub struct InstanceOf<T> {
 impl<T: AsnType> AsnType for InstanceOf<T> {
     ghost meaning = { constructed_type_under ⟦<InstanceOf<T> as FieldTable>⟧.components (universal 8) (codes "SEQUENCE") };
 
+    #[inline(always)]
     fn table() -> TypeTable {
         TypeTable::new(Tag::EXTERNAL, Identifier::INSTANCE_OF)
     }
 
+    #[inline(always)]
     fn is_present(&self) -> bool {
         true
     }

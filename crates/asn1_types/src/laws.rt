@@ -1,5 +1,5 @@
 //! Laws of what no other contract names: derives, conversions, loops, and the fields of INSTANCE OF.
-ghost use Rattle.std.specs.Prelude.{◌≡◌, ◌↔◌, ◌++◌, ◌∷◌, [], ℕ, Bool, IsOk, List, IsTrue, MatchResult, codes, false, length, vec_len};
+ghost use Rattle.std.specs.Prelude.{◌≡◌, ◌↔◌, ◌++◌, ℕ, Bool, IsOk, List, IsTrue, MatchResult, false, length, vec_len};
 ghost use Rattle.std.specs.Cmp.Lexicographic.{pointwise, slice_cmp, slice_partial_cmp};
 ghost use Rattle.std.specs.Hash as fed;
 ghost use Rattle.std.specs.Ordering.{nat_cmp, ordering_then};
@@ -8,8 +8,7 @@ ghost use Rattle.asn1_components.specs.Components.{has_marker, table};
 ghost use Rattle.asn1_model.specs.ConstraintSets.{ConstraintSet};
 ghost use Rattle.asn1_model.specs.Meaning.{own_records};
 ghost use Rattle.asn1_model.specs.Records.{Name};
-ghost use Rattle.asn1_model.specs.Tags.{context, universal};
-ghost use Rattle.asn1_tags.specs.Trees.{leaf};
+ghost use Rattle.asn1_types.specs.Kinds.{instance_of_fields};
 ghost use Rattle.asn1_tags.specs.declared.tags.Tag.{Tag};
 ghost use Rattle.asn1_types.specs.declared.array.Array.{Array};
 ghost use Rattle.asn1_types.specs.declared.explicit.Explicit.{Explicit};
@@ -26,7 +25,6 @@ use crate::implicit::Implicit;
 use crate::instance_of::InstanceOf;
 use crate::set_of::SetOf;
 use asn1_components::FieldTable;
-use asn1_fields::FieldPresence;
 use asn1_model::AsnType;
 pub use premises::{types_are_tagged_as_their_contents, values_are_valid_as_their_contents};
 use std::hash::Hash;
@@ -104,8 +102,7 @@ pub fn arrays_are_made_of_lists<T: Drop, const N: usize>(_list: &Vec<T>)
         IsOk made ↔ (vec_len _list.now ≡ N) }
     ensures elements { (made : _) →
         ⟦<Array<T, N> as TryFrom<Vec<T>>>⟧.try_from_gives _list.now made →
-        MatchResult made (λ array. array.elements ≡ _list.now.items)
-        (λ same. same ≡ _list.now) }
+        MatchResult made (λ array. array.elements ≡ _list.now.items) (λ same. same ≡ _list.now) }
 {}
 
 /// Laws of the order and hash of an array in a struct of its own, which are those of the slice of its elements.
@@ -122,21 +119,7 @@ pub fn arrays_are_ordered_as_slices<T: Ord + Hash, const N: usize>()
 /// A law of INSTANCE OF: its fields are the name of the type and then the value, at the places 0 and 1, and both are
 /// always there; and it has no extension marker.
 pub fn instance_of_has_two_fields<T: AsnType>()
-    ensures fields { table ⟦<InstanceOf<T> as FieldTable>⟧.components ≡
-        record {
-          index = 0;
-          tag = universal 6;
-          tree = leaf (universal 6);
-          presence = FieldPresence.Required;
-          name = codes "type_id";
-        } ∷
-        record {
-          index = 1;
-          tag = context 0;
-          tree = leaf (context 0);
-          presence = FieldPresence.Required;
-          name = codes "value";
-        } ∷ [] }
+    ensures fields { table ⟦<InstanceOf<T> as FieldTable>⟧.components ≡ instance_of_fields }
     ensures marker { has_marker ⟦<InstanceOf<T> as FieldTable>⟧.components.extension ≡ false }
 {}
 

@@ -1,1 +1,2 @@
+pub mod CertificateRecords
 pub mod OpenValues

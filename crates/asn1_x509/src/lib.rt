@@ -29,6 +29,7 @@ mod attribute;
 mod certificate;
 mod directory_string;
 mod extension;
+mod laws;
 mod name;
 mod rsa_public_key;
 mod signed;
@@ -52,6 +53,7 @@ pub use directory_string::{
     DirectoryString, directory_string_is_valid, directory_string_is_well_tagged,
 };
 pub use extension::{Extension, Extensions, extension_is_valid, extension_is_well_tagged};
+pub use laws::first_version_is_absent;
 pub use name::{Name, RdnSequence, RelativeDistinguishedName, name_is_valid, name_is_well_tagged};
 pub use rsa_public_key::{RsaPublicKey, rsa_public_key_is_valid, rsa_public_key_is_well_tagged};
 pub use signed::{Signed, signed_is_valid, signed_is_well_tagged};
@@ -59,8 +61,8 @@ pub use subject_public_key_info::{
     SubjectPublicKeyInfo, subject_public_key_info_is_valid, subject_public_key_info_is_well_tagged,
 };
 pub use tbs_certificate::{
-    CertificateSerialNumber, TbsCertificate, UniqueIdentifier, Version, first_version_is_absent,
-    tbs_certificate_is_valid, tbs_certificate_is_well_tagged,
+    CertificateSerialNumber, TbsCertificate, UniqueIdentifier, Version, tbs_certificate_is_valid,
+    tbs_certificate_is_well_tagged,
 };
 pub use time::{Time, time_is_valid, time_is_well_tagged};
 pub use validity::{Validity, validity_is_valid, validity_is_well_tagged};

@@ -105,9 +105,8 @@ pub fn signed_is_well_tagged<T: AsnType>()
 /// A `Signed` is valid if and only if what is signed is, and the codec takes the parameters of the algorithm, where there are any.
 pub fn signed_is_valid<T: AsnType>(signed: &Signed<T>)
     ensures { (accepts : List ℕ → Bool) →
-        ⟦<Signed<T> as AsnType>⟧.meaning.IsValid accepts signed.now ↔
-        (T.meaning.IsValid accepts signed.now.to_be_signed ×
-        ParametersAreTaken accepts signed.now.algorithm_identifier) }
+        ⟦<Signed<T> as AsnType>⟧.meaning.IsValid accepts signed.now ↔ (T.meaning.IsValid accepts
+        signed.now.to_be_signed × ParametersAreTaken accepts signed.now.algorithm_identifier) }
 {}
 
 impl<T: Encode> Encode for Signed<T> {

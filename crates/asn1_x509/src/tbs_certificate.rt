@@ -17,9 +17,9 @@
 //! CertificateSerialNumber ::= INTEGER
 //! UniqueIdentifier ::= BIT STRING
 //! ```
-ghost use Rattle.std.specs.Prelude.{Bool, List, None, Some, [], codes, pos, ℕ, ◌++◌, ◌↔◌, ◌∷◌, ◌≡◌};
+ghost use Rattle.std.specs.Prelude.{Bool, List, None, [], codes, pos, ℕ, ◌↔◌, ◌∷◌, ◌≡◌};
 ghost use Rattle.asn1_slots.specs.Slots.{default_slot, optional_slot, required_slot, sequence_of_slots};
-ghost use Rattle.asn1_types.specs.Words.{IsWellTagged, absent, constructed_agrees, constructed_type, context, explicitly_tagged, holding, in_root, lines, own_records, presence_mark, sequence_head, tagged, universal, untagged};
+ghost use Rattle.asn1_types.specs.Words.{IsWellTagged, constructed_agrees, constructed_type, context, explicitly_tagged, own_records, tagged, untagged};
 ghost use Rattle.asn1_x509.specs.OpenValues.{SignedPartIsTaken};
 
 use crate::algorithm_identifier::AlgorithmIdentifier;
@@ -262,21 +262,3 @@ impl Decode for TbsCertificate {
         decode_sequence_by_place(decoder, tag)
     }
 }
-
-/// What a certificate of the first version without unique names and extensions is to every codec: none of the four is written.
-pub fn first_version_is_absent(certificate: &TbsCertificate)
-    ensures { certificate.now.version ≡ pos 0 → certificate.now.issuer_unique_id ≡ None →
-        certificate.now.subject_unique_id ≡ None → certificate.now.extensions ≡ None →
-        own_records ⟦<TbsCertificate as AsnType>⟧.meaning certificate.now ≡
-        holding (sequence_head (universal 16) (lines ⟦<TbsCertificate as FieldTable>⟧.components)
-        (Some (codes "TBSCertificate"))) (presence_mark (absent in_root (context 0)) ∷
-        (own_records ⟦<Integer as AsnType>⟧.meaning certificate.now.serial_number ++
-        (own_records ⟦<AlgorithmIdentifier as AsnType>⟧.meaning certificate.now.signature ++
-        (own_records ⟦<Name as AsnType>⟧.meaning certificate.now.issuer ++
-        (own_records ⟦<Validity as AsnType>⟧.meaning certificate.now.validity ++
-        (own_records ⟦<Name as AsnType>⟧.meaning certificate.now.subject ++
-        (own_records ⟦<SubjectPublicKeyInfo as AsnType>⟧.meaning
-        certificate.now.subject_public_key_info ++
-        (presence_mark (absent in_root (context 1)) ∷ presence_mark (absent in_root (context 2)) ∷
-        presence_mark (absent in_root (context 3)) ∷ [])))))))) ∷ [] }
-{}

@@ -142,8 +142,7 @@ pub fn authority_key_identifier_is_well_tagged()
 pub fn authority_key_identifier_is_valid(key: &AuthorityKeyIdentifier)
     ensures { (accepts : List ℕ → Bool) →
         ⟦<AuthorityKeyIdentifier as AsnType>⟧.meaning.IsValid accepts key.now ↔
-        IfSome key.now.authority_cert_issuer
-        (λ names. All (GeneralNameIsTaken accepts) names.items) }
+        IfSome key.now.authority_cert_issuer (λ n. All (GeneralNameIsTaken accepts) n.items) }
 {}
 
 impl Encode for AuthorityKeyIdentifier {

@@ -14,6 +14,7 @@ impl<T: Decode, const N: usize> Decode for Array<T, N> {
 
     /// Reads a value under a tag and constraints. A list of another number of elements is read, and the error is
     /// [`DecodeError::IncorrectItemNumber`].
+    #[inline(always)]
     fn decode_with_tag_and_constraints<D: Decoder>(
         decoder: &mut D,
         tag: Tag,

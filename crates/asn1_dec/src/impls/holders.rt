@@ -19,6 +19,7 @@ impl<T: Decode> Decode for Box<T> {
     // What its content refuses.
     ghost refusals = { T.refusals };
 
+    #[inline(always)]
     fn decode_with_tag_and_constraints<D: Decoder>(
         decoder: &mut D,
         tag: Tag,
@@ -34,6 +35,7 @@ impl<T: Decode> Decode for Cow<'_, T> {
     // What its content refuses.
     ghost refusals = { T.refusals };
 
+    #[inline(always)]
     fn decode_with_tag_and_constraints<D: Decoder>(
         decoder: &mut D,
         tag: Tag,
@@ -46,6 +48,7 @@ impl<T: Decode> Decode for Cow<'_, T> {
 
 impl<T: AsnType> Decode for PhantomData<T> {
     /// Reads nothing, and does not fail.
+    #[inline(always)]
     fn decode_with_tag_and_constraints<D: Decoder>(
         decoder: &mut D,
         tag: Tag,

@@ -13,6 +13,7 @@ const VALUE: Tag = Tag {
 };
 
 impl<T: Decode> DecodeFields for InstanceOf<T> {
+    #[inline(always)]
     fn decode_fields<D: Decoder>(decoder: &mut D) -> Result<InstanceOf<T>, DecodeError> {
         let type_id = ObjectIdentifier::decode(decoder)?;
         let value = decoder.decode_explicit_prefix(VALUE)?;
@@ -21,6 +22,7 @@ impl<T: Decode> DecodeFields for InstanceOf<T> {
 }
 
 impl<T: Decode> Decode for InstanceOf<T> {
+    #[inline(always)]
     fn decode_with_tag_and_constraints<D: Decoder>(
         decoder: &mut D,
         tag: Tag,

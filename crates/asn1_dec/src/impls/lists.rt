@@ -7,6 +7,7 @@ use asn1_tags::Tag;
 use asn1_types::SetOf;
 
 impl<T: Decode> Decode for Vec<T> {
+    #[inline(always)]
     fn decode_with_tag_and_constraints<D: Decoder>(
         decoder: &mut D,
         tag: Tag,
@@ -17,6 +18,7 @@ impl<T: Decode> Decode for Vec<T> {
 }
 
 impl<T: Decode> Decode for SetOf<T> {
+    #[inline(always)]
     fn decode_with_tag_and_constraints<D: Decoder>(
         decoder: &mut D,
         tag: Tag,

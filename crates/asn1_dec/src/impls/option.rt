@@ -13,6 +13,7 @@ use asn1_tags::Tag;
 impl<T: Decode> Decode for Option<T> {
     /// Reads a value under a tag and constraints. An error makes the decoder failed, and one that has failed answers
     /// [`DecodeError::Failed`], although an option is not one record.
+    #[inline(always)]
     fn decode_with_tag_and_constraints<D: Decoder>(
         decoder: &mut D,
         tag: Tag,

@@ -9,6 +9,7 @@ use asn1_tags::Tag;
 use asn1_values::{Integer, LimitedInteger, Limits};
 
 impl Decode for () {
+    #[inline(always)]
     fn decode_with_tag_and_constraints<D: Decoder>(
         decoder: &mut D,
         tag: Tag,
@@ -19,6 +20,7 @@ impl Decode for () {
 }
 
 impl Decode for bool {
+    #[inline(always)]
     fn decode_with_tag_and_constraints<D: Decoder>(
         decoder: &mut D,
         tag: Tag,
@@ -29,6 +31,7 @@ impl Decode for bool {
 }
 
 impl Decode for u8 {
+    #[inline(always)]
     fn decode_with_tag_and_constraints<D: Decoder>(
         decoder: &mut D,
         tag: Tag,
@@ -39,6 +42,7 @@ impl Decode for u8 {
 }
 
 impl Decode for u16 {
+    #[inline(always)]
     fn decode_with_tag_and_constraints<D: Decoder>(
         decoder: &mut D,
         tag: Tag,
@@ -49,6 +53,7 @@ impl Decode for u16 {
 }
 
 impl Decode for u32 {
+    #[inline(always)]
     fn decode_with_tag_and_constraints<D: Decoder>(
         decoder: &mut D,
         tag: Tag,
@@ -59,6 +64,7 @@ impl Decode for u32 {
 }
 
 impl Decode for u64 {
+    #[inline(always)]
     fn decode_with_tag_and_constraints<D: Decoder>(
         decoder: &mut D,
         tag: Tag,
@@ -69,6 +75,7 @@ impl Decode for u64 {
 }
 
 impl Decode for usize {
+    #[inline(always)]
     fn decode_with_tag_and_constraints<D: Decoder>(
         decoder: &mut D,
         tag: Tag,
@@ -79,6 +86,7 @@ impl Decode for usize {
 }
 
 impl Decode for i8 {
+    #[inline(always)]
     fn decode_with_tag_and_constraints<D: Decoder>(
         decoder: &mut D,
         tag: Tag,
@@ -89,6 +97,7 @@ impl Decode for i8 {
 }
 
 impl Decode for i16 {
+    #[inline(always)]
     fn decode_with_tag_and_constraints<D: Decoder>(
         decoder: &mut D,
         tag: Tag,
@@ -99,6 +108,7 @@ impl Decode for i16 {
 }
 
 impl Decode for i32 {
+    #[inline(always)]
     fn decode_with_tag_and_constraints<D: Decoder>(
         decoder: &mut D,
         tag: Tag,
@@ -109,6 +119,7 @@ impl Decode for i32 {
 }
 
 impl Decode for i64 {
+    #[inline(always)]
     fn decode_with_tag_and_constraints<D: Decoder>(
         decoder: &mut D,
         tag: Tag,
@@ -119,6 +130,7 @@ impl Decode for i64 {
 }
 
 impl Decode for isize {
+    #[inline(always)]
     fn decode_with_tag_and_constraints<D: Decoder>(
         decoder: &mut D,
         tag: Tag,
@@ -129,6 +141,7 @@ impl Decode for isize {
 }
 
 impl Decode for i128 {
+    #[inline(always)]
     fn decode_with_tag_and_constraints<D: Decoder>(
         decoder: &mut D,
         tag: Tag,
@@ -139,6 +152,7 @@ impl Decode for i128 {
 }
 
 impl Decode for Integer {
+    #[inline(always)]
     fn decode_with_tag_and_constraints<D: Decoder>(
         decoder: &mut D,
         tag: Tag,
@@ -154,6 +168,7 @@ impl<L: Limits> Decode for LimitedInteger<L> {
 
     /// Reads a value under a tag and constraints. A number that is outside the limits is read, and the error is
     /// [`DecodeError::OutOfRange`].
+    #[inline(always)]
     fn decode_with_tag_and_constraints<D: Decoder>(
         decoder: &mut D,
         tag: Tag,

@@ -10,6 +10,7 @@ use asn1_strings::{
 use asn1_tags::Tag;
 
 impl Decode for ObjectIdentifier {
+    #[inline(always)]
     fn decode_with_tag_and_constraints<D: Decoder>(
         decoder: &mut D,
         tag: Tag,
@@ -20,6 +21,7 @@ impl Decode for ObjectIdentifier {
 }
 
 impl Decode for OctetString {
+    #[inline(always)]
     fn decode_with_tag_and_constraints<D: Decoder>(
         decoder: &mut D,
         tag: Tag,
@@ -31,6 +33,7 @@ impl Decode for OctetString {
 }
 
 impl Decode for BitString {
+    #[inline(always)]
     fn decode_with_tag_and_constraints<D: Decoder>(
         decoder: &mut D,
         tag: Tag,
@@ -41,6 +44,7 @@ impl Decode for BitString {
 }
 
 impl Decode for GeneralString {
+    #[inline(always)]
     fn decode_with_tag_and_constraints<D: Decoder>(
         decoder: &mut D,
         tag: Tag,
@@ -51,6 +55,7 @@ impl Decode for GeneralString {
 }
 
 impl Decode for GraphicString {
+    #[inline(always)]
     fn decode_with_tag_and_constraints<D: Decoder>(
         decoder: &mut D,
         tag: Tag,
@@ -61,6 +66,7 @@ impl Decode for GraphicString {
 }
 
 impl Decode for TeletexString {
+    #[inline(always)]
     fn decode_with_tag_and_constraints<D: Decoder>(
         decoder: &mut D,
         tag: Tag,
@@ -71,6 +77,7 @@ impl Decode for TeletexString {
 }
 
 impl Decode for BmpString {
+    #[inline(always)]
     fn decode_with_tag_and_constraints<D: Decoder>(
         decoder: &mut D,
         tag: Tag,
@@ -81,6 +88,7 @@ impl Decode for BmpString {
 }
 
 impl Decode for VisibleString {
+    #[inline(always)]
     fn decode_with_tag_and_constraints<D: Decoder>(
         decoder: &mut D,
         tag: Tag,
@@ -91,6 +99,7 @@ impl Decode for VisibleString {
 }
 
 impl Decode for Ia5String {
+    #[inline(always)]
     fn decode_with_tag_and_constraints<D: Decoder>(
         decoder: &mut D,
         tag: Tag,
@@ -101,6 +110,7 @@ impl Decode for Ia5String {
 }
 
 impl Decode for NumericString {
+    #[inline(always)]
     fn decode_with_tag_and_constraints<D: Decoder>(
         decoder: &mut D,
         tag: Tag,
@@ -111,6 +121,7 @@ impl Decode for NumericString {
 }
 
 impl Decode for PrintableString {
+    #[inline(always)]
     fn decode_with_tag_and_constraints<D: Decoder>(
         decoder: &mut D,
         tag: Tag,
@@ -121,6 +132,7 @@ impl Decode for PrintableString {
 }
 
 impl Decode for String {
+    #[inline(always)]
     fn decode_with_tag_and_constraints<D: Decoder>(
         decoder: &mut D,
         tag: Tag,

@@ -11,6 +11,7 @@ impl<T: AsnType, V: Decode> Decode for Implicit<T, V> {
     // What its content refuses.
     ghost refusals = { V.refusals };
 
+    #[inline(always)]
     fn decode_with_tag_and_constraints<D: Decoder>(
         decoder: &mut D,
         tag: Tag,
@@ -22,6 +23,7 @@ impl<T: AsnType, V: Decode> Decode for Implicit<T, V> {
 }
 
 impl<T: AsnType, V: Decode> Decode for Explicit<T, V> {
+    #[inline(always)]
     fn decode_with_tag_and_constraints<D: Decoder>(
         decoder: &mut D,
         tag: Tag,
@@ -33,6 +35,7 @@ impl<T: AsnType, V: Decode> Decode for Explicit<T, V> {
 }
 
 impl Decode for Any {
+    #[inline(always)]
     fn decode_with_tag_and_constraints<D: Decoder>(
         decoder: &mut D,
         tag: Tag,

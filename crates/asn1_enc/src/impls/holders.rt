@@ -9,6 +9,7 @@ use std::borrow::Cow;
 use std::marker::PhantomData;
 
 impl<T: Encode> Encode for Option<T> {
+    #[inline(always)]
     fn encode_with_tag_and_constraints<E: Encoder>(
         &self,
         encoder: &mut E,
@@ -29,6 +30,7 @@ impl<T: Encode> Encode for Option<T> {
 }
 
 impl<T: Encode> Encode for &T {
+    #[inline(always)]
     fn encode_with_tag_and_constraints<E: Encoder>(
         &self,
         encoder: &mut E,
@@ -41,6 +43,7 @@ impl<T: Encode> Encode for &T {
 }
 
 impl<T: Encode> Encode for Box<T> {
+    #[inline(always)]
     fn encode_with_tag_and_constraints<E: Encoder>(
         &self,
         encoder: &mut E,
@@ -54,6 +57,7 @@ impl<T: Encode> Encode for Box<T> {
 }
 
 impl<T: Encode> Encode for Cow<'_, T> {
+    #[inline(always)]
     fn encode_with_tag_and_constraints<E: Encoder>(
         &self,
         encoder: &mut E,
@@ -80,6 +84,7 @@ impl<T: Encode> Encode for Cow<'_, T> {
 }
 
 impl<T: AsnType> Encode for PhantomData<T> {
+    #[inline(always)]
     fn encode_with_tag_and_constraints<E: Encoder>(
         &self,
         _encoder: &mut E,

@@ -12,6 +12,7 @@ const VALUE: Tag = Tag {
 };
 
 impl<T: Encode> Encode for InstanceOf<T> {
+    #[inline(always)]
     fn encode_with_tag_and_constraints<E: Encoder>(
         &self,
         encoder: &mut E,
@@ -24,6 +25,7 @@ impl<T: Encode> Encode for InstanceOf<T> {
 }
 
 impl<T: Encode> EncodeFields for InstanceOf<T> {
+    #[inline(always)]
     fn encode_field<E: Encoder>(&self, place: usize, encoder: &mut E) -> Result<(), EncodeError> {
         match place {
             0 => self.type_id.encode(encoder),

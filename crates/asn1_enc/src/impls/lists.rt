@@ -7,6 +7,7 @@ use asn1_tags::{Identifier, Tag};
 use asn1_types::{Array, SetOf};
 
 impl<T: Encode> Encode for Vec<T> {
+    #[inline(always)]
     fn encode_with_tag_and_constraints<E: Encoder>(
         &self,
         encoder: &mut E,
@@ -19,6 +20,7 @@ impl<T: Encode> Encode for Vec<T> {
 }
 
 impl<T: Encode, const N: usize> Encode for [T; N] {
+    #[inline(always)]
     fn encode_with_tag_and_constraints<E: Encoder>(
         &self,
         encoder: &mut E,
@@ -31,6 +33,7 @@ impl<T: Encode, const N: usize> Encode for [T; N] {
 }
 
 impl<T: Encode, const N: usize> Encode for Array<T, N> {
+    #[inline(always)]
     fn encode_with_tag_and_constraints<E: Encoder>(
         &self,
         encoder: &mut E,
@@ -44,6 +47,7 @@ impl<T: Encode, const N: usize> Encode for Array<T, N> {
 }
 
 impl<T: Encode> Encode for SetOf<T> {
+    #[inline(always)]
     fn encode_with_tag_and_constraints<E: Encoder>(
         &self,
         encoder: &mut E,

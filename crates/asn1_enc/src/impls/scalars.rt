@@ -7,6 +7,7 @@ use asn1_tags::{Identifier, Tag};
 use asn1_values::{Integer, LimitedInteger, Limits};
 
 impl Encode for () {
+    #[inline(always)]
     fn encode_with_tag_and_constraints<E: Encoder>(
         &self,
         encoder: &mut E,
@@ -19,6 +20,7 @@ impl Encode for () {
 }
 
 impl Encode for bool {
+    #[inline(always)]
     fn encode_with_tag_and_constraints<E: Encoder>(
         &self,
         encoder: &mut E,
@@ -31,6 +33,7 @@ impl Encode for bool {
 }
 
 impl Encode for u8 {
+    #[inline(always)]
     fn encode_with_tag_and_constraints<E: Encoder>(
         &self,
         encoder: &mut E,
@@ -43,6 +46,7 @@ impl Encode for u8 {
 }
 
 impl Encode for u16 {
+    #[inline(always)]
     fn encode_with_tag_and_constraints<E: Encoder>(
         &self,
         encoder: &mut E,
@@ -55,6 +59,7 @@ impl Encode for u16 {
 }
 
 impl Encode for u32 {
+    #[inline(always)]
     fn encode_with_tag_and_constraints<E: Encoder>(
         &self,
         encoder: &mut E,
@@ -67,6 +72,7 @@ impl Encode for u32 {
 }
 
 impl Encode for u64 {
+    #[inline(always)]
     fn encode_with_tag_and_constraints<E: Encoder>(
         &self,
         encoder: &mut E,
@@ -79,6 +85,7 @@ impl Encode for u64 {
 }
 
 impl Encode for usize {
+    #[inline(always)]
     fn encode_with_tag_and_constraints<E: Encoder>(
         &self,
         encoder: &mut E,
@@ -91,6 +98,7 @@ impl Encode for usize {
 }
 
 impl Encode for u128 {
+    #[inline(always)]
     fn encode_with_tag_and_constraints<E: Encoder>(
         &self,
         encoder: &mut E,
@@ -103,6 +111,7 @@ impl Encode for u128 {
 }
 
 impl Encode for i8 {
+    #[inline(always)]
     fn encode_with_tag_and_constraints<E: Encoder>(
         &self,
         encoder: &mut E,
@@ -115,6 +124,7 @@ impl Encode for i8 {
 }
 
 impl Encode for i16 {
+    #[inline(always)]
     fn encode_with_tag_and_constraints<E: Encoder>(
         &self,
         encoder: &mut E,
@@ -127,6 +137,7 @@ impl Encode for i16 {
 }
 
 impl Encode for i32 {
+    #[inline(always)]
     fn encode_with_tag_and_constraints<E: Encoder>(
         &self,
         encoder: &mut E,
@@ -139,6 +150,7 @@ impl Encode for i32 {
 }
 
 impl Encode for i64 {
+    #[inline(always)]
     fn encode_with_tag_and_constraints<E: Encoder>(
         &self,
         encoder: &mut E,
@@ -151,6 +163,7 @@ impl Encode for i64 {
 }
 
 impl Encode for isize {
+    #[inline(always)]
     fn encode_with_tag_and_constraints<E: Encoder>(
         &self,
         encoder: &mut E,
@@ -163,6 +176,7 @@ impl Encode for isize {
 }
 
 impl Encode for i128 {
+    #[inline(always)]
     fn encode_with_tag_and_constraints<E: Encoder>(
         &self,
         encoder: &mut E,
@@ -175,6 +189,7 @@ impl Encode for i128 {
 }
 
 impl Encode for Integer {
+    #[inline(always)]
     fn encode_with_tag_and_constraints<E: Encoder>(
         &self,
         encoder: &mut E,
@@ -187,6 +202,7 @@ impl Encode for Integer {
 }
 
 impl<L: Limits> Encode for LimitedInteger<L> {
+    #[inline(always)]
     fn encode_with_tag_and_constraints<E: Encoder>(
         &self,
         encoder: &mut E,

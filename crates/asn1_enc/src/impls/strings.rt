@@ -10,6 +10,7 @@ use asn1_strings::{
 use asn1_tags::{Identifier, Tag};
 
 impl Encode for ObjectIdentifier {
+    #[inline(always)]
     fn encode_with_tag_and_constraints<E: Encoder>(
         &self,
         encoder: &mut E,
@@ -26,6 +27,7 @@ impl Encode for ObjectIdentifier {
 }
 
 impl Encode for BitString {
+    #[inline(always)]
     fn encode_with_tag_and_constraints<E: Encoder>(
         &self,
         encoder: &mut E,
@@ -43,6 +45,7 @@ impl Encode for BitString {
 }
 
 impl Encode for OctetString {
+    #[inline(always)]
     fn encode_with_tag_and_constraints<E: Encoder>(
         &self,
         encoder: &mut E,
@@ -60,6 +63,7 @@ impl Encode for OctetString {
 }
 
 impl Encode for GeneralString {
+    #[inline(always)]
     fn encode_with_tag_and_constraints<E: Encoder>(
         &self,
         encoder: &mut E,
@@ -72,6 +76,7 @@ impl Encode for GeneralString {
 }
 
 impl Encode for GraphicString {
+    #[inline(always)]
     fn encode_with_tag_and_constraints<E: Encoder>(
         &self,
         encoder: &mut E,
@@ -84,6 +89,7 @@ impl Encode for GraphicString {
 }
 
 impl Encode for TeletexString {
+    #[inline(always)]
     fn encode_with_tag_and_constraints<E: Encoder>(
         &self,
         encoder: &mut E,
@@ -96,6 +102,7 @@ impl Encode for TeletexString {
 }
 
 impl Encode for BmpString {
+    #[inline(always)]
     fn encode_with_tag_and_constraints<E: Encoder>(
         &self,
         encoder: &mut E,
@@ -108,6 +115,7 @@ impl Encode for BmpString {
 }
 
 impl Encode for VisibleString {
+    #[inline(always)]
     fn encode_with_tag_and_constraints<E: Encoder>(
         &self,
         encoder: &mut E,
@@ -120,6 +128,7 @@ impl Encode for VisibleString {
 }
 
 impl Encode for Ia5String {
+    #[inline(always)]
     fn encode_with_tag_and_constraints<E: Encoder>(
         &self,
         encoder: &mut E,
@@ -132,6 +141,7 @@ impl Encode for Ia5String {
 }
 
 impl Encode for NumericString {
+    #[inline(always)]
     fn encode_with_tag_and_constraints<E: Encoder>(
         &self,
         encoder: &mut E,
@@ -144,6 +154,7 @@ impl Encode for NumericString {
 }
 
 impl Encode for PrintableString {
+    #[inline(always)]
     fn encode_with_tag_and_constraints<E: Encoder>(
         &self,
         encoder: &mut E,
@@ -161,6 +172,7 @@ impl Encode for PrintableString {
 }
 
 impl Encode for String {
+    #[inline(always)]
     fn encode_with_tag_and_constraints<E: Encoder>(
         &self,
         encoder: &mut E,
@@ -178,6 +190,7 @@ impl Encode for String {
 }
 
 impl Encode for &str {
+    #[inline(always)]
     fn encode_with_tag_and_constraints<E: Encoder>(
         &self,
         encoder: &mut E,

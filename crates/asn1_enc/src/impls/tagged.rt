@@ -8,6 +8,7 @@ use asn1_tags::{Identifier, Tag};
 use asn1_types::{Any, Explicit, Implicit};
 
 impl<T: AsnType, V: Encode> Encode for Implicit<T, V> {
+    #[inline(always)]
     fn encode_with_tag_and_constraints<E: Encoder>(
         &self,
         encoder: &mut E,
@@ -21,6 +22,7 @@ impl<T: AsnType, V: Encode> Encode for Implicit<T, V> {
 }
 
 impl<T: AsnType, V: Encode> Encode for Explicit<T, V> {
+    #[inline(always)]
     fn encode_with_tag_and_constraints<E: Encoder>(
         &self,
         encoder: &mut E,
@@ -33,6 +35,7 @@ impl<T: AsnType, V: Encode> Encode for Explicit<T, V> {
 }
 
 impl Encode for Any {
+    #[inline(always)]
     fn encode_with_tag_and_constraints<E: Encoder>(
         &self,
         encoder: &mut E,

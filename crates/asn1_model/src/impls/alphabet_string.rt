@@ -10,10 +10,12 @@ use asn1_strings::{Alphabet, AlphabetString};
 impl<U, A: Alphabet<U> + StringType<U>> AsnType for AlphabetString<U, A> {
     ghost meaning = { string_type A.own_tag A.own_name (λ unit. IsTrue (A.allows unit)) A.content };
 
+    #[inline(always)]
     fn table() -> TypeTable {
         A::table()
     }
 
+    #[inline(always)]
     fn is_present(&self) -> bool {
         true
     }

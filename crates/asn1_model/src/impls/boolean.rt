@@ -12,10 +12,12 @@ use asn1_tags::{Identifier, Tag};
 impl AsnType for bool {
     ghost meaning = { without_constraints (scalar_type (universal 1) unconstrained (Some (codes "BOOLEAN")) boolean) };
 
+    #[inline(always)]
     fn table() -> TypeTable {
         TypeTable::new(Tag::BOOL, Identifier::BOOL)
     }
 
+    #[inline(always)]
     fn is_present(&self) -> bool {
         true
     }

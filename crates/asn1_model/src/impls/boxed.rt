@@ -7,10 +7,12 @@ use crate::type_table::TypeTable;
 impl<T: AsnType> AsnType for Box<T> {
     ghost meaning = { under_own_name (through (λ b. b.value) T.meaning) };
 
+    #[inline(always)]
     fn table() -> TypeTable {
         T::table()
     }
 
+    #[inline(always)]
     fn is_present(&self) -> bool {
         (**self).is_present()
     }

@@ -9,10 +9,12 @@ use std::borrow::Cow;
 impl<T: AsnType> AsnType for Cow<'_, T> {
     ghost meaning = { under_own_name (through cow_value T.meaning) };
 
+    #[inline(always)]
     fn table() -> TypeTable {
         T::table()
     }
 
+    #[inline(always)]
     fn is_present(&self) -> bool {
         match self {
             Cow::Borrowed(target) => (*target).is_present(),

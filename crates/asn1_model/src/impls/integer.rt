@@ -9,10 +9,12 @@ use asn1_values::Integer;
 impl AsnType for Integer {
     ghost meaning = { under_own_name unbounded_integer_type };
 
+    #[inline(always)]
     fn table() -> TypeTable {
         TypeTable::new(Tag::INTEGER, Identifier::INTEGER)
     }
 
+    #[inline(always)]
     fn is_present(&self) -> bool {
         true
     }

@@ -13,10 +13,12 @@ use asn1_values::{LimitedInteger, Limits};
 impl<L: Limits> AsnType for LimitedInteger<L> {
     ghost meaning = { under_own_name (limited_integer_type (bounded.Range (Some L.start) (Some L.end))) };
 
+    #[inline(always)]
     fn table() -> TypeTable {
         integer_within(Bounded::const_new(L::start(), L::end()))
     }
 
+    #[inline(always)]
     fn is_present(&self) -> bool {
         true
     }

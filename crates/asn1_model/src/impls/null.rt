@@ -12,10 +12,12 @@ use asn1_tags::{Identifier, Tag};
 impl AsnType for () {
     ghost meaning = { without_constraints (scalar_type (universal 5) unconstrained (Some (codes "NULL")) (λ _. null)) };
 
+    #[inline(always)]
     fn table() -> TypeTable {
         TypeTable::new(Tag::NULL, Identifier::NULL)
     }
 
+    #[inline(always)]
     fn is_present(&self) -> bool {
         true
     }

@@ -9,10 +9,12 @@ use asn1_tags::{Identifier, Tag};
 impl AsnType for ObjectIdentifier {
     ghost meaning = { object_identifier };
 
+    #[inline(always)]
     fn table() -> TypeTable {
         TypeTable::new(Tag::OBJECT_IDENTIFIER, Identifier::OBJECT_IDENTIFIER)
     }
 
+    #[inline(always)]
     fn is_present(&self) -> bool {
         true
     }

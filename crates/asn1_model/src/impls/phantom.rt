@@ -9,10 +9,12 @@ use std::marker::PhantomData;
 impl<T: AsnType> AsnType for PhantomData<T> {
     ghost meaning = { empty_type };
 
+    #[inline(always)]
     fn table() -> TypeTable {
         TypeTable::new(Tag::NULL, Identifier::EMPTY)
     }
 
+    #[inline(always)]
     fn is_present(&self) -> bool {
         true
     }

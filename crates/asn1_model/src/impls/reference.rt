@@ -7,10 +7,12 @@ use crate::type_table::TypeTable;
 impl<T: AsnType> AsnType for &T {
     ghost meaning = { through (λ r. r.now) T.meaning };
 
+    #[inline(always)]
     fn table() -> TypeTable {
         T::table()
     }
 
+    #[inline(always)]
     fn is_present(&self) -> bool {
         (**self).is_present()
     }

@@ -9,10 +9,12 @@ use asn1_tags::{Identifier, Tag};
 impl<T: AsnType> AsnType for &[T] {
     ghost meaning = { list_type (λ s. s.now) unconstrained T.meaning };
 
+    #[inline(always)]
     fn table() -> TypeTable {
         TypeTable::new(Tag::SEQUENCE, Identifier::SEQUENCE_OF)
     }
 
+    #[inline(always)]
     fn is_present(&self) -> bool {
         true
     }

@@ -15,6 +15,7 @@ use asn1_tags::{Identifier, Tag};
 impl AsnType for &str {
     ghost meaning = { utf8_string (λ text. text.now) };
 
+    #[inline(always)]
     fn table() -> TypeTable
         ensures tag { result.tag ≡ universal 12 }
         ensures tree { (tag : Tag) → tree_under result.tree tag ≡ leaf tag }
@@ -25,6 +26,7 @@ impl AsnType for &str {
         TypeTable::new(Tag::UTF8_STRING, Identifier::UTF8_STRING)
     }
 
+    #[inline(always)]
     fn is_present(&self) -> bool
         ensures { result ≡ true }
     {

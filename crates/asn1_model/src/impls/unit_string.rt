@@ -9,10 +9,12 @@ use asn1_strings::{StringUnit, UnitString};
 impl<U: StringUnit, K: StringType<U>> AsnType for UnitString<U, K> {
     ghost meaning = { string_type K.own_tag K.own_name U.IsInRange K.content };
 
+    #[inline(always)]
     fn table() -> TypeTable {
         K::table()
     }
 
+    #[inline(always)]
     fn is_present(&self) -> bool {
         true
     }

@@ -9,10 +9,12 @@ use asn1_tags::{Identifier, Tag};
 impl AsnType for String {
     ghost meaning = { utf8_string string_bytes };
 
+    #[inline(always)]
     fn table() -> TypeTable {
         TypeTable::new(Tag::UTF8_STRING, Identifier::UTF8_STRING)
     }
 
+    #[inline(always)]
     fn is_present(&self) -> bool {
         true
     }

@@ -1,15 +1,14 @@
 //! The records of a value of each type of the lower layers and of the language.
 ghost use Rattle.std.specs.Prelude.{◌≡◌, ℕ, ℤ, pos, negsuc, ◌^◌, ◌-◌, Bool, List, [], ◌∷◌, None, Option, Some, codes};
 ghost use Rattle.std.specs.Cow.{cow_value};
-ghost use Rattle.std.specs.List.{flat_map};
 ghost use Rattle.std.specs.Option.{option_map};
 ghost use Rattle.std.specs.String.{string_bytes};
 ghost use Rattle.asn1_ranges.specs.declared.bounded.Bounded.TheVariants.{Range};
 ghost use Rattle.asn1_tags.specs.declared.tags.Tag.{Tag};
-ghost use Rattle.asn1_model.specs.Composites.{list_records, option_records};
+ghost use Rattle.asn1_model.specs.Composites.{elements_records, option_records, text_records};
 ghost use Rattle.asn1_model.specs.ConstraintSets.{ConstraintSet, unconstrained, values_of, size_of};
 ghost use Rattle.asn1_model.specs.Meaning.{HasOwn, own_records};
-ghost use Rattle.asn1_model.specs.Records.{Name, arcs, in_root, name_or, null, number, scalar, boolean, units, utf8};
+ghost use Rattle.asn1_model.specs.Records.{Name, arcs, in_root, name_or, null, number, scalar, boolean};
 ghost use Rattle.asn1_model.specs.Tags.{universal};
 
 use crate::asn_type::AsnType;
@@ -122,13 +121,12 @@ pub fn strings_have_their_records<
         (Some (codes "UTF8String")) }
     ensures of_string { (t : Tag) (c : ConstraintSet) (name : Name) →
         ⟦<String as AsnType>⟧.meaning.records _string.now t c name ≡
-        scalar t c (name_or name (Some (codes "UTF8String")))
-        (units utf8 (string_bytes _string.now)) ∷ [] }
+        text_records t c name (string_bytes _string.now) }
     ensures text_own { HasOwn ⟦<&'a str as AsnType>⟧.meaning (universal 12) unconstrained
         (Some (codes "UTF8String")) }
     ensures of_text { (t : Tag) (c : ConstraintSet) (name : Name) →
         ⟦<&'a str as AsnType>⟧.meaning.records _text.entry t c name ≡
-        scalar t c (name_or name (Some (codes "UTF8String"))) (units utf8 _text.entry.now) ∷ [] }
+        text_records t c name _text.entry.now }
 {}
 
 /// A law of what holds values: a list is a record of the records of its elements, in their order; an option is a presence
@@ -144,20 +142,17 @@ pub fn holders_have_the_records_of_their_contents<'a, T: AsnType + 'a, const N: 
         (Some (codes "SEQUENCE_OF")) }
     ensures of_vec { (t : Tag) (c : ConstraintSet) (name : Name) →
         ⟦<Vec<T> as AsnType>⟧.meaning.records _vec.now t c name ≡
-        list_records t c (name_or name (Some (codes "SEQUENCE_OF")))
-        (flat_map (own_records T.meaning) _vec.now.items) }
+        elements_records (own_records T.meaning) t c name _vec.now.items }
     ensures slice_own { HasOwn ⟦<&'a [T] as AsnType>⟧.meaning (universal 16) unconstrained
         (Some (codes "SEQUENCE_OF")) }
     ensures of_slice { (t : Tag) (c : ConstraintSet) (name : Name) →
         ⟦<&'a [T] as AsnType>⟧.meaning.records _slice.entry t c name ≡
-        list_records t c (name_or name (Some (codes "SEQUENCE_OF")))
-        (flat_map (own_records T.meaning) _slice.entry.now) }
+        elements_records (own_records T.meaning) t c name _slice.entry.now }
     ensures array_own { HasOwn ⟦<[T; N] as AsnType>⟧.meaning (universal 16) (size_of N)
         (Some (codes "SEQUENCE_OF")) }
     ensures of_array { (elements : List T) (t : Tag) (c : ConstraintSet) (name : Name) →
         ⟦<[T; N] as AsnType>⟧.meaning.records elements t c name ≡
-        list_records t c (name_or name (Some (codes "SEQUENCE_OF")))
-        (flat_map (own_records T.meaning) elements) }
+        elements_records (own_records T.meaning) t c name elements }
     ensures option_own { HasOwn ⟦<Option<T> as AsnType>⟧.meaning T.meaning.tag T.meaning.constraints
         T.meaning.name }
     ensures of_option { (o : Option T) (t : Tag) (c : ConstraintSet) (name : Name) →

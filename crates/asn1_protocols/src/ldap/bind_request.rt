@@ -1,8 +1,9 @@
 //! `BindRequest ::= [APPLICATION 0] SEQUENCE { version INTEGER (1..127), name LDAPDN, simple [0] OCTET STRING }` (RFC 4511, 4.2),
 //! of whose kinds of authentication only one is here.
-ghost use Rattle.std.specs.Prelude.{Some, [], codes, pos, ◌∷◌, ◌≡◌};
+ghost use Rattle.std.specs.Prelude.{[], codes, ◌∷◌, ◌≡◌, List, Bool, ℕ, Some, pos, ◌↔◌};
+ghost use Rattle.asn1_ranges.specs.Members.{IsMember};
 ghost use Rattle.asn1_slots.specs.Slots.{required_slot, sequence_of_slots};
-ghost use Rattle.asn1_types.specs.Words.{IsWellTagged, Range, application, constructed_agrees, constructed_type_under, context, holding, lines, number, octet, own_records, scalar, sequence_head, tagged, unconstrained, units, universal, untagged, values_of};
+ghost use Rattle.asn1_types.specs.Words.{IsWellTagged, Range, application, constructed_agrees, constructed_type_under, context, tagged, untagged};
 
 use asn1_dec::{Decode, DecodeError, Decoder};
 use asn1_enc::{Encode, EncodeError, EncodeFields, Encoder};
@@ -109,6 +110,13 @@ pub fn bind_request_is_well_tagged()
     ensures { IsWellTagged ⟦<BindRequest as AsnType>⟧.meaning }
 {}
 
+/// A `BindRequest` is valid if and only if its version is within the limits.
+pub fn bind_request_is_valid(request: &BindRequest)
+    ensures { (accepts : List ℕ → Bool) →
+        ⟦<BindRequest as AsnType>⟧.meaning.IsValid accepts request.now ↔
+        IsMember (λ z. z) (Range (Some (pos 1)) (Some (pos 127))) request.now.version }
+{}
+
 impl Encode for BindRequest {
     fn encode_with_tag_and_constraints<E: Encoder>(
         &self,
@@ -141,16 +149,3 @@ impl Decode for BindRequest {
         decode_sequence_by_place(decoder, tag)
     }
 }
-
-/// What a request is to every codec: a SEQUENCE under the type's own tag.
-pub fn bind_request_records(request: &BindRequest)
-    ensures { request.now.version ≡ pos 3 → request.now.name ≡ [] →
-        request.now.simple ≡ codes "x" →
-        own_records ⟦<BindRequest as AsnType>⟧.meaning request.now ≡
-        holding (sequence_head (application 0) (lines ⟦<BindRequest as FieldTable>⟧.components)
-        (Some (codes "BindRequest"))) (scalar (universal 2)
-        (values_of (Range (Some (pos 1)) (Some (pos 127)))) (Some (codes "INTEGER"))
-        (number (pos 3)) ∷ scalar (universal 4) unconstrained (Some (codes "OCTET_STRING"))
-        (units octet []) ∷ scalar (context 0) unconstrained (Some (codes "OCTET_STRING"))
-        (units octet (codes "x")) ∷ []) ∷ [] }
-{}

@@ -7,9 +7,10 @@
 //!     delRequest    [APPLICATION 10] LDAPDN
 //! }
 //! ```
-ghost use Rattle.std.specs.Prelude.{[], codes, refl, ◌∷◌};
+ghost use Rattle.std.specs.Prelude.{[], codes, refl, ◌∷◌, List, Bool, ℕ, ◌≡◌, ◌↔◌};
 ghost use Rattle.asn1_slots.specs.Cases.{choice_of_cases, variant};
 ghost use Rattle.asn1_types.specs.Words.{IsWellTagged, application, choice_agrees, choice_of, inl, inr, tagged, untagged};
+ghost use Rattle.asn1_protocols.specs.declared.ldap.bind_request.BindRequest.{BindRequest};
 ghost use Rattle.asn1_protocols.specs.declared.ldap.protocol_op.ProtocolOp.TheVariants.{Bind, Unbind, Delete};
 
 use crate::ldap::BindRequest;
@@ -106,6 +107,17 @@ impl ChoiceType for ProtocolOp {
 /// A `ProtocolOp` can be inside other types: the tags of its alternatives are distinct.
 pub fn protocol_op_is_well_tagged()
     ensures { IsWellTagged ⟦<ProtocolOp as AsnType>⟧.meaning }
+{}
+
+/// A `ProtocolOp` is valid if the request in it is, and each other operation is.
+pub fn protocol_op_is_valid(op: &ProtocolOp)
+    ensures bind { (accepts : List ℕ → Bool) (request : BindRequest) → op.now ≡ Bind request →
+        ⟦<ProtocolOp as AsnType>⟧.meaning.IsValid accepts op.now ↔
+        ⟦<BindRequest as AsnType>⟧.meaning.IsValid accepts request }
+    ensures unbind { (accepts : List ℕ → Bool) → op.now ≡ Unbind tt →
+        ⟦<ProtocolOp as AsnType>⟧.meaning.IsValid accepts op.now }
+    ensures delete { (accepts : List ℕ → Bool) (entry : List ℕ) → op.now ≡ Delete entry →
+        ⟦<ProtocolOp as AsnType>⟧.meaning.IsValid accepts op.now }
 {}
 
 impl Encode for ProtocolOp {

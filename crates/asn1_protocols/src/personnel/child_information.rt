@@ -1,5 +1,5 @@
 //! `ChildInformation ::= SET { name Name, dateOfBirth [0] Date }`
-ghost use Rattle.std.specs.Prelude.{[], codes, refl, ◌∷◌};
+ghost use Rattle.std.specs.Prelude.{[], codes, refl, ◌∷◌, List, Bool, ℕ};
 ghost use Rattle.asn1_slots.specs.Slots.{required_slot, set_of_slots};
 ghost use Rattle.asn1_types.specs.Words.{IsWellTagged, constructed_agrees, constructed_type, context, explicitly_tagged, untagged};
 
@@ -98,6 +98,12 @@ impl ConstructedType for ChildInformation {
 /// A `ChildInformation` can be inside other types: no two of its components share a tag.
 pub fn child_information_is_well_tagged()
     ensures { IsWellTagged ⟦<ChildInformation as AsnType>⟧.meaning }
+{}
+
+/// Each `ChildInformation` is valid.
+pub fn child_information_is_valid(child: &ChildInformation)
+    ensures { (accepts : List ℕ → Bool) →
+        ⟦<ChildInformation as AsnType>⟧.meaning.IsValid accepts child.now }
 {}
 
 impl Encode for ChildInformation {

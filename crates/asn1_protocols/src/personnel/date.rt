@@ -1,6 +1,6 @@
 //! `Date ::= [APPLICATION 3] IMPLICIT VisibleString -- YYYYMMDD`
-ghost use Rattle.std.specs.Prelude.{◌≡◌, [], ◌∷◌, All, IsTrue, Some, codes};
-ghost use Rattle.asn1_types.specs.Words.{IsWellTagged, application, own_records, scalar, unconstrained, units, visible};
+ghost use Rattle.std.specs.Prelude.{◌≡◌, All, IsTrue, Some, codes, List, Bool, ℕ};
+ghost use Rattle.asn1_types.specs.Words.{IsWellTagged, application, unconstrained, units, visible};
 ghost use Rattle.asn1_model.specs.Kinds.{scalar_type, under_own_name};
 ghost use Rattle.asn1_strings.specs.Alphabets.{is_visible};
 
@@ -37,6 +37,12 @@ pub fn date_is_well_tagged()
     ensures { IsWellTagged ⟦<Date as AsnType>⟧.meaning }
 {}
 
+/// Each `Date` is valid.
+pub fn date_is_valid(date: &Date)
+    ensures { (accepts : List ℕ → Bool) →
+        ⟦<Date as AsnType>⟧.meaning.IsValid accepts date.now }
+{}
+
 impl Encode for Date {
     fn encode_with_tag_and_constraints<E: Encoder>(
         &self,
@@ -59,11 +65,3 @@ impl Decode for Date {
         Ok(Date(text))
     }
 }
-
-/// What a day is to every codec.
-pub fn date_records(date: &Date)
-    ensures { date.now.0 ≡ codes "19710917" →
-        own_records ⟦<Date as AsnType>⟧.meaning date.now ≡
-        scalar (application 3) unconstrained (Some (codes "Date"))
-        (units visible (codes "19710917")) ∷ [] }
-{}

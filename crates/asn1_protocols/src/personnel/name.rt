@@ -1,5 +1,5 @@
 //! `Name ::= [APPLICATION 1] IMPLICIT SEQUENCE { givenName VisibleString, initial VisibleString, familyName VisibleString }`
-ghost use Rattle.std.specs.Prelude.{[], codes, ◌∷◌};
+ghost use Rattle.std.specs.Prelude.{[], codes, ◌∷◌, List, Bool, ℕ};
 ghost use Rattle.asn1_slots.specs.Slots.{required_slot, sequence_of_slots};
 ghost use Rattle.asn1_types.specs.Words.{IsWellTagged, application, constructed_agrees, constructed_type_under, untagged};
 
@@ -101,6 +101,12 @@ impl ConstructedType for Name {
 /// A `Name` can be inside other types.
 pub fn name_is_well_tagged()
     ensures { IsWellTagged ⟦<Name as AsnType>⟧.meaning }
+{}
+
+/// Each `Name` is valid.
+pub fn name_is_valid(name: &Name)
+    ensures { (accepts : List ℕ → Bool) →
+        ⟦<Name as AsnType>⟧.meaning.IsValid accepts name.now }
 {}
 
 impl Encode for Name {

@@ -11,9 +11,9 @@
 //! }
 //! EmployeeNumber ::= [APPLICATION 2] IMPLICIT INTEGER
 //! ```
-ghost use Rattle.std.specs.Prelude.{Some, [], codes, refl, ◌++◌, ◌∷◌, ◌≡◌};
+ghost use Rattle.std.specs.Prelude.{[], codes, refl, ◌∷◌, ◌≡◌, List, Bool, ℕ};
 ghost use Rattle.asn1_slots.specs.Slots.{default_slot_by, is_empty_list, required_slot, set_of_slots};
-ghost use Rattle.asn1_types.specs.Words.{IsWellTagged, absent, application, constructed_agrees, constructed_type_under, context, explicit_tag, explicitly_tagged, holding, in_root, lines, number, own_records, presence_mark, scalar, set_head, tagged, unconstrained, units, universal, untagged, visible};
+ghost use Rattle.asn1_types.specs.Words.{IsWellTagged, application, constructed_agrees, constructed_type_under, context, explicitly_tagged, number, tagged, untagged};
 
 use crate::personnel::{ChildInformation, Date, Name};
 use asn1_dec::{Decode, DecodeError, Decoder};
@@ -188,6 +188,12 @@ pub fn personnel_record_is_well_tagged()
     ensures { IsWellTagged ⟦<PersonnelRecord as AsnType>⟧.meaning }
 {}
 
+/// Each `PersonnelRecord` is valid.
+pub fn personnel_record_is_valid(person: &PersonnelRecord)
+    ensures { (accepts : List ℕ → Bool) →
+        ⟦<PersonnelRecord as AsnType>⟧.meaning.IsValid accepts person.now }
+{}
+
 impl Encode for PersonnelRecord {
     fn encode_with_tag_and_constraints<E: Encoder>(
         &self,
@@ -236,20 +242,3 @@ impl Decode for PersonnelRecord {
         decode_set_by_place(decoder, tag)
     }
 }
-
-/// What a record without children is to every codec, its components in the order of the definition: the last is not written.
-pub fn no_children_are_absent(person: &PersonnelRecord)
-    ensures { person.now.children.items ≡ [] →
-        own_records ⟦<PersonnelRecord as AsnType>⟧.meaning person.now ≡
-        holding (set_head (application 0) (lines ⟦<PersonnelRecord as FieldTable>⟧.components)
-        (Some (codes "PersonnelRecord")))
-        (own_records ⟦<Name as AsnType>⟧.meaning person.now.name ++
-        (holding (explicit_tag (context 0) (Some (codes "VisibleString"))) (scalar (universal 26)
-        unconstrained (Some (codes "VisibleString")) (units visible person.now.title) ∷ []) ∷
-        scalar (application 2) unconstrained (Some (codes "INTEGER"))
-        (number person.now.number) ∷ holding (explicit_tag (context 1) (Some (codes "Date")))
-        (own_records ⟦<Date as AsnType>⟧.meaning person.now.date_of_hire) ∷
-        holding (explicit_tag (context 2) (Some (codes "Name")))
-        (own_records ⟦<Name as AsnType>⟧.meaning person.now.name_of_spouse) ∷
-        presence_mark (absent in_root (context 3)) ∷ [])) ∷ [] }
-{}

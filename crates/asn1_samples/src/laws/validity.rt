@@ -8,6 +8,7 @@ ghost use Rattle.std.specs.Prelude.{◌≡◌, ℕ, Bool, List, None, Some};
 use crate::badge::Badge;
 use crate::color::Color;
 use crate::corner::Corner;
+use crate::gauge::Gauge;
 use crate::labelled::Labelled;
 use crate::notice::Notice;
 use crate::person::Person;
@@ -15,6 +16,7 @@ use crate::plate::Plate;
 use crate::profile::Profile;
 use crate::settings::Settings;
 use crate::shape::Shape;
+use crate::ticket::Ticket;
 use crate::visit::Visit;
 use asn1_types::AsnType;
 
@@ -25,6 +27,8 @@ pub fn each_value_is_valid(
     labelled: &Labelled,
     settings: &Settings,
     plate: &Plate,
+    ticket: &Ticket,
+    gauge: &Gauge,
 )
     ensures person { (accepts : List ℕ → Bool) →
         ⟦<Person as AsnType>⟧.meaning.IsValid accepts person.now }
@@ -36,6 +40,10 @@ pub fn each_value_is_valid(
         ⟦<Settings as AsnType>⟧.meaning.IsValid accepts settings.now }
     ensures plate { (accepts : List ℕ → Bool) →
         ⟦<Plate as AsnType>⟧.meaning.IsValid accepts plate.now }
+    ensures ticket { (accepts : List ℕ → Bool) →
+        ⟦<Ticket as AsnType>⟧.meaning.IsValid accepts ticket.now }
+    ensures gauge { (accepts : List ℕ → Bool) →
+        ⟦<Gauge as AsnType>⟧.meaning.IsValid accepts gauge.now }
     ensures color { (accepts : List ℕ → Bool) (color : Color) →
         ⟦<Color as AsnType>⟧.meaning.IsValid accepts color }
 {}

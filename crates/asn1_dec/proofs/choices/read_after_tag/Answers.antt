@@ -17,7 +17,7 @@ returns-in_err-value-clause-read g c = λ v n rest outer distinct can of_type va
     let rs = chosen_records g.T.AsnType.meaning.constraints g.T.AsnType.meaning.name g.T.Choice.alternatives (g.T.Choice.pick v) in
     let s = c.in_ok-open_explicit_prefix.ensures.read n rs rest outer at in
     let r = (rw c.in-Ok.ensures.set at c.in_err-value.ensures.read) v g.T.AsnType.meaning.name [] ((_, rest) ∷ outer) distinct can of_type valid (to_end g.D.Decoder.reader _ rs ((_, rest) ∷ outer) s.at) in
-    rw (p.1, p.2) (fails_inside (explicit_tag c.args.tag n) rs _ _ c.in_ok-open_explicit_prefix.ensures.opens_scope.one_less r)
+    rw (p.1, p.2) (fails_inside (explicit_tag c.args.tag n) rs _ _ c.in_ok-open_explicit_prefix.ensures.takes_depth.one_less r)
 
 pub returns-in_err-close-clause-read : goal.returns-in_err-close-clause-read
 returns-in_err-close-clause-read g c = λ v n rest outer distinct can of_type valid at.
@@ -33,4 +33,4 @@ returns-clause-read g c = λ v n rest outer distinct can of_type valid at.
     let s = c.in_ok-open_explicit_prefix.ensures.read n rs rest outer at in
     let r = (rw c.in-Ok.ensures.set at c.in_ok-value.ensures.read) v g.T.AsnType.meaning.name [] ((_, rest) ∷ outer) distinct can of_type valid (to_end g.D.Decoder.reader _ rs ((_, rest) ∷ outer) s.at) in
     let k = c.in_ok-close.ensures.read _ rest outer r.at in
-    record { answer = r.answer; at = k.at; within_depth_left = within_scope (explicit_tag c.args.tag n) rs _ _ c.in_ok-open_explicit_prefix.ensures.opens_scope.one_less r.within_depth_left }
+    record { answer = r.answer; at = k.at; within_depth_left = within_scope (explicit_tag c.args.tag n) rs _ _ c.in_ok-open_explicit_prefix.ensures.takes_depth.one_less r.within_depth_left }

@@ -1,10 +1,8 @@
 use Rattle.std.proofs.Common.{◌≡◌, ap, ◌∙◌}
 use Rattle.std.proofs.lemmas.Result.{err_from_is_err_and}
-use Rattle.asn1_model.specs.ConstraintSets.{constraint_set}
 use Rattle.asn1_model.specs.Tags.{tree_tags}
-use Rattle.std.specs.Option.{option_copied, option_map}
 use Rattle.std.specs.Prelude.{unwrap_or}
-use Rattle.asn1_codec.specs.GivenTypes.{given}
+use Rattle.asn1_codec.specs.GivenTypes.{constraints_or_own, given}
 use Rattle.asn1_codec.specs.Sides.{side_of}
 use Rattle.asn1_codec.proofs.ReadingOptionals.{is_absent, is_there, not_told, told_of}
 use Rattle.asn1_dec.proofs.optionals.read_optional.Goals as goal
@@ -16,7 +14,7 @@ returns-in_err-is_there-clause-read g c =
     let is : t ≡ unwrap_or c.args.tag m.tag = c.unwrap_or-tag.ensures ∙ ap (unwrap_or c.args.tag) c.table-table.ensures.tag in
     let asked = ap tree_tags (c.under.ensures ∙ c.table-table.ensures.tree t) in
     let p = err_from_is_err_and c.from_residual.result c.from_residual.ensures.1 in
-    rw (← is, p.1, p.2) (not_told g.D.Decoder.reader (side_of c.args.side) (given t (unwrap_or (option_map constraint_set (option_copied c.args.constraints)) m.constraints) m) g.T.PartialEq.eq _ _ (λ _. told_of g.D.Decoder.reader _ _ asked c.in_err-is_there.ensures.read))
+    rw (← is, p.1, p.2) (not_told g.D.Decoder.reader (side_of c.args.side) (given t (constraints_or_own c.args.constraints m) m) g.T.PartialEq.eq _ _ (λ _. told_of g.D.Decoder.reader _ _ asked c.in_err-is_there.ensures.read))
 
 pub returns-then-not-branch-clause-read : goal.returns-then-not-branch-clause-read
 returns-then-not-branch-clause-read g c =
@@ -24,7 +22,7 @@ returns-then-not-branch-clause-read g c =
     let t = c.unwrap_or-tag.result in
     let is : t ≡ unwrap_or c.args.tag m.tag = c.unwrap_or-tag.ensures ∙ ap (unwrap_or c.args.tag) c.table-table.ensures.tag in
     let asked = ap tree_tags (c.under.ensures ∙ c.table-table.ensures.tree t) in
-    rw (← is) (is_absent g.D.Decoder.reader (side_of c.args.side) (given t (unwrap_or (option_map constraint_set (option_copied c.args.constraints)) m.constraints) m) g.T.PartialEq.eq _ _ (λ _. told_of g.D.Decoder.reader _ _ asked c.in_ok-is_there.ensures.read) c.if-not-branch.true)
+    rw (← is) (is_absent g.D.Decoder.reader (side_of c.args.side) (given t (constraints_or_own c.args.constraints m) m) g.T.PartialEq.eq _ _ (λ _. told_of g.D.Decoder.reader _ _ asked c.in_ok-is_there.ensures.read) c.if-not-branch.true)
 
 pub returns-clause-read : goal.returns-clause-read
 returns-clause-read g c =
@@ -32,5 +30,5 @@ returns-clause-read g c =
     let t = c.unwrap_or-tag.result in
     let is : t ≡ unwrap_or c.args.tag m.tag = c.unwrap_or-tag.ensures ∙ ap (unwrap_or c.args.tag) c.table-table.ensures.tag in
     let asked = ap tree_tags (c.under.ensures ∙ c.table-table.ensures.tree t) in
-    rw (← is) (is_there g.D.Decoder.reader (side_of c.args.side) (given t (unwrap_or (option_map constraint_set (option_copied c.args.constraints)) m.constraints) m) g.T.PartialEq.eq _ c.is_there.new.decoder c.read_present.new.decoder c.read_present.result (λ _. told_of g.D.Decoder.reader _ _ asked c.in_ok-is_there.ensures.read) c.if-not-branch.false
+    rw (← is) (is_there g.D.Decoder.reader (side_of c.args.side) (given t (constraints_or_own c.args.constraints m) m) g.T.PartialEq.eq _ c.is_there.new.decoder c.read_present.new.decoder c.read_present.result (λ _. told_of g.D.Decoder.reader _ _ asked c.in_ok-is_there.ensures.read) c.if-not-branch.false
     c.in_ok-is_there.ensures.opens_nothing.keeps_depth.same_depth c.read_present.ensures.read)

@@ -1,11 +1,8 @@
 use Rattle.std.proofs.Common.{Err, Ok, Some, ap}
 use Rattle.std.proofs.lemmas.Result.{err_from_is_err_and}
-use Rattle.std.specs.Option.{option_copied, option_map}
-use Rattle.std.specs.Prelude.{unwrap_or}
-use Rattle.asn1_model.specs.ConstraintSets.{constraint_set}
 use Rattle.asn1_model.specs.Tags.{tree_tags}
 use Rattle.asn1_tags.proofs.Leaves.{shape-Leaf}
-use Rattle.asn1_codec.specs.GivenTypes.{given_after_tag}
+use Rattle.asn1_codec.specs.GivenTypes.{constraints_or_own, given_after_tag}
 use Rattle.asn1_codec.specs.Sides.{side_of}
 use Rattle.asn1_codec.proofs.ReadingOptionals.{is_absent, is_there, not_told, told_of}
 use Rattle.asn1_dec.proofs.optionals.read_optional_after_tag.Goals as goal
@@ -13,17 +10,17 @@ use Rattle.asn1_dec.proofs.optionals.read_optional_after_tag.Goals as goal
 pub returns-in_err-is_there-clause-read : goal.returns-in_err-is_there-clause-read
 returns-in_err-is_there-clause-read g c =
     let p = err_from_is_err_and c.from_residual.result c.from_residual.ensures.1 in
-    rw (p.1, p.2) (not_told g.D.Decoder.reader (side_of c.args.side) (given_after_tag c.args.tag (unwrap_or (option_map constraint_set (option_copied c.args.constraints)) g.T.AsnType.meaning.constraints) g.T.AsnType.meaning) g.T.PartialEq.eq _ _ (λ _. told_of g.D.Decoder.reader _ _ (ap tree_tags (shape-Leaf c.args.tag)) c.in_err-is_there.ensures.read))
+    rw (p.1, p.2) (not_told g.D.Decoder.reader (side_of c.args.side) (given_after_tag c.args.tag (constraints_or_own c.args.constraints g.T.AsnType.meaning) g.T.AsnType.meaning) g.T.PartialEq.eq _ _ (λ _. told_of g.D.Decoder.reader _ _ (ap tree_tags (shape-Leaf c.args.tag)) c.in_err-is_there.ensures.read))
 
 pub returns-then-not-branch-clause-read : goal.returns-then-not-branch-clause-read
 returns-then-not-branch-clause-read g c =
-    is_absent g.D.Decoder.reader (side_of c.args.side) (given_after_tag c.args.tag (unwrap_or (option_map constraint_set (option_copied c.args.constraints)) g.T.AsnType.meaning.constraints) g.T.AsnType.meaning) g.T.PartialEq.eq _ _ (λ _. told_of g.D.Decoder.reader _ _ (ap tree_tags (shape-Leaf c.args.tag)) c.in_ok-is_there.ensures.read) c.if-not-branch.true
+    is_absent g.D.Decoder.reader (side_of c.args.side) (given_after_tag c.args.tag (constraints_or_own c.args.constraints g.T.AsnType.meaning) g.T.AsnType.meaning) g.T.PartialEq.eq _ _ (λ _. told_of g.D.Decoder.reader _ _ (ap tree_tags (shape-Leaf c.args.tag)) c.in_ok-is_there.ensures.read) c.if-not-branch.true
 
 pub returns-in_err-value-clause-read : goal.returns-in_err-value-clause-read
 returns-in_err-value-clause-read g c =
     let p = err_from_is_err_and c.from_residual-in_err-value.result c.from_residual-in_err-value.ensures.1 in
-    rw (p.1, p.2) (is_there g.D.Decoder.reader (side_of c.args.side) (given_after_tag c.args.tag (unwrap_or (option_map constraint_set (option_copied c.args.constraints)) g.T.AsnType.meaning.constraints) g.T.AsnType.meaning) g.T.PartialEq.eq _ _ c.args.decoder.now (Err _) (λ _. told_of g.D.Decoder.reader _ _ (ap tree_tags (shape-Leaf c.args.tag)) c.in_ok-is_there.ensures.read) c.if-not-branch.false c.in_ok-is_there.ensures.opens_nothing.keeps_depth.same_depth c.in_err-value.ensures.read)
+    rw (p.1, p.2) (is_there g.D.Decoder.reader (side_of c.args.side) (given_after_tag c.args.tag (constraints_or_own c.args.constraints g.T.AsnType.meaning) g.T.AsnType.meaning) g.T.PartialEq.eq _ _ c.args.decoder.now (Err _) (λ _. told_of g.D.Decoder.reader _ _ (ap tree_tags (shape-Leaf c.args.tag)) c.in_ok-is_there.ensures.read) c.if-not-branch.false c.in_ok-is_there.ensures.opens_nothing.keeps_depth.same_depth c.in_err-value.ensures.read)
 
 pub returns-clause-read : goal.returns-clause-read
 returns-clause-read g c =
-    is_there g.D.Decoder.reader (side_of c.args.side) (given_after_tag c.args.tag (unwrap_or (option_map constraint_set (option_copied c.args.constraints)) g.T.AsnType.meaning.constraints) g.T.AsnType.meaning) g.T.PartialEq.eq _ _ c.read_after_explicit_tag.new.decoder (Ok (Some _)) (λ _. told_of g.D.Decoder.reader _ _ (ap tree_tags (shape-Leaf c.args.tag)) c.in_ok-is_there.ensures.read) c.if-not-branch.false c.in_ok-is_there.ensures.opens_nothing.keeps_depth.same_depth c.in_ok-value.ensures.read
+    is_there g.D.Decoder.reader (side_of c.args.side) (given_after_tag c.args.tag (constraints_or_own c.args.constraints g.T.AsnType.meaning) g.T.AsnType.meaning) g.T.PartialEq.eq _ _ c.read_after_explicit_tag.new.decoder (Ok (Some _)) (λ _. told_of g.D.Decoder.reader _ _ (ap tree_tags (shape-Leaf c.args.tag)) c.in_ok-is_there.ensures.read) c.if-not-branch.false c.in_ok-is_there.ensures.opens_nothing.keeps_depth.same_depth c.in_ok-value.ensures.read

@@ -7,7 +7,7 @@ use Rattle.asn1_dec.proofs.sets.read_components.Goals as goal
 pub returns-in_err-parts-clause-read : goal.returns-in_err-parts-clause-read
 returns-in_err-parts-clause-read g c =
     let p = err_from_is_err_and c.from_residual-in_err-parts.result c.from_residual-in_err-parts.ensures.1 in
-    rw (p.1, p.2) (inside_not_read g.D.Decoder.reader c.args.tag g.S.FieldTable.components g.S.PartialEq.eq _ _ c.args.decoder.now c.args.decoder.now _ c.in_ok-bound.ensures.read c.in_ok-bound.ensures.opens_scope.one_less c.in_err-parts.ensures.read)
+    rw (p.1, p.2) (inside_not_read g.D.Decoder.reader c.args.tag g.S.FieldTable.components g.S.PartialEq.eq _ _ c.args.decoder.now c.args.decoder.now _ c.in_ok-bound.ensures.read c.in_ok-bound.ensures.takes_depth.one_less c.in_err-parts.ensures.read)
 
 pub returns-in-Err-clause-read : goal.returns-in-Err-clause-read
 returns-in-Err-clause-read g c =
@@ -23,4 +23,4 @@ returns-in_err-close-clause-read g c =
 pub returns-clause-read : goal.returns-clause-read
 returns-clause-read g c =
     is_read g.D.Decoder.reader c.args.tag g.S.FieldTable.components g.S.PartialEq.eq _ _ _ _ _ c.in_ok-bound.ensures.read
-    c.in_ok-parts.parts (λ v parts. ArePartsOf (all_components g.S.FieldTable.components) v g.S.DecodeSet.index_of (g.S.DecodeSet.is_part_of v) parts.items) c.in_ok-parts.ensures.read _ c.in_ok-bound.ensures.opens_scope.one_less c.in-Ok.ensures.made c.in_ok-close.ensures.read
+    c.in_ok-parts.parts (λ v parts. ArePartsOf (all_components g.S.FieldTable.components) v g.S.DecodeSet.index_of (g.S.DecodeSet.is_part_of v) parts.items) c.in_ok-parts.ensures.read _ c.in_ok-bound.ensures.takes_depth.one_less c.in-Ok.ensures.made c.in_ok-close.ensures.read

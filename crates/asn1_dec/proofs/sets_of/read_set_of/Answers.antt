@@ -15,7 +15,7 @@ returns-in_err-elements-clause-read g c = λ vs n rest outer can of_type valid a
     let s = c.in_ok-bound.ensures.read n rs rest outer at in
     let b = before_elements g.D.Decoder.reader g.T.AsnType.meaning can c.open_set_of.new.self vs s.order c.in_ok-bound.bound _ of_type valid s.moved.answer s.rearranged s.moved.at in
     let r = c.in_err-elements.ensures.read b.order _ outer can b.of_type b.valid b.few b.at in
-    rw (p.1, p.2) (fails_inside (set_of c.args.tag (constraint_set c.args.constraints.now) n) rs _ _ c.in_ok-bound.ensures.opens_scope.one_less (rw b.same_height at r))
+    rw (p.1, p.2) (fails_inside (set_of c.args.tag (constraint_set c.args.constraints.now) n) rs _ _ c.in_ok-bound.ensures.takes_depth.one_less (rw b.same_height at r))
 
 pub returns-in_err-close-clause-read : goal.returns-in_err-close-clause-read
 returns-in_err-close-clause-read g c = λ vs n rest outer can of_type valid at.
@@ -37,5 +37,5 @@ returns-clause-read g c = λ vs n rest outer can of_type valid at.
       answer = (same_counts-SameElements {eq = g.T.PartialEq.eq} g.met.T.PartialEq.laws c.from_vec.result vs).1
           (record { order = b.order; rearranged = b.rearranged; equal = rw c.from_vec.ensures r.answer });
       at = k.at;
-      within_depth_left = within_scope (set_of c.args.tag (constraint_set c.args.constraints.now) n) rs _ _ c.in_ok-bound.ensures.opens_scope.one_less (rw b.same_height at r.within_depth_left);
+      within_depth_left = within_scope (set_of c.args.tag (constraint_set c.args.constraints.now) n) rs _ _ c.in_ok-bound.ensures.takes_depth.one_less (rw b.same_height at r.within_depth_left);
     }

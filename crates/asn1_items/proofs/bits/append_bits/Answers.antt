@@ -1,8 +1,9 @@
-use Rattle.asn1_items.proofs.Octets.{starts, step, rest_is}
+use Rattle.std.proofs.Common.{[], ◌∷◌, ◌++◌, ap, ◌∙◌}
+use Rattle.asn1_items.proofs.Octets.{starts, step, rest_is, unused_of}
 use Rattle.asn1_items.proofs.bits.append_bits.Goals as goal
 
 pub loop-left-init : goal.loop-left-init
-loop-left-init c = record { so_far = starts c.args.bits.now c.args.bytes.now.items _ c.in_ok-push.ensures.items }
+loop-left-init c = record { so_far = starts c.args.bits.now c.args.bytes.now.items _ (c.in_ok-push.ensures.items ∙ ap (λ l. l ++ unused_of c.args.bits.now ∷ []) c.in_ok-reserve.ensures.items) }
 
 pub loop-left-preserved : goal.loop-left-preserved
 loop-left-preserved c = record {

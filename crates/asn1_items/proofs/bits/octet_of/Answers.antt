@@ -51,4 +51,4 @@ byte_is false = refl
 
 pub returns : goal.returns
 returns c = all _ _ _ _ _ _ _ _ _ _ _ _ _ _ _ _ _ (c.from.ensures ∙ byte_is c.args.a) (c.from-2.ensures ∙ byte_is c.args.b) (c.from-3.ensures ∙ byte_is c.args.c) (c.from-4.ensures ∙ byte_is c.args.d)
-    (c.from-5.ensures ∙ byte_is c.args.e) (c.from-6.ensures ∙ byte_is c.args.f) (c.from-7.ensures ∙ byte_is c.args.g) (c.from-8.ensures ∙ byte_is c.args.h) refl
+    (c.from-5.ensures ∙ byte_is c.args.e) (c.from-6.ensures ∙ byte_is c.args.f) (c.from-7.ensures ∙ byte_is c.args.g) (c.from-8.ensures ∙ byte_is c.args.h) (omega arith)

@@ -28,7 +28,7 @@ read_untagged-returns-in_err-chosen-clause-read g t c =
 
 pub read_untagged-returns-in-Err-clause-read : goal.read_untagged-returns-in-Err-clause-read
 read_untagged-returns-in-Err-clause-read g t c =
-    rw c.refuse.ensures.same (alternative_not_read g.D.Decoder.reader ghosts.eq open_law (constraint_set c.args.constraints.now) _ _ c.args.decoder.now c.args.decoder.now _ c.in_ok-chosen.ensures.read c.in_ok-chosen.ensures.opens_scope.one_less c.in-Err.ensures.read)
+    rw c.refuse.ensures.same (alternative_not_read g.D.Decoder.reader ghosts.eq open_law (constraint_set c.args.constraints.now) _ _ c.args.decoder.now c.args.decoder.now _ c.in_ok-chosen.ensures.read c.in_ok-chosen.ensures.takes_depth.one_less c.in-Err.ensures.read)
 
 pub read_untagged-returns-in_err-close-clause-read : goal.read_untagged-returns-in_err-close-clause-read
 read_untagged-returns-in_err-close-clause-read g t c =
@@ -37,7 +37,7 @@ read_untagged-returns-in_err-close-clause-read g t c =
 
 pub read_untagged-returns-clause-read : goal.read_untagged-returns-clause-read
 read_untagged-returns-clause-read g t c =
-    choice_read g.D.Decoder.reader ghosts.eq open_law (constraint_set c.args.constraints.now) _ _ _ _ _ c.in_ok-chosen.ensures.read c.in_ok-chosen.ensures.opens_scope.one_less c.in-Ok.ensures.read c.in_ok-close.ensures.read
+    choice_read g.D.Decoder.reader ghosts.eq open_law (constraint_set c.args.constraints.now) _ _ _ _ _ c.in_ok-chosen.ensures.read c.in_ok-chosen.ensures.takes_depth.one_less c.in-Ok.ensures.read c.in_ok-close.ensures.read
 
 pub read_alternative-returns-in_err-string-in-BIT_STRING-clause-read : goal.read_alternative-returns-in_err-string-in-BIT_STRING-clause-read
 read_alternative-returns-in_err-string-in-BIT_STRING-clause-read g t c =
@@ -159,7 +159,7 @@ read_instance-returns-in_err-type_id-clause-read g t c =
     let p = err_from_is_err_and c.from_residual-in_err-type_id.result c.from_residual-in_err-type_id.ensures.1 in
     let s = c.in_ok-open_sequence.ensures.read (Some (codes "SEQUENCE")) (instance_inside v) rest outer at in
     let r = c.in_err-type_id.ensures.read v.type_id (Some (codes "OBJECT_IDENTIFIER")) (value_record v ∷ []) ((_, rest) ∷ outer) refl of_type.0 valid.0 (inl tt) s.at in
-    rw (p.1, p.2) (fails_deeper _ _ 1 (omega (arith, c.in_ok-open_sequence.ensures.opens_scope.one_less)) (omega (arith, two_higher v)) r)
+    rw (p.1, p.2) (fails_deeper _ _ 1 (omega (arith, c.in_ok-open_sequence.ensures.takes_depth.one_less)) (omega (arith, two_higher v)) r)
 
 pub read_instance-returns-in_err-open_explicit_prefix-clause-read : goal.read_instance-returns-in_err-open_explicit_prefix-clause-read
 read_instance-returns-in_err-open_explicit_prefix-clause-read g t c =
@@ -168,7 +168,7 @@ read_instance-returns-in_err-open_explicit_prefix-clause-read g t c =
     let s = c.in_ok-open_sequence.ensures.read (Some (codes "SEQUENCE")) (instance_inside v) rest outer at in
     let r = c.in_ok-type_id.ensures.read v.type_id (Some (codes "OBJECT_IDENTIFIER")) (value_record v ∷ []) ((_, rest) ∷ outer) refl of_type.0 valid.0 (inl tt) s.at in
     let x = c.in_err-open_explicit_prefix.ensures.read (Some (codes "SEQUENCE")) (own_records open_meaning v.value) [] ((_, rest) ∷ outer) r.at in
-    rw (p.1, p.2) (fails_deeper _ _ 1 (omega (arith, c.in_ok-open_sequence.ensures.opens_scope.one_less, c.in_ok-type_id.ensures.after_reading.same_depth)) (omega (arith, two_higher v)) x)
+    rw (p.1, p.2) (fails_deeper _ _ 1 (omega (arith, c.in_ok-open_sequence.ensures.takes_depth.one_less, c.in_ok-type_id.ensures.after_reading.same_depth)) (omega (arith, two_higher v)) x)
 
 pub read_instance-returns-in_err-value-clause-read : goal.read_instance-returns-in_err-value-clause-read
 read_instance-returns-in_err-value-clause-read g t c =
@@ -178,7 +178,7 @@ read_instance-returns-in_err-value-clause-read g t c =
     let r = c.in_ok-type_id.ensures.read v.type_id (Some (codes "OBJECT_IDENTIFIER")) (value_record v ∷ []) ((_, rest) ∷ outer) refl of_type.0 valid.0 (inl tt) s.at in
     let x = c.in_ok-open_explicit_prefix.ensures.read (Some (codes "SEQUENCE")) (own_records open_meaning v.value) [] ((_, rest) ∷ outer) r.at in
     let y = c.in_err-value.ensures.read v.value (Some (codes "Open")) [] ((_, []) ∷ (_, rest) ∷ outer) open_can.1 of_type.1.0 valid.1.0 (inl tt) (to_end g.D.Decoder.reader _ (own_records open_meaning v.value) ((_, []) ∷ (_, rest) ∷ outer) x.at) in
-    rw (p.1, p.2) (fails_deeper _ _ 2 (omega (arith, c.in_ok-open_sequence.ensures.opens_scope.one_less, c.in_ok-type_id.ensures.after_reading.same_depth, c.in_ok-open_explicit_prefix.ensures.opens_scope.one_less)) (omega (arith, two_higher v)) y)
+    rw (p.1, p.2) (fails_deeper _ _ 2 (omega (arith, c.in_ok-open_sequence.ensures.takes_depth.one_less, c.in_ok-type_id.ensures.after_reading.same_depth, c.in_ok-open_explicit_prefix.ensures.takes_depth.one_less)) (omega (arith, two_higher v)) y)
 
 pub read_instance-returns-in_err-close-clause-read : goal.read_instance-returns-in_err-close-clause-read
 read_instance-returns-in_err-close-clause-read g t c =
@@ -212,4 +212,4 @@ read_instance-returns-clause-read g t c =
     let y = c.in_ok-value.ensures.read v.value (Some (codes "Open")) [] ((_, []) ∷ (_, rest) ∷ outer) open_can.1 of_type.1.0 valid.1.0 (inl tt) (to_end g.D.Decoder.reader _ (own_records open_meaning v.value) ((_, []) ∷ (_, rest) ∷ outer) x.at) in
     let z = c.in_ok-close.ensures.read _ [] ((_, rest) ∷ outer) y.at in
     let k = c.in_ok-close-2.ensures.read _ rest outer z.at in
-    record { answer = and_from _ _ r.answer y.answer; at = k.at; within_depth_left = omega (arith, y.within_depth_left, c.in_ok-open_sequence.ensures.opens_scope.one_less, c.in_ok-type_id.ensures.after_reading.same_depth, c.in_ok-open_explicit_prefix.ensures.opens_scope.one_less, two_higher v) }
+    record { answer = and_from _ _ r.answer y.answer; at = k.at; within_depth_left = omega (arith, y.within_depth_left, c.in_ok-open_sequence.ensures.takes_depth.one_less, c.in_ok-type_id.ensures.after_reading.same_depth, c.in_ok-open_explicit_prefix.ensures.takes_depth.one_less, two_higher v) }

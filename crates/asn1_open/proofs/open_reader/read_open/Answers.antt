@@ -18,7 +18,7 @@ returns-in_err-open_explicit_prefix-clause-read g c =
 pub returns-in_err-value-clause-read : goal.returns-in_err-value-clause-read
 returns-in_err-value-clause-read g c =
     let p = err_from_is_err_and c.from_residual-in_err-value.result c.from_residual-in_err-value.ensures.1 in
-    rw (p.1, p.2) (choice_after_tag_not_read g.D.Decoder.reader ghosts.eq open_law c.args.tag (constraint_set c.args.constraints.now) _ _ c.args.decoder.now c.args.decoder.now (sym c.is_choice.ensures.parts ∙ c.if-is_choice.false) c.in_ok-open_explicit_prefix.ensures.read c.in_ok-open_explicit_prefix.ensures.opens_scope.one_less c.in_err-value.ensures.read)
+    rw (p.1, p.2) (choice_after_tag_not_read g.D.Decoder.reader ghosts.eq open_law c.args.tag (constraint_set c.args.constraints.now) _ _ c.args.decoder.now c.args.decoder.now (sym c.is_choice.ensures.parts ∙ c.if-is_choice.false) c.in_ok-open_explicit_prefix.ensures.read c.in_ok-open_explicit_prefix.ensures.takes_depth.one_less c.in_err-value.ensures.read)
 
 pub returns-in_err-close-clause-read : goal.returns-in_err-close-clause-read
 returns-in_err-close-clause-read g c =
@@ -27,4 +27,4 @@ returns-in_err-close-clause-read g c =
 
 pub returns-clause-read : goal.returns-clause-read
 returns-clause-read g c =
-    choice_after_tag_read g.D.Decoder.reader ghosts.eq open_law c.args.tag (constraint_set c.args.constraints.now) _ _ _ _ (sym c.is_choice.ensures.parts ∙ c.if-is_choice.false) c.in_ok-open_explicit_prefix.ensures.read c.in_ok-open_explicit_prefix.ensures.opens_scope.one_less c.in_ok-value.ensures.read c.in_ok-close.ensures.read
+    choice_after_tag_read g.D.Decoder.reader ghosts.eq open_law c.args.tag (constraint_set c.args.constraints.now) _ _ _ _ (sym c.is_choice.ensures.parts ∙ c.if-is_choice.false) c.in_ok-open_explicit_prefix.ensures.read c.in_ok-open_explicit_prefix.ensures.takes_depth.one_less c.in_ok-value.ensures.read c.in_ok-close.ensures.read

@@ -37,7 +37,7 @@ read_filter-returns-in_err-open_explicit_prefix-clause-read g t c =
 pub read_filter-returns-in_err-filter-clause-read : goal.read_filter-returns-in_err-filter-clause-read
 read_filter-returns-in_err-filter-clause-read g t c =
     let p = err_from_is_err_and c.from_residual-in_err-filter.result c.from_residual-in_err-filter.ensures.1 in
-    rw (p.1, p.2) (choice_after_tag_not_read g.D.Decoder.reader ghosts.eq filter_law c.args.tag (constraint_set c.args.constraints.now) _ _ c.args.decoder.now c.args.decoder.now (sym c.is_choice.ensures.parts ∙ c.if-is_choice.false) c.in_ok-open_explicit_prefix.ensures.read c.in_ok-open_explicit_prefix.ensures.opens_scope.one_less c.in_err-filter.ensures.read)
+    rw (p.1, p.2) (choice_after_tag_not_read g.D.Decoder.reader ghosts.eq filter_law c.args.tag (constraint_set c.args.constraints.now) _ _ c.args.decoder.now c.args.decoder.now (sym c.is_choice.ensures.parts ∙ c.if-is_choice.false) c.in_ok-open_explicit_prefix.ensures.read c.in_ok-open_explicit_prefix.ensures.takes_depth.one_less c.in_err-filter.ensures.read)
 
 pub read_filter-returns-in_err-close-clause-read : goal.read_filter-returns-in_err-close-clause-read
 read_filter-returns-in_err-close-clause-read g t c =
@@ -46,7 +46,7 @@ read_filter-returns-in_err-close-clause-read g t c =
 
 pub read_filter-returns-clause-read : goal.read_filter-returns-clause-read
 read_filter-returns-clause-read g t c =
-    choice_after_tag_read g.D.Decoder.reader ghosts.eq filter_law c.args.tag (constraint_set c.args.constraints.now) _ _ _ _ (sym c.is_choice.ensures.parts ∙ c.if-is_choice.false) c.in_ok-open_explicit_prefix.ensures.read c.in_ok-open_explicit_prefix.ensures.opens_scope.one_less c.in_ok-filter.ensures.read c.in_ok-close.ensures.read
+    choice_after_tag_read g.D.Decoder.reader ghosts.eq filter_law c.args.tag (constraint_set c.args.constraints.now) _ _ _ _ (sym c.is_choice.ensures.parts ∙ c.if-is_choice.false) c.in_ok-open_explicit_prefix.ensures.read c.in_ok-open_explicit_prefix.ensures.takes_depth.one_less c.in_ok-filter.ensures.read c.in_ok-close.ensures.read
 
 pub read_untagged-returns-in_err-chosen-clause-read : goal.read_untagged-returns-in_err-chosen-clause-read
 read_untagged-returns-in_err-chosen-clause-read g t c =
@@ -55,7 +55,7 @@ read_untagged-returns-in_err-chosen-clause-read g t c =
 
 pub read_untagged-returns-in-Err-clause-read : goal.read_untagged-returns-in-Err-clause-read
 read_untagged-returns-in-Err-clause-read g t c =
-    rw c.refuse.ensures.same (alternative_not_read g.D.Decoder.reader ghosts.eq filter_law (constraint_set c.args.constraints.now) _ _ c.args.decoder.now c.args.decoder.now _ c.in_ok-chosen.ensures.read c.in_ok-chosen.ensures.opens_scope.one_less c.in-Err.ensures.read)
+    rw c.refuse.ensures.same (alternative_not_read g.D.Decoder.reader ghosts.eq filter_law (constraint_set c.args.constraints.now) _ _ c.args.decoder.now c.args.decoder.now _ c.in_ok-chosen.ensures.read c.in_ok-chosen.ensures.takes_depth.one_less c.in-Err.ensures.read)
 
 pub read_untagged-returns-in_err-close-clause-read : goal.read_untagged-returns-in_err-close-clause-read
 read_untagged-returns-in_err-close-clause-read g t c =
@@ -64,7 +64,7 @@ read_untagged-returns-in_err-close-clause-read g t c =
 
 pub read_untagged-returns-clause-read : goal.read_untagged-returns-clause-read
 read_untagged-returns-clause-read g t c =
-    choice_read g.D.Decoder.reader ghosts.eq filter_law (constraint_set c.args.constraints.now) _ _ _ _ _ c.in_ok-chosen.ensures.read c.in_ok-chosen.ensures.opens_scope.one_less c.in-Ok.ensures.read c.in_ok-close.ensures.read
+    choice_read g.D.Decoder.reader ghosts.eq filter_law (constraint_set c.args.constraints.now) _ _ _ _ _ c.in_ok-chosen.ensures.read c.in_ok-chosen.ensures.takes_depth.one_less c.in-Ok.ensures.read c.in_ok-close.ensures.read
 
 pub read_alternative-returns-in_err-read_set-in-AND-clause-read : goal.read_alternative-returns-in_err-read_set-in-AND-clause-read
 read_alternative-returns-in_err-read_set-in-AND-clause-read g t c =
@@ -219,7 +219,7 @@ read_set-returns-in_err-filters-clause-read g t c =
     let s = c.in_ok-bound.ensures.read n rs rest outer at in
     let b = before_elements g.D.Decoder.reader filter_meaning filter_can c.open_set_of.new.self vs s.order c.in_ok-bound.bound _ of_type valid s.moved.answer s.rearranged s.moved.at in
     let r = c.in_err-filters.ensures.read b.order _ outer b.of_type b.valid b.few b.at in
-    rw (p.1, p.2) (fails_inside (set_of c.args.tag unconstrained n) rs _ _ c.in_ok-bound.ensures.opens_scope.one_less (rw b.same_height at r))
+    rw (p.1, p.2) (fails_inside (set_of c.args.tag unconstrained n) rs _ _ c.in_ok-bound.ensures.takes_depth.one_less (rw b.same_height at r))
 
 pub read_set-returns-in_err-close-clause-read : goal.read_set-returns-in_err-close-clause-read
 read_set-returns-in_err-close-clause-read g t c =
@@ -243,7 +243,7 @@ read_set-returns-clause-read g t c =
       answer = (same_counts-SameElements {eq = ghosts.eq} lawful.laws c.from_vec.result vs).1
           (record { order = b.order; rearranged = b.rearranged; equal = rw c.from_vec.ensures r.answer });
       at = k.at;
-      within_depth_left = within_scope (set_of c.args.tag unconstrained n) rs _ _ c.in_ok-bound.ensures.opens_scope.one_less (rw b.same_height at r.within_depth_left);
+      within_depth_left = within_scope (set_of c.args.tag unconstrained n) rs _ _ c.in_ok-bound.ensures.takes_depth.one_less (rw b.same_height at r.within_depth_left);
     }
 
 pub read_filters-loop-index-init : goal.read_filters-loop-index-init

@@ -71,7 +71,7 @@ read_node-returns-in_err-label-clause-read g t c = λ v n rest outer of_type val
     let whole = (node_agrees.valid g.D.Decoder.reader.accepts v).0 valid in
     let s = c.in_ok-open_sequence.ensures.read n (inside_node v) rest outer (one_level g.D.Decoder.reader _ v c.args.tag unconstrained n rest outer at) in
     let l = c.in_err-label.ensures.read (out-Node v).label (Some (codes "UTF8String")) (children_record v ∷ []) ((_, rest) ∷ outer) node_can.1.1.0.0 parts.0 whole.0 (λ _. label_apart v) s.at in
-    rw (p.1, p.2) (fails_deeper _ _ 1 (omega (arith, c.in_ok-open_sequence.ensures.opens_scope.one_less)) (omega (arith, label_height (out-Node v).label, two_higher v c.args.tag unconstrained n)) l)
+    rw (p.1, p.2) (fails_deeper _ _ 1 (omega (arith, c.in_ok-open_sequence.ensures.takes_depth.one_less)) (omega (arith, label_height (out-Node v).label, two_higher v c.args.tag unconstrained n)) l)
 
 pub read_node-returns-in_err-bound-clause-read : goal.read_node-returns-in_err-bound-clause-read
 read_node-returns-in_err-bound-clause-read g t c = λ v n rest outer of_type valid at.
@@ -81,7 +81,7 @@ read_node-returns-in_err-bound-clause-read g t c = λ v n rest outer of_type val
     let s = c.in_ok-open_sequence.ensures.read n (inside_node v) rest outer (one_level g.D.Decoder.reader _ v c.args.tag unconstrained n rest outer at) in
     let l = c.in_ok-label.ensures.read (out-Node v).label (Some (codes "UTF8String")) (children_record v ∷ []) ((_, rest) ∷ outer) node_can.1.1.0.0 parts.0 whole.0 (λ _. label_apart v) s.at in
     let b = c.in_err-bound.ensures.read (Some (codes "SEQUENCE_OF")) (flat_map (own_records node_meaning) (children_of v)) [] ((_, rest) ∷ outer) l.at in
-    rw (p.1, p.2) (fails_deeper _ _ 1 (omega (arith, c.in_ok-open_sequence.ensures.opens_scope.one_less, c.in_ok-label.ensures.keeps_depth.same_depth)) (omega (arith, two_higher v c.args.tag unconstrained n)) b)
+    rw (p.1, p.2) (fails_deeper _ _ 1 (omega (arith, c.in_ok-open_sequence.ensures.takes_depth.one_less, c.in_ok-label.ensures.keeps_depth.same_depth)) (omega (arith, two_higher v c.args.tag unconstrained n)) b)
 
 pub read_node-returns-in_err-children-clause-read : goal.read_node-returns-in_err-children-clause-read
 read_node-returns-in_err-children-clause-read g t c = λ v n rest outer of_type valid at.
@@ -92,7 +92,7 @@ read_node-returns-in_err-children-clause-read g t c = λ v n rest outer of_type 
     let l = c.in_ok-label.ensures.read (out-Node v).label (Some (codes "UTF8String")) (children_record v ∷ []) ((_, rest) ∷ outer) node_can.1.1.0.0 parts.0 whole.0 (λ _. label_apart v) s.at in
     let b = c.in_ok-bound.ensures.read (Some (codes "SEQUENCE_OF")) (flat_map (own_records node_meaning) (children_of v)) [] ((_, rest) ∷ outer) l.at in
     let k = c.in_err-children.ensures.read (children_of v) _ ((_, rest) ∷ outer) parts.1.0 whole.1.0 (omega (arith, b.answer, as_many node_meaning node_can (children_of v))) b.at in
-    rw (p.1, p.2) (fails_deeper _ _ 2 (omega (arith, c.in_ok-open_sequence.ensures.opens_scope.one_less, c.in_ok-label.ensures.keeps_depth.same_depth, c.in_ok-bound.ensures.opens_scope.one_less)) (omega (arith, two_higher v c.args.tag unconstrained n)) k)
+    rw (p.1, p.2) (fails_deeper _ _ 2 (omega (arith, c.in_ok-open_sequence.ensures.takes_depth.one_less, c.in_ok-label.ensures.keeps_depth.same_depth, c.in_ok-bound.ensures.takes_depth.one_less)) (omega (arith, two_higher v c.args.tag unconstrained n)) k)
 
 pub read_node-returns-in_err-close-clause-read : goal.read_node-returns-in_err-close-clause-read
 read_node-returns-in_err-close-clause-read g t c = λ v n rest outer of_type valid at.
@@ -130,4 +130,4 @@ read_node-returns-clause-read g t c = λ v n rest outer of_type valid at.
     let x = c.in_ok-close.ensures.read _ [] ((_, rest) ∷ outer) k.at in
     let y = c.in_ok-close-2.ensures.read _ rest outer x.at in
     let o = out-roll-Node record { label = c.in_ok-label.label; children = c.in_ok-children.children } in
-    record { answer = same_nodes _ v (rw o l.answer) (rw o k.answer); at = y.at; within_depth_left = omega (arith, k.within_depth_left, c.in_ok-open_sequence.ensures.opens_scope.one_less, c.in_ok-label.ensures.keeps_depth.same_depth, c.in_ok-bound.ensures.opens_scope.one_less, two_higher v c.args.tag unconstrained n) }
+    record { answer = same_nodes _ v (rw o l.answer) (rw o k.answer); at = y.at; within_depth_left = omega (arith, k.within_depth_left, c.in_ok-open_sequence.ensures.takes_depth.one_less, c.in_ok-label.ensures.keeps_depth.same_depth, c.in_ok-bound.ensures.takes_depth.one_less, two_higher v c.args.tag unconstrained n) }

@@ -4,7 +4,7 @@ use Rattle.std.proofs.lemmas.Bool.Decides.{nat_tests}
 use Rattle.std.specs.List.{prefix_len, take_while}
 use Rattle.std.specs.Char.{is_ascii_digit}
 use Rattle.std.specs.Str.Parse.{digits_value}
-use Rattle.asn1_report.specs.Names.{BeginsWithNumber}
+use Rattle.asn1_report.specs.NamesAndNumbers.{BeginsWithNumber}
 use Rattle.asn1_report.proofs.Numbers.{number-value, number-bounds, number-lone_zero, zero-begins, digits-begin}
 use Rattle.asn1_report.proofs.number.read_number.Goals as goal
 

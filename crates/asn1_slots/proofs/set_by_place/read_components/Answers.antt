@@ -7,7 +7,7 @@ use Rattle.asn1_slots.proofs.set_by_place.read_components.Goals as goal
 pub returns-in_err-slots-clause-read : goal.returns-in_err-slots-clause-read
 returns-in_err-slots-clause-read g c = λ all.
     let p = err_from_is_err_and c.from_residual-in_err-slots.result c.from_residual-in_err-slots.ensures.1 in
-    rw (p.1, p.2) (inside_not_read g.D.Decoder.reader c.args.tag g.S.FieldTable.components g.S.PartialEq.eq _ _ c.args.decoder.now c.args.decoder.now _ c.in_ok-bound.ensures.read c.in_ok-bound.ensures.opens_scope.one_less (c.in_err-slots.ensures.read all))
+    rw (p.1, p.2) (inside_not_read g.D.Decoder.reader c.args.tag g.S.FieldTable.components g.S.PartialEq.eq _ _ c.args.decoder.now c.args.decoder.now _ c.in_ok-bound.ensures.read c.in_ok-bound.ensures.takes_depth.one_less (c.in_err-slots.ensures.read all))
 
 pub returns-in-Err-clause-read : goal.returns-in-Err-clause-read
 returns-in-Err-clause-read g c = λ all.
@@ -23,4 +23,4 @@ returns-in_err-close-clause-read g c = λ all.
 pub returns-clause-read : goal.returns-clause-read
 returns-clause-read g c = λ all.
     is_read g.D.Decoder.reader c.args.tag g.S.FieldTable.components g.S.PartialEq.eq _ _ _ _ _ c.in_ok-bound.ensures.read
-    c.in_ok-slots.slots (λ v s. HoldBefore g.S.DecodeSetByPlace.layout (length g.S.DecodeSetByPlace.layout) s v) (c.in_ok-slots.ensures.read all) _ c.in_ok-bound.ensures.opens_scope.one_less c.in-Ok.ensures.made c.in_ok-close.ensures.read
+    c.in_ok-slots.slots (λ v s. HoldBefore g.S.DecodeSetByPlace.layout (length g.S.DecodeSetByPlace.layout) s v) (c.in_ok-slots.ensures.read all) _ c.in_ok-bound.ensures.takes_depth.one_less c.in-Ok.ensures.made c.in_ok-close.ensures.read

@@ -3,8 +3,8 @@ use Rattle.asn1_streams.specs.Pieces.{AreFronts, joined}
 use Rattle.asn1_streams.proofs.Streams.{outputs_are_fronts, stream_comes_back, was_written}
 use Rattle.asn1_streams.proofs.round_trips.round_trip_in_pieces.Goals as goal
 
-pub returns-clause-come_back : goal.returns-clause-come_back
-returns-clause-come_back g c = λ steady belongs valid.
+pub returns-clause-back : goal.returns-clause-back
+returns-clause-back g c = λ steady belongs valid.
     let F = g.F.FrontReader.fronts in
     let format = g.R.Rules.format in
     let m = g.T.AsnType.meaning in

@@ -26,7 +26,7 @@ read_parcel-returns-in_err-open_explicit_prefix-clause-read g t c =
 pub read_parcel-returns-in_err-value-clause-read : goal.read_parcel-returns-in_err-value-clause-read
 read_parcel-returns-in_err-value-clause-read g t c =
     let p = err_from_is_err_and c.from_residual-in_err-value.result c.from_residual-in_err-value.ensures.1 in
-    rw (p.1, p.2) (choice_after_tag_not_read g.D.Decoder.reader ghosts.eq parcel_law c.args.tag (constraint_set c.args.constraints.now) _ _ c.args.decoder.now c.args.decoder.now (sym c.is_choice.ensures.parts ∙ c.if-is_choice.false) c.in_ok-open_explicit_prefix.ensures.read c.in_ok-open_explicit_prefix.ensures.opens_scope.one_less c.in_err-value.ensures.read)
+    rw (p.1, p.2) (choice_after_tag_not_read g.D.Decoder.reader ghosts.eq parcel_law c.args.tag (constraint_set c.args.constraints.now) _ _ c.args.decoder.now c.args.decoder.now (sym c.is_choice.ensures.parts ∙ c.if-is_choice.false) c.in_ok-open_explicit_prefix.ensures.read c.in_ok-open_explicit_prefix.ensures.takes_depth.one_less c.in_err-value.ensures.read)
 
 pub read_parcel-returns-in_err-close-clause-read : goal.read_parcel-returns-in_err-close-clause-read
 read_parcel-returns-in_err-close-clause-read g t c =
@@ -35,7 +35,7 @@ read_parcel-returns-in_err-close-clause-read g t c =
 
 pub read_parcel-returns-clause-read : goal.read_parcel-returns-clause-read
 read_parcel-returns-clause-read g t c =
-    choice_after_tag_read g.D.Decoder.reader ghosts.eq parcel_law c.args.tag (constraint_set c.args.constraints.now) _ _ _ _ (sym c.is_choice.ensures.parts ∙ c.if-is_choice.false) c.in_ok-open_explicit_prefix.ensures.read c.in_ok-open_explicit_prefix.ensures.opens_scope.one_less c.in_ok-value.ensures.read c.in_ok-close.ensures.read
+    choice_after_tag_read g.D.Decoder.reader ghosts.eq parcel_law c.args.tag (constraint_set c.args.constraints.now) _ _ _ _ (sym c.is_choice.ensures.parts ∙ c.if-is_choice.false) c.in_ok-open_explicit_prefix.ensures.read c.in_ok-open_explicit_prefix.ensures.takes_depth.one_less c.in_ok-value.ensures.read c.in_ok-close.ensures.read
 
 pub read_untagged-returns-in_err-chosen-clause-read : goal.read_untagged-returns-in_err-chosen-clause-read
 read_untagged-returns-in_err-chosen-clause-read g t c =
@@ -44,7 +44,7 @@ read_untagged-returns-in_err-chosen-clause-read g t c =
 
 pub read_untagged-returns-in-Err-clause-read : goal.read_untagged-returns-in-Err-clause-read
 read_untagged-returns-in-Err-clause-read g t c =
-    rw c.refuse.ensures.same (alternative_not_read g.D.Decoder.reader ghosts.eq parcel_law (constraint_set c.args.constraints.now) _ _ c.args.decoder.now c.args.decoder.now _ c.in_ok-chosen.ensures.read c.in_ok-chosen.ensures.opens_scope.one_less c.in-Err.ensures.read)
+    rw c.refuse.ensures.same (alternative_not_read g.D.Decoder.reader ghosts.eq parcel_law (constraint_set c.args.constraints.now) _ _ c.args.decoder.now c.args.decoder.now _ c.in_ok-chosen.ensures.read c.in_ok-chosen.ensures.takes_depth.one_less c.in-Err.ensures.read)
 
 pub read_untagged-returns-in_err-close-clause-read : goal.read_untagged-returns-in_err-close-clause-read
 read_untagged-returns-in_err-close-clause-read g t c =
@@ -53,7 +53,7 @@ read_untagged-returns-in_err-close-clause-read g t c =
 
 pub read_untagged-returns-clause-read : goal.read_untagged-returns-clause-read
 read_untagged-returns-clause-read g t c =
-    choice_read g.D.Decoder.reader ghosts.eq parcel_law (constraint_set c.args.constraints.now) _ _ _ _ _ c.in_ok-chosen.ensures.read c.in_ok-chosen.ensures.opens_scope.one_less c.in-Ok.ensures.read c.in_ok-close.ensures.read
+    choice_read g.D.Decoder.reader ghosts.eq parcel_law (constraint_set c.args.constraints.now) _ _ _ _ _ c.in_ok-chosen.ensures.read c.in_ok-chosen.ensures.takes_depth.one_less c.in-Ok.ensures.read c.in_ok-close.ensures.read
 
 pub read_alternative-returns-in_err-decode-in-NULL-clause-read : goal.read_alternative-returns-in_err-decode-in-NULL-clause-read
 read_alternative-returns-in_err-decode-in-NULL-clause-read g t c =

@@ -13,4 +13,4 @@ returns-in-Ok g c = λ m is.
 pub returns-in-Err : goal.returns-in-Err
 returns-in-Err g c = λ m is.
     let F = g.B.RecordBuffer.form in
-    fails (in_one_order F) (not_appended F _ _ (presence_mark m) c.refuse.result (λ custom. c.in-Err.ensures m is (c.refuse.ensures.custom custom)) c.refuse.ensures.not_too_deep c.refuse.ensures.not_failed c.if-self.false c.refuse.ensures.has_failed)
+    fails (in_one_order F) (not_appended F _ _ (presence_mark m) c.refuse.result (λ custom. c.in-Err.ensures m is (c.refuse.ensures.rejection custom)) c.refuse.ensures.not_too_deep c.refuse.ensures.not_failed c.if-self.false c.refuse.ensures.has_failed)

@@ -13,4 +13,4 @@ returns-in-Ok g c = λ k n x is.
 pub returns-in-Err : goal.returns-in-Err
 returns-in-Err g c = λ k n x is.
     let F = g.B.RecordBuffer.form in
-    fails (in_one_order F) (not_appended F _ _ (scalar c.args.tag k n x) c.refuse.result (λ custom. c.in-Err.ensures k n x is (c.refuse.ensures.custom custom)) c.refuse.ensures.not_too_deep c.refuse.ensures.not_failed c.if-self.false c.refuse.ensures.has_failed)
+    fails (in_one_order F) (not_appended F _ _ (scalar c.args.tag k n x) c.refuse.result (λ custom. c.in-Err.ensures k n x is (c.refuse.ensures.rejection custom)) c.refuse.ensures.not_too_deep c.refuse.ensures.not_failed c.if-self.false c.refuse.ensures.has_failed)

@@ -13,4 +13,4 @@ pub returns-in-Err : goal.returns-in-Err
 returns-in-Err g c =
     let F = g.B.RecordBuffer.form in
     not_closed_in_any_order (in_one_order F)
-    (group_is_not_closed F _ _ c.refuse.result (λ custom table rs w wrote. c.refuse.ensures.custom custom (c.in-Err.ensures table rs w wrote)) c.refuse.ensures.not_too_deep c.refuse.ensures.not_failed c.if-self.false c.refuse.ensures.has_failed)
+    (group_is_not_closed F _ _ c.refuse.result (λ custom table rs w wrote. c.refuse.ensures.rejection custom (c.in-Err.ensures table rs w wrote)) c.refuse.ensures.not_too_deep c.refuse.ensures.not_failed c.if-self.false c.refuse.ensures.has_failed)

@@ -14,4 +14,4 @@ returns-in-Ok g c =
 pub returns-in-Err : goal.returns-in-Err
 returns-in-Err g c =
     let F = g.B.RecordBuffer.form in
-    not_closed_in_any_order (in_one_order F) (scope_is_not_closed F _ _ c.refuse.result (λ custom h rs w wrote. c.in-Err.ensures h rs w wrote.0 (c.refuse.ensures.custom custom)) c.refuse.ensures.not_too_deep c.refuse.ensures.not_failed c.if-self.false c.refuse.ensures.has_failed)
+    not_closed_in_any_order (in_one_order F) (scope_is_not_closed F _ _ c.refuse.result (λ custom h rs w wrote. c.in-Err.ensures h rs w wrote.0 (c.refuse.ensures.rejection custom)) c.refuse.ensures.not_too_deep c.refuse.ensures.not_failed c.if-self.false c.refuse.ensures.has_failed)

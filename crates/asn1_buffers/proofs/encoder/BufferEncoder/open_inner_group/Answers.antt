@@ -12,4 +12,4 @@ returns-in-Ok g c = λ table.
 pub returns-in-Err : goal.returns-in-Err
 returns-in-Err g c = λ table.
     let F = g.B.RecordBuffer.form in
-    group_is_not_open (in_one_order F) (group_is_not_opened F _ _ c.refuse.result (λ custom. c.refuse.ensures.custom custom (c.in-Err.ensures table)) c.refuse.ensures.not_too_deep c.refuse.ensures.not_failed c.if-self.false c.refuse.ensures.has_failed)
+    group_is_not_open (in_one_order F) (group_is_not_opened F _ _ c.refuse.result (λ custom. c.refuse.ensures.rejection custom (c.in-Err.ensures table)) c.refuse.ensures.not_too_deep c.refuse.ensures.not_failed c.if-self.false c.refuse.ensures.has_failed)

@@ -14,4 +14,4 @@ returns-in-Ok g c = λ h kind tag.
 pub returns-in-Err : goal.returns-in-Err
 returns-in-Err g c = λ h kind tag.
     let F = g.B.RecordBuffer.form in
-    scope_is_not_open (in_one_order F) (scope_is_not_opened F _ _ h c.refuse.result (λ custom. c.refuse.ensures.custom custom (c.in-Err.ensures h kind tag)) c.refuse.ensures.not_too_deep c.refuse.ensures.not_failed c.if-self-eq0.false c.if-self.false c.refuse.ensures.has_failed)
+    scope_is_not_open (in_one_order F) (scope_is_not_opened F _ _ h c.refuse.result (λ custom. c.refuse.ensures.rejection custom (c.in-Err.ensures h kind tag)) c.refuse.ensures.not_too_deep c.refuse.ensures.not_failed c.if-self-eq0.false c.if-self.false c.refuse.ensures.has_failed)

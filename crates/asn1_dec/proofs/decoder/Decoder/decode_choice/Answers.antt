@@ -12,7 +12,7 @@ returns-in-Err-clause-read g c = λ v n rest outer distinct can of_type valid at
     let rs = (chosen_meaning (all_of g.T.Choice.alternatives) (g.T.Choice.pick v)).records in
     let s = c.in_ok-chosen.ensures.read (chosen_tag (all_of g.T.Choice.alternatives) (g.T.Choice.pick v)) distinct can n rs rest outer at in
     let r = c.in-Err.ensures.read v [] ((_, rest) ∷ outer) distinct can of_type valid (tells_chosen (all_of g.T.Choice.alternatives) (g.T.Choice.pick v) (chosen_tag (all_of g.T.Choice.alternatives) (g.T.Choice.pick v)) _ s.answer (chosen_has_own (all_of g.T.Choice.alternatives) can (g.T.Choice.pick v))) (to_end g.Self.Decoder.reader _ rs ((_, rest) ∷ outer) s.at) in
-    rw c.refuse.ensures.same (fails_inside (alternative (chosen_tag (all_of g.T.Choice.alternatives) (g.T.Choice.pick v)) (constraint_set c.args.constraints.now) (table_of g.T.Choice.alternatives) n) rs _ _ c.in_ok-chosen.ensures.opens_scope.one_less r)
+    rw c.refuse.ensures.same (fails_inside (alternative (chosen_tag (all_of g.T.Choice.alternatives) (g.T.Choice.pick v)) (constraint_set c.args.constraints.now) (table_of g.T.Choice.alternatives) n) rs _ _ c.in_ok-chosen.ensures.takes_depth.one_less r)
 
 pub returns-in_err-close-clause-read : goal.returns-in_err-close-clause-read
 returns-in_err-close-clause-read g c = λ v n rest outer distinct can of_type valid at.
@@ -28,4 +28,4 @@ returns-clause-read g c = λ v n rest outer distinct can of_type valid at.
     let s = c.in_ok-chosen.ensures.read (chosen_tag (all_of g.T.Choice.alternatives) (g.T.Choice.pick v)) distinct can n rs rest outer at in
     let r = c.in-Ok.ensures.read v [] ((_, rest) ∷ outer) distinct can of_type valid (tells_chosen (all_of g.T.Choice.alternatives) (g.T.Choice.pick v) (chosen_tag (all_of g.T.Choice.alternatives) (g.T.Choice.pick v)) _ s.answer (chosen_has_own (all_of g.T.Choice.alternatives) can (g.T.Choice.pick v))) (to_end g.Self.Decoder.reader _ rs ((_, rest) ∷ outer) s.at) in
     let k = c.in_ok-close.ensures.read _ rest outer r.at in
-    record { answer = r.answer; at = k.at; within_depth_left = within_scope (alternative (chosen_tag (all_of g.T.Choice.alternatives) (g.T.Choice.pick v)) (constraint_set c.args.constraints.now) (table_of g.T.Choice.alternatives) n) rs _ _ c.in_ok-chosen.ensures.opens_scope.one_less r.within_depth_left }
+    record { answer = r.answer; at = k.at; within_depth_left = within_scope (alternative (chosen_tag (all_of g.T.Choice.alternatives) (g.T.Choice.pick v)) (constraint_set c.args.constraints.now) (table_of g.T.Choice.alternatives) n) rs _ _ c.in_ok-chosen.ensures.takes_depth.one_less r.within_depth_left }

@@ -13,4 +13,4 @@ returns-in_err-value-clause-read g c =
 pub returns-clause-read : goal.returns-clause-read
 returns-clause-read g c =
     let m = g.T.AsnType.meaning in
-    default_reads g.Self.Decoder.reader in_root (given_after_tag c.args.tag m.constraints m) g.T.PartialEq.eq _ g.met.T.Eq.laws _ _ _ _ _ c.in_ok-value.ensures.read c.or_default.ensures.there c.or_default.ensures.absent
+    default_reads g.Self.Decoder.reader in_root (given_after_tag c.args.tag m.constraints m) g.T.PartialEq.eq _ g.met.T.Eq.laws _ _ _ _ _ c.in_ok-value.ensures.read c.or_make_default.ensures.there c.or_make_default.ensures.absent

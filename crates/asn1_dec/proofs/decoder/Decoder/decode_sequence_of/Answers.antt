@@ -14,7 +14,7 @@ returns-in_err-elements-clause-read g c = λ vs n rest outer can of_type valid a
     let rs = flat_map (own_records g.T.AsnType.meaning) vs in
     let s = c.in_ok-bound.ensures.read n rs rest outer at in
     let r = c.in_err-elements.ensures.read vs _ outer can of_type valid (omega (arith, s.answer, as_many g.T.AsnType.meaning can vs)) s.at in
-    rw (p.1, p.2) (fails_inside (sequence_of c.args.tag (constraint_set c.args.constraints.now) n) rs _ _ c.in_ok-bound.ensures.opens_scope.one_less r)
+    rw (p.1, p.2) (fails_inside (sequence_of c.args.tag (constraint_set c.args.constraints.now) n) rs _ _ c.in_ok-bound.ensures.takes_depth.one_less r)
 
 pub returns-in_err-close-clause-read : goal.returns-in_err-close-clause-read
 returns-in_err-close-clause-read g c = λ vs n rest outer can of_type valid at.
@@ -30,4 +30,4 @@ returns-clause-read g c = λ vs n rest outer can of_type valid at.
     let s = c.in_ok-bound.ensures.read n rs rest outer at in
     let r = c.in_ok-elements.ensures.read vs _ outer can of_type valid (omega (arith, s.answer, as_many g.T.AsnType.meaning can vs)) s.at in
     let k = c.in_ok-close.ensures.read _ rest outer r.at in
-    record { answer = r.answer; at = k.at; within_depth_left = within_scope (sequence_of c.args.tag (constraint_set c.args.constraints.now) n) rs _ _ c.in_ok-bound.ensures.opens_scope.one_less r.within_depth_left }
+    record { answer = r.answer; at = k.at; within_depth_left = within_scope (sequence_of c.args.tag (constraint_set c.args.constraints.now) n) rs _ _ c.in_ok-bound.ensures.takes_depth.one_less r.within_depth_left }

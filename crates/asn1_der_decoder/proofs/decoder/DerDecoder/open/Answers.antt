@@ -35,4 +35,4 @@ returns-clause-read c = λ h items rest outer wanted at.
     let kept = c.in_ok-element.ensures in
     let opened = c.open.ensures in
     scope_opened is_form (λ d. d.scopes) c.args.self.now c.take.new.self _ h items rest outer s.inside _ _ c.open.result s.have
-    (next.after c.take.new.self.scopes kept.opens_nothing.keeps_depth.no_failure taken.left kept.outside) (omega arith) (taken.seen.tag ∙ s.tag) inside opened.opened opened.same_failure opened.memory
+    (next.after c.take.new.self.scopes kept.opens_nothing.keeps_depth.no_failure taken.left kept.outside) (omega arith) kept.opens_nothing.keeps_depth.same_depth (taken.seen.tag ∙ s.tag) inside opened.opened opened.no_failure opened.failed opened.too_deep opened.memory

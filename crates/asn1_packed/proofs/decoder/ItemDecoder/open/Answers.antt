@@ -18,4 +18,4 @@ returns-clause-read g c = λ h items rest outer wanted at.
     let taken = took.took _ next.has.inside next.back at.no_failure (scope_at marks h items next.front next.back _ next.has next.left) refl refl (wanted_met c.args.wanted h _ _ wanted) in
     let opened = c.open.ensures in
     scope_opened (is_form marks) (λ d. d.scopes) c.args.self.now c.take.new.self _ h items rest outer next.has.inside _ _ c.open.result next.has.is
-    (next.after c.take.new.self.scopes took.opens_nothing.keeps_depth.no_failure taken.left took.outside) (omega arith) taken.tag taken.inside_is opened.opened opened.same_failure opened.memory
+    (next.after c.take.new.self.scopes took.opens_nothing.keeps_depth.no_failure taken.left took.outside) (omega arith) took.opens_nothing.keeps_depth.same_depth taken.tag taken.inside_is opened.opened opened.no_failure opened.failed opened.too_deep opened.memory

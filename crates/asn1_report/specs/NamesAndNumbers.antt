@@ -1,5 +1,5 @@
 -- Names and numbers, as they are written.
-use Rattle.std.specs.Prelude.{◌≡◌, ℕ, ℤ, pos, negsuc, codes, Bool, false, not, ◌&&◌, ◌||◌, ◌==◌, ◌^◌, ◌<◌, ◌++◌, nat_le, nat_lt, if◌then◌else◌, List, [], ◌∷◌, Option, Some, None, length}
+use Rattle.std.specs.Prelude.{◌≡◌, ℕ, ℤ, pos, negsuc, codes, Bool, false, not, ◌&&◌, ◌||◌, ◌==◌, ◌^◌, ◌<◌, ◌++◌, nat_le, nat_lt, if◌then◌else◌, List, [], ◌∷◌, Option, Some, None, MatchOption, true, length}
 use Rattle.std.specs.List.{list_all}
 use Rattle.std.specs.Char.{is_ascii_alphanumeric, is_ascii_digit}
 use Rattle.std.specs.Fmt.{decimal}
@@ -35,6 +35,11 @@ pub record BeginsWithNumber (text : List ℕ) (number : ℕ) (left : List ℕ) :
 abbrev pub number_of : List ℕ → Option ℕ
 number_of digits =
     if is_plain_number digits && nat_lt (digits_value 10 digits) (2 ^ 32) then Some (digits_value 10 digits) else None
+
+-- What is answered of a text: its number if it spells one; a number above 2^127 may be answered by none.
+abbrev pub SpellsNumber : Bool → ℕ → Option ℕ → Type 0
+SpellsNumber spells number result =
+    MatchOption result (spells ≡ true → 2 ^ 127 < number) (λ n. (spells ≡ true) × (n ≡ number))
 
 -- such digits, or a minus and such digits of another number than 0
 abbrev pub is_plain_integer : List ℕ → Bool

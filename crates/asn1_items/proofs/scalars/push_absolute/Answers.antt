@@ -1,0 +1,10 @@
+use Rattle.std.proofs.Common.{◌≡◌, ◌∙◌, ap, sym, arith}
+use Rattle.asn1_values.specs.Numbers.{magnitude, signed}
+use Rattle.asn1_values.proofs.Digits.{magnitude-bytes_high_first}
+use Rattle.asn1_values.proofs.Signs.{signed-unsigned_abs}
+use Rattle.asn1_items.proofs.scalars.push_absolute.Goals as goal
+
+pub returns-in-Ok-clause-appended : goal.returns-in-Ok-clause-appended
+returns-in-Ok-clause-appended c = λ z absolute sign.
+    let digits : magnitude c.significant.result.now ≡ c.in-Ok.small = c.significant.ensures.number ∙ ap magnitude c.to_be_bytes-digits.ensures ∙ magnitude-bytes_high_first 4 c.in-Ok.small (omega arith) in
+    c.push_signed.ensures.appended z (ap (signed c.args.negative) (digits ∙ c.in-Ok.ensures.1 ∙ sym absolute) ∙ signed-unsigned_abs c.args.negative z sign) c.significant.ensures.shortest.shortest sign
