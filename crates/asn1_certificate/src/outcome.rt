@@ -1,7 +1,7 @@
 //! How the program ends.
-ghost use Rattle.std.specs.Prelude.{◌≡◌, List, OnOk, ℕ};
-ghost use Rattle.std.specs.Io.KnownBytes.{Appends, Consumes, IsAtEnd};
-ghost use Rattle.asn1_certificate.specs.Shown.{AreLinesOfInput, IsDerOfInput};
+ghost use Rattle.std.specs.Prelude.{◌≡◌, OnOk};
+ghost use Rattle.std.specs.Io.KnownBytes.{Appends, IsAtEnd};
+ghost use Rattle.asn1_certificate.specs.Shown.{AreLinesOfInput, Converts, IsDerOfInput};
 
 use crate::form::Form;
 use crate::show::{ShowError, written};
@@ -80,12 +80,12 @@ fn convert<R: Read, W: Write>(
     writer: &mut W,
 ) -> Result<(), Failure>
     ensures read { OnOk result (IsAtEnd (R.remaining reader.new)) }
-    ensures report { form ≡ Form.Report → OnOk result ((all : List ℕ) × (text : List ℕ) ×
-        Consumes (R.remaining reader.old) (R.remaining reader.new) all × AreLinesOfInput all text ×
-        Appends (W.contents writer.old) (W.contents writer.new) text) }
-    ensures der { form ≡ Form.Der → OnOk result ((all : List ℕ) × (der : List ℕ) ×
-        Consumes (R.remaining reader.old) (R.remaining reader.new) all × IsDerOfInput all der ×
-        Appends (W.contents writer.old) (W.contents writer.new) der) }
+    ensures report { form ≡ Form.Report → OnOk result (Converts AreLinesOfInput
+        (R.remaining reader.old) (R.remaining reader.new)
+        (W.contents writer.old) (W.contents writer.new)) }
+    ensures der { form ≡ Form.Der → OnOk result (Converts IsDerOfInput
+        (R.remaining reader.old) (R.remaining reader.new)
+        (W.contents writer.old) (W.contents writer.new)) }
 {
     let mut input = Vec::new(alloc);
     if reader.read_to_end(&mut input).is_err() {
