@@ -236,6 +236,6 @@ mutual
   same_der r s (in_place h {rs = rs} {ss = ss} all) distinct = form_one (form_of h) (head_tag h) (HaveDer rs) (HaveDer ss) (same_ders rs ss all distinct.1)
   same_der r s (in_any_order h {rs = rs} {qs = qs} {ss = ss} unordered all moved) distinct = in_any_order_one h rs qs ss unordered moved distinct.0 (same_ders rs qs all distinct.1)
 
-  same_ders : (rs ss : Records) → SameAll rs ss → HaveDistinctSets rs → AreOne (HaveDer rs) (HaveDer ss)
+  pub same_ders : (rs ss : Records) → SameAll rs ss → HaveDistinctSets rs → AreOne (HaveDer rs) (HaveDer ss)
   same_ders rs ss at_end distinct = λ own other below above a b. a ∙ sym b
   same_ders rs ss (next {r = r} {s = s} {rs = rest} {ss = others} first later) distinct = joined_one r s rest others (same_der r s first distinct.0) (same_ders rest others later distinct.1)
