@@ -6,7 +6,7 @@ ghost use Rattle.asn1_certificate.specs.declared.show.ShowError.TheVariants.{Mem
 ghost use Rattle.asn1_der_encoder.specs.Format.{Carries};
 
 use crate::form::Form;
-use asn1_certificate_reader::{MAX_DEPTH, has_bad_string, report_of};
+use asn1_certificate_reader::{MAX_DEPTH, NameFault, first_name_fault, report_of};
 use asn1_certificate_report::report_text;
 use asn1_certificate_text::{PemError, certificate_octets};
 use asn1_dec::DecodeError;
@@ -30,9 +30,12 @@ pub(crate) enum ShowError {
     /// The octets are elements, and those of no certificate.
     #[error("no certificate: {0}")]
     NoCertificate(DecodeError),
-    /// The value of an attribute of a name has the tag of a string, and is none.
-    #[error("no certificate: a string in a name is none")]
-    BadString,
+    /// The name of who issued it has a value that no name can have.
+    #[error("no certificate: in its issuer {0}")]
+    BadIssuer(NameFault),
+    /// The name of whom it is for has one.
+    #[error("no certificate: in its subject {0}")]
+    BadSubject(NameFault),
     /// The certificate was read, and is not written again.
     #[error("not written: {0}")]
     NotWritten(EncodeError),
@@ -64,16 +67,17 @@ pub(crate) fn written(alloc: Global, form: Form, input: Vec<u8>) -> Result<Vec<u
     }
 }
 
-/// Refuses a certificate with a name in which a string is none.
+/// Refuses a certificate with a value in a name that no name can have.
 fn check_names(alloc: Global, certificate: &Certificate) -> Result<(), ShowError>
     ensures { IfErr result IsAboutCertificate }
 {
     let rules = DerRules::new(alloc);
     let signed = &certificate.tbs_certificate;
-    if has_bad_string(&rules, alloc, &signed.issuer)?
-        || has_bad_string(&rules, alloc, &signed.subject)?
-    {
-        return Err(ShowError::BadString);
+    if let Some(fault) = first_name_fault(&rules, alloc, &signed.issuer)? {
+        return Err(ShowError::BadIssuer(fault));
+    }
+    if let Some(fault) = first_name_fault(&rules, alloc, &signed.subject)? {
+        return Err(ShowError::BadSubject(fault));
     }
     Ok(())
 }

@@ -17,7 +17,7 @@ pub fn report_of<R: Rules<Output = Vec<u8>>>(
     alloc: Global,
     certificate: &Certificate,
 ) -> Result<Report, AllocError>
-    ensures { IfOk result (IsReportOf certificate.now) }
+    ensures { IfOk result (IsReportOf R.format certificate.now) }
 {
     let signed = &certificate.tbs_certificate;
     Ok(Report {
