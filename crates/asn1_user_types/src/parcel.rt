@@ -1,5 +1,5 @@
 //! `Parcel ::= CHOICE { letter NULL, inner [0] Parcel }`
-ghost use Rattle.asn1_schema.specs.Words.{itself_agrees};
+ghost use Rattle.asn1_schema.specs.Words.{IsWellTagged, itself_agrees};
 ghost use Rattle.asn1_user_types.specs.ParcelAlternatives.{parcel_agrees, parcel_alternatives, parcel_meaning, parcel_pick};
 
 use crate::parcel_reader::{read_alternative, read_parcel};
@@ -57,6 +57,11 @@ impl AsnType for Parcel {
 impl ChoiceType for Parcel {
     ghost agrees = { itself_agrees parcel_agrees };
 }
+
+/// A `Parcel` can be inside other types: the tags of its alternatives are distinct.
+pub fn parcel_is_well_tagged()
+    ensures { IsWellTagged parcel_meaning }
+{}
 
 impl Encode for Parcel {
     #[cycle(parcel)]
