@@ -11,15 +11,13 @@
 //!
 //! What the contracts promise:
 //!
-//! - Each type is written and read by any codec. Each but [`Payment`] is told to be well tagged (`price_is_well_tagged` and the
-//!   like); of a [`Payment`] it is what `signed_payment_comes_back` rests on.
-//! - Each value is valid, and a [`Signed`] if and only if its content is (`price_is_valid` and the like); of a [`Payment`] no
-//!   clause says it.
+//! - Each type is written and read by any codec. Each is told to be well tagged (`price_is_well_tagged` and the like).
+//! - Each value is valid, and a [`Signed`] if and only if its content is (`price_is_valid` and the like).
 //! - A signed order or payment is read back as it was written, by any codec (`signed_order_comes_back`).
 //!
 //! So one name in `crates.txt` is enough for each kind of type. Only a clause that has the meaning of a CHOICE in it by its type, as
-//! `⟦<Payment as AsnType>⟧.meaning`, wants `asn1_tags` there too. `asn1_samples` and `asn1_recursive` have more types of each kind,
-//! over the crates below `asn1_schema`.
+//! `⟦<Payment as AsnType>⟧.meaning`, wants `asn1_tags` there too; `payment_is_well_tagged` has it by the name of its
+//! implementation. `asn1_samples` and `asn1_recursive` have more types of each kind, over the crates below `asn1_schema`.
 #![tactic(auto, using(asn1_schema::proofs::Trees::tree_shapes))]
 
 mod currency;
@@ -34,11 +32,12 @@ mod validity;
 pub use currency::{Currency, currency_is_well_tagged};
 pub use order::{Order, order_is_well_tagged};
 pub use parcel::{Parcel, parcel_is_well_tagged};
-pub use payment::Payment;
+pub use payment::{Payment, payment_is_well_tagged};
 pub use price::{Price, price_is_well_tagged};
 pub use signed::{
     Signed, signed_is_well_tagged, signed_order_comes_back, signed_payment_comes_back,
 };
 pub use validity::{
-    currency_is_valid, order_is_valid, parcel_is_valid, price_is_valid, signed_is_valid,
+    currency_is_valid, order_is_valid, parcel_is_valid, payment_is_valid, price_is_valid,
+    signed_is_valid,
 };

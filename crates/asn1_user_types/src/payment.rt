@@ -1,6 +1,7 @@
 //! `Payment ::= CHOICE { cash NULL, card [0] OCTET STRING }`
 ghost use Rattle.std.specs.Prelude.{[], codes, refl, ◌∷◌};
-ghost use Rattle.asn1_schema.specs.Words.{choice_agrees, choice_of, choice_of_cases, context, inl, inr, tagged, untagged, variant};
+ghost use Rattle.asn1_schema.specs.Words.{IsWellTagged, choice_agrees, choice_of, choice_of_cases, context, inl, inr, tagged, untagged, variant};
+ghost use Rattle.asn1_user_types.specs.contracts.payment.PaymentAsnType.TheImpl.{ghosts as payments};
 ghost use Rattle.asn1_user_types.specs.declared.payment.Payment.TheVariants.{Card, Cash};
 
 use asn1_schema::{
@@ -75,6 +76,11 @@ impl AsnType for Payment {
 impl ChoiceType for Payment {
     ghost agrees = { choice_agrees };
 }
+
+/// A `Payment` can be inside other types: the tags of its alternatives are distinct.
+pub fn payment_is_well_tagged()
+    ensures { IsWellTagged payments.meaning }
+{}
 
 impl Encode for Payment {
     fn encode_with_tag_and_constraints<E: Encoder>(

@@ -2,10 +2,12 @@
 //! type is well tagged.
 ghost use Rattle.std.specs.Prelude.{Bool, List, ℕ, ◌↔◌};
 ghost use Rattle.asn1_user_types.specs.ParcelAlternatives.{parcel_meaning};
+ghost use Rattle.asn1_user_types.specs.contracts.payment.PaymentAsnType.TheImpl.{ghosts as payments};
 
 use crate::currency::Currency;
 use crate::order::Order;
 use crate::parcel::Parcel;
+use crate::payment::Payment;
 use crate::price::Price;
 use crate::signed::Signed;
 use asn1_schema::AsnType;
@@ -26,6 +28,11 @@ pub fn price_is_valid(price: &Price)
 pub fn order_is_valid(order: &Order)
     ensures { (accepts : List ℕ → Bool) →
         ⟦<Order as AsnType>⟧.meaning.IsValid accepts order.now }
+{}
+
+/// Each `Payment` is valid.
+pub fn payment_is_valid(payment: &Payment)
+    ensures { (accepts : List ℕ → Bool) → payments.meaning.IsValid accepts payment.now }
 {}
 
 /// A `Signed` is valid if and only if its content is.
