@@ -87,7 +87,8 @@ impl Shows for Signature {
 
 /// Appends what is said inside, where that is not the same.
 fn push_inside(text: &mut String, inside: &Option<Object>) -> Result<(), AllocError>
-    ensures { OnOk result (string_bytes text.new ≡ string_bytes text.old ++ inside_text inside.now) }
+    ensures { OnOk result
+        (string_bytes text.new ≡ string_bytes text.old ++ inside_text inside.now) }
 {
     match inside {
         Some(inside) => push_after(text, ", but inside ", inside),

@@ -48,7 +48,8 @@ fn read_present<T: Decode, D: Decoder>(
         (λ w v. option_eq T.eq w (Some v)) decoder.old decoder.new result }
     ensures same_depth { OnOk result
         (D.reader.depth_left decoder.new ≡ D.reader.depth_left decoder.old) }
-    ensures failed_as_before { OnOk result (D.reader.failed decoder.new ≡ D.reader.failed decoder.old) }
+    ensures failed_as_before { OnOk result
+        (D.reader.failed decoder.new ≡ D.reader.failed decoder.old) }
     ensures has_failed { OnErr result (D.reader.failed decoder.new ≡ true) }
 {
     match read_value(decoder, tag, constraints) {

@@ -20,7 +20,8 @@ pub(crate) fn read_value<T: Decode, D: Decoder>(
         (constraints_or_own constraints.entry T.meaning) decoder.old decoder.new result }
     ensures same_depth { OnOk result
         (D.reader.depth_left decoder.new ≡ D.reader.depth_left decoder.old) }
-    ensures failed_as_before { OnOk result (D.reader.failed decoder.new ≡ D.reader.failed decoder.old) }
+    ensures failed_as_before { OnOk result
+        (D.reader.failed decoder.new ≡ D.reader.failed decoder.old) }
 {
     match constraints {
         None => T::decode_with_tag(decoder, tag),

@@ -229,6 +229,7 @@ pub trait Encoder: Sized {
     }
 
     /// An OCTET STRING.
+    #[inline(always)]
     final fn encode_octet_string(
         &mut self,
         tag: Tag,
@@ -244,6 +245,7 @@ pub trait Encoder: Sized {
     }
 
     /// A UTF8String.
+    #[inline(always)]
     final fn encode_utf8_string(
         &mut self,
         tag: Tag,
@@ -288,6 +290,7 @@ pub trait Encoder: Sized {
     }
 
     /// A VisibleString.
+    #[inline(always)]
     final fn encode_visible_string(
         &mut self,
         tag: Tag,

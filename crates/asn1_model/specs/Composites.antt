@@ -27,7 +27,7 @@ abbrev pub elements_records : {V : Type 0} → (V → List Record) → Tag → C
 elements_records own t c n elements =
     list_records t c (name_or n (Some (codes "SEQUENCE_OF"))) (flat_map own elements)
 
--- A UTF8String of these bytes, in the same way.
+-- A UTF8String of these bytes, under the name that is given, or its own where that is none.
 abbrev pub text_records : Tag → ConstraintSet → Name → List ℕ → List Record
 text_records t c n bytes = scalar t c (name_or n (Some (codes "UTF8String"))) (units utf8 bytes) ∷ []
 
