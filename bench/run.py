@@ -5,6 +5,7 @@ with the codecs over bytes, of which asn1_speed is the program; or tries them, b
     python3 bench/run.py
     python3 bench/run.py --plain
     python3 bench/run.py --codecs
+    python3 bench/run.py --codecs --values
     python3 bench/run.py --stack
     python3 bench/run.py --damage SECONDS
     python3 bench/run.py --growths
@@ -15,10 +16,11 @@ Rust that does the same job, by `rustc -O`, and prints the seconds of processor 
 
 The third builds bench/plain_codecs.rs, and prints for lists of values and chains of nodes, by each codec and both ways: the rate in
 MB a second, that of plain Rust, and the ratio of the times; the instructions for each byte, if valgrind is there; and the peak memory of
-both. The time is that of the processor, the best of five, less what it takes to make the values.
+both. The time is that of the processor, the best of five, less what it takes to make the values. With --values it prints the
+instructions for each value of a list of 1000 and for each node of a chain of 200, those of plain Rust, and how many times as many.
 
-The fourth prints for each type that holds itself how many nested scopes a stack of 8 MiB holds in writing, reading and dropping. The
-fifth damages the bytes of a value of each sample type for this long, by one seed after another. The last refuses each growth of memory
+The next prints for each type that holds itself how many nested scopes a stack of 8 MiB holds in writing, reading and dropping. The
+one after it damages the bytes of a value of each sample type for this long, by one seed after another. The last refuses each growth of memory
 in turn, while a value of each sample type is written and read.
 """
 import os
@@ -202,6 +204,22 @@ def compare_job(folder, plain, job):
     print(f"{text}, peak memory {ours:.1f} and {theirs:.1f} MB", flush=True)
 
 
+# The lists whose values are counted, and the chain whose nodes are.
+COUNTED = {"person": 1000, "profile": 1000, "badge": 1000, "node": 200}
+
+
+def count_instructions():
+    """Prints the instructions that the codecs take for each value, those of plain Rust, and how many times as many."""
+    with tempfile.TemporaryDirectory() as folder:
+        plain = build_plain(folder, "plain_codecs")
+        for name, count in COUNTED.items():
+            for codec in CODECS:
+                for action in ("write", "read"):
+                    programs = [[program, codec, action, name, str(count)] for program in (SPEED_PROGRAM, plain)]
+                    ours, theirs = (cost(instructions_of, folder, words, 1) / count for words in programs)
+                    print(f"{name}, {codec}, {action}: {ours:.0f}, {theirs:.0f}: {ours / theirs:.1f}", flush=True)
+
+
 def reaches(words, step):
     """Whether a program gets past a step on a stack of 8 MiB."""
     limit = lambda: resource.setrlimit(resource.RLIMIT_STACK, (8 << 20, 8 << 20))
@@ -275,7 +293,7 @@ def refused_growths(library, job):
 def main():
     if "--codecs" in sys.argv:
         subprocess.run(["rt", "run"], cwd=SPEED, stdin=subprocess.DEVNULL, check=True)
-        return compare_codecs()
+        return count_instructions() if "--values" in sys.argv else compare_codecs()
     if {"--stack", "--damage", "--growths"} & set(sys.argv):
         subprocess.run(["rt", "run"], cwd=TRIALS, stdin=subprocess.DEVNULL, check=True)
         if "--damage" in sys.argv:

@@ -1,1 +1,1 @@
-mod Refusals
+mod Outcomes

@@ -1,5 +1,5 @@
 -- The certificate that an input has.
-use Rattle.std.specs.Prelude.{◌≡◌, ◌<◌, ℕ, List, true}
+use Rattle.std.specs.Prelude.{◌≡◌, ◌<◌, ◌⊎◌, ℕ, List, false, true}
 use Rattle.asn1_certificate_text.specs.Pem.{AreOctetsOf}
 use Rattle.asn1_der_encoder.specs.Format.{Carries}
 use Rattle.asn1_der_items.specs.Series.{is_one_element}
@@ -13,7 +13,7 @@ use Rattle.asn1_x509.specs.declared.certificate.Certificate.{Certificate}
 abbrev pub records_of : Certificate → List Record
 records_of certificate = own_records certificates.meaning certificate
 
--- the octets are the DER of this certificate, which is valid: each open type in it is one element
+-- The octets are the DER of this certificate, which is valid: each open type in it is one element.
 pub record AreDerOf (octets : List ℕ) (certificate : Certificate) : Type 0 where
   pub carries : Carries octets (records_of certificate)
   pub of_type : certificates.meaning.IsOfType certificate
@@ -23,19 +23,19 @@ pub record AreDerOf (octets : List ℕ) (certificate : Certificate) : Type 0 whe
 abbrev pub IsReadOf : List ℕ → Certificate → Type 0
 IsReadOf octets read = (certificate : Certificate) → AreDerOf octets certificate → equality.eq read certificate ≡ true
 
--- the same of an input, which is octets or a text with their base64
-pub record IsCertificateOf (input : List ℕ) (read : Certificate) : Type 0 where
-  pub octets : List ℕ
-  pub are_octets : AreOctetsOf input octets
-  pub is_read : IsReadOf octets read
-
 -- the octets are the DER of no valid certificate, unless of one that is nested deeper than the 64 scopes that are read
 abbrev pub AreOfNoCertificate : List ℕ → Type 0
 AreOfNoCertificate octets =
     (certificate : Certificate) → AreDerOf octets certificate → 64 < highest (records_of certificate)
 
--- the same of an input
-pub record HasNoCertificate (input : List ℕ) : Type 0 where
+-- The octets are those of an input: an input that is one element is its own octets, whatever text may be in it, and of others the
+-- octets are those of the first certificate in a text, or the input where it has none.
+abbrev pub AreInputOctets : List ℕ → List ℕ → Type 0
+AreInputOctets input octets =
+    ((is_one_element input ≡ true) × (octets ≡ input)) ⊎ ((is_one_element input ≡ false) × AreOctetsOf input octets)
+
+-- The octets of an input were read as this certificate.
+pub record IsCertificateOf (input : List ℕ) (read : Certificate) : Type 0 where
   pub octets : List ℕ
-  pub are_octets : AreOctetsOf input octets
-  pub none : AreOfNoCertificate octets
+  pub are_octets : AreInputOctets input octets
+  pub is_read : IsReadOf octets read

@@ -1,68 +1,45 @@
--- What the program shows, and why it shows nothing.
-use Rattle.std.specs.Prelude.{◌≡◌, ⊤, ℕ, List}
-use Rattle.asn1_certificate.specs.Inputs.{AreDerOf, AreOfNoCertificate, HasNoCertificate, IsCertificateOf, records_of}
-use Rattle.asn1_certificate.specs.declared.show.ShowError.{ShowError}
-use Rattle.asn1_certificate.specs.declared.show.ShowError.TheVariants.{Text, NoElement, NoCertificate, BadString, NotWritten, Memory}
+-- What the program writes.
+use Rattle.std.specs.Prelude.{◌≡◌, ℕ, List, None, Option}
+use Rattle.std.specs.Io.KnownBytes.{Appends, Consumes}
+use Rattle.asn1_certificate.specs.Inputs.{AreDerOf, IsCertificateOf, records_of}
+use Rattle.asn1_certificate_reader.specs.NameFaults.{AnswersName}
 use Rattle.asn1_certificate_reader.specs.Reports.{IsReportOf}
 use Rattle.asn1_certificate_report.specs.Reports.{report_text}
 use Rattle.asn1_certificate_report.specs.declared.report.Report.{Report}
-use Rattle.asn1_certificate_text.specs.PemRefusals.{IsRefusal}
-use Rattle.asn1_der_encoder.specs.Format.{Carries}
-use Rattle.asn1_faults.specs.Faults.{IsFault}
+use Rattle.asn1_der_encoder.specs.Format.{Carries, der_format}
 use Rattle.asn1_x509.specs.declared.certificate.Certificate.{Certificate}
 
--- the lines of a report of the certificate
+-- Each value in the two names of the certificate is one that a name can have.
+pub record HasGoodNames (certificate : Certificate) : Type 0 where
+  pub issuer : AnswersName certificate.tbs_certificate.issuer None
+  pub subject : AnswersName certificate.tbs_certificate.subject None
+
+-- the lines of a report of the certificate, whose names and extensions are read as DER
 pub record AreLinesOf (certificate : Certificate) (bytes : List ℕ) : Type 0 where
   pub report : Report
-  pub of : IsReportOf certificate report
+  pub of : IsReportOf der_format certificate report
   pub are : bytes ≡ report_text report
 
 -- the lines of a report of the certificate of an input
 pub record AreLinesOfInput (input bytes : List ℕ) : Type 0 where
   pub certificate : Certificate
   pub read : IsCertificateOf input certificate
+  pub names : HasGoodNames certificate
   pub are : AreLinesOf certificate bytes
 
 -- the DER of the certificate of an input: where its octets are the DER of a valid certificate, the bytes are so too
 pub record IsDerOfInput (input bytes : List ℕ) : Type 0 where
   pub certificate : Certificate
   pub read : IsCertificateOf input certificate
+  pub names : HasGoodNames certificate
   pub carries : Carries bytes (records_of certificate)
   pub same : (valid : Certificate) → AreDerOf read.octets valid → Carries bytes (records_of valid)
 
--- no element begins at the place that an error names
-abbrev pub IsPlaced : List ℕ → ShowError → Type 0
-IsPlaced octets (Text error) = ⊤
-IsPlaced octets (NoElement place error) = IsFault octets place
-IsPlaced octets (NoCertificate error) = ⊤
-IsPlaced octets BadString = ⊤
-IsPlaced octets (NotWritten error) = ⊤
-IsPlaced octets Memory = ⊤
-
--- memory ran out, or the octets are those of no valid certificate
-abbrev pub IsRefusalOfOctets : List ℕ → ShowError → Type 0
-IsRefusalOfOctets octets (Text error) = ⊥
-IsRefusalOfOctets octets (NoElement place error) = AreOfNoCertificate octets
-IsRefusalOfOctets octets (NoCertificate error) = AreOfNoCertificate octets
-IsRefusalOfOctets octets BadString = ⊥
-IsRefusalOfOctets octets (NotWritten error) = ⊥
-IsRefusalOfOctets octets Memory = ⊤
-
--- the certificate was read: a string in it is none, or it is not written
-abbrev pub IsAboutCertificate : ShowError → Type 0
-IsAboutCertificate (Text error) = ⊥
-IsAboutCertificate (NoElement place error) = ⊥
-IsAboutCertificate (NoCertificate error) = ⊥
-IsAboutCertificate BadString = ⊤
-IsAboutCertificate (NotWritten error) = ⊤
-IsAboutCertificate Memory = ⊤
-
--- Why an input is not shown: it is a text without octets, or its octets are those of no valid certificate; or a string in a name of
--- the certificate that was read is none, or this has no DER; or memory ran out.
-abbrev pub IsRefusalOfInput : List ℕ → ShowError → Type 0
-IsRefusalOfInput input (Text error) = IsRefusal input error
-IsRefusalOfInput input (NoElement place error) = HasNoCertificate input
-IsRefusalOfInput input (NoCertificate error) = HasNoCertificate input
-IsRefusalOfInput input BadString = ⊤
-IsRefusalOfInput input (NotWritten error) = ⊤
-IsRefusalOfInput input Memory = ⊤
+-- A call that reads an input, and writes bytes that are of it by this relation: what remains to be read and what has been written,
+-- each before and after it.
+pub record Converts (IsOfInput : List ℕ → List ℕ → Type 0) (remaining_before remaining contents_before contents : Option (List ℕ)) : Type 0 where
+  pub input : List ℕ
+  pub bytes : List ℕ
+  pub read : Consumes remaining_before remaining input
+  pub are_of_input : IsOfInput input bytes
+  pub written : Appends contents_before contents bytes

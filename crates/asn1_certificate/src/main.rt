@@ -11,6 +11,8 @@
 mod form;
 mod outcome;
 mod show;
+#[cfg(test)]
+mod tests;
 
 use outcome::Outcome;
 use std::io;

@@ -1,7 +1,9 @@
 //! How the program ends.
-ghost use Rattle.std.specs.Prelude.{◌≡◌, List, OnOk, ℕ};
-ghost use Rattle.std.specs.Io.KnownBytes.{Appends, Consumes, IsAtEnd};
-ghost use Rattle.asn1_certificate.specs.Shown.{AreLinesOfInput, IsDerOfInput};
+ghost use Rattle.std.specs.Prelude.{◌≡◌, ◌↔◌, IfErr, IsOk, OnOk};
+ghost use Rattle.std.specs.Io.KnownBytes.{Appends, IsAtEnd};
+ghost use Rattle.asn1_certificate.specs.Refused.{IsFailure, IsRefused, status_after};
+ghost use Rattle.asn1_certificate.specs.Shown.{AreLinesOfInput, Converts, IsDerOfInput};
+ghost use Rattle.asn1_certificate.specs.declared.outcome.Failure.TheVariants.{Writing};
 
 use crate::form::Form;
 use crate::show::{ShowError, written};
@@ -25,20 +27,43 @@ pub(crate) enum Failure {
     Writing,
 }
 
+impl Failure {
+    /// The status of the program after it.
+    fn status(&self) -> u8
+        ensures { result ≡ status_after self.now }
+    {
+        match self {
+            Failure::NotShown(ShowError::Memory) => 2,
+            Failure::NotShown(_) => 1,
+            Failure::Reading => 2,
+            Failure::Writing => 2,
+        }
+    }
+}
+
 /// How the program ends: with a status, and with what `{}` shows of it on standard error.
 #[derive(Clone, Copy)]
 pub(crate) struct Outcome {
+    /// 0 if a certificate was written, 1 if the input is refused, and 2 where memory ran out, or reading or writing failed.
+    pub(crate) status: u8,
     failure: Option<Failure>,
 }
 
 impl Outcome {
-    /// 0 if a certificate was shown, 1 if the input has none, and 2 where memory runs out, or reading or writing fails.
-    fn status(&self) -> u8 {
-        match self.failure {
-            None => 0,
-            Some(Failure::NotShown(ShowError::Memory)) => 2,
-            Some(Failure::NotShown(_)) => 1,
-            Some(Failure::Reading | Failure::Writing) => 2,
+    /// How the program ends after that answer.
+    fn of(answer: Result<(), Failure>) -> Outcome
+        ensures written { (result.status ≡ 0) ↔ IsOk answer }
+        ensures failed { IfErr answer (λ failure. result.status ≡ status_after failure) }
+    {
+        match answer {
+            Ok(()) => Outcome {
+                status: 0,
+                failure: None,
+            },
+            Err(failure) => Outcome {
+                status: failure.status(),
+                failure: Some(failure),
+            },
         }
     }
 }
@@ -54,9 +79,13 @@ impl fmt::Display for Outcome {
 
 /// What `main` answers: the text is printed, and the process ends with the status.
 impl Termination for Outcome {
-    fn report<R: Eprint>(self, rt: &R) -> ExitCode {
+    ghost use Rattle.std.specs.Process.{exit_status};
+
+    fn report<R: Eprint>(self, rt: &R) -> ExitCode
+        ensures { exit_status result ≡ self.status }
+    {
         let _ = rt.eprint(self);
-        ExitCode::from(self.status())
+        ExitCode::from(self.status)
     }
 }
 
@@ -66,10 +95,18 @@ pub(crate) fn shown<R: Read, W: Write>(
     form: Form,
     reader: &mut R,
     writer: &mut W,
-) -> Outcome {
-    Outcome {
-        failure: convert(alloc, form, reader, writer).err(),
-    }
+) -> Outcome
+    ensures read { result.status ≡ 0 → IsAtEnd (R.remaining reader.new) }
+    ensures report { form ≡ Form.Report → result.status ≡ 0 → Converts AreLinesOfInput
+        (R.remaining reader.old) (R.remaining reader.new)
+        (W.contents writer.old) (W.contents writer.new) }
+    ensures der { form ≡ Form.Der → result.status ≡ 0 → Converts IsDerOfInput
+        (R.remaining reader.old) (R.remaining reader.new)
+        (W.contents writer.old) (W.contents writer.new) }
+    ensures refused { result.status ≡ 1 →
+        IsRefused form (R.remaining reader.old) (R.remaining reader.new) }
+{
+    Outcome::of(convert(alloc, form, reader, writer))
 }
 
 /// Writes the certificate that the reader gives in a form.
@@ -80,12 +117,14 @@ fn convert<R: Read, W: Write>(
     writer: &mut W,
 ) -> Result<(), Failure>
     ensures read { OnOk result (IsAtEnd (R.remaining reader.new)) }
-    ensures report { form ≡ Form.Report → OnOk result ((all : List ℕ) × (text : List ℕ) ×
-        Consumes (R.remaining reader.old) (R.remaining reader.new) all × AreLinesOfInput all text ×
-        Appends (W.contents writer.old) (W.contents writer.new) text) }
-    ensures der { form ≡ Form.Der → OnOk result ((all : List ℕ) × (der : List ℕ) ×
-        Consumes (R.remaining reader.old) (R.remaining reader.new) all × IsDerOfInput all der ×
-        Appends (W.contents writer.old) (W.contents writer.new) der) }
+    ensures report { form ≡ Form.Report → OnOk result (Converts AreLinesOfInput
+        (R.remaining reader.old) (R.remaining reader.new)
+        (W.contents writer.old) (W.contents writer.new)) }
+    ensures der { form ≡ Form.Der → OnOk result (Converts IsDerOfInput
+        (R.remaining reader.old) (R.remaining reader.new)
+        (W.contents writer.old) (W.contents writer.new)) }
+    ensures failed { IfErr result
+        (IsFailure form (R.remaining reader.old) (R.remaining reader.new)) }
 {
     let mut input = Vec::new(alloc);
     if reader.read_to_end(&mut input).is_err() {
@@ -99,7 +138,9 @@ fn convert<R: Read, W: Write>(
 
 /// Writes bytes, and hands them on.
 fn write_bytes<W: Write>(bytes: &[u8], writer: &mut W) -> Result<(), Failure>
-    ensures { OnOk result (Appends (W.contents writer.old) (W.contents writer.new) bytes.now) }
+    ensures written { OnOk result
+        (Appends (W.contents writer.old) (W.contents writer.new) bytes.now) }
+    ensures failed { IfErr result (λ failure. failure ≡ Writing) }
 {
     if writer.write_all(bytes).is_err() || writer.flush().is_err() {
         return Err(Failure::Writing);

@@ -1,16 +1,18 @@
 //! An input as a report.
-ghost use Rattle.std.specs.Prelude.{◌≡◌, IfErr, IfOk};
-ghost use Rattle.asn1_certificate.specs.Inputs.{AreOfNoCertificate, IsCertificateOf, IsReadOf, records_of};
-ghost use Rattle.asn1_certificate.specs.Shown.{AreLinesOf, AreLinesOfInput, IsAboutCertificate, IsDerOfInput, IsPlaced, IsRefusalOfInput, IsRefusalOfOctets};
+ghost use Rattle.std.specs.Prelude.{◌≡◌, IfErr, IfOk, OnOk};
+ghost use Rattle.asn1_certificate.specs.Inputs.{AreInputOctets, AreOfNoCertificate, IsCertificateOf, IsReadOf, records_of};
+ghost use Rattle.asn1_certificate.specs.Refused.{IsNotRead, IsRefusalOfCertificate, IsRefusalOfInput, IsRefusalOfOctets, IsRefusalOfText};
+ghost use Rattle.asn1_certificate.specs.Shown.{AreLinesOf, AreLinesOfInput, HasGoodNames, IsDerOfInput};
 ghost use Rattle.asn1_certificate.specs.declared.show.ShowError.TheVariants.{Memory};
 ghost use Rattle.asn1_der_encoder.specs.Format.{Carries};
 
 use crate::form::Form;
-use asn1_certificate_reader::{MAX_DEPTH, has_bad_string, report_of};
+use asn1_certificate_reader::{MAX_DEPTH, NameFault, first_name_fault, report_of};
 use asn1_certificate_report::report_text;
 use asn1_certificate_text::{PemError, certificate_octets};
 use asn1_dec::DecodeError;
 use asn1_der::DerRules;
+use asn1_der_items::is_one_element;
 use asn1_enc::EncodeError;
 use asn1_faults::first_fault;
 use asn1_rules::Rules;
@@ -30,9 +32,12 @@ pub(crate) enum ShowError {
     /// The octets are elements, and those of no certificate.
     #[error("no certificate: {0}")]
     NoCertificate(DecodeError),
-    /// The value of an attribute of a name has the tag of a string, and is none.
-    #[error("no certificate: a string in a name is none")]
-    BadString,
+    /// The name of who issued it has a value that no name can have.
+    #[error("no certificate: in its issuer {0}")]
+    BadIssuer(NameFault),
+    /// The name of whom it is for has one.
+    #[error("no certificate: in its subject {0}")]
+    BadSubject(NameFault),
     /// The certificate was read, and is not written again.
     #[error("not written: {0}")]
     NotWritten(EncodeError),
@@ -54,26 +59,28 @@ pub(crate) fn written(alloc: Global, form: Form, input: Vec<u8>) -> Result<Vec<u
     ensures report { form ≡ Form.Report →
         IfOk result (λ bytes. AreLinesOfInput input.items bytes.items) }
     ensures der { form ≡ Form.Der → IfOk result (λ bytes. IsDerOfInput input.items bytes.items) }
-    ensures refused { IfErr result (IsRefusalOfInput input.items) }
+    ensures refused { IfErr result (IsRefusalOfInput form input.items) }
 {
     let certificate = certificate_of(alloc, input)?;
-    check_names(alloc, &certificate)?;
+    check_names(&certificate)?;
     match form {
         Form::Report => lines_of(alloc, &certificate),
         Form::Der => der_of(alloc, &certificate),
     }
 }
 
-/// Refuses a certificate with a name in which a string is none.
-fn check_names(alloc: Global, certificate: &Certificate) -> Result<(), ShowError>
-    ensures { IfErr result IsAboutCertificate }
+/// Refuses a certificate with a value in a name that no name can have.
+fn check_names(certificate: &Certificate) -> Result<(), ShowError>
+    ensures good { OnOk result (HasGoodNames certificate.now) }
+    ensures refused { (form : Form) →
+        IfErr result (IsRefusalOfCertificate form certificate.now) }
 {
-    let rules = DerRules::new(alloc);
     let signed = &certificate.tbs_certificate;
-    if has_bad_string(&rules, alloc, &signed.issuer)?
-        || has_bad_string(&rules, alloc, &signed.subject)?
-    {
-        return Err(ShowError::BadString);
+    if let Some(fault) = first_name_fault(&signed.issuer) {
+        return Err(ShowError::BadIssuer(fault));
+    }
+    if let Some(fault) = first_name_fault(&signed.subject) {
+        return Err(ShowError::BadSubject(fault));
     }
     Ok(())
 }
@@ -81,7 +88,7 @@ fn check_names(alloc: Global, certificate: &Certificate) -> Result<(), ShowError
 /// The lines that are shown of a certificate.
 fn lines_of(alloc: Global, certificate: &Certificate) -> Result<Vec<u8>, ShowError>
     ensures shown { IfOk result (λ bytes. AreLinesOf certificate.now bytes.items) }
-    ensures refused { IfErr result IsAboutCertificate }
+    ensures memory { IfErr result (λ e. e ≡ Memory) }
 {
     let report = report_of(&DerRules::new(alloc), alloc, certificate)?;
     Ok(report_text(alloc, &report)?.into_bytes())
@@ -90,7 +97,7 @@ fn lines_of(alloc: Global, certificate: &Certificate) -> Result<Vec<u8>, ShowErr
 /// The DER of a certificate.
 fn der_of(alloc: Global, certificate: &Certificate) -> Result<Vec<u8>, ShowError>
     ensures written { IfOk result (λ bytes. Carries bytes.items (records_of certificate.now)) }
-    ensures refused { IfErr result IsAboutCertificate }
+    ensures refused { IfErr result (IsRefusalOfCertificate Form.Der certificate.now) }
 {
     match DerRules::new(alloc).write_value(certificate, MAX_DEPTH) {
         Ok(bytes) => Ok(bytes),
@@ -102,10 +109,25 @@ fn der_of(alloc: Global, certificate: &Certificate) -> Result<Vec<u8>, ShowError
 /// The certificate of an input.
 fn certificate_of(alloc: Global, input: Vec<u8>) -> Result<Certificate, ShowError>
     ensures read { IfOk result (IsCertificateOf input.items) }
-    ensures refused { IfErr result (IsRefusalOfInput input.items) }
+    ensures refused { IfErr result (IsNotRead input.items) }
 {
-    match certificate_octets(alloc, input) {
+    match octets_of(alloc, input) {
         Ok(octets) => read(alloc, &octets),
+        Err(error) => Err(error),
+    }
+}
+
+/// The octets of an input: one element is its own octets, and of others they are those of the first certificate in a text, or the
+/// input where it has none.
+pub(crate) fn octets_of(alloc: Global, input: Vec<u8>) -> Result<Vec<u8>, ShowError>
+    ensures read { IfOk result (λ octets. AreInputOctets input.items octets.items) }
+    ensures refused { IfErr result (IsRefusalOfText input.items) }
+{
+    if is_one_element(input.as_slice()) {
+        return Ok(input);
+    }
+    match certificate_octets(alloc, input) {
+        Ok(octets) => Ok(octets),
         Err(PemError::Memory) => Err(ShowError::Memory),
         Err(error) => Err(ShowError::Text(error)),
     }
@@ -115,7 +137,6 @@ fn certificate_of(alloc: Global, input: Vec<u8>) -> Result<Certificate, ShowErro
 fn read(alloc: Global, octets: &Vec<u8>) -> Result<Certificate, ShowError>
     ensures read { IfOk result (IsReadOf octets.now.items) }
     ensures refused { IfErr result (IsRefusalOfOctets octets.now.items) }
-    ensures placed { IfErr result (IsPlaced octets.now.items) }
 {
     certificate_is_well_tagged();
     match DerRules::new(alloc).read_value(octets, MAX_DEPTH) {
@@ -127,8 +148,7 @@ fn read(alloc: Global, octets: &Vec<u8>) -> Result<Certificate, ShowError>
 
 /// Why octets are not read, with the first place at which no element begins.
 fn refusal(octets: &[u8], error: DecodeError) -> ShowError
-    ensures octets { AreOfNoCertificate octets.now → IsRefusalOfOctets octets.now result }
-    ensures placed { IsPlaced octets.now result }
+    ensures { AreOfNoCertificate octets.now → IsRefusalOfOctets octets.now result }
 {
     match first_fault(octets, MAX_DEPTH) {
         Some(place) => ShowError::NoElement(place, error),

@@ -1,6 +1,8 @@
 -- Versions and times.
-use Rattle.std.specs.Prelude.{◌≡◌, ⊤, ℕ, ℤ, List, pos}
+use Rattle.std.specs.Prelude.{◌≡◌, ◌≢◌, ℕ, ℤ, List, pos}
+use Rattle.std.specs.Str.{chars}
 use Rattle.asn1_certificate_text.specs.MomentTexts.{IsInCalendar, IsOfUtcTime, generalized_time, utc_time}
+use Rattle.asn1_certificate_text.specs.declared.moment.Moment.{Moment as SomeMoment}
 use Rattle.asn1_certificate_report.specs.declared.number.Version.{Version}
 use Rattle.asn1_certificate_report.specs.declared.number.Version.TheVariants.{First, Second, Third, Unknown}
 use Rattle.asn1_certificate_report.specs.declared.time.ShownTime.{ShownTime}
@@ -8,24 +10,27 @@ use Rattle.asn1_certificate_report.specs.declared.time.ShownTime.TheVariants.{Mo
 use Rattle.asn1_x509.specs.declared.time.Time.{Time}
 use Rattle.asn1_x509.specs.declared.time.Time.TheVariants.{Utc, General}
 
--- the number of a version (RFC 5280, 4.1.2.1)
-abbrev pub version_number : Version → ℤ
-version_number First = pos 0
-version_number Second = pos 1
-version_number Third = pos 2
-version_number (Unknown number) = number
+-- the version with this number (RFC 5280, 4.1.2.1); one that there is not is shown by its number
+abbrev pub IsVersionOf : ℤ → Version → Type 0
+IsVersionOf number First = number ≡ pos 0
+IsVersionOf number Second = number ≡ pos 1
+IsVersionOf number Third = number ≡ pos 2
+IsVersionOf number (Unknown shown) = (shown ≡ number) × ((number ≢ pos 0) × ((number ≢ pos 1) × (number ≢ pos 2)))
 
--- a moment is the one that the text of a UTCTime says (RFC 5280, 4.1.2.5.1)
-abbrev pub IsOfUtcText : List ℕ → ShownTime → Type 0
-IsOfUtcText text (Moment m) = IsInCalendar m × (IsOfUtcTime m × (text ≡ utc_time m))
-IsOfUtcText text (Text said) = ⊤
+-- the text of a UTCTime says this moment (RFC 5280, 4.1.2.5.1)
+abbrev pub SaysInUtc : List ℕ → SomeMoment → Type 0
+SaysInUtc text m = IsInCalendar m × (IsOfUtcTime m × (text ≡ utc_time m))
 
--- a moment is the one that the text of a GeneralizedTime says (4.1.2.5.2)
-abbrev pub IsOfGeneralizedText : List ℕ → ShownTime → Type 0
-IsOfGeneralizedText text (Moment m) = IsInCalendar m × (text ≡ generalized_time m)
-IsOfGeneralizedText text (Text said) = ⊤
+-- the text of a GeneralizedTime does (4.1.2.5.2)
+abbrev pub SaysInGeneral : List ℕ → SomeMoment → Type 0
+SaysInGeneral text m = IsInCalendar m × (text ≡ generalized_time m)
+
+-- the moment that a text says, or the text itself where it says none
+abbrev pub IsTextOfTime : (List ℕ → SomeMoment → Type 0) → List ℕ → ShownTime → Type 0
+IsTextOfTime Says text (Moment m) = Says text m
+IsTextOfTime Says text (Text said) = (said.items ≡ chars text) × ((m : SomeMoment) → ¬ Says text m)
 
 -- the same of a time
 abbrev pub IsTimeOf : Time → ShownTime → Type 0
-IsTimeOf (Utc time) shown = IsOfUtcText time.value shown
-IsTimeOf (General time) shown = IsOfGeneralizedText time.value shown
+IsTimeOf (Utc time) shown = IsTextOfTime SaysInUtc time.value shown
+IsTimeOf (General time) shown = IsTextOfTime SaysInGeneral time.value shown

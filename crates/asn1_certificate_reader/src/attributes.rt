@@ -1,11 +1,18 @@
 //! Names and their attributes.
+ghost use Rattle.std.specs.List.{AllZip};
+ghost use Rattle.std.specs.Prelude.{IfOk, reverse};
+ghost use Rattle.asn1_certificate_reader.specs.NamesShown.{IsAttributeOf, IsNameOf, IsOtherValueOf, IsPartOf, IsValueOf};
+
 use crate::characters::{ascii_characters, directory_characters};
 use crate::inside::read_inside;
 use crate::objects::named;
 use asn1_certificate_report::{Attribute, AttributeValue, NamePart, ShownName};
 use asn1_rules::Rules;
 use asn1_strings::Ia5String;
-use asn1_x509::{AttributeTypeAndValue, DirectoryString, Name, RelativeDistinguishedName};
+use asn1_x509::{
+    AttributeTypeAndValue, DirectoryString, Name, RelativeDistinguishedName,
+    directory_string_is_well_tagged,
+};
 use std::alloc::{AllocError, Global};
 
 /// A name by its parts, of which the last comes first.
@@ -13,13 +20,41 @@ pub(crate) fn name_of<R: Rules<Output = Vec<u8>>>(
     rules: &R,
     alloc: Global,
     name: &Name,
-) -> Result<ShownName, AllocError> {
-    let Name::Rdns(sequence) = name;
+) -> Result<ShownName, AllocError>
+    ensures { IfOk result (IsNameOf R.format name.now) }
+{
+    match name {
+        Name::Rdns(given) => name_of_parts(rules, alloc, given.as_slice()),
+    }
+}
+
+/// The same of the parts of a name.
+fn name_of_parts<R: Rules<Output = Vec<u8>>>(
+    rules: &R,
+    alloc: Global,
+    given: &[RelativeDistinguishedName],
+) -> Result<ShownName, AllocError>
+    ensures { IfOk result (λ shown.
+        AllZip (IsPartOf R.format) (reverse given.now) shown.parts.items) }
+{
+    let mut parts = parts_of(rules, alloc, given)?;
+    parts.reverse();
+    Ok(ShownName { parts })
+}
+
+/// The parts of a name, in their order.
+fn parts_of<R: Rules<Output = Vec<u8>>>(
+    rules: &R,
+    alloc: Global,
+    given: &[RelativeDistinguishedName],
+) -> Result<Vec<NamePart>, AllocError>
+    ensures { IfOk result (λ parts. AllZip (IsPartOf R.format) given.now parts.items) }
+{
     let mut parts = Vec::new(alloc);
-    for part in sequence.iter().rev() {
+    for part in given {
         parts.push(part_of(rules, alloc, part)?)?;
     }
-    Ok(ShownName { parts })
+    Ok(parts)
 }
 
 /// A part of a name.
@@ -27,12 +62,28 @@ fn part_of<R: Rules<Output = Vec<u8>>>(
     rules: &R,
     alloc: Global,
     part: &RelativeDistinguishedName,
-) -> Result<NamePart, AllocError> {
+) -> Result<NamePart, AllocError>
+    ensures { IfOk result (IsPartOf R.format part.now) }
+{
+    Ok(NamePart {
+        attributes: attributes_of(rules, alloc, part.iter().as_slice())?,
+    })
+}
+
+/// Attributes, in their order.
+fn attributes_of<R: Rules<Output = Vec<u8>>>(
+    rules: &R,
+    alloc: Global,
+    given: &[AttributeTypeAndValue],
+) -> Result<Vec<Attribute>, AllocError>
+    ensures { IfOk result (λ attributes.
+        AllZip (IsAttributeOf R.format) given.now attributes.items) }
+{
     let mut attributes = Vec::new(alloc);
-    for attribute in part {
+    for attribute in given {
         attributes.push(attribute_of(rules, alloc, attribute)?)?;
     }
-    Ok(NamePart { attributes })
+    Ok(attributes)
 }
 
 /// An attribute with its kind and its value.
@@ -40,7 +91,9 @@ fn attribute_of<R: Rules<Output = Vec<u8>>>(
     rules: &R,
     alloc: Global,
     attribute: &AttributeTypeAndValue,
-) -> Result<Attribute, AllocError> {
+) -> Result<Attribute, AllocError>
+    ensures { IfOk result (IsAttributeOf R.format attribute.now) }
+{
     Ok(Attribute {
         kind: named(alloc, &attribute.attribute)?,
         value: value_of(rules, alloc, attribute.value.as_bytes())?,
@@ -52,12 +105,32 @@ fn value_of<R: Rules<Output = Vec<u8>>>(
     rules: &R,
     alloc: Global,
     octets: &[u8],
-) -> Result<AttributeValue, AllocError> {
-    if let Some(directory) = read_inside::<R, DirectoryString>(rules, alloc, octets)? {
-        return Ok(AttributeValue::Text(directory_characters(alloc, &directory)?));
+) -> Result<AttributeValue, AllocError>
+    ensures { IfOk result (IsValueOf R.format octets.now) }
+{
+    directory_string_is_well_tagged();
+    match read_inside::<R, DirectoryString>(rules, alloc, octets)? {
+        Some(directory) => {
+            let characters = directory_characters(alloc, &directory)?;
+            Ok(AttributeValue::Text(characters))
+        }
+        None => other_value_of(rules, alloc, octets),
     }
-    if let Some(ascii) = read_inside::<R, Ia5String>(rules, alloc, octets)? {
-        return Ok(AttributeValue::Text(ascii_characters(alloc, &ascii)?));
+}
+
+/// A value that is no DirectoryString.
+fn other_value_of<R: Rules<Output = Vec<u8>>>(
+    rules: &R,
+    alloc: Global,
+    octets: &[u8],
+) -> Result<AttributeValue, AllocError>
+    ensures { IfOk result (IsOtherValueOf R.format octets.now) }
+{
+    match read_inside::<R, Ia5String>(rules, alloc, octets)? {
+        Some(ascii) => {
+            let characters = ascii_characters(alloc, &ascii)?;
+            Ok(AttributeValue::Text(characters))
+        }
+        None => Ok(AttributeValue::Octets(Vec::from_slice(alloc, octets)?)),
     }
-    Ok(AttributeValue::Octets(Vec::from_slice(alloc, octets)?))
 }

@@ -1,5 +1,10 @@
 //! The characters of strings.
-use asn1_strings::{BmpString, Ia5String, TeletexString};
+ghost use Rattle.std.specs.Char.Utf16.{utf16_lossy_chars};
+ghost use Rattle.std.specs.Prelude.{◌≡◌, IfOk, map};
+ghost use Rattle.std.specs.Str.{chars};
+ghost use Rattle.asn1_certificate_reader.specs.Characters.{directory_characters, teletex_character};
+
+use asn1_strings::Ia5String;
 use asn1_x509::DirectoryString;
 use std::alloc::{AllocError, Global};
 
@@ -7,32 +12,57 @@ use std::alloc::{AllocError, Global};
 pub(crate) fn directory_characters(
     alloc: Global,
     directory: &DirectoryString,
-) -> Result<Vec<char>, AllocError> {
+) -> Result<Vec<char>, AllocError>
+    ensures { IfOk result (λ characters. characters.items ≡ directory_characters directory.now) }
+{
     match directory {
-        DirectoryString::Teletex(teletex) => teletex_characters(alloc, teletex),
-        DirectoryString::Printable(printable) => printable.as_str().chars().collect(alloc),
-        DirectoryString::Universal(universal) => universal.value.chars().collect(alloc),
-        DirectoryString::Utf8(utf8) => utf8.chars().collect(alloc),
-        DirectoryString::Bmp(bmp) => bmp_characters(alloc, bmp),
+        DirectoryString::Teletex(teletex) => teletex_characters(alloc, teletex.as_slice()),
+        DirectoryString::Printable(printable) => text_characters(alloc, printable.as_str()),
+        DirectoryString::Universal(universal) => text_characters(alloc, universal.value.as_str()),
+        DirectoryString::Utf8(utf8) => text_characters(alloc, utf8.as_str()),
+        DirectoryString::Bmp(bmp) => utf16_characters(alloc, bmp.as_slice()),
     }
 }
 
 /// The characters of an IA5String.
-pub(crate) fn ascii_characters(alloc: Global, ascii: &Ia5String) -> Result<Vec<char>, AllocError> {
-    ascii.as_str().chars().collect(alloc)
+pub(crate) fn ascii_characters(alloc: Global, ascii: &Ia5String) -> Result<Vec<char>, AllocError>
+    ensures { IfOk result (λ characters. characters.items ≡ chars ascii.now) }
+{
+    text_characters(alloc, ascii.as_str())
+}
+
+/// The characters of a text.
+#[tactic(auto, using(std::proofs::lemmas::Str::chars_from_encodes))]
+fn text_characters(alloc: Global, text: &str) -> Result<Vec<char>, AllocError>
+    ensures { IfOk result (λ characters. characters.items ≡ chars text.now) }
+{
+    text.chars().collect(alloc)
 }
 
 /// The units of a TeletexString as characters of Latin-1, as most who write one mean them.
-fn teletex_characters(alloc: Global, teletex: &TeletexString) -> Result<Vec<char>, AllocError> {
+fn teletex_characters(alloc: Global, units: &[u32]) -> Result<Vec<char>, AllocError>
+    ensures { IfOk result (λ characters.
+        characters.items ≡ map teletex_character units.now) }
+{
     let mut characters = Vec::new(alloc);
-    for unit in teletex.as_slice() {
-        characters.push(char::from_u32(*unit).unwrap_or(char::REPLACEMENT_CHARACTER))?;
+    for unit in units {
+        characters.push(teletex_character(*unit))?;
     }
     Ok(characters)
 }
 
-/// The characters of the units of a BMPString, read as UTF-16.
-fn bmp_characters(alloc: Global, bmp: &BmpString) -> Result<Vec<char>, AllocError> {
-    let text = String::from_utf16_lossy(alloc, bmp.as_slice())?;
-    text.chars().collect(alloc)
+/// The character of a unit.
+#[tactic(auto, using(crate::proofs::CharactersOfUnits::character_or_replacement))]
+fn teletex_character(unit: u32) -> char
+    ensures { result ≡ teletex_character unit }
+{
+    char::from_u32(unit).unwrap_or(char::REPLACEMENT_CHARACTER)
+}
+
+/// The characters of units, read as UTF-16.
+fn utf16_characters(alloc: Global, units: &[u16]) -> Result<Vec<char>, AllocError>
+    ensures { IfOk result (λ characters. characters.items ≡ utf16_lossy_chars units.now) }
+{
+    let text = String::from_utf16_lossy(alloc, units)?;
+    text_characters(alloc, text.as_str())
 }

@@ -1,6 +1,8 @@
 //! Extensions.
-ghost use Rattle.std.specs.Prelude.{IfOk};
-ghost use Rattle.asn1_certificate_reader.specs.Reports.{AreExtensionsOf, IsExtensionOf};
+ghost use Rattle.std.specs.List.{AllZip};
+ghost use Rattle.std.specs.Prelude.{◌≡◌, IfOk};
+ghost use Rattle.asn1_certificate_reader.specs.ExtensionValues.{IsAuthority, IsAuthorityOf, IsKeyUsageOf, IsOtherType, IsValueOfKind, path_length_of};
+ghost use Rattle.asn1_certificate_reader.specs.Reports.{IsExtensionOf};
 
 use crate::general_names::general_names_of;
 use crate::inside::read_inside;
@@ -8,11 +10,19 @@ use crate::objects::{all_named, named};
 use crate::simple::{copy_of, octet_number};
 use asn1_certificate_report::{Authority, AuthorityKey, ExtensionValue, ShownExtension};
 use asn1_rules::Rules;
+use asn1_values::Integer;
 use asn1_x509::Extension;
 use asn1_x509_extensions::{
     AuthorityKeyIdentifier, BasicConstraints, GeneralNames, KeyIdentifier, KeyPurposeId, KeyUsage,
+    PathLength, basic_constraints_is_well_tagged,
 };
 use std::alloc::{AllocError, Global};
+
+/// The arcs of `id-ce-keyUsage` (RFC 5280, 4.2.1.3).
+const KEY_USAGE: &[u32] = &[2, 5, 29, 15];
+
+/// The arcs of `id-ce-basicConstraints` (4.2.1.9).
+const BASIC_CONSTRAINTS: &[u32] = &[2, 5, 29, 19];
 
 /// What is shown of extensions.
 pub(crate) fn extensions_of<R: Rules<Output = Vec<u8>>>(
@@ -20,7 +30,7 @@ pub(crate) fn extensions_of<R: Rules<Output = Vec<u8>>>(
     alloc: Global,
     extensions: &[Extension],
 ) -> Result<Vec<ShownExtension>, AllocError>
-    ensures { IfOk result (λ shown. AreExtensionsOf extensions.now shown.items) }
+    ensures { IfOk result (λ shown. AllZip (IsExtensionOf R.format) extensions.now shown.items) }
 {
     let mut shown = Vec::new(alloc);
     for extension in extensions {
@@ -35,7 +45,7 @@ fn extension_of<R: Rules<Output = Vec<u8>>>(
     alloc: Global,
     extension: &Extension,
 ) -> Result<ShownExtension, AllocError>
-    ensures { IfOk result (IsExtensionOf extension.now) }
+    ensures { IfOk result (IsExtensionOf R.format extension.now) }
 {
     Ok(ShownExtension {
         kind: named(alloc, &extension.extension_id)?,
@@ -50,21 +60,46 @@ fn value_of<R: Rules<Output = Vec<u8>>>(
     rules: &R,
     alloc: Global,
     extension: &Extension,
-) -> Result<ExtensionValue, AllocError> {
+) -> Result<ExtensionValue, AllocError>
+    ensures { IfOk result
+        (IsValueOfKind R.format extension.now.extension_id extension.now.value) }
+{
+    let kind = extension.extension_id.as_slice();
     let octets = extension.value.as_slice();
-    let read = match extension.extension_id.as_slice() {
+    if kind == KEY_USAGE {
+        return usages(rules, alloc, octets);
+    }
+    if kind == BASIC_CONSTRAINTS {
+        return authority(rules, alloc, octets);
+    }
+    further_value_of(rules, alloc, kind, octets)
+}
+
+/// The value of an extension of another kind.
+fn further_value_of<R: Rules<Output = Vec<u8>>>(
+    rules: &R,
+    alloc: Global,
+    kind: &[u32],
+    octets: &[u8],
+) -> Result<ExtensionValue, AllocError> {
+    let read = match kind {
         [2, 5, 29, 14] => key_identifier(rules, alloc, octets)?,
-        [2, 5, 29, 15] => usages(rules, alloc, octets)?,
         [2, 5, 29, 17] | [2, 5, 29, 18] => names(rules, alloc, octets)?,
-        [2, 5, 29, 19] => constraints(rules, alloc, octets)?,
         [2, 5, 29, 35] => authority_key(rules, alloc, octets)?,
         [2, 5, 29, 37] => purposes(rules, alloc, octets)?,
         _ => return Ok(ExtensionValue::Octets(Vec::from_slice(alloc, octets)?)),
     };
     match read {
         Some(value) => Ok(value),
-        None => Ok(ExtensionValue::OtherType(Vec::from_slice(alloc, octets)?)),
+        None => other_type(alloc, octets),
     }
+}
+
+/// The octets of a value that is not of the type of its kind.
+fn other_type(alloc: Global, octets: &[u8]) -> Result<ExtensionValue, AllocError>
+    ensures { IfOk result (IsOtherType octets.now) }
+{
+    Ok(ExtensionValue::OtherType(Vec::from_slice(alloc, octets)?))
 }
 
 /// Which key a certificate is for.
@@ -87,13 +122,15 @@ fn usages<R: Rules<Output = Vec<u8>>>(
     rules: &R,
     alloc: Global,
     octets: &[u8],
-) -> Result<Option<ExtensionValue>, AllocError> {
+) -> Result<ExtensionValue, AllocError>
+    ensures { IfOk result (IsKeyUsageOf R.format octets.now) }
+{
     match read_inside::<R, KeyUsage>(rules, alloc, octets)? {
         Some(usage) => {
             let bits = Vec::from_slice(alloc, usage.as_slice())?;
-            Ok(Some(ExtensionValue::Usages(bits)))
+            Ok(ExtensionValue::Usages(bits))
         }
-        None => Ok(None),
+        None => other_type(alloc, octets),
     }
 }
 
@@ -113,22 +150,39 @@ fn names<R: Rules<Output = Vec<u8>>>(
 }
 
 /// Whether a certificate is that of an authority.
-fn constraints<R: Rules<Output = Vec<u8>>>(
+fn authority<R: Rules<Output = Vec<u8>>>(
     rules: &R,
     alloc: Global,
     octets: &[u8],
-) -> Result<Option<ExtensionValue>, AllocError> {
-    let Some(read) = read_inside::<R, BasicConstraints>(rules, alloc, octets)? else {
-        return Ok(None);
-    };
-    let path_length = match &read.path_length {
-        Some(length) => Some(copy_of(alloc, &length.0)?),
-        None => None,
-    };
-    Ok(Some(ExtensionValue::Authority(Authority {
-        is_authority: read.is_authority,
+) -> Result<ExtensionValue, AllocError>
+    ensures { IfOk result (IsAuthorityOf R.format octets.now) }
+{
+    basic_constraints_is_well_tagged();
+    match read_inside::<R, BasicConstraints>(rules, alloc, octets)? {
+        Some(constraints) => authority_of(alloc, &constraints),
+        None => other_type(alloc, octets),
+    }
+}
+
+/// What constraints say of an authority.
+fn authority_of(alloc: Global, constraints: &BasicConstraints) -> Result<ExtensionValue, AllocError>
+    ensures { IfOk result (IsAuthority constraints.now) }
+{
+    let path_length = path_length_of(alloc, &constraints.path_length)?;
+    Ok(ExtensionValue::Authority(Authority {
+        is_authority: constraints.is_authority,
         path_length,
-    })))
+    }))
+}
+
+/// How many certificates may be between, if that is said.
+fn path_length_of(alloc: Global, length: &Option<PathLength>) -> Result<Option<Integer>, AllocError>
+    ensures { IfOk result (λ shown. shown ≡ path_length_of length.now) }
+{
+    match length {
+        Some(length) => Ok(Some(copy_of(alloc, &length.0)?)),
+        None => Ok(None),
+    }
 }
 
 /// Which key of an authority a certificate is signed with.

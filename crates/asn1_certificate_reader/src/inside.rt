@@ -1,4 +1,8 @@
 //! What is inside open types and octets.
+ghost use Rattle.std.specs.Prelude.{IfOk};
+ghost use Rattle.asn1_certificate_reader.specs.Inside.{AreReadAs};
+ghost use Rattle.asn1_model.specs.Meaning.{IsWellTagged};
+
 use asn1_dec::{Decode, DecodeError};
 use asn1_rules::Rules;
 use std::alloc::{AllocError, Global};
@@ -7,16 +11,21 @@ use std::alloc::{AllocError, Global};
 /// more.
 pub const MAX_DEPTH: usize = 64;
 
-/// The value that is all of these octets, where they are read as one.
+/// The value that is all of these octets, where they are read as one. So they are where they are those of a value of the type.
 pub(crate) fn read_inside<R: Rules<Output = Vec<u8>>, T: Decode>(
     rules: &R,
     alloc: Global,
     octets: &[u8],
-) -> Result<Option<T>, AllocError> {
+) -> Result<Option<T>, AllocError>
+    ensures { IsWellTagged T.meaning →
+        IfOk result (AreReadAs R.format T.meaning T.eq octets.now) }
+{
     let owned = Vec::from_slice(alloc, octets)?;
     match rules.read_value(&owned, MAX_DEPTH) {
         Ok(value) => Ok(Some(value)),
-        Err(DecodeError::Memory) => Err(AllocError),
-        Err(_) => Ok(None),
+        Err(error) => match error {
+            DecodeError::Memory => Err(AllocError),
+            _ => Ok(None),
+        },
     }
 }

@@ -1,4 +1,7 @@
 //! Public keys and signatures.
+ghost use Rattle.std.specs.Prelude.{◌≡◌, IfOk};
+ghost use Rattle.asn1_certificate_reader.specs.Algorithms.{IsSignatureOf};
+
 use crate::inside::read_inside;
 use crate::objects::named;
 use crate::simple::copy_of;
@@ -22,7 +25,10 @@ pub(crate) fn key_of<R: Rules<Output = Vec<u8>>>(
     rules: &R,
     alloc: Global,
     key: &SubjectPublicKeyInfo,
-) -> Result<ShownKey, AllocError> {
+) -> Result<ShownKey, AllocError>
+    ensures { IfOk result (λ shown.
+        shown.algorithm.identifier ≡ key.now.algorithm.algorithm) }
+{
     Ok(ShownKey {
         algorithm: named(alloc, &key.algorithm.algorithm)?,
         size: size_of(rules, alloc, key)?,
@@ -100,7 +106,9 @@ pub(crate) fn signature_of(
     alloc: Global,
     beside: &AlgorithmIdentifier,
     inside: &AlgorithmIdentifier,
-) -> Result<Signature, AllocError> {
+) -> Result<Signature, AllocError>
+    ensures { IfOk result (IsSignatureOf beside.now inside.now) }
+{
     let algorithm = named(alloc, &beside.algorithm)?;
     if beside == inside {
         return Ok(Signature {

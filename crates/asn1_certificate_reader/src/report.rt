@@ -1,6 +1,6 @@
 //! What is shown of a certificate.
 ghost use Rattle.std.specs.Prelude.{IfOk};
-ghost use Rattle.asn1_certificate_reader.specs.Reports.{AreAllExtensionsOf, IsReportOf};
+ghost use Rattle.asn1_certificate_reader.specs.Reports.{AreExtensionsOf, IsReportOf};
 
 use crate::attributes::name_of;
 use crate::extensions::extensions_of;
@@ -17,7 +17,7 @@ pub fn report_of<R: Rules<Output = Vec<u8>>>(
     alloc: Global,
     certificate: &Certificate,
 ) -> Result<Report, AllocError>
-    ensures { IfOk result (IsReportOf certificate.now) }
+    ensures { IfOk result (IsReportOf R.format certificate.now) }
 {
     let signed = &certificate.tbs_certificate;
     Ok(Report {
@@ -39,7 +39,7 @@ fn all_extensions<R: Rules<Output = Vec<u8>>>(
     alloc: Global,
     extensions: &Option<Vec<Extension>>,
 ) -> Result<Vec<ShownExtension>, AllocError>
-    ensures { IfOk result (λ shown. AreAllExtensionsOf extensions.now shown.items) }
+    ensures { IfOk result (λ shown. AreExtensionsOf R.format extensions.now shown.items) }
 {
     match extensions {
         Some(extensions) => extensions_of(rules, alloc, extensions.as_slice()),

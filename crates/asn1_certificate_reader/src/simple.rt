@@ -1,7 +1,7 @@
 //! Versions, numbers and times.
 ghost use Rattle.std.specs.Prelude.{◌≡◌, IfOk};
 ghost use Rattle.asn1_values.specs.Numbers.{IsShortest, magnitude, signed};
-ghost use Rattle.asn1_certificate_reader.specs.Simple.{IsOfGeneralizedText, IsOfUtcText, IsTimeOf, version_number};
+ghost use Rattle.asn1_certificate_reader.specs.Simple.{IsTextOfTime, IsTimeOf, IsVersionOf, SaysInGeneral, SaysInUtc};
 
 use asn1_certificate_report::{OctetNumber, ShownTime, Version};
 use asn1_certificate_text::Moment;
@@ -12,7 +12,7 @@ use std::alloc::{AllocError, Global};
 
 /// The version of this number.
 pub(crate) fn version_of(alloc: Global, number: &Integer) -> Result<Version, AllocError>
-    ensures { IfOk result (λ version. version_number version ≡ number.now) }
+    ensures { IfOk result (IsVersionOf number.now) }
 {
     match number.to_i128() {
         Some(0) => Ok(Version::First),
@@ -54,8 +54,9 @@ pub(crate) fn time_of(alloc: Global, time: &Time) -> Result<ShownTime, AllocErro
 }
 
 /// The same of the text of a UTCTime.
+#[tactic(auto, using(std::proofs::lemmas::Str::chars_from_encodes))]
 fn utc_time_of(alloc: Global, text: &VisibleString) -> Result<ShownTime, AllocError>
-    ensures { IfOk result (IsOfUtcText text.now) }
+    ensures { IfOk result (IsTextOfTime SaysInUtc text.now) }
 {
     match Moment::from_utc_time(text.as_slice()) {
         Some(moment) => Ok(ShownTime::Moment(moment)),
@@ -64,8 +65,9 @@ fn utc_time_of(alloc: Global, text: &VisibleString) -> Result<ShownTime, AllocEr
 }
 
 /// The same of the text of a GeneralizedTime.
+#[tactic(auto, using(std::proofs::lemmas::Str::chars_from_encodes))]
 fn generalized_time_of(alloc: Global, text: &VisibleString) -> Result<ShownTime, AllocError>
-    ensures { IfOk result (IsOfGeneralizedText text.now) }
+    ensures { IfOk result (IsTextOfTime SaysInGeneral text.now) }
 {
     match Moment::from_generalized_time(text.as_slice()) {
         Some(moment) => Ok(ShownTime::Moment(moment)),

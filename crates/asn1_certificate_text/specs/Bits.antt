@@ -1,5 +1,5 @@
 -- Bits of keys.
-use Rattle.std.specs.Prelude.{◌≡◌, ℕ, zero, suc, ◌+◌, ◌-◌, ◌<◌, ◌≤◌, ◌^◌, Bool, true, false, ◌||◌, ◌==◌, List, [], ◌++◌, codes, slice_get, unwrap_or, if◌then◌else◌}
+use Rattle.std.specs.Prelude.{ℕ, zero, suc, ◌-◌, ◌<◌, ◌≤◌, ◌^◌, Bool, false, ◌||◌, ◌==◌, List, [], ◌++◌, codes, slice_get, unwrap_or, if◌then◌else◌}
 
 -- a number of n bits: it is below 2 to the n, and not below half of that
 pub record IsBitLength (number n : ℕ) : Type 0 where

@@ -1,5 +1,5 @@
 -- The values of attributes in the text of a name (RFC 4514, 2.4).
-use Rattle.std.specs.Prelude.{ℕ, zero, suc, ◌+◌, Bool, ◌||◌, ◌&&◌, ◌==◌, nat_lt, nat_le, List, [], ◌∷◌, ◌++◌, length, slice_index, codes, encode_utf8, if◌then◌else◌}
+use Rattle.std.specs.Prelude.{ℕ, zero, suc, ◌+◌, Bool, ◌||◌, ◌&&◌, ◌==◌, nat_lt, nat_le, List, [], ◌++◌, length, slice_index, codes, encode_utf8, if◌then◌else◌}
 use Rattle.asn1_values.specs.Text.{byte_text}
 
 -- one of the controls of ASCII or of Latin-1

@@ -3,6 +3,7 @@ pub mod Bits
 pub mod Escapes
 pub mod MomentTexts
 pub mod Moments
+pub mod Objects
 pub mod Octets
 pub mod Pem
 pub mod PemRefusals

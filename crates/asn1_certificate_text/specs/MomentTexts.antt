@@ -1,5 +1,5 @@
 -- Moments, and the texts of which they are read (RFC 5280, 4.1.2.5).
-use Rattle.std.specs.Prelude.{◌≤◌, ◌<◌, ℕ, ◌/◌, List, [], ◌∷◌, ◌++◌, codes}
+use Rattle.std.specs.Prelude.{◌≤◌, ◌<◌, ℕ, ◌/◌, List, ◌++◌, codes}
 use Rattle.asn1_certificate_text.specs.declared.moment.Moment.{Moment}
 use Rattle.asn1_certificate_text.specs.Moments.{days_in_month, two_digits}
 

@@ -1,35 +1,53 @@
--- A certificate in a text (RFC 7468).
-use Rattle.std.specs.Prelude.{◌≡◌, ◌⊎◌, ℕ, Bool, not, List, ◌++◌, None, Ok, Some, codes, filter}
+-- A certificate in a text (RFC 7468, 2 and 5).
+use Rattle.std.specs.Prelude.{◌≡◌, ◌+◌, ◌⊎◌, ℕ, Bool, not, List, None, Ok, Some, codes, drop, filter, length, take}
 use Rattle.std.specs.Char.{is_ascii_whitespace}
 use Rattle.base64.specs.Engines.{standard}
 use Rattle.base64.specs.GeneralPurpose.{decode_of}
 use Rattle.memchr.specs.Find.{FindsNeedle}
 
+-- the line before a certificate
+abbrev pub begin_line : List ℕ
+begin_line = codes "-----BEGIN CERTIFICATE-----"
+
+-- the line after one
+abbrev pub end_line : List ℕ
+end_line = codes "-----END CERTIFICATE-----"
+
 -- a byte that is no white space
 abbrev pub is_symbol : ℕ → Bool
 is_symbol byte = not (is_ascii_whitespace byte)
 
--- the body is between a line before a certificate and a line after one
-pub record Encloses (text body : List ℕ) : Type 0 where
-  pub front : List ℕ
-  pub back : List ℕ
-  pub parts : text ≡ front ++ (codes "-----BEGIN CERTIFICATE-----" ++
-      (body ++ (codes "-----END CERTIFICATE-----" ++ back)))
-
--- the octets are those that the base64 between two such lines says
-pub record HoldsCertificate (text octets : List ℕ) : Type 0 where
-  pub body : List ℕ
-  pub encloses : Encloses text body
-  pub says : decode_of standard (filter is_symbol body) ≡ Ok octets
-
 -- there is no line before a certificate
 abbrev pub HasNoBegin : List ℕ → Type 0
-HasNoBegin text = FindsNeedle text (codes "-----BEGIN CERTIFICATE-----") 0 None
+HasNoBegin text = FindsNeedle text begin_line 0 None
 
 -- there is such a line, and this is where the first begins
 pub record HasBegin (text : List ℕ) : Type 0 where
   pub place : ℕ
-  pub found : FindsNeedle text (codes "-----BEGIN CERTIFICATE-----") 0 (Some place)
+  pub found : FindsNeedle text begin_line 0 (Some place)
+
+-- the first line before a certificate ends at `start`
+pub record BeginsAt (text : List ℕ) (start : ℕ) : Type 0 where
+  pub place : ℕ
+  pub found : FindsNeedle text begin_line 0 (Some place)
+  pub behind : start ≡ place + length begin_line
+
+-- The body begins where the first line before a certificate ends, and is as long as it takes to the next line after one.
+pub record EnclosesAt (text : List ℕ) (start : ℕ) (body : List ℕ) : Type 0 where
+  pub begins : BeginsAt text start
+  pub ends : FindsNeedle (drop start text) end_line 0 (Some (length body))
+  pub between : body ≡ take (length body) (drop start text)
+
+-- the body is between the first line before a certificate and the next line after one
+pub record Encloses (text body : List ℕ) : Type 0 where
+  pub start : ℕ
+  pub at_start : EnclosesAt text start body
+
+-- the octets are those that the base64 between these two lines says
+pub record HoldsCertificate (text octets : List ℕ) : Type 0 where
+  pub body : List ℕ
+  pub encloses : Encloses text body
+  pub says : decode_of standard (filter is_symbol body) ≡ Ok octets
 
 -- the octets are those of the certificate in a text, or the input itself, which is no text with a certificate
 abbrev pub AreOctetsOf : List ℕ → List ℕ → Type 0

@@ -12,13 +12,19 @@
 //!
 //! What the contracts promise, and the words that they use:
 //!
-//! - The octets of a text with a certificate are those that the base64 between its two lines says, white space left out
-//!   (`HoldsCertificate` of `specs/Pem.antt`). An error says which byte of the text it is about.
+//! - The octets of a text with a certificate are those that the base64 between the first line before a certificate and
+//!   the next line after one says, white space left out (`HoldsCertificate` of `specs/Pem.antt`). A text holds the octets
+//!   of one certificate at most (`texts_hold_one_certificate` of [`laws`]).
+//! - An error says which byte of the text it is about: where the first line before a certificate ends, if there is none
+//!   after it; where the symbol is that base64 refuses; or where the base64 ends that is not whole (`IsRefusal` of
+//!   `specs/PemRefusals.antt`).
 //! - What is appended is said character by character: `escaped_text` of `specs/Escapes.antt`, `octets_text` of
 //!   `specs/Octets.antt`, `usages_text` of `specs/Bits.antt`. No control character is written as it is.
 //! - A time is read as a moment if and only if it is written as RFC 5280 asks, and the moment is in the calendar
-//!   (`read` and `only` of [`Moment`], with the words of `specs/Moments.antt`).
-//! - An object is found by its arcs (`found`).
+//!   (`read` and `only` of [`Moment`], with the words of `specs/MomentTexts.antt`).
+//! - An object is found by its arcs if and only if a row of the table has these (`found`, `missing`), and has the name of
+//!   such a row (`listed`). That the rows say what the standards say is data, and no clause.
+//! - Moments and errors are compared by what they are (`derives_keep_what_a_value_is` of [`laws`]).
 //!
 //! The calls that append to a text fail only if memory runs out, and then have appended a part.
 #![tactic(auto)]
@@ -26,6 +32,7 @@
 mod address;
 mod bits;
 mod escapes;
+pub mod laws;
 mod moment;
 mod objects;
 mod octets;

@@ -1,5 +1,6 @@
 //! Object identifiers by name.
-ghost use Rattle.std.specs.Prelude.{◌≡◌, IfSome};
+ghost use Rattle.std.specs.Prelude.{◌≡◌, Contains, IfNone, IfSome, map};
+ghost use Rattle.asn1_certificate_text.specs.Objects.{NamesCurve, NamesObject};
 
 mod table;
 
@@ -26,15 +27,57 @@ pub struct Curve {
 }
 
 /// The object of these arcs, where it is in the table.
-pub fn object_named(arcs: &[u32]) -> Option<&'static NamedObject>
-    ensures found { IfSome result (λ object. object.now.arcs.now ≡ arcs.now) }
+pub fn object_named(arcs: &[u32]) -> Option<NamedObject>
+    ensures found { IfSome result (λ object. object.arcs.now ≡ arcs.now) }
+    ensures listed { IfSome result (λ object. NamesObject
+        (map (λ row. (row.0.now, row.1.now)) OBJECTS.now) arcs.now object.name.now) }
+    ensures missing { IfNone result (¬ Contains (map (λ row. row.0.now) OBJECTS.now) arcs.now) }
 {
-    OBJECTS.iter().find(|object| object.arcs == arcs)
+    object_in(OBJECTS, arcs)
 }
 
 /// The curve of these arcs, where it is in the table.
-pub fn curve_of(arcs: &[u32]) -> Option<&'static Curve>
-    ensures found { IfSome result (λ curve. curve.now.arcs.now ≡ arcs.now) }
+pub fn curve_of(arcs: &[u32]) -> Option<Curve>
+    ensures found { IfSome result (λ curve. curve.arcs.now ≡ arcs.now) }
+    ensures listed { IfSome result (λ curve. NamesCurve
+        (map (λ row. (row.0.now, row.1.now, row.2)) CURVES.now)
+        arcs.now curve.name.now curve.bits) }
+    ensures missing { IfNone result (¬ Contains (map (λ row. row.0.now) CURVES.now) arcs.now) }
 {
-    CURVES.iter().find(|curve| curve.arcs == arcs)
+    curve_in(CURVES, arcs)
+}
+
+/// The object of these arcs in a table.
+fn object_in(table: &'static [(&'static [u32], &'static str)], arcs: &[u32]) -> Option<NamedObject>
+    ensures found { IfSome result (λ object. object.arcs.now ≡ arcs.now) }
+    ensures listed { IfSome result (λ object. NamesObject
+        (map (λ row. (row.0.now, row.1.now)) table.now) arcs.now object.name.now) }
+    ensures missing { IfNone result (¬ Contains (map (λ row. row.0.now) table.now) arcs.now) }
+{
+    for (known, name) in table {
+        if *known == arcs {
+            return Some(NamedObject { arcs: known, name });
+        }
+    }
+    None
+}
+
+/// The curve of these arcs in a table.
+fn curve_in(table: &'static [(&'static [u32], &'static str, u32)], arcs: &[u32]) -> Option<Curve>
+    ensures found { IfSome result (λ curve. curve.arcs.now ≡ arcs.now) }
+    ensures listed { IfSome result (λ curve. NamesCurve
+        (map (λ row. (row.0.now, row.1.now, row.2)) table.now)
+        arcs.now curve.name.now curve.bits) }
+    ensures missing { IfNone result (¬ Contains (map (λ row. row.0.now) table.now) arcs.now) }
+{
+    for (known, name, bits) in table {
+        if *known == arcs {
+            return Some(Curve {
+                arcs: known,
+                name,
+                bits: *bits,
+            });
+        }
+    }
+    None
 }

@@ -1,10 +1,10 @@
 //! A certificate in a text (RFC 7468).
-ghost use Rattle.std.specs.Prelude.{◌≡◌, IfErr, IfOk, Ok, false, filter, true};
+ghost use Rattle.std.specs.Prelude.{◌≡◌, ◌+◌, ◌<◌, ◌≤◌, ◌^◌, Err, IfErr, IfOk, Ok, false, filter, length, true};
 ghost use Rattle.base64.specs.Engines.{standard};
 ghost use Rattle.base64.specs.GeneralPurpose.{decode_of};
-ghost use Rattle.asn1_certificate_text.specs.Pem.{AreOctetsOf, Encloses, HasBegin, HasNoBegin, HoldsCertificate, is_symbol};
+ghost use Rattle.asn1_certificate_text.specs.Pem.{AreOctetsOf, EnclosesAt, HasBegin, HasNoBegin, HoldsCertificate, is_symbol};
 ghost use Rattle.asn1_certificate_text.specs.declared.pem.PemError.TheVariants.{Memory};
-ghost use Rattle.asn1_certificate_text.specs.PemRefusals.{IsAboutBase64, IsRefusal, IsRefusalOfBody};
+ghost use Rattle.asn1_certificate_text.specs.PemRefusals.{IsAboutBase64, IsPlaceOfSymbol, IsRefusal, IsRefusalOfBody};
 
 use base64::engine::general_purpose::STANDARD;
 use base64::{DecodeAllocError, DecodeError};
@@ -24,13 +24,13 @@ pub enum PemError {
     /// There is no line before a certificate.
     #[error("there is no line -----BEGIN CERTIFICATE-----")]
     NoBegin,
-    /// From this place on there is no line after it.
+    /// The first line before a certificate ends at this place, and behind it there is no line after one.
     #[error("there is no line -----END CERTIFICATE----- after byte {0}")]
     NoEnd(usize),
-    /// What is at this place is not what base64 has there.
+    /// At this place is a symbol that base64 refuses there.
     #[error("byte {0} is not base64")]
     BadSymbol(usize),
-    /// What ends at this place is no whole base64.
+    /// The base64 that ends at this place is not whole.
     #[error("the base64 before byte {0} is not whole")]
     NotWhole(usize),
     /// There was no memory.
@@ -88,7 +88,8 @@ pub fn pem_octets(alloc: Global, text: &[u8]) -> Result<Vec<u8>, PemError>
 
 /// What is between the first line before a certificate and the next line after one, and where it begins.
 fn enclosed(text: &[u8]) -> Result<(usize, &[u8]), PemError>
-    ensures found { IfOk result (λ found. Encloses text.now found.1.now) }
+    ensures found { IfOk result (λ found. EnclosesAt text.now found.0 found.1.now) }
+    ensures fits { IfOk result (λ found. found.0 + length found.1.now < 2 ^ 64) }
     ensures refused { IfErr result (IsRefusal text.now) }
 {
     let Some(begin) = memmem::find(text, BEGIN) else {
@@ -102,11 +103,12 @@ fn enclosed(text: &[u8]) -> Result<(usize, &[u8]), PemError>
     Ok((start, &rest[..length]))
 }
 
-/// The octets that base64 says, which begins at this place of the text.
+/// The octets that the base64 in a body says, which begins at `start` in the text.
 fn body_octets(alloc: Global, start: usize, body: &[u8]) -> Result<Vec<u8>, PemError>
+    requires { start + length body.now < 2 ^ 64 }
     ensures read { IfOk result (λ octets. decode_of standard (filter is_symbol body.now) ≡
         Ok octets.items) }
-    ensures refused { IfErr result (IsRefusalOfBody body.now) }
+    ensures refused { IfErr result (IsRefusalOfBody start body.now) }
 {
     let symbols = symbols_of(alloc, body)?;
     match STANDARD.decode(alloc, symbols.as_slice()) {
@@ -126,24 +128,31 @@ fn symbols_of(alloc: Global, body: &[u8]) -> Result<Vec<u8>, AllocError>
         .collect(alloc)
 }
 
-/// The error about symbols as one about the text in which they are.
+/// The error about the symbols of a body as one about the text in which this begins at `start`.
 fn error_at(start: usize, body: &[u8], error: DecodeError) -> PemError
-    ensures { IsAboutBase64 result }
+    requires fits { start + length body.now < 2 ^ 64 }
+    requires refused { decode_of standard (filter is_symbol body.now) ≡ Err error }
+    ensures { IsAboutBase64 start body.now result }
 {
-    let end = start.saturating_add(body.len());
     match error {
         DecodeError::InvalidByte(symbol, _) => {
-            PemError::BadSymbol(start.saturating_add(place_of_symbol(body, symbol)))
+            PemError::BadSymbol(start + place_of_symbol(body, symbol))
         }
         DecodeError::InvalidLastSymbol { offset, .. } => {
-            PemError::BadSymbol(start.saturating_add(place_of_symbol(body, offset)))
+            PemError::BadSymbol(start + place_of_symbol(body, offset))
         }
-        DecodeError::InvalidLength(_) | DecodeError::InvalidPadding => PemError::NotWhole(end),
+        DecodeError::InvalidLength(_) | DecodeError::InvalidPadding => {
+            PemError::NotWhole(start + body.len())
+        }
     }
 }
 
 /// The place of the symbol before which there are this many: the length where there are no more.
-fn place_of_symbol(body: &[u8], before: usize) -> usize {
+fn place_of_symbol(body: &[u8], before: usize) -> usize
+    ensures within { result ≤ length body.now }
+    ensures found { before < length (filter is_symbol body.now) →
+        IsPlaceOfSymbol body.now before result }
+{
     let mut left = before;
     for (place, byte) in body.iter().enumerate() {
         if !byte.is_ascii_whitespace() {

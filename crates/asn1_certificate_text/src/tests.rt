@@ -192,3 +192,13 @@ fn texts_have_certificates(rt: HostRuntime) {
         Err(PemError::NotWhole(34)),
     );
 }
+
+#[test]
+fn the_first_certificate_of_a_text_is_read(rt: HostRuntime) {
+    assert_pem(
+        &rt,
+        rt.alloc(),
+        b"-----BEGIN CERTIFICATE-----\nMAMC\n-----END CERTIFICATE-----\n-----BEGIN CERTIFICATE-----\nAQE=\n-----END CERTIFICATE-----\n",
+        Ok(&[0x30, 3, 2]),
+    );
+}

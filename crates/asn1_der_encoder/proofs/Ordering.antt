@@ -1,11 +1,11 @@
 -- Sorted pieces are elements in order.
 use Rattle.std.proofs.Common.{rules, ◌≡◌, ℕ, ◌+◌, ◌<◌, Bool, true, false, List, [], ◌∷◌, map, length, get_or, refl, sym, ap, subst, ◌∙◌, arith}
 use Rattle.std.proofs.lemmas.List.{get_or-map, length-map}
-use Rattle.std.proofs.lemmas.List.Sorted.{All-permutation, IsPermutation-map}
+use Rattle.std.proofs.lemmas.List.Sorted.{All-permutation, IsPermutation-map, IsPermutation-refl}
 use Rattle.std.specs.Cmp.Lexicographic.{slice_cmp}
-use Rattle.std.specs.List.{flat_map}
-use Rattle.std.specs.List.Sorted.{IsSortedBy}
-use Rattle.std.specs.Ordering.{is_lt, nat_cmp, ordering_then}
+use Rattle.std.specs.List.{IsAllAdjacentAnswer, flat_map}
+use Rattle.std.specs.List.Sorted.{IsSorted, IsSortedBy}
+use Rattle.std.specs.Ordering.{is_ge, is_lt, nat_cmp, ordering_then}
 use Rattle.std.specs.declared.cmp.Ordering.{Ordering}
 use Rattle.std.specs.declared.cmp.Ordering.TheVariants.{Less, Equal, Greater}
 use Rattle.std.specs.Prelude.{All, IsPermutation}
@@ -13,7 +13,7 @@ use Rattle.asn1_tags.specs.Tags.{tag_cmp}
 use Rattle.asn1_tags.specs.contracts.tags.TagOrd.TheImpl.{ghosts as tag_ord}
 use Rattle.asn1_tags.specs.declared.tags.Tag.{Tag}
 use Rattle.asn1_der_encoder.proofs.Pieces.{bytes_of_pieces}
-use Rattle.asn1_der_encoder.specs.Sorting.{ArePieces, AreSorted, IsInOrder, key_of}
+use Rattle.asn1_der_encoder.specs.Sorting.{AreJoined, ArePieces, AreSorted, IsInOrder, key_of, piece_cmp}
 use Rattle.asn1_der_encoder.specs.contracts.sorting.PieceOrd.TheImpl.{ghosts as piece_ord}
 use Rattle.asn1_der_encoder.specs.declared.sorting.Order.{Order}
 use Rattle.asn1_der_encoder.specs.declared.sorting.Order.TheVariants.{Tags, Encodings}
@@ -36,14 +36,10 @@ first_not_below Less b e = cc
 first_not_below Equal b e = refl
 first_not_below Greater b e = refl
 
--- how pieces compare: by their keys, and then by their bytes
-abbrev pub piece_cmp : Piece → Piece → Ordering
-piece_cmp p q = ordering_then (tag_cmp p.key q.key) (slice_cmp nat_cmp p.bytes.now q.bytes.now)
-
 tag_order : (s t : Tag) → tag_ord.cmp s t ≡ tag_cmp s t
 tag_order s t = search rules
 
-piece_order : (p q : Piece) → piece_ord.cmp p q ≡ piece_cmp p q
+pub piece_order : (p q : Piece) → piece_ord.cmp p q ≡ piece_cmp p q
 piece_order p q = ap (λ o. ordering_then o (slice_cmp nat_cmp p.bytes.now q.bytes.now)) (tag_order p.key q.key)
 
 in_order : (order : Order) (ps : List Piece) → All (λ p. p.key ≡ key_of order (tag_of p.bytes.now)) ps → IsSortedBy (λ p q. is_lt (piece_cmp p q)) ps → IsInOrder order (map (λ p. p.bytes.now) ps)
@@ -60,11 +56,31 @@ in_order Encodings ps keyed sorted =
     sorted
 
 -- what was made of sorted pieces
-pub sorted_pieces : (order : Order) (elements : List (List ℕ)) (old new : List Piece) (bytes : List ℕ) → ArePieces order elements old →
-    IsPermutation old new → IsSortedBy (λ p q. is_lt (piece_ord.cmp p q)) new → bytes ≡ flat_map (λ p. p.bytes.now) new → AreSorted order elements bytes
-sorted_pieces order elements old new bytes pieces moved sorted are = record {
-  sorted = map (λ p. p.bytes.now) new;
-  moved = subst (λ es. IsPermutation es (map (λ p. p.bytes.now) new)) pieces.are (IsPermutation-map (λ (p : Piece). p.bytes.now) old new moved);
-  in_order = in_order order new (All-permutation (λ p. p.key ≡ key_of order (tag_of p.bytes.now)) old new moved pieces.keys) (λ k d low high. ap is_lt (sym (piece_order (get_or new (k + 1) d) (get_or new k d))) ∙ sorted k d low high);
-  are = are ∙ bytes_of_pieces new;
-}
+module _ (order : Order) (elements : List (List ℕ)) (old new : List Piece) (bytes : List ℕ) where
+  sorted_by : ArePieces order elements old → IsPermutation old new → IsSorted piece_cmp new → bytes ≡ flat_map (λ p. p.bytes.now) new → AreSorted order elements bytes
+  sorted_by pieces moved sorted are = record {
+    sorted = map (λ p. p.bytes.now) new;
+    moved = subst (λ es. IsPermutation es (map (λ p. p.bytes.now) new)) pieces.are (IsPermutation-map (λ (p : Piece). p.bytes.now) old new moved);
+    in_order = in_order order new (All-permutation (λ p. p.key ≡ key_of order (tag_of p.bytes.now)) old new moved pieces.keys) sorted;
+    are = are ∙ bytes_of_pieces new;
+  }
+
+  pub sorted_pieces : ArePieces order elements old → IsPermutation old new → IsSorted piece_ord.cmp new → bytes ≡ flat_map (λ p. p.bytes.now) new → AreSorted order elements bytes
+  sorted_pieces pieces moved sorted are =
+      sorted_by pieces moved (λ k d low high. ap is_lt (sym (piece_order (get_or new (k + 1) d) (get_or new k d))) ∙ sorted k d low high) are
+
+-- what is not below is not less
+not_less : (o : Ordering) → true ≡ is_ge o → is_lt o ≡ false
+not_less Less e = cc
+not_less Equal e = refl
+not_less Greater e = refl
+
+-- neighbours of which none comes before the one in front of it
+pub neighbours_sorted : (ps : List Piece) (answer : Bool) → IsAllAdjacentAnswer (λ p q b. b ≡ is_ge (piece_cmp q p)) ps answer → answer ≡ true → IsSorted piece_cmp ps
+neighbours_sorted ps true each is = λ k d low high. not_less (piece_cmp (get_or ps (k + 1) d) (get_or ps k d)) (each k d high)
+neighbours_sorted ps false each is = cc
+
+-- pieces that are in order as they are
+pub sorted_as_they_are : (order : Order) (elements : List (List ℕ)) (ps : List Piece) (inside : List ℕ) → AreJoined elements inside → ArePieces order elements ps → IsSorted piece_cmp ps → AreSorted order elements inside
+sorted_as_they_are order elements ps inside joined pieces sorted =
+    sorted_by order elements ps ps inside pieces (IsPermutation-refl ps) sorted (joined.are ∙ ap (flat_map (λ e. e)) (sym pieces.are) ∙ sym (bytes_of_pieces ps))

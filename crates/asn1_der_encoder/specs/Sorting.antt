@@ -1,11 +1,16 @@
 -- Elements in the orders that DER has inside sets.
-use Rattle.std.specs.Prelude.{◌≡◌, ℕ, IsPermutation, IsTrue, List, All, map}
+use Rattle.std.specs.Prelude.{◌≡◌, ℕ, IsPermutation, IsTrue, List, None, Option, Some, Vec, All, map}
+use Rattle.std.specs.Cmp.Lexicographic.{slice_cmp}
+use Rattle.std.specs.declared.alloc.Global.{Global}
+use Rattle.std.specs.declared.cmp.Ordering.{Ordering}
 use Rattle.std.specs.List.{flat_map}
+use Rattle.std.specs.Ordering.{nat_cmp, ordering_then}
 use Rattle.asn1_der_encoder.specs.declared.sorting.Order.{Order}
 use Rattle.asn1_der_encoder.specs.declared.sorting.Order.TheVariants.{Tags, Encodings}
 use Rattle.asn1_der_encoder.specs.declared.sorting.Piece.{Piece}
 use Rattle.asn1_der_encoder.specs.declared.sorting.Cut.{Cut}
 use Rattle.asn1_der_items.specs.Series.{RiseByEncoding, RiseByTag, is_one_element, tag_of}
+use Rattle.asn1_tags.specs.Tags.{tag_cmp}
 use Rattle.asn1_tags.specs.declared.classes.Class.TheVariants.{Universal}
 use Rattle.asn1_tags.specs.declared.tags.Tag.{Tag}
 
@@ -34,6 +39,15 @@ pub record IsCutAs (order : Order) (own back : List ℕ) (cut : Cut) : Type 0 wh
   pub bytes : cut.piece.bytes.now ≡ own
   pub rest : cut.rest.now ≡ back
   pub key : cut.piece.key ≡ key_of order (tag_of own)
+
+-- how pieces compare: by their keys, and then by their bytes
+abbrev pub piece_cmp : Piece → Piece → Ordering
+piece_cmp p q = ordering_then (tag_cmp p.key q.key) (slice_cmp nat_cmp p.bytes.now q.bytes.now)
+
+-- the bytes that were made, or these where none were
+abbrev pub items_or : List ℕ → Option (Vec ℕ Global) → List ℕ
+items_or bytes None = bytes
+items_or bytes (Some made) = made.items
 
 -- The bytes consist of these elements, which have been sorted.
 pub record AreSorted (order : Order) (elements : List (List ℕ)) (bytes : List ℕ) : Type 0 where

@@ -6,12 +6,11 @@ ghost use Rattle.asn1_der_items.specs.declared.error.ElementError.TheVariants as
 ghost use Rattle.asn1_model.specs.Records.{Head};
 ghost use Rattle.std.specs.Prelude.{◌≡◌, ◌↔◌};
 
-use crate::elements::is_one_element;
 use crate::frame::Frame;
 use crate::holding::{begin, hold};
 use asn1_bounds::Codec;
 use asn1_buffers::{MarkKind, RecordBuffer, ScopeKind, WriteError};
-use asn1_der_items::{ElementError, append_primitive};
+use asn1_der_items::{ElementError, append_primitive, is_one_element};
 use asn1_der_records::ScopeForm;
 use asn1_items::Content;
 use asn1_tags::Tag;

@@ -1,8 +1,8 @@
-//! Whether bytes are one element, and the bytes from a place on.
+//! Whether bytes are one element at most, and the bytes from a place on.
 ghost use Rattle.asn1_der_items.specs.Series.{IsElementOf, is_one_element};
 ghost use Rattle.std.specs.Prelude.{◌≡◌, ◌↔◌, ◌⊎◌, ◌++◌, [], IsSomeAnd, IsTrue, List, length, ℕ};
 
-use asn1_der_items::find_element;
+use asn1_der_items::{find_element, is_one_element};
 use asn1_tags::Tag;
 
 /// The bytes from a place on, if there are as many before it.
@@ -14,16 +14,6 @@ pub(crate) fn bytes_from(bytes: &[u8], start: usize) -> Option<&[u8]>
         return None;
     };
     Some(inside)
-}
-
-/// Whether the bytes are one element.
-pub(crate) fn is_one_element(bytes: &[u8]) -> bool
-    ensures { result ≡ is_one_element bytes.now }
-{
-    match find_element(bytes) {
-        Ok(element) => element.rest.is_empty(),
-        Err(_) => false,
-    }
 }
 
 /// Whether there are no bytes, or they are one element.

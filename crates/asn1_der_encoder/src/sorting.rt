@@ -1,9 +1,11 @@
 //! Elements in the orders that DER has inside sets.
 ghost use Rattle.asn1_buffers.specs.declared.error.WriteError.TheVariants.{Memory};
 ghost use Rattle.asn1_der_encoder.specs.Holding.{SortsElements};
-ghost use Rattle.asn1_der_encoder.specs.Sorting.{AreJoined, ArePieces, AreSorted, IsCutAs, key_of};
+ghost use Rattle.asn1_der_encoder.specs.Sorting.{AreJoined, ArePieces, AreSorted, IsCutAs, items_or, key_of, piece_cmp};
 ghost use Rattle.asn1_der_items.specs.Series.{is_one_element};
 ghost use Rattle.std.specs.List.{flat_map};
+ghost use Rattle.std.specs.List.Sorted.{IsSorted};
+ghost use Rattle.std.specs.Ordering.{is_ge};
 ghost use Rattle.std.specs.Prelude.{◌≡◌, ◌++◌, ◌<◌, IfOk, IfSome, IsSomeAnd, IsTrue, List, MatchResult, length, ℕ};
 
 use crate::elements::{bytes_from, is_at_most_one};
@@ -35,7 +37,8 @@ struct Cut<'a> {
     rest: &'a [u8],
 }
 
-/// Sorts the elements of which the bytes consist from a place on. One element takes no memory.
+/// Sorts the elements of which the bytes consist from a place on. Where they are in order they stay as they are, and one element
+/// takes no memory.
 ///
 /// # Errors
 /// [`WriteError::Memory`]; and [`WriteError::Rejected`] where there are no such elements. After an error nothing is promised about
@@ -54,20 +57,44 @@ pub(crate) fn sort_elements(
     if is_at_most_one(inside) {
         return Ok(());
     }
-    let sorted = sorted_elements(alloc, inside, order)?;
+    let Some(sorted) = sorted_elements(alloc, inside, order)? else {
+        return Ok(());
+    };
     bytes.truncate(start);
     bytes.extend_from_slice(&sorted)?;
     Ok(())
 }
 
-/// The elements of which these bytes consist, in their order.
-fn sorted_elements(alloc: Global, inside: &[u8], order: Order) -> Result<Vec<u8>, WriteError>
+/// The elements of which these bytes consist, in their order; or nothing where they are in it as they are.
+fn sorted_elements(
+    alloc: Global,
+    inside: &[u8],
+    order: Order,
+) -> Result<Option<Vec<u8>>, WriteError>
     ensures { (elements : List (List ℕ)) → AreJoined elements inside.now →
-        MatchResult result (λ sorted. AreSorted order elements sorted.items) (λ e. e ≡ Memory) }
+        MatchResult result (λ sorted. AreSorted order elements (items_or inside.now sorted))
+        (λ e. e ≡ Memory) }
 {
     let mut pieces = split(alloc, inside, order)?;
+    if are_in_order(&pieces) {
+        return Ok(None);
+    }
     pieces.sort()?;
-    Ok(joined(alloc, &pieces)?)
+    Ok(Some(joined(alloc, &pieces)?))
+}
+
+/// Whether no piece comes before the one in front of it.
+fn are_in_order(pieces: &[Piece<'_>]) -> bool
+    ensures { IsTrue result → IsSorted piece_cmp pieces.now }
+{
+    pieces.is_sorted_by(may_follow)
+}
+
+/// Whether the second piece does not come before the first.
+fn may_follow(first: &Piece<'_>, second: &Piece<'_>) -> bool
+    ensures { result ≡ is_ge (piece_cmp second.now first.now) }
+{
+    second.cmp(first).is_ge()
 }
 
 /// The elements of which these bytes consist, one after another.

@@ -2,7 +2,7 @@
 ghost use Rattle.asn1_items.specs.Numbers.{Appended};
 ghost use Rattle.asn1_der_items.specs.Elements.{Element as Seen, EndsElement, IsBegun, element_at, element_of};
 ghost use Rattle.asn1_der_items.specs.Contents.{HasContents, HasNoContents};
-ghost use Rattle.asn1_der_items.specs.Series.{HoldsContents};
+ghost use Rattle.asn1_der_items.specs.Series.{HoldsContents, is_one_element};
 ghost use Rattle.asn1_der_items.specs.declared.error.ElementError.TheVariants.{Memory};
 ghost use Rattle.asn1_items.specs.Contents.{content_of};
 ghost use Rattle.std.specs.Prelude.{◌≡◌, ◌≢◌, IfErr, IfOk, IsOk, Some, false};
@@ -50,6 +50,16 @@ pub fn find_element(bytes: &[u8]) -> Result<Element<'_>, ItemError>
         contents,
         rest,
     })
+}
+
+/// Whether the bytes are one element, and nothing else.
+pub fn is_one_element(bytes: &[u8]) -> bool
+    ensures { result ≡ is_one_element bytes.now }
+{
+    match find_element(bytes) {
+        Ok(element) => element.rest.is_empty(),
+        Err(_) => false,
+    }
 }
 
 /// Begins an element: appends its identifier octets, and an octet in the place of its length. Its contents octets are to follow, and

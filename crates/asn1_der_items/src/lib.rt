@@ -2,7 +2,7 @@
 //!
 //! | Item | What it is |
 //! |---|---|
-//! | [`find_element`], [`Element`] | the element with which some bytes begin |
+//! | [`find_element`], [`Element`], [`is_one_element`] | the element with which some bytes begin, and whether they are one |
 //! | [`begin_element`], [`end_element`] | write an element around its contents octets |
 //! | [`append_primitive`], [`append_contents`] | writes an element of a content, and the contents octets alone |
 //! | [`append_integer`], [`read_integer`] | the contents octets of an INTEGER and an ENUMERATED |
@@ -46,7 +46,9 @@ mod teletex;
 pub use arcs_read::read_arcs;
 pub use arcs_written::append_arcs;
 pub use contents::append_contents;
-pub use elements::{Element, append_primitive, begin_element, end_element, find_element};
+pub use elements::{
+    Element, append_primitive, begin_element, end_element, find_element, is_one_element,
+};
 pub use error::ElementError;
 pub use integers::{append_integer, read_integer};
 pub use teletex::append_teletex;

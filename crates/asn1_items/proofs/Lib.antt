@@ -4,6 +4,7 @@ mod Headers
 pub mod Items
 mod Lists
 mod Octets
+mod OctetsWritten
 mod Twos
 mod Writing
 mod SizedItems

@@ -16,23 +16,9 @@ pub record BitsAppended (bits : List Bool) (before bytes : List ℕ) (left : Lis
   pub bits_are : bits ≡ bits_of_octets octets ++ left
   pub same_rest : length left % 8 ≡ length bits % 8
 
-flat-more : (octets : List ℕ) (o : ℕ) → bits_of_octets (octets ++ o ∷ []) ≡ bits_of_octets octets ++ bits_of_octet o
+pub flat-more : (octets : List ℕ) (o : ℕ) → bits_of_octets (octets ++ o ∷ []) ≡ bits_of_octets octets ++ bits_of_octet o
 flat-more [] o = refl
 flat-more (x ∷ octets) o = ap (λ l. bits_of_octet x ++ l) (flat-more octets o)
-
-pub starts : (bits : List Bool) (before bytes : List ℕ) → bytes ≡ before ++ unused_of bits ∷ [] → BitsAppended bits before bytes bits
-starts bits before bytes is = record { octets = []; bytes_are = is; bits_are = refl; same_rest = refl }
-
-pub step : (bits left rest : List Bool) (before bytes all : List ℕ) (o : ℕ) → 8 ≤ length left → rest ≡ drop 8 left → all ≡ bytes ++ o ∷ [] →
-    bits_of_octet o ≡ get_or left 0 false ∷ get_or left 1 false ∷ get_or left 2 false ∷ get_or left 3 false ∷ get_or left 4 false ∷ get_or left 5 false ∷ get_or left 6 false ∷ get_or left 7 false ∷ [] →
-    BitsAppended bits before bytes left → BitsAppended bits before all rest
-step bits (a ∷ b ∷ c ∷ d ∷ e ∷ f ∷ g ∷ h ∷ left) rest before bytes all o long rest_is all_is is m = record {
-  octets = m.octets ++ o ∷ [];
-  bytes_are = all_is ∙ ap (λ l. l ++ o ∷ []) m.bytes_are ∙ append_assoc before (unused_of bits ∷ m.octets) (o ∷ []);
-  bits_are = m.bits_are ∙ ap (λ l. bits_of_octets m.octets ++ (l ++ left)) (sym is) ∙ sym (append_assoc (bits_of_octets m.octets) (bits_of_octet o) left) ∙ ap (λ l. l ++ left) (sym (flat-more m.octets o)) ∙ ap (λ l. bits_of_octets (m.octets ++ o ∷ []) ++ l) (sym rest_is);
-  same_rest = omega (arith, m.same_rest, ap length rest_is);
-}
-step bits _ rest before bytes all o long rest_is all_is is m = absurd (omega arith)
 
 pub no_rest : (bits left : List Bool) (before bytes : List ℕ) → left ≡ [] → BitsAppended bits before bytes left → Appended (AreBits bits) before bytes
 no_rest bits left before bytes none m =

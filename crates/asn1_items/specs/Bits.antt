@@ -1,5 +1,5 @@
 -- Bits as octets (X.690, 8.6.2): the first bit is the highest of the first octet.
-use Rattle.std.specs.Prelude.{◌≡◌, ◌<◌, ◌/◌, ◌%◌, ◌==◌, ℕ, Bool, false, List, [], ◌∷◌, ◌++◌, replicate}
+use Rattle.std.specs.Prelude.{◌≡◌, ◌<◌, ◌*◌, ◌/◌, ◌%◌, ◌==◌, ℕ, Bool, false, List, [], ◌∷◌, ◌++◌, length, replicate, take}
 use Rattle.std.specs.List.{flat_map}
 
 -- the bit that is worth so much
@@ -10,10 +10,6 @@ bit_of_worth octet worth = octet / worth % 2 == 1
 abbrev pub bits_of_octet : ℕ → List Bool
 bits_of_octet o = bit_of_worth o 128 ∷ bit_of_worth o 64 ∷ bit_of_worth o 32 ∷ bit_of_worth o 16 ∷
     bit_of_worth o 8 ∷ bit_of_worth o 4 ∷ bit_of_worth o 2 ∷ (o % 2 == 1) ∷ []
-
--- the four bits of half an octet
-abbrev pub bits_of_half : ℕ → List Bool
-bits_of_half h = bit_of_worth h 8 ∷ bit_of_worth h 4 ∷ bit_of_worth h 2 ∷ (h % 2 == 1) ∷ []
 
 -- the bits of several octets
 abbrev pub bits_of_octets : List ℕ → List Bool
@@ -26,3 +22,9 @@ pub record AreBits (bits : List Bool) (bytes : List ℕ) : Type 0 where
   pub are : bytes ≡ unused ∷ octets
   pub few : unused < 8
   pub same : bits_of_octets octets ≡ bits ++ replicate unused false
+
+-- The bytes up to a place are as they were, and the others are the octets of these bits, but for those that are no whole octet.
+pub record AreOctetsOf (bits : List Bool) (start : ℕ) (old new : List ℕ) : Type 0 where
+  pub octets : List ℕ
+  pub are : new ≡ take start old ++ octets
+  pub same : bits_of_octets octets ≡ take (length bits / 8 * 8) bits

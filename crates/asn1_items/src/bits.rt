@@ -1,9 +1,9 @@
 //! Bits as octets, the first bit the highest.
-ghost use Rattle.asn1_items.specs.Bits.{AreBits, bits_of_half, bits_of_octet, bits_of_octets};
+ghost use Rattle.asn1_items.specs.Bits.{AreBits, AreOctetsOf, bits_of_octet, bits_of_octets};
 ghost use Rattle.asn1_items.specs.Numbers.{Appended};
 ghost use Rattle.asn1_items.specs.declared.error.ItemError.TheVariants.{Memory};
 ghost use Rattle.std.specs.Bool.{Decides};
-ghost use Rattle.std.specs.Prelude.{◌≡◌, ◌<◌, ◌≤◌, ◌-◌, ◌∷◌, ◌++◌, [], Bool, IfOk, IfSome, List, MatchResult, None, false, length, replicate};
+ghost use Rattle.std.specs.Prelude.{◌≡◌, ◌<◌, ◌≤◌, ◌+◌, ◌-◌, ◌*◌, ◌/◌, ◌∷◌, ◌++◌, [], Bool, IfOk, IfSome, List, MatchResult, None, false, length, replicate, take};
 
 use crate::error::ItemError;
 use std::alloc::{AllocError, Global};
@@ -12,18 +12,47 @@ use std::alloc::{AllocError, Global};
 pub(crate) fn append_bits(bytes: &mut Vec<u8>, bits: &[bool]) -> Result<(), AllocError>
     ensures { IfOk result (λ _. Appended (AreBits bits.now) bytes.old.items bytes.new.items) }
 {
-    let last = bits.len() % 8;
-    bytes.reserve(bits.len() / 8 + 2)?;
-    bytes.push(((8 - last) % 8) as u8)?;
-    let mut left = bits;
-    while let [a, b, c, d, e, f, g, h, rest @ ..] = left {
-        bytes.push(octet_of(*a, *b, *c, *d, *e, *f, *g, *h))?;
-        left = rest;
-    }
-    match last_octet(left) {
-        Some(octet) => bytes.extend_from_slice(&[octet]),
+    let whole = bits.len() / 8;
+    bytes.reserve(whole + 2)?;
+    bytes.push(((8 - bits.len() % 8) % 8) as u8)?;
+    let start = bytes.len();
+    bytes.resize(start + whole, 0)?;
+    write_octets(bytes.as_mut_slice(), start, bits);
+    match last_octet(&bits[whole * 8..]) {
+        Some(octet) => {
+            bytes.push(octet)?;
+            Ok(())
+        }
         None => Ok(()),
     }
+}
+
+/// Writes the octets of bits over the bytes from a place on, but for the bits that are no whole octet.
+fn write_octets(bytes: &mut [u8], start: usize, bits: &[bool])
+    requires { start + length bits.now / 8 ≡ length bytes.old }
+    ensures { AreOctetsOf bits.now start bytes.old bytes.new }
+{
+    for place in 0..bits.len() / 8 {
+        bytes[start + place] = octet_at(bits, place * 8);
+    }
+}
+
+/// The octet of the eight bits from a place on.
+#[inline(always)]
+fn octet_at(bits: &[bool], start: usize) -> u8
+    requires { start + 8 ≤ length bits.now }
+    ensures { take (start + 8) bits.now ≡ take start bits.now ++ bits_of_octet result }
+{
+    octet_of(
+        bits[start],
+        bits[start + 1],
+        bits[start + 2],
+        bits[start + 3],
+        bits[start + 4],
+        bits[start + 5],
+        bits[start + 6],
+        bits[start + 7],
+    )
 }
 
 /// The octet of these bits, the highest first.
@@ -91,47 +120,37 @@ fn are_clear(bits: &[bool]) -> bool
 fn bits_in(alloc: Global, octets: &[u8]) -> Result<Vec<bool>, AllocError>
     ensures { IfOk result (λ v. v.items ≡ bits_of_octets octets.now) }
 {
-    let mut bits = Vec::with_capacity(alloc, octets.len().saturating_mul(8))?;
-    let mut left = octets;
-    while let [octet, rest @ ..] = left {
-        push_octet(&mut bits, *octet)?;
-        left = rest;
-    }
+    let Some(count) = octets.len().checked_mul(8) else {
+        return Err(AllocError);
+    };
+    let mut bits = Vec::from_elem(alloc, false, count)?;
+    write_bits(bits.as_mut_slice(), octets);
     Ok(bits)
 }
 
-/// Appends the bits of an octet, the highest first.
-#[inline(always)]
-fn push_octet(bits: &mut Vec<bool>, octet: u8) -> Result<(), AllocError>
-    ensures { IfOk result (λ _. bits.new.items ≡ bits.old.items ++ bits_of_octet octet) }
+/// Writes the bits of octets over others, the highest of each octet first.
+fn write_bits(bits: &mut [bool], octets: &[u8])
+    requires { length bits.old ≡ length octets.now * 8 }
+    ensures { bits.new ≡ bits_of_octets octets.now }
 {
-    bits.extend_from_slice(bits_of_half(octet / 16))?;
-    bits.extend_from_slice(bits_of_half(octet % 16))?;
-    Ok(())
+    for place in 0..octets.len() {
+        write_octet(bits, place * 8, octets[place]);
+    }
 }
 
-/// The four bits of half an octet, the highest first.
+/// Writes the bits of an octet over the eight from a place on.
 #[inline(always)]
-fn bits_of_half(half: u8) -> &'static [bool]
-    requires { half < 16 }
-    ensures { result.now ≡ bits_of_half half }
+fn write_octet(bits: &mut [bool], start: usize, octet: u8)
+    requires { start + 8 ≤ length bits.old }
+    ensures written { take (start + 8) bits.new ≡ take start bits.old ++ bits_of_octet octet }
+    ensures long { length bits.new ≡ length bits.old }
 {
-    match half {
-        0 => &[false, false, false, false],
-        1 => &[false, false, false, true],
-        2 => &[false, false, true, false],
-        3 => &[false, false, true, true],
-        4 => &[false, true, false, false],
-        5 => &[false, true, false, true],
-        6 => &[false, true, true, false],
-        7 => &[false, true, true, true],
-        8 => &[true, false, false, false],
-        9 => &[true, false, false, true],
-        10 => &[true, false, true, false],
-        11 => &[true, false, true, true],
-        12 => &[true, true, false, false],
-        13 => &[true, true, false, true],
-        14 => &[true, true, true, false],
-        _ => &[true, true, true, true],
-    }
+    bits[start] = octet / 128 % 2 == 1;
+    bits[start + 1] = octet / 64 % 2 == 1;
+    bits[start + 2] = octet / 32 % 2 == 1;
+    bits[start + 3] = octet / 16 % 2 == 1;
+    bits[start + 4] = octet / 8 % 2 == 1;
+    bits[start + 5] = octet / 4 % 2 == 1;
+    bits[start + 6] = octet / 2 % 2 == 1;
+    bits[start + 7] = octet % 2 == 1;
 }

@@ -88,16 +88,16 @@ pub(crate) fn write_length(bytes: &mut Vec<u8>, start: usize) -> Result<(), Buff
     let Ok(size) = u32::try_from(end - start) else {
         return Err(BufferError::TooLong);
     };
-    patch(bytes, start, size);
+    patch(bytes.as_mut_slice(), start, size);
     Ok(())
 }
 
 /// Writes a length over the four bytes that end at a place.
 #[inline(always)]
-fn patch(bytes: &mut Vec<u8>, start: usize, size: u32)
-    ensures { (before place inside : List ℕ) → bytes.old.items ≡ before ++ (place ++ inside) →
+fn patch(bytes: &mut [u8], start: usize, size: u32)
+    ensures { (before place inside : List ℕ) → bytes.old ≡ before ++ (place ++ inside) →
         length place ≡ 4 → start ≡ length before + 4 →
-        bytes.new.items ≡ before ++ (four_bytes size ++ inside) }
+        bytes.new ≡ before ++ (four_bytes size ++ inside) }
 {
     if start < 4 || bytes.len() < start {
         return;

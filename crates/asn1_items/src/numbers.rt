@@ -53,8 +53,8 @@ pub(crate) fn append_signed(
     negative: bool,
     digits: &[u8],
 ) -> Result<(), AllocError>
-    ensures appended { (z : ℤ) → signed negative (magnitude digits.now) ≡ z → IsShortest digits.now →
-        (IsTrue negative ↔ (z <ℤ pos 0)) →
+    ensures appended { (z : ℤ) → signed negative (magnitude digits.now) ≡ z →
+        IsShortest digits.now → (IsTrue negative ↔ (z <ℤ pos 0)) →
         IfOk result (λ _. Appended (IsInteger z) bytes.old.items bytes.new.items) }
     ensures long { OnOk result
         (length bytes.new.items ≡ length bytes.old.items + 1 + length digits.now) }

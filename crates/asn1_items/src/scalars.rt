@@ -84,7 +84,7 @@ fn push_integer(
 fn push_narrow(bytes: &mut Vec<u8>, tag: Tag, content: u8, number: i128) -> Result<(), BufferError>
     ensures appended { IfOk result (λ _.
         Appended (Holds (IsInteger number) 1 tag (content ∷ [])) bytes.old.items bytes.new.items) }
-    ensures memory { IfErr result (λ e. ¬ (e ≢ Memory)) }
+    ensures memory { IfErr result (λ e. e ≡ Memory) }
 {
     let absolute = number.unsigned_abs();
     push_absolute(bytes, tag, content, number.is_negative(), absolute)
@@ -102,7 +102,7 @@ fn push_absolute(
     ensures appended { (z : ℤ) → unsigned_abs z ≡ absolute →
         (IsTrue negative ↔ (z <ℤ pos 0)) → IfOk result (λ _.
         Appended (Holds (IsInteger z) 1 tag (content ∷ [])) bytes.old.items bytes.new.items) }
-    ensures memory { IfErr result (λ e. ¬ (e ≢ Memory)) }
+    ensures memory { IfErr result (λ e. e ≡ Memory) }
 {
     if let Ok(small) = u32::try_from(absolute) {
         let digits = small.to_be_bytes();
@@ -124,7 +124,7 @@ fn push_wide(
     ensures appended { (z : ℤ) → unsigned_abs z ≡ absolute →
         (IsTrue negative ↔ (z <ℤ pos 0)) → IfOk result (λ _.
         Appended (Holds (IsInteger z) 1 tag (content ∷ [])) bytes.old.items bytes.new.items) }
-    ensures memory { IfErr result (λ e. ¬ (e ≢ Memory)) }
+    ensures memory { IfErr result (λ e. e ≡ Memory) }
 {
     let digits = absolute.to_be_bytes();
     push_signed(bytes, tag, content, negative, significant(&digits))
@@ -143,7 +143,7 @@ fn push_signed(
     ensures appended { (z : ℤ) → signed negative (magnitude digits.now) ≡ z →
         IsShortest digits.now → (IsTrue negative ↔ (z <ℤ pos 0)) → IfOk result (λ _.
         Appended (Holds (IsInteger z) 1 tag (content ∷ [])) bytes.old.items bytes.new.items) }
-    ensures memory { IfErr result (λ e. ¬ (e ≢ Memory)) }
+    ensures memory { IfErr result (λ e. e ≡ Memory) }
 {
     push_sized_header(bytes, tag, content, digits.len() + 1)?;
     append_signed(bytes, negative, digits)?;

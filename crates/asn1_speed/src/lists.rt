@@ -26,6 +26,7 @@ pub(crate) fn run<R: Rules<Output = Vec<u8>>>(
     }
 }
 
+/// Does a request with a list of numbered values.
 fn run_list<T: Encode + Decode + Numbered, R: Rules<Output = Vec<u8>>>(
     rt: &impl Print,
     alloc: Global,
@@ -38,6 +39,7 @@ fn run_list<T: Encode + Decode + Numbered, R: Rules<Output = Vec<u8>>>(
     }
 }
 
+/// Does a request with a chain of nodes.
 fn run_nodes<R: Rules<Output = Vec<u8>>>(
     rt: &impl Print,
     alloc: Global,
@@ -79,6 +81,7 @@ fn repeated<T: Encode + Decode, R: Rules<Output = Vec<u8>>>(
     Ok(bytes)
 }
 
+/// The bytes of a value, with as many nested scopes as it takes.
 fn written<T: Encode, R: Rules<Output = Vec<u8>>>(
     rules: &R,
     value: &T,

@@ -1,1 +1,2 @@
 mod ParcelLaws
+pub mod ValidValues

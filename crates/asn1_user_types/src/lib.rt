@@ -13,6 +13,7 @@
 //!
 //! - Each type is written and read by any codec. Each but the CHOICE types is told to be well tagged (`price_is_well_tagged` and
 //!   the like); of a [`Payment`] it is what `signed_payment_comes_back` rests on, and of a [`Parcel`] a lemma (proofs/ParcelLaws).
+//! - Each value of these is valid, and a [`Signed`] if and only if its content is (`price_is_valid` and the like).
 //! - A signed order or payment is read back as it was written, by any codec (`signed_order_comes_back`).
 //!
 //! So one name in `crates.txt` is enough for each kind of type. Only a clause that has the meaning of a CHOICE in it by its type, as
@@ -27,6 +28,7 @@ mod parcel_reader;
 mod payment;
 mod price;
 mod signed;
+mod validity;
 
 pub use currency::{Currency, currency_is_well_tagged};
 pub use order::{Order, order_is_well_tagged};
@@ -36,3 +38,4 @@ pub use price::{Price, price_is_well_tagged};
 pub use signed::{
     Signed, signed_is_well_tagged, signed_order_comes_back, signed_payment_comes_back,
 };
+pub use validity::{currency_is_valid, order_is_valid, price_is_valid, signed_is_valid};

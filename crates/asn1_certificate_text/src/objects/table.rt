@@ -1,342 +1,95 @@
 //! The objects that have names here, and the curves.
-use crate::objects::{Curve, NamedObject};
 
-/// The objects, by what they are.
-pub(super) const OBJECTS: &[NamedObject] = &[
+/// The arcs and the names of the objects, by what they are.
+pub(super) const OBJECTS: &[(&[u32], &str)] = &[
     // Kinds of attribute (RFC 4514, 3, and RFC 5280, A.1).
-    NamedObject {
-        arcs: &[2, 5, 4, 3],
-        name: "CN",
-    },
-    NamedObject {
-        arcs: &[2, 5, 4, 4],
-        name: "SN",
-    },
-    NamedObject {
-        arcs: &[2, 5, 4, 5],
-        name: "serialNumber",
-    },
-    NamedObject {
-        arcs: &[2, 5, 4, 6],
-        name: "C",
-    },
-    NamedObject {
-        arcs: &[2, 5, 4, 7],
-        name: "L",
-    },
-    NamedObject {
-        arcs: &[2, 5, 4, 8],
-        name: "ST",
-    },
-    NamedObject {
-        arcs: &[2, 5, 4, 9],
-        name: "STREET",
-    },
-    NamedObject {
-        arcs: &[2, 5, 4, 10],
-        name: "O",
-    },
-    NamedObject {
-        arcs: &[2, 5, 4, 11],
-        name: "OU",
-    },
-    NamedObject {
-        arcs: &[2, 5, 4, 12],
-        name: "title",
-    },
-    NamedObject {
-        arcs: &[2, 5, 4, 41],
-        name: "name",
-    },
-    NamedObject {
-        arcs: &[2, 5, 4, 42],
-        name: "GN",
-    },
-    NamedObject {
-        arcs: &[2, 5, 4, 43],
-        name: "initials",
-    },
-    NamedObject {
-        arcs: &[2, 5, 4, 44],
-        name: "generationQualifier",
-    },
-    NamedObject {
-        arcs: &[2, 5, 4, 46],
-        name: "dnQualifier",
-    },
-    NamedObject {
-        arcs: &[2, 5, 4, 65],
-        name: "pseudonym",
-    },
-    NamedObject {
-        arcs: &[2, 5, 4, 97],
-        name: "organizationIdentifier",
-    },
-    NamedObject {
-        arcs: &[0, 9, 2342, 19200300, 100, 1, 25],
-        name: "DC",
-    },
-    NamedObject {
-        arcs: &[0, 9, 2342, 19200300, 100, 1, 1],
-        name: "UID",
-    },
-    NamedObject {
-        arcs: &[1, 2, 840, 113549, 1, 9, 1],
-        name: "emailAddress",
-    },
+    (&[2, 5, 4, 3], "CN"),
+    (&[2, 5, 4, 4], "SN"),
+    (&[2, 5, 4, 5], "serialNumber"),
+    (&[2, 5, 4, 6], "C"),
+    (&[2, 5, 4, 7], "L"),
+    (&[2, 5, 4, 8], "ST"),
+    (&[2, 5, 4, 9], "STREET"),
+    (&[2, 5, 4, 10], "O"),
+    (&[2, 5, 4, 11], "OU"),
+    (&[2, 5, 4, 12], "title"),
+    (&[2, 5, 4, 41], "name"),
+    (&[2, 5, 4, 42], "GN"),
+    (&[2, 5, 4, 43], "initials"),
+    (&[2, 5, 4, 44], "generationQualifier"),
+    (&[2, 5, 4, 46], "dnQualifier"),
+    (&[2, 5, 4, 65], "pseudonym"),
+    (&[2, 5, 4, 97], "organizationIdentifier"),
+    (&[0, 9, 2342, 19200300, 100, 1, 25], "DC"),
+    (&[0, 9, 2342, 19200300, 100, 1, 1], "UID"),
+    (&[1, 2, 840, 113549, 1, 9, 1], "emailAddress"),
     // Public keys and signatures (RFC 3279, RFC 4055, RFC 5758, RFC 8410).
-    NamedObject {
-        arcs: &[1, 2, 840, 113549, 1, 1, 1],
-        name: "rsaEncryption",
-    },
-    NamedObject {
-        arcs: &[1, 2, 840, 113549, 1, 1, 10],
-        name: "rsassaPss",
-    },
-    NamedObject {
-        arcs: &[1, 2, 840, 113549, 1, 1, 4],
-        name: "md5WithRSAEncryption",
-    },
-    NamedObject {
-        arcs: &[1, 2, 840, 113549, 1, 1, 5],
-        name: "sha1WithRSAEncryption",
-    },
-    NamedObject {
-        arcs: &[1, 2, 840, 113549, 1, 1, 14],
-        name: "sha224WithRSAEncryption",
-    },
-    NamedObject {
-        arcs: &[1, 2, 840, 113549, 1, 1, 11],
-        name: "sha256WithRSAEncryption",
-    },
-    NamedObject {
-        arcs: &[1, 2, 840, 113549, 1, 1, 12],
-        name: "sha384WithRSAEncryption",
-    },
-    NamedObject {
-        arcs: &[1, 2, 840, 113549, 1, 1, 13],
-        name: "sha512WithRSAEncryption",
-    },
-    NamedObject {
-        arcs: &[1, 2, 840, 10045, 2, 1],
-        name: "ecPublicKey",
-    },
-    NamedObject {
-        arcs: &[1, 2, 840, 10045, 4, 1],
-        name: "ecdsa-with-SHA1",
-    },
-    NamedObject {
-        arcs: &[1, 2, 840, 10045, 4, 3, 1],
-        name: "ecdsa-with-SHA224",
-    },
-    NamedObject {
-        arcs: &[1, 2, 840, 10045, 4, 3, 2],
-        name: "ecdsa-with-SHA256",
-    },
-    NamedObject {
-        arcs: &[1, 2, 840, 10045, 4, 3, 3],
-        name: "ecdsa-with-SHA384",
-    },
-    NamedObject {
-        arcs: &[1, 2, 840, 10045, 4, 3, 4],
-        name: "ecdsa-with-SHA512",
-    },
-    NamedObject {
-        arcs: &[1, 3, 101, 110],
-        name: "X25519",
-    },
-    NamedObject {
-        arcs: &[1, 3, 101, 111],
-        name: "X448",
-    },
-    NamedObject {
-        arcs: &[1, 3, 101, 112],
-        name: "Ed25519",
-    },
-    NamedObject {
-        arcs: &[1, 3, 101, 113],
-        name: "Ed448",
-    },
-    NamedObject {
-        arcs: &[1, 2, 840, 10040, 4, 1],
-        name: "dsa",
-    },
-    NamedObject {
-        arcs: &[2, 16, 840, 1, 101, 3, 4, 3, 2],
-        name: "dsa-with-SHA256",
-    },
+    (&[1, 2, 840, 113549, 1, 1, 1], "rsaEncryption"),
+    (&[1, 2, 840, 113549, 1, 1, 10], "rsassaPss"),
+    (&[1, 2, 840, 113549, 1, 1, 4], "md5WithRSAEncryption"),
+    (&[1, 2, 840, 113549, 1, 1, 5], "sha1WithRSAEncryption"),
+    (&[1, 2, 840, 113549, 1, 1, 14], "sha224WithRSAEncryption"),
+    (&[1, 2, 840, 113549, 1, 1, 11], "sha256WithRSAEncryption"),
+    (&[1, 2, 840, 113549, 1, 1, 12], "sha384WithRSAEncryption"),
+    (&[1, 2, 840, 113549, 1, 1, 13], "sha512WithRSAEncryption"),
+    (&[1, 2, 840, 10045, 2, 1], "ecPublicKey"),
+    (&[1, 2, 840, 10045, 4, 1], "ecdsa-with-SHA1"),
+    (&[1, 2, 840, 10045, 4, 3, 1], "ecdsa-with-SHA224"),
+    (&[1, 2, 840, 10045, 4, 3, 2], "ecdsa-with-SHA256"),
+    (&[1, 2, 840, 10045, 4, 3, 3], "ecdsa-with-SHA384"),
+    (&[1, 2, 840, 10045, 4, 3, 4], "ecdsa-with-SHA512"),
+    (&[1, 3, 101, 110], "X25519"),
+    (&[1, 3, 101, 111], "X448"),
+    (&[1, 3, 101, 112], "Ed25519"),
+    (&[1, 3, 101, 113], "Ed448"),
+    (&[1, 2, 840, 10040, 4, 1], "dsa"),
+    (&[2, 16, 840, 1, 101, 3, 4, 3, 2], "dsa-with-SHA256"),
     // Extensions (RFC 5280, 4.2 and 5.2, RFC 6962, 3.3, RFC 7633).
-    NamedObject {
-        arcs: &[2, 5, 29, 9],
-        name: "subjectDirectoryAttributes",
-    },
-    NamedObject {
-        arcs: &[2, 5, 29, 14],
-        name: "subjectKeyIdentifier",
-    },
-    NamedObject {
-        arcs: &[2, 5, 29, 15],
-        name: "keyUsage",
-    },
-    NamedObject {
-        arcs: &[2, 5, 29, 16],
-        name: "privateKeyUsagePeriod",
-    },
-    NamedObject {
-        arcs: &[2, 5, 29, 17],
-        name: "subjectAltName",
-    },
-    NamedObject {
-        arcs: &[2, 5, 29, 18],
-        name: "issuerAltName",
-    },
-    NamedObject {
-        arcs: &[2, 5, 29, 19],
-        name: "basicConstraints",
-    },
-    NamedObject {
-        arcs: &[2, 5, 29, 30],
-        name: "nameConstraints",
-    },
-    NamedObject {
-        arcs: &[2, 5, 29, 31],
-        name: "cRLDistributionPoints",
-    },
-    NamedObject {
-        arcs: &[2, 5, 29, 32],
-        name: "certificatePolicies",
-    },
-    NamedObject {
-        arcs: &[2, 5, 29, 33],
-        name: "policyMappings",
-    },
-    NamedObject {
-        arcs: &[2, 5, 29, 35],
-        name: "authorityKeyIdentifier",
-    },
-    NamedObject {
-        arcs: &[2, 5, 29, 36],
-        name: "policyConstraints",
-    },
-    NamedObject {
-        arcs: &[2, 5, 29, 37],
-        name: "extKeyUsage",
-    },
-    NamedObject {
-        arcs: &[2, 5, 29, 46],
-        name: "freshestCRL",
-    },
-    NamedObject {
-        arcs: &[2, 5, 29, 54],
-        name: "inhibitAnyPolicy",
-    },
-    NamedObject {
-        arcs: &[1, 3, 6, 1, 5, 5, 7, 1, 1],
-        name: "authorityInfoAccess",
-    },
-    NamedObject {
-        arcs: &[1, 3, 6, 1, 5, 5, 7, 1, 11],
-        name: "subjectInfoAccess",
-    },
-    NamedObject {
-        arcs: &[1, 3, 6, 1, 4, 1, 11129, 2, 4, 2],
-        name: "signedCertificateTimestampList",
-    },
-    NamedObject {
-        arcs: &[1, 3, 6, 1, 5, 5, 7, 1, 24],
-        name: "tlsFeature",
-    },
+    (&[2, 5, 29, 9], "subjectDirectoryAttributes"),
+    (&[2, 5, 29, 14], "subjectKeyIdentifier"),
+    (&[2, 5, 29, 15], "keyUsage"),
+    (&[2, 5, 29, 16], "privateKeyUsagePeriod"),
+    (&[2, 5, 29, 17], "subjectAltName"),
+    (&[2, 5, 29, 18], "issuerAltName"),
+    (&[2, 5, 29, 19], "basicConstraints"),
+    (&[2, 5, 29, 30], "nameConstraints"),
+    (&[2, 5, 29, 31], "cRLDistributionPoints"),
+    (&[2, 5, 29, 32], "certificatePolicies"),
+    (&[2, 5, 29, 33], "policyMappings"),
+    (&[2, 5, 29, 35], "authorityKeyIdentifier"),
+    (&[2, 5, 29, 36], "policyConstraints"),
+    (&[2, 5, 29, 37], "extKeyUsage"),
+    (&[2, 5, 29, 46], "freshestCRL"),
+    (&[2, 5, 29, 54], "inhibitAnyPolicy"),
+    (&[1, 3, 6, 1, 5, 5, 7, 1, 1], "authorityInfoAccess"),
+    (&[1, 3, 6, 1, 5, 5, 7, 1, 11], "subjectInfoAccess"),
+    (
+        &[1, 3, 6, 1, 4, 1, 11129, 2, 4, 2],
+        "signedCertificateTimestampList",
+    ),
+    (&[1, 3, 6, 1, 5, 5, 7, 1, 24], "tlsFeature"),
     // What a key is for (RFC 5280, 4.2.1.12).
-    NamedObject {
-        arcs: &[2, 5, 29, 37, 0],
-        name: "anyExtendedKeyUsage",
-    },
-    NamedObject {
-        arcs: &[1, 3, 6, 1, 5, 5, 7, 3, 1],
-        name: "serverAuth",
-    },
-    NamedObject {
-        arcs: &[1, 3, 6, 1, 5, 5, 7, 3, 2],
-        name: "clientAuth",
-    },
-    NamedObject {
-        arcs: &[1, 3, 6, 1, 5, 5, 7, 3, 3],
-        name: "codeSigning",
-    },
-    NamedObject {
-        arcs: &[1, 3, 6, 1, 5, 5, 7, 3, 4],
-        name: "emailProtection",
-    },
-    NamedObject {
-        arcs: &[1, 3, 6, 1, 5, 5, 7, 3, 8],
-        name: "timeStamping",
-    },
-    NamedObject {
-        arcs: &[1, 3, 6, 1, 5, 5, 7, 3, 9],
-        name: "OCSPSigning",
-    },
+    (&[2, 5, 29, 37, 0], "anyExtendedKeyUsage"),
+    (&[1, 3, 6, 1, 5, 5, 7, 3, 1], "serverAuth"),
+    (&[1, 3, 6, 1, 5, 5, 7, 3, 2], "clientAuth"),
+    (&[1, 3, 6, 1, 5, 5, 7, 3, 3], "codeSigning"),
+    (&[1, 3, 6, 1, 5, 5, 7, 3, 4], "emailProtection"),
+    (&[1, 3, 6, 1, 5, 5, 7, 3, 8], "timeStamping"),
+    (&[1, 3, 6, 1, 5, 5, 7, 3, 9], "OCSPSigning"),
 ];
 
-/// The curves of RFC 5480, RFC 5639 and RFC 8410.
-pub(super) const CURVES: &[Curve] = &[
-    Curve {
-        arcs: &[1, 2, 840, 10045, 3, 1, 7],
-        name: "P-256",
-        bits: 256,
-    },
-    Curve {
-        arcs: &[1, 3, 132, 0, 33],
-        name: "P-224",
-        bits: 224,
-    },
-    Curve {
-        arcs: &[1, 3, 132, 0, 34],
-        name: "P-384",
-        bits: 384,
-    },
-    Curve {
-        arcs: &[1, 3, 132, 0, 35],
-        name: "P-521",
-        bits: 521,
-    },
-    Curve {
-        arcs: &[1, 3, 132, 0, 10],
-        name: "secp256k1",
-        bits: 256,
-    },
-    Curve {
-        arcs: &[1, 3, 36, 3, 3, 2, 8, 1, 1, 7],
-        name: "brainpoolP256r1",
-        bits: 256,
-    },
-    Curve {
-        arcs: &[1, 3, 36, 3, 3, 2, 8, 1, 1, 11],
-        name: "brainpoolP384r1",
-        bits: 384,
-    },
-    Curve {
-        arcs: &[1, 3, 36, 3, 3, 2, 8, 1, 1, 13],
-        name: "brainpoolP512r1",
-        bits: 512,
-    },
-    Curve {
-        arcs: &[1, 3, 101, 110],
-        name: "X25519",
-        bits: 256,
-    },
-    Curve {
-        arcs: &[1, 3, 101, 111],
-        name: "X448",
-        bits: 448,
-    },
-    Curve {
-        arcs: &[1, 3, 101, 112],
-        name: "Ed25519",
-        bits: 256,
-    },
-    Curve {
-        arcs: &[1, 3, 101, 113],
-        name: "Ed448",
-        bits: 456,
-    },
+/// The arcs, the names and the sizes of the curves of RFC 5480, RFC 5639 and RFC 8410.
+pub(super) const CURVES: &[(&[u32], &str, u32)] = &[
+    (&[1, 2, 840, 10045, 3, 1, 7], "P-256", 256),
+    (&[1, 3, 132, 0, 33], "P-224", 224),
+    (&[1, 3, 132, 0, 34], "P-384", 384),
+    (&[1, 3, 132, 0, 35], "P-521", 521),
+    (&[1, 3, 132, 0, 10], "secp256k1", 256),
+    (&[1, 3, 36, 3, 3, 2, 8, 1, 1, 7], "brainpoolP256r1", 256),
+    (&[1, 3, 36, 3, 3, 2, 8, 1, 1, 11], "brainpoolP384r1", 384),
+    (&[1, 3, 36, 3, 3, 2, 8, 1, 1, 13], "brainpoolP512r1", 512),
+    (&[1, 3, 101, 110], "X25519", 256),
+    (&[1, 3, 101, 111], "X448", 448),
+    (&[1, 3, 101, 112], "Ed25519", 256),
+    (&[1, 3, 101, 113], "Ed448", 456),
 ];

@@ -12,24 +12,24 @@ pub returns-in-Ok-clause-report : goal.returns-in-Ok-clause-report
 returns-in-Ok-clause-report g c = λ asked.
     let shown = c.in-Ok.ensures.report asked in
     on_ok_weaker c.write_bytes.result
-    (λ written. (
-      _,
-      c.in-Ok.bytes.items,
-      all_given c.new-input.result.items c.read_to_end.new.buf.items (g.R.Read.remaining c.args.reader.now) (g.R.Read.remaining c.read_to_end.new.self) c.new-input.ensures.items c.read_to_end.ensures.none_lost,
-      shown,
-      subst (Appends (g.W.Write.contents c.args.writer.now) (g.W.Write.contents c.write_bytes.new.writer)) c.as_slice.ensures.value written,
-    ))
-    c.write_bytes.ensures
+    (λ written. record {
+      input = c.read_to_end.new.buf.items;
+      bytes = c.in-Ok.bytes.items;
+      read = all_given c.new-input.result.items c.read_to_end.new.buf.items (g.R.Read.remaining c.args.reader.now) (g.R.Read.remaining c.read_to_end.new.self) c.new-input.ensures.items c.read_to_end.ensures.none_lost;
+      are_of_input = shown;
+      written = subst (Appends (g.W.Write.contents c.args.writer.now) (g.W.Write.contents c.write_bytes.new.writer)) c.as_slice.ensures.value written;
+    })
+    c.write_bytes.ensures.written
 
 pub returns-in-Ok-clause-der : goal.returns-in-Ok-clause-der
 returns-in-Ok-clause-der g c = λ asked.
     let shown = c.in-Ok.ensures.der asked in
     on_ok_weaker c.write_bytes.result
-    (λ written. (
-      _,
-      c.in-Ok.bytes.items,
-      all_given c.new-input.result.items c.read_to_end.new.buf.items (g.R.Read.remaining c.args.reader.now) (g.R.Read.remaining c.read_to_end.new.self) c.new-input.ensures.items c.read_to_end.ensures.none_lost,
-      shown,
-      subst (Appends (g.W.Write.contents c.args.writer.now) (g.W.Write.contents c.write_bytes.new.writer)) c.as_slice.ensures.value written,
-    ))
-    c.write_bytes.ensures
+    (λ written. record {
+      input = c.read_to_end.new.buf.items;
+      bytes = c.in-Ok.bytes.items;
+      read = all_given c.new-input.result.items c.read_to_end.new.buf.items (g.R.Read.remaining c.args.reader.now) (g.R.Read.remaining c.read_to_end.new.self) c.new-input.ensures.items c.read_to_end.ensures.none_lost;
+      are_of_input = shown;
+      written = subst (Appends (g.W.Write.contents c.args.writer.now) (g.W.Write.contents c.write_bytes.new.writer)) c.as_slice.ensures.value written;
+    })
+    c.write_bytes.ensures.written

@@ -1,14 +1,20 @@
+use Rattle.std.proofs.Common.{inr, subst, sym}
 use Rattle.std.proofs.lemmas.Result.{IfErr-weaker, IfOk-weaker, err_from_is_err_and}
 use Rattle.asn1_der_encoder.specs.Format.{der_is_lawful}
 use Rattle.asn1_x509.proofs.EqualCertificates.{certificates_same}
-use Rattle.asn1_certificate.proofs.Refusals.{refusal_after_reading}
 use Rattle.asn1_certificate.specs.Inputs.{records_of}
+use Rattle.asn1_certificate.specs.Refused.{IsRefusalOfCertificate}
 use Rattle.asn1_certificate.proofs.show.written.Goals as goal
 
 pub returns-in-Report-clause-report : goal.returns-in-Report-clause-report
 returns-in-Report-clause-report c =
     λ _. IfOk-weaker c.lines_of.result _ _
-    (λ _ are. record { certificate = c.in_ok-certificate.certificate; read = c.in_ok-certificate.ensures.read; are = are })
+    (λ _ are. record {
+      certificate = c.in_ok-certificate.certificate;
+      read = c.in_ok-certificate.ensures.read;
+      names = c.in_ok-check_names.ensures.good;
+      are = are;
+    })
     c.lines_of.ensures.shown
 
 pub returns-clause-der : goal.returns-clause-der
@@ -17,6 +23,7 @@ returns-clause-der c =
     (λ bytes carries. record {
       certificate = c.in_ok-certificate.certificate;
       read = c.in_ok-certificate.ensures.read;
+      names = c.in_ok-check_names.ensures.good;
       carries = carries;
       same = λ valid is.
           der_is_lawful.carries_in_any_order bytes (records_of c.in_ok-certificate.certificate) (records_of valid)
@@ -28,10 +35,24 @@ returns-clause-der c =
 pub returns-in_err-check_names-clause-refused : goal.returns-in_err-check_names-clause-refused
 returns-in_err-check_names-clause-refused c =
     let p = err_from_is_err_and c.from_residual-in_err-check_names.result c.from_residual-in_err-check_names.ensures.1 in
-    rw (p.1, p.2) (refusal_after_reading _ _ c.in_err-check_names.ensures)
+    rw (p.1, p.2) (inr (record {
+      certificate = c.in_ok-certificate.certificate;
+      read = c.in_ok-certificate.ensures.read;
+      refused = c.in_err-check_names.ensures.refused c.args.form;
+    }))
 
 pub returns-in-Report-clause-refused : goal.returns-in-Report-clause-refused
-returns-in-Report-clause-refused c = IfErr-weaker c.lines_of.result _ _ (refusal_after_reading _) c.lines_of.ensures.refused
+returns-in-Report-clause-refused c =
+    IfErr-weaker c.lines_of.result _ _
+    (λ e is. inr (record {
+      certificate = c.in_ok-certificate.certificate;
+      read = c.in_ok-certificate.ensures.read;
+      refused = subst (IsRefusalOfCertificate c.args.form c.in_ok-certificate.certificate) (sym is) tt;
+    }))
+    c.lines_of.ensures.memory
 
 pub returns-clause-refused : goal.returns-clause-refused
-returns-clause-refused c = IfErr-weaker c.der_of.result _ _ (refusal_after_reading _) c.der_of.ensures.refused
+returns-clause-refused c =
+    IfErr-weaker c.der_of.result _ _
+    (λ e is. inr (record { certificate = c.in_ok-certificate.certificate; read = c.in_ok-certificate.ensures.read; refused = subst (λ f. IsRefusalOfCertificate f c.in_ok-certificate.certificate e) (sym c.in-Der.is) is }))
+    c.der_of.ensures.refused

@@ -1,38 +1,43 @@
-use Rattle.std.proofs.Common.{◌≡◌, ℕ, ◌+◌, ◌-◌, ◌≤◌, List, ◌++◌, length, take, drop, sym, ap, subst, None, ◌∙◌, arith, length-drop, take-append-drop}
-use Rattle.std.specs.Prelude.{codes}
-use Rattle.std.proofs.lemmas.List.{take_all}
-use Rattle.memchr.specs.Find.{FindsNeedle, OccursAt}
-use Rattle.memchr.proofs.lemmas.MatchLemmas.{OccursAt-split}
-use Rattle.asn1_certificate_text.specs.Pem.{Encloses}
+use Rattle.std.proofs.Common.{◌≡◌, ℕ, ◌+◌, ◌-◌, ◌≤◌, List, length, take, drop, ap, subst, sym, ◌∙◌, refl, None, Some, arith, length-drop}
+use Rattle.std.proofs.lemmas.List.{length-take, take_rest}
+use Rattle.memchr.specs.Find.{FindsNeedle}
+use Rattle.asn1_certificate_text.specs.Pem.{EnclosesAt, begin_line, end_line}
 use Rattle.asn1_certificate_text.proofs.pem.enclosed.Goals as goal
 
--- what is before a needle, the needle, and what is behind it
-cut_at : (hay needle : List ℕ) (k : ℕ) → OccursAt hay needle k → hay ≡ take k hay ++ (needle ++ drop (k + length needle) hay)
-cut_at hay needle k at = sym (take-append-drop k hay) ∙ ap (λ l. take k hay ++ l) (OccursAt-split hay needle k at)
+-- what is before the second line is as long as the place of that line says
+length_before : (rest : List ℕ) (size : ℕ) → FindsNeedle rest end_line 0 (Some size) → length (take size rest) ≡ size
+length_before rest size ends = let fits : size + 25 ≤ length rest = ends.1.fits in omega (arith, length-take size rest)
 
--- two needles, one behind the other, and what is between them
-encloses : (text rest begin end : List ℕ) (k size : ℕ) → rest ≡ drop (k + length begin) text →
-    OccursAt text begin k → OccursAt rest end size →
-    text ≡ take k text ++ (begin ++ (take size rest ++ (end ++ drop (size + length end) rest)))
-encloses text rest begin end k size is first second =
-    cut_at text begin k first ∙ ap (λ l. take k text ++ (begin ++ l)) (sym is ∙ cut_at rest end size second)
+-- a line before a certificate, and a line after one in what is behind it
+encloses : (text rest : List ℕ) (begin size : ℕ) → rest ≡ drop (begin + 27) text → FindsNeedle text begin_line 0 (Some begin) →
+    FindsNeedle rest end_line 0 (Some size) → EnclosesAt text (begin + 27) (take size rest)
+encloses text rest begin size is first second =
+    let long = length_before rest size second in
+    record {
+      begins = record { place = begin; found = first; behind = refl };
+      ends = subst (λ (r : List ℕ). FindsNeedle r end_line 0 (Some (length (take size rest)))) is
+          (subst (λ (n : ℕ). FindsNeedle rest end_line 0 (Some n)) (sym long) second);
+      between = ap (λ (r : List ℕ). take size r) is ∙ ap (λ (n : ℕ). take n (drop (begin + 27) text)) (sym long);
+    }
 
 pub returns-clause-found : goal.returns-clause-found
 returns-clause-found c =
-    let text = c.args.text.now in
-    let behind = drop (c.in-Some.begin + 27) text in
-    let few : length behind ≤ length text - (c.in-Some.begin + 27) = omega (arith, length-drop (c.in-Some.begin + 27) text) in
-    record {
-      front = take c.in-Some.begin text;
-      back = _;
-      parts = encloses text _ (codes "-----BEGIN CERTIFICATE-----") (codes "-----END CERTIFICATE-----") c.in-Some.begin c.in-Some-find.length
-          (take_all (length text - (c.in-Some.begin + 27)) behind few) c.in-Some.ensures.1 c.in-Some-find.ensures.1;
-    }
+    encloses c.args.text.now _ c.in-Some.begin c.in-Some-find.length (take_rest c.args.text.now (c.in-Some.begin + 27))
+    c.in-Some.ensures c.in-Some-find.ensures
+
+pub returns-clause-fits : goal.returns-clause-fits
+returns-clause-fits c =
+    let start = c.in-Some.begin + 27 in
+    let rest = take (length c.args.text.now - start) (drop start c.args.text.now) in
+    let long = length_before rest c.in-Some-find.length c.in-Some-find.ensures in
+    let within : c.in-Some-find.length + 25 ≤ length rest = c.in-Some-find.ensures.1.fits in
+    let left = ap length (take_rest c.args.text.now start) in
+    omega (arith, long, within, left, length-drop start c.args.text.now)
 
 pub returns-in_default-find-clause-refused : goal.returns-in_default-find-clause-refused
 returns-in_default-find-clause-refused c =
-    let text = c.args.text.now in
-    let behind = drop (c.in-Some.begin + 27) text in
-    let few : length behind ≤ length text - (c.in-Some.begin + 27) = omega (arith, length-drop (c.in-Some.begin + 27) text) in
-    subst (λ rest. FindsNeedle rest (codes "-----END CERTIFICATE-----") 0 None) (take_all (length text - (c.in-Some.begin + 27)) behind few)
-    c.in_default-find.ensures
+    let start = c.in-Some.begin + 27 in
+    record {
+      begins = record { place = c.in-Some.begin; found = c.in-Some.ensures; behind = refl };
+      never_ends = subst (λ (r : List ℕ). FindsNeedle r end_line 0 None) (take_rest c.args.text.now start) c.in_default-find.ensures;
+    }

@@ -17,5 +17,5 @@ patched before _ inside xs a b c d start is long starts = absurd (omega arith)
 
 pub returns : goal.returns
 returns c = λ before place inside is long starts.
-    patched before place inside c.args.bytes.now.items _ _ _ _ c.args.start is long starts
+    patched before place inside c.args.bytes.now _ _ _ _ c.args.start is long starts
     ∙ ap (λ l. before ++ (get_or l 0 0 ∷ get_or l 1 0 ∷ get_or l 2 0 ∷ get_or l 3 0 ∷ inside)) c.to_be_bytes.ensures

@@ -1,4 +1,4 @@
-use Rattle.std.proofs.Common.{◌≡◌, ℕ, ◌+◌, ◌-◌, ◌*◌, ◌/◌, ◌%◌, [], ◌∷◌, ap, arith, drop, get_or, length, sym, ◌∙◌, take}
+use Rattle.std.proofs.Common.{◌≡◌, ◌-◌, ◌%◌, [], ◌∷◌, ap, arith, drop, get_or, length, ◌∙◌, take}
 use Rattle.asn1_certificate_text.proofs.Digits.{last_digits}
 use Rattle.asn1_certificate_text.proofs.moment.Moment.of_utc_digits.Goals as goal
 

@@ -1,0 +1,102 @@
+-- Why the program writes nothing.
+use Rattle.std.specs.Prelude.{◌≡◌, ◌⊎◌, ⊤, ℕ, Bool, false, true, List, Option, Some, if◌then◌else◌}
+use Rattle.std.specs.Io.KnownBytes.{Consumes}
+use Rattle.asn1_certificate.specs.Inputs.{AreInputOctets, AreOfNoCertificate, IsCertificateOf, records_of}
+use Rattle.asn1_certificate.specs.declared.form.Form.{Form}
+use Rattle.asn1_certificate.specs.declared.form.Form.TheVariants.{Der}
+use Rattle.asn1_certificate.specs.declared.outcome.Failure.{Failure}
+use Rattle.asn1_certificate.specs.declared.outcome.Failure.TheVariants.{NotShown, Reading, Writing}
+use Rattle.asn1_certificate.specs.declared.show.ShowError.{ShowError}
+use Rattle.asn1_certificate.specs.declared.show.ShowError.TheVariants.{Text, NoElement, NoCertificate, BadIssuer, BadSubject, NotWritten, Memory}
+use Rattle.asn1_certificate_reader.specs.NameFaults.{AnswersName}
+use Rattle.asn1_certificate_text.specs.PemRefusals.{IsRefusal}
+use Rattle.asn1_der_encoder.specs.Format.{der_format}
+use Rattle.asn1_der_items.specs.Series.{is_one_element}
+use Rattle.asn1_faults.specs.Faults.{IsFault}
+use Rattle.asn1_rules.specs.Rules.{IsNotWritten}
+use Rattle.asn1_x509.specs.declared.certificate.Certificate.{Certificate}
+
+-- the input is not one element, and it is a text whose certificate is not found; or memory ran out
+abbrev pub IsRefusalOfText : List ℕ → ShowError → Type 0
+IsRefusalOfText input (Text error) = (is_one_element input ≡ false) × IsRefusal input error
+IsRefusalOfText input (NoElement place error) = ⊥
+IsRefusalOfText input (NoCertificate error) = ⊥
+IsRefusalOfText input (BadIssuer fault) = ⊥
+IsRefusalOfText input (BadSubject fault) = ⊥
+IsRefusalOfText input (NotWritten error) = ⊥
+IsRefusalOfText input Memory = ⊤
+
+-- the octets are those of no valid certificate, and no element begins at the place that the error names; or memory ran out
+abbrev pub IsRefusalOfOctets : List ℕ → ShowError → Type 0
+IsRefusalOfOctets octets (Text error) = ⊥
+IsRefusalOfOctets octets (NoElement place error) = AreOfNoCertificate octets × IsFault octets place
+IsRefusalOfOctets octets (NoCertificate error) = AreOfNoCertificate octets
+IsRefusalOfOctets octets (BadIssuer fault) = ⊥
+IsRefusalOfOctets octets (BadSubject fault) = ⊥
+IsRefusalOfOctets octets (NotWritten error) = ⊥
+IsRefusalOfOctets octets Memory = ⊤
+
+-- The fault is the first of a name of the certificate; or this has no DER that is nested in 64 scopes at most, where its DER was asked
+-- for; or memory ran out.
+abbrev pub IsRefusalOfCertificate : Form → Certificate → ShowError → Type 0
+IsRefusalOfCertificate form certificate (Text error) = ⊥
+IsRefusalOfCertificate form certificate (NoElement place error) = ⊥
+IsRefusalOfCertificate form certificate (NoCertificate error) = ⊥
+IsRefusalOfCertificate form certificate (BadIssuer fault) = AnswersName certificate.tbs_certificate.issuer (Some fault)
+IsRefusalOfCertificate form certificate (BadSubject fault) = AnswersName certificate.tbs_certificate.subject (Some fault)
+IsRefusalOfCertificate form certificate (NotWritten error) = (form ≡ Der) × IsNotWritten der_format (records_of certificate) 64 error
+IsRefusalOfCertificate form certificate Memory = ⊤
+
+-- The octets of an input are refused.
+pub record RefusesOctets (input : List ℕ) (error : ShowError) : Type 0 where
+  pub octets : List ℕ
+  pub are_octets : AreInputOctets input octets
+  pub refused : IsRefusalOfOctets octets error
+
+-- The certificate that was read of an input is refused.
+pub record RefusesCertificate (form : Form) (input : List ℕ) (error : ShowError) : Type 0 where
+  pub certificate : Certificate
+  pub read : IsCertificateOf input certificate
+  pub refused : IsRefusalOfCertificate form certificate error
+
+-- why an input has no certificate
+abbrev pub IsNotRead : List ℕ → ShowError → Type 0
+IsNotRead input error = IsRefusalOfText input error ⊎ RefusesOctets input error
+
+-- why an input is not written in a form
+abbrev pub IsRefusalOfInput : Form → List ℕ → ShowError → Type 0
+IsRefusalOfInput form input error = IsNotRead input error ⊎ RefusesCertificate form input error
+
+-- An input that was read is refused.
+pub record Refuses (form : Form) (error : ShowError) (remaining_before remaining : Option (List ℕ)) : Type 0 where
+  pub input : List ℕ
+  pub read : Consumes remaining_before remaining input
+  pub refused : IsRefusalOfInput form input error
+
+-- why nothing was written: an input that was read is refused, or reading or writing failed
+abbrev pub IsFailure : Form → Option (List ℕ) → Option (List ℕ) → Failure → Type 0
+IsFailure form before after (NotShown error) = Refuses form error before after
+IsFailure form before after Reading = ⊤
+IsFailure form before after Writing = ⊤
+
+-- whether the error is that of memory
+abbrev pub is_memory : ShowError → Bool
+is_memory (Text error) = false
+is_memory (NoElement place error) = false
+is_memory (NoCertificate error) = false
+is_memory (BadIssuer fault) = false
+is_memory (BadSubject fault) = false
+is_memory (NotWritten error) = false
+is_memory Memory = true
+
+-- An input that was read is refused, by an error that is not that of memory.
+pub record IsRefused (form : Form) (remaining_before remaining : Option (List ℕ)) : Type 0 where
+  pub error : ShowError
+  pub not_memory : is_memory error ≡ false
+  pub refused : Refuses form error remaining_before remaining
+
+-- the status of the program after a failure: 1 where the input is refused, and 2 where memory ran out, or reading or writing failed
+abbrev pub status_after : Failure → ℕ
+status_after (NotShown error) = if is_memory error then 2 else 1
+status_after Reading = 2
+status_after Writing = 2

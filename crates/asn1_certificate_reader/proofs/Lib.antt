@@ -1,0 +1,4 @@
+mod CharactersOfUnits
+mod NameFaults
+mod OneByOne
+mod ReadInside

@@ -1,0 +1,9 @@
+use Rattle.std.proofs.Common.{◌≡◌, ◌*◌, length, take}
+use Rattle.asn1_items.specs.Bits.{bits_of_octets}
+use Rattle.asn1_items.proofs.bits.write_bits.Given as goal
+
+abbrev pub invariant-loop-place : goal.invariant-loop-place
+invariant-loop-place l = record {
+  so_far : take (l.place * 8) l.bits ≡ bits_of_octets (take l.place l.octets);
+  long : length l.bits ≡ length l.octets * 8;
+}
