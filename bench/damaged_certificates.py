@@ -2,9 +2,8 @@
 """Damages the certificates of examples/certificates, and compares what asn1_certificate takes with what OpenSSL takes.
 
 Each byte is damaged in three ways (its lowest bit, its highest bit, all of its bits), and the bytes are cut off before each place.
-The program is to end with a status of its own for each input, and to take nothing that `openssl x509` refuses, but for parameters of a
-key's algorithm, which are an open type to the layer: these it shows as they are. It prints each input that is taken and that OpenSSL
-refuses, and a line of counts.
+The program is to end with a status of its own for each input, and to take none of these that `openssl x509` refuses. It prints each input
+that is taken and that OpenSSL refuses, and a line of counts.
 
     bench/damaged_certificates.py [--try] [--every N] [--minutes N]
 

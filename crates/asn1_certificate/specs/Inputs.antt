@@ -1,6 +1,6 @@
 -- The certificate that an input has.
 use Rattle.std.specs.Prelude.{◌≡◌, ◌<◌, ◌⊎◌, ℕ, List, false, true}
-use Rattle.asn1_certificate_text.specs.Pem.{AreOctetsOf}
+use Rattle.asn1_certificate_text.specs.Pem.{AreOctetsOfText}
 use Rattle.asn1_der_encoder.specs.Format.{Carries}
 use Rattle.asn1_der_items.specs.Series.{is_one_element}
 use Rattle.asn1_model.specs.Meaning.{own_records}
@@ -32,7 +32,7 @@ AreOfNoCertificate octets =
 -- octets are those of the first certificate in a text, or the input where it has none.
 abbrev pub AreInputOctets : List ℕ → List ℕ → Type 0
 AreInputOctets input octets =
-    ((is_one_element input ≡ true) × (octets ≡ input)) ⊎ ((is_one_element input ≡ false) × AreOctetsOf input octets)
+    ((is_one_element input ≡ true) × (octets ≡ input)) ⊎ ((is_one_element input ≡ false) × AreOctetsOfText input octets)
 
 -- The octets of an input were read as this certificate.
 pub record IsCertificateOf (input : List ℕ) (read : Certificate) : Type 0 where

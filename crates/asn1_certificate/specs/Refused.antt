@@ -7,12 +7,13 @@ use Rattle.asn1_certificate.specs.declared.form.Form.TheVariants.{Der}
 use Rattle.asn1_certificate.specs.declared.outcome.Failure.{Failure}
 use Rattle.asn1_certificate.specs.declared.outcome.Failure.TheVariants.{NotShown, Reading, Writing}
 use Rattle.asn1_certificate.specs.declared.show.ShowError.{ShowError}
-use Rattle.asn1_certificate.specs.declared.show.ShowError.TheVariants.{Text, NoElement, NoCertificate, BadIssuer, BadSubject, NotWritten, Memory}
+use Rattle.asn1_certificate.specs.declared.show.ShowError.TheVariants.{Text, NoElement, NoCertificate, BadIssuer, BadSubject, BadKeyParameters, BadSignatureParameters, NotWritten, Memory}
 use Rattle.asn1_certificate_reader.specs.NameFaults.{AnswersName}
+use Rattle.asn1_certificate_reader.specs.Parameters.{HasBadParameters}
 use Rattle.asn1_certificate_text.specs.PemRefusals.{IsRefusal}
 use Rattle.asn1_der_encoder.specs.Format.{der_format}
 use Rattle.asn1_der_items.specs.Series.{is_one_element}
-use Rattle.asn1_faults.specs.Faults.{IsFault}
+use Rattle.asn1_faults.specs.Faults.{AreSound, IsFirstFault}
 use Rattle.asn1_rules.specs.Rules.{IsNotWritten}
 use Rattle.asn1_x509.specs.declared.certificate.Certificate.{Certificate}
 
@@ -23,27 +24,37 @@ IsRefusalOfText input (NoElement place error) = ⊥
 IsRefusalOfText input (NoCertificate error) = ⊥
 IsRefusalOfText input (BadIssuer fault) = ⊥
 IsRefusalOfText input (BadSubject fault) = ⊥
+IsRefusalOfText input (BadKeyParameters bad) = ⊥
+IsRefusalOfText input (BadSignatureParameters bad) = ⊥
 IsRefusalOfText input (NotWritten error) = ⊥
 IsRefusalOfText input Memory = ⊤
 
--- the octets are those of no valid certificate, and no element begins at the place that the error names; or memory ran out
+-- the octets are those of no valid certificate, and the place that the error names is the first at which no element begins, or they are
+-- elements where it names none, looked into down to 64 scopes; or memory ran out
 abbrev pub IsRefusalOfOctets : List ℕ → ShowError → Type 0
 IsRefusalOfOctets octets (Text error) = ⊥
-IsRefusalOfOctets octets (NoElement place error) = AreOfNoCertificate octets × IsFault octets place
-IsRefusalOfOctets octets (NoCertificate error) = AreOfNoCertificate octets
+IsRefusalOfOctets octets (NoElement place error) = AreOfNoCertificate octets × IsFirstFault 64 octets place
+IsRefusalOfOctets octets (NoCertificate error) = AreOfNoCertificate octets × AreSound 64 octets
 IsRefusalOfOctets octets (BadIssuer fault) = ⊥
 IsRefusalOfOctets octets (BadSubject fault) = ⊥
+IsRefusalOfOctets octets (BadKeyParameters bad) = ⊥
+IsRefusalOfOctets octets (BadSignatureParameters bad) = ⊥
 IsRefusalOfOctets octets (NotWritten error) = ⊥
 IsRefusalOfOctets octets Memory = ⊤
 
--- The fault is the first of a name of the certificate; or this has no DER that is nested in 64 scopes at most, where its DER was asked
--- for; or memory ran out.
+-- The fault is the first of a name of the certificate; or the parameters of the algorithm of its key, or of one of its signature, have
+-- the tag of a type and are of no value of it; or this has no DER that is nested in 64 scopes at most, where its DER was asked for; or
+-- memory ran out.
 abbrev pub IsRefusalOfCertificate : Form → Certificate → ShowError → Type 0
 IsRefusalOfCertificate form certificate (Text error) = ⊥
 IsRefusalOfCertificate form certificate (NoElement place error) = ⊥
 IsRefusalOfCertificate form certificate (NoCertificate error) = ⊥
 IsRefusalOfCertificate form certificate (BadIssuer fault) = AnswersName certificate.tbs_certificate.issuer (Some fault)
 IsRefusalOfCertificate form certificate (BadSubject fault) = AnswersName certificate.tbs_certificate.subject (Some fault)
+IsRefusalOfCertificate form certificate (BadKeyParameters bad) =
+    HasBadParameters der_format certificate.tbs_certificate.subject_public_key_info.algorithm bad
+IsRefusalOfCertificate form certificate (BadSignatureParameters bad) =
+    HasBadParameters der_format certificate.tbs_certificate.signature bad ⊎ HasBadParameters der_format certificate.signature_algorithm bad
 IsRefusalOfCertificate form certificate (NotWritten error) = (form ≡ Der) × IsNotWritten der_format (records_of certificate) 64 error
 IsRefusalOfCertificate form certificate Memory = ⊤
 
@@ -86,6 +97,8 @@ is_memory (NoElement place error) = false
 is_memory (NoCertificate error) = false
 is_memory (BadIssuer fault) = false
 is_memory (BadSubject fault) = false
+is_memory (BadKeyParameters bad) = false
+is_memory (BadSignatureParameters bad) = false
 is_memory (NotWritten error) = false
 is_memory Memory = true
 

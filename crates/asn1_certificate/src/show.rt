@@ -7,7 +7,9 @@ ghost use Rattle.asn1_certificate.specs.declared.show.ShowError.TheVariants.{Mem
 ghost use Rattle.asn1_der_encoder.specs.Format.{Carries};
 
 use crate::form::Form;
-use asn1_certificate_reader::{MAX_DEPTH, NameFault, first_name_fault, report_of};
+use asn1_certificate_reader::{
+    MAX_DEPTH, NameFault, ParameterType, bad_parameters, first_name_fault, report_of,
+};
 use asn1_certificate_report::report_text;
 use asn1_certificate_text::{PemError, certificate_octets};
 use asn1_dec::DecodeError;
@@ -38,6 +40,12 @@ pub(crate) enum ShowError {
     /// The name of whom it is for has one.
     #[error("no certificate: in its subject {0}")]
     BadSubject(NameFault),
+    /// The parameters of the key's algorithm have the tag of this type, and are of no value of it.
+    #[error("no certificate: the parameters of its key's algorithm are no valid {0}")]
+    BadKeyParameters(ParameterType),
+    /// Those of the signature's algorithm do.
+    #[error("no certificate: the parameters of its signature's algorithm are no valid {0}")]
+    BadSignatureParameters(ParameterType),
     /// The certificate was read, and is not written again.
     #[error("not written: {0}")]
     NotWritten(EncodeError),
@@ -62,10 +70,22 @@ pub(crate) fn written(alloc: Global, form: Form, input: Vec<u8>) -> Result<Vec<u
     ensures refused { IfErr result (IsRefusalOfInput form input.items) }
 {
     let certificate = certificate_of(alloc, input)?;
-    check_names(&certificate)?;
+    check_open_types(alloc, &certificate)?;
     match form {
         Form::Report => lines_of(alloc, &certificate),
         Form::Der => der_of(alloc, &certificate),
+    }
+}
+
+/// Refuses a certificate that was read, but whose open types hold what they cannot hold.
+fn check_open_types(alloc: Global, certificate: &Certificate) -> Result<(), ShowError>
+    ensures good { OnOk result (HasGoodNames certificate.now) }
+    ensures refused { (form : Form) →
+        IfErr result (IsRefusalOfCertificate form certificate.now) }
+{
+    match check_names(certificate) {
+        Ok(()) => check_parameters(alloc, certificate),
+        Err(error) => Err(error),
     }
 }
 
@@ -81,6 +101,25 @@ fn check_names(certificate: &Certificate) -> Result<(), ShowError>
     }
     if let Some(fault) = first_name_fault(&signed.subject) {
         return Err(ShowError::BadSubject(fault));
+    }
+    Ok(())
+}
+
+/// Refuses a certificate with parameters of an algorithm that are of no value of the type of their tag.
+fn check_parameters(alloc: Global, certificate: &Certificate) -> Result<(), ShowError>
+    ensures { (form : Form) → IfErr result (IsRefusalOfCertificate form certificate.now) }
+{
+    let rules = DerRules::new(alloc);
+    let signed = &certificate.tbs_certificate;
+    let key = &signed.subject_public_key_info;
+    if let Some(bad) = bad_parameters(&rules, alloc, &key.algorithm)? {
+        return Err(ShowError::BadKeyParameters(bad));
+    }
+    if let Some(bad) = bad_parameters(&rules, alloc, &signed.signature)? {
+        return Err(ShowError::BadSignatureParameters(bad));
+    }
+    if let Some(bad) = bad_parameters(&rules, alloc, &certificate.signature_algorithm)? {
+        return Err(ShowError::BadSignatureParameters(bad));
     }
     Ok(())
 }

@@ -1,8 +1,12 @@
-//! Which values a name cannot have.
-use asn1_certificate_reader::{MAX_DEPTH, NameFault, ValueFault, first_name_fault};
+//! Which values a name cannot have, which parameters an algorithm, and what is shown of a value that is not of its type.
+use crate::form::Form;
+use crate::show::{ShowError, written};
+use asn1_certificate_reader::{
+    MAX_DEPTH, NameFault, ParameterType, ValueFault, bad_parameters, first_name_fault,
+};
 use asn1_der::DerRules;
 use asn1_rules::Rules;
-use asn1_x509::Name;
+use asn1_x509::{AlgorithmIdentifier, Name};
 use std::alloc::Global;
 use std::process::Abort;
 
@@ -42,4 +46,98 @@ fn values_of_names_are_strings(rt: HostRuntime) {
     assert_fault(&rt, alloc, &of_value(0x8c, b'x'), no_string);
     assert_fault(&rt, alloc, &of_value(0x0c, 0xff), bad_string);
     assert_fault(&rt, alloc, &of_value(0x1e, b'x'), bad_string);
+}
+
+/// Reads an algorithm in DER, whose parameters have one octet and this tag, and looks at these.
+fn assert_parameters(
+    rt: &impl Abort,
+    alloc: Global,
+    tag: u8,
+    octet: u8,
+    expected: Option<ParameterType>,
+) {
+    let octets = [0x30, 7, 6, 2, 0x2a, 3, tag, 1, octet];
+    let owned = Vec::from_slice(alloc, &octets).expect(rt, "memory");
+    let rules = DerRules::new(alloc);
+    let algorithm: AlgorithmIdentifier = rules
+        .read_value(&owned, MAX_DEPTH)
+        .expect(rt, "an algorithm");
+    let bad = bad_parameters(&rules, alloc, &algorithm).expect(rt, "memory");
+    assert!(rt; bad == expected);
+}
+
+#[test]
+fn parameters_are_of_the_type_of_their_tag(rt: HostRuntime) {
+    let alloc = rt.alloc();
+    assert_parameters(&rt, alloc, 1, 0xff, None);
+    assert_parameters(&rt, alloc, 1, 1, Some(ParameterType::Boolean));
+    assert_parameters(&rt, alloc, 2, 0, None);
+    assert_parameters(&rt, alloc, 0x22, 0, Some(ParameterType::Integer));
+    assert_parameters(&rt, alloc, 3, 0, None);
+    assert_parameters(&rt, alloc, 3, 1, Some(ParameterType::BitString));
+    assert_parameters(&rt, alloc, 4, 0, None);
+    assert_parameters(&rt, alloc, 5, 0, Some(ParameterType::Null));
+    assert_parameters(&rt, alloc, 6, 0x2a, None);
+    assert_parameters(&rt, alloc, 6, 0x80, Some(ParameterType::ObjectIdentifier));
+    assert_parameters(&rt, alloc, 0x1e, 0, Some(ParameterType::BmpString));
+}
+
+/// A certificate in DER. The parameters of its three algorithms are a BOOLEAN of these octets: of the algorithm of its signature, as it
+/// is said inside, of that of its key, and of the first as it is said beside. Its key usage is not of its type.
+const fn certificate(inside: u8, key: u8, beside: u8) -> [u8; 71] {
+    [
+        0x30, 69, 0x30, 55, 0xa0, 3, 2, 1, 2, 2, 1, 1, 0x30, 7, 6, 2, 0x2a, 3, 1, 1, inside, 0x30,
+        0, 0x30, 4, 0x17, 0, 0x17, 0, 0x30, 0, 0x30, 12, 0x30, 7, 6, 2, 0x2a, 3, 1, 1, key, 3, 1,
+        0, 0xa3, 12, 0x30, 10, 0x30, 8, 6, 3, 0x55, 0x1d, 15, 4, 1, 0, 0x30, 7, 6, 2, 0x2a, 3, 1,
+        1, beside, 3, 1, 0,
+    ]
+}
+
+/// Why a certificate is refused.
+fn refusal(rt: &impl Abort, alloc: Global, certificate: &[u8]) -> Option<ShowError> {
+    let input = Vec::from_slice(alloc, certificate).expect(rt, "memory");
+    written(alloc, Form::Der, input).err()
+}
+
+/// Whether a certificate is refused for the parameters of the algorithm of its signature.
+fn is_refused_for_its_signature(rt: &impl Abort, alloc: Global, certificate: &[u8]) -> bool {
+    match refusal(rt, alloc, certificate) {
+        Some(ShowError::BadSignatureParameters(bad)) => bad == ParameterType::Boolean,
+        _ => false,
+    }
+}
+
+/// Whether a certificate is refused for the parameters of the algorithm of its key.
+fn is_refused_for_its_key(rt: &impl Abort, alloc: Global, certificate: &[u8]) -> bool {
+    match refusal(rt, alloc, certificate) {
+        Some(ShowError::BadKeyParameters(bad)) => bad == ParameterType::Boolean,
+        _ => false,
+    }
+}
+
+#[test]
+fn bad_parameters_are_refused(rt: HostRuntime) {
+    let alloc = rt.alloc();
+    assert!(rt; refusal(&rt, alloc, &certificate(0xff, 0, 0xff)).is_none());
+    assert!(rt; is_refused_for_its_signature(&rt, alloc, &certificate(2, 0, 0xff)));
+    assert!(rt; is_refused_for_its_signature(&rt, alloc, &certificate(0xff, 0, 2)));
+    assert!(rt; is_refused_for_its_key(&rt, alloc, &certificate(0xff, 2, 0xff)));
+}
+
+#[test]
+fn a_value_that_is_not_of_its_type_is_shown_as_octets(rt: HostRuntime) {
+    let alloc = rt.alloc();
+    let input = Vec::from_slice(alloc, &certificate(0, 0, 0)).expect(&rt, "memory");
+    let Ok(lines) = written(alloc, Form::Report, input) else {
+        rt.panic("not shown");
+    };
+    let text = String::from_utf8(lines).expect(&rt, "text");
+    assert!(rt;
+        text.as_str()
+            .ends_with("extension keyUsage: (not of its type) 00\n")
+    );
+    assert!(rt;
+        text.as_str()
+            .contains("public key:    1.2.3, kept in 0 bits\n")
+    );
 }

@@ -2,3 +2,5 @@ mod CharactersOfUnits
 mod NameFaults
 mod OneByOne
 mod ReadInside
+mod ShownAs
+mod WholeOctets

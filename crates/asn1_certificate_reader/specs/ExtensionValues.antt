@@ -1,37 +1,73 @@
--- What is shown of the values of two kinds of extension: what a key may be used for, and whether a certificate is that of an authority.
+-- What is shown of the values of extensions, by the types that RFC 5280 has for their kinds.
 use Rattle.std.specs.Bool.{beq}
 use Rattle.std.specs.Cmp.Lexicographic.{pointwise}
-use Rattle.std.specs.Prelude.{◌≡◌, ⊤, ℕ, ℤ, Bool, List, [], ◌∷◌, None, Option, Some, Vec, codes}
+use Rattle.std.specs.List.{AllZip}
+use Rattle.std.specs.Prelude.{◌≡◌, ◌<◌, ◌^◌, ⊤, ℕ, ℤ, Bool, ◌==◌, List, [], ◌∷◌, None, Option, Some, Vec, codes, if◌then◌else◌, nat_eq}
 use Rattle.std.specs.declared.alloc.Global.{Global}
+use Rattle.asn1_certificate_reader.specs.GeneralNamesShown.{AreGeneralNamesOf}
 use Rattle.asn1_certificate_reader.specs.Inside.{AreReadAs}
+use Rattle.asn1_certificate_reader.specs.ObjectsShown.{IsObjectOf}
+use Rattle.asn1_certificate_reader.specs.Options.{AreBothOrNone}
+use Rattle.asn1_certificate_reader.specs.Simple.{IsOctetNumberOf}
+use Rattle.asn1_certificate_reader.specs.declared.extensions.ValueKind.{ValueKind}
+use Rattle.asn1_certificate_reader.specs.declared.extensions.ValueKind.TheVariants as kind
+use Rattle.asn1_certificate_report.specs.declared.extension.AuthorityKey.{AuthorityKey}
 use Rattle.asn1_certificate_report.specs.declared.extension.ExtensionValue.{ExtensionValue}
-use Rattle.asn1_certificate_report.specs.declared.extension.ExtensionValue.TheVariants.{Usages, Authority, OtherType}
-use Rattle.asn1_model.specs.Kinds.{string_type}
+use Rattle.asn1_certificate_report.specs.declared.extension.ExtensionValue.TheVariants as own
+use Rattle.asn1_certificate_report.specs.declared.general_name.ShownGeneralName.{ShownGeneralName}
+use Rattle.asn1_model.specs.ConstraintSets.{unconstrained}
+use Rattle.asn1_model.specs.Kinds.{list_type, object_identifier, string_type}
 use Rattle.asn1_model.specs.Meaning.{Meaning}
-use Rattle.asn1_model.specs.Records.{bits}
+use Rattle.asn1_model.specs.Records.{bits, octet, units}
 use Rattle.asn1_model.specs.Tags.{universal}
 use Rattle.asn1_rules.specs.Rules.{Format}
-use Rattle.asn1_x509_extensions.specs.contracts.basic_constraints.BasicConstraintsAsnType.TheImpl.{ghosts as basic_constraints_types}
+use Rattle.asn1_x509_extensions.specs.contracts.authority_key_identifier.AuthorityKeyIdentifierAsnType.TheImpl.{ghosts as authority_keys}
+use Rattle.asn1_x509_extensions.specs.contracts.authority_key_identifier.AuthorityKeyIdentifierPartialEq.TheImpl.{ghosts as authority_key_equality}
+use Rattle.asn1_x509_extensions.specs.contracts.basic_constraints.BasicConstraintsAsnType.TheImpl.{ghosts as basic_constraints}
 use Rattle.asn1_x509_extensions.specs.contracts.basic_constraints.BasicConstraintsPartialEq.TheImpl.{ghosts as basic_constraints_equality}
+use Rattle.asn1_x509_extensions.specs.contracts.general_name.GeneralNameAsnType.TheImpl.{ghosts as general_names}
+use Rattle.asn1_x509_extensions.specs.contracts.general_name.GeneralNamePartialEq.TheImpl.{ghosts as general_name_equality}
+use Rattle.asn1_x509_extensions.specs.declared.authority_key_identifier.AuthorityKeyIdentifier.{AuthorityKeyIdentifier}
 use Rattle.asn1_x509_extensions.specs.declared.basic_constraints.BasicConstraints.{BasicConstraints}
+use Rattle.asn1_x509_extensions.specs.declared.general_name.GeneralName.{GeneralName}
 use Rattle.asn1_x509_extensions.specs.declared.path_length.PathLength.{PathLength}
 
--- the arcs of id-ce-keyUsage (RFC 5280, 4.2.1.3)
-abbrev pub key_usage : List ℕ
-key_usage = 2 ∷ 5 ∷ 29 ∷ 15 ∷ []
+-- the kind of the values of id-ce-.., by its last arc (RFC 5280, 4.2.1)
+abbrev pub kind_by_last_arc : ℕ → ValueKind
+kind_by_last_arc arc =
+    if arc == 14 then kind.KeyIdentifier
+    else (if arc == 15 then kind.Usages
+    else (if arc == 17 then kind.Names
+    else (if arc == 18 then kind.Names
+    else (if arc == 19 then kind.Authority
+    else (if arc == 35 then kind.AuthorityKey
+    else (if arc == 37 then kind.Purposes
+    else kind.Unknown))))))
 
--- the arcs of id-ce-basicConstraints (4.2.1.9)
-abbrev pub basic_constraints : List ℕ
-basic_constraints = 2 ∷ 5 ∷ 29 ∷ 19 ∷ []
+-- the kind of the values of an extension: id-ce is 2.5.29, and what is under no such arcs has no type here
+abbrev pub kind_of : List ℕ → ValueKind
+kind_of (a ∷ b ∷ c ∷ d ∷ []) =
+    if a == 2 then (if b == 5 then (if c == 29 then kind_by_last_arc d else kind.Unknown) else kind.Unknown) else kind.Unknown
+kind_of _ = kind.Unknown
 
 -- it is these octets, of a value that is not of the type of its kind
 abbrev pub IsOtherType : List ℕ → ExtensionValue → Type 0
-IsOtherType octets (OtherType shown) = shown.items ≡ octets
+IsOtherType octets (own.OtherType shown) = shown.items ≡ octets
 IsOtherType octets _ = ⊥
+
+-- it is these octets, of a kind that is not looked into
+abbrev pub AreOctets : List ℕ → ExtensionValue → Type 0
+AreOctets octets (own.Octets shown) = shown.items ≡ octets
+AreOctets octets _ = ⊥
+
+-- it is these octets, the identifier of a key
+abbrev pub IsKeyIdentifier : List ℕ → ExtensionValue → Type 0
+IsKeyIdentifier octets (own.KeyIdentifier shown) = shown.items ≡ octets
+IsKeyIdentifier octets _ = ⊥
 
 -- it is these bits, which say what a key may be used for
 abbrev pub AreUsages : List Bool → ExtensionValue → Type 0
-AreUsages usages (Usages shown) = shown.items ≡ usages
+AreUsages usages (own.Usages shown) = shown.items ≡ usages
 AreUsages usages _ = ⊥
 
 -- the number of certificates that may be between, if there is one
@@ -41,38 +77,73 @@ path_length_of (Some length) = Some length.0
 
 -- it says of an authority what these constraints say: whether it is one, and the path length
 abbrev pub IsAuthority : BasicConstraints → ExtensionValue → Type 0
-IsAuthority constraints (Authority shown) =
+IsAuthority constraints (own.Authority shown) =
     (shown.is_authority ≡ constraints.is_authority) × (shown.path_length ≡ path_length_of constraints.path_length)
 IsAuthority constraints _ = ⊥
+
+-- it is these objects, which say what a key may be used for, in their order
+abbrev pub ArePurposes : List (List ℕ) → ExtensionValue → Type 0
+ArePurposes purposes (own.Purposes shown) = AllZip IsObjectOf purposes shown.items
+ArePurposes purposes _ = ⊥
+
+-- an OCTET STRING, by its octets (X.680, 23)
+abbrev pub octet_string : Meaning (List ℕ)
+octet_string = string_type (universal 4) (codes "OCTET_STRING") (λ unit. unit < 2 ^ 8) (units octet)
 
 -- a BIT STRING, by its bits (X.680, 22)
 abbrev pub bit_string : Meaning (List Bool)
 bit_string = string_type (universal 3) (codes "BIT_STRING") (λ _. ⊤) bits
 
--- octets that were read as these bits, or as none
-abbrev pub IsOfBits : List ℕ → Option (List Bool) → ExtensionValue → Type 0
-IsOfBits octets (Some usages) shown = AreUsages usages shown
-IsOfBits octets None shown = IsOtherType octets shown
+-- a SEQUENCE OF such values, by the list (X.680, 26)
+abbrev pub sequence_of : {V : Type 0} → Meaning V → Meaning (Vec V Global)
+sequence_of m = list_type (λ v. v.items) unconstrained m
 
--- octets that were read as these constraints, or as none
-abbrev pub IsOfConstraints : List ℕ → Option BasicConstraints → ExtensionValue → Type 0
-IsOfConstraints octets (Some constraints) shown = IsAuthority constraints shown
-IsOfConstraints octets None shown = IsOtherType octets shown
+-- two lists are equal, one by one
+abbrev pub equal_lists : {V : Type 0} → (V → V → Bool) → Vec V Global → Vec V Global → Bool
+equal_lists eq a b = pointwise eq a.items b.items
+
+-- octets that were read as this value are shown by it, and octets that were read as none as they are
+abbrev pub IsShownByRead : {V : Type 0} → (V → ExtensionValue → Type 0) → List ℕ → Option V → ExtensionValue → Type 0
+IsShownByRead IsShown octets (Some value) shown = IsShown value shown
+IsShownByRead IsShown octets None shown = IsOtherType octets shown
 
 module _ (F : Format (Vec ℕ Global)) where
-  -- What is shown of these octets, the value of a key usage: the bits that they are read as, and else the octets.
-  pub record IsKeyUsageOf (octets : List ℕ) (shown : ExtensionValue) : Type 0 where
-    pub usages : Option (List Bool)
-    pub are_read_as : AreReadAs F bit_string (pointwise beq) octets usages
-    pub is_shown : IsOfBits octets usages shown
+  -- What is shown of these octets by a type: what is shown of the value that they are read as, and else the octets.
+  pub record IsShownAs {V : Type 0} (m : Meaning V) (eq : V → V → Bool) (IsShown : V → ExtensionValue → Type 0)
+      (octets : List ℕ) (shown : ExtensionValue) : Type 0 where
+    pub value : Option V
+    pub are_read_as : AreReadAs F m eq octets value
+    pub is_shown : IsShownByRead IsShown octets value shown
 
-  -- What is shown of these octets, the value of basic constraints: the constraints that they are read as, and else the octets.
-  pub record IsAuthorityOf (octets : List ℕ) (shown : ExtensionValue) : Type 0 where
-    pub constraints : Option BasicConstraints
-    pub are_read_as : AreReadAs F basic_constraints_types.meaning basic_constraints_equality.eq octets constraints
-    pub is_shown : IsOfConstraints octets constraints shown
+  -- it is these names
+  abbrev pub AreNames : List GeneralName → ExtensionValue → Type 0
+  AreNames names (own.Names shown) = AreGeneralNamesOf F names shown.items
+  AreNames names _ = ⊥
 
-  -- What is shown of these octets, the value of an extension of this kind, where it is one of the two.
-  pub record IsValueOfKind (kind octets : List ℕ) (shown : ExtensionValue) : Type 0 where
-    pub usage : kind ≡ key_usage → IsKeyUsageOf octets shown
-    pub authority : kind ≡ basic_constraints → IsAuthorityOf octets shown
+  -- the names of who issued the certificate of an authority, which may be absent: that is shown as no names
+  abbrev pub AreIssuers : Option (Vec GeneralName Global) → List ShownGeneralName → Type 0
+  AreIssuers (Some names) shown = AreGeneralNamesOf F names.items shown
+  AreIssuers None shown = shown ≡ []
+
+  -- The key of an authority, by its identifier, and by the serial number and the issuer of its certificate, where they are said.
+  pub record IsKeyOfAuthority (key : AuthorityKeyIdentifier) (shown : AuthorityKey) : Type 0 where
+    pub identifier : AreBothOrNone (λ octets (copy : Vec ℕ Global). copy.items ≡ octets) key.key_identifier shown.identifier
+    pub serial_number : AreBothOrNone IsOctetNumberOf key.authority_cert_serial_number shown.serial_number
+    pub issuer : AreIssuers key.authority_cert_issuer shown.issuer.items
+
+  -- it is that key
+  abbrev pub IsAuthorityKey : AuthorityKeyIdentifier → ExtensionValue → Type 0
+  IsAuthorityKey key (own.AuthorityKey shown) = IsKeyOfAuthority key shown
+  IsAuthorityKey key _ = ⊥
+
+  -- What is shown of these octets, which are a value of this kind (RFC 5280, 4.2.1): a key identifier (4.2.1.2), a key usage (4.2.1.3),
+  -- further names (4.2.1.6 and 4.2.1.7), basic constraints (4.2.1.9), the key of an authority (4.2.1.1) or an extended key usage
+  -- (4.2.1.12).
+  abbrev pub IsValueOfKind : ValueKind → List ℕ → ExtensionValue → Type 0
+  IsValueOfKind kind.KeyIdentifier = IsShownAs octet_string (pointwise nat_eq) IsKeyIdentifier
+  IsValueOfKind kind.Usages = IsShownAs bit_string (pointwise beq) AreUsages
+  IsValueOfKind kind.Names = IsShownAs (sequence_of general_names.meaning) (equal_lists general_name_equality.eq) (λ names. AreNames names.items)
+  IsValueOfKind kind.Authority = IsShownAs basic_constraints.meaning basic_constraints_equality.eq IsAuthority
+  IsValueOfKind kind.AuthorityKey = IsShownAs authority_keys.meaning authority_key_equality.eq IsAuthorityKey
+  IsValueOfKind kind.Purposes = IsShownAs (sequence_of object_identifier) (equal_lists (pointwise nat_eq)) (λ purposes. ArePurposes purposes.items)
+  IsValueOfKind kind.Unknown = AreOctets

@@ -13,6 +13,10 @@ module _ (F : Format (Vec ℕ Global)) where
     pub carried : (kept : Vec ℕ Global) → kept.items ≡ octets → F.carries kept (own_records m value)
     pub within_depth : highest (own_records m value) ≤ 64
 
+  -- the octets are of no such value
+  abbrev pub AreOfNoValue : {V : Type 0} → Meaning V → List ℕ → Type 0
+  AreOfNoValue {V = V} m octets = (value : V) → ¬ AreOctetsOfValue m octets value
+
   -- What octets were read as, by the meaning and the equality of a type: where they are those of a value, one that is equal to it. Of
   -- other octets nothing is said.
   abbrev pub AreReadAs : {V : Type 0} → Meaning V → (V → V → Bool) → List ℕ → Option V → Type 0

@@ -6,6 +6,7 @@ use Rattle.std.specs.Str.{chars}
 use Rattle.std.specs.declared.alloc.Global.{Global}
 use Rattle.asn1_certificate_reader.specs.Characters.{directory_characters}
 use Rattle.asn1_certificate_reader.specs.Inside.{AreReadAs}
+use Rattle.asn1_certificate_reader.specs.ObjectsShown.{IsObjectOf}
 use Rattle.asn1_certificate_report.specs.declared.name.Attribute.{Attribute}
 use Rattle.asn1_certificate_report.specs.declared.name.AttributeValue.{AttributeValue}
 use Rattle.asn1_certificate_report.specs.declared.name.AttributeValue.TheVariants.{Text, Octets}
@@ -65,7 +66,7 @@ module _ (F : Format (Vec ℕ Global)) where
 
   -- an attribute of this kind, with its value (RFC 4514, 2.3)
   pub record IsAttributeOf (attribute : AttributeTypeAndValue) (shown : Attribute) : Type 0 where
-    pub kind : shown.kind.identifier ≡ attribute.attribute
+    pub kind : IsObjectOf attribute.attribute shown.kind
     pub value : IsValueOf attribute.value shown.value
 
   -- a part of a name, with its attributes in their order (2.2)

@@ -2,37 +2,37 @@
 use Rattle.std.specs.List.{AllZip}
 use Rattle.std.specs.Prelude.{◌≡◌, ℕ, List, [], Option, None, Some, Vec}
 use Rattle.std.specs.declared.alloc.Global.{Global}
-use Rattle.asn1_values.specs.Numbers.{IsShortest, magnitude, signed}
 use Rattle.asn1_certificate_report.specs.declared.extension.ShownExtension.{ShownExtension}
 use Rattle.asn1_certificate_report.specs.declared.report.Report.{Report}
 use Rattle.asn1_certificate_reader.specs.Algorithms.{IsSignatureOf}
-use Rattle.asn1_certificate_reader.specs.ExtensionValues.{IsValueOfKind}
+use Rattle.asn1_certificate_reader.specs.ExtensionValues.{IsValueOfKind, kind_of}
+use Rattle.asn1_certificate_reader.specs.Keys.{IsKeyOf}
 use Rattle.asn1_certificate_reader.specs.NamesShown.{IsNameOf}
-use Rattle.asn1_certificate_reader.specs.Simple.{IsTimeOf, IsVersionOf}
+use Rattle.asn1_certificate_reader.specs.ObjectsShown.{IsObjectOf}
+use Rattle.asn1_certificate_reader.specs.Simple.{IsOctetNumberOf, IsTimeOf, IsVersionOf}
 use Rattle.asn1_rules.specs.Rules.{Format}
 use Rattle.asn1_x509.specs.declared.certificate.Certificate.{Certificate}
 use Rattle.asn1_x509.specs.declared.extension.Extension.{Extension}
 
 -- an extension of that kind, critical or not, and of its value (RFC 5280, 4.2)
 pub record IsExtensionOf (F : Format (Vec ℕ Global)) (e : Extension) (shown : ShownExtension) : Type 0 where
-  pub kind : shown.kind.identifier ≡ e.extension_id
+  pub kind : IsObjectOf e.extension_id shown.kind
   pub critical : shown.is_critical ≡ e.critical
-  pub value : IsValueOfKind F e.extension_id e.value shown.value
+  pub value : IsValueOfKind F (kind_of e.extension_id) e.value shown.value
 
 -- one for each, in their order, and none where there are none
 abbrev pub AreExtensionsOf : Format (Vec ℕ Global) → Option (Vec Extension Global) → List ShownExtension → Type 0
 AreExtensionsOf F None shown = shown ≡ []
 AreExtensionsOf F (Some es) shown = AllZip (IsExtensionOf F) es.items shown
 
--- What is shown is of this certificate (RFC 5280, 4.1), whose names and extensions are read by a codec of this format.
+-- What is shown is of this certificate (RFC 5280, 4.1), whose names, key and extensions are read by a codec of this format.
 pub record IsReportOf (F : Format (Vec ℕ Global)) (c : Certificate) (r : Report) : Type 0 where
   pub version : IsVersionOf c.tbs_certificate.version r.version
-  pub serial_number : signed r.serial_number.is_negative (magnitude r.serial_number.octets.items) ≡ c.tbs_certificate.serial_number
-  pub shortest : IsShortest r.serial_number.octets.items
+  pub serial_number : IsOctetNumberOf c.tbs_certificate.serial_number r.serial_number
   pub subject : IsNameOf F c.tbs_certificate.subject r.subject
   pub issuer : IsNameOf F c.tbs_certificate.issuer r.issuer
   pub valid_from : IsTimeOf c.tbs_certificate.validity.not_before r.valid_from
   pub valid_until : IsTimeOf c.tbs_certificate.validity.not_after r.valid_until
-  pub key_algorithm : r.key.algorithm.identifier ≡ c.tbs_certificate.subject_public_key_info.algorithm.algorithm
+  pub key : IsKeyOf F c.tbs_certificate.subject_public_key_info r.key
   pub signature : IsSignatureOf c.signature_algorithm c.tbs_certificate.signature r.signature
   pub extensions : AreExtensionsOf F c.tbs_certificate.extensions r.extensions.items

@@ -1,10 +1,15 @@
 //! Names of the nine kinds.
+ghost use Rattle.std.specs.Prelude.{IfOk};
+ghost use Rattle.asn1_certificate_reader.specs.GeneralNamesShown.{AreCharactersOf, AreGeneralNamesOf, IsGeneralNameOf};
+ghost use Rattle.asn1_certificate_reader.specs.Options.{AreBothOrNone};
+
 use crate::attributes::name_of;
 use crate::characters::{ascii_characters, directory_characters};
 use crate::objects::named;
 use asn1_certificate_report::ShownGeneralName;
 use asn1_rules::Rules;
-use asn1_x509_extensions::{EdiPartyName, GeneralName};
+use asn1_x509::DirectoryString;
+use asn1_x509_extensions::GeneralName;
 use std::alloc::{AllocError, Global};
 
 /// What is shown of names.
@@ -12,7 +17,9 @@ pub(crate) fn general_names_of<R: Rules<Output = Vec<u8>>>(
     rules: &R,
     alloc: Global,
     names: &[GeneralName],
-) -> Result<Vec<ShownGeneralName>, AllocError> {
+) -> Result<Vec<ShownGeneralName>, AllocError>
+    ensures { IfOk result (λ shown. AreGeneralNamesOf R.format names.now shown.items) }
+{
     let mut shown = Vec::new(alloc);
     for name in names {
         shown.push(general_name_of(rules, alloc, name)?)?;
@@ -25,7 +32,9 @@ fn general_name_of<R: Rules<Output = Vec<u8>>>(
     rules: &R,
     alloc: Global,
     name: &GeneralName,
-) -> Result<ShownGeneralName, AllocError> {
+) -> Result<ShownGeneralName, AllocError>
+    ensures { IfOk result (IsGeneralNameOf R.format name.now) }
+{
     match name {
         GeneralName::Other(other) => Ok(ShownGeneralName::Other(
             named(alloc, &other.type_id)?,
@@ -39,7 +48,10 @@ fn general_name_of<R: Rules<Output = Vec<u8>>>(
         GeneralName::Directory(directory) => {
             Ok(ShownGeneralName::Directory(name_of(rules, alloc, directory)?))
         }
-        GeneralName::EdiParty(party) => party_of(alloc, party),
+        GeneralName::EdiParty(party) => Ok(ShownGeneralName::Party(
+            directory_characters(alloc, &party.party_name)?,
+            characters_of_assigner(alloc, &party.name_assigner)?,
+        )),
         GeneralName::Uri(uri) => Ok(ShownGeneralName::Uri(ascii_characters(alloc, uri)?)),
         GeneralName::IpAddress(octets) => {
             Ok(ShownGeneralName::Address(Vec::from_slice(alloc, octets.as_slice())?))
@@ -50,14 +62,15 @@ fn general_name_of<R: Rules<Output = Vec<u8>>>(
     }
 }
 
-/// What is shown of a party.
-fn party_of(alloc: Global, party: &EdiPartyName) -> Result<ShownGeneralName, AllocError> {
-    let name = directory_characters(alloc, &party.party_name)?;
-    match &party.name_assigner {
-        Some(assigner) => Ok(ShownGeneralName::Party(
-            name,
-            Some(directory_characters(alloc, assigner)?),
-        )),
-        None => Ok(ShownGeneralName::Party(name, None)),
+/// The characters of who named a party, if that is said.
+fn characters_of_assigner(
+    alloc: Global,
+    assigner: &Option<DirectoryString>,
+) -> Result<Option<Vec<char>>, AllocError>
+    ensures { IfOk result (AreBothOrNone AreCharactersOf assigner.now) }
+{
+    match assigner {
+        Some(assigner) => Ok(Some(directory_characters(alloc, assigner)?)),
+        None => Ok(None),
     }
 }

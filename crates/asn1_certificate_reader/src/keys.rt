@@ -1,6 +1,8 @@
 //! Public keys and signatures.
-ghost use Rattle.std.specs.Prelude.{◌≡◌, IfOk};
+ghost use Rattle.std.specs.Prelude.{◌≡◌, ◌≢◌, ◌<◌, ◌%◌, All, IfOk, IfSome, MatchOption, length};
 ghost use Rattle.asn1_certificate_reader.specs.Algorithms.{IsSignatureOf};
+ghost use Rattle.asn1_certificate_reader.specs.Keys.{AreBitsReadAs, IsCurveIn, IsKeyOf, IsModulusOf, IsSizeByAlgorithm, IsSizeByParameters, IsSizeOf, IsSizeOfRsa, IsSizeOnCurve};
+ghost use Rattle.asn1_items.specs.Bits.{bits_of_octets};
 
 use crate::inside::read_inside;
 use crate::objects::named;
@@ -9,9 +11,11 @@ use asn1_certificate_report::{KeySize, ShownKey, Signature};
 use asn1_certificate_text::{bit_length, curve_of};
 use asn1_items::Content;
 use asn1_rules::Rules;
-use asn1_strings::{BitString, ObjectIdentifier};
-use asn1_types::AnyStr;
-use asn1_x509::{AlgorithmIdentifier, RsaPublicKey, SubjectPublicKeyInfo};
+use asn1_strings::ObjectIdentifier;
+use asn1_types::{Any, AnyStr};
+use asn1_x509::{
+    AlgorithmIdentifier, RsaPublicKey, SubjectPublicKeyInfo, rsa_public_key_is_well_tagged,
+};
 use std::alloc::{AllocError, Global};
 
 /// The arcs of `rsaEncryption` (RFC 3279, 2.3.1).
@@ -26,8 +30,7 @@ pub(crate) fn key_of<R: Rules<Output = Vec<u8>>>(
     alloc: Global,
     key: &SubjectPublicKeyInfo,
 ) -> Result<ShownKey, AllocError>
-    ensures { IfOk result (λ shown.
-        shown.algorithm.identifier ≡ key.now.algorithm.algorithm) }
+    ensures { IfOk result (IsKeyOf R.format key.now) }
 {
     Ok(ShownKey {
         algorithm: named(alloc, &key.algorithm.algorithm)?,
@@ -40,64 +43,121 @@ fn size_of<R: Rules<Output = Vec<u8>>>(
     rules: &R,
     alloc: Global,
     key: &SubjectPublicKeyInfo,
-) -> Result<KeySize, AllocError> {
+) -> Result<KeySize, AllocError>
+    ensures { IfOk result (IsSizeOf R.format key.now) }
+{
     let arcs = key.algorithm.algorithm.as_slice();
     if arcs == RSA {
-        return modulus_size(rules, alloc, &key.subject_public_key);
+        return size_of_rsa(rules, alloc, key.subject_public_key.as_slice());
     }
     if arcs == ELLIPTIC {
-        return curve_size(rules, alloc, key);
+        return size_by_parameters(rules, alloc, key);
     }
+    Ok(size_by_algorithm(arcs, key.subject_public_key.len()))
+}
+
+/// The size of a key of the algorithm of these arcs, which is kept in this many bits.
+fn size_by_algorithm(arcs: &[u32], count: usize) -> KeySize
+    ensures { IsSizeByAlgorithm arcs.now count result }
+{
     match curve_of(arcs) {
-        Some(curve) => Ok(KeySize::Fixed(curve.bits)),
+        Some(curve) => KeySize::Fixed(curve.bits),
+        None => KeySize::Kept(count),
+    }
+}
+
+/// The size of a key of RSA.
+fn size_of_rsa<R: Rules<Output = Vec<u8>>>(
+    rules: &R,
+    alloc: Global,
+    bits: &[bool],
+) -> Result<KeySize, AllocError>
+    ensures { IfOk result (IsSizeOfRsa R.format bits.now) }
+{
+    match read_key(rules, alloc, bits)? {
+        Some(key) => modulus_of(alloc, &key),
+        None => Ok(KeySize::Kept(bits.len())),
+    }
+}
+
+/// The key of RSA that bits are read as, if they are.
+fn read_key<R: Rules<Output = Vec<u8>>>(
+    rules: &R,
+    alloc: Global,
+    bits: &[bool],
+) -> Result<Option<RsaPublicKey>, AllocError>
+    ensures { IfOk result (AreBitsReadAs R.format bits.now) }
+{
+    rsa_public_key_is_well_tagged();
+    match octets_of_bits(alloc, bits)? {
+        Some(octets) => read_inside(rules, alloc, octets.as_slice()),
+        None => Ok(None),
+    }
+}
+
+/// How many bits the modulus of a key has, and its exponent.
+fn modulus_of(alloc: Global, key: &RsaPublicKey) -> Result<KeySize, AllocError>
+    ensures { IfOk result (IsModulusOf key.now) }
+{
+    let (_, modulus) = key.modulus.sign_magnitude(alloc)?;
+    let exponent = copy_of(alloc, &key.public_exponent)?;
+    Ok(KeySize::Modulus(bit_length(modulus.as_slice()), exponent))
+}
+
+/// The octets of bits, where these are whole octets.
+#[tactic(auto, using(crate::proofs::WholeOctets::no_bits))]
+fn octets_of_bits(alloc: Global, bits: &[bool]) -> Result<Option<Vec<u8>>, AllocError>
+    ensures octets { IfOk result (λ whole.
+        IfSome whole (λ octets. All (λ octet. octet < 256) octets.items)) }
+    ensures same { IfOk result (λ whole. MatchOption whole (length bits.now % 8 ≢ 0)
+        (λ octets. bits_of_octets octets.items ≡ bits.now)) }
+{
+    if bits.len() % 8 != 0 {
+        return Ok(None);
+    }
+    let mut content = Vec::new(alloc);
+    Content::String(AnyStr::Bits(bits)).append_to(&mut content, alloc)?;
+    match content.as_slice() {
+        [_, octets @ ..] => Ok(Some(Vec::from_slice(alloc, octets)?)),
+        [] => Ok(None),
+    }
+}
+
+/// The size of a key on a curve, which its parameters name.
+fn size_by_parameters<R: Rules<Output = Vec<u8>>>(
+    rules: &R,
+    alloc: Global,
+    key: &SubjectPublicKeyInfo,
+) -> Result<KeySize, AllocError>
+    ensures { IfOk result (IsSizeByParameters R.format key.now) }
+{
+    match curve_in(rules, alloc, &key.algorithm.parameters)? {
+        Some(curve) => size_on_curve(alloc, &curve),
         None => Ok(KeySize::Kept(key.subject_public_key.len())),
     }
 }
 
-/// The size of a key of RSA, which is that of its modulus, and its exponent.
-fn modulus_size<R: Rules<Output = Vec<u8>>>(
+/// The object that parameters are read as, if they are.
+fn curve_in<R: Rules<Output = Vec<u8>>>(
     rules: &R,
     alloc: Global,
-    bits: &BitString,
-) -> Result<KeySize, AllocError> {
-    if let Some(octets) = octets_of_bits(alloc, bits)?
-        && let Some(key) = read_inside::<R, RsaPublicKey>(rules, alloc, octets.as_slice())?
-    {
-        let (_, modulus) = key.modulus.sign_magnitude(alloc)?;
-        let exponent = copy_of(alloc, &key.public_exponent)?;
-        return Ok(KeySize::Modulus(bit_length(modulus.as_slice()), exponent));
+    parameters: &Option<Any>,
+) -> Result<Option<ObjectIdentifier>, AllocError>
+    ensures { IfOk result (IsCurveIn R.format parameters.now) }
+{
+    match parameters {
+        Some(parameters) => read_inside(rules, alloc, parameters.as_bytes()),
+        None => Ok(None),
     }
-    Ok(KeySize::Kept(bits.len()))
 }
 
-/// The size of a key on a curve, which its parameters name.
-fn curve_size<R: Rules<Output = Vec<u8>>>(
-    rules: &R,
-    alloc: Global,
-    key: &SubjectPublicKeyInfo,
-) -> Result<KeySize, AllocError> {
-    if let Some(parameters) = &key.algorithm.parameters
-        && let Some(object) = read_inside::<R, ObjectIdentifier>(
-            rules,
-            alloc,
-            parameters.as_bytes(),
-        )?
-    {
-        return match curve_of(object.as_slice()) {
-            Some(curve) => Ok(KeySize::Curve(curve.name, curve.bits)),
-            None => Ok(KeySize::UnnamedCurve(named(alloc, &object)?)),
-        };
-    }
-    Ok(KeySize::Kept(key.subject_public_key.len()))
-}
-
-/// The octets of bits, where these are whole octets.
-fn octets_of_bits(alloc: Global, bits: &BitString) -> Result<Option<Vec<u8>>, AllocError> {
-    let mut content = Vec::new(alloc);
-    Content::String(AnyStr::Bits(bits.as_slice())).append_to(&mut content, alloc)?;
-    match content.as_slice() {
-        [0, octets @ ..] => Ok(Some(Vec::from_slice(alloc, octets)?)),
-        _ => Ok(None),
+/// The name of a curve and the size of a key on it, or the object where it has no name here.
+fn size_on_curve(alloc: Global, curve: &ObjectIdentifier) -> Result<KeySize, AllocError>
+    ensures { IfOk result (IsSizeOnCurve curve.now) }
+{
+    match curve_of(curve.as_slice()) {
+        Some(known) => Ok(KeySize::Curve(known.name, known.bits)),
+        None => Ok(KeySize::UnnamedCurve(named(alloc, curve)?)),
     }
 }
 

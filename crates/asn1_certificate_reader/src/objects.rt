@@ -1,5 +1,8 @@
 //! Objects with their names.
-ghost use Rattle.std.specs.Prelude.{◌≡◌, IfOk};
+ghost use Rattle.std.specs.List.{AllZip};
+ghost use Rattle.std.specs.Prelude.{Contains, IfOk, MatchOption};
+ghost use Rattle.asn1_certificate_reader.specs.ObjectsShown.{IsObjectOf};
+ghost use Rattle.asn1_certificate_text.specs.Objects.{NamesObject, known_objects, object_names};
 
 use asn1_certificate_report::Object;
 use asn1_certificate_text::object_named;
@@ -8,23 +11,35 @@ use std::alloc::{AllocError, Global};
 
 /// An object with the name that it has here.
 pub(crate) fn named(alloc: Global, object: &ObjectIdentifier) -> Result<Object, AllocError>
-    ensures { IfOk result (λ named. named.identifier ≡ object.now) }
+    ensures { IfOk result (IsObjectOf object.now) }
 {
-    let name = object_named(object.as_slice()).map(|named| named.name);
     Ok(Object {
         identifier: ObjectIdentifier::new(Vec::from_slice(alloc, object.as_slice())?),
-        name,
+        name: known_name(object.as_slice()),
     })
+}
+
+/// The name of the object of these arcs, if it has one here.
+fn known_name(arcs: &[u32]) -> Option<&'static str>
+    ensures { MatchOption result (¬ Contains known_objects arcs.now)
+        (λ name. NamesObject object_names arcs.now name.now) }
+{
+    match object_named(arcs) {
+        Some(object) => Some(object.name),
+        None => None,
+    }
 }
 
 /// Objects with the names that they have here.
 pub(crate) fn all_named(
     alloc: Global,
     objects: &[ObjectIdentifier],
-) -> Result<Vec<Object>, AllocError> {
-    let mut named_objects = Vec::new(alloc);
+) -> Result<Vec<Object>, AllocError>
+    ensures { IfOk result (λ shown. AllZip IsObjectOf objects.now shown.items) }
+{
+    let mut shown = Vec::new(alloc);
     for object in objects {
-        named_objects.push(named(alloc, object)?)?;
+        shown.push(named(alloc, object)?)?;
     }
-    Ok(named_objects)
+    Ok(shown)
 }

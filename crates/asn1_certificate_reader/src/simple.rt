@@ -1,7 +1,6 @@
 //! Versions, numbers and times.
 ghost use Rattle.std.specs.Prelude.{◌≡◌, IfOk};
-ghost use Rattle.asn1_values.specs.Numbers.{IsShortest, magnitude, signed};
-ghost use Rattle.asn1_certificate_reader.specs.Simple.{IsTextOfTime, IsTimeOf, IsVersionOf, SaysInGeneral, SaysInUtc};
+ghost use Rattle.asn1_certificate_reader.specs.Simple.{IsOctetNumberOf, IsTextOfTime, IsTimeOf, IsVersionOf, SaysInGeneral, SaysInUtc};
 
 use asn1_certificate_report::{OctetNumber, ShownTime, Version};
 use asn1_certificate_text::Moment;
@@ -32,9 +31,7 @@ pub(crate) fn copy_of(alloc: Global, number: &Integer) -> Result<Integer, AllocE
 
 /// A number by its sign and its octets.
 pub(crate) fn octet_number(alloc: Global, number: &Integer) -> Result<OctetNumber, AllocError>
-    ensures number { IfOk result (λ shown.
-        signed shown.is_negative (magnitude shown.octets.items) ≡ number.now) }
-    ensures shortest { IfOk result (λ shown. IsShortest shown.octets.items) }
+    ensures { IfOk result (IsOctetNumberOf number.now) }
 {
     let (is_negative, octets) = number.sign_magnitude(alloc)?;
     Ok(OctetNumber {

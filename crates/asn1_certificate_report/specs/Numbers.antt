@@ -1,5 +1,5 @@
 -- Numbers.
-use Rattle.std.specs.Prelude.{ℕ, Bool, List, [], ◌∷◌, ◌++◌, codes, if◌then◌else◌}
+use Rattle.std.specs.Prelude.{ℕ, List, [], ◌∷◌, ◌++◌, codes, if◌then◌else◌}
 use Rattle.asn1_values.specs.Text.{integer_text}
 use Rattle.asn1_certificate_text.specs.Octets.{octets_text}
 use Rattle.asn1_certificate_report.specs.declared.number.OctetNumber.{OctetNumber}

@@ -50,5 +50,5 @@ pub record HoldsCertificate (text octets : List ℕ) : Type 0 where
   pub says : decode_of standard (filter is_symbol body) ≡ Ok octets
 
 -- the octets are those of the certificate in a text, or the input itself, which is no text with a certificate
-abbrev pub AreOctetsOf : List ℕ → List ℕ → Type 0
-AreOctetsOf input octets = HoldsCertificate input octets ⊎ (HasNoBegin input × (octets ≡ input))
+abbrev pub AreOctetsOfText : List ℕ → List ℕ → Type 0
+AreOctetsOfText input octets = HoldsCertificate input octets ⊎ (HasNoBegin input × (octets ≡ input))

@@ -1,4 +1,4 @@
-//! Laws of what no other contract names: that a text holds one certificate, and what derives give.
+//! Laws of what no other contract names: that a text tells the octets of its first certificate, and what derives give.
 ghost use Rattle.std.specs.Prelude.{◌≡◌, ◌↔◌, ℕ, IsTrue, List};
 ghost use Rattle.asn1_certificate_text.specs.Pem.{HoldsCertificate};
 ghost use Rattle.asn1_certificate_text.specs.declared.moment.Moment.{Moment};
@@ -10,8 +10,8 @@ use crate::moment::Moment;
 use crate::objects::{Curve, NamedObject};
 use crate::pem::PemError;
 
-/// A text holds the octets of one certificate at most.
-pub fn texts_hold_one_certificate()
+/// The octets of the first certificate in a text are determined by the text.
+pub fn texts_tell_their_first_certificate()
     ensures { (text a b : List ℕ) → HoldsCertificate text a → HoldsCertificate text b → a ≡ b }
 {}
 

@@ -13,8 +13,8 @@
 //! What the contracts promise, and the words that they use:
 //!
 //! - The octets of a text with a certificate are those that the base64 between the first line before a certificate and
-//!   the next line after one says, white space left out (`HoldsCertificate` of `specs/Pem.antt`). A text holds the octets
-//!   of one certificate at most (`texts_hold_one_certificate` of [`laws`]).
+//!   the next line after one says, white space left out (`HoldsCertificate` of `specs/Pem.antt`). They are
+//!   determined by the text (`texts_tell_their_first_certificate` of [`laws`]).
 //! - An error says which byte of the text it is about: where the first line before a certificate ends, if there is none
 //!   after it; where the symbol is that base64 refuses; or where the base64 ends that is not whole (`IsRefusal` of
 //!   `specs/PemRefusals.antt`).
@@ -23,7 +23,8 @@
 //! - A time is read as a moment if and only if it is written as RFC 5280 asks, and the moment is in the calendar
 //!   (`read` and `only` of [`Moment`], with the words of `specs/MomentTexts.antt`).
 //! - An object is found by its arcs if and only if a row of the table has these (`found`, `missing`), and has the name of
-//!   such a row (`listed`). That the rows say what the standards say is data, and no clause.
+//!   such a row (`listed`, over `object_names` and `curve_sizes` of `specs/Objects.antt`). That the rows say what the standards
+//!   say is data, and no clause.
 //! - Moments and errors are compared by what they are (`derives_keep_what_a_value_is` of [`laws`]).
 //!
 //! The calls that append to a text fail only if memory runs out, and then have appended a part.

@@ -1,6 +1,6 @@
 //! Object identifiers by name.
 ghost use Rattle.std.specs.Prelude.{◌≡◌, Contains, IfNone, IfSome, map};
-ghost use Rattle.asn1_certificate_text.specs.Objects.{NamesCurve, NamesObject};
+ghost use Rattle.asn1_certificate_text.specs.Objects.{NamesCurve, NamesObject, curve_sizes, known_curves, known_objects, object_names};
 
 mod table;
 
@@ -29,9 +29,9 @@ pub struct Curve {
 /// The object of these arcs, where it is in the table.
 pub fn object_named(arcs: &[u32]) -> Option<NamedObject>
     ensures found { IfSome result (λ object. object.arcs.now ≡ arcs.now) }
-    ensures listed { IfSome result (λ object. NamesObject
-        (map (λ row. (row.0.now, row.1.now)) OBJECTS.now) arcs.now object.name.now) }
-    ensures missing { IfNone result (¬ Contains (map (λ row. row.0.now) OBJECTS.now) arcs.now) }
+    ensures listed { IfSome result (λ object.
+        NamesObject object_names arcs.now object.name.now) }
+    ensures missing { IfNone result (¬ Contains known_objects arcs.now) }
 {
     object_in(OBJECTS, arcs)
 }
@@ -39,10 +39,9 @@ pub fn object_named(arcs: &[u32]) -> Option<NamedObject>
 /// The curve of these arcs, where it is in the table.
 pub fn curve_of(arcs: &[u32]) -> Option<Curve>
     ensures found { IfSome result (λ curve. curve.arcs.now ≡ arcs.now) }
-    ensures listed { IfSome result (λ curve. NamesCurve
-        (map (λ row. (row.0.now, row.1.now, row.2)) CURVES.now)
-        arcs.now curve.name.now curve.bits) }
-    ensures missing { IfNone result (¬ Contains (map (λ row. row.0.now) CURVES.now) arcs.now) }
+    ensures listed { IfSome result (λ curve.
+        NamesCurve curve_sizes arcs.now curve.name.now curve.bits) }
+    ensures missing { IfNone result (¬ Contains known_curves arcs.now) }
 {
     curve_in(CURVES, arcs)
 }

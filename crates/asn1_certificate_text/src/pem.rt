@@ -2,7 +2,7 @@
 ghost use Rattle.std.specs.Prelude.{◌≡◌, ◌+◌, ◌<◌, ◌≤◌, ◌^◌, Err, IfErr, IfOk, Ok, false, filter, length, true};
 ghost use Rattle.base64.specs.Engines.{standard};
 ghost use Rattle.base64.specs.GeneralPurpose.{decode_of};
-ghost use Rattle.asn1_certificate_text.specs.Pem.{AreOctetsOf, EnclosesAt, HasBegin, HasNoBegin, HoldsCertificate, is_symbol};
+ghost use Rattle.asn1_certificate_text.specs.Pem.{AreOctetsOfText, EnclosesAt, HasBegin, HasNoBegin, HoldsCertificate, is_symbol};
 ghost use Rattle.asn1_certificate_text.specs.declared.pem.PemError.TheVariants.{Memory};
 ghost use Rattle.asn1_certificate_text.specs.PemRefusals.{IsAboutBase64, IsPlaceOfSymbol, IsRefusal, IsRefusalOfBody};
 
@@ -62,7 +62,7 @@ pub fn is_pem(input: &[u8]) -> bool
 /// # Errors
 /// Those of [`pem_octets`], where there is a line before a certificate.
 pub fn certificate_octets(alloc: Global, input: Vec<u8>) -> Result<Vec<u8>, PemError>
-    ensures read { IfOk result (λ octets. AreOctetsOf input.items octets.items) }
+    ensures read { IfOk result (λ octets. AreOctetsOfText input.items octets.items) }
     ensures refused { IfErr result (IsRefusal input.items) }
 {
     if is_pem(input.as_slice()) {

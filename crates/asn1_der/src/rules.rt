@@ -8,7 +8,7 @@ use asn1_packed::read_whole;
 use asn1_rules::Rules;
 use std::alloc::Global;
 
-/// The rules of DER (X.690): a value becomes its one encoding.
+/// The rules of DER (X.690): a value becomes its distinguished encoding.
 ///
 /// They reject the records that have no DER, and take one element as one value of an open type. So `write_value` fails if memory
 /// runs out, where the value's records are nested deeper than the depth, or where they have no DER, by [`EncodeError::Custom`]

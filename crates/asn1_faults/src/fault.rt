@@ -1,35 +1,42 @@
 //! Where bytes are no elements of DER.
-ghost use Rattle.std.specs.Prelude.{◌≡◌, ◌+◌, IfSome};
-ghost use Rattle.asn1_faults.specs.Faults.{IsFault};
+ghost use Rattle.std.specs.Prelude.{IfNone, IfSome};
+ghost use Rattle.asn1_der_items.specs.Elements.{element_of};
+ghost use Rattle.asn1_faults.specs.Faults.{AreSound, HoldsElements, IsFaultInside, IsFirstFault};
 
-use asn1_der_items::find_element;
+use asn1_der_items::{Element, find_element};
 
-/// The place of the first byte, from 0, at which an element is due and none begins. It looks into elements that hold others down to
-/// this depth.
+/// The place of the first byte, from 0, at which an element is due and none begins, if there is one. It looks into elements that hold
+/// others down to this depth.
+#[cycle(faults)]
 pub fn first_fault(bytes: &[u8], depth: usize) -> Option<usize>
-    ensures { IfSome result (IsFault bytes.now) }
+    ensures fault { IfSome result (IsFirstFault depth bytes.now) }
+    ensures none { IfNone result (AreSound depth bytes.now) }
 {
     let mut left = bytes;
     while !left.is_empty() {
-        let before = bytes.len() - left.len();
         let Ok(element) = find_element(left) else {
-            return Some(before);
+            return Some(bytes.len() - left.len());
         };
-        if element.constructed && depth > 0 {
-            let header = left.len().saturating_sub(element.rest.len());
-            let header = header.saturating_sub(element.contents.len());
-            if let Some(place) = first_fault(element.contents, depth - 1) {
-                return sum_of(before, header, place);
-            }
+        if let Some(place) = fault_inside(element, depth) {
+            let behind = element.contents.len() - place + element.rest.len();
+            return Some(bytes.len() - behind);
         }
         left = element.rest;
     }
     None
 }
 
-/// The sum of three numbers, where it is one of 64 bits.
-fn sum_of(before: usize, header: usize, place: usize) -> Option<usize>
-    ensures { IfSome result (λ sum. sum ≡ before + (header + place)) }
+/// The same inside an element, by the place in its contents octets.
+#[cycle(faults)]
+fn fault_inside(element: Element<'_>, depth: usize) -> Option<usize>
+    ensures fault { IfSome result (IsFaultInside depth (element_of element.entry)) }
+    ensures none { IfNone result (HoldsElements depth (element_of element.entry)) }
 {
-    before.checked_add(header.checked_add(place)?)
+    if depth == 0 {
+        return None;
+    }
+    if !element.constructed {
+        return None;
+    }
+    first_fault(element.contents, depth - 1)
 }

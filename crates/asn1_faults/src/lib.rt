@@ -1,8 +1,8 @@
 //! Where bytes are no elements of DER (X.690, 8.1.1).
 //!
-//! [`first_fault`] answers a place. What the contract promises: at that place an element is due, behind others or inside others, and
-//! none begins (`IsFault` of `specs/Faults.antt`). That it is the first such place is no clause; and where the answer is that there
-//! is none, nothing is promised: elements may be nested deeper than it looks.
+//! [`first_fault`] answers a place, or none. What the contract promises: at that place an element is due, behind others or inside
+//! others, and none begins, and before it, down to the depth that is given, are elements alone (`IsFirstFault` of
+//! `specs/Faults.antt`). Where it answers none, the bytes are elements down to that depth (`AreSound`).
 #![tactic(auto)]
 
 mod fault;

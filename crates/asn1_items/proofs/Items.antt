@@ -110,7 +110,7 @@ scope_item (set_of t c n) inside bytes back item = scope_item_of 5 t inside byte
 scope_item (explicit_tag t n) inside bytes back item = scope_item_of 6 t inside bytes back refl refl item
 scope_item (alternative t c table n) inside bytes back item = scope_item_of 7 t inside bytes back refl refl item
 
--- What stands before the body is the rest of the bytes.
+-- What is before the body is the rest of the bytes.
 size_front : (kind : ℕ) (t : Tag) (content : ℕ) (xs : List ℕ) (h : Header) → from_size kind t content xs ≡ Some h → (front : List ℕ) × (xs ≡ front ++ h.body)
 size_front kind t content (a ∷ b ∷ c ∷ d ∷ body) h e = (a ∷ b ∷ c ∷ d ∷ [], ap (λ (g : Header). a ∷ b ∷ c ∷ d ∷ g.body) (some_is e))
 size_front kind t content _ h e = cc

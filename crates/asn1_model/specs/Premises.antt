@@ -5,7 +5,7 @@ use Rattle.asn1_model.specs.Meaning.{Meaning, IsWellTaggedUnder}
 use Rattle.asn1_model.specs.Tags.{IsATag}
 
 module _ {V : Type 0} (m : Meaning V) where
-  -- nothing is asked of a value: each is valid, whatever a codec takes as an open type
+  -- nothing is asked of a value: each is valid, whatever a codec accepts as an open type
   abbrev pub EachIsValid : Type 0
   EachIsValid = (accepts : List ℕ → Bool) (v : V) → m.IsValid accepts v
 

@@ -12,7 +12,7 @@ use Rattle.asn1_model.specs.Records.{Head, Name, name_or, Record, Records, Side,
 use Rattle.asn1_model.specs.RecordTables.{Line, Table}
 use Rattle.asn1_model.specs.Tags.{CHOICE, HasOwnTag, HoldsItsTag, first_tag}
 
--- Records are well formed where each open type among them holds bytes that the codec takes as one value (X.681, 14), and each
+-- Records are well formed where each open type among them holds bytes that the codec accepts as one value (X.681, 14), and each
 -- alternative has the first tag of what is inside (X.680, 29).
 abbrev mutual
   pub IsWellFormed : (List ℕ → Bool) → Record → Type 0

@@ -8,7 +8,7 @@ ghost use Rattle.asn1_model.specs.WellFormed.{AreWellFormed};
 use crate::asn_type::AsnType;
 
 /// The law of valid values: under whatever tag, constraints and name a valid value is written, its records are well formed.
-/// Each open type among them holds bytes that the codec takes as one value, and each alternative of a CHOICE has the first
+/// Each open type among them holds bytes that the codec accepts as one value, and each alternative of a CHOICE has the first
 /// tag of what is inside.
 pub fn records_of_a_valid_value_are_well_formed<T: AsnType>(value: &T)
     ensures { (accepts : List ℕ → Bool) (t : Tag) (c : ConstraintSet) (n : Name) →

@@ -33,7 +33,7 @@ components_with fields child = sequence (
     optional (codes "label") (λ v. (fields v).label) (untagged text) ∷
     required (codes "children") (λ v. (fields v).children) (untagged (list_type (λ children. children.items) unconstrained child)) ∷ [])
 
--- A node that has been written: the records of its components, which are well formed whatever a codec takes, since no node
+-- A node that has been written: the records of its components, which are well formed whatever a codec accepts, since no node
 -- holds an open type.
 pub record WrittenNode : Type 0 where
   pub records : List Record

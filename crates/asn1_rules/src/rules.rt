@@ -13,7 +13,7 @@ use asn1_enc::{Encode, EncodeError};
 ///
 /// # Depth
 /// A type that holds itself takes room on the machine's stack for each nested scope, in writing and in reading, and the depth is
-/// the only bound on it. Of the recursive types that were measured, with each codec over bytes, a stack of 8 MiB holds 2,000
+/// the only bound on it. Of the recursive types that were measured, with each codec over bytes, a stack of 8 MiB holds 14,000
 /// nested scopes at least (`docs/PERFORMANCE.md` has the numbers of each type, also of dropping a value). For bytes that somebody
 /// else wrote, choose the depth that the protocol needs: 64 is more than most need.
 pub trait Rules {

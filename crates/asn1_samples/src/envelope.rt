@@ -100,7 +100,7 @@ impl DecodeFields for Envelope {
     }
 }
 
-/// An envelope is valid if and only if the codec takes the bytes of its body as one value.
+/// An envelope is valid if and only if the codec accepts the bytes of its body as one value.
 pub fn envelope_is_valid(envelope: &Envelope)
     ensures { (accepts : List ℕ → Bool) →
         ⟦<Envelope as AsnType>⟧.meaning.IsValid accepts envelope.now ↔

@@ -77,7 +77,7 @@ fn firsts()
         []) ≡ only (context 2) }
 {}
 
-/// Well-formed records: an open type holds bytes that the codec takes, and an alternative the first tag of what is inside, also
+/// Well-formed records: an open type holds bytes that the codec accepts, and an alternative the first tag of what is inside, also
 /// within other records. Of contents and presence marks nothing is asked.
 fn well_formed_records()
     ensures contents { (accepts : List ℕ → Bool) →

@@ -41,6 +41,7 @@ impl Model for Integer {
 
 impl Integer {
     /// The number.
+    #[inline(always)]
     pub fn from_i128(number: i128) -> Self
         ensures { result ≡ number }
     {
@@ -96,6 +97,7 @@ impl Integer {
     }
 
     /// The number, if it is an `i128`.
+    #[inline(always)]
     pub fn to_i128(&self) -> Option<i128>
         ensures { SomeIff result (FitsSigned w128 self.now) self.now }
     {
@@ -126,6 +128,7 @@ impl Integer {
     /// The same number again.
     ///
     /// Fails only where the allocator refuses room for it; a number of an `i128` takes none.
+    #[inline(always)]
     pub fn try_clone(&self, alloc: Global) -> Result<Self, AllocError>
         ensures number { IfOk result (λ copy. copy ≡ self.now) }
         ensures succeeds { FitsSigned w128 self.now → IsOk result }

@@ -57,6 +57,7 @@ impl IntegerType for Integer {
         Integer::from_i128(0)
     }
 
+    #[inline(always)]
     fn to_i128(&self) -> Option<i128> {
         Integer::to_i128(self)
     }
@@ -65,6 +66,7 @@ impl IntegerType for Integer {
         Integer::is_negative(self)
     }
 
+    #[inline(always)]
     fn to_integer(&self, alloc: Global) -> Result<Integer, AllocError> {
         self.try_clone(alloc)
     }

@@ -1,5 +1,5 @@
 -- What a certificate leaves open: the parameters of algorithms and the values of attributes (RFC 5280, 4.1.1.2 and 4.1.2.4).
--- A codec takes an open value if it reads these bytes as one value, which `accepts` tells.
+-- A codec accepts an open value if it reads these bytes as one value, which `accepts` tells.
 use Rattle.std.specs.Prelude.{ℕ, Bool, IsTrue, List, IfSome, All}
 use Rattle.asn1_x509.specs.declared.algorithm_identifier.AlgorithmIdentifier.{AlgorithmIdentifier}
 use Rattle.asn1_x509.specs.declared.certificate.Certificate.{Certificate}
@@ -9,21 +9,21 @@ use Rattle.asn1_x509.specs.declared.tbs_certificate.TbsCertificate.{TbsCertifica
 
 module _ (accepts : List ℕ → Bool) where
   -- the parameters of an algorithm, where it has any
-  abbrev pub ParametersAreTaken : AlgorithmIdentifier → Type 0
-  ParametersAreTaken algorithm = IfSome algorithm.parameters (λ parameters. IsTrue (accepts parameters))
+  abbrev pub ParametersAreAccepted : AlgorithmIdentifier → Type 0
+  ParametersAreAccepted algorithm = IfSome algorithm.parameters (λ parameters. IsTrue (accepts parameters))
 
   -- the value of each attribute of a name
-  abbrev pub NameIsTaken : Name → Type 0
-  NameIsTaken (Rdns rdns) = All (λ rdn. All (λ attribute. IsTrue (accepts attribute.value)) rdn) rdns.items
+  abbrev pub NameIsAccepted : Name → Type 0
+  NameIsAccepted (Rdns rdns) = All (λ rdn. All (λ attribute. IsTrue (accepts attribute.value)) rdn) rdns.items
 
   -- what is open in the part that is signed: in two algorithms and two names
-  pub record SignedPartIsTaken (tbs : TbsCertificate) : Type 0 where
-    pub signature : ParametersAreTaken tbs.signature
-    pub issuer : NameIsTaken tbs.issuer
-    pub subject : NameIsTaken tbs.subject
-    pub public_key : ParametersAreTaken tbs.subject_public_key_info.algorithm
+  pub record SignedPartIsAccepted (tbs : TbsCertificate) : Type 0 where
+    pub signature : ParametersAreAccepted tbs.signature
+    pub issuer : NameIsAccepted tbs.issuer
+    pub subject : NameIsAccepted tbs.subject
+    pub public_key : ParametersAreAccepted tbs.subject_public_key_info.algorithm
 
   -- and in the whole, which names the algorithm of its signature once more
-  pub record CertificateIsTaken (certificate : Certificate) : Type 0 where
-    pub signed_part : SignedPartIsTaken certificate.tbs_certificate
-    pub signature_algorithm : ParametersAreTaken certificate.signature_algorithm
+  pub record CertificateIsAccepted (certificate : Certificate) : Type 0 where
+    pub signed_part : SignedPartIsAccepted certificate.tbs_certificate
+    pub signature_algorithm : ParametersAreAccepted certificate.signature_algorithm

@@ -2,7 +2,7 @@
 ghost use Rattle.std.specs.Prelude.{Bool, List, [], codes, ℕ, ◌↔◌, ◌∷◌};
 ghost use Rattle.asn1_slots.specs.Slots.{optional_slot, required_slot, sequence_of_slots};
 ghost use Rattle.asn1_types.specs.Words.{IsWellTagged, constructed_agrees, constructed_type, untagged};
-ghost use Rattle.asn1_x509.specs.OpenValues.{ParametersAreTaken};
+ghost use Rattle.asn1_x509.specs.OpenValues.{ParametersAreAccepted};
 
 use asn1_dec::{Decode, DecodeError, Decoder};
 use asn1_enc::{Encode, EncodeError, EncodeFields, Encoder};
@@ -89,11 +89,11 @@ pub fn algorithm_identifier_is_well_tagged()
     ensures { IsWellTagged ⟦<AlgorithmIdentifier as AsnType>⟧.meaning }
 {}
 
-/// An `AlgorithmIdentifier` is valid if and only if the codec takes its parameters, where there are any.
+/// An `AlgorithmIdentifier` is valid if and only if the codec accepts its parameters, where there are any.
 pub fn algorithm_identifier_is_valid(algorithm: &AlgorithmIdentifier)
     ensures { (accepts : List ℕ → Bool) →
         ⟦<AlgorithmIdentifier as AsnType>⟧.meaning.IsValid accepts algorithm.now ↔
-        ParametersAreTaken accepts algorithm.now }
+        ParametersAreAccepted accepts algorithm.now }
 {}
 
 impl Encode for AlgorithmIdentifier {

@@ -89,7 +89,7 @@ pub fn attribute_type_and_value_is_well_tagged()
     ensures { IsWellTagged ⟦<AttributeTypeAndValue as AsnType>⟧.meaning }
 {}
 
-/// An `AttributeTypeAndValue` is valid if and only if the codec takes its value.
+/// An `AttributeTypeAndValue` is valid if and only if the codec accepts its value.
 pub fn attribute_type_and_value_is_valid(attribute: &AttributeTypeAndValue)
     ensures { (accepts : List ℕ → Bool) →
         ⟦<AttributeTypeAndValue as AsnType>⟧.meaning.IsValid accepts attribute.now ↔

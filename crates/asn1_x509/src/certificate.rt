@@ -4,7 +4,7 @@ ghost use Rattle.std.specs.Prelude.{Bool, List, [], codes, true, ℕ, ◌↔◌,
 ghost use Rattle.asn1_slots.specs.Slots.{required_slot, sequence_of_slots};
 ghost use Rattle.asn1_types.specs.Words.{IsWellTagged, constructed_agrees, constructed_type, own_records, untagged};
 ghost use Rattle.asn1_model.specs.Orders.{SameRecords};
-ghost use Rattle.asn1_x509.specs.OpenValues.{CertificateIsTaken};
+ghost use Rattle.asn1_x509.specs.OpenValues.{CertificateIsAccepted};
 
 use crate::algorithm_identifier::AlgorithmIdentifier;
 use crate::tbs_certificate::TbsCertificate;
@@ -102,11 +102,11 @@ pub fn certificate_is_well_tagged()
     ensures { IsWellTagged ⟦<Certificate as AsnType>⟧.meaning }
 {}
 
-/// A `Certificate` is valid if and only if the codec takes what is open in it.
+/// A `Certificate` is valid if and only if the codec accepts what is open in it.
 pub fn certificate_is_valid(certificate: &Certificate)
     ensures { (accepts : List ℕ → Bool) →
         ⟦<Certificate as AsnType>⟧.meaning.IsValid accepts certificate.now ↔
-        CertificateIsTaken accepts certificate.now }
+        CertificateIsAccepted accepts certificate.now }
 {}
 
 /// Equal certificates have the same records, up to the order inside sets: what is written of the one is written of the other.

@@ -19,7 +19,7 @@
 //! - A version that is the first is its default, and is written as absent: `first_version_is_absent` says it of a certificate
 //!   without unique names and extensions, which are absent too.
 //! - The parameters of algorithms and the values of attributes are open types. A certificate is valid if and only if the codec
-//!   takes each of them as one value (`certificate_is_valid`; `specs/OpenValues.antt`). All else is valid as it is.
+//!   accepts each of them as one value (`certificate_is_valid`; `specs/OpenValues.antt`). All else is valid as it is.
 //!
 //! What a schema asks beyond that is left to whoever makes a value: that a list has an element, that a text is a time.
 #![tactic(auto, using(asn1_tags::proofs::Leaves::tree_shapes))]

@@ -2,7 +2,7 @@
 ghost use Rattle.std.specs.Prelude.{Bool, List, [], codes, refl, ℕ, ◌↔◌, ◌∷◌};
 ghost use Rattle.asn1_slots.specs.Cases.{choice_of_cases, variant};
 ghost use Rattle.asn1_types.specs.Words.{IsWellTagged, choice_agrees, choice_of, inl, untagged};
-ghost use Rattle.asn1_x509.specs.OpenValues.{NameIsTaken};
+ghost use Rattle.asn1_x509.specs.OpenValues.{NameIsAccepted};
 ghost use Rattle.asn1_x509.specs.declared.name.Name.TheVariants.{Rdns};
 
 use crate::attribute::AttributeTypeAndValue;
@@ -87,11 +87,11 @@ pub fn name_is_well_tagged()
     ensures { IsWellTagged ⟦<Name as AsnType>⟧.meaning }
 {}
 
-/// A `Name` is valid if and only if the codec takes the value of each of its attributes.
+/// A `Name` is valid if and only if the codec accepts the value of each of its attributes.
 pub fn name_is_valid(name: &Name)
     ensures { (accepts : List ℕ → Bool) →
         ⟦<Name as AsnType>⟧.meaning.IsValid accepts name.now ↔
-        NameIsTaken accepts name.now }
+        NameIsAccepted accepts name.now }
 {}
 
 impl Encode for Name {

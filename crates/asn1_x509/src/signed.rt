@@ -3,7 +3,7 @@
 ghost use Rattle.std.specs.Prelude.{Bool, List, [], codes, ℕ, ◌↔◌, ◌∷◌};
 ghost use Rattle.asn1_slots.specs.Slots.{required_slot};
 ghost use Rattle.asn1_types.specs.Words.{IsWellTagged, constructed_agrees, constructed_type, required, sequence, untagged};
-ghost use Rattle.asn1_x509.specs.OpenValues.{ParametersAreTaken};
+ghost use Rattle.asn1_x509.specs.OpenValues.{ParametersAreAccepted};
 
 use crate::algorithm_identifier::AlgorithmIdentifier;
 use asn1_dec::{Decode, DecodeError, Decoder};
@@ -102,11 +102,11 @@ pub fn signed_is_well_tagged<T: AsnType>()
     ensures { IsWellTagged T.meaning → IsWellTagged ⟦<Signed<T> as AsnType>⟧.meaning }
 {}
 
-/// A `Signed` is valid if and only if what is signed is, and the codec takes the parameters of the algorithm, where there are any.
+/// A `Signed` is valid if and only if what is signed is, and the codec accepts the parameters of the algorithm, if there are any.
 pub fn signed_is_valid<T: AsnType>(signed: &Signed<T>)
     ensures { (accepts : List ℕ → Bool) →
         ⟦<Signed<T> as AsnType>⟧.meaning.IsValid accepts signed.now ↔ (T.meaning.IsValid accepts
-        signed.now.to_be_signed × ParametersAreTaken accepts signed.now.algorithm_identifier) }
+        signed.now.to_be_signed × ParametersAreAccepted accepts signed.now.algorithm_identifier) }
 {}
 
 impl<T: Encode> Encode for Signed<T> {

@@ -2,7 +2,7 @@
 ghost use Rattle.std.specs.Prelude.{Bool, List, [], codes, ℕ, ◌↔◌, ◌∷◌};
 ghost use Rattle.asn1_slots.specs.Slots.{required_slot, sequence_of_slots};
 ghost use Rattle.asn1_types.specs.Words.{IsWellTagged, constructed_agrees, constructed_type, untagged};
-ghost use Rattle.asn1_x509.specs.OpenValues.{ParametersAreTaken};
+ghost use Rattle.asn1_x509.specs.OpenValues.{ParametersAreAccepted};
 
 use crate::algorithm_identifier::AlgorithmIdentifier;
 use asn1_dec::{Decode, DecodeError, Decoder};
@@ -88,11 +88,11 @@ pub fn subject_public_key_info_is_well_tagged()
     ensures { IsWellTagged ⟦<SubjectPublicKeyInfo as AsnType>⟧.meaning }
 {}
 
-/// A `SubjectPublicKeyInfo` is valid if and only if the codec takes the parameters of its algorithm, where there are any.
+/// A `SubjectPublicKeyInfo` is valid if and only if the codec accepts the parameters of its algorithm, where there are any.
 pub fn subject_public_key_info_is_valid(key: &SubjectPublicKeyInfo)
     ensures { (accepts : List ℕ → Bool) →
         ⟦<SubjectPublicKeyInfo as AsnType>⟧.meaning.IsValid accepts key.now ↔
-        ParametersAreTaken accepts key.now.algorithm }
+        ParametersAreAccepted accepts key.now.algorithm }
 {}
 
 impl Encode for SubjectPublicKeyInfo {

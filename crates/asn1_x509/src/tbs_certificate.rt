@@ -20,7 +20,7 @@
 ghost use Rattle.std.specs.Prelude.{Bool, List, None, [], codes, pos, ℕ, ◌↔◌, ◌∷◌, ◌≡◌};
 ghost use Rattle.asn1_slots.specs.Slots.{default_slot, optional_slot, required_slot, sequence_of_slots};
 ghost use Rattle.asn1_types.specs.Words.{IsWellTagged, constructed_agrees, constructed_type, context, explicitly_tagged, own_records, tagged, untagged};
-ghost use Rattle.asn1_x509.specs.OpenValues.{SignedPartIsTaken};
+ghost use Rattle.asn1_x509.specs.OpenValues.{SignedPartIsAccepted};
 
 use crate::algorithm_identifier::AlgorithmIdentifier;
 use crate::extension::Extensions;
@@ -207,11 +207,11 @@ pub fn tbs_certificate_is_well_tagged()
     ensures { IsWellTagged ⟦<TbsCertificate as AsnType>⟧.meaning }
 {}
 
-/// A `TbsCertificate` is valid if and only if the codec takes what is open in it: whatever its extensions are, and its numbers.
+/// A `TbsCertificate` is valid if and only if the codec accepts what is open in it: whatever its extensions are, and its numbers.
 pub fn tbs_certificate_is_valid(certificate: &TbsCertificate)
     ensures { (accepts : List ℕ → Bool) →
         ⟦<TbsCertificate as AsnType>⟧.meaning.IsValid accepts certificate.now ↔
-        SignedPartIsTaken accepts certificate.now }
+        SignedPartIsAccepted accepts certificate.now }
 {}
 
 impl Encode for TbsCertificate {

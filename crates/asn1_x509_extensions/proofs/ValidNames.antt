@@ -6,7 +6,7 @@ use Rattle.asn1_x509.specs.contracts.directory_string.DirectoryStringAsnType.The
 use Rattle.asn1_x509.specs.declared.directory_string.DirectoryString.{DirectoryString}
 use Rattle.asn1_x509.specs.declared.directory_string.DirectoryString.TheVariants.{Teletex, Printable, Universal, Utf8, Bmp}
 use Rattle.asn1_x509.specs.declared.name.Name.TheVariants.{Rdns}
-use Rattle.asn1_x509_extensions.specs.OpenNames.{GeneralNameIsTaken}
+use Rattle.asn1_x509_extensions.specs.OpenNames.{GeneralNameIsAccepted}
 use Rattle.asn1_x509_extensions.specs.contracts.authority_key_identifier.AuthorityKeyIdentifierAsnType.TheImpl.{ghosts as key_type}
 use Rattle.asn1_x509_extensions.specs.contracts.general_name.GeneralNameAsnType.TheImpl.{ghosts as name_type}
 use Rattle.asn1_x509_extensions.specs.declared.authority_key_identifier.AuthorityKeyIdentifier.{AuthorityKeyIdentifier}
@@ -27,7 +27,7 @@ text_valid accepts (Bmp bmp) = tt
 
 -- a name, by its kind
 name_valid : (accepts : List ℕ → Bool) (n : GeneralName) →
-    name_type.meaning.IsValid accepts n ↔ GeneralNameIsTaken accepts n
+    name_type.meaning.IsValid accepts n ↔ GeneralNameIsAccepted accepts n
 name_valid accepts (Other other) = (λ valid. valid.1.0, λ taken. (tt, (taken, tt)))
 name_valid accepts (Rfc822 mailbox) = (λ _. tt, λ _. tt)
 name_valid accepts (Dns host) = (λ _. tt, λ _. tt)
@@ -45,7 +45,7 @@ name_valid accepts (RegisteredId identifier) = (λ _. tt, λ _. tt)
 -- the names of an issuer, where there are any
 some_names_valid : (accepts : List ℕ → Bool) (names : Option (Vec GeneralName)) →
     IfSome names (λ list. All (name_type.meaning.IsValid accepts) list.items) ↔
-    IfSome names (λ list. All (GeneralNameIsTaken accepts) list.items)
+    IfSome names (λ list. All (GeneralNameIsAccepted accepts) list.items)
 some_names_valid accepts None = (λ _. tt, λ _. tt)
 some_names_valid accepts (Some list) = (
   λ valid k name inside. (name_valid accepts (slice_index_or list.items k name)).0 (valid k name inside),
@@ -54,7 +54,7 @@ some_names_valid accepts (Some list) = (
 
 -- and the key of an authority by these
 pub key_valid : (accepts : List ℕ → Bool) (key : AuthorityKeyIdentifier) → key_type.meaning.IsValid accepts key ↔
-    IfSome key.authority_cert_issuer (λ names. All (GeneralNameIsTaken accepts) names.items)
+    IfSome key.authority_cert_issuer (λ names. All (GeneralNameIsAccepted accepts) names.items)
 key_valid accepts key = (
   λ valid. (some_names_valid accepts key.authority_cert_issuer).0 valid.1.0,
   λ taken. (

@@ -89,7 +89,7 @@ pub fn another_name_is_well_tagged()
     ensures { IsWellTagged ⟦<AnotherName as AsnType>⟧.meaning }
 {}
 
-/// An `AnotherName` is valid if and only if the codec takes its value.
+/// An `AnotherName` is valid if and only if the codec accepts its value.
 pub fn another_name_is_valid(name: &AnotherName)
     ensures { (accepts : List ℕ → Bool) →
         ⟦<AnotherName as AsnType>⟧.meaning.IsValid accepts name.now ↔

@@ -10,7 +10,7 @@
 ghost use Rattle.std.specs.Prelude.{All, Bool, IfSome, List, [], codes, ℕ, ◌↔◌, ◌∷◌};
 ghost use Rattle.asn1_slots.specs.Slots.{optional_slot, sequence_of_slots};
 ghost use Rattle.asn1_types.specs.Words.{IsWellTagged, constructed_agrees, constructed_type, context, tagged};
-ghost use Rattle.asn1_x509_extensions.specs.OpenNames.{GeneralNameIsTaken};
+ghost use Rattle.asn1_x509_extensions.specs.OpenNames.{GeneralNameIsAccepted};
 
 use crate::general_name::GeneralNames;
 use crate::key_identifier::KeyIdentifier;
@@ -138,11 +138,11 @@ pub fn authority_key_identifier_is_well_tagged()
     ensures { IsWellTagged ⟦<AuthorityKeyIdentifier as AsnType>⟧.meaning }
 {}
 
-/// An `AuthorityKeyIdentifier` is valid if and only if the codec takes what is open in the names of the issuer, where there are any.
+/// An `AuthorityKeyIdentifier` is valid if and only if the codec accepts what is open in the names of the issuer, if there are any.
 pub fn authority_key_identifier_is_valid(key: &AuthorityKeyIdentifier)
     ensures { (accepts : List ℕ → Bool) →
         ⟦<AuthorityKeyIdentifier as AsnType>⟧.meaning.IsValid accepts key.now ↔
-        IfSome key.now.authority_cert_issuer (λ n. All (GeneralNameIsTaken accepts) n.items) }
+        IfSome key.now.authority_cert_issuer (λ n. All (GeneralNameIsAccepted accepts) n.items) }
 {}
 
 impl Encode for AuthorityKeyIdentifier {

@@ -16,7 +16,7 @@
 ghost use Rattle.std.specs.Prelude.{Bool, List, [], codes, refl, ℕ, ◌↔◌, ◌∷◌};
 ghost use Rattle.asn1_slots.specs.Cases.{choice_of_cases, variant};
 ghost use Rattle.asn1_types.specs.Words.{IsWellTagged, choice_agrees, choice_of, context, inl, inr, tagged};
-ghost use Rattle.asn1_x509_extensions.specs.OpenNames.{GeneralNameIsTaken};
+ghost use Rattle.asn1_x509_extensions.specs.OpenNames.{GeneralNameIsAccepted};
 ghost use Rattle.asn1_x509_extensions.specs.declared.general_name.GeneralName.TheVariants.{Other, Rfc822, Dns, X400, Directory, EdiParty, Uri, IpAddress, RegisteredId};
 
 use crate::another_name::AnotherName;
@@ -189,11 +189,11 @@ pub fn general_name_is_well_tagged()
     ensures { IsWellTagged ⟦<GeneralName as AsnType>⟧.meaning }
 {}
 
-/// A `GeneralName` is valid if and only if the codec takes what is open in it.
+/// A `GeneralName` is valid if and only if the codec accepts what is open in it.
 pub fn general_name_is_valid(name: &GeneralName)
     ensures { (accepts : List ℕ → Bool) →
         ⟦<GeneralName as AsnType>⟧.meaning.IsValid accepts name.now ↔
-        GeneralNameIsTaken accepts name.now }
+        GeneralNameIsAccepted accepts name.now }
 {}
 
 impl Encode for GeneralName {

@@ -14,7 +14,7 @@
 //! - Each type states its components or its alternatives once, and its tables, meaning, writer and reader are proved to say
 //!   the same. So a valid value comes back equal (`round_trip` of `asn1_schema`).
 //! - Each type can be inside other types (`general_name_is_well_tagged` and the like).
-//! - A name is valid if and only if the codec takes as one value each open type in it (`general_name_is_valid`;
+//! - A name is valid if and only if the codec accepts as one value each open type in it (`general_name_is_valid`;
 //!   `specs/OpenNames.antt`), and so a key of an authority. All else is valid as it is.
 //!
 //! The value of an [`asn1_x509::Extension`] is the bytes that a codec makes of one of these. What a schema asks beyond that

@@ -1,4 +1,4 @@
-use Rattle.std.proofs.Common.{◌≡◌, ap, ◌∙◌}
+use Rattle.std.proofs.Common.{ap, ◌∙◌}
 use Rattle.asn1_certificate.proofs.show.lines_of.Goals as goal
 
 pub returns-clause-shown : goal.returns-clause-shown

@@ -12,7 +12,7 @@ returns-in-Report-clause-report c =
     (λ _ are. record {
       certificate = c.in_ok-certificate.certificate;
       read = c.in_ok-certificate.ensures.read;
-      names = c.in_ok-check_names.ensures.good;
+      names = c.in_ok-check_open_types.ensures.good;
       are = are;
     })
     c.lines_of.ensures.shown
@@ -23,7 +23,7 @@ returns-clause-der c =
     (λ bytes carries. record {
       certificate = c.in_ok-certificate.certificate;
       read = c.in_ok-certificate.ensures.read;
-      names = c.in_ok-check_names.ensures.good;
+      names = c.in_ok-check_open_types.ensures.good;
       carries = carries;
       same = λ valid is.
           der_is_lawful.carries_in_any_order bytes (records_of c.in_ok-certificate.certificate) (records_of valid)
@@ -32,13 +32,13 @@ returns-clause-der c =
     })
     c.der_of.ensures.written
 
-pub returns-in_err-check_names-clause-refused : goal.returns-in_err-check_names-clause-refused
-returns-in_err-check_names-clause-refused c =
-    let p = err_from_is_err_and c.from_residual-in_err-check_names.result c.from_residual-in_err-check_names.ensures.1 in
+pub returns-in_err-check_open_types-clause-refused : goal.returns-in_err-check_open_types-clause-refused
+returns-in_err-check_open_types-clause-refused c =
+    let p = err_from_is_err_and c.from_residual-in_err-check_open_types.result c.from_residual-in_err-check_open_types.ensures.1 in
     rw (p.1, p.2) (inr (record {
       certificate = c.in_ok-certificate.certificate;
       read = c.in_ok-certificate.ensures.read;
-      refused = c.in_err-check_names.ensures.refused c.args.form;
+      refused = c.in_err-check_open_types.ensures.refused c.args.form;
     }))
 
 pub returns-in-Report-clause-refused : goal.returns-in-Report-clause-refused

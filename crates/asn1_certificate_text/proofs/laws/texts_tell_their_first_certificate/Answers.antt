@@ -2,7 +2,7 @@ use Rattle.std.proofs.Common.{◌≡◌, ℕ, List, Some, drop, length, subst, s
 use Rattle.memchr.specs.Find.{FindsNeedle}
 use Rattle.memchr.proofs.lemmas.ValueLemmas.{FindsNeedle-value}
 use Rattle.asn1_certificate_text.specs.Pem.{BeginsAt, EnclosesAt, begin_line, end_line}
-use Rattle.asn1_certificate_text.proofs.laws.texts_hold_one_certificate.Goals as goal
+use Rattle.asn1_certificate_text.proofs.laws.texts_tell_their_first_certificate.Goals as goal
 
 -- a needle is found first at one place
 one_place : (hay needle : List ℕ) (j k : ℕ) → FindsNeedle hay needle 0 (Some j) → FindsNeedle hay needle 0 (Some k) → j ≡ k
