@@ -1,5 +1,5 @@
 -- Why the program writes nothing.
-use Rattle.std.specs.Prelude.{◌≡◌, ◌⊎◌, ⊤, ℕ, Bool, false, true, List, Option, Some, if◌then◌else◌}
+use Rattle.std.specs.Prelude.{◌≡◌, ◌≢◌, ◌⊎◌, ⊤, ℕ, Bool, false, true, List, Option, Some, if◌then◌else◌}
 use Rattle.std.specs.Io.KnownBytes.{Consumes}
 use Rattle.asn1_certificate.specs.Inputs.{AreInputOctets, AreOfNoCertificate, IsCertificateOf, records_of}
 use Rattle.asn1_certificate.specs.declared.form.Form.{Form}
@@ -11,6 +11,8 @@ use Rattle.asn1_certificate.specs.declared.show.ShowError.TheVariants.{Text, NoE
 use Rattle.asn1_certificate_reader.specs.NameFaults.{AnswersName}
 use Rattle.asn1_certificate_reader.specs.Parameters.{HasBadParameters}
 use Rattle.asn1_certificate_text.specs.PemRefusals.{IsRefusal}
+use Rattle.asn1_certificate_text.specs.declared.pem.PemError.TheVariants as pem
+use Rattle.asn1_codec.specs.declared.encode_error.EncodeError.TheVariants as writing
 use Rattle.asn1_der_encoder.specs.Format.{der_format}
 use Rattle.asn1_der_items.specs.Series.{is_one_element}
 use Rattle.asn1_faults.specs.Faults.{AreSound, IsFirstFault}
@@ -19,7 +21,7 @@ use Rattle.asn1_x509.specs.declared.certificate.Certificate.{Certificate}
 
 -- the input is not one element, and it is a text whose certificate is not found; or memory ran out
 abbrev pub IsRefusalOfText : List ℕ → ShowError → Type 0
-IsRefusalOfText input (Text error) = (is_one_element input ≡ false) × IsRefusal input error
+IsRefusalOfText input (Text error) = (is_one_element input ≡ false) × ((error ≢ pem.Memory) × IsRefusal input error)
 IsRefusalOfText input (NoElement place error) = ⊥
 IsRefusalOfText input (NoCertificate error) = ⊥
 IsRefusalOfText input (BadIssuer fault) = ⊥
@@ -29,8 +31,8 @@ IsRefusalOfText input (BadSignatureParameters bad) = ⊥
 IsRefusalOfText input (NotWritten error) = ⊥
 IsRefusalOfText input Memory = ⊤
 
--- the octets are those of no valid certificate, and the place that the error names is the first at which no element begins, or they are
--- elements where it names none, looked into down to 64 scopes; or memory ran out
+-- the octets are those of no valid certificate, and the place that the error names is the first at which an element is due and none
+-- begins, or they are elements where it names none, looked into down to 64 scopes; or memory ran out
 abbrev pub IsRefusalOfOctets : List ℕ → ShowError → Type 0
 IsRefusalOfOctets octets (Text error) = ⊥
 IsRefusalOfOctets octets (NoElement place error) = AreOfNoCertificate octets × IsFirstFault 64 octets place
@@ -55,7 +57,7 @@ IsRefusalOfCertificate form certificate (BadKeyParameters bad) =
     HasBadParameters der_format certificate.tbs_certificate.subject_public_key_info.algorithm bad
 IsRefusalOfCertificate form certificate (BadSignatureParameters bad) =
     HasBadParameters der_format certificate.tbs_certificate.signature bad ⊎ HasBadParameters der_format certificate.signature_algorithm bad
-IsRefusalOfCertificate form certificate (NotWritten error) = (form ≡ Der) × IsNotWritten der_format (records_of certificate) 64 error
+IsRefusalOfCertificate form certificate (NotWritten error) = (form ≡ Der) × ((error ≢ writing.Memory) × IsNotWritten der_format (records_of certificate) 64 error)
 IsRefusalOfCertificate form certificate Memory = ⊤
 
 -- The octets of an input are refused.

@@ -28,7 +28,7 @@ pub(crate) enum ShowError {
     /// The input is a text, and its certificate is not found.
     #[error("{0}")]
     Text(PemError),
-    /// At this place of the octets no element begins. The error is that of reading them.
+    /// At this place of the octets an element is due, and none begins. The error is that of reading them.
     #[error("no certificate: byte {0} of its DER begins no element ({1})")]
     NoElement(usize, DecodeError),
     /// The octets are elements, and those of no certificate.
@@ -185,7 +185,7 @@ fn read(alloc: Global, octets: &Vec<u8>) -> Result<Certificate, ShowError>
     }
 }
 
-/// Why octets are not read, with the first place at which no element begins.
+/// Why octets are not read, with the first place at which an element is due and none begins.
 fn refusal(octets: &[u8], error: DecodeError) -> ShowError
     ensures { AreOfNoCertificate octets.now → IsRefusalOfOctets octets.now result }
 {
