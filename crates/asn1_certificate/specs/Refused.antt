@@ -15,7 +15,7 @@ use Rattle.asn1_certificate_text.specs.declared.pem.PemError.TheVariants as pem
 use Rattle.asn1_codec.specs.declared.encode_error.EncodeError.TheVariants as writing
 use Rattle.asn1_der_encoder.specs.Format.{der_format}
 use Rattle.asn1_der_items.specs.Series.{is_one_element}
-use Rattle.asn1_faults.specs.Faults.{AreSound, IsFirstFault}
+use Rattle.asn1_faults.specs.Faults.{AreElementsDownTo, IsFirstFault}
 use Rattle.asn1_rules.specs.Rules.{IsNotWritten}
 use Rattle.asn1_x509.specs.declared.certificate.Certificate.{Certificate}
 
@@ -36,7 +36,7 @@ IsRefusalOfText input Memory = ⊤
 abbrev pub IsRefusalOfOctets : List ℕ → ShowError → Type 0
 IsRefusalOfOctets octets (Text error) = ⊥
 IsRefusalOfOctets octets (NoElement place error) = AreOfNoCertificate octets × IsFirstFault 64 octets place
-IsRefusalOfOctets octets (NoCertificate error) = AreOfNoCertificate octets × AreSound 64 octets
+IsRefusalOfOctets octets (NoCertificate error) = AreOfNoCertificate octets × AreElementsDownTo 64 octets
 IsRefusalOfOctets octets (BadIssuer fault) = ⊥
 IsRefusalOfOctets octets (BadSubject fault) = ⊥
 IsRefusalOfOctets octets (BadKeyParameters bad) = ⊥

@@ -13,6 +13,8 @@ mod outcome;
 mod show;
 #[cfg(test)]
 mod tests;
+#[cfg(test)]
+mod text_tests;
 
 use outcome::Outcome;
 use std::io;

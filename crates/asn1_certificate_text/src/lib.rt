@@ -38,8 +38,6 @@ mod moment;
 mod objects;
 mod octets;
 mod pem;
-#[cfg(test)]
-mod tests;
 
 pub use address::push_address;
 pub use bits::{bit_length, push_usages};

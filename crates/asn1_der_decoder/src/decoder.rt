@@ -81,6 +81,7 @@ impl<'a> DerDecoder<'a> {
     }
 
     /// Takes the next element.
+    #[inline(always)]
     fn take(&mut self) -> Result<Taken<'a>, DecodeError>
         ensures took { (own back : List ℕ) (e : Element) → self.old.scopes.failed ≡ false →
             IsAlone e own → left_inside self.old.scopes.slices ≡ own ++ back →
@@ -109,6 +110,7 @@ impl<'a> DerDecoder<'a> {
     }
 
     /// The tag of the next element, which stays where it is, if one is left.
+    #[inline(always)]
     fn next_tag(&mut self) -> Result<Option<Tag>, DecodeError>
         ensures told { (rs : List model.Record) → self.old.scopes.failed ≡ false →
             AreLeft rs self.old.scopes.slices → MatchResult result (IsNext rs) (λ _. ⊥) }
@@ -145,6 +147,7 @@ impl<'a> DerDecoder<'a> {
     }
 
     /// Whether the component is there that begins with a tag of the tree.
+    #[inline(always)]
     fn tell_presence(&mut self, tree: TagTree<'static>) -> Result<bool, DecodeError>
         ensures read { (there away : PresenceMark) → TellsPresence der_reader
             self.old self.new there away (tree_tags (shape tree.entry)) result }
@@ -292,6 +295,7 @@ impl<'a> Decoder for DerDecoder<'a> {
         }
     }
 
+    #[inline(always)]
     fn presence(&mut self, _tag: Tag, tree: TagTree<'static>) -> Result<bool, DecodeError> {
         self.tell_presence(tree)
     }

@@ -37,6 +37,3 @@ mod taken;
 mod whole;
 
 pub use decoder::DerDecoder;
-
-#[cfg(test)]
-mod tests;

@@ -269,3 +269,27 @@ element_at-shorter bytes e is = by (identifier_at bytes) refl is
     by (Some i) found is =
         let ends = of_identifier-ends i e is in
         omega (arith, identifier_at-shorter bytes i found, ap length ends.1, length-append ends.0 e.rest)
+
+-- and its contents octets are of them too
+of_length-parts : (i : Identified) (f : Front) (e : Element) → of_length i f ≡ Some e → length e.contents + length e.rest ≡ length f.rest
+of_length-parts i f e is = by (nat_le f.number (length f.rest)) is
+  where
+    by : (enough : Bool) → holding enough i (take f.number f.rest) (drop f.number f.rest) ≡ Some e → length e.contents + length e.rest ≡ length f.rest
+    by false is = cc
+    by true is =
+        sym (ap (λ (g : Element). length g.contents + length g.rest) (some_is is))
+        ∙ sym (length-append (take f.number f.rest) (drop f.number f.rest))
+        ∙ ap length (take-append-drop f.number f.rest)
+
+pub parts_fit : (bytes : List ℕ) (e : Element) → element_at bytes ≡ Some e → length e.contents + length e.rest ≤ length bytes
+parts_fit bytes e is = by (identifier_at bytes) refl is
+  where
+    by_length : (i : Identified) (o : Option Front) → length_at i.rest ≡ o → option_and_then (of_length i) o ≡ Some e → length e.contents + length e.rest ≤ length i.rest
+    by_length i None found is = cc
+    by_length i (Some f) found is =
+        let ends = length_at-ends i.rest f found in
+        omega (arith, of_length-parts i f e is, ap length ends.1, length-append ends.0 f.rest)
+
+    by : (o : Option Identified) → identifier_at bytes ≡ o → option_and_then of_identifier o ≡ Some e → length e.contents + length e.rest ≤ length bytes
+    by None found is = cc
+    by (Some i) found is = omega (arith, identifier_at-shorter bytes i found, by_length i (length_at i.rest) refl is)

@@ -38,17 +38,21 @@ pub record Identified : Type 0 where
   pub constructed : Bool
   pub rest : List ℕ
 
--- the identifier of a class, after its first octet, where the number is in the octets that follow
+-- the identifier of a class, after its first octet, where this is its number
 abbrev pub high_tag : Class → Bool → Front → Option Identified
 high_tag class constructed f = if nat_le 31 f.number && nat_lt f.number (2 ^ 32)
     then Some (record { tag = record { class = class; value = f.number }; constructed = constructed; rest = f.rest })
     else None
 
+-- the identifier of a class, after its first octet, where these octets begin with its number
+abbrev pub high_tag_at : Class → Bool → List ℕ → Option Identified
+high_tag_at class constructed octets = option_and_then (high_tag class constructed) (base128_at octets)
+
 -- the identifier of a class, whose form is this and whose first octet has this number
 abbrev pub of_class : Bool → ℕ → List ℕ → Class → Option Identified
 of_class constructed low rest class = if nat_lt low 31
     then Some (record { tag = record { class = class; value = low }; constructed = constructed; rest = rest })
-    else option_and_then (high_tag class constructed) (base128_at rest)
+    else high_tag_at class constructed rest
 
 -- the identifier with which the bytes begin
 abbrev pub identifier_at : List ℕ → Option Identified

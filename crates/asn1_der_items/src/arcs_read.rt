@@ -19,7 +19,7 @@ pub fn read_arcs(alloc: Global, octets: &[u8]) -> Result<Vec<u32>, ItemError>
 {
     let front = read_number(octets)?;
     let first = first_of(front.number);
-    let mut arcs = Vec::new(alloc);
+    let mut arcs = Vec::with_capacity(alloc, octets.len() + 1)?;
     push_arc(&mut arcs, first)?;
     push_arc(&mut arcs, front.number - first * 40)?;
     let mut left = front.rest;

@@ -34,6 +34,7 @@ pub struct Element<'a> {
 /// [`ItemError::Missing`] where the bytes end before the element does, with the number of bytes that are missing of the part
 /// that is read; and [`ItemError::Malformed`] where the number of the tag is 2^32 or more or not the shortest, and where the
 /// length is indefinite, 2^64 or more, or not the shortest.
+#[inline(always)]
 pub fn find_element(bytes: &[u8]) -> Result<Element<'_>, ItemError>
     ensures only { IfOk result (λ e. element_at bytes.now ≡ Some (element_of e)) }
     ensures found { (e : Seen) → element_at bytes.now ≡ Some e → IsOk result }

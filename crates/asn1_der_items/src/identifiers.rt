@@ -1,6 +1,6 @@
 //! The identifier octets of an element.
 ghost use Rattle.asn1_items.specs.Numbers.{Appended};
-ghost use Rattle.asn1_der_items.specs.Identifiers.{Identified as Seen, IsIdentifier, form_bit, identifier_at};
+ghost use Rattle.asn1_der_items.specs.Identifiers.{Identified as Seen, IsIdentifier, form_bit, high_tag_at, identifier_at};
 ghost use Rattle.asn1_tags.specs.Tags.{class_number};
 ghost use Rattle.std.specs.Prelude.{◌≡◌, ◌+◌, ◌*◌, IfOk, IsOk, Some};
 
@@ -49,6 +49,7 @@ fn first_octet(class: Class, constructed: bool) -> u8
 }
 
 /// Reads a tag and its form.
+#[inline(always)]
 pub(crate) fn read_identifier(bytes: &[u8]) -> Result<Identified<'_>, ItemError>
     ensures only { IfOk result (λ i. identifier_at bytes.now ≡
         Some (record { tag = i.tag; constructed = i.constructed; rest = i.rest.now })) }
@@ -70,7 +71,21 @@ pub(crate) fn read_identifier(bytes: &[u8]) -> Result<Identified<'_>, ItemError>
             rest,
         });
     }
-    let front = read_base128(rest)?;
+    read_high_tag(class, constructed, rest)
+}
+
+/// Reads a tag of this class and form whose number is in the octets after the first.
+#[inline(never)]
+fn read_high_tag(
+    class: Class,
+    constructed: bool,
+    octets: &[u8],
+) -> Result<Identified<'_>, ItemError>
+    ensures only { IfOk result (λ i. high_tag_at class constructed octets.now ≡
+        Some (record { tag = i.tag; constructed = i.constructed; rest = i.rest.now })) }
+    ensures found { (i : Seen) → high_tag_at class constructed octets.now ≡ Some i → IsOk result }
+{
+    let front = read_base128(octets)?;
     match u32::try_from(front.number) {
         Ok(value) if value >= 31 => Ok(Identified {
             tag: Tag { class, value },

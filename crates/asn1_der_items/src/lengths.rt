@@ -1,7 +1,7 @@
 //! The length octets of an element.
 ghost use Rattle.asn1_values.specs.Numbers.{magnitude};
 ghost use Rattle.asn1_der_items.specs.Base128.{Front as Seen};
-ghost use Rattle.asn1_der_items.specs.Lengths.{WritesLength, length_at};
+ghost use Rattle.asn1_der_items.specs.Lengths.{WritesLength, length_at, long_length_at};
 ghost use Rattle.std.specs.Option.{SomeIff};
 ghost use Rattle.std.specs.Prelude.{◌≡◌, ◌<◌, ◌≤◌, ◌^◌, ◌++◌, IfOk, IsOk, List, Some, length, ℕ};
 
@@ -45,6 +45,7 @@ fn insert_octets(bytes: &mut Vec<u8>, place: usize, octets: &[u8]) -> Result<(),
 }
 
 /// Reads a length that is below 2^64.
+#[inline(always)]
 pub(crate) fn read_length(bytes: &[u8]) -> Result<Front<'_>, ItemError>
     ensures only { IfOk result (λ f.
         length_at bytes.now ≡ Some (record { number = f.number; rest = f.rest.now })) }
@@ -59,9 +60,18 @@ pub(crate) fn read_length(bytes: &[u8]) -> Result<Front<'_>, ItemError>
             rest,
         });
     }
-    let count = usize::from(*first - 128);
-    let Some((digits, rest)) = rest.split_at_checked(count) else {
-        return Err(ItemError::Missing(count - rest.len()));
+    read_long_length(usize::from(*first - 128), rest)
+}
+
+/// Reads a length that is in as many of these octets.
+#[inline(never)]
+fn read_long_length(count: usize, octets: &[u8]) -> Result<Front<'_>, ItemError>
+    ensures only { IfOk result (λ f. long_length_at count octets.now ≡
+        Some (record { number = f.number; rest = f.rest.now })) }
+    ensures found { (f : Seen) → long_length_at count octets.now ≡ Some f → IsOk result }
+{
+    let Some((digits, rest)) = octets.split_at_checked(count) else {
+        return Err(ItemError::Missing(count - octets.len()));
     };
     match number_of(digits) {
         Some(number) if number >= 128 && digits.first() != Some(&0) => Ok(Front { number, rest }),

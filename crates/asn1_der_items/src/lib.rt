@@ -52,6 +52,3 @@ pub use elements::{
 pub use error::ElementError;
 pub use integers::{append_integer, read_integer};
 pub use teletex::append_teletex;
-
-#[cfg(test)]
-mod tests;

@@ -9,8 +9,8 @@ use std::process::Abort;
 /// The bytes are not what they are read as.
 pub(crate) const BAD_ITEM: DecodeError = DecodeError::Custom("bad item");
 
-/// A value that is read from these bytes.
-fn read<T: Decode>(alloc: Global, bytes: &[u8]) -> Result<T, DecodeError> {
+/// A value that is read from these bytes, with at most eight nested scopes.
+pub(crate) fn read<T: Decode>(alloc: Global, bytes: &[u8]) -> Result<T, DecodeError> {
     read_whole(DerDecoder::new(alloc, bytes, 8))
 }
 

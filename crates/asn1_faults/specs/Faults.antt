@@ -13,8 +13,8 @@ HoldsElements zero e = ⊤
 HoldsElements (suc depth) e = e.constructed ≡ true → AreEach (HoldsElements depth) e.contents
 
 -- the bytes are elements, and so is what is inside them, down to this depth
-abbrev pub AreSound : ℕ → List ℕ → Type 0
-AreSound depth bytes = AreEach (HoldsElements depth) bytes
+abbrev pub AreElementsDownTo : ℕ → List ℕ → Type 0
+AreElementsDownTo depth bytes = AreEach (HoldsElements depth) bytes
 
 -- At this place an element is due, and none begins; and all that is before it, down to this depth, are elements: it is the first byte,
 -- or behind the element with which the bytes begin, or inside that.

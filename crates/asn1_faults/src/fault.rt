@@ -1,7 +1,7 @@
 //! Where bytes are no elements of DER.
 ghost use Rattle.std.specs.Prelude.{IfNone, IfSome};
 ghost use Rattle.asn1_der_items.specs.Elements.{element_of};
-ghost use Rattle.asn1_faults.specs.Faults.{AreSound, HoldsElements, IsFaultInside, IsFirstFault};
+ghost use Rattle.asn1_faults.specs.Faults.{AreElementsDownTo, HoldsElements, IsFaultInside, IsFirstFault};
 
 use asn1_der_items::{Element, find_element};
 
@@ -10,7 +10,7 @@ use asn1_der_items::{Element, find_element};
 #[cycle(faults)]
 pub fn first_fault(bytes: &[u8], depth: usize) -> Option<usize>
     ensures fault { IfSome result (IsFirstFault depth bytes.now) }
-    ensures none { IfNone result (AreSound depth bytes.now) }
+    ensures none { IfNone result (AreElementsDownTo depth bytes.now) }
 {
     let mut left = bytes;
     while !left.is_empty() {

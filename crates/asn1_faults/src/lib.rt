@@ -2,9 +2,10 @@
 //!
 //! [`first_fault`] answers a place, or none. What the contract promises: at that place an element is due, behind others or inside
 //! others, and none begins, and before it, down to the depth that is given, are elements alone (`IsFirstFault` of
-//! `specs/Faults.antt`). Where it answers none, the bytes are elements down to that depth (`AreSound`).
+//! `specs/Faults.antt`). Where it answers none, the bytes are elements down to that depth (`AreElementsDownTo`). Never do both hold of the same bytes ([`laws`]).
 #![tactic(auto)]
 
 mod fault;
+pub mod laws;
 
 pub use fault::first_fault;

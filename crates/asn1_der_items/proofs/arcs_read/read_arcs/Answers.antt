@@ -31,7 +31,7 @@ loop-left-init c = λ list are.
     let two = c.in_ok-push_arc-2.ensures (omega (arith, second, f.fits)) in
     let read : c.push_arc-2.new.arcs.items ≡ ([] ++ f.first ∷ []) ++ f.second ∷ [] =
     two ∙ ap (λ n. c.push_arc.new.arcs.items ++ n ∷ []) second
-    ∙ ap (λ l. l ++ f.second ∷ []) (one ∙ ap (λ n. c.new-arcs.result.items ++ n ∷ []) first ∙ ap (λ l. l ++ f.first ∷ []) c.new-arcs.ensures.items) in
+    ∙ ap (λ l. l ++ f.second ∷ []) (one ∙ ap (λ n. c.in_ok-arcs.arcs.items ++ n ∷ []) first ∙ ap (λ l. l ++ f.first ∷ []) c.in_ok-arcs.ensures.items) in
     rw found.1 (f.after c.push_arc-2.new.arcs.items read)
 
 pub returns-in_err-front-2 : goal.returns-in_err-front-2

@@ -2,10 +2,9 @@ use Rattle.std.specs.Bool.{◌==◌}
 use Rattle.std.proofs.Common.{◌≡◌, ◌≢◌, [], ◌∷◌, ◌<◌, ℕ, IfNone, List, Option, None, Some, length, false, true, arith, refl, sym}
 use Rattle.std.proofs.lemmas.Bool.{eqb-true}
 use Rattle.asn1_der_items.specs.Elements.{Element, element_at, element_of}
-use Rattle.asn1_der_items.proofs.Behind.{element_at-shorter}
-use Rattle.asn1_faults.proofs.Parts.{parts_fit}
+use Rattle.asn1_der_items.proofs.Behind.{element_at-shorter, parts_fit}
 use Rattle.asn1_faults.proofs.Places.{at_place, from_inside, holds_inside, is_within}
-use Rattle.asn1_faults.specs.Faults.{AreSound, here, behind, none_left, one_more}
+use Rattle.asn1_faults.specs.Faults.{AreElementsDownTo, here, behind, none_left, one_more}
 use Rattle.asn1_faults.proofs.fault.+faults.Goals as goal
 
 -- no element begins where none is found
@@ -26,7 +25,7 @@ some_left [] test is = absurd (never test)
 some_left (b ∷ bytes) test is = cc
 
 -- a list whose length is 0
-nothing_left : (depth : ℕ) (bytes : List ℕ) → true ≡ (length bytes == 0) → AreSound depth bytes
+nothing_left : (depth : ℕ) (bytes : List ℕ) → true ≡ (length bytes == 0) → AreElementsDownTo depth bytes
 nothing_left depth [] test = none_left
 nothing_left depth (b ∷ bytes) test = absurd (omega (arith, eqb-true (length (b ∷ bytes)) 0 (sym test)))
 
@@ -73,8 +72,8 @@ first_fault-loop-left-preserved t c =
       fits = omega (arith, c.loop-left.invariant.fits, shorter);
       faults = λ place fault. at_place c.args.depth c.args.bytes.now _ _ (omega (arith, c.loop-left.invariant.fits, shorter))
           (c.loop-left.invariant.faults _ (behind c.args.depth c.loop-left.left.now e place at holds fault));
-      sound = λ sound. c.loop-left.invariant.sound (one_more c.loop-left.left.now e at holds sound);
+      elements = λ rest. c.loop-left.invariant.elements (one_more c.loop-left.left.now e at holds rest);
     }
 
 pub first_fault-returns-clause-none : goal.first_fault-returns-clause-none
-first_fault-returns-clause-none t c = c.loop-left.invariant.sound (nothing_left c.args.depth c.loop-left.left.now c.loop-left-test.ensures)
+first_fault-returns-clause-none t c = c.loop-left.invariant.elements (nothing_left c.args.depth c.loop-left.left.now c.loop-left-test.ensures)

@@ -1,5 +1,5 @@
 use Rattle.std.proofs.Common.{ℕ, ◌+◌, ◌-◌, ◌*◌, ◌≤◌, length}
-use Rattle.asn1_faults.specs.Faults.{AreSound, IsFirstFault}
+use Rattle.asn1_faults.specs.Faults.{AreElementsDownTo, IsFirstFault}
 use Rattle.asn1_faults.proofs.fault.+faults.Given as goal
 
 abbrev pub decreases-first_fault : goal.decreases-first_fault
@@ -12,7 +12,7 @@ abbrev pub invariant-first_fault-loop-left : goal.invariant-first_fault-loop-lef
 invariant-first_fault-loop-left l = record {
   fits : length l.left ≤ length l.bytes;
   faults : (place : ℕ) → IsFirstFault l.depth l.left place → IsFirstFault l.depth l.bytes (length l.bytes - length l.left + place);
-  sound : AreSound l.depth l.left → AreSound l.depth l.bytes;
+  elements : AreElementsDownTo l.depth l.left → AreElementsDownTo l.depth l.bytes;
 }
 
 abbrev pub decreases-first_fault-loop-left : goal.decreases-first_fault-loop-left

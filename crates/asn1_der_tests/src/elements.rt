@@ -1,4 +1,5 @@
-use crate::{
+//! Elements and their contents octets, by X.690 and by OpenSSL, and damaged ones.
+use asn1_der_items::{
     ElementError, append_contents, append_integer, append_primitive, begin_element, end_element,
     find_element, read_integer,
 };

@@ -1,5 +1,5 @@
 //! Texts that others wrote: OpenSSL's, and those of the standards.
-use crate::{
+use asn1_certificate_text::{
     Moment, PemError, bit_length, curve_of, is_pem, object_named, pem_octets, push_address,
     push_escaped, push_octets, push_usages,
 };

@@ -1,5 +1,7 @@
-use crate::DerDecoder;
+//! What the decoder refuses: other spellings, other orders, and bytes that are missing or left.
+use crate::reading::{BAD_ITEM, read, refuses};
 use asn1_dec::{Decode, DecodeError, Decoder, Needed};
+use asn1_der_decoder::DerDecoder;
 use asn1_packed::read_whole;
 use asn1_strings::{
     BitString, BmpString, ObjectIdentifier, OctetString, TeletexString, VisibleString,
@@ -10,35 +12,14 @@ use asn1_values::Integer;
 use std::alloc::Global;
 use std::process::Abort;
 
-/// The bytes are not what they are read as.
-const BAD_ITEM: DecodeError = DecodeError::Custom("bad item");
-
-/// A value that is read from these bytes, with at most four nested scopes.
-fn read<T: Decode>(alloc: Global, bytes: &[u8]) -> Result<T, DecodeError> {
-    read_whole(DerDecoder::new(alloc, bytes, 4))
-}
-
-/// Asserts the error that comes of these bytes.
-fn assert_error<T: Decode + Drop>(
-    rt: &impl Abort,
-    alloc: Global,
-    bytes: &[u8],
-    expected: DecodeError,
-) {
-    match read::<T>(alloc, bytes) {
-        Ok(_) => assert!(rt; false),
-        Err(error) => assert!(rt; error == expected),
-    }
-}
-
 /// Asserts that the bytes are refused.
 fn assert_bad<T: Decode + Drop>(rt: &impl Abort, alloc: Global, bytes: &[u8]) {
-    assert_error::<T>(rt, alloc, bytes, BAD_ITEM);
+    refuses::<T>(rt, alloc, bytes, BAD_ITEM);
 }
 
 /// Asserts that so many bytes are missing.
 fn assert_missing<T: Decode + Drop>(rt: &impl Abort, alloc: Global, bytes: &[u8], count: usize) {
-    assert_error::<T>(
+    refuses::<T>(
         rt,
         alloc,
         bytes,
@@ -250,10 +231,18 @@ fn the_next_tag_tells_what_is_there(rt: HostRuntime) {
     assert!(rt; is_there(alloc, &[1, 0x80]) == Err(BAD_ITEM));
 }
 
+/// A value that is read with at most four nested scopes.
+fn read_with_four<T: Decode>(alloc: Global, bytes: &[u8]) -> Result<T, DecodeError> {
+    read_whole(DerDecoder::new(alloc, bytes, 4))
+}
+
 #[test]
 fn scopes_are_counted(rt: HostRuntime) {
     let alloc = rt.alloc();
     let deep = [0x30, 8, 0x30, 6, 0x30, 4, 0x30, 2, 5, 0];
-    assert!(rt; read::<Vec<Vec<Vec<Vec<()>>>>>(alloc, &deep).is_ok());
-    assert_error::<Vec<Vec<Vec<Vec<Vec<()>>>>>>(&rt, alloc, &deep, DecodeError::Depth);
+    assert!(rt; read_with_four::<Vec<Vec<Vec<Vec<()>>>>>(alloc, &deep).is_ok());
+    match read_with_four::<Vec<Vec<Vec<Vec<Vec<()>>>>>>(alloc, &deep) {
+        Ok(_) => assert!(rt; false),
+        Err(error) => assert!(rt; error == DecodeError::Depth),
+    }
 }
