@@ -9,6 +9,8 @@
 #![tactic(auto)]
 
 mod form;
+#[cfg(test)]
+mod key_tests;
 mod outcome;
 mod show;
 #[cfg(test)]
