@@ -1,4 +1,4 @@
-//! What is shown of keys that are of no size that is known here, and of one that is; the octets were made by hand.
+//! What is shown of public keys whose size is known and of others; the octets were made by hand.
 use crate::form::Form;
 use crate::show::written;
 use asn1_der_items::{begin_element, end_element};
@@ -16,7 +16,7 @@ fn sequence(rt: &impl Abort, alloc: Global, contents: &[u8]) -> Vec<u8> {
     bytes
 }
 
-/// A certificate in DER with this `SubjectPublicKeyInfo`, and as little else as there can be.
+/// A certificate in DER with this `SubjectPublicKeyInfo`, and as little else as its types allow: no names, and empty times.
 fn certificate_of(rt: &impl Abort, alloc: Global, key: &[u8]) -> Vec<u8> {
     let front = [
         2, 1, 1, 0x30, 4, 6, 2, 0x2a, 3, 0x30, 0, 0x30, 4, 0x17, 0, 0x17, 0, 0x30, 0,
@@ -43,13 +43,13 @@ fn assert_key(rt: &impl Abort, alloc: Global, key: &[u8], shown: &str) {
     assert!(rt; line == Some(shown));
 }
 
-/// A key of RSA (RFC 3279, 2.3.1), whose BIT STRING has these octets.
-fn key_of_rsa(rt: &impl Abort, alloc: Global, bits: &[u8]) -> Vec<u8> {
+/// A key of RSA (RFC 3279, 2.3.1) with this element as its BIT STRING.
+fn key_of_rsa(rt: &impl Abort, alloc: Global, bit_string: &[u8]) -> Vec<u8> {
     let algorithm = [
         0x30, 13, 6, 9, 0x2a, 0x86, 0x48, 0x86, 0xf7, 0x0d, 1, 1, 1, 5, 0,
     ];
     let mut parts = Vec::from_slice(alloc, &algorithm).expect(rt, "memory");
-    parts.extend_from_slice(bits).expect(rt, "memory");
+    parts.extend_from_slice(bit_string).expect(rt, "memory");
     sequence(rt, alloc, &parts)
 }
 

@@ -8,8 +8,8 @@
 //! | [`MAX_DEPTH`] | how deep certificates may be nested |
 //!
 //! What a certificate has inside open types and octets is read by the same codec: the values of attributes, keys and their
-//! parameters, and the values of extensions. Where such a value is not of the type that it is asked for, its octets are shown, but of a
-//! key how many bits it is kept in. Which values a name cannot have is asked apart, of its DER, by [`first_name_fault`], and whether
+//! parameters, and the values of extensions. Where such a value is not of the type that it is asked for, its octets are shown; of a
+//! key, how many bits it is kept in. Which values a name cannot have is asked apart, of its DER, by [`first_name_fault`], and whether
 //! parameters are of the type of their tag by [`bad_parameters`].
 //!
 //! What the contracts promise:

@@ -38,13 +38,13 @@ pub record Identified : Type 0 where
   pub constructed : Bool
   pub rest : List ℕ
 
--- the identifier of a class, after its first octet, where this is its number
+-- the identifier of a class, whose number and what follows it are these, if the number is 31 or more and below 2^32
 abbrev pub high_tag : Class → Bool → Front → Option Identified
 high_tag class constructed f = if nat_le 31 f.number && nat_lt f.number (2 ^ 32)
     then Some (record { tag = record { class = class; value = f.number }; constructed = constructed; rest = f.rest })
     else None
 
--- the identifier of a class, after its first octet, where these octets begin with its number
+-- the identifier of a class, whose number is in these octets, which follow the first
 abbrev pub high_tag_at : Class → Bool → List ℕ → Option Identified
 high_tag_at class constructed octets = option_and_then (high_tag class constructed) (base128_at octets)
 

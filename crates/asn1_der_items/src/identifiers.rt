@@ -74,7 +74,7 @@ pub(crate) fn read_identifier(bytes: &[u8]) -> Result<Identified<'_>, ItemError>
     read_high_tag(class, constructed, rest)
 }
 
-/// Reads a tag of this class and form whose number is in the octets after the first.
+/// Reads a tag of this class and form: its number, 31 or more, is in these octets, which follow the first.
 #[inline(never)]
 fn read_high_tag(
     class: Class,

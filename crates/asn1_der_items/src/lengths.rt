@@ -63,7 +63,7 @@ pub(crate) fn read_length(bytes: &[u8]) -> Result<Front<'_>, ItemError>
     read_long_length(usize::from(*first - 128), rest)
 }
 
-/// Reads a length that is in as many of these octets.
+/// Reads a length from the first `count` of these octets.
 #[inline(never)]
 fn read_long_length(count: usize, octets: &[u8]) -> Result<Front<'_>, ItemError>
     ensures only { IfOk result (λ f. long_length_at count octets.now ≡

@@ -49,7 +49,7 @@ fn elements_are_those_of_x690(rt: HostRuntime) {
     assert_element(&rt, alloc, Tag::new_application(7), true, &third, &seventh);
 }
 
-// openssl asn1parse -genstr EXPLICIT:201A,UTF8:a
+// openssl asn1parse -genstr EXPLICIT:201A,UTF8:a; that of 31, the least in this form, was made by hand.
 #[test]
 fn tags_from_31_on_are_those_of_openssl(rt: HostRuntime) {
     let utf8 = [0x0c, 1, 0x61];

@@ -3,7 +3,7 @@
 //! | Module | What it tries |
 //! |---|---|
 //! | `elements` | elements and their contents octets, by X.690 and OpenSSL, and damaged ones |
-//! | `strict` | what the decoder refuses: other spellings, other orders, bytes that are missing or left |
+//! | `strict` | what the decoder takes and refuses: forms that are not the shortest, wrong orders, bytes that are missing or left |
 //! | `scalars` | the worked examples of X.690, clause 8, and what DER cannot say |
 //! | `scopes` | sets in their orders, choices, open types, long lengths, groups and components that are their DEFAULT |
 //! | `known` | the personnel record of X.690, annex A, and a name of RFC 5280 |

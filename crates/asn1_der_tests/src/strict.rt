@@ -1,4 +1,4 @@
-//! What the decoder refuses: other spellings, other orders, and bytes that are missing or left.
+//! What the decoder takes and what it refuses: forms that are not the shortest, wrong orders, and bytes that are missing or left.
 use crate::reading::{BAD_ITEM, read, refuses};
 use asn1_dec::{Decode, DecodeError, Decoder, Needed};
 use asn1_der_decoder::DerDecoder;
@@ -17,7 +17,7 @@ fn assert_bad<T: Decode + Drop>(rt: &impl Abort, alloc: Global, bytes: &[u8]) {
     refuses::<T>(rt, alloc, bytes, BAD_ITEM);
 }
 
-/// Asserts that so many bytes are missing.
+/// Asserts that this many bytes are missing.
 fn assert_missing<T: Decode + Drop>(rt: &impl Abort, alloc: Global, bytes: &[u8], count: usize) {
     refuses::<T>(
         rt,

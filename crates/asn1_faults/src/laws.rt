@@ -1,9 +1,9 @@
-//! Laws of what is said of bytes.
+//! A law: bytes with a first fault are not elements.
 ghost use Rattle.std.specs.Prelude.{List, ℕ};
 ghost use Rattle.asn1_faults.specs.Faults.{AreElementsDownTo, IsFirstFault};
 
-/// Bytes in which an element is due and none begins, down to this depth, are no elements down to it: [`first_fault`] answers a place
-/// or none, and never could have answered both.
+/// Bytes with a first fault, looked into down to a depth, are not elements down to that depth. So the two clauses of [`first_fault`]
+/// never both fit: it answers a place if and only if the bytes are not elements down to the depth.
 ///
 /// [`first_fault`]: crate::first_fault
 pub fn bytes_with_a_fault_are_no_elements()

@@ -2,7 +2,8 @@
 //!
 //! [`first_fault`] answers a place, or none. What the contract promises: at that place an element is due, behind others or inside
 //! others, and none begins, and before it, down to the depth that is given, are elements alone (`IsFirstFault` of
-//! `specs/Faults.antt`). Where it answers none, the bytes are elements down to that depth (`AreElementsDownTo`). Never do both hold of the same bytes ([`laws`]).
+//! `specs/Faults.antt`). Where it answers none, the bytes are elements down to that depth (`AreElementsDownTo`). Both never hold
+//! of the same bytes and the same depth ([`laws::bytes_with_a_fault_are_no_elements`]).
 #![tactic(auto)]
 
 mod fault;
