@@ -10,9 +10,10 @@ with the codecs over bytes, of which asn1_speed is the program; or tries them, b
     python3 bench/run.py --damage SECONDS
     python3 bench/run.py --growths
 
-proves and builds the program first. The first prints a line for each kind of input and size: the rate in MB (10^6 bytes) a
-second, the best of three runs, and the peak memory of the process in MB. The second builds bench/plain.rs, a program in plain
-Rust that does the same job, by `rustc -O`, and prints the seconds of processor time that both take for 20 MB, the best of five.
+proves and builds the program first, or with --built takes the one that `rt ci` built in this checkout. The first prints a line for
+each kind of input and size: the rate in MB (10^6 bytes) a second, the best of three runs, and the peak memory of the process in MB.
+The second builds bench/plain.rs, a program in plain Rust that does the same job, by `rustc -O`, and prints the seconds of processor
+time that both take for 20 MB, the best of five.
 
 The third builds bench/plain_codecs.rs, and prints for lists of values and chains of nodes, by each codec and both ways: the rate in
 MB a second, that of plain Rust, and the ratio of the times; the instructions for each byte, if valgrind is there; and the peak memory of
@@ -98,6 +99,12 @@ def write_lines(source, line, megabytes):
     for _ in range(megabytes):
         source.write(lines)
     source.flush()
+
+
+def build(crate):
+    """Proves and builds the program of a crate, unless the one that is there is to be taken."""
+    if "--built" not in sys.argv:
+        subprocess.run(["rt", "run"], cwd=crate, stdin=subprocess.DEVNULL, check=True)
 
 
 def build_plain(folder, name):
@@ -292,16 +299,16 @@ def refused_growths(library, job):
 
 def main():
     if "--codecs" in sys.argv:
-        subprocess.run(["rt", "run"], cwd=SPEED, stdin=subprocess.DEVNULL, check=True)
+        build(SPEED)
         return count_instructions() if "--values" in sys.argv else compare_codecs()
     if {"--stack", "--damage", "--growths"} & set(sys.argv):
-        subprocess.run(["rt", "run"], cwd=TRIALS, stdin=subprocess.DEVNULL, check=True)
+        build(TRIALS)
         if "--damage" in sys.argv:
             return damage(float(sys.argv[-1]))
         if "--growths" in sys.argv:
             return refuse_growths()
         return measure_stack()
-    subprocess.run(["rt", "run"], cwd=CRATE, stdin=subprocess.DEVNULL, check=True)
+    build(CRATE)
     print(f"cores: {os.cpu_count()}")
     if "--plain" in sys.argv:
         compare_with_plain()
