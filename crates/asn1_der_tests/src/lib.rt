@@ -7,6 +7,7 @@
 //! | `scalars` | the worked examples of X.690, clause 8, and what DER cannot say |
 //! | `scopes` | sets in their orders, choices, open types, long lengths, groups and components that are their DEFAULT |
 //! | `known` | the personnel record of X.690, annex A, and a name of RFC 5280 |
+//! | `price` | the first type of docs/USING.md, through packed bytes and DER |
 //! | `reading` | the sample types as they are read, and damaged bytes |
 //! | `forms` | what is primitive where others are to be inside, and the reverse |
 //! | `streams` | persons one after another, in pieces |
@@ -24,6 +25,8 @@ mod forms;
 mod known;
 #[cfg(test)]
 mod memory;
+#[cfg(test)]
+mod price;
 #[cfg(test)]
 mod reading;
 #[cfg(test)]

@@ -1,9 +1,6 @@
 //! A value is written as bytes, and read back from a stream of them that comes in two pieces: the first use in the README.
 #![tactic(auto)]
 
-#[cfg(test)]
-mod tests;
-
 use asn1_bench::{BenchReader, BenchRules};
 use asn1_samples::Person;
 use asn1_schema::{Integer, Rules, read_pieces};

@@ -49,6 +49,3 @@ pub use lists::write_list;
 pub use new_iter::iter_of;
 pub use pieces::{Pieces, read_pieces};
 pub use round_trips::{outputs_are_fronts, round_trip_in_pieces};
-
-#[cfg(test)]
-mod tests;

@@ -1,5 +1,5 @@
-//! Tests of the public calls of the crates from `asn1_model` to `asn1_enc`, and of `asn1_samples`, `asn1_recursive`
-//! and `asn1_clash`.
+//! Tests of the public calls of the crates from `asn1_model` to `asn1_enc`, and of `asn1_samples`, `asn1_recursive`,
+//! `asn1_clash` and `asn1_streams`.
 //!
 //! A crate that has tests is proved twice, so those that need no private item are together here, and the crates below are
 //! proved once. They try what no contract says: values from outside (worked examples, a standard's tables), printed texts,
@@ -16,6 +16,7 @@
 //! | `types` | sets, open types and wrappers: worked values, and copies |
 //! | `encoder` | what a codec is told beside the records when a value is written, and the texts of errors |
 //! | `samples` | a type whose constraints take memory |
+//! | `streams` | what an `Iter` has unread, consumed and moved, and what comes out of pieces |
 //! | `clash` | the search for components without distinct tags, against that of `asn1_fields` |
 //!
 //! The records that an example expects, and the types that it is about, are written out in `specs/`.
@@ -40,5 +41,7 @@ mod fields;
 mod model;
 #[cfg(test)]
 mod samples;
+#[cfg(test)]
+mod streams;
 #[cfg(test)]
 mod types;

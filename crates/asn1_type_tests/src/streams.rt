@@ -1,12 +1,12 @@
 //! Runs over a reader whose values are single bytes, and over rules that refuse everything.
-ghost use Rattle.asn1_streams.specs.Bytes.{byte_fronts, byte_front_is_cut};
+ghost use Rattle.asn1_type_tests.specs.Bytes.{byte_fronts, byte_front_is_cut};
 ghost use Rattle.std.proofs.Common.{rules};
-ghost use Rattle.asn1_streams.specs.NoRules.{no_format, no_format_is_lawful};
+ghost use Rattle.asn1_type_tests.specs.NoRules.{no_format, no_format_is_lawful};
 
-use crate::{FrontReader, Iter, iter_of, read_pieces, round_trip_in_pieces, write_list};
 use asn1_dec::{Decode, DecodeError, Needed};
 use asn1_enc::{Encode, EncodeError};
 use asn1_rules::{RoundTripError, Rules};
+use asn1_streams::{FrontReader, Iter, iter_of, read_pieces, round_trip_in_pieces, write_list};
 use std::alloc::Global;
 use std::process::Abort;
 
