@@ -3,6 +3,9 @@
 //!
 //!     rustc -O --edition 2024 bench/plain_certificates.rs -o plain_certificates
 //!     ./plain_certificates 1000 0 < examples/certificates/leaf-ec.der
+//!
+//! A BIT STRING is kept as its bytes; with `--cfg bools` it is a `bool` for each bit, as it is in the layer, so that the program makes the
+//! same values.
 
 use std::env;
 use std::hint::black_box;
@@ -39,9 +42,50 @@ enum Integer {
 }
 
 /// Bits, the first of them the highest of the first byte.
+#[cfg(not(bools))]
 struct BitString {
     unused: u8,
     bytes: Vec<u8>,
+}
+
+#[cfg(not(bools))]
+impl BitString {
+    fn of_bytes(unused: u8, bytes: &[u8]) -> BitString {
+        BitString { unused, bytes: bytes.to_vec() }
+    }
+
+    fn append_to(&self, bytes: &mut Vec<u8>) {
+        bytes.push(self.unused);
+        bytes.extend_from_slice(&self.bytes);
+    }
+}
+
+/// Bits, a `bool` for each.
+#[cfg(bools)]
+struct BitString(Vec<bool>);
+
+#[cfg(bools)]
+impl BitString {
+    fn of_bytes(unused: u8, bytes: &[u8]) -> BitString {
+        let mut bits = vec![false; 8 * bytes.len()];
+        for (eight, byte) in bits.chunks_exact_mut(8).zip(bytes) {
+            let of = |at: u32| byte >> at & 1 == 1;
+            eight.copy_from_slice(&[of(7), of(6), of(5), of(4), of(3), of(2), of(1), of(0)]);
+        }
+        bits.truncate(bits.len() - usize::from(unused));
+        BitString(bits)
+    }
+
+    fn append_to(&self, bytes: &mut Vec<u8>) {
+        let BitString(bits) = self;
+        bytes.push(((8 - bits.len() % 8) % 8) as u8);
+        let whole = bits.chunks_exact(8);
+        let rest = whole.remainder();
+        bytes.extend(whole.map(|eight| eight.iter().fold(0, |byte, &bit| byte << 1 | u8::from(bit))));
+        if !rest.is_empty() {
+            bytes.push(rest.iter().enumerate().fold(0, |byte, (at, &bit)| byte | u8::from(bit) << (7 - at)));
+        }
+    }
 }
 
 /// The arcs of an OBJECT IDENTIFIER.
@@ -258,7 +302,7 @@ impl<'a> Reader<'a> {
         if unused > 7 || bytes.is_empty() && unused > 0 || last & ((1 << unused) - 1) != 0 {
             return Err(Error::Malformed);
         }
-        Ok(BitString { unused, bytes: bytes.to_vec() })
+        Ok(BitString::of_bytes(unused, bytes))
     }
 
     fn any(&mut self) -> Result<Any, Error> {
@@ -332,10 +376,7 @@ impl Writer {
     }
 
     fn bits(&mut self, identifier: u8, bits: &BitString) {
-        self.element(identifier, |writer| {
-            writer.bytes.push(bits.unused);
-            writer.bytes.extend_from_slice(&bits.bytes);
-        });
+        self.element(identifier, |writer| bits.append_to(&mut writer.bytes));
     }
 
     /// A list in the order of its elements' bytes.

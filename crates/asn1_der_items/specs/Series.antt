@@ -14,6 +14,7 @@ abbrev pub ends : List ℕ → Bool
 ends [] = true
 ends (byte ∷ rest) = false
 
+-- an element was found, and nothing follows it
 abbrev pub is_whole : Option Element → Bool
 is_whole (Some e) = ends e.rest
 is_whole None = false

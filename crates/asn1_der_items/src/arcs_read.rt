@@ -48,6 +48,7 @@ fn first_of(number: u64) -> u64
 }
 
 /// The number to the base 128 with which the octets begin.
+#[inline(always)]
 fn read_number(octets: &[u8]) -> Result<Front<'_>, ItemError>
     ensures found { (f : Seen) → base128_at octets.now ≡ Some f → f.number < 2 ^ 64 →
         MatchResult result (λ x. (x.number ≡ f.number) × (x.rest.now ≡ f.rest)) (λ _. ⊥) }
@@ -60,6 +61,7 @@ fn read_number(octets: &[u8]) -> Result<Front<'_>, ItemError>
 }
 
 /// Appends an arc.
+#[inline(always)]
 fn push_arc(arcs: &mut Vec<u32>, number: u64) -> Result<(), ItemError>
     ensures { number < 2 ^ 32 → MatchResult result
         (λ _. arcs.new.items ≡ arcs.old.items ++ number ∷ []) (λ e. e ≡ Memory) }

@@ -43,7 +43,24 @@ fn append_leading(bytes: &mut Vec<u8>, number: u64) -> Result<(), AllocError>
 }
 
 /// Reads a number to the base 128 that is below 2^64.
+#[inline(always)]
 pub(crate) fn read_base128(bytes: &[u8]) -> Result<Front<'_>, ItemError>
+    ensures only { IfOk result (λ f.
+        base128_at bytes.now ≡ Some (record { number = f.number; rest = f.rest.now })) }
+    ensures found { (f : Seen) → base128_at bytes.now ≡ Some f → f.number < 2 ^ 64 → IsOk result }
+{
+    match bytes {
+        [octet, rest @ ..] if *octet < 128 => Ok(Front {
+            number: u64::from(*octet),
+            rest,
+        }),
+        _ => read_long_base128(bytes),
+    }
+}
+
+/// The same, of a number that need not be one octet. It stands apart, so that what is inlined stays small.
+#[inline(never)]
+fn read_long_base128(bytes: &[u8]) -> Result<Front<'_>, ItemError>
     ensures only { IfOk result (λ f.
         base128_at bytes.now ≡ Some (record { number = f.number; rest = f.rest.now })) }
     ensures found { (f : Seen) → base128_at bytes.now ≡ Some f → f.number < 2 ^ 64 → IsOk result }

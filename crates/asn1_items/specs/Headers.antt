@@ -85,12 +85,13 @@ pub record IsHeader (found : Found) (h : Header) : Type 0 where
   pub size : found.size ≡ h.size
   pub body : found.body.now ≡ h.body
 
--- The header that the program found is that of these bytes, or of those after a kind.
+-- The header that the program found is that of these bytes.
 pub record IsHeaderOf (bytes : List ℕ) (found : Found) : Type 0 where
   pub header : Header
   pub at : header_at bytes ≡ Some header
   pub is : IsHeader found header
 
+-- The header that the program found is that of a kind and these bytes after it.
 pub record IsHeaderAfter (kind : ℕ) (bytes : List ℕ) (found : Found) : Type 0 where
   pub header : Header
   pub at : from_class kind bytes ≡ Some header

@@ -51,6 +51,7 @@ module _ {P : Type 0} (marks : MarkBytes) where
   abbrev pub item_writer : Writer (BufferEncoder (ItemBuffer P))
   item_writer = buffer_writer written_items
 
+  -- What is too long stays so, whatever is written before it, after it and around it; and presence marks alone are not too long.
   pub rejects_by_parts : RejectsByParts (in_one_order written_items)
   rejects_by_parts = record {
     part = λ before rs after t. too_long_after marks before (rs ++ after) (too_long_before marks rs after t);

@@ -1,6 +1,6 @@
 use Rattle.std.proofs.Common.{◌≡◌, length}
 use Rattle.asn1_der_items.specs.Base128.{base128_after}
-use Rattle.asn1_der_items.proofs.base128.read_base128.Given as goal
+use Rattle.asn1_der_items.proofs.base128.read_long_base128.Given as goal
 
 abbrev pub invariant-loop-left : goal.invariant-loop-left
 invariant-loop-left l = record { same : base128_after l.number l.left ≡ base128_after 0 l.fn.bytes }
