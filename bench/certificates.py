@@ -1,17 +1,18 @@
 #!/usr/bin/env python3
-"""Times how many certificates a second are read and written, beside plain Rust.
+"""Times how many certificates a second are read and written, beside plain Rust, which makes the same values, or keeps bits in bytes.
 
     python3 bench/certificates.py
     python3 bench/certificates.py PROGRAM
 
 proves and builds the program asn1_certificate_bench, which reads a certificate and writes it again as often as it is told; or takes
-this PROGRAM in its place. It builds bench/plain_certificates.rs, a program in plain Rust that does the same job, by `rustc -O`, and sees
-that both write the same bytes for each certificate of examples/certificates.
+this PROGRAM in its place. It builds bench/plain_certificates.rs, a program in plain Rust that does the same job, by `rustc -O` for the
+processor for which `rt` builds, in two forms: one makes the same values as the layer, with a `bool` for each bit of a BIT STRING, and
+one keeps the bits in bytes. It sees that all write the same bytes for each certificate of examples/certificates.
 
-Then it prints a line for each certificate, read and written: how many go in a second, how many by plain Rust, and the ratio of the
-times; and the instructions for one, if valgrind is there. The time is that of the processor, the best of seven, less what it takes
-to start. The last lines are of all four together. Where Debian's librust-x509-cert-dev is there (it stands on librust-der-dev), its
-rate and the ratio to it are a third part of each line, and else a line says that it could not be built.
+Then it prints a line for each certificate, read and written: how many go in a second, how many by each form of plain Rust, and the
+ratios of the times; and the instructions for one, if valgrind is there. The time is that of the processor, the best of seven, less what
+it takes to start. The last lines are of all four together. Where Debian's librust-x509-cert-dev is there (it stands on
+librust-der-dev), its rate and the ratio to it are a last part of each line, and else a line says that it could not be built.
 """
 import glob
 import os
@@ -29,6 +30,10 @@ LIBRARY = os.path.join(ROOT, "bench", "library_certificates.rs")
 REGISTRY = "/usr/share/cargo/registry"
 CERTIFICATES = sorted(glob.glob(os.path.join(ROOT, "examples", "certificates", "*.der")))
 RUNS = 7
+# The processor for which `rt` builds.
+PROCESSOR = "x86-64-v2"
+# The two forms of plain Rust, each with the words that `rustc` needs for it.
+FORMS = {"plain Rust, the same values": ["--cfg", "bools"], "plain Rust, bits in bytes": []}
 
 MANIFEST = """[package]
 name = "library_certificates"
@@ -58,10 +63,10 @@ def build_program():
     return PROGRAM
 
 
-def build_plain(folder):
-    """Builds the program in plain Rust, and gives its path."""
-    plain = os.path.join(folder, "plain_certificates")
-    subprocess.run(["rustc", "-O", "--edition", "2024", PLAIN, "-o", plain], check=True)
+def build_plain(folder, words):
+    """Builds a form of the program in plain Rust, and gives its path."""
+    plain = os.path.join(folder, "_".join(["plain_certificates", *words]).replace("--", ""))
+    subprocess.run(["rustc", "-O", "-C", f"target-cpu={PROCESSOR}", "--edition", "2024", *words, PLAIN, "-o", plain], check=True)
     return plain
 
 
@@ -132,29 +137,34 @@ def steps(program, action, path):
 
 
 def line(what, costs, counts, certificates):
-    """Prints what was measured of these programs: of ours, of plain Rust, and of the library if it is there."""
-    ours, plain, *library = (certificates * 10**6 / cost for cost in costs)
-    text = f"{what}: {ours:.0f} a second, plain Rust {plain:.0f}, ratio {plain / ours:.2f}"
-    text += "".join(f", librust-x509-cert-dev {rate:.0f}, ratio {rate / ours:.2f}" for rate in library)
+    """Prints what was measured of these programs: of ours, of each form of plain Rust, and of the library if it is there."""
+    names = [*FORMS, "librust-x509-cert-dev"]
+    ours, *others = costs
+    text = f"{what}: {certificates * 10**6 / ours:.0f} a second"
+    for name, cost in zip(names, others):
+        text += f"; {name}: {certificates * 10**6 / cost:.0f}, ratio {ours / cost:.2f}"
     if counts:
-        ours, plain = (count / certificates for count in counts)
-        text += f"; {ours:.0f} and {plain:.0f} instructions for one, ratio {ours / plain:.2f}"
+        ours, *others = counts
+        text += f"; {ours / certificates:.0f} instructions for one"
+        for name, count in zip(names, others):
+            text += f"; {name}: {count / certificates:.0f}, ratio {ours / count:.2f}"
     print(text, flush=True)
 
 
 def main():
     ours = os.path.abspath(sys.argv[1]) if len(sys.argv) > 1 else build_program()
     with tempfile.TemporaryDirectory() as folder:
-        programs = [it for it in (ours, build_plain(folder), build_library(folder)) if it]
+        counted = [ours, *(build_plain(folder, words) for words in FORMS.values())]
+        programs = [*counted, *filter(None, [build_library(folder)])]
         for path in CERTIFICATES:
             said = {program: answer([program, "1", "1"], path) for program in programs}
             if len(set(said.values())) != 1:
                 sys.exit(f"{path}: {said}")
         for action in "read", "written":
-            all_costs, all_counts = [0] * len(programs), [0, 0]
+            all_costs, all_counts = [0] * len(programs), [0] * len(counted)
             for path in CERTIFICATES:
                 costs = microseconds(programs, action, path)
-                counts = [steps(program, action, path) for program in programs[:2]] if shutil.which("valgrind") else []
+                counts = [steps(program, action, path) for program in counted] if shutil.which("valgrind") else []
                 line(f"{os.path.basename(path)}, {action}", costs, counts, 1)
                 all_costs = [total + cost for total, cost in zip(all_costs, costs)]
                 all_counts = [total + count for total, count in zip(all_counts, counts)]

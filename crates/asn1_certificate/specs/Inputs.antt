@@ -34,8 +34,7 @@ abbrev pub AreInputOctets : List ℕ → List ℕ → Type 0
 AreInputOctets input octets =
     ((is_one_element input ≡ true) × (octets ≡ input)) ⊎ ((is_one_element input ≡ false) × AreOctetsOfText input octets)
 
--- The octets of an input were read as this certificate.
-pub record IsCertificateOf (input : List ℕ) (read : Certificate) : Type 0 where
-  pub octets : List ℕ
+-- These are the octets of an input, and they were read as this certificate.
+pub record IsCertificateOf (input octets : List ℕ) (read : Certificate) : Type 0 where
   pub are_octets : AreInputOctets input octets
   pub is_read : IsReadOf octets read

@@ -7,13 +7,13 @@ use Rattle.asn1_certificate.specs.declared.form.Form.TheVariants.{Der}
 use Rattle.asn1_certificate.specs.declared.outcome.Failure.{Failure}
 use Rattle.asn1_certificate.specs.declared.outcome.Failure.TheVariants.{NotShown, Reading, Writing}
 use Rattle.asn1_certificate.specs.declared.show.ShowError.{ShowError}
-use Rattle.asn1_certificate.specs.declared.show.ShowError.TheVariants.{Text, NoElement, NoCertificate, BadIssuer, BadSubject, BadKeyParameters, BadSignatureParameters, NotWritten, Memory}
+use Rattle.asn1_certificate.specs.declared.show.ShowError.TheVariants.{Text, NoElement, NoCertificate, BadIssuer, BadSubject, BadKeyParameters, BadSignatureParameters, NotWritten, OtherDer, Memory}
 use Rattle.asn1_certificate_reader.specs.NameFaults.{AnswersName}
 use Rattle.asn1_certificate_reader.specs.Parameters.{HasBadParameters}
 use Rattle.asn1_certificate_text.specs.PemRefusals.{IsRefusal}
 use Rattle.asn1_certificate_text.specs.declared.pem.PemError.TheVariants as pem
 use Rattle.asn1_codec.specs.declared.encode_error.EncodeError.TheVariants as writing
-use Rattle.asn1_der_encoder.specs.Format.{der_format}
+use Rattle.asn1_der_encoder.specs.Format.{Carries, der_format}
 use Rattle.asn1_der_items.specs.Series.{is_one_element}
 use Rattle.asn1_faults.specs.Faults.{AreElementsDownTo, IsFirstFault}
 use Rattle.asn1_rules.specs.Rules.{IsNotWritten}
@@ -29,6 +29,7 @@ IsRefusalOfText input (BadSubject fault) = ⊥
 IsRefusalOfText input (BadKeyParameters bad) = ⊥
 IsRefusalOfText input (BadSignatureParameters bad) = ⊥
 IsRefusalOfText input (NotWritten error) = ⊥
+IsRefusalOfText input OtherDer = ⊥
 IsRefusalOfText input Memory = ⊤
 
 -- the octets are those of no valid certificate, and the place that the error names is the first at which an element is due and none
@@ -42,23 +43,31 @@ IsRefusalOfOctets octets (BadSubject fault) = ⊥
 IsRefusalOfOctets octets (BadKeyParameters bad) = ⊥
 IsRefusalOfOctets octets (BadSignatureParameters bad) = ⊥
 IsRefusalOfOctets octets (NotWritten error) = ⊥
+IsRefusalOfOctets octets OtherDer = ⊥
 IsRefusalOfOctets octets Memory = ⊤
 
--- The fault is the first of a name of the certificate; or the parameters of the algorithm of its key, or of one of its signature, have
--- the tag of a type and are of no value of it; or this has no DER that is nested in 64 scopes at most, where its DER was asked for; or
--- memory ran out.
-abbrev pub IsRefusalOfCertificate : Form → Certificate → ShowError → Type 0
-IsRefusalOfCertificate form certificate (Text error) = ⊥
-IsRefusalOfCertificate form certificate (NoElement place error) = ⊥
-IsRefusalOfCertificate form certificate (NoCertificate error) = ⊥
-IsRefusalOfCertificate form certificate (BadIssuer fault) = AnswersName certificate.tbs_certificate.issuer (Some fault)
-IsRefusalOfCertificate form certificate (BadSubject fault) = AnswersName certificate.tbs_certificate.subject (Some fault)
-IsRefusalOfCertificate form certificate (BadKeyParameters bad) =
+-- A certificate has DER that is not these octets.
+pub record HasOtherDer (octets : List ℕ) (certificate : Certificate) : Type 0 where
+  pub bytes : List ℕ
+  pub carries : Carries bytes (records_of certificate)
+  pub other : bytes ≢ octets
+
+-- The fault is the first of a name of the certificate that these octets were read as; or the parameters of the algorithm of its key, or
+-- of one of its signature, are not what they have to be by their tag; or, where its DER was asked for, it has none that is nested in 64
+-- scopes at most, or has other DER than the octets; or memory ran out.
+abbrev pub IsRefusalOfCertificate : Form → List ℕ → Certificate → ShowError → Type 0
+IsRefusalOfCertificate form octets certificate (Text error) = ⊥
+IsRefusalOfCertificate form octets certificate (NoElement place error) = ⊥
+IsRefusalOfCertificate form octets certificate (NoCertificate error) = ⊥
+IsRefusalOfCertificate form octets certificate (BadIssuer fault) = AnswersName certificate.tbs_certificate.issuer (Some fault)
+IsRefusalOfCertificate form octets certificate (BadSubject fault) = AnswersName certificate.tbs_certificate.subject (Some fault)
+IsRefusalOfCertificate form octets certificate (BadKeyParameters bad) =
     HasBadParameters der_format certificate.tbs_certificate.subject_public_key_info.algorithm bad
-IsRefusalOfCertificate form certificate (BadSignatureParameters bad) =
+IsRefusalOfCertificate form octets certificate (BadSignatureParameters bad) =
     HasBadParameters der_format certificate.tbs_certificate.signature bad ⊎ HasBadParameters der_format certificate.signature_algorithm bad
-IsRefusalOfCertificate form certificate (NotWritten error) = (form ≡ Der) × ((error ≢ writing.Memory) × IsNotWritten der_format (records_of certificate) 64 error)
-IsRefusalOfCertificate form certificate Memory = ⊤
+IsRefusalOfCertificate form octets certificate (NotWritten error) = (form ≡ Der) × ((error ≢ writing.Memory) × IsNotWritten der_format (records_of certificate) 64 error)
+IsRefusalOfCertificate form octets certificate OtherDer = (form ≡ Der) × HasOtherDer octets certificate
+IsRefusalOfCertificate form octets certificate Memory = ⊤
 
 -- The octets of an input are refused.
 pub record RefusesOctets (input : List ℕ) (error : ShowError) : Type 0 where
@@ -68,9 +77,10 @@ pub record RefusesOctets (input : List ℕ) (error : ShowError) : Type 0 where
 
 -- The certificate that was read of an input is refused.
 pub record RefusesCertificate (form : Form) (input : List ℕ) (error : ShowError) : Type 0 where
+  pub octets : List ℕ
   pub certificate : Certificate
-  pub read : IsCertificateOf input certificate
-  pub refused : IsRefusalOfCertificate form certificate error
+  pub read : IsCertificateOf input octets certificate
+  pub refused : IsRefusalOfCertificate form octets certificate error
 
 -- why an input has no certificate
 abbrev pub IsNotRead : List ℕ → ShowError → Type 0
@@ -102,6 +112,7 @@ is_memory (BadSubject fault) = false
 is_memory (BadKeyParameters bad) = false
 is_memory (BadSignatureParameters bad) = false
 is_memory (NotWritten error) = false
+is_memory OtherDer = false
 is_memory Memory = true
 
 -- An input that was read is refused, by an error that is not that of memory.

@@ -1,7 +1,7 @@
 -- What the program writes.
 use Rattle.std.specs.Prelude.{◌≡◌, ℕ, List, None, Option}
 use Rattle.std.specs.Io.KnownBytes.{Appends, Consumes}
-use Rattle.asn1_certificate.specs.Inputs.{AreDerOf, IsCertificateOf, records_of}
+use Rattle.asn1_certificate.specs.Inputs.{IsCertificateOf, records_of}
 use Rattle.asn1_certificate_reader.specs.NameFaults.{AnswersName}
 use Rattle.asn1_certificate_reader.specs.Reports.{IsReportOf}
 use Rattle.asn1_certificate_report.specs.Reports.{report_text}
@@ -22,18 +22,18 @@ pub record AreLinesOf (certificate : Certificate) (bytes : List ℕ) : Type 0 wh
 
 -- the lines of a report of the certificate of an input
 pub record AreLinesOfInput (input bytes : List ℕ) : Type 0 where
+  pub octets : List ℕ
   pub certificate : Certificate
-  pub read : IsCertificateOf input certificate
+  pub read : IsCertificateOf input octets certificate
   pub names : HasGoodNames certificate
   pub are : AreLinesOf certificate bytes
 
--- the DER of the certificate of an input: where its octets are the DER of a valid certificate, the bytes are so too
+-- the octets of an input, which are the DER of the certificate that they were read as
 pub record IsDerOfInput (input bytes : List ℕ) : Type 0 where
   pub certificate : Certificate
-  pub read : IsCertificateOf input certificate
+  pub read : IsCertificateOf input bytes certificate
   pub names : HasGoodNames certificate
   pub carries : Carries bytes (records_of certificate)
-  pub same : (valid : Certificate) → AreDerOf read.octets valid → Carries bytes (records_of valid)
 
 -- A call that reads an input, and writes bytes that are of it by this relation: what remains to be read and what has been written,
 -- each before and after it.

@@ -2,10 +2,10 @@
 //! standard output.
 //!
 //! What is written is the text of a report (`report_text` of `asn1_certificate_report`), which is the report of a certificate
-//! (`report_of` of `asn1_certificate_reader`). The program ends with 0 if it has shown one, with 1 if the input has none, and
-//! with 2 where memory runs out or reading or writing fails; why it has shown none is then on standard error, with the place of
-//! the byte where one is known. With the argument `--der` it writes the DER of the certificate in the place of a report. The stored run
-//! shows a certificate.
+//! (`report_of` of `asn1_certificate_reader`). The program ends with 0 if it has shown one, with 1 if the input has none or
+//! one that is refused, and with 2 where memory runs out or reading or writing fails; why it has shown none is then on standard error,
+//! with the place of the byte where one is known. With the argument `--der` it writes the DER of the certificate in the place of a
+//! report: the octets that were read, or nothing where these are not its DER. The stored run shows a certificate.
 #![tactic(auto)]
 
 mod form;

@@ -1,5 +1,5 @@
 //! An input as a report.
-ghost use Rattle.std.specs.Prelude.{◌≡◌, IfErr, IfOk, OnOk};
+ghost use Rattle.std.specs.Prelude.{◌≡◌, IfErr, IfOk, List, OnOk, ℕ};
 ghost use Rattle.asn1_certificate.specs.Inputs.{AreInputOctets, AreOfNoCertificate, IsCertificateOf, IsReadOf, records_of};
 ghost use Rattle.asn1_certificate.specs.Refused.{IsNotRead, IsRefusalOfCertificate, IsRefusalOfInput, IsRefusalOfOctets, IsRefusalOfText};
 ghost use Rattle.asn1_certificate.specs.Shown.{AreLinesOf, AreLinesOfInput, HasGoodNames, IsDerOfInput};
@@ -40,15 +40,18 @@ pub(crate) enum ShowError {
     /// The name of whom it is for has one.
     #[error("no certificate: in its subject {0}")]
     BadSubject(NameFault),
-    /// The parameters of the key's algorithm have the tag of this type, and are of no value of it.
+    /// The parameters of the key's algorithm have to be this by their tag, and are not.
     #[error("no certificate: the parameters of its key's algorithm are no valid {0}")]
     BadKeyParameters(ParameterType),
-    /// Those of the signature's algorithm do.
+    /// So do those of the signature's algorithm.
     #[error("no certificate: the parameters of its signature's algorithm are no valid {0}")]
     BadSignatureParameters(ParameterType),
     /// The certificate was read, and is not written again.
     #[error("not written: {0}")]
     NotWritten(EncodeError),
+    /// The octets were read as a certificate whose DER is other: they have a component that is its DEFAULT.
+    #[error("not written: its DER has other octets, without components that are their DEFAULT")]
+    OtherDer,
     /// There was no memory.
     #[error("no memory")]
     Memory,
@@ -69,19 +72,19 @@ pub(crate) fn written(alloc: Global, form: Form, input: Vec<u8>) -> Result<Vec<u
     ensures der { form ≡ Form.Der → IfOk result (λ bytes. IsDerOfInput input.items bytes.items) }
     ensures refused { IfErr result (IsRefusalOfInput form input.items) }
 {
-    let certificate = certificate_of(alloc, input)?;
+    let (octets, certificate) = certificate_of(alloc, input)?;
     check_open_types(alloc, &certificate)?;
     match form {
         Form::Report => lines_of(alloc, &certificate),
-        Form::Der => der_of(alloc, &certificate),
+        Form::Der => der_of(alloc, &octets, &certificate),
     }
 }
 
 /// Refuses a certificate that was read, but whose open types hold what they cannot hold.
 fn check_open_types(alloc: Global, certificate: &Certificate) -> Result<(), ShowError>
     ensures good { OnOk result (HasGoodNames certificate.now) }
-    ensures refused { (form : Form) →
-        IfErr result (IsRefusalOfCertificate form certificate.now) }
+    ensures refused { (form : Form) (octets : List ℕ) →
+        IfErr result (IsRefusalOfCertificate form octets certificate.now) }
 {
     match check_names(certificate) {
         Ok(()) => check_parameters(alloc, certificate),
@@ -92,8 +95,8 @@ fn check_open_types(alloc: Global, certificate: &Certificate) -> Result<(), Show
 /// Refuses a certificate with a value in a name that no name can have.
 fn check_names(certificate: &Certificate) -> Result<(), ShowError>
     ensures good { OnOk result (HasGoodNames certificate.now) }
-    ensures refused { (form : Form) →
-        IfErr result (IsRefusalOfCertificate form certificate.now) }
+    ensures refused { (form : Form) (octets : List ℕ) →
+        IfErr result (IsRefusalOfCertificate form octets certificate.now) }
 {
     let signed = &certificate.tbs_certificate;
     if let Some(fault) = first_name_fault(&signed.issuer) {
@@ -105,9 +108,10 @@ fn check_names(certificate: &Certificate) -> Result<(), ShowError>
     Ok(())
 }
 
-/// Refuses a certificate with parameters of an algorithm that are of no value of the type of their tag.
+/// Refuses a certificate with parameters of an algorithm that are not what they have to be by their tag.
 fn check_parameters(alloc: Global, certificate: &Certificate) -> Result<(), ShowError>
-    ensures { (form : Form) → IfErr result (IsRefusalOfCertificate form certificate.now) }
+    ensures { (form : Form) (octets : List ℕ) →
+        IfErr result (IsRefusalOfCertificate form octets certificate.now) }
 {
     let rules = DerRules::new(alloc);
     let signed = &certificate.tbs_certificate;
@@ -133,25 +137,36 @@ fn lines_of(alloc: Global, certificate: &Certificate) -> Result<Vec<u8>, ShowErr
     Ok(report_text(alloc, &report)?.into_bytes())
 }
 
-/// The DER of a certificate.
-fn der_of(alloc: Global, certificate: &Certificate) -> Result<Vec<u8>, ShowError>
+/// The DER of a certificate that these octets were read as, which has to be the octets.
+fn der_of(alloc: Global, octets: &Vec<u8>, certificate: &Certificate) -> Result<Vec<u8>, ShowError>
     ensures written { IfOk result (λ bytes. Carries bytes.items (records_of certificate.now)) }
-    ensures refused { IfErr result (IsRefusalOfCertificate Form.Der certificate.now) }
+    ensures same { IfOk result (λ bytes. bytes.items ≡ octets.now.items) }
+    ensures refused { IfErr result
+        (IsRefusalOfCertificate Form.Der octets.now.items certificate.now) }
 {
     match DerRules::new(alloc).write_value(certificate, MAX_DEPTH) {
-        Ok(bytes) => Ok(bytes),
+        Ok(bytes) => {
+            if bytes.as_slice() == octets.as_slice() {
+                Ok(bytes)
+            } else {
+                Err(ShowError::OtherDer)
+            }
+        }
         Err(EncodeError::Memory) => Err(ShowError::Memory),
         Err(error) => Err(ShowError::NotWritten(error)),
     }
 }
 
-/// The certificate of an input.
-fn certificate_of(alloc: Global, input: Vec<u8>) -> Result<Certificate, ShowError>
-    ensures read { IfOk result (IsCertificateOf input.items) }
+/// The octets of an input, and the certificate that they were read as.
+fn certificate_of(alloc: Global, input: Vec<u8>) -> Result<(Vec<u8>, Certificate), ShowError>
+    ensures read { IfOk result (λ found. IsCertificateOf input.items found.0.items found.1) }
     ensures refused { IfErr result (IsNotRead input.items) }
 {
     match octets_of(alloc, input) {
-        Ok(octets) => read(alloc, &octets),
+        Ok(octets) => {
+            let certificate = read(alloc, &octets)?;
+            Ok((octets, certificate))
+        }
         Err(error) => Err(error),
     }
 }

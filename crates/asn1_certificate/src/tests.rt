@@ -45,7 +45,10 @@ fn values_of_names_are_strings(rt: HostRuntime) {
     assert_fault(&rt, alloc, &of_value(0x17, b'x'), no_string);
     assert_fault(&rt, alloc, &of_value(0x8c, b'x'), no_string);
     assert_fault(&rt, alloc, &of_value(0x0c, 0xff), bad_string);
+    assert_fault(&rt, alloc, &of_value(0x1c, b'x'), bad_string);
     assert_fault(&rt, alloc, &of_value(0x1e, b'x'), bad_string);
+    assert_fault(&rt, alloc, &of_value(3, 0), None);
+    assert_fault(&rt, alloc, &of_value(3, 8), bad_string);
 }
 
 /// Reads an algorithm in DER, whose parameters have one octet and this tag, and looks at these.
@@ -72,14 +75,21 @@ fn parameters_are_of_the_type_of_their_tag(rt: HostRuntime) {
     assert_parameters(&rt, alloc, 1, 0xff, None);
     assert_parameters(&rt, alloc, 1, 1, Some(ParameterType::Boolean));
     assert_parameters(&rt, alloc, 2, 0, None);
-    assert_parameters(&rt, alloc, 0x22, 0, Some(ParameterType::Integer));
+    assert_parameters(&rt, alloc, 0x22, 0, Some(ParameterType::Element));
     assert_parameters(&rt, alloc, 3, 0, None);
     assert_parameters(&rt, alloc, 3, 1, Some(ParameterType::BitString));
     assert_parameters(&rt, alloc, 4, 0, None);
     assert_parameters(&rt, alloc, 5, 0, Some(ParameterType::Null));
     assert_parameters(&rt, alloc, 6, 0x2a, None);
     assert_parameters(&rt, alloc, 6, 0x80, Some(ParameterType::ObjectIdentifier));
+    assert_parameters(&rt, alloc, 0x0a, 5, None);
+    assert_parameters(&rt, alloc, 0x1c, 0, Some(ParameterType::UniversalString));
     assert_parameters(&rt, alloc, 0x1e, 0, Some(ParameterType::BmpString));
+    assert_parameters(&rt, alloc, 0, 0, Some(ParameterType::Element));
+    assert_parameters(&rt, alloc, 0x10, 0, Some(ParameterType::Element));
+    assert_parameters(&rt, alloc, 0x30, 0, None);
+    assert_parameters(&rt, alloc, 0x24, 0, Some(ParameterType::Element));
+    assert_parameters(&rt, alloc, 0x80, 0, None);
 }
 
 /// A certificate in DER. The parameters of its three algorithms are a BOOLEAN of these octets: of the algorithm of its signature, as it
@@ -122,6 +132,17 @@ fn bad_parameters_are_refused(rt: HostRuntime) {
     assert!(rt; is_refused_for_its_signature(&rt, alloc, &certificate(2, 0, 0xff)));
     assert!(rt; is_refused_for_its_signature(&rt, alloc, &certificate(0xff, 0, 2)));
     assert!(rt; is_refused_for_its_key(&rt, alloc, &certificate(0xff, 2, 0xff)));
+}
+
+#[test]
+fn a_default_that_is_there_is_shown_and_not_written(rt: HostRuntime) {
+    let alloc = rt.alloc();
+    let mut first_version = certificate(0, 0, 0);
+    first_version[8] = 0;
+    let refused = refusal(&rt, alloc, &first_version);
+    assert!(rt; matches!(refused, Some(ShowError::OtherDer)));
+    let input = Vec::from_slice(alloc, &first_version).expect(&rt, "memory");
+    assert!(rt; written(alloc, Form::Report, input).is_ok());
 }
 
 #[test]

@@ -1,5 +1,5 @@
 -- Which values a name cannot have, by their octets in DER.
-use Rattle.std.specs.Prelude.{◌≡◌, ℕ, ◌%◌, Bool, ◌==◌, true, Option, None, Some, List, [], ◌∷◌, All, length, take, if◌then◌else◌}
+use Rattle.std.specs.Prelude.{◌≡◌, ℕ, ◌%◌, Bool, ◌==◌, false, true, Option, None, Some, List, [], ◌∷◌, All, length, nat_lt, take, if◌then◌else◌}
 use Rattle.std.specs.List.{slice_get}
 use Rattle.std.specs.Str.{is_utf8}
 use Rattle.asn1_certificate_reader.specs.declared.name_faults.NameFault.{NameFault}
@@ -22,9 +22,19 @@ primitive_tags = universal 3 ∷ universal 12 ∷ universal 18 ∷ universal 19 
 abbrev pub has_tag_of_name : Element → Bool
 has_tag_of_name e = if e.constructed then tag_eq e.tag (universal 16) else has e.tag primitive_tags
 
--- whether the contents are UTF-8 where the tag is that of a UTF8String, and whole units of two octets where it is that of a BMPString
+-- whether the contents of a BIT STRING count no more than seven unused bits (X.690, 8.6.2.2)
+abbrev pub counts_unused_bits : List ℕ → Bool
+counts_unused_bits [] = false
+counts_unused_bits (unused ∷ octets) = nat_lt unused 8
+
+-- whether the contents are such as the tag wants them: of a BIT STRING they count its unused bits, of a UTF8String they are UTF-8, and of
+-- a UniversalString and a BMPString they are units of four octets and of two
 abbrev pub has_contents_of_tag : Element → Bool
-has_contents_of_tag e = if tag_eq e.tag (universal 12) then is_utf8 e.contents else (if tag_eq e.tag (universal 30) then length e.contents % 2 == 0 else true)
+has_contents_of_tag e =
+    if tag_eq e.tag (universal 3) then counts_unused_bits e.contents
+    else (if tag_eq e.tag (universal 12) then is_utf8 e.contents
+    else (if tag_eq e.tag (universal 28) then length e.contents % 4 == 0
+    else (if tag_eq e.tag (universal 30) then length e.contents % 2 == 0 else true)))
 
 -- why an element is no value of a name, if it is none
 abbrev pub element_fault : Element → Option ValueFault

@@ -1,7 +1,7 @@
 //! Values of attributes that no name can have.
 ghost use Rattle.std.specs.Prelude.{◌≡◌};
 ghost use Rattle.std.specs.Str.{is_utf8};
-ghost use Rattle.asn1_certificate_reader.specs.NameFaults.{AnswersName, AnswersPart, AnswersParts, element_fault, has_contents_of_tag, has_tag_of_name, value_fault};
+ghost use Rattle.asn1_certificate_reader.specs.NameFaults.{AnswersName, AnswersPart, AnswersParts, counts_unused_bits, element_fault, has_contents_of_tag, has_tag_of_name, value_fault};
 ghost use Rattle.asn1_der_items.specs.Elements.{element_of};
 
 use asn1_der_items::{Element, find_element};
@@ -16,7 +16,7 @@ pub enum ValueFault {
     /// Its tag is that of no kind of string, of no bits and of no SEQUENCE.
     #[error("is no string")]
     NoString,
-    /// It has the tag of a UTF8String or of a BMPString, and its octets are no UTF-8, or no whole units.
+    /// Its octets are none of the type of its tag: no bits, no UTF-8, or no whole units of a UniversalString or a BMPString.
     #[error("has octets that its kind of string cannot have")]
     BadString,
 }
@@ -47,8 +47,7 @@ const PRIMITIVE_TAGS: [Tag; 8] = [
 
 /// The first value in a name in DER that it cannot have, if there is one. A name has values of seven kinds of string: those of a
 /// DirectoryString (RFC 5280, 4.1.2.4), an IA5String and a NumericString; and bits and SEQUENCEs, which a unique identifier and a
-/// postal address are. What kinds of string other than two may hold is not asked, since certificates are in use that do not keep to
-/// it.
+/// postal address are. Which characters a kind of string may have is not asked, since certificates are in use that do not keep to it.
 pub fn first_name_fault(name: &Name) -> Option<NameFault>
     ensures { AnswersName name.now result }
 {
@@ -119,14 +118,31 @@ fn has_tag_of_name(element: Element<'_>) -> bool
     PRIMITIVE_TAGS.contains(&element.tag)
 }
 
-/// Whether the contents are those of a UTF8String or a BMPString, where the tag is that of one.
+/// Whether the contents are such as the tag wants them, where it is that of a BIT STRING, a UTF8String, a UniversalString or a
+/// BMPString.
 fn has_contents_of_tag(element: Element<'_>) -> bool
     ensures { result ≡ has_contents_of_tag (element_of element.entry) }
 {
+    if element.tag == Tag::BIT_STRING {
+        return counts_unused_bits(element.contents);
+    }
     if element.tag == Tag::UTF8_STRING {
         return is_utf8(element.contents);
     }
+    if element.tag == Tag::UNIVERSAL_STRING {
+        return element.contents.len() % 4 == 0;
+    }
     element.tag != Tag::BMP_STRING || element.contents.len() % 2 == 0
+}
+
+/// Whether the contents of a BIT STRING count no more than seven unused bits.
+fn counts_unused_bits(contents: &[u8]) -> bool
+    ensures { result ≡ counts_unused_bits contents.now }
+{
+    match contents {
+        [unused, ..] => *unused < 8,
+        [] => false,
+    }
 }
 
 /// Whether octets are UTF-8.

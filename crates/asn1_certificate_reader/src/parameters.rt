@@ -1,22 +1,24 @@
 //! The parameters of algorithms.
 ghost use Rattle.std.specs.Prelude.{◌≡◌, IfOk, IfSome, true};
 ghost use Rattle.asn1_certificate_reader.specs.Inside.{AreOfNoValue};
-ghost use Rattle.asn1_certificate_reader.specs.Parameters.{AreBad, AreNotOfType, HasBadParameters, type_of_element, type_of_tag};
-ghost use Rattle.asn1_der_items.specs.Elements.{element_at};
+ghost use Rattle.asn1_certificate_reader.specs.Parameters.{AreBad, AreNotOfType, HasBadParameters, has_own_form, has_universal_form, has_whole_units, type_of_element, type_of_tag};
+ghost use Rattle.asn1_der_items.specs.Elements.{element_at, element_of};
 ghost use Rattle.asn1_model.specs.Meaning.{IsWellTagged};
 
 use crate::inside::read_inside;
 use asn1_dec::Decode;
-use asn1_der_items::find_element;
+use asn1_der_items::{Element, find_element};
+use asn1_model::tag::ENUMERATED;
 use asn1_rules::Rules;
 use asn1_strings::{BitString, BmpString, ObjectIdentifier};
-use asn1_tags::Tag;
+use asn1_tags::{Class, Tag};
+use asn1_types::Implicit;
 use asn1_values::Integer;
 use asn1_x509::AlgorithmIdentifier;
 use std::alloc::{AllocError, Global};
 use thiserror::Error;
 
-/// A type of the parameters of an algorithm, by their tag, whose contents octets are looked into.
+/// What parameters of an algorithm have to be, by their tag.
 #[derive(Clone, Copy, Debug, Drop, PartialEq, Eq, Error)]
 pub enum ParameterType {
     /// BOOLEAN
@@ -34,13 +36,30 @@ pub enum ParameterType {
     /// OBJECT IDENTIFIER
     #[error("OBJECT IDENTIFIER")]
     ObjectIdentifier,
+    /// ENUMERATED, whose contents octets are those of an INTEGER
+    #[error("ENUMERATED")]
+    Enumerated,
+    /// UniversalString
+    #[error("UniversalString")]
+    UniversalString,
     /// BMPString
     #[error("BMPString")]
     BmpString,
+    /// An element in the form that DER gives its tag: of the universal class, a constructed one for a SEQUENCE or a SET, and a
+    /// primitive one for any other type.
+    #[error("element of DER")]
+    Element,
 }
 
-/// The type of whose tag the parameters of an algorithm are, in DER, where they are of no value of it. Only six types are looked into:
-/// parameters of any other tag can be anything, and an algorithm may have none. It fails only if memory runs out.
+/// The tags of the universal class of constructed parameters.
+const CONSTRUCTED_TAGS: [Tag; 2] = [Tag::SEQUENCE, Tag::SET];
+
+/// The tags of the universal class that primitive parameters cannot have.
+const NO_PRIMITIVE_TAGS: [Tag; 3] = [Tag::EOC, Tag::SEQUENCE, Tag::SET];
+
+/// What the parameters of an algorithm have to be by their tag, in DER, where they are not. Eight types are looked into; of another tag
+/// of the universal class the form is looked at alone, and parameters of any other class can be anything. An algorithm may have none.
+/// It fails only if memory runs out.
 pub fn bad_parameters<R: Rules<Output = Vec<u8>>>(
     rules: &R,
     alloc: Global,
@@ -72,14 +91,41 @@ fn bad_type<R: Rules<Output = Vec<u8>>>(
     Ok(None)
 }
 
-/// The type of the tag of the element that octets begin with, if they begin with one and its type is looked into.
+/// What the element has to be that octets begin with, if they begin with one, and it is not of the form that DER gives its tag, or its
+/// type is looked into.
 fn type_of_octets(octets: &[u8]) -> Option<ParameterType>
     ensures { IfSome result (λ kind. type_of_element (element_at octets.now) ≡ Some kind) }
 {
     match find_element(octets) {
-        Ok(element) => type_of_tag(element.tag),
+        Ok(element) => {
+            if has_own_form(element) {
+                type_of_tag(element.tag)
+            } else {
+                Some(ParameterType::Element)
+            }
+        }
         Err(_) => None,
     }
+}
+
+/// Whether an element has the form that DER gives its tag, as far as the tag tells it.
+fn has_own_form(element: Element<'_>) -> bool
+    ensures { result ≡ has_own_form element.entry.tag.class (element_of element.entry) }
+{
+    match element.tag.class {
+        Class::Universal => has_universal_form(element),
+        Class::Application | Class::Context | Class::Private => true,
+    }
+}
+
+/// The same of an element of the universal class.
+fn has_universal_form(element: Element<'_>) -> bool
+    ensures { result ≡ has_universal_form (element_of element.entry) }
+{
+    if element.constructed {
+        return CONSTRUCTED_TAGS.contains(&element.tag);
+    }
+    !NO_PRIMITIVE_TAGS.contains(&element.tag)
 }
 
 /// The type that has this tag, if its contents octets are looked into.
@@ -100,6 +146,12 @@ fn type_of_tag(tag: Tag) -> Option<ParameterType>
     }
     if tag == Tag::OBJECT_IDENTIFIER {
         return Some(ParameterType::ObjectIdentifier);
+    }
+    if tag == Tag::ENUMERATED {
+        return Some(ParameterType::Enumerated);
+    }
+    if tag == Tag::UNIVERSAL_STRING {
+        return Some(ParameterType::UniversalString);
     }
     if tag == Tag::BMP_STRING {
         return Some(ParameterType::BmpString);
@@ -124,7 +176,22 @@ fn are_not_of_type<R: Rules<Output = Vec<u8>>>(
         ParameterType::ObjectIdentifier => {
             are_of_no_value::<R, ObjectIdentifier>(rules, alloc, octets)
         }
+        ParameterType::Enumerated => {
+            are_of_no_value::<R, Implicit<ENUMERATED, Integer>>(rules, alloc, octets)
+        }
+        ParameterType::UniversalString => Ok(!has_whole_units(octets)),
         ParameterType::BmpString => are_of_no_value::<R, BmpString>(rules, alloc, octets),
+        ParameterType::Element => Ok(true),
+    }
+}
+
+/// Whether octets begin with an element whose contents are units of four octets.
+fn has_whole_units(octets: &[u8]) -> bool
+    ensures { result ≡ has_whole_units (element_at octets.now) }
+{
+    match find_element(octets) {
+        Ok(element) => element.contents.len() % 4 == 0,
+        Err(_) => false,
     }
 }
 

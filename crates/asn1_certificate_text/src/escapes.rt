@@ -8,7 +8,7 @@ use crate::octets::push_octet;
 use std::alloc::AllocError;
 
 /// Appends a value's characters, with a backslash where a character would say something else, and control characters as their
-/// octets: so the value ends where the text of a name says it does, and a terminal is told nothing.
+/// octets: so the value ends where the text of a name says it does, and no control of ASCII or of Latin-1 reaches a terminal.
 pub fn push_escaped(text: &mut String, characters: &[char]) -> Result<(), AllocError>
     ensures { OnOk result (string_bytes text.new ≡
         string_bytes text.old ++ escaped_text characters.now) }

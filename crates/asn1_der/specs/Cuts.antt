@@ -15,6 +15,7 @@ pub record IsCut (bytes : List ℕ) (n : ℕ) : Type 0 where
   pub at : element_at bytes ≡ Some element
   pub long : n + length element.rest ≡ length bytes
 
+-- so many bytes are there
 pub cut_within : (bytes : List ℕ) (n : ℕ) → IsCut bytes n → n ≤ length bytes
 cut_within bytes n cut = omega (arith, cut.long)
 

@@ -19,7 +19,7 @@ pub record AreJoined (elements : List (List ℕ)) (bytes : List ℕ) : Type 0 wh
   pub each : All (λ e. IsTrue (is_one_element e)) elements
   pub are : bytes ≡ flat_map (λ e. e) elements
 
--- The elements do not fall, by their tags or as lists of octets.
+-- The elements are in ascending order, by their tags or as lists of octets.
 abbrev pub IsInOrder : Order → List (List ℕ) → Type 0
 IsInOrder Tags elements = RiseByTag elements
 IsInOrder Encodings elements = RiseByEncoding elements

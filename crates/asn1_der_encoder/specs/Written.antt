@@ -91,7 +91,7 @@ written_der = record {
 abbrev pub der_writer : Writer (BufferEncoder DerBuffer)
 der_writer = buffer_writer written_der
 
--- What has no DER has none, whatever is written before it, after it and around it; and presence marks alone have theirs.
+-- Records are rejected where a part of them is, or what one of them holds; and presence marks alone never are.
 pub rejects_by_parts : RejectsByParts (in_one_order written_der)
 rejects_by_parts = record {
   part = λ before rs after none. none_after before (rs ++ after) (none_before rs after none);

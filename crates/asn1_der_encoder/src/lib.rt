@@ -7,8 +7,9 @@
 //! | [`laws`] | what the buffer and the encoder are |
 //!
 //! The encoder is that of `asn1_buffers`, over a buffer of DER. An octet is left for the length of a scope; when the scope ends, what
-//! is inside is sorted, if it is a set, and the length is written, so bytes are moved only where a length has more octets. A CHOICE has no element of its own, and presence marks and groups of additions have no bytes. Components that are their DEFAULT are
-//! absent for every codec.
+//! is inside is sorted, if it is a set, and the length is written, so bytes are moved only where a length has more octets. A CHOICE
+//! has no element of its own, and presence marks and groups of additions have no bytes. Components that are their DEFAULT are absent
+//! for every codec.
 //!
 //! What the contracts promise, and the words that they use:
 //!

@@ -1,4 +1,4 @@
--- The contents octets of a content (X.690, 8.2 to 8.9 and 8.19 to 8.23, with 11.1 and 11.2), for each kind of content.
+-- The contents octets of a content (X.690, 8.2 to 8.4, 8.6 to 8.8, 8.19 and 8.23, with 11.1 and 11.2.1), for each kind of content.
 use Rattle.std.specs.Prelude.{◌≡◌, ℕ, ◌<◌, ◌≤◌, ◌^◌, ⊤, List, [], ◌∷◌, All, Contains, FitsSigned, if◌then◌else◌}
 use Rattle.std.specs.Int.{w64}
 use Rattle.asn1_items.specs.Bits.{AreBits}
@@ -46,13 +46,14 @@ pub record HasOctetsOf (x y : Content) : Type 0 where
   pub octets : (own : List ℕ) → HasContents x own → HasContents y own
   pub none : HasNoContents x → HasNoContents y
 
--- The numbers of a content are those of the types that hold them: the number of an ENUMERATED value is one of 64 bits, an arc one of
--- 32, and a unit of a string one of 8, of a BMPString one of 16.
+-- The units of a string of this kind are within the range of the type that holds them: 8 bits, of a BMPString 16, and of a TeletexString
+-- any, of which those above 255 are rejected.
 abbrev pub AreUnitsInRange : StringKind → List ℕ → Type 0
 AreUnitsInRange teletex list = ⊤
 AreUnitsInRange bmp list = All (λ unit. unit < 2 ^ 16) list
 AreUnitsInRange _ list = All (λ unit. unit < 256) list
 
+-- The numbers of a content are within the ranges of the types that hold them: of an ENUMERATED value 64 bits, and of an arc 32.
 abbrev pub IsContentInRange : Content → Type 0
 IsContentInRange (discriminant labels z) = FitsSigned w64 z
 IsContentInRange (arcs list) = All (λ arc. arc < 2 ^ 32) list

@@ -54,11 +54,11 @@ pub record AreElements (AreInOrder : List (List ℕ) → Type 0) (bytes : List �
   pub order : AreInOrder elements
   pub are : bytes ≡ flat_map (λ e. e) elements
 
--- They do not fall by their tags, in the canonical order of tags (10.3, and X.680, 8.6).
+-- They are in ascending order by their tags, in the canonical order of tags (10.3, and X.680, 8.6).
 abbrev pub RiseByTag : List (List ℕ) → Type 0
 RiseByTag elements = IsSortedByKey tag_of tag_cmp elements
 
--- They do not fall as lists of octets (11.6). No element begins with another, so none has to be filled up to be compared.
+-- They are in ascending order as lists of octets (11.6). No element begins with another, so none has to be filled up to be compared.
 abbrev pub RiseByEncoding : List (List ℕ) → Type 0
 RiseByEncoding elements = IsSorted (slice_cmp nat_cmp) elements
 

@@ -58,7 +58,7 @@ pub(crate) fn read_base128(bytes: &[u8]) -> Result<Front<'_>, ItemError>
     }
 }
 
-/// The same, of a number that need not be one octet. It stands apart, so that what is inlined stays small.
+/// The same in the general case, out of line so that the inlined part stays small.
 #[inline(never)]
 fn read_long_base128(bytes: &[u8]) -> Result<Front<'_>, ItemError>
     ensures only { IfOk result (λ f.

@@ -28,7 +28,7 @@
 //! - An integer is in two's complement with the fewest octets (`IsInteger` of `specs/Integers.antt`). It is read from these octets
 //!   alone (`only`).
 //!
-//! A length that bytes tell reserves no memory, and nothing is copied.
+//! [`find_element`] copies nothing, and reserves no memory by the length that bytes tell.
 #![tactic(auto)]
 
 mod arcs_read;

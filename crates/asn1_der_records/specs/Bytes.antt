@@ -54,8 +54,7 @@ pub record IsTooLong (IsInside : List ℕ → Type 0) : Type 0 where
   pub are_octets : AllBelowBase 256 inside
   pub long : 2 ^ 64 ≤ length inside
 
--- A scope of this form and tag cannot hold what is inside: a CHOICE has to hold the element of its alternative, and the others what
--- has a length.
+-- What is in a CHOICE is not one element of the chosen tag, or what is in another scope is 2^64 octets or more.
 abbrev pub CannotHold : ScopeForm → Tag → (List ℕ → Type 0) → Type 0
 CannotHold Chosen t IsInside = IsNotChosen t IsInside
 CannotHold _ t IsInside = IsTooLong IsInside

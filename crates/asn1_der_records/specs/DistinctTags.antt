@@ -18,7 +18,7 @@ abbrev pub AreDistinctIn : Head → Records → Type 0
 AreDistinctIn (set t table n) rs = HaveDistinctTags rs
 AreDistinctIn _ rs = ⊤
 
--- So it is in each SET, at every depth.
+-- In each SET, at every depth, the components have distinct tags.
 abbrev mutual
   pub HasDistinctSets : Record → Type 0
   HasDistinctSets (scalar t c n x) = ⊤

@@ -8,8 +8,8 @@ use Rattle.asn1_model.specs.Orders.{Same}
 use Rattle.asn1_model.specs.Records.{Record, Records, scalar, scope, open_type, presence_mark, none, more}
 use Rattle.asn1_model.specs.Tags.{head_tag}
 
--- All numbers in a record, and in those that it holds, are those of the types that hold them: the number of a tag is one of 32 bits,
--- and the bytes of an open type are octets.
+-- All numbers in a record, and in those that it holds, are within the ranges of the types that hold them: the number of a tag is one of
+-- 32 bits, and the bytes of an open type are octets.
 abbrev mutual
   pub IsInRange : Record → Type 0
   IsInRange (scalar t c n x) = (t.value < 2 ^ 32) × IsContentInRange x

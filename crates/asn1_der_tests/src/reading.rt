@@ -75,6 +75,8 @@ fn the_components_of_a_set_come_by_their_tags(rt: HostRuntime) {
     refuses::<Badge>(&rt, alloc, &[0x31, 6, 2, 1, 7, 1, 1, 0xff], BAD_ITEM);
     refuses::<Badge>(&rt, alloc, &[0x31, 5, 5, 0, 2, 1, 7], BAD_ITEM);
     refuses::<Ticket>(&rt, alloc, &[0x31, 6, 0x82, 1, 0xff, 0x80, 1, 5], BAD_ITEM);
+    let twice = DecodeError::DuplicateField("seat");
+    refuses::<Ticket>(&rt, alloc, &[0x31, 6, 0x80, 1, 5, 0x80, 1, 5], twice);
 }
 
 /// Asserts whether the ticket of seat 5 is paid that is read from these bytes.

@@ -4,7 +4,8 @@ use asn1_dec::{Decode, DecodeError, Decoder, Needed};
 use asn1_der_decoder::DerDecoder;
 use asn1_packed::read_whole;
 use asn1_strings::{
-    BitString, BmpString, ObjectIdentifier, OctetString, TeletexString, VisibleString,
+    BitString, BmpString, Ia5String, NumericString, ObjectIdentifier, OctetString, PrintableString,
+    TeletexString, VisibleString,
 };
 use asn1_tags::{Tag, TagTree};
 use asn1_types::{Any, InstanceOf, SetOf};
@@ -124,6 +125,7 @@ fn arcs_are_the_shortest(rt: HostRuntime) {
     assert_arcs(&rt, alloc, &rsa, &[1, 2, 840, 113549]);
     assert_arcs(&rt, alloc, &[6, 3, 0x88, 0x37, 3], &[2, 999, 3]);
     assert_bad::<ObjectIdentifier>(&rt, alloc, &[6, 3, 0x2a, 0x80, 1]);
+    assert_bad::<ObjectIdentifier>(&rt, alloc, &[6, 2, 0x80, 1]);
     assert_bad::<ObjectIdentifier>(&rt, alloc, &[6, 2, 0x2a, 0x86]);
     assert_bad::<ObjectIdentifier>(&rt, alloc, &[6, 0]);
     assert_bad::<ObjectIdentifier>(&rt, alloc, &[6, 6, 0x2a, 0x90, 0x80, 0x80, 0x80, 0]);
@@ -139,7 +141,7 @@ fn assert_teletex(rt: &impl Abort, alloc: Global, bytes: &[u8], units: &[u32]) {
     assert!(rt; value.as_slice() == units);
 }
 
-// X.690, 8.14.3 and 8.23.
+// X.690, 8.23 and 10.2.
 #[test]
 fn strings_are_primitive(rt: HostRuntime) {
     let alloc = rt.alloc();
@@ -147,6 +149,9 @@ fn strings_are_primitive(rt: HostRuntime) {
     assert_teletex(&rt, alloc, &[0x14, 2, 0x41, 0xe9], &[0x41, 0xe9]);
     assert_bad::<BmpString>(&rt, alloc, &[0x1e, 1, 0x41]);
     assert_bad::<VisibleString>(&rt, alloc, &[0x1a, 1, 0x0a]);
+    assert_bad::<NumericString>(&rt, alloc, &[0x12, 1, b'A']);
+    assert_bad::<PrintableString>(&rt, alloc, &[0x13, 1, b'*']);
+    assert_bad::<Ia5String>(&rt, alloc, &[0x16, 1, 0x80]);
     assert_bad::<String>(&rt, alloc, &[0x0c, 1, 0xff]);
     assert_bad::<VisibleString>(&rt, alloc, &[0x3a, 3, 0x1a, 1, 0x41]);
     assert_bad::<OctetString>(&rt, alloc, &[0x24, 3, 4, 1, 0x41]);

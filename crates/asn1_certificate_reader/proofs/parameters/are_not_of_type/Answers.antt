@@ -26,3 +26,7 @@ returns-in-ObjectIdentifier g c =
 pub returns-in-BmpString : goal.returns-in-BmpString
 returns-in-BmpString g c =
     subst (λ kind. IfOk c.are_of_no_value-in-BmpString.result (λ none. none ≡ true → AreNotOfType g.R.Rules.format kind c.args.octets.now)) (sym c.in-BmpString.is) (c.are_of_no_value-in-BmpString.ensures (tt, refl))
+
+pub returns-in-Enumerated : goal.returns-in-Enumerated
+returns-in-Enumerated g c =
+    subst (λ kind. IfOk c.are_of_no_value-in-Enumerated.result (λ none. none ≡ true → AreNotOfType g.R.Rules.format kind c.args.octets.now)) (sym c.in-Enumerated.is) (c.are_of_no_value-in-Enumerated.ensures (tt, (refl, refl, refl)))
