@@ -1,5 +1,5 @@
 #!/usr/bin/env python3
-"""Times how many certificates a second are read and written, beside plain Rust, which makes the same values, or keeps bits in bytes.
+"""Measures how many certificates are read and written a second, beside plain Rust in two forms.
 
     python3 bench/certificates.py
     python3 bench/certificates.py PROGRAM
@@ -7,7 +7,8 @@
 proves and builds the program asn1_certificate_bench, which reads a certificate and writes it again as often as it is told; or takes
 this PROGRAM in its place. It builds bench/plain_certificates.rs, a program in plain Rust that does the same job, by `rustc -O` for the
 processor for which `rt` builds, in two forms: one makes the same values as the layer, with a `bool` for each bit of a BIT STRING, and
-one keeps the bits in bytes. It sees that all write the same bytes for each certificate of examples/certificates.
+one keeps the bits in bytes. It checks that all write as many bytes, with the same checksum, for each certificate of
+examples/certificates.
 
 Then it prints a line for each certificate, read and written: how many go in a second, how many by each form of plain Rust, and the
 ratios of the times; and the instructions for one, if valgrind is there. The time is that of the processor, the best of seven, less what
@@ -32,8 +33,8 @@ CERTIFICATES = sorted(glob.glob(os.path.join(ROOT, "examples", "certificates", "
 RUNS = 7
 # The processor for which `rt` builds.
 PROCESSOR = "x86-64-v2"
-# The two forms of plain Rust, each with the words that `rustc` needs for it.
-FORMS = {"plain Rust, the same values": ["--cfg", "bools"], "plain Rust, bits in bytes": []}
+# The two forms of plain Rust, each with the name of its program and the arguments of `rustc`.
+FORMS = {"plain Rust, the same values": ("same_values", ["--cfg", "bools"]), "plain Rust, bits in bytes": ("bits_in_bytes", [])}
 
 MANIFEST = """[package]
 name = "library_certificates"
@@ -63,10 +64,10 @@ def build_program():
     return PROGRAM
 
 
-def build_plain(folder, words):
+def build_plain(folder, name, arguments):
     """Builds a form of the program in plain Rust, and gives its path."""
-    plain = os.path.join(folder, "_".join(["plain_certificates", *words]).replace("--", ""))
-    subprocess.run(["rustc", "-O", "-C", f"target-cpu={PROCESSOR}", "--edition", "2024", *words, PLAIN, "-o", plain], check=True)
+    plain = os.path.join(folder, name)
+    subprocess.run(["rustc", "-O", "-C", f"target-cpu={PROCESSOR}", "--edition", "2024", *arguments, PLAIN, "-o", plain], check=True)
     return plain
 
 
@@ -80,7 +81,8 @@ def build_library(folder):
         with open(os.path.join(folder, name), "w") as file:
             file.write(text)
     words = ["cargo", "build", "--release", "--offline", "--quiet"]
-    built = subprocess.run(words, cwd=folder, capture_output=True, text=True)
+    flags = {**os.environ, "RUSTFLAGS": f"-C target-cpu={PROCESSOR}"}
+    built = subprocess.run(words, cwd=folder, env=flags, capture_output=True, text=True)
     if built.returncode != 0:
         print("librust-x509-cert-dev could not be built:", *built.stderr.strip().splitlines()[-1:], flush=True)
         return None
@@ -109,7 +111,7 @@ def instructions(words, path):
 
 
 def arguments(action, times):
-    """The arguments by which a program does this so often."""
+    """The arguments by which a program does this as many times."""
     return [str(times), "0"] if action == "read" else ["0", str(times)]
 
 
@@ -147,14 +149,14 @@ def line(what, costs, counts, certificates):
         ours, *others = counts
         text += f"; {ours / certificates:.0f} instructions for one"
         for name, count in zip(names, others):
-            text += f"; {name}: {count / certificates:.0f}, ratio {ours / count:.2f}"
+            text += f"; of {name}: {count / certificates:.0f}, ratio {ours / count:.2f}"
     print(text, flush=True)
 
 
 def main():
     ours = os.path.abspath(sys.argv[1]) if len(sys.argv) > 1 else build_program()
     with tempfile.TemporaryDirectory() as folder:
-        counted = [ours, *(build_plain(folder, words) for words in FORMS.values())]
+        counted = [ours, *(build_plain(folder, *form) for form in FORMS.values())]
         programs = [*counted, *filter(None, [build_library(folder)])]
         for path in CERTIFICATES:
             said = {program: answer([program, "1", "1"], path) for program in programs}

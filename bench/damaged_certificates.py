@@ -1,14 +1,15 @@
 #!/usr/bin/env python3
 """Damages the certificates of examples/certificates, and compares what asn1_certificate takes with what OpenSSL takes.
 
-Each byte is damaged in three ways (its lowest bit, its highest bit, all of its bits), and the bytes are cut off before each place.
+Each byte is damaged in three ways (its lowest bit, its highest bit, all of its bits), each first octet of an element is every other
+octet in turn, and the bytes are cut off before each place.
 The program is to end with a status of its own for each input, and to take none of these that `openssl x509` refuses. It prints each input
 that is taken and that OpenSSL refuses, and a line of counts.
 
     bench/damaged_certificates.py [--try] [--every N] [--minutes N]
 
 With `--try` the program is run before its proof, by `rt try`, and else as it is built (`rt run` in crates/asn1_certificate builds
-it). `--every 7` damages each seventh byte alone. After that many minutes (10) it asks no more.
+it). `--every 7` damages each seventh byte alone. After that many minutes (30) it asks no more.
 """
 import argparse
 import concurrent.futures
@@ -24,10 +25,23 @@ CRATE = TOP / "crates" / "asn1_certificate"
 SHOWN = "version:"
 
 
+def first_octets(octets, start, end):
+    """The places of the first octets of the elements that these octets are, and of those inside. Tags are below 31."""
+    while start < end:
+        yield start
+        begin, size = start + 2, octets[start + 1]
+        if size >= 0x80:
+            begin, size = begin + size - 0x80, int.from_bytes(octets[begin : begin + size - 0x80], "big")
+        if octets[start] & 0x20:
+            yield from first_octets(octets, begin, begin + size)
+        start = begin + size
+
+
 def damaged(octets, every):
     """Each damaged form of these octets, with its name."""
+    firsts = set(first_octets(octets, 0, len(octets)))
     for place in range(0, len(octets), every):
-        for mask in (0x01, 0x80, 0xFF):
+        for mask in range(1, 256) if place in firsts else (0x01, 0x80, 0xFF):
             changed = bytearray(octets)
             changed[place] ^= mask
             yield f"{place:04}-{mask:02x}", bytes(changed)
@@ -73,7 +87,7 @@ def main():
     words = argparse.ArgumentParser(description=__doc__, formatter_class=argparse.RawDescriptionHelpFormatter)
     words.add_argument("--try", dest="tried", action="store_true")
     words.add_argument("--every", type=int, default=1)
-    words.add_argument("--minutes", type=float, default=10)
+    words.add_argument("--minutes", type=float, default=30)
     asked = words.parse_args()
     end = time.monotonic() + asked.minutes * 60
     with tempfile.TemporaryDirectory() as name:

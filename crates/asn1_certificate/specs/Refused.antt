@@ -7,7 +7,7 @@ use Rattle.asn1_certificate.specs.declared.form.Form.TheVariants.{Der}
 use Rattle.asn1_certificate.specs.declared.outcome.Failure.{Failure}
 use Rattle.asn1_certificate.specs.declared.outcome.Failure.TheVariants.{NotShown, Reading, Writing}
 use Rattle.asn1_certificate.specs.declared.show.ShowError.{ShowError}
-use Rattle.asn1_certificate.specs.declared.show.ShowError.TheVariants.{Text, NoElement, NoCertificate, BadIssuer, BadSubject, BadKeyParameters, BadSignatureParameters, NotWritten, OtherDer, Memory}
+use Rattle.asn1_certificate.specs.declared.show.ShowError.TheVariants.{Text, NoElement, BadComponent, NoCertificate, BadIssuer, BadSubject, BadKeyParameters, BadSignatureParameters, NotWritten, OtherDer, Memory}
 use Rattle.asn1_certificate_reader.specs.NameFaults.{AnswersName}
 use Rattle.asn1_certificate_reader.specs.Parameters.{HasBadParameters}
 use Rattle.asn1_certificate_text.specs.PemRefusals.{IsRefusal}
@@ -23,7 +23,8 @@ use Rattle.asn1_x509.specs.declared.certificate.Certificate.{Certificate}
 abbrev pub IsRefusalOfText : List ℕ → ShowError → Type 0
 IsRefusalOfText input (Text error) = (is_one_element input ≡ false) × ((error ≢ pem.Memory) × IsRefusal input error)
 IsRefusalOfText input (NoElement place error) = ⊥
-IsRefusalOfText input (NoCertificate error) = ⊥
+IsRefusalOfText input (BadComponent place name) = ⊥
+IsRefusalOfText input (NoCertificate place error) = ⊥
 IsRefusalOfText input (BadIssuer fault) = ⊥
 IsRefusalOfText input (BadSubject fault) = ⊥
 IsRefusalOfText input (BadKeyParameters bad) = ⊥
@@ -33,11 +34,12 @@ IsRefusalOfText input OtherDer = ⊥
 IsRefusalOfText input Memory = ⊤
 
 -- the octets are those of no valid certificate, and the place that the error names is the first at which an element is due and none
--- begins, or they are elements where it names none, looked into down to 64 scopes; or memory ran out
+-- begins, or they are elements, looked into down to 64 scopes; or memory ran out. Up to which place elements were read is not said.
 abbrev pub IsRefusalOfOctets : List ℕ → ShowError → Type 0
 IsRefusalOfOctets octets (Text error) = ⊥
 IsRefusalOfOctets octets (NoElement place error) = AreOfNoCertificate octets × IsFirstFault 64 octets place
-IsRefusalOfOctets octets (NoCertificate error) = AreOfNoCertificate octets × AreElementsDownTo 64 octets
+IsRefusalOfOctets octets (BadComponent place name) = AreOfNoCertificate octets × AreElementsDownTo 64 octets
+IsRefusalOfOctets octets (NoCertificate place error) = AreOfNoCertificate octets × AreElementsDownTo 64 octets
 IsRefusalOfOctets octets (BadIssuer fault) = ⊥
 IsRefusalOfOctets octets (BadSubject fault) = ⊥
 IsRefusalOfOctets octets (BadKeyParameters bad) = ⊥
@@ -58,7 +60,8 @@ pub record HasOtherDer (octets : List ℕ) (certificate : Certificate) : Type 0 
 abbrev pub IsRefusalOfCertificate : Form → List ℕ → Certificate → ShowError → Type 0
 IsRefusalOfCertificate form octets certificate (Text error) = ⊥
 IsRefusalOfCertificate form octets certificate (NoElement place error) = ⊥
-IsRefusalOfCertificate form octets certificate (NoCertificate error) = ⊥
+IsRefusalOfCertificate form octets certificate (BadComponent place name) = ⊥
+IsRefusalOfCertificate form octets certificate (NoCertificate place error) = ⊥
 IsRefusalOfCertificate form octets certificate (BadIssuer fault) = AnswersName certificate.tbs_certificate.issuer (Some fault)
 IsRefusalOfCertificate form octets certificate (BadSubject fault) = AnswersName certificate.tbs_certificate.subject (Some fault)
 IsRefusalOfCertificate form octets certificate (BadKeyParameters bad) =
@@ -106,7 +109,8 @@ IsFailure form before after Writing = ⊤
 abbrev pub is_memory : ShowError → Bool
 is_memory (Text error) = false
 is_memory (NoElement place error) = false
-is_memory (NoCertificate error) = false
+is_memory (BadComponent place name) = false
+is_memory (NoCertificate place error) = false
 is_memory (BadIssuer fault) = false
 is_memory (BadSubject fault) = false
 is_memory (BadKeyParameters bad) = false

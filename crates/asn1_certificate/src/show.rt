@@ -12,8 +12,9 @@ use asn1_certificate_reader::{
 };
 use asn1_certificate_report::report_text;
 use asn1_certificate_text::{PemError, certificate_octets};
-use asn1_dec::DecodeError;
+use asn1_dec::{Decode, DecodeError};
 use asn1_der::DerRules;
+use asn1_der_decoder::DerDecoder;
 use asn1_der_items::is_one_element;
 use asn1_enc::EncodeError;
 use asn1_faults::first_fault;
@@ -31,9 +32,13 @@ pub(crate) enum ShowError {
     /// At this place of the octets an element is due, and none begins. The error is that of reading them.
     #[error("no certificate: byte {0} of its DER begins no element ({1})")]
     NoElement(usize, DecodeError),
-    /// The octets are elements, and those of no certificate.
-    #[error("no certificate: {0}")]
-    NoCertificate(DecodeError),
+    /// The octets are elements, and those of no certificate, since this component is not as it has to be. They were read up to this
+    /// place, with the element that was refused.
+    #[error("no certificate: {1} is not as it has to be (its DER was read up to byte {0})")]
+    BadComponent(usize, &'static str),
+    /// The octets are elements, and those of no certificate for another reason. They were read up to this place.
+    #[error("no certificate: {1} (its DER was read up to byte {0})")]
+    NoCertificate(usize, DecodeError),
     /// The name of who issued it has a value that no name can have.
     #[error("no certificate: in its issuer {0}")]
     BadIssuer(NameFault),
@@ -196,16 +201,28 @@ fn read(alloc: Global, octets: &Vec<u8>) -> Result<Certificate, ShowError>
     match DerRules::new(alloc).read_value(octets, MAX_DEPTH) {
         Ok(certificate) => Ok(certificate),
         Err(DecodeError::Memory) => Err(ShowError::Memory),
-        Err(error) => Err(refusal(octets.as_slice(), error)),
+        Err(error) => Err(refusal(alloc, octets.as_slice(), error)),
     }
 }
 
-/// Why octets are not read, with the first place at which an element is due and none begins.
-fn refusal(octets: &[u8], error: DecodeError) -> ShowError
+/// Why octets are not read, with the first place at which an element is due and none begins, or else the place up to which they were
+/// read.
+fn refusal(alloc: Global, octets: &[u8], error: DecodeError) -> ShowError
     ensures { AreOfNoCertificate octets.now → IsRefusalOfOctets octets.now result }
 {
-    match first_fault(octets, MAX_DEPTH) {
-        Some(place) => ShowError::NoElement(place, error),
-        None => ShowError::NoCertificate(error),
+    if let Some(place) = first_fault(octets, MAX_DEPTH) {
+        return ShowError::NoElement(place, error);
     }
+    let place = read_up_to(alloc, octets);
+    match error {
+        DecodeError::FieldError { name, .. } => ShowError::BadComponent(place, name),
+        _ => ShowError::NoCertificate(place, error),
+    }
+}
+
+/// Up to which place octets are read as a certificate, with an element that is refused.
+fn read_up_to(alloc: Global, octets: &[u8]) -> usize {
+    let mut decoder = DerDecoder::new(alloc, octets, MAX_DEPTH);
+    let _ = Certificate::decode(&mut decoder);
+    octets.len().saturating_sub(decoder.unread())
 }

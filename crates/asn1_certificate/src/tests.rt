@@ -134,6 +134,22 @@ fn bad_parameters_are_refused(rt: HostRuntime) {
     assert!(rt; is_refused_for_its_key(&rt, alloc, &certificate(0xff, 2, 0xff)));
 }
 
+/// Whether a certificate is refused for its serial number, with the place after it.
+fn is_refused_for_its_number(rt: &impl Abort, alloc: Global, certificate: &[u8]) -> bool {
+    match refusal(rt, alloc, certificate) {
+        Some(ShowError::BadComponent(place, name)) => place == 12 && name == "serialNumber",
+        _ => false,
+    }
+}
+
+#[test]
+fn a_component_that_is_refused_has_a_place(rt: HostRuntime) {
+    let alloc = rt.alloc();
+    let mut octets = certificate(0, 0, 0);
+    octets[9] = 4;
+    assert!(rt; is_refused_for_its_number(&rt, alloc, &octets));
+}
+
 #[test]
 fn a_default_that_is_there_is_shown_and_not_written(rt: HostRuntime) {
     let alloc = rt.alloc();

@@ -1,2 +1,3 @@
 pub mod Decoder
 pub mod Rising
+pub mod Unread

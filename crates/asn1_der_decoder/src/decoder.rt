@@ -3,6 +3,7 @@ ghost use Rattle.std.specs.Prelude.{◌≡◌, IfSome, true};
 
 use crate::from_contents::FromContents;
 use crate::taken::Taken;
+use crate::unread::bytes_left;
 use asn1_bounds::{Codec, Constraints};
 use asn1_choices::Choice;
 use asn1_components::FieldTable;
@@ -41,6 +42,7 @@ impl<'a> DerDecoder<'a> {
     ghost use Rattle.asn1_der_items.specs.Series.{IsAlone};
     ghost use Rattle.asn1_der_records.specs.declared.form.ScopeForm.TheVariants.{AsDefined};
     ghost use Rattle.asn1_der_decoder.specs.Decoder.{AreLeft, IsTaken, IsWanted, Remains, der_reader, in_one_order};
+    ghost use Rattle.asn1_der_decoder.specs.Unread.{unread};
     ghost use Rattle.asn1_scopes.specs.Remaining.{IsWithinBound, OpensWanted, ReadsWantedHead, ReadsWantedSet};
     ghost use Rattle.asn1_der_items.specs.Contents.{HasOctetsOf};
     ghost use Rattle.asn1_der_items.specs.Elements.{Element};
@@ -52,7 +54,7 @@ impl<'a> DerDecoder<'a> {
     ghost use Rattle.asn1_model.specs.Records.{PresenceMark, held};
     ghost use Rattle.asn1_model.specs.Tags.{tree_tags};
     ghost use Rattle.asn1_tags.specs.Trees.{shape};
-    ghost use Rattle.std.specs.Prelude.{◌≡◌, ◌≢◌, ◌↔◌, ◌++◌, [], ⊤, Err, IfErr, IsOk, List, MatchResult, OnOk, Some, codes, false, ℕ, true};
+    ghost use Rattle.std.specs.Prelude.{◌≡◌, ◌≢◌, ◌↔◌, ◌++◌, ◌<◌, ◌^◌, [], ⊤, Err, IfErr, IsOk, List, MatchResult, OnOk, Some, codes, false, ℕ, true};
 
     /// A decoder that is before these bytes, and may open this many nested scopes.
     pub fn new(alloc: Global, bytes: &'a [u8], depth: usize) -> DerDecoder<'a>
@@ -78,6 +80,15 @@ impl<'a> DerDecoder<'a> {
         ensures bad_item { IfErr result (λ e. e ≢ Failed → reason e ≡ custom (codes "bad item")) }
     {
         self.scopes.finish()
+    }
+
+    /// How many bytes have not been read, in all scopes that are open. Where a call has failed, the bytes before these are those that
+    /// were read until then, with the element that was refused.
+    pub fn unread(self) -> usize
+        ensures { unread self.entry < 2 ^ 64 → result ≡ unread self.entry }
+    {
+        let mut scopes = self.scopes;
+        bytes_left(&mut scopes.slices)
     }
 
     /// Takes the next element.

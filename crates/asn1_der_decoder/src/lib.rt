@@ -19,6 +19,8 @@
 //!   of [`DerDecoder::new`]). [`DerDecoder::finish`] succeeds if and only if all has been read (`all_read`), and says else that a
 //!   call has failed (`failed`) or that some is left (`bad_item`). With it `read_whole` of `asn1_packed` reads a value from all of
 //!   its bytes.
+//! - [`DerDecoder::unread`] answers how many bytes have not been read, of all scopes that are open (`unread` of
+//!   `specs/Unread.antt`), if so many can be counted.
 //! - A SET whose elements are in the order of their tags is opened, and a SET OF whose elements are in the order of their
 //!   encodings (`IsInOrder` of `specs/Rising.antt`).
 //!
@@ -34,6 +36,7 @@ mod from_contents;
 pub mod laws;
 mod rising;
 mod taken;
+mod unread;
 mod whole;
 
 pub use decoder::DerDecoder;
