@@ -85,7 +85,6 @@ impl Encode for Node {
 
 impl EncodeFields for Node {
     #[cycle(node)]
-    #[inline(always)]
     fn encode_field<E: Encoder>(&self, place: usize, encoder: &mut E) -> Result<(), EncodeError> {
         match place {
             0 => self.label.encode(encoder),
