@@ -5,7 +5,7 @@
 //!     ./plain_certificates 1000 0 < examples/certificates/leaf-ec.der
 //!
 //! A BIT STRING is kept as its bytes; with `--cfg bools` it is a `bool` for each bit, as it is in the layer, so that the program makes the
-//! same values.
+//! same values, but for integers beyond `i128`, which it keeps in two's complement.
 
 use std::env;
 use std::hint::black_box;
