@@ -3,4 +3,5 @@ mod NameFaults
 mod OneByOne
 mod ReadInside
 mod ShownAs
+mod UnitByUnit
 mod WholeOctets

@@ -11,3 +11,4 @@ pub mod Options
 pub mod Parameters
 pub mod Reports
 pub mod Simple
+pub mod Units

@@ -1,7 +1,8 @@
 -- Which values a name cannot have, by their octets in DER.
-use Rattle.std.specs.Prelude.{◌≡◌, ℕ, ◌%◌, Bool, ◌==◌, false, true, Option, None, Some, List, [], ◌∷◌, All, length, nat_lt, take, if◌then◌else◌}
+use Rattle.std.specs.Prelude.{◌≡◌, ℕ, Bool, false, true, Option, None, Some, List, [], ◌∷◌, All, nat_lt, take, if◌then◌else◌}
 use Rattle.std.specs.List.{slice_get}
 use Rattle.std.specs.Str.{is_utf8}
+use Rattle.asn1_certificate_reader.specs.Units.{are_bmp_characters, are_universal_characters}
 use Rattle.asn1_certificate_reader.specs.declared.name_faults.NameFault.{NameFault}
 use Rattle.asn1_certificate_reader.specs.declared.name_faults.ValueFault.{ValueFault}
 use Rattle.asn1_certificate_reader.specs.declared.name_faults.ValueFault.TheVariants.{NoString, BadString}
@@ -28,13 +29,13 @@ counts_unused_bits [] = false
 counts_unused_bits (unused ∷ octets) = nat_lt unused 8
 
 -- whether the contents are such as the tag wants them: of a BIT STRING they count its unused bits, of a UTF8String they are UTF-8, and of
--- a UniversalString and a BMPString they are units of four octets and of two
+-- a UniversalString and a BMPString the numbers of characters
 abbrev pub has_contents_of_tag : Element → Bool
 has_contents_of_tag e =
     if tag_eq e.tag (universal 3) then counts_unused_bits e.contents
     else (if tag_eq e.tag (universal 12) then is_utf8 e.contents
-    else (if tag_eq e.tag (universal 28) then length e.contents % 4 == 0
-    else (if tag_eq e.tag (universal 30) then length e.contents % 2 == 0 else true)))
+    else (if tag_eq e.tag (universal 28) then are_universal_characters e.contents
+    else (if tag_eq e.tag (universal 30) then are_bmp_characters e.contents else true)))
 
 -- why an element is no value of a name, if it is none
 abbrev pub element_fault : Element → Option ValueFault

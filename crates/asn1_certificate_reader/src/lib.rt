@@ -45,6 +45,7 @@ mod parameters;
 mod report;
 mod shown_value;
 mod simple;
+mod units;
 
 pub use inside::MAX_DEPTH;
 pub use name_faults::{NameFault, ValueFault, first_name_fault};

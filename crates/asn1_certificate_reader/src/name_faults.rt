@@ -4,6 +4,7 @@ ghost use Rattle.std.specs.Str.{is_utf8};
 ghost use Rattle.asn1_certificate_reader.specs.NameFaults.{AnswersName, AnswersPart, AnswersParts, counts_unused_bits, element_fault, has_contents_of_tag, has_tag_of_name, value_fault};
 ghost use Rattle.asn1_der_items.specs.Elements.{element_of};
 
+use crate::units::{are_bmp_characters, are_universal_characters};
 use asn1_der_items::{Element, find_element};
 use asn1_tags::Tag;
 use asn1_x509::{AttributeTypeAndValue, Name, RelativeDistinguishedName};
@@ -16,7 +17,7 @@ pub enum ValueFault {
     /// Its tag is that of no kind of string, of no bits and of no SEQUENCE.
     #[error("is no string")]
     NoString,
-    /// Its octets are none of the type of its tag: no bits, no UTF-8, or no whole units of a UniversalString or a BMPString.
+    /// Its octets are none of the type of its tag: no bits, no UTF-8, or no characters of a UniversalString or a BMPString.
     #[error("has octets that its kind of string cannot have")]
     BadString,
 }
@@ -47,7 +48,8 @@ const PRIMITIVE_TAGS: [Tag; 8] = [
 
 /// The first value in a name in DER that it cannot have, if there is one. A name has values of seven kinds of string: those of a
 /// DirectoryString (RFC 5280, 4.1.2.4), an IA5String and a NumericString; and bits and SEQUENCEs, which a unique identifier and a
-/// postal address are. Which characters a kind of string may have is not asked, since certificates are in use that do not keep to it.
+/// postal address are. Which characters a kind of string may have is not asked, since certificates are in use that do not keep to it; of a UTF8String,
+/// a UniversalString and a BMPString, whether its octets are characters at all.
 pub fn first_name_fault(name: &Name) -> Option<NameFault>
     ensures { AnswersName name.now result }
 {
@@ -130,9 +132,9 @@ fn has_contents_of_tag(element: Element<'_>) -> bool
         return is_utf8(element.contents);
     }
     if element.tag == Tag::UNIVERSAL_STRING {
-        return element.contents.len() % 4 == 0;
+        return are_universal_characters(element.contents);
     }
-    element.tag != Tag::BMP_STRING || element.contents.len() % 2 == 0
+    element.tag != Tag::BMP_STRING || are_bmp_characters(element.contents)
 }
 
 /// Whether the contents of a BIT STRING count no more than seven unused bits.

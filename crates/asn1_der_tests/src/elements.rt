@@ -1,7 +1,6 @@
 //! Elements and their contents octets, by X.690 and by OpenSSL, and damaged ones.
 use asn1_der_items::{
-    ElementError, append_contents, append_integer, append_primitive, begin_element, end_element,
-    find_element, read_integer,
+    append_integer, append_primitive, begin_element, end_element, find_element, read_integer,
 };
 use asn1_items::{Content, ItemError};
 use asn1_tags::Tag;
@@ -226,7 +225,7 @@ fn assert_arcs(rt: &impl Abort, alloc: Global, arcs: &[u32], bytes: &[u8]) {
     assert_primitive(rt, alloc, Tag::OBJECT_IDENTIFIER, content, bytes);
 }
 
-// X.690, 8.19.5 has 2.100.3; and openssl asn1parse -genstr OID:..
+// X.690, 8.19.5 has 2.100.3, RFC 5280 id-at-commonName; the others are of openssl asn1parse -genstr OID:..
 #[test]
 fn arcs_are_those_of_x690(rt: HostRuntime) {
     let alloc = rt.alloc();
@@ -234,6 +233,7 @@ fn arcs_are_those_of_x690(rt: HostRuntime) {
     let high = [6, 6, 0x78, 0x8f, 0xff, 0xff, 0xff, 0x7f];
     let second = [6, 5, 0x90, 0x80, 0x80, 0x80, 0x4f];
     assert_arcs(&rt, alloc, &[2, 100, 3], &[6, 3, 0x81, 0x34, 3]);
+    assert_arcs(&rt, alloc, &[2, 5, 4, 3], &[6, 3, 0x55, 4, 3]);
     assert_arcs(&rt, alloc, &[1, 2, 840, 113549], &rsa);
     assert_arcs(&rt, alloc, &[1, 39], &[6, 1, 0x4f]);
     assert_arcs(&rt, alloc, &[2, 40, 0xffff_ffff], &high);
@@ -252,9 +252,9 @@ fn strings_are_those_of_openssl(rt: HostRuntime) {
     let octets = AnyStr::Octets(OctetKind::OctetString, b"abc");
     let utf8 = AnyStr::Octets(OctetKind::Utf8, b"a");
     let numeric = AnyStr::Octets(OctetKind::Numeric, b"12");
-    let teletex = AnyStr::Teletex(&[0x4a, 0x6f, 0x6e, 0x65, 0x73]);
+    let teletex = AnyStr::Teletex(&[0x4a, 0x6f, 0x6e, 0x65, 0xff]);
     let bmp = AnyStr::Bmp(&[0x61, 0xe9]);
-    let jones = [0x14, 5, 0x4a, 0x6f, 0x6e, 0x65, 0x73];
+    let latin = [0x14, 5, 0x4a, 0x6f, 0x6e, 0x65, 0xff];
     assert_string(
         &rt,
         alloc,
@@ -270,7 +270,7 @@ fn strings_are_those_of_openssl(rt: HostRuntime) {
         numeric,
         &[0x12, 2, 0x31, 0x32],
     );
-    assert_string(&rt, alloc, Tag::TELETEX_STRING, teletex, &jones);
+    assert_string(&rt, alloc, Tag::TELETEX_STRING, teletex, &latin);
     assert_string(
         &rt,
         alloc,
@@ -295,25 +295,4 @@ fn bits_are_those_of_x690(rt: HostRuntime) {
     let bytes = [3, 7, 4, 0x0a, 0x3b, 0x5f, 0x29, 0x1c, 0xd0];
     assert_string(&rt, alloc, Tag::BIT_STRING, AnyStr::Bits(BITS), &bytes);
     assert_string(&rt, alloc, Tag::BIT_STRING, AnyStr::Bits(&[]), &[3, 1, 0]);
-}
-
-/// Asserts by which error a content is refused.
-fn assert_unwritten(rt: &impl Abort, alloc: Global, content: Content<'_>, error: ElementError) {
-    let mut written = Vec::new(alloc);
-    match append_contents(&mut written, alloc, content) {
-        Ok(()) => assert!(rt; false),
-        Err(refused) => assert!(rt; refused == error),
-    }
-}
-
-#[test]
-fn contents_with_no_octets_are_refused(rt: HostRuntime) {
-    let alloc = rt.alloc();
-    let none = ElementError::NoSuchArcs;
-    let wide = Content::String(AnyStr::Teletex(&[0x61, 256]));
-    assert_unwritten(&rt, alloc, Content::Arcs(&[]), none);
-    assert_unwritten(&rt, alloc, Content::Arcs(&[1]), none);
-    assert_unwritten(&rt, alloc, Content::Arcs(&[3, 1]), none);
-    assert_unwritten(&rt, alloc, Content::Arcs(&[1, 40]), none);
-    assert_unwritten(&rt, alloc, wide, ElementError::WideUnit);
 }

@@ -4,8 +4,8 @@
 //! |---|---|
 //! | `elements` | elements and their contents octets, by X.690 and OpenSSL, and damaged ones |
 //! | `strict` | what the decoder takes and refuses: forms that are not the shortest, wrong orders, bytes that are missing or left |
-//! | `scalars` | the worked examples of X.690, clause 8, and what DER cannot say |
-//! | `scopes` | sets in their orders, choices, open types, long lengths, groups and components that are their DEFAULT |
+//! | `scalars` | object identifiers and strings that DER cannot say |
+//! | `scopes` | sets in their orders, choices, open types, groups and components that are their DEFAULT |
 //! | `known` | the personnel record of X.690, annex A, and a name of RFC 5280 |
 //! | `price` | the first type of docs/USING.md, through packed bytes and DER |
 //! | `reading` | the sample types as they are read, and damaged bytes |

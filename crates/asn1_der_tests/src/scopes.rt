@@ -1,10 +1,9 @@
 //! Values that hold others.
 use crate::cases::{rejects, writes};
-use asn1_buffers::{MarkKind, RecordBuffer, ScopeKind, WriteError, write_whole};
+use asn1_buffers::{MarkKind, RecordBuffer, ScopeKind, WriteError};
 use asn1_der_encoder::DerBuffer;
 use asn1_items::Content;
 use asn1_samples::Ticket;
-use asn1_strings::OctetString;
 use asn1_tags::Tag;
 use asn1_types::{Any, SetOf};
 use std::alloc::Global;
@@ -105,24 +104,6 @@ fn an_open_type_is_one_element(rt: HostRuntime) {
     rejects(&rt, alloc, &open_type(&rt, alloc, &[5]), text);
     rejects(&rt, alloc, &open_type(&rt, alloc, &[5, 0, 5, 0]), text);
     rejects(&rt, alloc, &open_type(&rt, alloc, &[5, 0x81, 0]), text);
-}
-
-/// Asserts that an OCTET STRING of this many octets begins with these bytes.
-fn assert_begins(rt: &impl Abort, alloc: Global, size: usize, header: &[u8]) {
-    let mut octets = Vec::new(alloc);
-    octets.resize(size, 7u8).expect(rt, "memory");
-    let string = OctetString::new(octets);
-    let bytes = write_whole::<DerBuffer, OctetString>(alloc, &string, 0).expect(rt, "memory");
-    assert!(rt; bytes.starts_with(header) && bytes.len() == header.len() + size);
-}
-
-// X.690, 10.1: as few octets as there can be.
-#[test]
-fn lengths_are_the_shortest(rt: HostRuntime) {
-    let alloc = rt.alloc();
-    assert_begins(&rt, alloc, 127, &[4, 0x7f]);
-    assert_begins(&rt, alloc, 128, &[4, 0x81, 0x80]);
-    assert_begins(&rt, alloc, 256, &[4, 0x82, 1, 0]);
 }
 
 #[test]
