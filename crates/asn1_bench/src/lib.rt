@@ -7,7 +7,7 @@
 //! | [`BenchReader`] | reads values one after another from the front of bytes |
 //! | [`laws`] | what the codec and its reader come to |
 //!
-//! `asn1_items` has the bytes of items, and `asn1_packed` the encoder and the decoder. What holds of all codecs holds of this
+//! `asn1_items` has the bytes of items, and `asn1_packed` the encoder and the decoder; the tests are in `asn1_bench_tests`. What holds of all codecs holds of this
 //! one: see `Rules` and `round_trip` of `asn1_rules`, and `round_trip_in_pieces` of `asn1_streams`.
 //!
 //! What the contracts promise, and the words that they use:
@@ -19,16 +19,11 @@
 //! - A reader finds the item with which an input begins, and reads that as a whole (`IsFrontOf` of `specs/Fronts.antt`). It is
 //!   steady (`steady` of [`laws`]) and, for each type that can be inside others, belongs to the rules (`belongs`): so values
 //!   that were written one after another come back in their order, however their bytes are cut.
-//!
-//! The tests of this crate are those of the whole codec: the bytes of worked values, the types of the crates below, the round
-//! trip, and what is refused of bytes that no value gave.
 #![tactic(auto)]
 
 pub mod laws;
 mod reader;
 mod rules;
-#[cfg(test)]
-mod tests;
 
 pub use reader::BenchReader;
 pub use rules::BenchRules;

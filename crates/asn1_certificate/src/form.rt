@@ -1,15 +1,7 @@
-//! In which form a certificate is written.
+//! The form that the program's arguments ask for.
+use asn1_certificate_input::Form;
 use std::alloc::Alloc;
 use std::env::{self, Env};
-
-/// In which form a certificate is written.
-#[derive(Clone, Copy)]
-pub(crate) enum Form {
-    /// As the lines of a report.
-    Report,
-    /// As its DER.
-    Der,
-}
 
 /// The form that the first argument asks for: its DER by `--der`, and by any other or none a report.
 pub(crate) fn form_asked<R: Env + Alloc>(rt: &R) -> Form {

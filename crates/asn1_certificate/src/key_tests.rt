@@ -1,6 +1,5 @@
 //! What is shown of public keys whose size is known and of others; the octets were made by hand.
-use crate::form::Form;
-use crate::show::written;
+use asn1_certificate_input::{Form, written};
 use asn1_der_items::{begin_element, end_element};
 use asn1_tags::Tag;
 use std::alloc::Global;

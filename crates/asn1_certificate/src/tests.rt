@@ -1,6 +1,5 @@
 //! Which values a name cannot have, which parameters an algorithm, and what is shown of a value that is not of its type.
-use crate::form::Form;
-use crate::show::{ShowError, written};
+use asn1_certificate_input::{Form, ShowError, written};
 use asn1_certificate_reader::{
     MAX_DEPTH, NameFault, ParameterType, ValueFault, bad_parameters, first_name_fault,
 };
@@ -23,6 +22,15 @@ const fn of_value(tag: u8, octet: u8) -> [u8; 27] {
     [
         0x30, 25, 0x31, 11, 0x30, 9, 6, 3, 0x55, 4, 6, 0x13, 2, b'D', b'E', 0x31, 10, 0x30, 8, 6,
         3, 0x55, 4, 3, tag, 1, octet,
+    ]
+}
+
+/// The same with a value of four octets.
+const fn of_four(tag: u8, octets: [u8; 4]) -> [u8; 30] {
+    let [a, b, c, d] = octets;
+    [
+        0x30, 28, 0x31, 11, 0x30, 9, 6, 3, 0x55, 4, 6, 0x13, 2, b'D', b'E', 0x31, 13, 0x30, 11, 6,
+        3, 0x55, 4, 3, tag, 4, a, b, c, d,
     ]
 }
 
@@ -49,6 +57,23 @@ fn values_of_names_are_strings(rt: HostRuntime) {
     assert_fault(&rt, alloc, &of_value(0x1e, b'x'), bad_string);
     assert_fault(&rt, alloc, &of_value(3, 0), None);
     assert_fault(&rt, alloc, &of_value(3, 8), bad_string);
+}
+
+// U+10FFFF is the last character, a half of a pair is none, and OpenSSL refuses the same ones.
+#[test]
+fn units_in_names_are_characters(rt: HostRuntime) {
+    let alloc = rt.alloc();
+    let bad_string = of_part_1(ValueFault::BadString);
+    assert_fault(&rt, alloc, &of_four(0x1c, [0, 0x10, 0xff, 0xff]), None);
+    assert_fault(&rt, alloc, &of_four(0x1c, [0, 0x11, 0, 0]), bad_string);
+    assert_fault(&rt, alloc, &of_four(0x1c, [0, 0, 0xd8, 0]), bad_string);
+    assert_fault(&rt, alloc, &of_four(0x1e, [0x20, 0xac, 0, 0x41]), None);
+    assert_fault(
+        &rt,
+        alloc,
+        &of_four(0x1e, [0xd8, 0x3d, 0xde, 0]),
+        bad_string,
+    );
 }
 
 /// Reads an algorithm in DER, whose parameters have one octet and this tag, and looks at these.
