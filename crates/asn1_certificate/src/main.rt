@@ -5,22 +5,22 @@
 //! (`report_of` of `asn1_certificate_reader`). The program ends with 0 if it has shown one, with 1 if the input has none or
 //! one that is refused, and with 2 where memory runs out or reading or writing fails; why it has shown none is then on standard error,
 //! with the place of the byte where one is known. With the argument `--der` it writes the DER of the certificate in the place of a
-//! report: the octets that were read, or nothing where these are not its DER. All this is promised by `shown` of
-//! `asn1_certificate_input`. The stored run shows a certificate.
+//! report: the octets that were read, or nothing where these are not its DER. What it writes, and what the statuses 0 and 1 say, is
+//! promised by `run` of `asn1_certificate_input`. The stored run shows a certificate.
 #![tactic(auto)]
 
 mod form;
 #[cfg(test)]
 mod key_tests;
 #[cfg(test)]
-mod tests;
+mod refusal_tests;
 #[cfg(test)]
 mod text_tests;
 
-use asn1_certificate_input::{Outcome, shown};
+use asn1_certificate_input::{Outcome, run};
 use std::io;
 
 fn main(rt: HostRuntime) -> Outcome {
     let form = form::form_asked(&rt);
-    shown(rt.alloc(), form, &mut rt.reader(), &mut io::writer(&rt))
+    run(rt.alloc(), form, &mut rt.reader(), &mut io::writer(&rt))
 }

@@ -38,6 +38,8 @@ fn values_are_escaped(rt: HostRuntime) {
     assert_escaped(&rt, alloc, "#1", "\\#1");
     assert_escaped(&rt, alloc, "a+b;c<d>e\\f=g", "a\\+b\\;c\\<d\\>e\\\\f=g");
     assert_escaped(&rt, alloc, "\u{9b}1m\u{7f}", "\\c2\\9b1m\\7f");
+    // A character after which others are written from right to left.
+    assert_escaped(&rt, alloc, "gro\u{202e}cod", "gro\\e2\\80\\aecod");
 }
 
 fn assert_octets(rt: &impl Abort, alloc: Global, octets: &[u8], expected: &str) {

@@ -4,10 +4,10 @@ use Rattle.std.specs.Prelude.{◌↔◌, IfErr, IsOk, if◌then◌else◌}
 use Rattle.asn1_certificate_input.specs.Refused.{IsFailure, IsRefused, is_memory, status_after}
 use Rattle.asn1_certificate_input.specs.declared.form.Form.{Form}
 use Rattle.asn1_certificate_input.specs.declared.outcome.Failure.{Failure}
-use Rattle.asn1_certificate_input.specs.declared.outcome.Failure.TheVariants.{NotShown, Reading, Writing}
+use Rattle.asn1_certificate_input.specs.declared.outcome.Failure.TheVariants.{NoOutput, Reading, Writing}
 
 by_status : (form : Form) (before after : Option (List ℕ)) (failure : Failure) → 1 ≡ status_after failure → IsFailure form before after failure → IsRefused form before after
-by_status form before after (NotShown error) is fails = by (is_memory error) refl
+by_status form before after (NoOutput error) is fails = by (is_memory error) refl
   where
     by : (b : Bool) → is_memory error ≡ b → IsRefused form before after
     by true memory = let two : 1 ≡ 2 = is ∙ ap (λ b. if b then 2 else 1) memory in absurd (omega (arith, two))

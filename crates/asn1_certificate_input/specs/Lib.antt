@@ -1,3 +1,4 @@
 pub mod Inputs
+pub mod Places
 pub mod Refused
 pub mod Shown

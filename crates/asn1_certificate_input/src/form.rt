@@ -1,4 +1,5 @@
 //! In which form a certificate is written.
+ghost use Rattle.std.specs.Prelude.{◌≡◌, ◌↔◌, MatchOption, codes};
 
 /// In which form a certificate is written.
 #[derive(Clone, Copy)]
@@ -7,4 +8,15 @@ pub enum Form {
     Report,
     /// As its DER.
     Der,
+}
+
+/// The form that an argument of a program asks for: its DER by `--der`, and by any other or none a report.
+pub fn form_of(argument: Option<&str>) -> Form
+    ensures { MatchOption argument (result ≡ Form.Report)
+        (λ text. (result ≡ Form.Der) ↔ (text.now ≡ codes "--der")) }
+{
+    match argument {
+        Some(text) if text == "--der" => Form::Der,
+        _ => Form::Report,
+    }
 }

@@ -6,7 +6,7 @@ ghost use Rattle.asn1_certificate_input.specs.Shown.{AreLinesOfInput, Converts, 
 ghost use Rattle.asn1_certificate_input.specs.declared.outcome.Failure.TheVariants.{Writing};
 
 use crate::form::Form;
-use crate::show::{ShowError, written};
+use crate::output::{InputError, output_of};
 use std::alloc::Global;
 use std::fmt;
 use std::io::{Eprint, Read, Write};
@@ -18,7 +18,7 @@ use thiserror::Error;
 pub(crate) enum Failure {
     /// The input has no report.
     #[error("{0}")]
-    NotShown(ShowError),
+    NoOutput(InputError),
     /// The input was not read to its end.
     #[error("reading failed")]
     Reading,
@@ -33,8 +33,8 @@ impl Failure {
         ensures { result ≡ status_after self.now }
     {
         match self {
-            Failure::NotShown(ShowError::Memory) => 2,
-            Failure::NotShown(_) => 1,
+            Failure::NoOutput(InputError::Memory) => 2,
+            Failure::NoOutput(_) => 1,
             Failure::Reading => 2,
             Failure::Writing => 2,
         }
@@ -90,12 +90,7 @@ impl Termination for Outcome {
 }
 
 /// Writes the certificate that the reader gives in a form, and answers how the program then ends.
-pub fn shown<R: Read, W: Write>(
-    alloc: Global,
-    form: Form,
-    reader: &mut R,
-    writer: &mut W,
-) -> Outcome
+pub fn run<R: Read, W: Write>(alloc: Global, form: Form, reader: &mut R, writer: &mut W) -> Outcome
     ensures read { result.status ≡ 0 → IsAtEnd (R.remaining reader.new) }
     ensures report { form ≡ Form.Report → result.status ≡ 0 → Converts AreLinesOfInput
         (R.remaining reader.old) (R.remaining reader.new)
@@ -130,9 +125,9 @@ fn convert<R: Read, W: Write>(
     if reader.read_to_end(&mut input).is_err() {
         return Err(Failure::Reading);
     }
-    match written(alloc, form, input) {
+    match output_of(alloc, form, input) {
         Ok(bytes) => write_bytes(bytes.as_slice(), writer),
-        Err(error) => Err(Failure::NotShown(error)),
+        Err(error) => Err(Failure::NoOutput(error)),
     }
 }
 

@@ -3,5 +3,6 @@ mod NameFaults
 mod OneByOne
 mod ReadInside
 mod ShownAs
+mod ShownBy
 mod UnitByUnit
 mod WholeOctets

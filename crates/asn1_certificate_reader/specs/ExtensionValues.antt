@@ -2,13 +2,14 @@
 use Rattle.std.specs.Bool.{beq}
 use Rattle.std.specs.Cmp.Lexicographic.{pointwise}
 use Rattle.std.specs.List.{AllZip}
-use Rattle.std.specs.Prelude.{◌≡◌, ◌<◌, ◌^◌, ⊤, ℕ, ℤ, Bool, ◌==◌, List, [], ◌∷◌, None, Option, Some, Vec, codes, if◌then◌else◌, nat_eq}
+use Rattle.std.specs.Prelude.{◌≡◌, ℕ, ℤ, Bool, ◌==◌, List, [], ◌∷◌, None, Option, Some, Vec, if◌then◌else◌, nat_eq}
 use Rattle.std.specs.declared.alloc.Global.{Global}
 use Rattle.asn1_certificate_reader.specs.GeneralNamesShown.{AreGeneralNamesOf}
 use Rattle.asn1_certificate_reader.specs.Inside.{AreReadAs}
 use Rattle.asn1_certificate_reader.specs.ObjectsShown.{IsObjectOf}
 use Rattle.asn1_certificate_reader.specs.Options.{AreBothOrNone}
 use Rattle.asn1_certificate_reader.specs.Simple.{IsOctetNumberOf}
+use Rattle.asn1_certificate_reader.specs.Strings.{bit_string, octet_string}
 use Rattle.asn1_certificate_reader.specs.declared.extensions.ValueKind.{ValueKind}
 use Rattle.asn1_certificate_reader.specs.declared.extensions.ValueKind.TheVariants as kind
 use Rattle.asn1_certificate_report.specs.declared.extension.AuthorityKey.{AuthorityKey}
@@ -16,10 +17,8 @@ use Rattle.asn1_certificate_report.specs.declared.extension.ExtensionValue.{Exte
 use Rattle.asn1_certificate_report.specs.declared.extension.ExtensionValue.TheVariants as own
 use Rattle.asn1_certificate_report.specs.declared.general_name.ShownGeneralName.{ShownGeneralName}
 use Rattle.asn1_model.specs.ConstraintSets.{unconstrained}
-use Rattle.asn1_model.specs.Kinds.{list_type, object_identifier, string_type}
+use Rattle.asn1_model.specs.Kinds.{list_type, object_identifier}
 use Rattle.asn1_model.specs.Meaning.{Meaning}
-use Rattle.asn1_model.specs.Records.{bits, octet, units}
-use Rattle.asn1_model.specs.Tags.{universal}
 use Rattle.asn1_rules.specs.Rules.{Format}
 use Rattle.asn1_x509_extensions.specs.contracts.authority_key_identifier.AuthorityKeyIdentifierAsnType.TheImpl.{ghosts as authority_keys}
 use Rattle.asn1_x509_extensions.specs.contracts.authority_key_identifier.AuthorityKeyIdentifierPartialEq.TheImpl.{ghosts as authority_key_equality}
@@ -85,14 +84,6 @@ IsAuthority constraints _ = ⊥
 abbrev pub ArePurposes : List (List ℕ) → ExtensionValue → Type 0
 ArePurposes purposes (own.Purposes shown) = AllZip IsObjectOf purposes shown.items
 ArePurposes purposes _ = ⊥
-
--- an OCTET STRING, by its octets (X.680, 23)
-abbrev pub octet_string : Meaning (List ℕ)
-octet_string = string_type (universal 4) (codes "OCTET_STRING") (λ unit. unit < 2 ^ 8) (units octet)
-
--- a BIT STRING, by its bits (X.680, 22)
-abbrev pub bit_string : Meaning (List Bool)
-bit_string = string_type (universal 3) (codes "BIT_STRING") (λ _. ⊤) bits
 
 -- a SEQUENCE OF such values, by the list (X.680, 26)
 abbrev pub sequence_of : {V : Type 0} → Meaning V → Meaning (Vec V Global)

@@ -11,4 +11,5 @@ pub mod Options
 pub mod Parameters
 pub mod Reports
 pub mod Simple
+pub mod Strings
 pub mod Units

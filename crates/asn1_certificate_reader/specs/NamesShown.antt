@@ -1,27 +1,27 @@
 -- What is shown of names: their parts, their attributes, and the values of these.
 use Rattle.std.specs.Cmp.Lexicographic.{pointwise}
 use Rattle.std.specs.List.{AllZip}
-use Rattle.std.specs.Prelude.{◌≡◌, IsTrue, ℕ, List, None, Option, Some, Vec, codes, nat_eq, reverse}
+use Rattle.std.specs.Option.{option_and_then}
+use Rattle.std.specs.Prelude.{◌≡◌, ℕ, Bool, List, MatchOption, Option, Some, Vec, nat_eq, reverse}
 use Rattle.std.specs.Str.{chars}
 use Rattle.std.specs.declared.alloc.Global.{Global}
 use Rattle.asn1_certificate_reader.specs.Characters.{directory_characters}
 use Rattle.asn1_certificate_reader.specs.Inside.{AreReadAs}
 use Rattle.asn1_certificate_reader.specs.ObjectsShown.{IsObjectOf}
+use Rattle.asn1_certificate_reader.specs.Strings.{ia5_string, numeric_string, universal_octets}
+use Rattle.asn1_certificate_reader.specs.Units.{universal_characters}
 use Rattle.asn1_certificate_report.specs.declared.name.Attribute.{Attribute}
 use Rattle.asn1_certificate_report.specs.declared.name.AttributeValue.{AttributeValue}
 use Rattle.asn1_certificate_report.specs.declared.name.AttributeValue.TheVariants.{Text, Octets}
 use Rattle.asn1_certificate_report.specs.declared.name.NamePart.{NamePart}
 use Rattle.asn1_certificate_report.specs.declared.name.ShownName.{ShownName}
-use Rattle.asn1_model.specs.Kinds.{string_type}
 use Rattle.asn1_model.specs.Meaning.{Meaning}
-use Rattle.asn1_model.specs.Records.{ia5, units}
-use Rattle.asn1_model.specs.Tags.{universal}
+use Rattle.asn1_model.specs.declared.tag.Marker.{Marker}
 use Rattle.asn1_rules.specs.Rules.{Format}
-use Rattle.asn1_strings.specs.Alphabets.{is_ia5}
+use Rattle.asn1_types.specs.declared.implicit.Implicit.{Implicit}
 use Rattle.asn1_x509.specs.contracts.directory_string.DirectoryStringAsnType.TheImpl.{ghosts as directory_strings}
 use Rattle.asn1_x509.specs.contracts.directory_string.DirectoryStringPartialEq.TheImpl.{ghosts as directory_equality}
 use Rattle.asn1_x509.specs.declared.attribute.AttributeTypeAndValue.{AttributeTypeAndValue}
-use Rattle.asn1_x509.specs.declared.directory_string.DirectoryString.{DirectoryString}
 use Rattle.asn1_x509.specs.declared.name.Name.{Name}
 use Rattle.asn1_x509.specs.declared.name.Name.TheVariants.{Rdns}
 
@@ -35,34 +35,41 @@ abbrev pub IsOctetsOf : List ℕ → AttributeValue → Type 0
 IsOctetsOf octets (Text shown) = ⊥
 IsOctetsOf octets (Octets shown) = shown.items ≡ octets
 
--- an IA5String, by its characters, which are those of ASCII (X.680, 41)
-abbrev pub ia5_string : Meaning (List ℕ)
-ia5_string = string_type (universal 22) (codes "IA5String") (λ unit. IsTrue (is_ia5 unit)) (units ia5)
-
--- octets that were read as this IA5String are shown as its characters, and octets that were read as none as they are
-abbrev pub IsOfAscii : List ℕ → Option (List ℕ) → AttributeValue → Type 0
-IsOfAscii octets (Some text) shown = IsTextOf (chars text) shown
-IsOfAscii octets None shown = IsOctetsOf octets shown
+-- two strings under a tag are equal, by their octets
+abbrev pub same_octets : Implicit (Marker 28) (List ℕ) → Implicit (Marker 28) (List ℕ) → Bool
+same_octets a b = pointwise nat_eq a.value b.value
 
 module _ (F : Format (Vec ℕ Global)) where
-  -- What is shown of octets that were read as no DirectoryString: the characters of the IA5String that they are read as, as those of
-  -- a mailbox are (RFC 5280, 4.1.2.6); and else the octets.
-  pub record IsOtherValueOf (octets : List ℕ) (shown : AttributeValue) : Type 0 where
-    pub ascii : Option (List ℕ)
-    pub are_read_as : AreReadAs F ia5_string (pointwise nat_eq) octets ascii
-    pub is_shown : IsOfAscii octets ascii shown
+  -- What octets are read as by a type of strings, by its meaning and its equality, and the characters of that, where it has some.
+  pub record AreCharactersRead {V : Type 0} (m : Meaning V) (eq : V → V → Bool) (text : V → Option (List ℕ))
+      (octets : List ℕ) (found : Option (List ℕ)) : Type 0 where
+    pub read : Option V
+    pub are_read_as : AreReadAs F m eq octets read
+    pub are : found ≡ option_and_then text read
 
-  -- octets that were read as this DirectoryString are shown as its characters, and octets that were read as none as another value
-  abbrev pub IsOfDirectory : List ℕ → Option DirectoryString → AttributeValue → Type 0
-  IsOfDirectory octets (Some text) shown = IsTextOf (directory_characters text) shown
-  IsOfDirectory octets None shown = IsOtherValueOf octets shown
+  -- What is shown of octets by a type of strings: the characters that are read by it, and else what this says.
+  pub record IsShownBy {V : Type 0} (m : Meaning V) (eq : V → V → Bool) (text : V → Option (List ℕ)) (IsElse : AttributeValue → Type 0)
+      (octets : List ℕ) (shown : AttributeValue) : Type 0 where
+    pub found : Option (List ℕ)
+    pub characters : AreCharactersRead m eq text octets found
+    pub is_shown : MatchOption found (IsElse shown) (λ cs. IsTextOf cs shown)
 
-  -- What is shown of these octets, the value of an attribute: the characters of the DirectoryString that they are read as (RFC 5280,
-  -- 4.1.2.4), and else another value.
-  pub record IsValueOf (octets : List ℕ) (shown : AttributeValue) : Type 0 where
-    pub directory : Option DirectoryString
-    pub are_read_as : AreReadAs F directory_strings.meaning directory_equality.eq octets directory
-    pub is_shown : IsOfDirectory octets directory shown
+  -- the characters of a NumericString, and else the octets
+  abbrev pub IsNumericOrElse : List ℕ → AttributeValue → Type 0
+  IsNumericOrElse octets = IsShownBy numeric_string (pointwise nat_eq) (λ text. Some (chars text)) (IsOctetsOf octets) octets
+
+  -- the characters of an IA5String, as those of a mailbox are (RFC 5280, 4.1.2.6), and else those
+  abbrev pub IsAsciiOrElse : List ℕ → AttributeValue → Type 0
+  IsAsciiOrElse octets = IsShownBy ia5_string (pointwise nat_eq) (λ text. Some (chars text)) (IsNumericOrElse octets) octets
+
+  -- the characters of a DirectoryString (RFC 5280, 4.1.2.4), and else those
+  abbrev pub IsDirectoryOrElse : List ℕ → AttributeValue → Type 0
+  IsDirectoryOrElse octets = IsShownBy directory_strings.meaning directory_equality.eq (λ text. Some (directory_characters text)) (IsAsciiOrElse octets) octets
+
+  -- What is shown of these octets, the value of an attribute: the characters of a UniversalString of four octets each, and else those
+  -- of another string, and else the octets.
+  abbrev pub IsValueOf : List ℕ → AttributeValue → Type 0
+  IsValueOf octets = IsShownBy universal_octets same_octets (λ string. universal_characters string.value) (IsDirectoryOrElse octets) octets
 
   -- an attribute of this kind, with its value (RFC 4514, 2.3)
   pub record IsAttributeOf (attribute : AttributeTypeAndValue) (shown : Attribute) : Type 0 where

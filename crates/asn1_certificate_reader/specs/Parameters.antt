@@ -1,8 +1,8 @@
 -- Which parameters of an algorithm are of no value of the type of their tag (RFC 5280, 4.1.1.2).
 use Rattle.std.specs.Prelude.{◌≡◌, ◌==◌, ◌<◌, ◌^◌, ◌%◌, ◌∷◌, [], ⊤, ℕ, ℤ, Bool, List, MatchOption, None, Option, Some, Vec, codes, false, if◌then◌else◌, length, not, true}
 use Rattle.std.specs.declared.alloc.Global.{Global}
-use Rattle.asn1_certificate_reader.specs.ExtensionValues.{bit_string}
 use Rattle.asn1_certificate_reader.specs.Inside.{AreOfNoValue}
+use Rattle.asn1_certificate_reader.specs.Strings.{bit_string}
 use Rattle.asn1_certificate_reader.specs.declared.parameters.ParameterType.{ParameterType}
 use Rattle.asn1_certificate_reader.specs.declared.parameters.ParameterType.TheVariants.{Boolean, Integer, BitString, Null, ObjectIdentifier, Enumerated, UniversalString, BmpString, Element as OfDer}
 use Rattle.asn1_der_items.specs.Elements.{Element, element_at}
@@ -35,7 +35,8 @@ type_of_tag tag =
     else None)))))))
 
 -- whether an element of the universal class has the form that DER gives its tag: a SEQUENCE and a SET are constructed (X.690, 8.9 and
--- 8.11), any other is primitive (10.2), and none has the tag of end-of-contents (8.1.5)
+-- 8.11), any other is primitive (10.2), and none has the tag of end-of-contents (8.1.5). An EXTERNAL, an EMBEDDED PDV and a CHARACTER
+-- STRING, which are constructed too (8.17, 8.18 and 8.24), no algorithm has as parameters.
 abbrev pub has_universal_form : Element → Bool
 has_universal_form e = if e.constructed then has e.tag (universal 16 ∷ universal 17 ∷ []) else not (has e.tag (universal 0 ∷ universal 16 ∷ universal 17 ∷ []))
 

@@ -1,18 +1,14 @@
 //! Names and their attributes.
 ghost use Rattle.std.specs.List.{AllZip};
 ghost use Rattle.std.specs.Prelude.{IfOk, reverse};
-ghost use Rattle.asn1_certificate_reader.specs.NamesShown.{IsAttributeOf, IsNameOf, IsOtherValueOf, IsPartOf, IsValueOf};
+ghost use Rattle.asn1_certificate_reader.specs.NamesShown.{IsAttributeOf, IsNameOf, IsPartOf, IsValueOf};
 
-use crate::characters::{ascii_characters, directory_characters};
-use crate::inside::read_inside;
+use crate::name_strings::{UniversalOctets, characters_of};
 use crate::objects::named;
 use asn1_certificate_report::{Attribute, AttributeValue, NamePart, ShownName};
 use asn1_rules::Rules;
-use asn1_strings::Ia5String;
-use asn1_x509::{
-    AttributeTypeAndValue, DirectoryString, Name, RelativeDistinguishedName,
-    directory_string_is_well_tagged,
-};
+use asn1_strings::{Ia5String, NumericString};
+use asn1_x509::{AttributeTypeAndValue, DirectoryString, Name, RelativeDistinguishedName};
 use std::alloc::{AllocError, Global};
 
 /// A name by its parts, of which the last comes first.
@@ -100,7 +96,7 @@ fn attribute_of<R: Rules<Output = Vec<u8>>>(
     })
 }
 
-/// A value: its characters where it is a DirectoryString or an IA5String, and else its octets.
+/// A value: its characters where it is a string whose characters are known, and else its octets.
 fn value_of<R: Rules<Output = Vec<u8>>>(
     rules: &R,
     alloc: Global,
@@ -108,29 +104,17 @@ fn value_of<R: Rules<Output = Vec<u8>>>(
 ) -> Result<AttributeValue, AllocError>
     ensures { IfOk result (IsValueOf R.format octets.now) }
 {
-    directory_string_is_well_tagged();
-    match read_inside::<R, DirectoryString>(rules, alloc, octets)? {
-        Some(directory) => {
-            let characters = directory_characters(alloc, &directory)?;
-            Ok(AttributeValue::Text(characters))
-        }
-        None => other_value_of(rules, alloc, octets),
+    if let Some(characters) = characters_of::<R, UniversalOctets>(rules, alloc, octets)? {
+        return Ok(AttributeValue::Text(characters));
     }
-}
-
-/// A value that is no DirectoryString.
-fn other_value_of<R: Rules<Output = Vec<u8>>>(
-    rules: &R,
-    alloc: Global,
-    octets: &[u8],
-) -> Result<AttributeValue, AllocError>
-    ensures { IfOk result (IsOtherValueOf R.format octets.now) }
-{
-    match read_inside::<R, Ia5String>(rules, alloc, octets)? {
-        Some(ascii) => {
-            let characters = ascii_characters(alloc, &ascii)?;
-            Ok(AttributeValue::Text(characters))
-        }
-        None => Ok(AttributeValue::Octets(Vec::from_slice(alloc, octets)?)),
+    if let Some(characters) = characters_of::<R, DirectoryString>(rules, alloc, octets)? {
+        return Ok(AttributeValue::Text(characters));
     }
+    if let Some(characters) = characters_of::<R, Ia5String>(rules, alloc, octets)? {
+        return Ok(AttributeValue::Text(characters));
+    }
+    if let Some(characters) = characters_of::<R, NumericString>(rules, alloc, octets)? {
+        return Ok(AttributeValue::Text(characters));
+    }
+    Ok(AttributeValue::Octets(Vec::from_slice(alloc, octets)?))
 }

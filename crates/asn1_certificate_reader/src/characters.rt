@@ -33,7 +33,7 @@ pub(crate) fn ascii_characters(alloc: Global, ascii: &Ia5String) -> Result<Vec<c
 
 /// The characters of a text.
 #[tactic(auto, using(std::proofs::lemmas::Str::chars_from_encodes))]
-fn text_characters(alloc: Global, text: &str) -> Result<Vec<char>, AllocError>
+pub(crate) fn text_characters(alloc: Global, text: &str) -> Result<Vec<char>, AllocError>
     ensures { IfOk result (λ characters. characters.items ≡ chars text.now) }
 {
     text.chars().collect(alloc)

@@ -29,8 +29,9 @@
 //! - Where octets are those of a value of a type, they are read as one that is equal to it (`AreReadAs` of `specs/Inside.antt`).
 //! - `first_name_fault` answers none if and only if each value of a name is one that a name can have, and else the first that is none
 //!   (`AnswersName` of `specs/NameFaults.antt`).
-//! - Parameters of which `bad_parameters` answers a type begin with an element that has the tag of this type, and are of no valid
-//!   value of it, nested in 64 scopes at most (`HasBadParameters` of `specs/Parameters.antt`).
+//! - Parameters of which `bad_parameters` answers what they have to be begin with an element, and are not that: they are of no valid
+//!   value of the type of its tag, nested in 64 scopes at most; they are no units of four octets, as those of a UniversalString are; or
+//!   they have not the form that DER gives the tag (`HasBadParameters` of `specs/Parameters.antt`).
 #![tactic(auto)]
 
 mod attributes;
@@ -40,6 +41,7 @@ mod general_names;
 mod inside;
 mod keys;
 mod name_faults;
+mod name_strings;
 mod objects;
 mod parameters;
 mod report;

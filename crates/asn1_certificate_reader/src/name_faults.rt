@@ -48,8 +48,8 @@ const PRIMITIVE_TAGS: [Tag; 8] = [
 
 /// The first value in a name in DER that it cannot have, if there is one. A name has values of seven kinds of string: those of a
 /// DirectoryString (RFC 5280, 4.1.2.4), an IA5String and a NumericString; and bits and SEQUENCEs, which a unique identifier and a
-/// postal address are. Which characters a kind of string may have is not asked, since certificates are in use that do not keep to it; of a UTF8String,
-/// a UniversalString and a BMPString, whether its octets are characters at all.
+/// postal address are. Which characters a kind of string may have is not asked, since certificates are in use that do not keep to it;
+/// but those of a UTF8String, a UniversalString and a BMPString have to be characters.
 pub fn first_name_fault(name: &Name) -> Option<NameFault>
     ensures { AnswersName name.now result }
 {

@@ -1,19 +1,30 @@
 -- The values of attributes in the text of a name (RFC 4514, 2.4).
-use Rattle.std.specs.Prelude.{ℕ, zero, suc, ◌+◌, Bool, ◌||◌, ◌&&◌, ◌==◌, nat_lt, nat_le, List, [], ◌++◌, length, slice_index, codes, encode_utf8, if◌then◌else◌}
+use Rattle.std.specs.Prelude.{ℕ, zero, suc, ◌+◌, Bool, ◌||◌, ◌&&◌, ◌==◌, List, [], ◌++◌, length, slice_index, codes, encode_utf8, if◌then◌else◌}
+use Rattle.std.specs.Char.{is_control as is_unicode_control}
+use Rattle.std.specs.Int.{is_in_range}
+use Rattle.std.specs.List.{flat_map}
 use Rattle.asn1_values.specs.Text.{byte_text}
 
--- one of the controls of ASCII or of Latin-1
+-- one of the characters that change the direction in which others are written, or end a line or a paragraph (Unicode's property
+-- Bidi_Control, and its categories Zl and Zp)
+abbrev pub changes_lines : ℕ → Bool
+changes_lines c = c == 0x61C || is_in_range 0x200E 0x200F c || is_in_range 0x2028 0x202E c || is_in_range 0x2066 0x2069 c
+
+-- one of the controls of Unicode, which are those of ASCII and of Latin-1, or one of these
 abbrev pub is_control : ℕ → Bool
-is_control c = nat_lt c 32 || (nat_le 127 c && nat_le c 159)
+is_control c = is_unicode_control c || changes_lines c
 
 -- one of  " # + , ; < > \
 abbrev pub is_special : ℕ → Bool
 is_special c = c == 34 || c == 35 || c == 43 || c == 44 || c == 59 || c == 60 || c == 62 || c == 92
 
--- the octets of a control in UTF-8, each as two digits after a backslash
+-- an octet as two digits after a backslash
+abbrev pub octet_escaped : ℕ → List ℕ
+octet_escaped octet = codes "\\" ++ byte_text octet
+
+-- the octets of a control in UTF-8, each so
 abbrev pub control_text : ℕ → List ℕ
-control_text c =
-    if nat_le 128 c then codes "\\c2\\" ++ byte_text c else codes "\\" ++ byte_text c
+control_text c = flat_map octet_escaped (encode_utf8 c)
 
 -- a character as it is shown outside names: controls by their octets, and a backslash twice
 abbrev pub shown : ℕ → List ℕ

@@ -5,7 +5,7 @@ use Rattle.base64.specs.Engines.{standard}
 use Rattle.base64.specs.GeneralPurpose.{decode_of}
 use Rattle.memchr.specs.Find.{FindsNeedle}
 
--- the line before a certificate
+-- the line before a certificate, which is looked for by its text, wherever in a line that is
 abbrev pub begin_line : List ℕ
 begin_line = codes "-----BEGIN CERTIFICATE-----"
 

@@ -1,14 +1,15 @@
 //! The values of attributes in the text of a name (RFC 4514, 2.4).
-ghost use Rattle.std.specs.Prelude.{◌≡◌, ◌<◌, ◌++◌, OnOk, true};
+ghost use Rattle.std.specs.Prelude.{◌≡◌, ◌<◌, ◌++◌, OnOk};
 ghost use Rattle.std.specs.List.{flat_map};
 ghost use Rattle.std.specs.String.{string_bytes};
-ghost use Rattle.asn1_certificate_text.specs.Escapes.{control_text, escaped, escaped_text, is_control, is_end, is_special, says_something_else, shown};
+ghost use Rattle.asn1_certificate_text.specs.Escapes.{changes_lines, control_text, escaped, escaped_text, is_control, is_end, is_special, octet_escaped, says_something_else, shown};
 
 use crate::octets::push_octet;
 use std::alloc::AllocError;
 
 /// Appends a value's characters, with a backslash where a character would say something else, and control characters as their
-/// octets: so the value ends where the text of a name says it does, and no control of ASCII or of Latin-1 reaches a terminal.
+/// octets: so the value ends where the text of a name says it does, and no control of ASCII or of Latin-1 reaches a terminal, nor a
+/// character that changes the direction of others or ends a line.
 pub fn push_escaped(text: &mut String, characters: &[char]) -> Result<(), AllocError>
     ensures { OnOk result (string_bytes text.new ≡
         string_bytes text.old ++ escaped_text characters.now) }
@@ -75,25 +76,39 @@ fn says_something_else(at_end: bool, character: char) -> bool
 
 /// Appends the octets of a control character in UTF-8, each as two digits after a backslash.
 fn push_control(text: &mut String, character: char) -> Result<(), AllocError>
-    requires { is_control character ≡ true }
     ensures { OnOk result (string_bytes text.new ≡
         string_bytes text.old ++ control_text character) }
 {
-    let code = u32::from(character);
-    if code >= 128 {
-        text.push_str("\\c2\\")?;
-    } else {
-        text.push_str("\\")?;
+    let mut buffer = [0; 4];
+    for octet in character.encode_utf8(&mut buffer).as_bytes() {
+        push_escaped_octet(text, *octet)?;
     }
-    push_octet(text, code as u8)
+    Ok(())
 }
 
-/// Whether a character is one of the controls of ASCII or of Latin-1.
+/// Appends an octet as two digits after a backslash.
+fn push_escaped_octet(text: &mut String, octet: u8) -> Result<(), AllocError>
+    ensures { OnOk result (string_bytes text.new ≡ string_bytes text.old ++ octet_escaped octet) }
+{
+    text.push_str("\\")?;
+    push_octet(text, octet)
+}
+
+/// Whether a character is a control, changes the direction of others, or ends a line or a paragraph.
 fn is_control(character: char) -> bool
     ensures { result ≡ is_control character }
 {
-    let code = u32::from(character);
-    code < 32 || (127 <= code && code <= 159)
+    character.is_control() || changes_lines(character)
+}
+
+/// Whether a character changes the direction in which others are written, or ends a line or a paragraph.
+fn changes_lines(character: char) -> bool
+    ensures { result ≡ changes_lines character }
+{
+    matches!(
+        character,
+        '\u{61c}' | '\u{200e}'..='\u{200f}' | '\u{2028}'..='\u{202e}' | '\u{2066}'..='\u{2069}'
+    )
 }
 
 /// Whether a character would end a value or change how it is read.

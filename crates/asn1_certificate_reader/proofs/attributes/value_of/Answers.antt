@@ -1,28 +1,20 @@
-use Rattle.std.proofs.Common.{subst}
-use Rattle.std.proofs.lemmas.Result.{IfOk-weaker}
-use Rattle.std.specs.Prelude.{None, Some}
-use Rattle.asn1_certificate_reader.specs.Inside.{AreReadAs}
-use Rattle.asn1_x509.specs.contracts.directory_string.DirectoryStringAsnType.TheImpl.{ghosts as directory_strings}
-use Rattle.asn1_x509.specs.contracts.directory_string.DirectoryStringPartialEq.TheImpl.{ghosts as directory_equality}
+use Rattle.std.proofs.Common.{ap, refl}
+use Rattle.std.specs.Option.{option_map}
+use Rattle.asn1_certificate_reader.proofs.ShownBy.{by_characters, by_none}
 use Rattle.asn1_certificate_reader.proofs.attributes.value_of.Goals as goal
 
-pub returns-in_ok-characters-in-Some : goal.returns-in_ok-characters-in-Some
-returns-in_ok-characters-in-Some g c = record {
-  directory = Some c.in-Some.directory;
-  are_read_as =
-      subst (AreReadAs g.R.Rules.format directory_strings.meaning directory_equality.eq c.args.octets.now) c.in-Some.is
-      (c.in_ok-directory.ensures c.directory_string_is_well_tagged.ensures);
-  is_shown = c.in_ok-characters-in-Some.ensures;
-}
+pub returns-in-Some : goal.returns-in-Some
+returns-in-Some g c = by_characters _ _ _ _ _ _ _ _ _ c.in_ok-characters.ensures (ap (option_map (λ v. v.items)) c.in-Some.is) refl
 
-pub returns-in-None : goal.returns-in-None
-returns-in-None g c =
-    IfOk-weaker c.other_value_of.result _ _
-    (λ shown is. record {
-      directory = None;
-      are_read_as =
-          subst (AreReadAs g.R.Rules.format directory_strings.meaning directory_equality.eq c.args.octets.now) c.in-None.is
-          (c.in_ok-directory.ensures c.directory_string_is_well_tagged.ensures);
-      is_shown = is;
-    })
-    c.other_value_of.ensures
+pub returns-in-Some-3 : goal.returns-in-Some-3
+returns-in-Some-3 g c =
+    by_none _ _ _ _ _ _ _ _ c.in_ok-characters.ensures (ap (option_map (λ v. v.items)) c.in_default.is)
+    (by_none _ _ _ _ _ _ _ _ c.in_ok-characters-2.ensures (ap (option_map (λ v. v.items)) c.in_default-2.is)
+    (by_characters _ _ _ _ _ _ _ _ _ c.in_ok-characters-3.ensures (ap (option_map (λ v. v.items)) c.in-Some-3.is) refl))
+
+pub returns-in-Some-4 : goal.returns-in-Some-4
+returns-in-Some-4 g c =
+    by_none _ _ _ _ _ _ _ _ c.in_ok-characters.ensures (ap (option_map (λ v. v.items)) c.in_default.is)
+    (by_none _ _ _ _ _ _ _ _ c.in_ok-characters-2.ensures (ap (option_map (λ v. v.items)) c.in_default-2.is)
+    (by_none _ _ _ _ _ _ _ _ c.in_ok-characters-3.ensures (ap (option_map (λ v. v.items)) c.in_default-3.is)
+    (by_characters _ _ _ _ _ _ _ _ _ c.in_ok-characters-4.ensures (ap (option_map (λ v. v.items)) c.in-Some-4.is) refl)))

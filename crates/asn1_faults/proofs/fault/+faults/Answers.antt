@@ -1,19 +1,12 @@
 use Rattle.std.specs.Bool.{◌==◌}
-use Rattle.std.proofs.Common.{◌≡◌, ◌≢◌, [], ◌∷◌, ◌<◌, ℕ, IfNone, List, Option, None, Some, length, false, true, arith, refl, sym}
+use Rattle.std.proofs.Common.{◌≡◌, ◌≢◌, [], ◌∷◌, ◌<◌, ℕ, IfNone, List, Option, None, Some, length, false, true, arith, sym}
 use Rattle.std.proofs.lemmas.Bool.{eqb-true}
-use Rattle.asn1_der_items.specs.Elements.{Element, element_at, element_of}
+use Rattle.asn1_der_items.specs.Elements.{element_of}
 use Rattle.asn1_der_items.proofs.Behind.{element_at-shorter, parts_fit}
 use Rattle.asn1_faults.proofs.Places.{at_place, from_inside, holds_inside, is_within}
+use Rattle.asn1_faults.proofs.Reached.{none_found}
 use Rattle.asn1_faults.specs.Faults.{AreElementsDownTo, here, behind, none_left, one_more}
 use Rattle.asn1_faults.proofs.fault.+faults.Goals as goal
-
--- no element begins where none is found
-none_at : (bytes : List ℕ) → ((e : Element) → element_at bytes ≡ Some e → ⊥) → element_at bytes ≡ None
-none_at bytes not = by (element_at bytes) refl
-  where
-    by : (o : Option Element) → element_at bytes ≡ o → element_at bytes ≡ None
-    by None is = is
-    by (Some e) is = absurd (not e is)
 
 -- nothing is an error and a success
 never : false ≡ true → ⊥
@@ -40,7 +33,7 @@ fault_inside-returns-clause-none t c =
 
 pub first_fault-returns-in_default-clause-fault : goal.first_fault-returns-in_default-clause-fault
 first_fault-returns-in_default-clause-fault t c =
-    let none : element_at c.loop-left.left.now ≡ None = none_at c.loop-left.left.now (λ e at. never (c.in_default.ensures.found e at)) in
+    let none = none_found c.loop-left.left.now c.in_default.ensures.found in
     at_place c.args.depth c.args.bytes.now _ _ (omega arith)
     (c.loop-left.invariant.faults 0 (here c.args.depth c.loop-left.left.now (some_left c.loop-left.left.now c.loop-left-test.ensures) none))
 

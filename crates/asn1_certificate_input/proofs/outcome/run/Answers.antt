@@ -1,5 +1,5 @@
 use Rattle.asn1_certificate_input.proofs.Outcomes.{refused_by_status}
-use Rattle.asn1_certificate_input.proofs.outcome.shown.Goals as goal
+use Rattle.asn1_certificate_input.proofs.outcome.run.Goals as goal
 
 pub returns-clause-refused : goal.returns-clause-refused
 returns-clause-refused g c =

@@ -1,5 +1,5 @@
 //! Which values a name cannot have, which parameters an algorithm, and what is shown of a value that is not of its type.
-use asn1_certificate_input::{Form, ShowError, written};
+use asn1_certificate_input::{Form, InputError, output_of};
 use asn1_certificate_reader::{
     MAX_DEPTH, NameFault, ParameterType, ValueFault, bad_parameters, first_name_fault,
 };
@@ -8,6 +8,7 @@ use asn1_rules::Rules;
 use asn1_x509::{AlgorithmIdentifier, Name};
 use std::alloc::Global;
 use std::process::Abort;
+use std::str;
 
 /// Reads a name in DER, and looks for its first fault.
 fn assert_fault(rt: &impl Abort, alloc: Global, octets: &[u8], expected: Option<NameFault>) {
@@ -129,24 +130,17 @@ const fn certificate(inside: u8, key: u8, beside: u8) -> [u8; 71] {
 }
 
 /// Why a certificate is refused.
-fn refusal(rt: &impl Abort, alloc: Global, certificate: &[u8]) -> Option<ShowError> {
+fn refusal(rt: &impl Abort, alloc: Global, certificate: &[u8]) -> Option<InputError> {
     let input = Vec::from_slice(alloc, certificate).expect(rt, "memory");
-    written(alloc, Form::Der, input).err()
+    output_of(alloc, Form::Der, input).err()
 }
 
-/// Whether a certificate is refused for the parameters of the algorithm of its signature.
-fn is_refused_for_its_signature(rt: &impl Abort, alloc: Global, certificate: &[u8]) -> bool {
-    match refusal(rt, alloc, certificate) {
-        Some(ShowError::BadSignatureParameters(bad)) => bad == ParameterType::Boolean,
-        _ => false,
-    }
-}
-
-/// Whether a certificate is refused for the parameters of the algorithm of its key.
-fn is_refused_for_its_key(rt: &impl Abort, alloc: Global, certificate: &[u8]) -> bool {
-    match refusal(rt, alloc, certificate) {
-        Some(ShowError::BadKeyParameters(bad)) => bad == ParameterType::Boolean,
-        _ => false,
+/// The place of the parameters of an algorithm for which a certificate is refused, if they have to be a BOOLEAN.
+fn bad_place(rt: &impl Abort, alloc: Global, certificate: &[u8]) -> Option<usize> {
+    match refusal(rt, alloc, certificate)? {
+        InputError::BadSignatureParameters(place, ParameterType::Boolean)
+        | InputError::BadKeyParameters(place, ParameterType::Boolean) => Some(place),
+        _ => None,
     }
 }
 
@@ -154,15 +148,67 @@ fn is_refused_for_its_key(rt: &impl Abort, alloc: Global, certificate: &[u8]) ->
 fn bad_parameters_are_refused(rt: HostRuntime) {
     let alloc = rt.alloc();
     assert!(rt; refusal(&rt, alloc, &certificate(0xff, 0, 0xff)).is_none());
-    assert!(rt; is_refused_for_its_signature(&rt, alloc, &certificate(2, 0, 0xff)));
-    assert!(rt; is_refused_for_its_signature(&rt, alloc, &certificate(0xff, 0, 2)));
-    assert!(rt; is_refused_for_its_key(&rt, alloc, &certificate(0xff, 2, 0xff)));
+    assert!(rt; bad_place(&rt, alloc, &certificate(2, 0, 0xff)) == Some(18));
+    assert!(rt; bad_place(&rt, alloc, &certificate(0xff, 2, 0xff)) == Some(39));
+    assert!(rt; bad_place(&rt, alloc, &certificate(0xff, 0, 2)) == Some(65));
+}
+
+/// A certificate in DER that does not say its version. The common names of its issuer and its subject have these values of four octets.
+const fn of_names(issuer: [u8; 6], subject: [u8; 6]) -> [u8; 73] {
+    let [a, b, c, d, e, f] = issuer;
+    let [u, v, w, x, y, z] = subject;
+    [
+        0x30, 71, 0x30, 60, 2, 1, 1, 0x30, 4, 6, 2, 0x2a, 3, 0x30, 15, 0x31, 13, 0x30, 11, 6, 3,
+        0x55, 4, 3, a, b, c, d, e, f, 0x30, 4, 0x17, 0, 0x17, 0, 0x30, 15, 0x31, 13, 0x30, 11, 6,
+        3, 0x55, 4, 3, u, v, w, x, y, z, 0x30, 9, 0x30, 4, 6, 2, 0x2a, 3, 3, 1, 0, 0x30, 4, 6, 2,
+        0x2a, 3, 3, 1, 0,
+    ]
+}
+
+const UTF8: [u8; 6] = [0x0c, 4, b'A', b'n', b'n', b'a'];
+
+const NO_STRING: [u8; 6] = [0x17, 4, b'A', b'n', b'n', b'a'];
+
+/// The place of the value for which a certificate is refused, if it is in a name.
+fn bad_name(rt: &impl Abort, alloc: Global, certificate: &[u8]) -> Option<usize> {
+    match refusal(rt, alloc, certificate)? {
+        InputError::BadIssuer(place, _) | InputError::BadSubject(place, _) => Some(place),
+        _ => None,
+    }
+}
+
+#[test]
+fn bad_values_in_names_are_refused(rt: HostRuntime) {
+    let alloc = rt.alloc();
+    assert!(rt; refusal(&rt, alloc, &of_names(UTF8, UTF8)).is_none());
+    assert!(rt; bad_name(&rt, alloc, &of_names(NO_STRING, UTF8)) == Some(24));
+    assert!(rt; bad_name(&rt, alloc, &of_names(UTF8, NO_STRING)) == Some(47));
+}
+
+/// Asserts that the common name of who issued a certificate is shown as this text.
+fn assert_shown(rt: &impl Abort, alloc: Global, value: [u8; 6], expected: &str) {
+    let input = Vec::from_slice(alloc, &of_names(value, UTF8)).expect(rt, "memory");
+    let bytes = output_of(alloc, Form::Report, input).expect(rt, "a certificate");
+    let text = str::from_utf8(&bytes).expect(rt, "a text");
+    assert!(rt; text.contains(expected));
+}
+
+// The octets of characters are those of each kind of string: by fours, by twos, and by ones.
+#[test]
+fn each_kind_of_string_is_shown(rt: HostRuntime) {
+    let alloc = rt.alloc();
+    assert_shown(&rt, alloc, [0x1c, 4, 0, 0, 0, 0xe9], "CN=é\n");
+    assert_shown(&rt, alloc, [0x1e, 4, 0x20, 0xac, 0, 0x41], "CN=€A\n");
+    assert_shown(&rt, alloc, [0x12, 4, b'1', b'2', b' ', b'3'], "CN=12 3\n");
+    assert_shown(&rt, alloc, [0x16, 4, b'a', b'@', b'b', b'c'], "CN=a@bc\n");
+    assert_shown(&rt, alloc, [0x14, 4, b'J', 0xe9, b'r', b'i'], "CN=Jéri\n");
+    assert_shown(&rt, alloc, [3, 4, 0, 1, 2, 3], "CN=#030400010203\n");
 }
 
 /// Whether a certificate is refused for its serial number, with the place after it.
 fn is_refused_for_its_number(rt: &impl Abort, alloc: Global, certificate: &[u8]) -> bool {
     match refusal(rt, alloc, certificate) {
-        Some(ShowError::BadComponent(place, name)) => place == 12 && name == "serialNumber",
+        Some(InputError::BadComponent(place, name)) => place == 12 && name == "serialNumber",
         _ => false,
     }
 }
@@ -181,16 +227,16 @@ fn a_default_that_is_there_is_shown_and_not_written(rt: HostRuntime) {
     let mut first_version = certificate(0, 0, 0);
     first_version[8] = 0;
     let refused = refusal(&rt, alloc, &first_version);
-    assert!(rt; matches!(refused, Some(ShowError::OtherDer)));
+    assert!(rt; matches!(refused, Some(InputError::OtherDer)));
     let input = Vec::from_slice(alloc, &first_version).expect(&rt, "memory");
-    assert!(rt; written(alloc, Form::Report, input).is_ok());
+    assert!(rt; output_of(alloc, Form::Report, input).is_ok());
 }
 
 #[test]
 fn a_value_that_is_not_of_its_type_is_shown_as_octets(rt: HostRuntime) {
     let alloc = rt.alloc();
     let input = Vec::from_slice(alloc, &certificate(0, 0, 0)).expect(&rt, "memory");
-    let Ok(lines) = written(alloc, Form::Report, input) else {
+    let Ok(lines) = output_of(alloc, Form::Report, input) else {
         rt.panic("not shown");
     };
     let text = String::from_utf8(lines).expect(&rt, "text");

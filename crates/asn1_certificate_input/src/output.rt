@@ -1,15 +1,14 @@
 //! An input as a report.
-ghost use Rattle.std.specs.Prelude.{◌≡◌, IfErr, IfOk, List, OnOk, ℕ};
+ghost use Rattle.std.specs.Prelude.{◌≡◌, IfErr, IfOk};
 ghost use Rattle.asn1_certificate_input.specs.Inputs.{AreInputOctets, AreOfNoCertificate, IsCertificateOf, IsReadOf, records_of};
 ghost use Rattle.asn1_certificate_input.specs.Refused.{IsNotRead, IsRefusalOfCertificate, IsRefusalOfInput, IsRefusalOfOctets, IsRefusalOfText};
-ghost use Rattle.asn1_certificate_input.specs.Shown.{AreLinesOf, AreLinesOfInput, HasGoodNames, IsDerOfInput};
-ghost use Rattle.asn1_certificate_input.specs.declared.show.ShowError.TheVariants.{Memory};
+ghost use Rattle.asn1_certificate_input.specs.Shown.{AreLinesOf, AreLinesOfInput, IsDerOfInput};
+ghost use Rattle.asn1_certificate_input.specs.declared.output.InputError.TheVariants.{Memory};
 ghost use Rattle.asn1_der_encoder.specs.Format.{Carries};
 
 use crate::form::Form;
-use asn1_certificate_reader::{
-    MAX_DEPTH, NameFault, ParameterType, bad_parameters, first_name_fault, report_of,
-};
+use crate::open_types::check_open_types;
+use asn1_certificate_reader::{MAX_DEPTH, NameFault, ParameterType, report_of};
 use asn1_certificate_report::report_text;
 use asn1_certificate_text::{PemError, certificate_octets};
 use asn1_dec::{Decode, DecodeError};
@@ -25,7 +24,7 @@ use thiserror::Error;
 
 /// Why an input has no report. Places are those of bytes, from 0.
 #[derive(Clone, Copy, Debug, Drop, Error)]
-pub enum ShowError {
+pub enum InputError {
     /// The input is a text, and its certificate is not found.
     #[error("{0}")]
     Text(PemError),
@@ -39,18 +38,18 @@ pub enum ShowError {
     /// The octets are elements, and those of no certificate for another reason. They were read up to this place.
     #[error("no certificate: {1} (its DER was read up to byte {0})")]
     NoCertificate(usize, DecodeError),
-    /// The name of who issued it has a value that no name can have.
-    #[error("no certificate: in its issuer {0}")]
-    BadIssuer(NameFault),
+    /// The name of who issued it has a value, at this place, that no name can have.
+    #[error("no certificate: in its issuer {1} (byte {0} of its DER)")]
+    BadIssuer(usize, NameFault),
     /// The name of whom it is for has one.
-    #[error("no certificate: in its subject {0}")]
-    BadSubject(NameFault),
-    /// The parameters of the key's algorithm have to be this by their tag, and are not.
-    #[error("no certificate: the parameters of its key's algorithm are no valid {0}")]
-    BadKeyParameters(ParameterType),
+    #[error("no certificate: in its subject {1} (byte {0} of its DER)")]
+    BadSubject(usize, NameFault),
+    /// The parameters of the key's algorithm, at this place, have to be this by their tag, and are not.
+    #[error("no certificate: the parameters of its key's algorithm are no valid {1} (byte {0} of its DER)")]
+    BadKeyParameters(usize, ParameterType),
     /// So do those of the signature's algorithm.
-    #[error("no certificate: the parameters of its signature's algorithm are no valid {0}")]
-    BadSignatureParameters(ParameterType),
+    #[error("no certificate: the parameters of its signature's algorithm are no valid {1} (byte {0} of its DER)")]
+    BadSignatureParameters(usize, ParameterType),
     /// The certificate was read, and is not written again.
     #[error("not written: {0}")]
     NotWritten(EncodeError),
@@ -62,79 +61,31 @@ pub enum ShowError {
     Memory,
 }
 
-impl From<AllocError> for ShowError {
+impl From<AllocError> for InputError {
     ghost from_gives = { λ _ e. e ≡ Memory };
 
-    fn from(_refused: AllocError) -> ShowError {
-        ShowError::Memory
+    fn from(_refused: AllocError) -> InputError {
+        InputError::Memory
     }
 }
 
 /// What is written of an input, which is the DER of a certificate or a text with it in base64: the certificate in a form.
-pub fn written(alloc: Global, form: Form, input: Vec<u8>) -> Result<Vec<u8>, ShowError>
+pub fn output_of(alloc: Global, form: Form, input: Vec<u8>) -> Result<Vec<u8>, InputError>
     ensures report { form ≡ Form.Report →
         IfOk result (λ bytes. AreLinesOfInput input.items bytes.items) }
     ensures der { form ≡ Form.Der → IfOk result (λ bytes. IsDerOfInput input.items bytes.items) }
     ensures refused { IfErr result (IsRefusalOfInput form input.items) }
 {
     let (octets, certificate) = certificate_of(alloc, input)?;
-    check_open_types(alloc, &certificate)?;
+    check_open_types(alloc, octets.as_slice(), &certificate)?;
     match form {
         Form::Report => lines_of(alloc, &certificate),
         Form::Der => der_of(alloc, &octets, &certificate),
     }
 }
 
-/// Refuses a certificate that was read, but whose open types hold what they cannot hold.
-fn check_open_types(alloc: Global, certificate: &Certificate) -> Result<(), ShowError>
-    ensures good { OnOk result (HasGoodNames certificate.now) }
-    ensures refused { (form : Form) (octets : List ℕ) →
-        IfErr result (IsRefusalOfCertificate form octets certificate.now) }
-{
-    match check_names(certificate) {
-        Ok(()) => check_parameters(alloc, certificate),
-        Err(error) => Err(error),
-    }
-}
-
-/// Refuses a certificate with a value in a name that no name can have.
-fn check_names(certificate: &Certificate) -> Result<(), ShowError>
-    ensures good { OnOk result (HasGoodNames certificate.now) }
-    ensures refused { (form : Form) (octets : List ℕ) →
-        IfErr result (IsRefusalOfCertificate form octets certificate.now) }
-{
-    let signed = &certificate.tbs_certificate;
-    if let Some(fault) = first_name_fault(&signed.issuer) {
-        return Err(ShowError::BadIssuer(fault));
-    }
-    if let Some(fault) = first_name_fault(&signed.subject) {
-        return Err(ShowError::BadSubject(fault));
-    }
-    Ok(())
-}
-
-/// Refuses a certificate with parameters of an algorithm that are not what they have to be by their tag.
-fn check_parameters(alloc: Global, certificate: &Certificate) -> Result<(), ShowError>
-    ensures { (form : Form) (octets : List ℕ) →
-        IfErr result (IsRefusalOfCertificate form octets certificate.now) }
-{
-    let rules = DerRules::new(alloc);
-    let signed = &certificate.tbs_certificate;
-    let key = &signed.subject_public_key_info;
-    if let Some(bad) = bad_parameters(&rules, alloc, &key.algorithm)? {
-        return Err(ShowError::BadKeyParameters(bad));
-    }
-    if let Some(bad) = bad_parameters(&rules, alloc, &signed.signature)? {
-        return Err(ShowError::BadSignatureParameters(bad));
-    }
-    if let Some(bad) = bad_parameters(&rules, alloc, &certificate.signature_algorithm)? {
-        return Err(ShowError::BadSignatureParameters(bad));
-    }
-    Ok(())
-}
-
 /// The lines that are shown of a certificate.
-fn lines_of(alloc: Global, certificate: &Certificate) -> Result<Vec<u8>, ShowError>
+fn lines_of(alloc: Global, certificate: &Certificate) -> Result<Vec<u8>, InputError>
     ensures shown { IfOk result (λ bytes. AreLinesOf certificate.now bytes.items) }
     ensures memory { IfErr result (λ e. e ≡ Memory) }
 {
@@ -143,7 +94,7 @@ fn lines_of(alloc: Global, certificate: &Certificate) -> Result<Vec<u8>, ShowErr
 }
 
 /// The DER of a certificate that these octets were read as, which has to be the octets.
-fn der_of(alloc: Global, octets: &Vec<u8>, certificate: &Certificate) -> Result<Vec<u8>, ShowError>
+fn der_of(alloc: Global, octets: &Vec<u8>, certificate: &Certificate) -> Result<Vec<u8>, InputError>
     ensures written { IfOk result (λ bytes. Carries bytes.items (records_of certificate.now)) }
     ensures same { IfOk result (λ bytes. bytes.items ≡ octets.now.items) }
     ensures refused { IfErr result
@@ -154,16 +105,16 @@ fn der_of(alloc: Global, octets: &Vec<u8>, certificate: &Certificate) -> Result<
             if bytes.as_slice() == octets.as_slice() {
                 Ok(bytes)
             } else {
-                Err(ShowError::OtherDer)
+                Err(InputError::OtherDer)
             }
         }
-        Err(EncodeError::Memory) => Err(ShowError::Memory),
-        Err(error) => Err(ShowError::NotWritten(error)),
+        Err(EncodeError::Memory) => Err(InputError::Memory),
+        Err(error) => Err(InputError::NotWritten(error)),
     }
 }
 
 /// The octets of an input, and the certificate that they were read as.
-fn certificate_of(alloc: Global, input: Vec<u8>) -> Result<(Vec<u8>, Certificate), ShowError>
+fn certificate_of(alloc: Global, input: Vec<u8>) -> Result<(Vec<u8>, Certificate), InputError>
     ensures read { IfOk result (λ found. IsCertificateOf input.items found.0.items found.1) }
     ensures refused { IfErr result (IsNotRead input.items) }
 {
@@ -178,7 +129,7 @@ fn certificate_of(alloc: Global, input: Vec<u8>) -> Result<(Vec<u8>, Certificate
 
 /// The octets of an input: one element is its own octets, and of others they are those of the first certificate in a text, or the
 /// input where it has none.
-fn octets_of(alloc: Global, input: Vec<u8>) -> Result<Vec<u8>, ShowError>
+fn octets_of(alloc: Global, input: Vec<u8>) -> Result<Vec<u8>, InputError>
     ensures read { IfOk result (λ octets. AreInputOctets input.items octets.items) }
     ensures refused { IfErr result (IsRefusalOfText input.items) }
 {
@@ -187,36 +138,36 @@ fn octets_of(alloc: Global, input: Vec<u8>) -> Result<Vec<u8>, ShowError>
     }
     match certificate_octets(alloc, input) {
         Ok(octets) => Ok(octets),
-        Err(PemError::Memory) => Err(ShowError::Memory),
-        Err(error) => Err(ShowError::Text(error)),
+        Err(PemError::Memory) => Err(InputError::Memory),
+        Err(error) => Err(InputError::Text(error)),
     }
 }
 
 /// The certificate of which these octets are the DER.
-fn read(alloc: Global, octets: &Vec<u8>) -> Result<Certificate, ShowError>
+fn read(alloc: Global, octets: &Vec<u8>) -> Result<Certificate, InputError>
     ensures read { IfOk result (IsReadOf octets.now.items) }
     ensures refused { IfErr result (IsRefusalOfOctets octets.now.items) }
 {
     certificate_is_well_tagged();
     match DerRules::new(alloc).read_value(octets, MAX_DEPTH) {
         Ok(certificate) => Ok(certificate),
-        Err(DecodeError::Memory) => Err(ShowError::Memory),
+        Err(DecodeError::Memory) => Err(InputError::Memory),
         Err(error) => Err(refusal(alloc, octets.as_slice(), error)),
     }
 }
 
 /// Why octets are not read, with the first place at which an element is due and none begins, or else the place up to which they were
 /// read.
-fn refusal(alloc: Global, octets: &[u8], error: DecodeError) -> ShowError
+fn refusal(alloc: Global, octets: &[u8], error: DecodeError) -> InputError
     ensures { AreOfNoCertificate octets.now → IsRefusalOfOctets octets.now result }
 {
     if let Some(place) = first_fault(octets, MAX_DEPTH) {
-        return ShowError::NoElement(place, error);
+        return InputError::NoElement(place, error);
     }
     let place = read_up_to(alloc, octets);
     match error {
-        DecodeError::FieldError { name, .. } => ShowError::BadComponent(place, name),
-        _ => ShowError::NoCertificate(place, error),
+        DecodeError::FieldError { name, .. } => InputError::BadComponent(place, name),
+        _ => InputError::NoCertificate(place, error),
     }
 }
 

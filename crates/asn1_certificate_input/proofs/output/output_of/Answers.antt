@@ -3,7 +3,7 @@ use Rattle.std.proofs.lemmas.Result.{IfErr-weaker, IfOk-weaker, err_from_is_err_
 use Rattle.std.specs.Prelude.{IfOk}
 use Rattle.asn1_certificate_input.specs.Inputs.{IsCertificateOf}
 use Rattle.asn1_certificate_input.specs.Refused.{IsRefusalOfCertificate}
-use Rattle.asn1_certificate_input.proofs.show.written.Goals as goal
+use Rattle.asn1_certificate_input.proofs.output.output_of.Goals as goal
 
 -- two facts of a success
 both : {A B : Type 0} (r : Result A B) (P Q Both : A → Type 0) → ((x : A) → P x → Q x → Both x) → IfOk r P → IfOk r Q → IfOk r Both
@@ -40,7 +40,7 @@ returns-in_err-check_open_types-clause-refused c =
       octets = c.in_ok-octets.octets.items;
       certificate = c.in_ok-octets.certificate;
       read = c.in_ok-octets.ensures.read;
-      refused = c.in_err-check_open_types.ensures.refused c.args.form c.in_ok-octets.octets.items;
+      refused = c.in_err-check_open_types.ensures.refused c.args.form;
     }))
 
 pub returns-in-Report-clause-refused : goal.returns-in-Report-clause-refused
