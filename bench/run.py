@@ -1,6 +1,6 @@
 #!/usr/bin/env python3
 """Times asn1_check on inputs of 1, 10 and 100 MB, and measures its peak memory; or compares it with plain Rust; or does the same
-with the codecs over bytes, of which asn1_speed is the program; or tries them, by asn1_trials.
+with the codecs over bytes, of which asn1_speed is the program, or with certificates; or tries the codecs, by asn1_trials.
 
     python3 bench/run.py
     python3 bench/run.py --plain
@@ -9,6 +9,7 @@ with the codecs over bytes, of which asn1_speed is the program; or tries them, b
     python3 bench/run.py --stack
     python3 bench/run.py --damage SECONDS
     python3 bench/run.py --growths
+    python3 bench/run.py --certificates
 
 proves and builds the program first, or with --built takes the one that `rt ci` built in this checkout. The first prints a line for
 each kind of input and size: the rate in MB (10^6 bytes) a second, the best of three runs, and the peak memory of the process in MB.
@@ -21,8 +22,8 @@ both. The time is that of the processor, the best of five, less what it takes to
 instructions for each value of a list of 1000 and for each node of a chain of 200, those of plain Rust, and how many times as many.
 
 The next prints for each type that holds itself how many nested scopes a stack of 8 MiB holds in writing, reading and dropping. The
-one after it damages the bytes of a value of each sample type for this long, by one seed after another. The last refuses each growth of memory
-in turn, while a value of each sample type is written and read.
+one after it damages the bytes of a value of each sample type for this long, by one seed after another. The one before the last
+refuses each growth of memory in turn, while a value of each sample type is written and read. The last is bench/certificates.py.
 """
 import os
 import resource
@@ -39,6 +40,8 @@ SPEED = os.path.join(ROOT, "crates", "asn1_speed")
 SPEED_PROGRAM = os.path.join(SPEED, "out", "asn1_speed")
 TRIALS = os.path.join(ROOT, "crates", "asn1_trials")
 TRIALS_PROGRAM = os.path.join(TRIALS, "out", "asn1_trials")
+CERTIFICATES = os.path.join(ROOT, "bench", "certificates.py")
+CERTIFICATES_PROGRAM = os.path.join(ROOT, "crates", "asn1_certificate_bench", "out", "asn1_certificate_bench")
 
 
 def wide_tree(step):
@@ -297,7 +300,15 @@ def refused_growths(library, job):
         number += 1
 
 
+def measure_certificates():
+    """Calls bench/certificates.py, with the program that was built if that is asked for."""
+    built = [CERTIFICATES_PROGRAM] if "--built" in sys.argv else []
+    sys.exit(subprocess.run([sys.executable, CERTIFICATES, *built]).returncode)
+
+
 def main():
+    if "--certificates" in sys.argv:
+        measure_certificates()
     if "--codecs" in sys.argv:
         build(SPEED)
         return count_instructions() if "--values" in sys.argv else compare_codecs()
