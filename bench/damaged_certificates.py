@@ -101,14 +101,17 @@ def main():
                     break
                 some = paths[first : first + 64]
                 ours = [answers.get(path.name) for path in some] if asked.tried else list(pool.map(program_answers, some))
-                theirs = list(pool.map(openssl_takes, some))
-                for path, our, their in zip(some, ours, theirs):
-                    counts["asked"] += 1
-                    counts["shown"] += our is True
-                    counts["crashes"] += our is None
-                    counts["taken that OpenSSL refuses"] += our is True and not their
-                    if our is None or our and not their:
-                        print(path.name, "crashes" if our is None else "is taken")
+                shown = [path for path, our in zip(some, ours) if our]
+                refused = [path for path, taken in zip(shown, pool.map(openssl_takes, shown)) if not taken]
+                crashes = [path for path, our in zip(some, ours) if our is None]
+                counts["asked"] += len(some)
+                counts["shown"] += len(shown)
+                counts["crashes"] += len(crashes)
+                counts["taken that OpenSSL refuses"] += len(refused)
+                for path in crashes:
+                    print(path.name, "crashes")
+                for path in refused:
+                    print(path.name, "is taken")
     print(", ".join(f"{count} {what}" for what, count in counts.items()))
     return counts["crashes"] + counts["taken that OpenSSL refuses"] > 0
 
