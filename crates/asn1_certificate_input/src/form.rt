@@ -12,7 +12,7 @@ pub enum Form {
 
 /// The form that an argument of a program asks for: its DER by `--der`, and by any other or none a report.
 pub fn form_of(argument: Option<&str>) -> Form
-    ensures { MatchOption argument (result ≡ Form.Report)
+    ensures { MatchOption argument.entry (result ≡ Form.Report)
         (λ text. (result ≡ Form.Der) ↔ (text.now ≡ codes "--der")) }
 {
     match argument {

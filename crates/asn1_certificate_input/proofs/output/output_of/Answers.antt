@@ -40,7 +40,9 @@ returns-in_err-check_open_types-clause-refused c =
       octets = c.in_ok-octets.octets.items;
       certificate = c.in_ok-octets.certificate;
       read = c.in_ok-octets.ensures.read;
-      refused = c.in_err-check_open_types.ensures.refused c.args.form;
+      refused =
+          subst (λ octets. IsRefusalOfCertificate c.args.form octets c.in_ok-octets.certificate _) c.as_slice.ensures.value
+          (c.in_err-check_open_types.ensures.refused c.args.form);
     }))
 
 pub returns-in-Report-clause-refused : goal.returns-in-Report-clause-refused
