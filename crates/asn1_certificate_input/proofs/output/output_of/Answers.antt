@@ -41,7 +41,7 @@ returns-in_err-check_open_types-clause-refused c =
       certificate = c.in_ok-octets.certificate;
       read = c.in_ok-octets.ensures.read;
       refused =
-          subst (λ octets. IsRefusalOfCertificate c.args.form octets c.in_ok-octets.certificate _) c.as_slice.ensures.value
+          subst (λ octets. IsRefusalOfCertificate c.args.form octets c.in_ok-octets.certificate c.in_err-check_open_types.field-0.0) c.as_slice.ensures.value
           (c.in_err-check_open_types.ensures.refused c.args.form);
     }))
 
