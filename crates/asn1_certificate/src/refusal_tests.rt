@@ -1,6 +1,6 @@
 //! Which values a name cannot have, which parameters an algorithm, and what is shown of a value that is not of its type.
 use asn1_certificate_input::{Form, InputError, output_of};
-use asn1_certificate_reader::{
+use asn1_certificate_inside::{
     MAX_DEPTH, NameFault, ParameterType, ValueFault, bad_parameters, first_name_fault,
 };
 use asn1_der::DerRules;

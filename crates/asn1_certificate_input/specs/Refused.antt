@@ -9,8 +9,8 @@ use Rattle.asn1_certificate_input.specs.declared.outcome.Failure.{Failure}
 use Rattle.asn1_certificate_input.specs.declared.outcome.Failure.TheVariants.{NoOutput, Reading, Writing}
 use Rattle.asn1_certificate_input.specs.declared.output.InputError.{InputError}
 use Rattle.asn1_certificate_input.specs.declared.output.InputError.TheVariants.{Text, NoElement, BadComponent, NoCertificate, BadIssuer, BadSubject, BadKeyParameters, BadSignatureParameters, NotWritten, OtherDer, Memory}
-use Rattle.asn1_certificate_reader.specs.NameFaults.{AnswersName}
-use Rattle.asn1_certificate_reader.specs.Parameters.{HasBadParameters}
+use Rattle.asn1_certificate_inside.specs.NameFaults.{AnswersName}
+use Rattle.asn1_certificate_inside.specs.Parameters.{HasBadParameters}
 use Rattle.asn1_certificate_text.specs.PemRefusals.{IsRefusal}
 use Rattle.asn1_certificate_text.specs.declared.pem.PemError.TheVariants as pem
 use Rattle.asn1_codec.specs.declared.encode_error.EncodeError.TheVariants as writing

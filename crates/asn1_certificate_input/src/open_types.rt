@@ -9,7 +9,7 @@ use crate::places::{
     ISSUER, SUBJECT, place_of_key_parameters, place_of_parameters_beside,
     place_of_signed_parameters, place_of_value,
 };
-use asn1_certificate_reader::{bad_parameters, first_name_fault};
+use asn1_certificate_inside::{bad_parameters, first_name_fault};
 use asn1_der::DerRules;
 use asn1_x509::Certificate;
 use std::alloc::Global;

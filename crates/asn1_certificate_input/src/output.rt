@@ -8,7 +8,8 @@ ghost use Rattle.asn1_der_encoder.specs.Format.{Carries};
 
 use crate::form::Form;
 use crate::open_types::check_open_types;
-use asn1_certificate_reader::{MAX_DEPTH, NameFault, ParameterType, report_of};
+use asn1_certificate_inside::{MAX_DEPTH, NameFault, ParameterType};
+use asn1_certificate_reader::report_of;
 use asn1_certificate_report::report_text;
 use asn1_certificate_text::{PemError, certificate_octets};
 use asn1_dec::{Decode, DecodeError};

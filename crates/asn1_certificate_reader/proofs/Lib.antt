@@ -1,8 +1,5 @@
 mod CharactersOfUnits
-mod NameFaults
 mod OneByOne
-mod ReadInside
 mod ShownAs
 mod ShownBy
-mod UnitByUnit
 mod WholeOctets

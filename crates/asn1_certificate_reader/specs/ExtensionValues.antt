@@ -5,11 +5,11 @@ use Rattle.std.specs.List.{AllZip}
 use Rattle.std.specs.Prelude.{◌≡◌, ℕ, ℤ, Bool, ◌==◌, List, [], ◌∷◌, None, Option, Some, Vec, if◌then◌else◌, nat_eq}
 use Rattle.std.specs.declared.alloc.Global.{Global}
 use Rattle.asn1_certificate_reader.specs.GeneralNamesShown.{AreGeneralNamesOf}
-use Rattle.asn1_certificate_reader.specs.Inside.{AreReadAs}
+use Rattle.asn1_certificate_inside.specs.Inside.{AreReadAs}
 use Rattle.asn1_certificate_reader.specs.ObjectsShown.{IsObjectOf}
 use Rattle.asn1_certificate_reader.specs.Options.{AreBothOrNone}
 use Rattle.asn1_certificate_reader.specs.Simple.{IsOctetNumberOf}
-use Rattle.asn1_certificate_reader.specs.Strings.{bit_string, octet_string}
+use Rattle.asn1_certificate_inside.specs.Strings.{bit_string, octet_string}
 use Rattle.asn1_certificate_reader.specs.declared.extensions.ValueKind.{ValueKind}
 use Rattle.asn1_certificate_reader.specs.declared.extensions.ValueKind.TheVariants as kind
 use Rattle.asn1_certificate_report.specs.declared.extension.AuthorityKey.{AuthorityKey}

@@ -2,7 +2,7 @@
 use Rattle.std.specs.Cmp.Lexicographic.{pointwise}
 use Rattle.std.specs.Prelude.{◌≡◌, ◌≢◌, ◌⊎◌, ◌<◌, ℕ, ◌%◌, All, Bool, Contains, List, [], ◌∷◌, MatchOption, None, Option, Some, Vec, length, nat_eq, unsigned_abs}
 use Rattle.std.specs.declared.alloc.Global.{Global}
-use Rattle.asn1_certificate_reader.specs.Inside.{AreReadAs}
+use Rattle.asn1_certificate_inside.specs.Inside.{AreReadAs}
 use Rattle.asn1_certificate_reader.specs.ObjectsShown.{IsObjectOf}
 use Rattle.asn1_certificate_report.specs.declared.key.KeySize.{KeySize}
 use Rattle.asn1_certificate_report.specs.declared.key.KeySize.TheVariants.{Modulus, Curve, Fixed, UnnamedCurve, Kept}

@@ -3,14 +3,10 @@
 //! | Item | What it is |
 //! |---|---|
 //! | [`report_of`] | what is shown of a certificate |
-//! | [`first_name_fault`], [`NameFault`], [`ValueFault`] | which value of a name it cannot have, and why |
-//! | [`bad_parameters`], [`ParameterType`] | whether the parameters of an algorithm are of no value of the type of their tag |
-//! | [`MAX_DEPTH`] | how deep certificates may be nested |
 //!
 //! What a certificate has inside open types and octets is read by the same codec: the values of attributes, keys and their
 //! parameters, and the values of extensions. Where such a value is not of the type that it is asked for, its octets are shown; of a
-//! key, how many bits it is kept in. Which values a name cannot have is asked apart, of its DER, by [`first_name_fault`], and whether
-//! parameters are of the type of their tag by [`bad_parameters`].
+//! key, how many bits it is kept in.
 //!
 //! What the contracts promise:
 //!
@@ -24,32 +20,21 @@
 //!   `specs/ExtensionValues.antt`, and for further names `specs/GeneralNamesShown.antt`), and by its octets where it is none of these
 //!   or the value is not of it.
 //! - A name is shown by its parts, from the last to the first, and these by their attributes, each with its kind and its value
-//!   (`IsNameOf` of `specs/NamesShown.antt`): the characters of the DirectoryString or the IA5String that the value is read as, or else
+//!   (`IsNameOf` of `specs/NamesShown.antt`): the characters of the string that the value is read as, of four types (`IsValueOf`), or else
 //!   its octets.
-//! - Where octets are those of a value of a type, they are read as one that is equal to it (`AreReadAs` of `specs/Inside.antt`).
-//! - `first_name_fault` answers none if and only if each value of a name is one that a name can have, and else the first that is none
-//!   (`AnswersName` of `specs/NameFaults.antt`).
-//! - Parameters of which `bad_parameters` answers what they have to be begin with an element, and are not that: they are of no valid
-//!   value of the type of its tag, nested in 64 scopes at most; they are no units of four octets, as those of a UniversalString are; or
-//!   they have not the form that DER gives the tag (`HasBadParameters` of `specs/Parameters.antt`).
+//!
+//! What octets are read as is said by `AreReadAs` of `asn1_certificate_inside`.
 #![tactic(auto)]
 
 mod attributes;
 mod characters;
 mod extensions;
 mod general_names;
-mod inside;
 mod keys;
-mod name_faults;
 mod name_strings;
 mod objects;
-mod parameters;
 mod report;
 mod shown_value;
 mod simple;
-mod units;
 
-pub use inside::MAX_DEPTH;
-pub use name_faults::{NameFault, ValueFault, first_name_fault};
-pub use parameters::{ParameterType, bad_parameters};
 pub use report::report_of;

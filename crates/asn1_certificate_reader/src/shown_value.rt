@@ -5,9 +5,9 @@ ghost use Rattle.asn1_certificate_reader.specs.Options.{AreBothOrNone};
 ghost use Rattle.asn1_certificate_reader.specs.Simple.{IsOctetNumberOf};
 
 use crate::general_names::general_names_of;
-use crate::inside::read_inside;
 use crate::objects::all_named;
 use crate::simple::{copy_of, octet_number};
+use asn1_certificate_inside::read_inside;
 use asn1_certificate_report::{
     Authority, AuthorityKey, ExtensionValue, OctetNumber, ShownGeneralName,
 };

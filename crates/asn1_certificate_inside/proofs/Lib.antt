@@ -1,0 +1,3 @@
+mod NameFaults
+mod ReadInside
+mod UnitByUnit
