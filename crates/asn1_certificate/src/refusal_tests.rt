@@ -185,6 +185,32 @@ fn bad_values_in_names_are_refused(rt: HostRuntime) {
     assert!(rt; bad_name(&rt, alloc, &of_names(UTF8, NO_STRING)) == Some(47));
 }
 
+/// A certificate in DER that says its version, whose issuer has two parts, the second with two attributes, of which the second has a
+/// value that is no string.
+const TWO_PARTS: &[u8] = &[
+    0x30, 0x6b, 0x30, 0x60, 0xa0, 3, 2, 1, 2, 2, 1, 1, 0x30, 4, 6, 2, 0x2a, 3, 0x30, 0, 0x30, 0x1e,
+    0x17, 0x0d, b'2', b'0', b'0', b'1', b'0', b'1', b'0', b'0', b'0', b'0', b'0', b'0', b'Z', 0x17,
+    0x0d, b'3', b'0', b'0', b'1', b'0', b'1', b'0', b'0', b'0', b'0', b'0', b'0', b'Z', 0x30, 0x23,
+    0x31, 0x0b, 0x30, 9, 6, 3, 0x55, 4, 6, 0x13, 2, b'D', b'E', 0x31, 0x14, 0x30, 8, 6, 3, 0x55, 4,
+    3, 0x0c, 1, b'a', 0x30, 8, 6, 3, 0x55, 4, 3, 0x17, 1, b'x', 0x30, 9, 0x30, 4, 6, 2, 0x2a, 3, 3,
+    1, 0, 0x30, 4, 6, 2, 0x2a, 3, 3, 1, 0,
+];
+
+/// One that does not say its version, whose key has parameters that are no BOOLEAN.
+const BAD_KEY: &[u8] = &[
+    0x30, 0x46, 0x30, 0x3b, 2, 1, 1, 0x30, 4, 6, 2, 0x2a, 3, 0x30, 0, 0x30, 0x1e, 0x17, 0x0d, b'2',
+    b'0', b'0', b'1', b'0', b'1', b'0', b'0', b'0', b'0', b'0', b'0', b'Z', 0x17, 0x0d, b'3', b'0',
+    b'0', b'1', b'0', b'1', b'0', b'0', b'0', b'0', b'0', b'0', b'Z', 0x30, 0, 0x30, 0x0c, 0x30, 7,
+    6, 2, 0x2a, 3, 1, 1, 2, 3, 1, 0, 0x30, 4, 6, 2, 0x2a, 3, 3, 1, 0,
+];
+
+#[test]
+fn places_are_those_of_each_path(rt: HostRuntime) {
+    let alloc = rt.alloc();
+    assert!(rt; bad_name(&rt, alloc, TWO_PARTS) == Some(86));
+    assert!(rt; bad_place(&rt, alloc, BAD_KEY) == Some(57));
+}
+
 /// Asserts that the common name of who issued a certificate is shown as this text.
 fn assert_shown(rt: &impl Abort, alloc: Global, value: [u8; 6], expected: &str) {
     let input = Vec::from_slice(alloc, &of_names(value, UTF8)).expect(rt, "memory");

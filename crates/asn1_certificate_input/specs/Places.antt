@@ -26,11 +26,25 @@ is_version None = false
 abbrev pub says_its_version : List ℕ → Bool
 says_its_version octets = is_version (element_at (contents_of (contents_of octets)))
 
+-- The components of what is signed, by their numbers from 0, where the version is said: after it and the serial number come these, and
+-- the validity is between the two names (RFC 5280, 4.1).
+abbrev pub signature : ℕ
+signature = 2
+
+abbrev pub issuer : ℕ
+issuer = 3
+
+abbrev pub subject : ℕ
+subject = 5
+
+abbrev pub key : ℕ
+key = 6
+
 -- which number a component of what is signed has, from 0, whose number is this where the version is said
 abbrev pub number_of : List ℕ → ℕ → ℕ
 number_of octets number = if says_its_version octets then number else number - 1
 
--- the place to which a path leads in octets
+-- the place to which a path leads in octets, or 0 where it leads to none
 abbrev pub place_in : List ℕ → List ℕ → ℕ
 place_in octets path = unwrap_or (place_of octets path) 0
 
@@ -40,11 +54,11 @@ place_of_value octets name fault = place_in octets (0 ∷ number_of octets name 
 
 -- the place of the parameters of the algorithm of the key
 abbrev pub place_of_key_parameters : List ℕ → ℕ
-place_of_key_parameters octets = place_in octets (0 ∷ number_of octets 6 ∷ 0 ∷ 1 ∷ [])
+place_of_key_parameters octets = place_in octets (0 ∷ number_of octets key ∷ 0 ∷ 1 ∷ [])
 
 -- the place of the parameters of the algorithm of the signature, in what is signed
 abbrev pub place_of_signed_parameters : List ℕ → ℕ
-place_of_signed_parameters octets = place_in octets (0 ∷ number_of octets 2 ∷ 1 ∷ [])
+place_of_signed_parameters octets = place_in octets (0 ∷ number_of octets signature ∷ 1 ∷ [])
 
 -- the same beside what is signed
 abbrev pub place_of_parameters_beside : List ℕ → ℕ

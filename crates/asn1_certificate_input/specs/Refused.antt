@@ -2,7 +2,7 @@
 use Rattle.std.specs.Prelude.{◌≡◌, ◌≢◌, ◌⊎◌, ⊤, ℕ, Bool, false, true, List, Option, Some, if◌then◌else◌}
 use Rattle.std.specs.Io.KnownBytes.{Consumes}
 use Rattle.asn1_certificate_input.specs.Inputs.{AreInputOctets, AreOfNoCertificate, IsCertificateOf, records_of}
-use Rattle.asn1_certificate_input.specs.Places.{place_of_key_parameters, place_of_parameters_beside, place_of_signed_parameters, place_of_value}
+use Rattle.asn1_certificate_input.specs.Places.{issuer, place_of_key_parameters, place_of_parameters_beside, place_of_signed_parameters, place_of_value, subject}
 use Rattle.asn1_certificate_input.specs.declared.form.Form.{Form}
 use Rattle.asn1_certificate_input.specs.declared.form.Form.TheVariants.{Der}
 use Rattle.asn1_certificate_input.specs.declared.outcome.Failure.{Failure}
@@ -42,14 +42,14 @@ pub record HasOtherDer (octets : List ℕ) (certificate : Certificate) : Type 0 
   pub other : bytes ≢ octets
 
 -- The fault is the first of a name of the certificate that these octets were read as; or the parameters of the algorithm of its key, or
--- of one of its signature, are not what they have to be by their tag; and the place is where the octets have that value or these
--- parameters. Or, where its DER was asked for, it has none that is nested in 64 scopes at most, or has other DER than the octets; or
+-- of one of its signature, are not what they have to be by their tag; and the place is that to which the path of that value or of these
+-- parameters leads in the octets. Or, where its DER was asked for, it has none that is nested in 64 scopes at most, or has other DER than the octets; or
 -- memory ran out.
 abbrev pub IsRefusalOfCertificate : Form → List ℕ → Certificate → InputError → Type 0
 IsRefusalOfCertificate form octets certificate (BadIssuer place fault) =
-    AnswersName certificate.tbs_certificate.issuer (Some fault) × (place ≡ place_of_value octets 3 fault)
+    AnswersName certificate.tbs_certificate.issuer (Some fault) × (place ≡ place_of_value octets issuer fault)
 IsRefusalOfCertificate form octets certificate (BadSubject place fault) =
-    AnswersName certificate.tbs_certificate.subject (Some fault) × (place ≡ place_of_value octets 5 fault)
+    AnswersName certificate.tbs_certificate.subject (Some fault) × (place ≡ place_of_value octets subject fault)
 IsRefusalOfCertificate form octets certificate (BadKeyParameters place bad) =
     HasBadParameters der_format certificate.tbs_certificate.subject_public_key_info.algorithm bad × (place ≡ place_of_key_parameters octets)
 IsRefusalOfCertificate form octets certificate (BadSignatureParameters place bad) =

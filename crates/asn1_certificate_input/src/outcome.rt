@@ -13,16 +13,16 @@ use std::io::{Eprint, Read, Write};
 use std::process::{ExitCode, Termination};
 use thiserror::Error;
 
-/// Why nothing is shown.
+/// Why nothing is written.
 #[derive(Clone, Copy, Debug, Drop, Error)]
 pub(crate) enum Failure {
-    /// The input has no report.
+    /// The input is refused, or memory ran out.
     #[error("{0}")]
     NoOutput(InputError),
     /// The input was not read to its end.
     #[error("reading failed")]
     Reading,
-    /// The report was not written.
+    /// The output was not written.
     #[error("writing failed")]
     Writing,
 }

@@ -1,4 +1,4 @@
-//! An input as a report.
+//! What is written of an input.
 ghost use Rattle.std.specs.Prelude.{◌≡◌, IfErr, IfOk};
 ghost use Rattle.asn1_certificate_input.specs.Inputs.{AreInputOctets, AreOfNoCertificate, IsCertificateOf, IsReadOf, records_of};
 ghost use Rattle.asn1_certificate_input.specs.Refused.{IsNotRead, IsRefusalOfCertificate, IsRefusalOfInput, IsRefusalOfOctets, IsRefusalOfText};
@@ -23,7 +23,7 @@ use asn1_x509::{Certificate, certificate_is_well_tagged};
 use std::alloc::{AllocError, Global};
 use thiserror::Error;
 
-/// Why an input has no report. Places are those of bytes, from 0.
+/// Why nothing is written of an input. Places are those of bytes, from 0.
 #[derive(Clone, Copy, Debug, Drop, Error)]
 pub enum InputError {
     /// The input is a text, and its certificate is not found.

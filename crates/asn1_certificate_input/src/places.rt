@@ -7,11 +7,17 @@ use asn1_der_items::find_element;
 use asn1_faults::place_of;
 use asn1_tags::Tag;
 
-/// Which component of what is signed the issuer is, from 0, where the version is said.
+/// Which component of what is signed the algorithm of the signature is, from 0, where the version is said.
+const SIGNATURE: usize = 2;
+
+/// Which one the issuer is.
 pub(crate) const ISSUER: usize = 3;
 
 /// Which one the subject is.
 pub(crate) const SUBJECT: usize = 5;
+
+/// Which one the key is.
+const KEY: usize = 6;
 
 /// Where the value is that a name cannot have, of the name of this number.
 pub(crate) fn place_of_value(octets: &[u8], name: usize, fault: NameFault) -> usize
@@ -27,14 +33,14 @@ pub(crate) fn place_of_value(octets: &[u8], name: usize, fault: NameFault) -> us
 pub(crate) fn place_of_key_parameters(octets: &[u8]) -> usize
     ensures { result ≡ place_of_key_parameters octets.now }
 {
-    place_in(octets, &[0, number_of(octets, 6), 0, 1])
+    place_in(octets, &[0, number_of(octets, KEY), 0, 1])
 }
 
 /// Where the parameters of the signature's algorithm are in what is signed.
 pub(crate) fn place_of_signed_parameters(octets: &[u8]) -> usize
     ensures { result ≡ place_of_signed_parameters octets.now }
 {
-    place_in(octets, &[0, number_of(octets, 2), 1])
+    place_in(octets, &[0, number_of(octets, SIGNATURE), 1])
 }
 
 /// Where they are beside it.
@@ -44,7 +50,8 @@ pub(crate) fn place_of_parameters_beside(octets: &[u8]) -> usize
     place_in(octets, &[1, 1])
 }
 
-/// The place to which a path leads. Each of these paths leads to one in the octets of a certificate.
+/// The place to which a path leads, or 0 where it leads to none. That each of these paths leads to one in the octets of a certificate
+/// is tested.
 fn place_in(octets: &[u8], path: &[usize]) -> usize
     ensures { result ≡ place_in octets.now path.now }
 {

@@ -36,7 +36,7 @@ type_of_tag tag =
 
 -- whether an element of the universal class has the form that DER gives its tag: a SEQUENCE and a SET are constructed (X.690, 8.9 and
 -- 8.11), any other is primitive (10.2), and none has the tag of end-of-contents (8.1.5). An EXTERNAL, an EMBEDDED PDV and a CHARACTER
--- STRING, which are constructed too (8.17, 8.18 and 8.24), no algorithm has as parameters.
+-- STRING, which are constructed too (8.18, 8.17 and 8.24), no algorithm has as parameters.
 abbrev pub has_universal_form : Element → Bool
 has_universal_form e = if e.constructed then has e.tag (universal 16 ∷ universal 17 ∷ []) else not (has e.tag (universal 0 ∷ universal 16 ∷ universal 17 ∷ []))
 

@@ -1,5 +1,6 @@
 -- The types of strings that are read inside a certificate, by their meanings.
-use Rattle.std.specs.Prelude.{◌<◌, ◌^◌, ⊤, ℕ, Bool, IsTrue, List, codes}
+use Rattle.std.specs.Cmp.Lexicographic.{pointwise}
+use Rattle.std.specs.Prelude.{◌<◌, ◌^◌, ⊤, ℕ, Bool, IsTrue, List, codes, nat_eq}
 use Rattle.asn1_model.specs.Kinds.{string_type}
 use Rattle.asn1_model.specs.Meaning.{Meaning}
 use Rattle.asn1_model.specs.Records.{bits, ia5, numeric, octet, units}
@@ -28,3 +29,7 @@ numeric_string = string_type (universal 18) (codes "NumericString") (λ unit. Is
 -- the octets under the tag of a UniversalString, whatever they are
 abbrev pub universal_octets : Meaning (Implicit (Marker 28) (List ℕ))
 universal_octets = implicit_type (universal 28) (λ string. string.value) octet_string
+
+-- whether two such strings are equal
+abbrev pub same_octets : Implicit (Marker 28) (List ℕ) → Implicit (Marker 28) (List ℕ) → Bool
+same_octets a b = pointwise nat_eq a.value b.value

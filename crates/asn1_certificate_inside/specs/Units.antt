@@ -10,7 +10,7 @@ are_bmp_characters [] = true
 are_bmp_characters (a ∷ []) = false
 are_bmp_characters (a ∷ b ∷ more) = scalar (from_be_bytes w16 (a ∷ b ∷ [])) && are_bmp_characters more
 
--- characters after one, which has this number if it has any
+-- the character of this number before others, where it is the number of a character, as the first argument says, and else none
 abbrev pub after_number : Bool → ℕ → Option (List ℕ) → Option (List ℕ)
 after_number true number more = option_map (λ cs. number ∷ cs) more
 after_number false number more = None

@@ -8,7 +8,7 @@ use Rattle.std.specs.declared.alloc.Global.{Global}
 use Rattle.asn1_certificate_reader.specs.Characters.{directory_characters}
 use Rattle.asn1_certificate_inside.specs.Inside.{AreReadAs}
 use Rattle.asn1_certificate_reader.specs.ObjectsShown.{IsObjectOf}
-use Rattle.asn1_certificate_inside.specs.Strings.{ia5_string, numeric_string, universal_octets}
+use Rattle.asn1_certificate_inside.specs.Strings.{ia5_string, numeric_string, same_octets, universal_octets}
 use Rattle.asn1_certificate_inside.specs.Units.{universal_characters}
 use Rattle.asn1_certificate_report.specs.declared.name.Attribute.{Attribute}
 use Rattle.asn1_certificate_report.specs.declared.name.AttributeValue.{AttributeValue}
@@ -16,9 +16,7 @@ use Rattle.asn1_certificate_report.specs.declared.name.AttributeValue.TheVariant
 use Rattle.asn1_certificate_report.specs.declared.name.NamePart.{NamePart}
 use Rattle.asn1_certificate_report.specs.declared.name.ShownName.{ShownName}
 use Rattle.asn1_model.specs.Meaning.{Meaning}
-use Rattle.asn1_model.specs.declared.tag.Marker.{Marker}
 use Rattle.asn1_rules.specs.Rules.{Format}
-use Rattle.asn1_types.specs.declared.implicit.Implicit.{Implicit}
 use Rattle.asn1_x509.specs.contracts.directory_string.DirectoryStringAsnType.TheImpl.{ghosts as directory_strings}
 use Rattle.asn1_x509.specs.contracts.directory_string.DirectoryStringPartialEq.TheImpl.{ghosts as directory_equality}
 use Rattle.asn1_x509.specs.declared.attribute.AttributeTypeAndValue.{AttributeTypeAndValue}
@@ -34,10 +32,6 @@ IsTextOf characters (Octets shown) = ⊥
 abbrev pub IsOctetsOf : List ℕ → AttributeValue → Type 0
 IsOctetsOf octets (Text shown) = ⊥
 IsOctetsOf octets (Octets shown) = shown.items ≡ octets
-
--- two strings under a tag are equal, by their octets
-abbrev pub same_octets : Implicit (Marker 28) (List ℕ) → Implicit (Marker 28) (List ℕ) → Bool
-same_octets a b = pointwise nat_eq a.value b.value
 
 module _ (F : Format (Vec ℕ Global)) where
   -- What octets are read as by a type of strings, by its meaning and its equality, and the characters of that, where it has some.

@@ -20,7 +20,8 @@
 //!   `specs/ExtensionValues.antt`, and for further names `specs/GeneralNamesShown.antt`), and by its octets where it is none of these
 //!   or the value is not of it.
 //! - A name is shown by its parts, from the last to the first, and these by their attributes, each with its kind and its value
-//!   (`IsNameOf` of `specs/NamesShown.antt`): the characters of the string that the value is read as, of four types (`IsValueOf`), or else
+//!   (`IsNameOf` of `specs/NamesShown.antt`): the characters of the UniversalString of four octets each, the
+//!   DirectoryString, the IA5String or the NumericString that the value is read as, in this order (`IsValueOf`), or else
 //!   its octets.
 //!
 //! What octets are read as is said by `AreReadAs` of `asn1_certificate_inside`.

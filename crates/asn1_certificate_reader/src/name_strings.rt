@@ -6,7 +6,7 @@ ghost use Rattle.asn1_certificate_reader.specs.Characters.{directory_characters}
 ghost use Rattle.asn1_certificate_reader.specs.NamesShown.{AreCharactersRead};
 ghost use Rattle.asn1_certificate_inside.specs.Units.{universal_characters};
 
-use crate::characters::{directory_characters, text_characters};
+use crate::characters::{ascii_characters, directory_characters, text_characters};
 use asn1_certificate_inside::{read_inside, universal_characters};
 use asn1_dec::Decode;
 use asn1_model::tag::UNIVERSAL_STRING;
@@ -79,7 +79,7 @@ impl NameString for Ia5String {
     ghost text = { λ string. Some (chars string) };
 
     fn characters(&self, alloc: Global) -> Result<Option<Vec<char>>, AllocError> {
-        Ok(Some(text_characters(alloc, self.as_str())?))
+        Ok(Some(ascii_characters(alloc, self)?))
     }
 
     fn is_well_tagged() {}

@@ -2,7 +2,7 @@
 ghost use Rattle.std.specs.Prelude.{◌≡◌, ◌<◌, ◌++◌, OnOk};
 ghost use Rattle.std.specs.List.{flat_map};
 ghost use Rattle.std.specs.String.{string_bytes};
-ghost use Rattle.asn1_certificate_text.specs.Escapes.{changes_lines, control_text, escaped, escaped_text, is_control, is_end, is_special, octet_escaped, says_something_else, shown};
+ghost use Rattle.asn1_certificate_text.specs.Escapes.{turns_or_ends_lines, control_text, escaped, escaped_text, is_shown_by_octets, is_end, is_special, octet_escaped, says_something_else, shown};
 
 use crate::octets::push_octet;
 use std::alloc::AllocError;
@@ -20,7 +20,7 @@ pub fn push_escaped(text: &mut String, characters: &[char]) -> Result<(), AllocE
     Ok(())
 }
 
-/// Appends characters as they are, but control characters as their octets, and a backslash with another before it.
+/// Appends characters as they are, but those that are shown by their octets so, and a backslash with another before it.
 pub fn push_shown(text: &mut String, characters: &[char]) -> Result<(), AllocError>
     ensures { OnOk result (string_bytes text.new ≡
         string_bytes text.old ++ flat_map shown characters.now) }
@@ -35,7 +35,7 @@ pub fn push_shown(text: &mut String, characters: &[char]) -> Result<(), AllocErr
 fn push_shown_character(text: &mut String, character: char) -> Result<(), AllocError>
     ensures { OnOk result (string_bytes text.new ≡ string_bytes text.old ++ shown character) }
 {
-    if is_control(character) {
+    if is_shown_by_octets(character) {
         return push_control(text, character);
     }
     if character == '\\' {
@@ -57,7 +57,7 @@ fn push_character(text: &mut String, at_end: bool, character: char) -> Result<()
     ensures { OnOk result (string_bytes text.new ≡
         string_bytes text.old ++ escaped at_end character) }
 {
-    if is_control(character) {
+    if is_shown_by_octets(character) {
         return push_control(text, character);
     }
     if says_something_else(at_end, character) {
@@ -74,7 +74,7 @@ fn says_something_else(at_end: bool, character: char) -> bool
     is_special(character) || (at_end && character == ' ')
 }
 
-/// Appends the octets of a control character in UTF-8, each as two digits after a backslash.
+/// Appends the octets of such a character in UTF-8, each as two digits after a backslash.
 fn push_control(text: &mut String, character: char) -> Result<(), AllocError>
     ensures { OnOk result (string_bytes text.new ≡
         string_bytes text.old ++ control_text character) }
@@ -94,16 +94,16 @@ fn push_escaped_octet(text: &mut String, octet: u8) -> Result<(), AllocError>
     push_octet(text, octet)
 }
 
-/// Whether a character is a control, changes the direction of others, or ends a line or a paragraph.
-fn is_control(character: char) -> bool
-    ensures { result ≡ is_control character }
+/// Whether a character is shown by its octets: a control, or one that changes the direction of others, or ends a line or a paragraph.
+fn is_shown_by_octets(character: char) -> bool
+    ensures { result ≡ is_shown_by_octets character }
 {
-    character.is_control() || changes_lines(character)
+    character.is_control() || turns_or_ends_lines(character)
 }
 
 /// Whether a character changes the direction in which others are written, or ends a line or a paragraph.
-fn changes_lines(character: char) -> bool
-    ensures { result ≡ changes_lines character }
+fn turns_or_ends_lines(character: char) -> bool
+    ensures { result ≡ turns_or_ends_lines character }
 {
     matches!(
         character,

@@ -20,7 +20,7 @@
 //!   `specs/PemRefusals.antt`).
 //! - What is appended is said character by character: `escaped_text` of `specs/Escapes.antt`, `octets_text` of
 //!   `specs/Octets.antt`, `usages_text` of `specs/Bits.antt`. No control character is written as it is, and none that changes
-//!   the direction of others.
+//!   the direction of others or ends a line.
 //! - A time is read as a moment if and only if it is written as RFC 5280 asks, and the moment is in the calendar
 //!   (`read` and `only` of [`Moment`], with the words of `specs/MomentTexts.antt`).
 //! - An object is found by its arcs if and only if a row of the table has these (`found`, `missing`), and has the name of

@@ -8,8 +8,8 @@ abbrev pub behind_elements : ℕ → List ℕ → Option (List ℕ)
 behind_elements zero bytes = Some bytes
 behind_elements (suc n) bytes = option_and_then (λ (e : Element). behind_elements n e.rest) (element_at bytes)
 
--- The place, from 0, of the element to which a path leads. An empty path leads to the first byte. Else it begins with how many elements
--- are before the wanted one inside the element with which the bytes begin, and its rest leads on from there.
+-- The place, from 0, to which a path leads, whether or not an element begins there. An empty path leads to the first byte. Else it begins
+-- with how many elements are before the wanted one inside the element with which the bytes begin, and its rest leads on from there.
 abbrev pub place_of : List ℕ → List ℕ → Option ℕ
 place_of bytes [] = Some 0
 place_of bytes (number ∷ path) =

@@ -5,8 +5,7 @@
 //! `specs/Faults.antt`). Where it answers none, the bytes are elements down to that depth (`AreElementsDownTo`). Both never hold
 //! of the same bytes and the same depth ([`laws::bytes_with_a_fault_are_no_elements`]).
 //!
-//! [`place_of`] answers the place of the element to which a path leads through the elements that hold others (`place_of` of
-//! `specs/Paths.antt`).
+//! [`place_of`] answers the place to which a path leads through elements that hold others (`place_of` of `specs/Paths.antt`).
 #![tactic(auto)]
 
 mod fault;

@@ -4,8 +4,9 @@ ghost use Rattle.asn1_faults.specs.Paths.{behind_elements, place_of};
 
 use asn1_der_items::find_element;
 
-/// The place of the first byte, from 0, of the element to which a path leads, if it leads to one. A path has a number for each element
-/// that the wanted one is inside of, from the outermost on: how many elements are before it there.
+/// The place, from 0, to which a path leads. A path has a number for each element that the wanted one is inside of, from the outermost
+/// on: how many elements are before it there. There is no place where an element on the way is missing, or one before the wanted one;
+/// whether an element begins at the place is not asked.
 pub fn place_of(bytes: &[u8], path: &[usize]) -> Option<usize>
     ensures { result ≡ place_of bytes.now path.now }
 {
