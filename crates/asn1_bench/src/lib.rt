@@ -7,8 +7,9 @@
 //! | [`BenchReader`] | reads values one after another from the front of bytes |
 //! | [`laws`] | what the codec and its reader come to |
 //!
-//! `asn1_items` has the bytes of items, and `asn1_packed` the encoder and the decoder; the tests are in `asn1_bench_tests`. What holds of all codecs holds of this
-//! one: see `Rules` and `round_trip` of `asn1_rules`, and `round_trip_in_pieces` of `asn1_streams`.
+//! `asn1_items` has the bytes of items, and `asn1_packed` the encoder and the decoder; the tests are in `asn1_bench_tests`. What
+//! holds of all codecs holds of this one: see `Rules` and `round_trip` of `asn1_rules`, and `round_trip_in_pieces` of
+//! `asn1_streams`.
 //!
 //! What the contracts promise, and the words that they use:
 //!

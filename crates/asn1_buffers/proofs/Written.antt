@@ -1,5 +1,5 @@
 -- An encoder over a buffer keeps the laws of a codec, by what its buffer has written.
-use Rattle.std.proofs.Common.{◌≡◌, ◌≢◌, ℕ, suc, Bool, false, true, List, [], ◌∷◌, refl, sym, ap, subst, ◌∙◌, arith, Result, Ok, Err}
+use Rattle.std.proofs.Common.{◌≡◌, ◌≢◌, ℕ, suc, Bool, false, true, List, [], ◌∷◌, refl, sym, subst, ◌∙◌, arith, Result, Ok, Err}
 use Rattle.std.proofs.lemmas.Bool.{false≢true}
 use Rattle.std.specs.Prelude.{⊤, Some}
 use Rattle.asn1_buffers.specs.Buffers.{BufferForm, ScopeIsHeld}
@@ -7,15 +7,15 @@ use Rattle.asn1_buffers.specs.Encoder.{CarriesUpToOrder, buffer_writer, in_one_o
 use Rattle.asn1_buffers.specs.Format.{buffer_format}
 use Rattle.asn1_buffers.specs.MarksAndScopes.{unlabelled}
 use Rattle.asn1_buffers.specs.declared.encoder.BufferEncoder.{BufferEncoder}
-use Rattle.asn1_codec.proofs.WritingUpToOrder.{rejects_exactly, same_as_outermost, same_as_scope, same_followed_by}
+use Rattle.asn1_codec.proofs.WritingUpToOrder.{same_as_outermost, same_as_scope, same_followed_by}
 use Rattle.asn1_codec.specs.WritingUpToOrder.{WroteUpToOrder}
 use Rattle.asn1_codec.specs.Writing.{Written, outermost, in_scope, in_group, followed_by, Appends, Fails, IsRejection, IsError, ScopeIsOpen, ScopeIsNotOpen, ScopeIsClosed, ScopeIsNotClosed, GroupIsOpen, GroupIsNotOpen, GroupIsClosed, GroupIsNotClosed, Writes}
 use Rattle.asn1_codec.specs.declared.encode_error.EncodeError.{EncodeError}
 use Rattle.asn1_codec.specs.declared.encode_error.EncodeError.TheVariants.{Depth, Failed}
-use Rattle.asn1_model.proofs.SameUpToOrder.{Same-trans, same_holding}
+use Rattle.asn1_model.proofs.SameUpToOrder.{Same-trans}
 use Rattle.asn1_model.specs.Composites.{group_records}
-use Rattle.asn1_model.specs.Orders.{Same, SameRecords, at_end, in_place, next}
-use Rattle.asn1_model.specs.Records.{Content, Head, Record, bits, height, holding, units}
+use Rattle.asn1_model.specs.Orders.{at_end, in_place, next}
+use Rattle.asn1_model.specs.Records.{Content, Head, Record, height, holding}
 use Rattle.asn1_model.specs.RecordTables.{Line, Table}
 use Rattle.asn1_rules.specs.Rules.{IsNotWritten}
 use Rattle.asn1_types.specs.AnyStrings.{content_of_str}
@@ -44,9 +44,9 @@ scopes_in-followed (in_group table done w) rs = refl
 module _ {B : Type 0} (F : BufferForm B) where
   -- a record was appended
   pub appended : (old new : BufferEncoder B) (r : Record) → height r ≡ 0 → ((w : Written) → F.wrote old.buffer w → F.wrote new.buffer (followed_by w (r ∷ []))) →
-      new.open_scopes ≡ old.open_scopes → new.depth_left ≡ old.depth_left → old.failed ≡ false → new.failed ≡ false → Appends (in_one_order F) old (r ∷ []) ⊤ new
-  appended old new r flat written scopes depth_left was now = record {
-    written = λ w wrote. (written w wrote.0, scopes ∙ (wrote.1 ∙ sym (scopes_in-followed w (r ∷ []))));
+      new.limit ≡ old.limit → new.depth_left ≡ old.depth_left → old.failed ≡ false → new.failed ≡ false → Appends (in_one_order F) old (r ∷ []) ⊤ new
+  appended old new r flat written limit depth_left was now = record {
+    written = λ w wrote. (written w wrote.0, omega (arith, wrote.1, limit, depth_left, scopes_in-followed w (r ∷ [])));
     failed_as_before = now ∙ sym was;
     unless_failed = λ failed. absurd (not_both old.failed was failed);
     same_depth = depth_left;
@@ -68,10 +68,10 @@ module _ {B : Type 0} (F : BufferForm B) where
   }
 
   -- scopes
-  pub scope_is_opened : (old new : BufferEncoder B) (h : Head) → ((w : Written) → F.wrote old.buffer w → F.wrote new.buffer (in_scope h [] w)) → new.open_scopes ≡ suc old.open_scopes →
+  pub scope_is_opened : (old new : BufferEncoder B) (h : Head) → ((w : Written) → F.wrote old.buffer w → F.wrote new.buffer (in_scope h [] w)) → new.limit ≡ old.limit →
       old.failed ≡ false → new.failed ≡ false → old.depth_left ≡ suc new.depth_left → ScopeIsOpen (in_one_order F) old h new
-  scope_is_opened old new h opened scopes was now less = record {
-    opened = λ w wrote. (opened w wrote.0, scopes ∙ ap suc wrote.1);
+  scope_is_opened old new h opened limit was now less = record {
+    opened = λ w wrote. (opened w wrote.0, omega (arith, wrote.1, limit, less));
     no_failure_before = was;
     no_failure = now;
     one_less = less;
@@ -87,16 +87,15 @@ module _ {B : Type 0} (F : BufferForm B) where
 
   -- A scope was closed, whose records are held in some order.
   pub scope_is_closed : (old new : BufferEncoder B) → ((h : Head) (rs : List Record) (w : Written) → F.wrote old.buffer (in_scope h rs w) → ScopeIsHeld F h rs w new.buffer) →
-      old.open_scopes ≡ suc new.open_scopes → old.failed ≡ false → new.failed ≡ false → new.depth_left ≡ suc old.depth_left → ScopeIsClosed (buffer_writer F) old new
-  scope_is_closed old new held scopes was now more = record {
+      new.limit ≡ old.limit → old.failed ≡ false → new.failed ≡ false → new.depth_left ≡ suc old.depth_left → ScopeIsClosed (buffer_writer F) old new
+  scope_is_closed old new held limit was now more = record {
     closed = λ h rs w q.
         let s = same_as_scope q.same in
         let exact = subst (λ y. (in_one_order F).wrote old y) s.is q.wrote in
         let last = held h s.records s.outer exact.0 in
-        let counted : new.open_scopes ≡ scopes_in s.outer = omega (arith, scopes, exact.1) in
         record {
           exactly = followed_by s.outer (last.closed ∷ []);
-          wrote = (last.wrote, counted ∙ sym (scopes_in-followed s.outer (last.closed ∷ [])));
+          wrote = (last.wrote, omega (arith, exact.1, limit, more, scopes_in-followed s.outer (last.closed ∷ [])));
           same = same_followed_by (last.closed ∷ []) (holding h rs ∷ []) s.same_outer (next (Same-trans last.same (in_place h s.same)) at_end);
         };
     no_failure_before = was;
@@ -109,10 +108,10 @@ module _ {B : Type 0} (F : BufferForm B) where
   scope_is_not_closed old new e rejected not_deep other was now = record { error = is_error old new e other was now; not_too_deep = not_deep; rejected = rejected }
 
   -- groups
-  pub group_is_opened : (old new : BufferEncoder B) (table : Table Line) → ((w : Written) → F.wrote old.buffer w → F.wrote new.buffer (in_group table [] w)) → new.open_scopes ≡ old.open_scopes →
+  pub group_is_opened : (old new : BufferEncoder B) (table : Table Line) → ((w : Written) → F.wrote old.buffer w → F.wrote new.buffer (in_group table [] w)) → new.limit ≡ old.limit →
       old.failed ≡ false → new.failed ≡ false → new.depth_left ≡ old.depth_left → GroupIsOpen (in_one_order F) old table new
-  group_is_opened old new table opened scopes was now same = record {
-    opened = λ w wrote. (opened w wrote.0, scopes ∙ wrote.1);
+  group_is_opened old new table opened limit was now same = record {
+    opened = λ w wrote. (opened w wrote.0, omega (arith, wrote.1, limit, same));
     no_failure_before = was;
     no_failure = now;
     same_depth = same;
@@ -122,9 +121,9 @@ module _ {B : Type 0} (F : BufferForm B) where
   group_is_not_opened old new e not_custom not_deep other was now = record { error = is_error old new e other was now; not_too_deep = not_deep; not_rejected = not_custom }
 
   pub group_is_closed : (old new : BufferEncoder B) → ((table : Table Line) (rs : List Record) (w : Written) → F.wrote old.buffer (in_group table rs w) → F.wrote new.buffer (followed_by w (group_records table (Some rs)))) →
-      new.open_scopes ≡ old.open_scopes → old.failed ≡ false → new.failed ≡ false → new.depth_left ≡ old.depth_left → GroupIsClosed (in_one_order F) old new
-  group_is_closed old new closed scopes was now same = record {
-    closed = λ table rs w wrote. (closed table rs w wrote.0, scopes ∙ (wrote.1 ∙ sym (scopes_in-followed w (group_records table (Some rs)))));
+      new.limit ≡ old.limit → old.failed ≡ false → new.failed ≡ false → new.depth_left ≡ old.depth_left → GroupIsClosed (in_one_order F) old new
+  group_is_closed old new closed limit was now same = record {
+    closed = λ table rs w wrote. (closed table rs w wrote.0, omega (arith, wrote.1, limit, same, scopes_in-followed w (group_records table (Some rs))));
     no_failure_before = was;
     no_failure = now;
     same_depth = same;

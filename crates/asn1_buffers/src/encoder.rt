@@ -1,5 +1,5 @@
 //! The encoder over a buffer.
-ghost use Rattle.std.specs.Prelude.{◌+◌, ◌<◌, ◌^◌};
+ghost use Rattle.std.specs.Prelude.{◌≤◌};
 
 use crate::buffer::RecordBuffer;
 use crate::error::WriteError;
@@ -21,11 +21,13 @@ use std::alloc::Global;
 #[derive(Drop)]
 pub struct BufferEncoder<B> {
     alloc: Global,
+    /// How many nested scopes may be open.
+    limit: usize,
+    /// How many more may be opened.
     depth_left: usize,
-    open_scopes: usize,
     failed: bool,
     buffer: B,
-    ghost counted: { depth_left + open_scopes < 2 ^ 64 },
+    ghost within_limit: { depth_left ≤ limit },
 }
 
 impl<B: RecordBuffer> BufferEncoder<B> {
@@ -50,8 +52,8 @@ impl<B: RecordBuffer> BufferEncoder<B> {
     {
         BufferEncoder {
             alloc,
+            limit: depth,
             depth_left: depth,
-            open_scopes: 0,
             failed: false,
             buffer: B::new(alloc),
         }
@@ -156,7 +158,6 @@ impl<B: RecordBuffer> BufferEncoder<B> {
         match self.buffer.begin_scope(kind, tag) {
             Ok(()) => {
                 self.depth_left -= 1;
-                self.open_scopes += 1;
                 Ok(())
             }
             Err(error) => Err(self.refuse(error)),
@@ -171,14 +172,12 @@ impl<B: RecordBuffer> BufferEncoder<B> {
         if self.failed {
             return Err(EncodeError::Failed);
         }
-        if self.open_scopes == 0 {
-            self.failed = true;
-            return Err(EncodeError::Custom("nothing is open"));
+        if self.depth_left == self.limit {
+            return Err(self.refuse(WriteError::Rejected("nothing is open")));
         }
         match self.buffer.end_scope() {
             Ok(()) => {
                 self.depth_left += 1;
-                self.open_scopes -= 1;
                 Ok(())
             }
             Err(error) => Err(self.refuse(error)),

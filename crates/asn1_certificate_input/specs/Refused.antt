@@ -41,10 +41,10 @@ pub record HasOtherDer (octets : List ℕ) (certificate : Certificate) : Type 0 
   pub carries : Carries bytes (records_of certificate)
   pub other : bytes ≢ octets
 
--- The fault is the first of a name of the certificate that these octets were read as; or the parameters of the algorithm of its key, or
--- of one of its signature, are not what they have to be by their tag; and the place is that to which the path of that value or of these
--- parameters leads in the octets. Or, where its DER was asked for, it has none that is nested in 64 scopes at most, or has other DER than the octets; or
--- memory ran out.
+-- The fault is the first of a name of the certificate that these octets were read as; or the parameters of the algorithm of its key,
+-- or of one of its signature, are not what they have to be by their tag; and the place is that to which the path of that value or of
+-- these parameters leads in the octets. Or, where its DER was asked for, it has none that is nested in 64 scopes at most, or has
+-- other DER than the octets; or memory ran out.
 abbrev pub IsRefusalOfCertificate : Form → List ℕ → Certificate → InputError → Type 0
 IsRefusalOfCertificate form octets certificate (BadIssuer place fault) =
     AnswersName certificate.tbs_certificate.issuer (Some fault) × (place ≡ place_of_value octets issuer fault)

@@ -131,7 +131,7 @@ fn convert<R: Read, W: Write>(
     }
 }
 
-/// Writes bytes, and hands them on.
+/// Writes bytes, and flushes the writer.
 fn write_bytes<W: Write>(bytes: &[u8], writer: &mut W) -> Result<(), Failure>
     ensures written { OnOk result
         (Appends (W.contents writer.old) (W.contents writer.new) bytes.now) }

@@ -135,7 +135,7 @@ pub trait EncodeFields: FieldTable {
 
     /// Writes all components, in the order of their definition.
     #[inline(always)]
-    final fn encode_fields<E: Encoder>(&self, encoder: &mut E) -> Result<(), EncodeError>
+    fn encode_fields<E: Encoder>(&self, encoder: &mut E) -> Result<(), EncodeError>
         ensures { WritesFields E.writer Self.components self.now encoder.old encoder.new result }
     {
         for place in 0..Self::field_count() {

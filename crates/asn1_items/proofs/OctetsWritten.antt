@@ -1,5 +1,5 @@
 -- Octets over bytes, and bits over bits.
-use Rattle.std.proofs.Common.{◌≡◌, ℕ, ◌+◌, ◌-◌, ◌*◌, ◌/◌, ◌%◌, ◌<◌, ◌≤◌, Bool, List, [], ◌∷◌, ◌++◌, length, length-drop, get_or, set, take, drop, refl, sym, ap, ◌∙◌, arith, append_assoc, append-nil}
+use Rattle.std.proofs.Common.{◌≡◌, ℕ, ◌+◌, ◌*◌, ◌/◌, ◌<◌, Bool, List, [], ◌∷◌, ◌++◌, length, length-drop, get_or, set, take, drop, refl, sym, ap, ◌∙◌, arith, append_assoc, append-nil}
 use Rattle.std.proofs.lemmas.List.{length-set, take-append-drop, take_all, take_more, take_more_set}
 use Rattle.std.proofs.Math.Seq.{take-append_seam, take-length}
 use Rattle.asn1_items.specs.Bits.{AreOctetsOf, bits_of_octet, bits_of_octets}

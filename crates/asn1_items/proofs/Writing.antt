@@ -1,14 +1,15 @@
 -- What a buffer has written, from call to call.
-use Rattle.std.proofs.Common.{◌≡◌, ℕ, suc, ◌+◌, ◌≤◌, ◌<◌, ◌^◌, Bool, true, false, List, [], ◌∷◌, ◌++◌, append_assoc, append-nil, refl, sym, ap, subst, ◌∙◌, arith, length, take, length-append, inr}
+use Rattle.std.proofs.Common.{◌≡◌, ℕ, ◌+◌, ◌≤◌, ◌<◌, ◌^◌, Bool, true, false, List, [], ◌∷◌, ◌++◌, append_assoc, append-nil, refl, sym, ap, subst, ◌∙◌, arith, length, take, length-append, inr}
 use Rattle.std.proofs.Math.Seq.{take-append_seam}
+use Rattle.std.proofs.lemmas.Bool.{eq-eqb, ne_eqb}
 use Rattle.std.specs.Prelude.{Some, ◌&&◌, ◌||◌, not, if◌then◌else◌}
 use Rattle.asn1_codec.specs.Writing.{Written, outermost, in_scope, in_group, followed_by}
-use Rattle.asn1_items.specs.Buffers.{IsList, IsOpenScope, IsOpenGroup, IsWritten, inward, scopes_in}
+use Rattle.asn1_items.specs.Buffers.{IsWritten, TellsOfGroup, inward, is_group_innermost}
 use Rattle.asn1_items.specs.Contents.{LooksLike}
 use Rattle.asn1_items.specs.Headers.{kind_of, tag_bytes}
 use Rattle.asn1_items.specs.Items.{HasBytes, HaveBytes, IsItem, IsItemOf, IsLong, IsTooLong, MarkBytes, written_with}
 use Rattle.asn1_items.specs.Numbers.{Appended, four_bytes}
-use Rattle.asn1_items.specs.declared.frame.Frame.{Frame}
+use Rattle.asn1_items.specs.declared.group.Group.{Group}
 use Rattle.asn1_model.specs.Composites.{group_records}
 use Rattle.asn1_model.specs.ConstraintSets.{ConstraintSet}
 use Rattle.asn1_model.specs.Records as model
@@ -33,34 +34,21 @@ or_false : (b : Bool) → b ≡ (b || false)
 or_false true = refl
 or_false false = refl
 
--- Frames.
+-- What is open, innermost first.
 
-inward-last : (inner fs : List Frame) (f : Frame) → inward inner (fs ++ f ∷ []) ≡ f ∷ inward inner fs
-inward-last inner [] f = refl
-inward-last inner (g ∷ fs) f = inward-last (g ∷ inner) fs f
+inward-last : {A : Type 0} (inner xs : List A) (x : A) → inward inner (xs ++ x ∷ []) ≡ x ∷ inward inner xs
+inward-last inner [] x = refl
+inward-last inner (y ∷ xs) x = inward-last (y ∷ inner) xs x
 
-swapped : (a b : Bool) (n : ℕ) → (if a then (if b then n else suc n) else suc (if b then n else suc n)) ≡ (if b then (if a then n else suc n) else suc (if a then n else suc n))
-swapped true true n = refl
-swapped true false n = refl
-swapped false true n = refl
-swapped false false n = refl
+pub innermost : {A : Type 0} (xs ys : List A) (x : A) → xs ≡ ys ++ x ∷ [] → inward [] xs ≡ x ∷ inward [] ys
+innermost xs ys x is = ap (inward []) is ∙ inward-last [] ys x
 
-scopes_in-last : (fs : List Frame) (f : Frame) → scopes_in (fs ++ f ∷ []) ≡ (if f.is_group then scopes_in fs else suc (scopes_in fs))
-scopes_in-last [] f = refl
-scopes_in-last (g ∷ fs) f = ap (λ n. if g.is_group then n else suc n) (scopes_in-last fs f) ∙ swapped g.is_group f.is_group (scopes_in fs)
+length-inward : {A : Type 0} (inner xs : List A) → length (inward inner xs) ≡ length inner + length xs
+length-inward inner [] = omega arith
+length-inward inner (x ∷ xs) = length-inward (x ∷ inner) xs ∙ omega arith
 
-pub one_more_scope : (fs gs : List Frame) (f : Frame) → f.is_group ≡ false → gs ≡ fs ++ f ∷ [] → scopes_in gs ≡ suc (scopes_in fs)
-one_more_scope fs gs f scope is = ap scopes_in is ∙ scopes_in-last fs f ∙ ap (λ b. if b then scopes_in fs else suc (scopes_in fs)) scope
-
-pub same_scopes : (fs gs : List Frame) (f : Frame) → f.is_group ≡ true → gs ≡ fs ++ f ∷ [] → scopes_in gs ≡ scopes_in fs
-same_scopes fs gs f group is = ap scopes_in is ∙ scopes_in-last fs f ∙ ap (λ b. if b then scopes_in fs else suc (scopes_in fs)) group
-
-counts : (b : Bool) (n : ℕ) → n ≤ (if b then n else suc n)
-counts true n = omega arith
-counts false n = omega arith
-
-pub no_more_scopes : (fs gs : List Frame) (f : Frame) → fs ≡ gs ++ f ∷ [] → scopes_in gs ≤ scopes_in fs
-no_more_scopes fs gs f is = omega (arith, ap scopes_in is ∙ scopes_in-last gs f, counts f.is_group (scopes_in gs))
+pub as_many : {A : Type 0} (xs : List A) → length (inward [] xs) ≡ length xs
+as_many xs = length-inward [] xs ∙ omega arith
 
 -- the length of a scope is written before what is inside
 abbrev pub PatchedAs : List ℕ → List ℕ → ℕ → Type 0
@@ -86,9 +74,20 @@ is_alone : (b : Bool) → false ≡ not b → b ≡ true
 is_alone true e = refl
 is_alone false e = cc
 
-pub is_a_group : (b : Bool) → not b ≡ false → b ≡ true
-is_a_group true e = refl
-is_a_group false e = cc
+-- what the flag tells of the innermost list, if that is a group, after more records
+
+pub tells_of_records : (w : Written) (rs : List model.Record) → not (presence_marks_alone rs) ≡ true → TellsOfGroup (followed_by w rs) true
+tells_of_records (outermost before) rs firm = tt
+tells_of_records (in_scope h before w) rs firm = tt
+tells_of_records (in_group table before w) rs firm = or_true (not (presence_marks_alone before)) ∙ ap (λ b. not (presence_marks_alone before) || b) (sym firm) ∙ sym (alone-append before rs)
+
+pub tells_of_record : (w : Written) (r : model.Record) → is_presence_mark r ≡ false → TellsOfGroup (followed_by w (r ∷ [])) true
+tells_of_record w r unmarked = tells_of_records w (r ∷ []) (ap (λ b. not (b && true)) unmarked)
+
+pub tells_of_mark : (w : Written) (m : model.PresenceMark) (some : Bool) → TellsOfGroup w some → TellsOfGroup (followed_by w (model.presence_mark m ∷ [])) some
+tells_of_mark (outermost before) m some told = tt
+tells_of_mark (in_scope h before w) m some told = tt
+tells_of_mark (in_group table before w) m some told = told ∙ or_false (not (presence_marks_alone before)) ∙ sym (alone-append before (model.presence_mark m ∷ []))
 
 module _ (marks : MarkBytes) where
   bytes-append : (rs ss : List model.Record) (a b : List ℕ) → HaveBytes (written_with marks) (held rs) a → HaveBytes (written_with marks) (held ss) b → HaveBytes (written_with marks) (held (rs ++ ss)) (a ++ b)
@@ -104,180 +103,162 @@ module _ (marks : MarkBytes) where
   one_record : (r : model.Record) (bytes : List ℕ) → HasBytes (written_with marks) r bytes → HaveBytes (written_with marks) (held (r ∷ [])) bytes
   one_record r bytes p = record { first = bytes; others = []; is_first = p; are_others = refl; are = sym (append-nil bytes) }
 
-  list-append : (rs ss : List model.Record) (a b : List ℕ) (some : Bool) → IsList marks rs a some → HaveBytes (written_with marks) (held ss) b → IsList marks (rs ++ ss) (a ++ b) (some || not (presence_marks_alone ss))
-  list-append rs ss a b some p q = record {
-    have_bytes = bytes-append rs ss a b p.have_bytes q;
-    flag = ap (λ s. s || not (presence_marks_alone ss)) p.flag ∙ sym (alone-append rs ss);
-  }
-
   -- more records in the innermost list
-  followed : (w : Written) (fs : List Frame) (bytes more : List ℕ) (some : Bool) (ss : List model.Record) → IsWritten marks w fs bytes some → HaveBytes (written_with marks) (held ss) more →
-      IsWritten marks (followed_by w ss) fs (bytes ++ more) (some || not (presence_marks_alone ss))
-  followed (outermost rs) [] bytes more some ss p q = list-append rs ss bytes more some p q
-  followed (outermost rs) (f ∷ fs) bytes more some ss p q = absurd p
-  followed (in_scope h rs w) [] bytes more some ss p q = absurd p
-  followed (in_scope h rs w) (f ∷ fs) bytes more some ss p q =
-      let s = p.1 in (
+  followed : (w : Written) (scopes : List ℕ) (groups : List Group) (bytes more : List ℕ) (rs : List model.Record) → IsWritten marks w scopes groups bytes → HaveBytes (written_with marks) (held rs) more →
+      IsWritten marks (followed_by w rs) scopes groups (bytes ++ more)
+  followed (outermost before) [] [] bytes more rs p q = bytes-append before rs bytes more p q
+  followed (outermost before) [] (g ∷ groups) bytes more rs p q = absurd p
+  followed (outermost before) (s ∷ scopes) groups bytes more rs p q = absurd p
+  followed (in_scope h before w) [] groups bytes more rs p q = absurd p
+  followed (in_scope h before w) (s ∷ scopes) groups bytes more rs p q = record {
+    before = p.before;
+    size = p.size;
+    inside = p.inside ++ more;
+    outside = p.outside;
+    are = ap (λ l. l ++ more) p.are ∙ append_assoc (p.before ++ kind_of h ∷ tag_bytes (head_tag h)) (p.size ++ p.inside) more ∙ ap (λ l. (p.before ++ kind_of h ∷ tag_bytes (head_tag h)) ++ l) (append_assoc p.size p.inside more);
+    size_long = p.size_long;
+    starts = p.starts;
+    tag_fits = p.tag_fits;
+    have_bytes = bytes-append before rs p.inside more p.have_bytes q;
+  }
+  followed (in_group table before w) scopes [] bytes more rs p q = absurd p
+  followed (in_group table before w) scopes (g ∷ groups) bytes more rs p q =
+      let s = p.2 in (
         p.0,
-        record {
-          before = s.before;
-          size = s.size;
-          inside = s.inside ++ more;
-          outside = s.outside;
-          are = ap (λ l. l ++ more) s.are ∙ append_assoc (s.before ++ kind_of h ∷ tag_bytes (head_tag h)) (s.size ++ s.inside) more ∙ ap (λ l. (s.before ++ kind_of h ∷ tag_bytes (head_tag h)) ++ l) (append_assoc s.size s.inside more);
-          size_long = s.size_long;
-          starts = s.starts;
-          tag_fits = s.tag_fits;
-          list = list-append rs ss s.inside more some s.list q;
-        },
-      )
-  followed (in_group table rs w) [] bytes more some ss p q = absurd p
-  followed (in_group table rs w) (f ∷ fs) bytes more some ss p q =
-      let s = p.1 in (
-        p.0,
+        p.1,
         record {
           before = s.before;
           inside = s.inside ++ more;
           outside = s.outside;
           are = ap (λ l. l ++ more) s.are ∙ append_assoc s.before (marks (model.group_start table) ++ s.inside) more ∙ ap (λ l. s.before ++ l) (append_assoc (marks (model.group_start table)) s.inside more);
           starts = s.starts;
-          list = list-append rs ss s.inside more some s.list q;
+          have_bytes = bytes-append before rs s.inside more s.have_bytes q;
         },
       )
 
-  -- a record was appended that is no presence mark, or a mark
-  pub appended : (fs : List Frame) (bytes more new : List ℕ) (some : Bool) (r : model.Record) → is_presence_mark r ≡ false → HasBytes (written_with marks) r more → new ≡ bytes ++ more →
-      (w : Written) → IsWritten marks w (inward [] fs) bytes some → IsWritten marks (followed_by w (r ∷ [])) (inward [] fs) new true
-  appended fs bytes more new some r unmarked has is w wrote =
-      let flag : true ≡ (some || not (is_presence_mark r && true)) = or_true some ∙ ap (λ b. some || not (b && true)) (sym unmarked) in
-      subst (λ b. IsWritten marks (followed_by w (r ∷ [])) (inward [] fs) b true) (sym is)
-      (subst (λ s. IsWritten marks (followed_by w (r ∷ [])) (inward [] fs) (bytes ++ more) s) (sym flag) (followed w (inward [] fs) bytes more some (r ∷ []) wrote (one_record r more has)))
-
-  pub mark_appended : (fs : List Frame) (bytes more new : List ℕ) (some : Bool) (m : model.PresenceMark) → HasBytes (written_with marks) (model.presence_mark m) more → new ≡ bytes ++ more →
-      (w : Written) → IsWritten marks w (inward [] fs) bytes some → IsWritten marks (followed_by w (model.presence_mark m ∷ [])) (inward [] fs) new some
-  mark_appended fs bytes more new some m has is w wrote =
-      subst (λ b. IsWritten marks (followed_by w (model.presence_mark m ∷ [])) (inward [] fs) b some) (sym is)
-      (subst (λ s. IsWritten marks (followed_by w (model.presence_mark m ∷ [])) (inward [] fs) (bytes ++ more) s) (sym (or_false some)) (followed w (inward [] fs) bytes more some (model.presence_mark m ∷ []) wrote (one_record (model.presence_mark m) more has)))
+  -- a record was appended
+  pub appended : (w : Written) (scopes : List ℕ) (groups : List Group) (bytes more new : List ℕ) (r : model.Record) → HasBytes (written_with marks) r more → new ≡ bytes ++ more → IsWritten marks w scopes groups bytes →
+      IsWritten marks (followed_by w (r ∷ [])) scopes groups new
+  appended w scopes groups bytes more new r has is wrote = subst (IsWritten marks (followed_by w (r ∷ [])) scopes groups) (sym is) (followed w scopes groups bytes more (r ∷ []) wrote (one_record r more has))
 
   -- what was written is an item of the content
-  pub scalar_written : (y x : model.Content) (t : Tag) (c : ConstraintSet) (n : Name) (bytes new : List ℕ) → LooksLike y x → Appended (IsItemOf t y) bytes new → (fs : List Frame) (some : Bool) (w : Written) → IsWritten marks w (inward [] fs) bytes some →
-      IsWritten marks (followed_by w (scalar t c n x ∷ [])) (inward [] fs) new true
-  scalar_written y x t c n bytes new like a fs some w wrote =
-      appended fs bytes a.added new some (scalar t c n x) refl (record { inside = a.is.inside; is = like.bytes a.is.inside a.is.is; item = subst (λ k. IsItem 1 t (k ∷ []) a.is.inside a.added) like.kind a.is.item }) a.joined w wrote
+  pub scalar_written : (y x : model.Content) (t : Tag) (c : ConstraintSet) (n : Name) (bytes new : List ℕ) → LooksLike y x → Appended (IsItemOf t y) bytes new → (scopes : List ℕ) (groups : List Group) (w : Written) → IsWritten marks w scopes groups bytes →
+      IsWritten marks (followed_by w (scalar t c n x ∷ [])) scopes groups new
+  scalar_written y x t c n bytes new like a scopes groups w wrote =
+      appended w scopes groups bytes a.added new (scalar t c n x) (record { inside = a.is.inside; is = like.bytes a.is.inside a.is.is; item = subst (λ k. IsItem 1 t (k ∷ []) a.is.inside a.added) like.kind a.is.item }) a.joined wrote
 
   pub scalar_too_long : (y x : model.Content) (t : Tag) (c : ConstraintSet) (n : Name) → LooksLike y x → IsLong y → IsTooLong (written_with marks) (scalar t c n x)
   scalar_too_long y x t c n like long = (long.0, like.bytes long.0 long.1, long.2)
 
   -- a scope was opened
-  pub scope_opened : (fs gs : List Frame) (f : Frame) (h : model.Head) (bytes new size : List ℕ) (some : Bool) → f.is_group ≡ false → f.has_records ≡ some → f.start ≡ length new → (head_tag h).value < 2 ^ 32 → length size ≡ 4 →
-      gs ≡ fs ++ f ∷ [] → new ≡ (bytes ++ kind_of h ∷ tag_bytes (head_tag h)) ++ size →
-      (w : Written) → IsWritten marks w (inward [] fs) bytes some → IsWritten marks (in_scope h [] w) (inward [] gs) new false
-  scope_opened fs gs f h bytes new size some scope flag start tag_fits size_long outer is w wrote =
-      let long = ap length is in
-      subst (λ l. IsWritten marks (in_scope h [] w) l new false) (sym (ap (inward []) outer ∙ inward-last [] fs f)) (
-        scope,
-        record {
-          before = bytes;
-          size = size;
-          inside = [];
-          outside = subst (λ s. IsWritten marks w (inward [] fs) bytes s) (sym flag) wrote;
-          are = is ∙ ap (λ l. (bytes ++ kind_of h ∷ tag_bytes (head_tag h)) ++ l) (sym (append-nil size));
-          size_long = size_long;
-          starts = omega (arith, start, long, size_long, length-append (bytes ++ kind_of h ∷ tag_bytes (head_tag h)) size, length-append bytes (kind_of h ∷ tag_bytes (head_tag h)));
-          tag_fits = tag_fits;
-          list = record { have_bytes = refl; flag = refl };
-        },
-      )
+  pub scope_opened : (h : model.Head) (w : Written) (scopes : List ℕ) (groups : List Group) (start : ℕ) (bytes new size : List ℕ) → start ≡ length new → (head_tag h).value < 2 ^ 32 → length size ≡ 4 →
+      new ≡ (bytes ++ kind_of h ∷ tag_bytes (head_tag h)) ++ size → IsWritten marks w scopes groups bytes → IsWritten marks (in_scope h [] w) (start ∷ scopes) groups new
+  scope_opened h w scopes groups start bytes new size starts tag_fits size_long is wrote =
+      let long = ap length is in record {
+        before = bytes;
+        size = size;
+        inside = [];
+        outside = wrote;
+        are = is ∙ ap (λ l. (bytes ++ kind_of h ∷ tag_bytes (head_tag h)) ++ l) (sym (append-nil size));
+        size_long = size_long;
+        starts = omega (arith, starts, long, size_long, length-append (bytes ++ kind_of h ∷ tag_bytes (head_tag h)) size, length-append bytes (kind_of h ∷ tag_bytes (head_tag h)));
+        tag_fits = tag_fits;
+        have_bytes = refl;
+      }
 
-  -- what is known of the innermost frame where a scope is open
-  pub scope_of : (fs gs : List Frame) (f : Frame) (bytes : List ℕ) (some : Bool) (h : model.Head) (rs : List model.Record) (w : Written) → fs ≡ gs ++ f ∷ [] → IsWritten marks (in_scope h rs w) (inward [] fs) bytes some →
-      (f.is_group ≡ false) × IsOpenScope marks (λ before. IsWritten marks w (inward [] gs) before f.has_records) h rs f.start bytes some
-  scope_of fs gs f bytes some h rs w outer wrote = subst (λ l. IsWritten marks (in_scope h rs w) l bytes some) (ap (inward []) outer ∙ inward-last [] gs f) wrote
-
-  pub scope_closed : (fs gs : List Frame) (f : Frame) (bytes new : List ℕ) (some : Bool) → fs ≡ gs ++ f ∷ [] → PatchedAs bytes new f.start →
-      (h : model.Head) (rs : List model.Record) (w : Written) → IsWritten marks (in_scope h rs w) (inward [] fs) bytes some → IsWritten marks (followed_by w (holding h rs ∷ [])) (inward [] gs) new true
-  scope_closed fs gs f bytes new some outer patched h rs w wrote =
-      let s = (scope_of fs gs f bytes some h rs w outer wrote).1 in
+  pub scope_closed : (h : model.Head) (rs : List model.Record) (w : Written) (scopes : List ℕ) (groups : List Group) (start : ℕ) (bytes new : List ℕ) → PatchedAs bytes new start → IsWritten marks (in_scope h rs w) (start ∷ scopes) groups bytes →
+      IsWritten marks (followed_by w (holding h rs ∷ [])) scopes groups new
+  scope_closed h rs w scopes groups start bytes new patched s =
       let header = kind_of h ∷ tag_bytes (head_tag h) in
       let p = patched (s.before ++ header) s.size s.inside s.are s.size_long (omega (arith, s.starts, length-append s.before header)) in
       let item = header ++ (four_bytes (length s.inside) ++ s.inside) in
       let has : HasBytes (written_with marks) (holding h rs) item = record {
         inside = s.inside;
-        is = s.list.have_bytes;
+        is = s.have_bytes;
         item = record { are = refl; tag_fits = s.tag_fits; size_fits = p.0 };
       } in
       let whole : new ≡ s.before ++ item = p.1 ∙ append_assoc s.before header (four_bytes (length s.inside) ++ s.inside) in
-      appended gs s.before item new f.has_records (holding h rs) refl has whole w s.outside
+      appended w scopes groups s.before item new (holding h rs) has whole s.outside
 
-  pub scope_too_long : (fs gs : List Frame) (f : Frame) (bytes : List ℕ) (some : Bool) → fs ≡ gs ++ f ∷ [] → HasLongInside bytes f.start →
-      (h : model.Head) (rs : List model.Record) (w : Written) → IsWritten marks (in_scope h rs w) (inward [] fs) bytes some → IsTooLong (written_with marks) (holding h rs)
-  scope_too_long fs gs f bytes some outer long h rs w wrote =
-      let s = (scope_of fs gs f bytes some h rs w outer wrote).1 in
+  pub scope_too_long : (h : model.Head) (rs : List model.Record) (w : Written) (scopes : List ℕ) (groups : List Group) (start : ℕ) (bytes : List ℕ) → HasLongInside bytes start → IsWritten marks (in_scope h rs w) (start ∷ scopes) groups bytes →
+      IsTooLong (written_with marks) (holding h rs)
+  scope_too_long h rs w scopes groups start bytes long s =
       let header = kind_of h ∷ tag_bytes (head_tag h) in
-      inr (s.inside, s.list.have_bytes, long (s.before ++ header) s.size s.inside s.are s.size_long (omega (arith, s.starts, length-append s.before header)))
+      inr (s.inside, s.have_bytes, long (s.before ++ header) s.size s.inside s.are s.size_long (omega (arith, s.starts, length-append s.before header)))
 
-  -- no scope is open
-  pub no_scope : (fs : List Frame) (bytes : List ℕ) (some : Bool) (h : model.Head) (rs : List model.Record) (w : Written) → length fs ≡ 0 → IsWritten marks (in_scope h rs w) (inward [] fs) bytes some → ⊥
-  no_scope [] bytes some h rs w none wrote = wrote
-  no_scope (f ∷ fs) bytes some h rs w none wrote = absurd (omega arith)
+  -- where more scopes are open than are written of, the group is not innermost
+  group_is_outside : (w : Written) (scopes : List ℕ) (groups : List Group) (bytes : List ℕ) (n : ℕ) → length scopes < n → IsWritten marks w scopes groups bytes → is_group_innermost groups n ≡ false
+  group_is_outside (outermost rs) [] [] bytes n less wrote = refl
+  group_is_outside (outermost rs) [] (g ∷ groups) bytes n less wrote = absurd wrote
+  group_is_outside (outermost rs) (s ∷ scopes) groups bytes n less wrote = absurd wrote
+  group_is_outside (in_scope h rs w) [] groups bytes n less wrote = absurd wrote
+  group_is_outside (in_scope h rs w) (s ∷ scopes) groups bytes n less wrote = group_is_outside w scopes groups wrote.before n (omega arith) wrote.outside
+  group_is_outside (in_group table rs w) scopes [] bytes n less wrote = absurd wrote
+  group_is_outside (in_group table rs w) scopes (g ∷ groups) bytes n less wrote = ne_eqb g.scopes n (λ same. omega (arith, wrote.0, same))
 
-  pub no_group : (fs : List Frame) (bytes : List ℕ) (some : Bool) (table : Table Line) (rs : List model.Record) (w : Written) → length fs ≡ 0 → IsWritten marks (in_group table rs w) (inward [] fs) bytes some → ⊥
-  no_group [] bytes some table rs w none wrote = wrote
-  no_group (f ∷ fs) bytes some table rs w none wrote = absurd (omega arith)
+  -- which list is innermost
+  scope_innermost : (h : model.Head) (rs : List model.Record) (w : Written) (scopes : List ℕ) (groups : List Group) (bytes : List ℕ) → IsWritten marks (in_scope h rs w) scopes groups bytes → is_group_innermost groups (length scopes) ≡ false
+  scope_innermost h rs w [] groups bytes wrote = absurd wrote
+  scope_innermost h rs w (s ∷ scopes) groups bytes wrote = group_is_outside w scopes groups wrote.before (length (s ∷ scopes)) (omega arith) wrote.outside
+
+  group_innermost : (table : Table Line) (rs : List model.Record) (w : Written) (scopes : List ℕ) (groups : List Group) (bytes : List ℕ) → IsWritten marks (in_group table rs w) scopes groups bytes → is_group_innermost groups (length scopes) ≡ true
+  group_innermost table rs w scopes [] bytes wrote = absurd wrote
+  group_innermost table rs w scopes (g ∷ groups) bytes wrote = eq-eqb g.scopes (length scopes) wrote.0
+
+  pub scope_is_innermost : (h : model.Head) (rs : List model.Record) (w : Written) (scopes : List ℕ) (groups : List Group) (bytes : List ℕ) → IsWritten marks (in_scope h rs w) (inward [] scopes) groups bytes → is_group_innermost groups (length scopes) ≡ false
+  scope_is_innermost h rs w scopes groups bytes wrote = subst (λ n. is_group_innermost groups n ≡ false) (as_many scopes) (scope_innermost h rs w (inward [] scopes) groups bytes wrote)
+
+  pub group_is_innermost : (table : Table Line) (rs : List model.Record) (w : Written) (scopes : List ℕ) (groups : List Group) (bytes : List ℕ) → IsWritten marks (in_group table rs w) (inward [] scopes) groups bytes → is_group_innermost groups (length scopes) ≡ true
+  group_is_innermost table rs w scopes groups bytes wrote = subst (λ n. is_group_innermost groups n ≡ true) (as_many scopes) (group_innermost table rs w (inward [] scopes) groups bytes wrote)
 
   -- a group was opened
-  pub group_opened : (fs gs : List Frame) (f : Frame) (bytes new : List ℕ) (some : Bool) → f.is_group ≡ true → f.has_records ≡ some → f.start ≡ length bytes → gs ≡ fs ++ f ∷ [] →
-      (table : Table Line) (w : Written) → new ≡ bytes ++ marks (model.group_start table) → IsWritten marks w (inward [] fs) bytes some → IsWritten marks (in_group table [] w) (inward [] gs) new false
-  group_opened fs gs f bytes new some group flag start outer table w is wrote =
-      subst (λ l. IsWritten marks (in_group table [] w) l new false) (sym (ap (inward []) outer ∙ inward-last [] fs f)) (
-        group,
-        record {
-          before = bytes;
-          inside = [];
-          outside = subst (λ s. IsWritten marks w (inward [] fs) bytes s) (sym flag) wrote;
-          are = is ∙ ap (λ l. bytes ++ l) (sym (append-nil (marks (model.group_start table))));
-          starts = start;
-          list = record { have_bytes = refl; flag = refl };
-        },
-      )
-
-  -- what is known of the innermost frame where a group is open
-  pub group_of : (fs gs : List Frame) (f : Frame) (bytes : List ℕ) (some : Bool) (table : Table Line) (rs : List model.Record) (w : Written) → fs ≡ gs ++ f ∷ [] → IsWritten marks (in_group table rs w) (inward [] fs) bytes some →
-      (f.is_group ≡ true) × IsOpenGroup marks (λ before. IsWritten marks w (inward [] gs) before f.has_records) table rs f.start bytes some
-  group_of fs gs f bytes some table rs w outer wrote = subst (λ l. IsWritten marks (in_group table rs w) l bytes some) (ap (inward []) outer ∙ inward-last [] gs f) wrote
+  pub group_opened : (table : Table Line) (w : Written) (scopes : List ℕ) (groups : List Group) (g : Group) (bytes new : List ℕ) → g.start ≡ length bytes → g.scopes ≡ length scopes → TellsOfGroup w g.has_records → new ≡ bytes ++ marks (model.group_start table) →
+      IsWritten marks w scopes groups bytes → IsWritten marks (in_group table [] w) scopes (g ∷ groups) new
+  group_opened table w scopes groups g bytes new start around told is wrote = (
+    around,
+    told,
+    record {
+      before = bytes;
+      inside = [];
+      outside = wrote;
+      are = is ∙ ap (λ l. bytes ++ l) (sym (append-nil (marks (model.group_start table))));
+      starts = start;
+      have_bytes = refl;
+    },
+  )
 
   -- a group that is there was closed
-  pub group_closed : (fs gs : List Frame) (f : Frame) (bytes new end : List ℕ) (some : Bool) → fs ≡ gs ++ f ∷ [] → some ≡ true → new ≡ bytes ++ end → marks model.group_end ≡ end →
-      (table : Table Line) (rs : List model.Record) (w : Written) → IsWritten marks (in_group table rs w) (inward [] fs) bytes some → IsWritten marks (followed_by w (group_records table (Some rs))) (inward [] gs) new some
-  group_closed fs gs f bytes new end some outer there is ends table rs w wrote =
-      let s = (group_of fs gs f bytes some table rs w outer wrote).1 in
-      let firm : presence_marks_alone rs ≡ false = not_alone (presence_marks_alone rs) (sym there ∙ s.list.flag) in
+  pub group_closed : (table : Table Line) (rs : List model.Record) (w : Written) (scopes : List ℕ) (groups : List Group) (g : Group) (bytes new end : List ℕ) (some : Bool) → some ≡ true → new ≡ bytes ++ end → marks model.group_end ≡ end →
+      IsWritten marks (in_group table rs w) scopes (g ∷ groups) bytes → some ≡ not (presence_marks_alone rs) → IsWritten marks (followed_by w (group_records table (Some rs))) scopes groups new × TellsOfGroup (followed_by w (group_records table (Some rs))) some
+  group_closed table rs w scopes groups g bytes new end some there is ends wrote told =
+      let s = wrote.2 in
+      let firm : presence_marks_alone rs ≡ false = not_alone (presence_marks_alone rs) (sym there ∙ told) in
       let start = marks (model.group_start table) in
       let group = model.presence_mark (model.group_start table) ∷ (rs ++ model.presence_mark model.group_end ∷ []) in
-      let more = start ++ (s.inside ++ end) in
-      let have : HaveBytes (written_with marks) (held group) more = bytes-append (model.presence_mark (model.group_start table) ∷ []) (rs ++ model.presence_mark model.group_end ∷ []) start (s.inside ++ end) (one_record (model.presence_mark (model.group_start table)) start refl)
-      (bytes-append rs (model.presence_mark model.group_end ∷ []) s.inside end s.list.have_bytes (one_record (model.presence_mark model.group_end) end (sym ends))) in
-      let whole : new ≡ s.before ++ more = is ∙ ap (λ l. l ++ end) s.are ∙ append_assoc s.before (start ++ s.inside) end ∙ ap (λ l. s.before ++ l) (append_assoc start s.inside end) in
-      let flag : some ≡ (f.has_records || not (presence_marks_alone group)) = there ∙ or_true f.has_records ∙ ap (λ b. f.has_records || b) (sym (alone-append rs (model.presence_mark model.group_end ∷ []) ∙ ap (λ b. not b || false) firm)) in
-      subst (λ g. IsWritten marks (followed_by w g) (inward [] gs) new some) (sym (group_alone table rs false firm))
-      (subst (λ b. IsWritten marks (followed_by w group) (inward [] gs) b some) (sym whole)
-      (subst (λ b. IsWritten marks (followed_by w group) (inward [] gs) (s.before ++ more) b) (sym flag) (followed w (inward [] gs) s.before more f.has_records group s.outside have)))
+      let have : HaveBytes (written_with marks) (held group) (start ++ (s.inside ++ end)) = bytes-append (model.presence_mark (model.group_start table) ∷ []) (rs ++ model.presence_mark model.group_end ∷ []) start (s.inside ++ end) (one_record (model.presence_mark (model.group_start table)) start refl)
+      (bytes-append rs (model.presence_mark model.group_end ∷ []) s.inside end s.have_bytes (one_record (model.presence_mark model.group_end) end (sym ends))) in
+      let whole : new ≡ s.before ++ (start ++ (s.inside ++ end)) = is ∙ ap (λ l. l ++ end) s.are ∙ append_assoc s.before (start ++ s.inside) end ∙ ap (λ l. s.before ++ l) (append_assoc start s.inside end) in
+      let firm_group : not (presence_marks_alone group) ≡ true = alone-append rs (model.presence_mark model.group_end ∷ []) ∙ ap (λ b. not b || false) firm in
+      subst (λ rest. IsWritten marks (followed_by w rest) scopes groups new × TellsOfGroup (followed_by w rest) some) (sym (group_alone table rs false firm)) (
+        subst (IsWritten marks (followed_by w group) scopes groups) (sym whole) (followed w scopes groups s.before (start ++ (s.inside ++ end)) group s.outside have),
+        subst (TellsOfGroup (followed_by w group)) (sym there) (tells_of_records w group firm_group),
+      )
 
   -- a group that is absent was closed
-  pub absent_group_closed : (fs gs : List Frame) (f : Frame) (bytes cut new away : List ℕ) (some : Bool) → fs ≡ gs ++ f ∷ [] → some ≡ false → cut ≡ take f.start bytes → new ≡ cut ++ away → marks model.group_absent ≡ away →
-      (table : Table Line) (rs : List model.Record) (w : Written) → IsWritten marks (in_group table rs w) (inward [] fs) bytes some → IsWritten marks (followed_by w (group_records table (Some rs))) (inward [] gs) new f.has_records
-  absent_group_closed fs gs f bytes cut new away some outer none cut_is is absent table rs w wrote =
-      let s = (group_of fs gs f bytes some table rs w outer wrote).1 in
-      let alone : presence_marks_alone rs ≡ true = is_alone (presence_marks_alone rs) (sym none ∙ s.list.flag) in
-      let kept : take f.start bytes ≡ s.before = ap (λ n. take n bytes) s.starts ∙ ap (take (length s.before)) s.are ∙ take-append_seam s.before (marks (model.group_start table) ++ s.inside) in
+  pub absent_group_closed : (table : Table Line) (rs : List model.Record) (w : Written) (scopes : List ℕ) (groups : List Group) (g : Group) (bytes cut new away : List ℕ) (some : Bool) → some ≡ false → cut ≡ take g.start bytes → new ≡ cut ++ away → marks model.group_absent ≡ away →
+      IsWritten marks (in_group table rs w) scopes (g ∷ groups) bytes → some ≡ not (presence_marks_alone rs) → IsWritten marks (followed_by w (group_records table (Some rs))) scopes groups new × TellsOfGroup (followed_by w (group_records table (Some rs))) g.has_records
+  absent_group_closed table rs w scopes groups g bytes cut new away some none cut_is is absent wrote told =
+      let s = wrote.2 in
+      let alone : presence_marks_alone rs ≡ true = is_alone (presence_marks_alone rs) (sym none ∙ told) in
+      let kept : take g.start bytes ≡ s.before = ap (λ n. take n bytes) s.starts ∙ ap (take (length s.before)) s.are ∙ take-append_seam s.before (marks (model.group_start table) ++ s.inside) in
       let whole : new ≡ s.before ++ away = is ∙ ap (λ l. l ++ away) (cut_is ∙ kept) in
-      subst (λ g. IsWritten marks (followed_by w g) (inward [] gs) new f.has_records) (sym (group_alone table rs true alone))
-      (mark_appended gs s.before away new f.has_records model.group_absent (sym absent) whole w s.outside)
+      subst (λ rest. IsWritten marks (followed_by w rest) scopes groups new × TellsOfGroup (followed_by w rest) g.has_records) (sym (group_alone table rs true alone)) (
+        appended w scopes groups s.before away new (model.presence_mark model.group_absent) (sym absent) whole s.outside,
+        tells_of_mark w model.group_absent g.has_records wrote.1,
+      )
 
   -- what was written at the end
-  pub finished : (fs : List Frame) (bytes : List ℕ) (some : Bool) (rs : List model.Record) → IsWritten marks (outermost rs) (inward [] fs) bytes some → HaveBytes (written_with marks) (held rs) bytes
-  finished fs bytes some rs wrote = top (inward [] fs) wrote
-    where
-      top : (gs : List Frame) → IsWritten marks (outermost rs) gs bytes some → HaveBytes (written_with marks) (held rs) bytes
-      top [] p = p.have_bytes
-      top (f ∷ gs) p = absurd p
+  pub finished : (scopes : List ℕ) (groups : List Group) (bytes : List ℕ) (rs : List model.Record) → IsWritten marks (outermost rs) scopes groups bytes → HaveBytes (written_with marks) (held rs) bytes
+  finished [] [] bytes rs wrote = wrote
+  finished [] (g ∷ groups) bytes rs wrote = absurd wrote
+  finished (s ∷ scopes) groups bytes rs wrote = absurd wrote

@@ -1,5 +1,5 @@
 -- What a buffer has written, with presence marks of these bytes.
-use Rattle.std.specs.Prelude.{◌≡◌, ℕ, suc, ◌+◌, ◌<◌, ◌≤◌, ◌^◌, Bool, true, false, not, List, [], ◌∷◌, ◌++◌, length, if◌then◌else◌, IfOk, MatchResult, Result, Some}
+use Rattle.std.specs.Prelude.{◌≡◌, ⊤, ℕ, ◌+◌, ◌<◌, ◌≤◌, ◌^◌, ◌==◌, Bool, false, not, List, [], ◌∷◌, ◌++◌, length, IfOk, MatchResult, Result, Some}
 use Rattle.asn1_codec.specs.Writing.{Written, followed_by, outermost, in_scope, in_group}
 use Rattle.asn1_items.specs.Headers.{kind_of, tag_bytes}
 use Rattle.asn1_items.specs.Items.{HaveBytes, IsTooLong, MarkBytes, written_with}
@@ -7,20 +7,21 @@ use Rattle.asn1_items.specs.Numbers.{four_bytes}
 use Rattle.asn1_items.specs.declared.buffer.Buffer.{Buffer}
 use Rattle.asn1_items.specs.declared.error.BufferError.{BufferError}
 use Rattle.asn1_items.specs.declared.error.BufferError.TheVariants.{Memory}
-use Rattle.asn1_items.specs.declared.frame.Frame.{Frame}
+use Rattle.asn1_items.specs.declared.group.Group.{Group}
 use Rattle.asn1_model.specs.Composites.{group_records}
 use Rattle.asn1_model.specs.Records.{Record, Head, group_absent, group_end, group_start, held, holding, presence_marks_alone}
 use Rattle.asn1_model.specs.RecordTables.{Line, Table}
 use Rattle.asn1_model.specs.Tags.{head_tag}
 
-module _ (marks : MarkBytes) where
-  -- The innermost list: its bytes, and whether there is a record in it that is no presence mark.
-  pub record IsList (rs : List Record) (bytes : List ℕ) (has_records : Bool) : Type 0 where
-    pub have_bytes : HaveBytes (written_with marks) (held rs) bytes
-    pub flag : has_records ≡ not (presence_marks_alone rs)
+-- A flag tells of the innermost list, if that is a group, whether there is a record in it that is no presence mark.
+abbrev pub TellsOfGroup : Written → Bool → Type 0
+TellsOfGroup (outermost rs) some = ⊤
+TellsOfGroup (in_scope h rs w) some = ⊤
+TellsOfGroup (in_group table rs w) some = some ≡ not (presence_marks_alone rs)
 
+module _ (marks : MarkBytes) where
   -- A scope that is open: what is outside, the header, whose length is not known yet, and what is inside.
-  pub record IsOpenScope (IsOutside : List ℕ → Type 0) (h : Head) (rs : List Record) (start : ℕ) (bytes : List ℕ) (has_records : Bool) : Type 0 where
+  pub record IsOpenScope (IsOutside : List ℕ → Type 0) (h : Head) (rs : List Record) (start : ℕ) (bytes : List ℕ) : Type 0 where
     pub before : List ℕ
     pub size : List ℕ
     pub inside : List ℕ
@@ -29,34 +30,40 @@ module _ (marks : MarkBytes) where
     pub size_long : length size ≡ 4
     pub starts : start ≡ length before + 10
     pub tag_fits : (head_tag h).value < 2 ^ 32
-    pub list : IsList rs inside has_records
+    pub have_bytes : HaveBytes (written_with marks) (held rs) inside
 
   -- A group that is open: what is outside, the mark, and what is inside.
-  pub record IsOpenGroup (IsOutside : List ℕ → Type 0) (table : Table Line) (rs : List Record) (start : ℕ) (bytes : List ℕ) (has_records : Bool) : Type 0 where
+  pub record IsOpenGroup (IsOutside : List ℕ → Type 0) (table : Table Line) (rs : List Record) (start : ℕ) (bytes : List ℕ) : Type 0 where
     pub before : List ℕ
     pub inside : List ℕ
     pub outside : IsOutside before
     pub are : bytes ≡ before ++ (marks (group_start table) ++ inside)
     pub starts : start ≡ length before
-    pub list : IsList rs inside has_records
+    pub have_bytes : HaveBytes (written_with marks) (held rs) inside
 
-  -- What has been written, where the frames come innermost first.
-  abbrev pub IsWritten : Written → List Frame → List ℕ → Bool → Type 0
-  IsWritten (outermost rs) [] bytes some = IsList rs bytes some
-  IsWritten (outermost rs) (f ∷ fs) bytes some = ⊥
-  IsWritten (in_scope h rs w) [] bytes some = ⊥
-  IsWritten (in_scope h rs w) (f ∷ fs) bytes some = (f.is_group ≡ false) × IsOpenScope (λ before. IsWritten w fs before f.has_records) h rs f.start bytes some
-  IsWritten (in_group table rs w) [] bytes some = ⊥
-  IsWritten (in_group table rs w) (f ∷ fs) bytes some = (f.is_group ≡ true) × IsOpenGroup (λ before. IsWritten w fs before f.has_records) table rs f.start bytes some
+  -- What has been written, where the scopes, by where they begin, and the groups come innermost first.
+  abbrev pub IsWritten : Written → List ℕ → List Group → List ℕ → Type 0
+  IsWritten (outermost rs) [] [] bytes = HaveBytes (written_with marks) (held rs) bytes
+  IsWritten (outermost rs) [] (g ∷ gs) bytes = ⊥
+  IsWritten (outermost rs) (s ∷ ss) gs bytes = ⊥
+  IsWritten (in_scope h rs w) [] gs bytes = ⊥
+  IsWritten (in_scope h rs w) (s ∷ ss) gs bytes = IsOpenScope (λ before. IsWritten w ss gs before) h rs s bytes
+  IsWritten (in_group table rs w) ss [] bytes = ⊥
+  IsWritten (in_group table rs w) ss (g ∷ gs) bytes = (g.scopes ≡ length ss) × TellsOfGroup w g.has_records × IsOpenGroup (λ before. IsWritten w ss gs before) table rs g.start bytes
 
--- the frames, innermost first
-abbrev pub inward : List Frame → List Frame → List Frame
+-- what is open, innermost first
+abbrev pub inward : {A : Type 0} → List A → List A → List A
 inward inner [] = inner
-inward inner (f ∷ fs) = inward (f ∷ inner) fs
+inward inner (x ∷ xs) = inward (x ∷ inner) xs
+
+-- Whether the innermost list is that of a group: no scope is open in the first of the groups, where so many are open in all.
+abbrev pub is_group_innermost : List Group → ℕ → Bool
+is_group_innermost [] scopes = false
+is_group_innermost (g ∷ gs) scopes = g.scopes == scopes
 
 -- The buffer has written these records, in the lists that are open.
 abbrev pub HasWritten : MarkBytes → Written → Buffer → Type 0
-HasWritten marks w b = IsWritten marks w (inward [] b.outer.items) b.bytes.items b.has_records
+HasWritten marks w b = IsWritten marks w (inward [] b.scopes.items) (inward [] b.groups.items) b.bytes.items × TellsOfGroup w b.has_records
 
 module _ (marks : MarkBytes) where
   -- a call that appends records to the innermost list
@@ -74,14 +81,9 @@ module _ (marks : MarkBytes) where
   EndsGroup end absent old new result = (table : Table Line) (rs : List Record) (w : Written) → marks group_end ≡ end → marks group_absent ≡ absent → HasWritten marks (in_group table rs w) old →
       MatchResult result (λ _. HasWritten marks (followed_by w (group_records table (Some rs))) new) (λ e. e ≡ Memory)
 
--- how many of the lists that are open are scopes
-abbrev pub scopes_in : List Frame → ℕ
-scopes_in [] = 0
-scopes_in (f ∷ fs) = if f.is_group then scopes_in fs else suc (scopes_in fs)
-
 -- how many scopes of a buffer are open
 abbrev pub open_scopes : Buffer → ℕ
-open_scopes b = scopes_in b.outer.items
+open_scopes b = length b.scopes.items
 
 -- A call that writes the length of what begins at a place over the four bytes before it, and fails where it is 2^32 or more.
 abbrev pub FillsLength : {A E : Type 0} → List ℕ → ℕ → List ℕ → Result A E → Type 0

@@ -1,6 +1,6 @@
 //! The bytes of items that are written.
 ghost use Rattle.asn1_codec.specs.Writing.{Written, followed_by, in_group, in_scope, outermost};
-ghost use Rattle.asn1_items.specs.Buffers.{AppendsRecords, EndsGroup, EndsScope, HasWritten, open_scopes};
+ghost use Rattle.asn1_items.specs.Buffers.{AppendsRecords, EndsGroup, EndsScope, HasWritten, inward, is_group_innermost, open_scopes};
 ghost use Rattle.asn1_items.specs.Contents.{LooksLike, content_of};
 ghost use Rattle.asn1_items.specs.Headers.{kind_of};
 ghost use Rattle.asn1_items.specs.Items.{HaveBytes, IsTooLong, MarkBytes, written_with};
@@ -10,12 +10,12 @@ ghost use Rattle.asn1_model.specs.Records as model;
 ghost use Rattle.asn1_model.specs.Records.{Name, group_start, held, presence_mark, open_type, scalar};
 ghost use Rattle.asn1_model.specs.RecordTables.{Line, Table};
 ghost use Rattle.asn1_model.specs.Tags.{head_tag};
-ghost use Rattle.std.specs.Prelude.{◌≡◌, ◌≢◌, ◌≤◌, ◌∷◌, [], IfErr, IfOk, List, OnOk, suc};
+ghost use Rattle.std.specs.Prelude.{◌≡◌, ◌≢◌, ◌≤◌, ◌∷◌, [], IfErr, IfOk, List, OnOk, length, suc};
 
 use crate::bytes::{push_mark, push_scope_header, write_length};
 use crate::content::Content;
 use crate::error::BufferError;
-use crate::frame::Frame;
+use crate::group::Group;
 use crate::scalars::push_item;
 use asn1_tags::Tag;
 use std::alloc::Global;
@@ -28,8 +28,12 @@ use std::alloc::Global;
 pub struct Buffer {
     alloc: Global,
     bytes: Vec<u8>,
+    /// Where what is inside each open scope begins, that of the innermost last.
+    scopes: Vec<usize>,
+    /// The groups that are open, the innermost last.
+    groups: Vec<Group>,
+    /// If the innermost list is that of a group: whether there is a record in it that is no presence mark.
     has_records: bool,
-    outer: Vec<Frame>,
 }
 
 impl Buffer {
@@ -42,8 +46,9 @@ impl Buffer {
         Buffer {
             alloc,
             bytes: Vec::new(alloc),
+            scopes: Vec::new(alloc),
+            groups: Vec::new(alloc),
             has_records: false,
-            outer: Vec::new(alloc),
         }
     }
 
@@ -122,16 +127,9 @@ impl Buffer {
         ensures none_after_error { IfErr result (λ _. open_scopes self.new ≡ open_scopes self.old) }
     {
         push_scope_header(&mut self.bytes, kind, tag)?;
-        let start = self.bytes.len();
-        let has_records = self.has_records;
-        if let Err(_) = self.outer.push(Frame {
-            start,
-            has_records,
-            is_group: false,
-        }) {
+        if let Err(_) = self.scopes.push(self.bytes.len()) {
             return Err(BufferError::Memory);
         }
-        self.has_records = false;
         Ok(())
     }
 
@@ -145,13 +143,13 @@ impl Buffer {
         ensures one_less { OnOk result (open_scopes self.old ≡ suc (open_scopes self.new)) }
         ensures no_more { open_scopes self.new ≤ open_scopes self.old }
     {
-        let Some(frame) = self.outer.pop() else {
-            return Err(BufferError::NotOpen);
-        };
-        if frame.is_group {
+        if self.is_group_innermost() {
             return Err(BufferError::NotOpen);
         }
-        write_length(&mut self.bytes, frame.start)?;
+        let Some(start) = self.scopes.pop() else {
+            return Err(BufferError::NotOpen);
+        };
+        write_length(&mut self.bytes, start)?;
         self.has_records = true;
         Ok(())
     }
@@ -167,14 +165,13 @@ impl Buffer {
         ensures memory { IfErr result (λ e. e ≡ Memory) }
         ensures same_scopes { open_scopes self.new ≡ open_scopes self.old }
     {
-        let start = self.bytes.len();
+        let group = Group {
+            start: self.bytes.len(),
+            scopes: self.scopes.len(),
+            has_records: self.has_records,
+        };
         push_mark(&mut self.bytes, start_mark)?;
-        let has_records = self.has_records;
-        if let Err(_) = self.outer.push(Frame {
-            start,
-            has_records,
-            is_group: true,
-        }) {
+        if let Err(_) = self.groups.push(group) {
             return Err(BufferError::Memory);
         }
         self.has_records = false;
@@ -192,19 +189,31 @@ impl Buffer {
         ensures same_scopes { OnOk result (open_scopes self.new ≡ open_scopes self.old) }
         ensures no_more { open_scopes self.new ≤ open_scopes self.old }
     {
-        let Some(frame) = self.outer.pop() else {
-            return Err(BufferError::NotOpen);
-        };
-        if !frame.is_group {
+        if !self.is_group_innermost() {
             return Err(BufferError::NotOpen);
         }
+        let Some(group) = self.groups.pop() else {
+            return Err(BufferError::NotOpen);
+        };
         if self.has_records {
             push_mark(&mut self.bytes, end_mark)?;
             return Ok(());
         }
-        self.bytes.truncate(frame.start);
-        self.has_records = frame.has_records;
+        self.bytes.truncate(group.start);
+        self.has_records = group.has_records;
         push_mark(&mut self.bytes, absent_mark)?;
         Ok(())
+    }
+
+    /// Whether the innermost list is that of a group.
+    #[inline(always)]
+    fn is_group_innermost(&self) -> bool
+        ensures { result ≡ is_group_innermost (inward [] self.now.groups.items)
+            (length self.now.scopes.items) }
+    {
+        match &self.groups[..] {
+            [.., group] => group.scopes == self.scopes.len(),
+            [] => false,
+        }
     }
 }

@@ -40,11 +40,11 @@ pub(crate) fn push_sized_header(
     ensures fits { OnOk result ((tag.value < 2 ^ 32) × (size < 2 ^ 32)) }
     ensures too_long { IfErr result (λ e. e ≢ Memory → 2 ^ 32 ≤ size) }
 {
-    let Ok(length) = u32::try_from(size) else {
+    if size > u32::MAX as usize {
         return Err(BufferError::TooLong);
-    };
+    }
     let [a, b, c, d] = tag.value.to_be_bytes();
-    let [e, f, g, h] = length.to_be_bytes();
+    let [e, f, g, h] = (size as u32).to_be_bytes();
     bytes.reserve(11 + size)?;
     bytes.extend_from_slice(&[1, tag.class as u8, a, b, c, d, content, e, f, g, h])?;
     Ok(())
@@ -85,10 +85,11 @@ pub(crate) fn write_length(bytes: &mut Vec<u8>, start: usize) -> Result<(), Buff
     if end < start {
         return Err(BufferError::NotOpen);
     }
-    let Ok(size) = u32::try_from(end - start) else {
+    let size = end - start;
+    if size > u32::MAX as usize {
         return Err(BufferError::TooLong);
-    };
-    patch(bytes.as_mut_slice(), start, size);
+    }
+    patch(bytes.as_mut_slice(), start, size as u32);
     Ok(())
 }
 

@@ -5,7 +5,7 @@
 //! | [`Content`], [`FromContent`], [`StringOf`] | the content of an item, as it is written and as it is read |
 //! | [`read_bits`], [`read_twos`], [`significant`] | what other codecs have alike: bits, numbers of two bytes each, and numbers without leading zeros |
 //! | [`Header`], [`Wanted`], [`find_header`] | what an item begins with, and what it has to be that is read |
-//! | [`Buffer`] | the bytes that are written, with a frame for each scope and group that is open |
+//! | [`Buffer`] | the bytes that are written, and which scopes and groups are open |
 //! | [`Slices`], [`Item`] | the bytes that are read, list by list |
 //! | [`can_begin_with`], [`group_can_begin_with`] | whether something is there, by the tag that is next |
 //! | [`ItemError`], [`BufferError`] | why an item was not read, or not written |
@@ -39,8 +39,8 @@ mod buffer;
 mod bytes;
 mod content;
 mod error;
-mod frame;
 mod from_content;
+mod group;
 mod header;
 pub mod laws;
 mod numbers;

@@ -85,12 +85,22 @@ impl Encode for Node {
 
 impl EncodeFields for Node {
     #[cycle(node)]
+    #[inline(always)]
     fn encode_field<E: Encoder>(&self, place: usize, encoder: &mut E) -> Result<(), EncodeError> {
         match place {
             0 => self.label.encode(encoder),
             1 => self.children.encode(encoder),
             _ => Ok(()),
         }
+    }
+
+    // Without the loop over the places the compiler knows which component each call writes.
+    #[cycle(node)]
+    #[inline(always)]
+    fn encode_fields<E: Encoder>(&self, encoder: &mut E) -> Result<(), EncodeError> {
+        self.encode_field(0, encoder)?;
+        self.encode_field(1, encoder)?;
+        Ok(())
     }
 }
 

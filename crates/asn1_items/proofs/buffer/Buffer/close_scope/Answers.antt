@@ -1,31 +1,30 @@
+use Rattle.std.proofs.Common.{[], refl, subst, ◌∙◌}
 use Rattle.std.proofs.lemmas.Result.{err_from_is_err_and}
-use Rattle.asn1_items.proofs.Writing.{no_more_scopes, not_both, one_more_scope, scope_closed, scope_of, scope_too_long}
+use Rattle.asn1_codec.specs.Writing.{in_scope}
+use Rattle.asn1_items.specs.Buffers.{IsWritten, inward}
+use Rattle.asn1_model.specs.Records.{holding}
+use Rattle.asn1_items.proofs.Writing.{innermost, not_both, scope_closed, scope_is_innermost, scope_too_long, tells_of_record}
 use Rattle.asn1_items.proofs.buffer.Buffer.close_scope.Goals as goal
 
-pub returns-then-frame-clause-closed : goal.returns-then-frame-clause-closed
-returns-then-frame-clause-closed c = λ marks h rs w wrote.
+pub returns-then-is_group_innermost-clause-closed :
+    goal.returns-then-is_group_innermost-clause-closed
+returns-then-is_group_innermost-clause-closed c = λ marks h rs w wrote.
     let old = c.args.self.now in
-    absurd (not_both _ (scope_of marks old.outer.items c.pop.new.self.items c.in-Some.frame old.bytes.items old.has_records h rs w c.in-Some.ensures.items wrote).0 c.if-frame.true)
-
-pub returns-then-frame-clause-no_more : goal.returns-then-frame-clause-no_more
-returns-then-frame-clause-no_more c = no_more_scopes c.args.self.now.outer.items c.pop.new.self.items c.in-Some.frame c.in-Some.ensures.items
+    absurd (not_both _ (c.is_group_innermost.ensures ∙ scope_is_innermost marks h rs w old.scopes.items (inward [] old.groups.items) old.bytes.items wrote.0) c.if-is_group_innermost.true)
 
 pub returns-in_err-write_length-clause-closed : goal.returns-in_err-write_length-clause-closed
 returns-in_err-write_length-clause-closed c = λ marks h rs w wrote.
     let old = c.args.self.now in
     let p = err_from_is_err_and c.from_residual.result c.from_residual.ensures.1 in
-    rw (p.1) (scope_too_long marks old.outer.items c.pop.new.self.items c.in-Some.frame old.bytes.items old.has_records c.in-Some.ensures.items c.in_err-write_length.ensures.written h rs w wrote)
-
-pub returns-in_err-write_length-clause-no_more : goal.returns-in_err-write_length-clause-no_more
-returns-in_err-write_length-clause-no_more c = no_more_scopes c.args.self.now.outer.items c.pop.new.self.items c.in-Some.frame c.in-Some.ensures.items
+    let outer = innermost old.scopes.items c.pop.new.self.items c.in-Some.start c.in-Some.ensures.items in
+    let groups = inward [] old.groups.items in
+    rw (p.1) (scope_too_long marks h rs w (inward [] c.pop.new.self.items) groups c.in-Some.start old.bytes.items c.in_err-write_length.ensures.written (subst (λ scopes. IsWritten marks (in_scope h rs w) scopes groups old.bytes.items) outer wrote.0))
 
 pub returns-clause-closed : goal.returns-clause-closed
 returns-clause-closed c = λ marks h rs w wrote.
     let old = c.args.self.now in
-    scope_closed marks old.outer.items c.pop.new.self.items c.in-Some.frame old.bytes.items _ old.has_records c.in-Some.ensures.items c.in_ok-write_length.ensures.written h rs w wrote
-
-pub returns-clause-one_less : goal.returns-clause-one_less
-returns-clause-one_less c = one_more_scope c.pop.new.self.items c.args.self.now.outer.items c.in-Some.frame c.if-frame.false c.in-Some.ensures.items
-
-pub returns-clause-no_more : goal.returns-clause-no_more
-returns-clause-no_more c = no_more_scopes c.args.self.now.outer.items c.pop.new.self.items c.in-Some.frame c.in-Some.ensures.items
+    let outer = innermost old.scopes.items c.pop.new.self.items c.in-Some.start c.in-Some.ensures.items in
+    let groups = inward [] old.groups.items in (
+      scope_closed marks h rs w (inward [] c.pop.new.self.items) groups c.in-Some.start old.bytes.items _ c.in_ok-write_length.ensures.written (subst (λ scopes. IsWritten marks (in_scope h rs w) scopes groups old.bytes.items) outer wrote.0),
+      tells_of_record w (holding h rs) refl,
+    )

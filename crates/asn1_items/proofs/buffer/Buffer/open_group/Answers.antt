@@ -1,13 +1,17 @@
-use Rattle.std.proofs.Common.{◌≡◌, ◌++◌, length, refl, sym, ap, ◌∙◌, arith, true}
-use Rattle.asn1_items.proofs.Writing.{group_opened, same_scopes}
+use Rattle.std.proofs.Common.{◌≡◌, ◌++◌, [], length, refl, sym, ap, subst, ◌∙◌, arith}
+use Rattle.asn1_codec.specs.Writing.{in_group}
+use Rattle.asn1_items.specs.Buffers.{IsWritten, inward}
+use Rattle.asn1_items.specs.declared.group.Group.{Group}
+use Rattle.asn1_items.proofs.Writing.{as_many, group_opened, innermost}
 use Rattle.asn1_items.proofs.buffer.Buffer.open_group.Goals as goal
 
 pub returns-clause-opened : goal.returns-clause-opened
 returns-clause-opened c = λ marks table w is wrote.
     let old = c.args.self.now in
-    let start : c.len-start.result ≡ length old.bytes.items = omega (arith, c.len-start.ensures, old.bytes.ok.0) in
-    group_opened marks old.outer.items c.push.new.self.items (record { start = c.len-start.result; has_records = old.has_records; is_group = true }) old.bytes.items c.push_mark.new.bytes.items old.has_records
-    refl refl start c.in_default.ensures.items table w (c.in_ok-push_mark.ensures ∙ ap (λ b. old.bytes.items ++ b) (sym is)) wrote
-
-pub returns-clause-same_scopes : goal.returns-clause-same_scopes
-returns-clause-same_scopes c = same_scopes c.args.self.now.outer.items c.push.new.self.items (record { start = c.len-start.result; has_records = c.args.self.now.has_records; is_group = true }) refl c.in_default.ensures.items
+    let group : Group = record { start = c.len.result; scopes = c.len-2.result; has_records = old.has_records } in
+    let start : c.len.result ≡ length old.bytes.items = omega (arith, c.len.ensures, old.bytes.ok.0) in
+    let around : c.len-2.result ≡ length (inward [] old.scopes.items) = omega (arith, c.len-2.ensures, old.scopes.ok.0, as_many old.scopes.items) in (
+      subst (λ groups. IsWritten marks (in_group table [] w) (inward [] old.scopes.items) groups c.push_mark.new.bytes.items) (sym (innermost c.push.new.self.items old.groups.items group c.in_default.ensures.items)) (group_opened marks table w (inward [] old.scopes.items) (inward [] old.groups.items) group old.bytes.items c.push_mark.new.bytes.items start around wrote.1
+          (c.in_ok-push_mark.ensures ∙ ap (λ b. old.bytes.items ++ b) (sym is)) wrote.0),
+      refl,
+    )

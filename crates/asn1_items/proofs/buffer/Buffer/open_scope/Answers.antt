@@ -1,7 +1,9 @@
-use Rattle.std.proofs.Common.{◌≡◌, append_assoc, ◌++◌, ◌∷◌, ◌<◌, ◌^◌, ℕ, List, [], refl, sym, ap, subst, ◌∙◌, arith, length, false}
+use Rattle.std.proofs.Common.{◌≡◌, append_assoc, ◌++◌, ◌∷◌, ◌<◌, ◌^◌, ℕ, List, [], refl, sym, ap, subst, ◌∙◌, arith, length}
+use Rattle.asn1_codec.specs.Writing.{in_scope}
+use Rattle.asn1_items.specs.Buffers.{IsWritten, inward}
 use Rattle.asn1_items.specs.Headers.{kind_of, tag_bytes}
 use Rattle.asn1_model.specs.Tags.{head_tag}
-use Rattle.asn1_items.proofs.Writing.{one_more_scope, scope_opened}
+use Rattle.asn1_items.proofs.Writing.{innermost, scope_opened}
 use Rattle.asn1_items.proofs.buffer.Buffer.open_scope.Goals as goal
 
 pub returns-clause-opened : goal.returns-clause-opened
@@ -9,11 +11,10 @@ returns-clause-opened c = λ marks h w kind tag wrote.
     let old = c.args.self.now in
     let headed = c.push_scope_header.new.bytes in
     let zeros : List ℕ = 0 ∷ 0 ∷ 0 ∷ 0 ∷ [] in
-    let start : c.len-start.result ≡ length headed.items = omega (arith, c.len-start.ensures, headed.ok.0) in
+    let start : c.len.result ≡ length headed.items = omega (arith, c.len.ensures, headed.ok.0) in
     let header = c.in_ok-push_scope_header.ensures.appended ∙ ap (λ k. old.bytes.items ++ k ∷ (tag_bytes c.args.tag ++ zeros)) (sym kind) ∙ ap (λ t. old.bytes.items ++ kind_of h ∷ (tag_bytes t ++ zeros)) (sym tag) in
-    scope_opened marks old.outer.items c.push.new.self.items (record { start = c.len-start.result; has_records = old.has_records; is_group = false }) h old.bytes.items headed.items zeros old.has_records
-    refl refl start (subst (λ t. t.value < 2 ^ 32) (sym tag) c.in_ok-push_scope_header.ensures.fits) refl c.in_default.ensures.items
-    (header ∙ sym (append_assoc old.bytes.items (kind_of h ∷ tag_bytes (head_tag h)) zeros)) w wrote
-
-pub returns-clause-one_more : goal.returns-clause-one_more
-returns-clause-one_more c = one_more_scope c.args.self.now.outer.items c.push.new.self.items (record { start = c.len-start.result; has_records = c.args.self.now.has_records; is_group = false }) refl c.in_default.ensures.items
+    let groups = inward [] old.groups.items in (
+      subst (λ scopes. IsWritten marks (in_scope h [] w) scopes groups headed.items) (sym (innermost c.push.new.self.items old.scopes.items c.len.result c.in_default.ensures.items)) (scope_opened marks h w (inward [] old.scopes.items) groups c.len.result old.bytes.items headed.items zeros start
+          (subst (λ t. t.value < 2 ^ 32) (sym tag) c.in_ok-push_scope_header.ensures.fits) refl (header ∙ sym (append_assoc old.bytes.items (kind_of h ∷ tag_bytes (head_tag h)) zeros)) wrote.0),
+      tt,
+    )
