@@ -307,6 +307,9 @@ def measure_certificates():
 
 
 def main():
+    if {"-h", "--help"} & set(sys.argv):
+        print(__doc__.strip())
+        return
     if "--certificates" in sys.argv:
         measure_certificates()
     if "--codecs" in sys.argv:

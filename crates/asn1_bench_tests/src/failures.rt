@@ -98,10 +98,24 @@ fn close_a_scope_as_a_group<E: Encoder>(rt: &impl Abort, encoder: &mut E) {
     assert_error(rt, encoder, answer, error);
 }
 
+fn close_the_group_around_a_scope<E: Encoder>(rt: &impl Abort, encoder: &mut E) {
+    encoder.open_group::<Contact>().expect(rt, "memory");
+    close_a_scope_as_a_group(rt, encoder);
+}
+
+fn close_the_scope_around_a_group<E: Encoder>(rt: &impl Abort, encoder: &mut E) {
+    encoder
+        .open_explicit_prefix(Tag::NULL, Identifier::NULL)
+        .expect(rt, "memory");
+    close_a_group_as_a_scope(rt, encoder);
+}
+
 #[test]
 fn something_else_is_open(rt: HostRuntime) {
     close_a_group_as_a_scope(&rt, &mut PackedEncoder::new(rt.alloc(), 1));
     close_a_scope_as_a_group(&rt, &mut PackedEncoder::new(rt.alloc(), 1));
+    close_the_group_around_a_scope(&rt, &mut PackedEncoder::new(rt.alloc(), 1));
+    close_the_scope_around_a_group(&rt, &mut PackedEncoder::new(rt.alloc(), 1));
 }
 
 fn no_memory(_alloc: Global) -> Result<bool, AllocError> {

@@ -20,7 +20,8 @@ pub record CarriesUpToOrder (HaveBytes : List Record → List ℕ → Type 0) (b
   pub same : SameRecords exactly rs
 
 module _ {B : Type 0} (F : BufferForm B) where
-  -- The encoder in the order in which it writes: its buffer has written the records, and the depth left is what the open scopes leave.
+  -- The encoder in the order in which it writes: its buffer has written the records, and the open scopes and the depth left make up
+  -- the limit.
   abbrev pub in_one_order : Writer (BufferEncoder B)
   in_one_order = record {
     wrote = λ e w. F.wrote e.buffer w × (scopes_in w + e.depth_left ≡ e.limit);

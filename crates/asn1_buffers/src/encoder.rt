@@ -80,7 +80,7 @@ impl<B: RecordBuffer> BufferEncoder<B> {
         error
     }
 
-    /// Makes the encoder failed by an error of the buffer.
+    /// Makes the encoder failed, and answers the error as types see it.
     #[cold]
     #[inline(never)]
     fn refuse(&mut self, error: WriteError) -> EncodeError

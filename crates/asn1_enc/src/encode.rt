@@ -133,7 +133,7 @@ pub trait EncodeFields: FieldTable {
             (records_at (all_components Self.components) place self.now)
             (IsOfTypeAt (all_components Self.components) place self.now) encoder.new result };
 
-    /// Writes all components, in the order of their definition.
+    /// Writes all components, in the order of their definition: if a type has no other body, by a loop over the places.
     #[inline(always)]
     fn encode_fields<E: Encoder>(&self, encoder: &mut E) -> Result<(), EncodeError>
         ensures { WritesFields E.writer Self.components self.now encoder.old encoder.new result }

@@ -32,8 +32,8 @@
 //!   record of it holds, presence marks alone never are, and the order inside sets means nothing.
 //! - The calls for whole types that open a scope at once answer `Depth` before any other error but `Failed` too
 //!   (`NeedsDepth`).
-//! - `EncodeFields::encode_fields` is a loop over the places of the field table, proved once for all types. A type states a
-//!   line for each component (`encode_field`, `specs/Places.antt` of `asn1_codec`), and no proof.
+//! - A type states a line for each component (`encode_field`, `specs/Places.antt` of `asn1_codec`), and no proof:
+//!   `EncodeFields::encode_fields` is a loop over the places of the field table, proved once, unless a type has its own.
 //! - `encode_sequence` and `encode_set` (`as_meant`) and `encode_choice_with_tag` write the records of the type, by the law that
 //!   ties its meaning to its components or alternatives. So the writer of such a type is one call, without a proof, also of a
 //!   type that holds itself; such a type, its tables and its writer have to be in one crate.

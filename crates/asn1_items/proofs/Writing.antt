@@ -186,7 +186,7 @@ module _ (marks : MarkBytes) where
       let header = kind_of h ∷ tag_bytes (head_tag h) in
       inr (s.inside, s.have_bytes, long (s.before ++ header) s.size s.inside s.are s.size_long (omega (arith, s.starts, length-append s.before header)))
 
-  -- where more scopes are open than are written of, the group is not innermost
+  -- where more scopes are open than these, the innermost list is no group's
   group_is_outside : (w : Written) (scopes : List ℕ) (groups : List Group) (bytes : List ℕ) (n : ℕ) → length scopes < n → IsWritten marks w scopes groups bytes → is_group_innermost groups n ≡ false
   group_is_outside (outermost rs) [] [] bytes n less wrote = refl
   group_is_outside (outermost rs) [] (g ∷ groups) bytes n less wrote = absurd wrote
@@ -194,7 +194,7 @@ module _ (marks : MarkBytes) where
   group_is_outside (in_scope h rs w) [] groups bytes n less wrote = absurd wrote
   group_is_outside (in_scope h rs w) (s ∷ scopes) groups bytes n less wrote = group_is_outside w scopes groups wrote.before n (omega arith) wrote.outside
   group_is_outside (in_group table rs w) scopes [] bytes n less wrote = absurd wrote
-  group_is_outside (in_group table rs w) scopes (g ∷ groups) bytes n less wrote = ne_eqb g.scopes n (λ same. omega (arith, wrote.0, same))
+  group_is_outside (in_group table rs w) scopes (g ∷ groups) bytes n less wrote = ne_eqb g.open_scopes n (λ same. omega (arith, wrote.0, same))
 
   -- which list is innermost
   scope_innermost : (h : model.Head) (rs : List model.Record) (w : Written) (scopes : List ℕ) (groups : List Group) (bytes : List ℕ) → IsWritten marks (in_scope h rs w) scopes groups bytes → is_group_innermost groups (length scopes) ≡ false
@@ -203,7 +203,7 @@ module _ (marks : MarkBytes) where
 
   group_innermost : (table : Table Line) (rs : List model.Record) (w : Written) (scopes : List ℕ) (groups : List Group) (bytes : List ℕ) → IsWritten marks (in_group table rs w) scopes groups bytes → is_group_innermost groups (length scopes) ≡ true
   group_innermost table rs w scopes [] bytes wrote = absurd wrote
-  group_innermost table rs w scopes (g ∷ groups) bytes wrote = eq-eqb g.scopes (length scopes) wrote.0
+  group_innermost table rs w scopes (g ∷ groups) bytes wrote = eq-eqb g.open_scopes (length scopes) wrote.0
 
   pub scope_is_innermost : (h : model.Head) (rs : List model.Record) (w : Written) (scopes : List ℕ) (groups : List Group) (bytes : List ℕ) → IsWritten marks (in_scope h rs w) (inward [] scopes) groups bytes → is_group_innermost groups (length scopes) ≡ false
   scope_is_innermost h rs w scopes groups bytes wrote = subst (λ n. is_group_innermost groups n ≡ false) (as_many scopes) (scope_innermost h rs w (inward [] scopes) groups bytes wrote)
@@ -212,7 +212,7 @@ module _ (marks : MarkBytes) where
   group_is_innermost table rs w scopes groups bytes wrote = subst (λ n. is_group_innermost groups n ≡ true) (as_many scopes) (group_innermost table rs w (inward [] scopes) groups bytes wrote)
 
   -- a group was opened
-  pub group_opened : (table : Table Line) (w : Written) (scopes : List ℕ) (groups : List Group) (g : Group) (bytes new : List ℕ) → g.start ≡ length bytes → g.scopes ≡ length scopes → TellsOfGroup w g.has_records → new ≡ bytes ++ marks (model.group_start table) →
+  pub group_opened : (table : Table Line) (w : Written) (scopes : List ℕ) (groups : List Group) (g : Group) (bytes new : List ℕ) → g.start ≡ length bytes → g.open_scopes ≡ length scopes → TellsOfGroup w g.outer_has_records → new ≡ bytes ++ marks (model.group_start table) →
       IsWritten marks w scopes groups bytes → IsWritten marks (in_group table [] w) scopes (g ∷ groups) new
   group_opened table w scopes groups g bytes new start around told is wrote = (
     around,
@@ -246,15 +246,15 @@ module _ (marks : MarkBytes) where
 
   -- a group that is absent was closed
   pub absent_group_closed : (table : Table Line) (rs : List model.Record) (w : Written) (scopes : List ℕ) (groups : List Group) (g : Group) (bytes cut new away : List ℕ) (some : Bool) → some ≡ false → cut ≡ take g.start bytes → new ≡ cut ++ away → marks model.group_absent ≡ away →
-      IsWritten marks (in_group table rs w) scopes (g ∷ groups) bytes → some ≡ not (presence_marks_alone rs) → IsWritten marks (followed_by w (group_records table (Some rs))) scopes groups new × TellsOfGroup (followed_by w (group_records table (Some rs))) g.has_records
+      IsWritten marks (in_group table rs w) scopes (g ∷ groups) bytes → some ≡ not (presence_marks_alone rs) → IsWritten marks (followed_by w (group_records table (Some rs))) scopes groups new × TellsOfGroup (followed_by w (group_records table (Some rs))) g.outer_has_records
   absent_group_closed table rs w scopes groups g bytes cut new away some none cut_is is absent wrote told =
       let s = wrote.2 in
       let alone : presence_marks_alone rs ≡ true = is_alone (presence_marks_alone rs) (sym none ∙ told) in
       let kept : take g.start bytes ≡ s.before = ap (λ n. take n bytes) s.starts ∙ ap (take (length s.before)) s.are ∙ take-append_seam s.before (marks (model.group_start table) ++ s.inside) in
       let whole : new ≡ s.before ++ away = is ∙ ap (λ l. l ++ away) (cut_is ∙ kept) in
-      subst (λ rest. IsWritten marks (followed_by w rest) scopes groups new × TellsOfGroup (followed_by w rest) g.has_records) (sym (group_alone table rs true alone)) (
+      subst (λ rest. IsWritten marks (followed_by w rest) scopes groups new × TellsOfGroup (followed_by w rest) g.outer_has_records) (sym (group_alone table rs true alone)) (
         appended w scopes groups s.before away new (model.presence_mark model.group_absent) (sym absent) whole s.outside,
-        tells_of_mark w model.group_absent g.has_records wrote.1,
+        tells_of_mark w model.group_absent g.outer_has_records wrote.1,
       )
 
   -- what was written at the end

@@ -13,11 +13,11 @@ use Rattle.asn1_model.specs.Records.{Record, Head, group_absent, group_end, grou
 use Rattle.asn1_model.specs.RecordTables.{Line, Table}
 use Rattle.asn1_model.specs.Tags.{head_tag}
 
--- A flag tells of the innermost list, if that is a group, whether there is a record in it that is no presence mark.
+-- If the innermost list is that of a group, the flag says whether there is a record in it that is no presence mark.
 abbrev pub TellsOfGroup : Written → Bool → Type 0
-TellsOfGroup (outermost rs) some = ⊤
-TellsOfGroup (in_scope h rs w) some = ⊤
-TellsOfGroup (in_group table rs w) some = some ≡ not (presence_marks_alone rs)
+TellsOfGroup (outermost rs) has_records = ⊤
+TellsOfGroup (in_scope h rs w) has_records = ⊤
+TellsOfGroup (in_group table rs w) has_records = has_records ≡ not (presence_marks_alone rs)
 
 module _ (marks : MarkBytes) where
   -- A scope that is open: what is outside, the header, whose length is not known yet, and what is inside.
@@ -41,7 +41,8 @@ module _ (marks : MarkBytes) where
     pub starts : start ≡ length before
     pub have_bytes : HaveBytes (written_with marks) (held rs) inside
 
-  -- What has been written, where the scopes, by where they begin, and the groups come innermost first.
+  -- What has been written. The first list has where the inside of each open scope begins, and the second the open groups, both the
+  -- innermost first.
   abbrev pub IsWritten : Written → List ℕ → List Group → List ℕ → Type 0
   IsWritten (outermost rs) [] [] bytes = HaveBytes (written_with marks) (held rs) bytes
   IsWritten (outermost rs) [] (g ∷ gs) bytes = ⊥
@@ -49,21 +50,22 @@ module _ (marks : MarkBytes) where
   IsWritten (in_scope h rs w) [] gs bytes = ⊥
   IsWritten (in_scope h rs w) (s ∷ ss) gs bytes = IsOpenScope (λ before. IsWritten w ss gs before) h rs s bytes
   IsWritten (in_group table rs w) ss [] bytes = ⊥
-  IsWritten (in_group table rs w) ss (g ∷ gs) bytes = (g.scopes ≡ length ss) × TellsOfGroup w g.has_records × IsOpenGroup (λ before. IsWritten w ss gs before) table rs g.start bytes
+  IsWritten (in_group table rs w) ss (g ∷ gs) bytes = (g.open_scopes ≡ length ss) × TellsOfGroup w g.outer_has_records × IsOpenGroup (λ before. IsWritten w ss gs before) table rs g.start bytes
 
 -- what is open, innermost first
 abbrev pub inward : {A : Type 0} → List A → List A → List A
 inward inner [] = inner
 inward inner (x ∷ xs) = inward (x ∷ inner) xs
 
--- Whether the innermost list is that of a group: no scope is open in the first of the groups, where so many are open in all.
+-- Whether the innermost list is that of a group, where this many scopes are open: as many were open when the innermost group was
+-- opened.
 abbrev pub is_group_innermost : List Group → ℕ → Bool
 is_group_innermost [] scopes = false
-is_group_innermost (g ∷ gs) scopes = g.scopes == scopes
+is_group_innermost (g ∷ gs) scopes = g.open_scopes == scopes
 
 -- The buffer has written these records, in the lists that are open.
 abbrev pub HasWritten : MarkBytes → Written → Buffer → Type 0
-HasWritten marks w b = IsWritten marks w (inward [] b.scopes.items) (inward [] b.groups.items) b.bytes.items × TellsOfGroup w b.has_records
+HasWritten marks w b = IsWritten marks w (inward [] b.starts.items) (inward [] b.groups.items) b.bytes.items × TellsOfGroup w b.has_records
 
 module _ (marks : MarkBytes) where
   -- a call that appends records to the innermost list
@@ -83,7 +85,7 @@ module _ (marks : MarkBytes) where
 
 -- how many scopes of a buffer are open
 abbrev pub open_scopes : Buffer → ℕ
-open_scopes b = length b.scopes.items
+open_scopes b = length b.starts.items
 
 -- A call that writes the length of what begins at a place over the four bytes before it, and fails where it is 2^32 or more.
 abbrev pub FillsLength : {A E : Type 0} → List ℕ → ℕ → List ℕ → Result A E → Type 0

@@ -28,8 +28,8 @@ use std::alloc::Global;
 pub struct Buffer {
     alloc: Global,
     bytes: Vec<u8>,
-    /// Where what is inside each open scope begins, that of the innermost last.
-    scopes: Vec<usize>,
+    /// Where the inside of each open scope begins, the innermost scope last.
+    starts: Vec<usize>,
     /// The groups that are open, the innermost last.
     groups: Vec<Group>,
     /// If the innermost list is that of a group: whether there is a record in it that is no presence mark.
@@ -46,7 +46,7 @@ impl Buffer {
         Buffer {
             alloc,
             bytes: Vec::new(alloc),
-            scopes: Vec::new(alloc),
+            starts: Vec::new(alloc),
             groups: Vec::new(alloc),
             has_records: false,
         }
@@ -127,7 +127,7 @@ impl Buffer {
         ensures none_after_error { IfErr result (λ _. open_scopes self.new ≡ open_scopes self.old) }
     {
         push_scope_header(&mut self.bytes, kind, tag)?;
-        if let Err(_) = self.scopes.push(self.bytes.len()) {
+        if let Err(_) = self.starts.push(self.bytes.len()) {
             return Err(BufferError::Memory);
         }
         Ok(())
@@ -146,7 +146,7 @@ impl Buffer {
         if self.is_group_innermost() {
             return Err(BufferError::NotOpen);
         }
-        let Some(start) = self.scopes.pop() else {
+        let Some(start) = self.starts.pop() else {
             return Err(BufferError::NotOpen);
         };
         write_length(&mut self.bytes, start)?;
@@ -167,8 +167,8 @@ impl Buffer {
     {
         let group = Group {
             start: self.bytes.len(),
-            scopes: self.scopes.len(),
-            has_records: self.has_records,
+            open_scopes: self.starts.len(),
+            outer_has_records: self.has_records,
         };
         push_mark(&mut self.bytes, start_mark)?;
         if let Err(_) = self.groups.push(group) {
@@ -200,7 +200,7 @@ impl Buffer {
             return Ok(());
         }
         self.bytes.truncate(group.start);
-        self.has_records = group.has_records;
+        self.has_records = group.outer_has_records;
         push_mark(&mut self.bytes, absent_mark)?;
         Ok(())
     }
@@ -209,10 +209,10 @@ impl Buffer {
     #[inline(always)]
     fn is_group_innermost(&self) -> bool
         ensures { result ≡ is_group_innermost (inward [] self.now.groups.items)
-            (length self.now.scopes.items) }
+            (length self.now.starts.items) }
     {
         match &self.groups[..] {
-            [.., group] => group.scopes == self.scopes.len(),
+            [.., group] => group.open_scopes == self.starts.len(),
             [] => false,
         }
     }

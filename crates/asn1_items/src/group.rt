@@ -5,9 +5,8 @@
 pub(crate) struct Group {
     /// Where its bytes begin.
     pub(crate) start: usize,
-    /// How many scopes are open around it.
-    pub(crate) scopes: usize,
-    /// Of the list around it, what [`crate::Buffer`] knew when the group was opened: if that is a group too, whether there is a
-    /// record in it that is no presence mark.
-    pub(crate) has_records: bool,
+    /// How many scopes were open when it was opened.
+    pub(crate) open_scopes: usize,
+    /// If the list around it is that of a group too: whether there is a record in that list that is no presence mark.
+    pub(crate) outer_has_records: bool,
 }

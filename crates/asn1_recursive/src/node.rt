@@ -94,7 +94,7 @@ impl EncodeFields for Node {
         }
     }
 
-    // Without the loop over the places the compiler knows which component each call writes.
+    // The places one after the other, with no loop: so the compiler knows which component each call writes.
     #[cycle(node)]
     #[inline(always)]
     fn encode_fields<E: Encoder>(&self, encoder: &mut E) -> Result<(), EncodeError> {
