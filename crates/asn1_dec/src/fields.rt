@@ -1,20 +1,11 @@
 //! The component that begins with a tag.
 ghost use Rattle.asn1_components.specs.Components.{all_components};
-ghost use Rattle.asn1_model.specs.Tags.{Has, tree_tags};
 ghost use Rattle.asn1_codec.specs.SetParts.{CanBeginWith};
-ghost use Rattle.asn1_tags.specs.Trees.{shape};
-ghost use Rattle.std.specs.Prelude.{◌↔◌, IsTrue, MatchOption, ℕ};
+ghost use Rattle.std.specs.Prelude.{MatchOption, ℕ};
 
 use asn1_components::FieldTable;
-use asn1_tags::{Tag, TagTree};
-
-/// Whether a value with this tree can begin with the tag.
-#[inline(always)]
-fn can_begin_with(tree: TagTree<'static>, tag: Tag) -> bool
-    ensures { IsTrue result ↔ Has (tree_tags (shape tree.entry)) tag }
-{
-    tree.has_empty_choice() || TagTree::tag_contains(&tag, &[tree])
-}
+use asn1_model::can_begin_with;
+use asn1_tags::Tag;
 
 /// The index of a component that can begin with the tag; `None` where there is none.
 #[inline(always)]

@@ -7,7 +7,7 @@
 //! | [`Header`], [`Wanted`], [`find_header`] | what an item begins with, and what it has to be that is read |
 //! | [`Buffer`] | the bytes that are written, and which scopes and groups are open |
 //! | [`Slices`], [`Item`] | the bytes that are read, list by list |
-//! | [`can_begin_with`], [`group_can_begin_with`] | whether something is there, by the tag that is next |
+//! | [`group_can_begin_with`] | whether a group is there, by the tag that is next |
 //! | [`ItemError`], [`BufferError`] | why an item was not read, or not written |
 //! | [`laws`] | what the derives give |
 //!
@@ -56,4 +56,4 @@ pub use from_content::{FromContent, StringOf};
 pub use header::{Header, Wanted, find_header};
 pub use numbers::{read_twos, significant};
 pub use slices::{Item, Slices};
-pub use tags::{can_begin_with, group_can_begin_with};
+pub use tags::group_can_begin_with;

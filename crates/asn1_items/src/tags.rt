@@ -1,19 +1,13 @@
-//! Whether what may be absent can begin with a tag.
+//! Whether a group can begin with a tag.
 ghost use Rattle.asn1_components.specs.ComponentLists.{trees_of};
 ghost use Rattle.asn1_components.specs.Components.{all_components};
 ghost use Rattle.asn1_model.specs.Tags.{Has, tree_tags};
-ghost use Rattle.asn1_tags.specs.Trees.{choice, shape};
+ghost use Rattle.asn1_tags.specs.Trees.{choice};
 ghost use Rattle.std.specs.Prelude.{◌↔◌, IsTrue};
 
 use asn1_components::FieldTable;
-use asn1_tags::{Tag, TagTree};
-
-/// Whether what has this tree can begin with the tag.
-pub fn can_begin_with(tree: TagTree<'static>, tag: Tag) -> bool
-    ensures { IsTrue result ↔ Has (tree_tags (shape tree.entry)) tag }
-{
-    tree.has_empty_choice() || TagTree::tag_contains(&tag, &[tree])
-}
+use asn1_model::can_begin_with;
+use asn1_tags::Tag;
 
 /// Whether a group with the components of this table can begin with the tag: one of them can, or there are none.
 pub fn group_can_begin_with<C: FieldTable>(tag: Tag) -> bool

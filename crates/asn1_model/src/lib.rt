@@ -10,6 +10,7 @@
 //! | [`StringType`] | what a kind of string is: its tag, its name, and what its units are to a codec |
 //! | [`TypeTable`], [`TreeForm`] | what a schema says of a type; how its tree of tags follows from the tag that it is written under |
 //! | [`tag`] | markers of the tags that X.680 assigns |
+//! | [`can_begin_with`] | whether a value can begin with a tag, by the tree of its type |
 //!
 //! The types of the lower layers and of the language are types of ASN.1 here: `()`, `bool`, the built-in integers,
 //! `Integer`, `ConstrainedInteger`, every kind of string, `&str`, `ObjectIdentifier`, `Option`, references, `Box`, `Cow`,
@@ -46,6 +47,7 @@
 #![tactic(auto, using(asn1_tags::proofs::Leaves::tree_shapes))]
 
 mod asn_type;
+mod first_tags;
 mod impls;
 pub mod laws;
 mod orders;
@@ -55,6 +57,7 @@ mod type_table;
 mod well_formed;
 
 pub use asn_type::AsnType;
+pub use first_tags::can_begin_with;
 pub use orders::order_inside_sets_is_not_seen;
 pub use strings::StringType;
 pub use type_table::{TreeForm, TypeTable};

@@ -6,7 +6,8 @@ ghost use Rattle.std.specs.Prelude.{List, MatchResult};
 
 use asn1_bounds::Codec;
 use asn1_components::FieldTable;
-use asn1_items::{ItemError, Slices, can_begin_with, group_can_begin_with};
+use asn1_items::{ItemError, Slices, group_can_begin_with};
+use asn1_model::can_begin_with;
 use asn1_packed::{MarkKind, Presence};
 use asn1_tags::{Tag, TagTree};
 

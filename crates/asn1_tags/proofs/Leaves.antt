@@ -9,7 +9,7 @@ use Rattle.std.proofs.lemmas.List.Elements.{Contains-append_left}
 use Rattle.std.proofs.lemmas.Bool.Decides.{nat_tests}
 use Rattle.std.proofs.lemmas.Grind.{common_steps}
 use Rattle.asn1_tags.specs.Tags.{has, tag_eq, distinct}
-use Rattle.asn1_tags.specs.Walks.{meet}
+use Rattle.asn1_tags.specs.Walks.{any_begins_with, begins_with, meet}
 use Rattle.asn1_tags.specs.declared.tags.Tag.{Tag}
 use Rattle.asn1_tags.specs.declared.trees.TagTree.{TagTree, Leaf, Choice, Choice', Row_of-TagTree, end_of-TagTree, more_of-TagTree, items-the_row-TagTree, items_hidden-the_row-TagTree-0}
 use Rattle.asn1_tags.specs.Trees.{Tree, Trees, leaf, choice, none, more, shape, row_shapes, shapes, leaves, leaves_of, is_open, is_any_open, is_nothing}
@@ -228,6 +228,35 @@ pub ruleset flat_steps = (flat_more, append-nil)
 
 -- one tree as several
 pub ruleset alone = (leaves_of-one)
+
+or_swap : (a b c d : Bool) → ((a || b) || (c || d)) ≡ ((a || c) || (b || d))
+or_swap true b c d = refl
+or_swap false true true d = refl
+or_swap false true false d = refl
+or_swap false false c d = refl
+
+-- a walk that looks for a tree that can begin with a tag
+pub begins_more : (t : Tag) (ts : List TagTree) (i : ℕ) (d : TagTree) → i < length ts →
+    any_begins_with t (shapes (take (i + 1) ts)) ≡ (any_begins_with t (shapes (take i ts)) || begins_with t (shape (get_or ts i d)))
+begins_more t ts i d lt =
+    ap (λ b. b || has t (leaves_of (shapes (take (i + 1) ts)))) (is_any_open_more ts i d lt)
+    ∙ ap (λ b. (is_any_open (shapes (take i ts)) || is_open (shape (get_or ts i d))) || b) (has_more t ts i d lt)
+    ∙ or_swap (is_any_open (shapes (take i ts))) (is_open (shape (get_or ts i d))) (has t (leaves_of (shapes (take i ts)))) (has t (leaves (shape (get_or ts i d))))
+
+-- a tree that can settles it
+pub begins_at : (t : Tag) (ts : List TagTree) (i : ℕ) (d : TagTree) → i < length ts → begins_with t (shape (get_or ts i d)) ≡ true → any_begins_with t (shapes ts) ≡ true
+begins_at t ts i d lt h = by (is_open (shape (get_or ts i d))) refl h
+  where
+    or_true : (b : Bool) → (b || true) ≡ true
+    or_true true = refl
+    or_true false = refl
+
+    by : (b : Bool) → is_open (shape (get_or ts i d)) ≡ b → (b || has t (leaves (shape (get_or ts i d)))) ≡ true → any_begins_with t (shapes ts) ≡ true
+    by true e h = ap (λ b. b || has t (leaves_of (shapes ts))) (is_any_open_at ts i d lt e)
+    by false e h = ap (λ b. is_any_open (shapes ts) || b) (has_at t ts i d lt h) ∙ or_true (is_any_open (shapes ts))
+
+-- steps of the walk that looks for a tree that can begin with a tag
+pub ruleset beginnings = (shape-Leaf, shape-Choice, is_nothing-shapes, begins_more, begins_at)
 
 -- steps of the walk that looks for a choice of nothing
 pub ruleset openings = (shape-Leaf, shape-Choice, is_nothing-shapes, is_any_open_more, is_any_open_at)

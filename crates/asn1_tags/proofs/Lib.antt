@@ -1,3 +1,4 @@
+pub mod Beginnings
 pub mod Leaves
 pub mod Distinct
 pub mod Smallest

@@ -1,12 +1,20 @@
 -- What the walks over trees answer on their way.
-use Rattle.std.specs.Prelude.{◌≡◌, ◌<◌, ℕ, Bool, true, false, ◌+◌, length, slice_index_or, Result, MatchResult, Option, Some, None, MatchOption, List, [], All, Contains}
+use Rattle.std.specs.Prelude.{◌≡◌, ◌<◌, ◌||◌, ℕ, Bool, true, false, ◌+◌, length, slice_index_or, Result, MatchResult, Option, Some, None, MatchOption, List, [], All, Contains}
 use Rattle.std.specs.List.{list_any, position_or_len}
 use Rattle.asn1_tags.specs.Tags.{IsAtMost, has, lesser, tag_eq}
+use Rattle.asn1_tags.specs.Trees.{Tree, Trees, is_any_open, is_open, leaves, leaves_of}
 use Rattle.asn1_tags.specs.declared.tags.Tag.{Tag}
 
 -- whether a tag is in both lists
 abbrev pub meet : List Tag → List Tag → Bool
 meet ts us = list_any (λ t. has t us) ts
+
+-- whether what has the tree, or one of the trees, can begin with the tag
+abbrev pub begins_with : Tag → Tree → Bool
+begins_with t tree = is_open tree || has t (leaves tree)
+
+abbrev pub any_begins_with : Tag → Trees → Bool
+any_begins_with t trees = is_any_open trees || has t (leaves_of trees)
 
 -- the first place of the tag among these, or how many tags there are
 abbrev pub IsFirstPlaceOf : Tag → List Tag → Result ℕ ℕ → Type 0

@@ -169,6 +169,7 @@ fn flatten(alloc: Global, nodes: &[TagTree<'_>]) -> Result<Vec<Tag>, AllocError>
 
 // Pushes the leaves of the tree.
 #[cycle(push)]
+#[inline(always)]
 fn push_leaves(tags: &mut Vec<Tag>, tree: &TagTree<'_>) -> Result<(), AllocError>
     ensures { OnOk result (tags.new.items ≡ tags.old.items ++ leaves (shape tree.now)) }
 {

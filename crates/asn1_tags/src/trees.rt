@@ -1,5 +1,5 @@
 //! Trees of tags.
-ghost use Rattle.std.specs.Prelude.{◌≡◌, ◌≢◌, ◌↔◌, ◌<◌, ◌^◌, IsTrue, length, AllPairs, Contains, IfSome, Some, slice_get};
+ghost use Rattle.std.specs.Prelude.{◌≡◌, ◌≢◌, ◌↔◌, ◌<◌, ◌^◌, IsTrue, false, length, AllPairs, Contains, IfSome, Some, slice_get};
 ghost use Rattle.std.specs.Option.{SomeIff};
 ghost use Rattle.asn1_tags.specs.Tags.{HaveCommonTag, IsSmallest, position_of};
 ghost use Rattle.asn1_tags.specs.Trees.{choice, is_open, leaves, leaves_of, none, shape, shapes};
@@ -65,6 +65,16 @@ impl TagTree<'_> {
         ensures { result ≡ is_open (shape self.now) }
     {
         walks::has_empty_choice(self)
+    }
+
+    /// Whether a value of a type with the tree can begin with the tag: it is a leaf, unless a choice of nothing is anywhere in the
+    /// tree.
+    #[inline(always)]
+    pub fn can_begin_with(&self, tag: &Tag) -> bool
+        ensures { IsTrue result ↔
+            (is_open (shape self.now) ≡ false → Contains (leaves (shape self.now)) tag.now) }
+    {
+        walks::begins_with(self, tag)
     }
 
     /// Whether some tag is a leaf of both trees.

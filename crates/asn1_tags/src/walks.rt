@@ -4,7 +4,7 @@
 ghost use Rattle.std.specs.Prelude.{◌≡◌, ◌<◌, ◌^◌, length};
 ghost use Rattle.std.specs.Option.{SomeIff};
 ghost use Rattle.asn1_tags.specs.Tags.{distinct, has};
-ghost use Rattle.asn1_tags.specs.Walks.{IsSmallestIfAny, lesser_of, meet};
+ghost use Rattle.asn1_tags.specs.Walks.{IsSmallestIfAny, any_begins_with, begins_with, lesser_of, meet};
 ghost use Rattle.asn1_tags.specs.Trees.{is_any_open, is_open, leaves, leaves_of, shape, shapes};
 
 use crate::tags::Tag;
@@ -12,6 +12,7 @@ use crate::trees::TagTree;
 
 // Whether the tag is a leaf of the tree.
 #[cycle(contains)]
+#[inline(always)]
 fn has_leaf(tree: &TagTree<'_>, tag: &Tag) -> bool
     ensures { result ≡ has tag.now (leaves (shape tree.now)) }
 {
@@ -34,8 +35,36 @@ pub(crate) fn have_leaf(nodes: &[TagTree<'_>], tag: &Tag) -> bool
     false
 }
 
+// Whether what has the tree can begin with the tag: it is a leaf, or a choice of nothing is anywhere in the tree.
+#[cycle(begin)]
+#[inline(always)]
+#[tactic(auto, using(crate::proofs::Leaves::beginnings))]
+pub(crate) fn begins_with(tree: &TagTree<'_>, tag: &Tag) -> bool
+    ensures { result ≡ begins_with tag.now (shape tree.now) }
+{
+    match tree {
+        TagTree::Leaf(leaf) => leaf.const_eq(tag),
+        TagTree::Choice(nodes) => nodes.is_empty() || any_begins_with(nodes, tag),
+    }
+}
+
+// Whether what has one of the trees can begin with the tag.
+#[cycle(begin)]
+#[tactic(auto, using(crate::proofs::Leaves::beginnings))]
+fn any_begins_with(nodes: &[TagTree<'_>], tag: &Tag) -> bool
+    ensures { result ≡ any_begins_with tag.now (shapes nodes.now) }
+{
+    for node in nodes {
+        if begins_with(node, tag) {
+            return true;
+        }
+    }
+    false
+}
+
 // How many leaves the tree has, if the number fits.
 #[cycle(count)]
+#[inline(always)]
 fn leaf_number(tree: &TagTree<'_>) -> Option<usize>
     ensures { let number = length (leaves (shape tree.now)) in
         SomeIff result (number < 2 ^ 64) number }
