@@ -12,15 +12,24 @@ trait Form {
     const HAS_MARKS: bool;
     /// Whether headers, numbers and sets are those of DER.
     const IS_DER: bool;
+    /// Whether the alternative of a `Shape` is looked for in a table of all tags that is made each time, as the layer does it.
+    const MAKES_TABLE: bool = false;
 }
 
 struct Packed;
+struct PackedWithTable;
 struct WithTags;
 struct Der;
 
 impl Form for Packed {
     const HAS_MARKS: bool = true;
     const IS_DER: bool = false;
+}
+
+impl Form for PackedWithTable {
+    const HAS_MARKS: bool = true;
+    const IS_DER: bool = false;
+    const MAKES_TABLE: bool = true;
 }
 
 impl Form for WithTags {
@@ -654,15 +663,69 @@ impl Value for Shape {
     }
 
     fn read<F: Form>(reader: &mut Reader<'_, F>) -> Result<Self, Error> {
-        reader.choice(|reader, tag| match tag {
-            NULL => match reader.scalar(NULL, 4)? {
+        reader.choice(|reader, tag| match leaf_of_shape::<F>(tag) {
+            Some(0) => match reader.scalar(NULL, 4)? {
                 [] => Ok(Shape::Dot),
                 _ => Err(Error::Malformed),
             },
-            BOOLEAN | OCTET_STRING => Ok(Shape::Inner(Corner::read(reader)?)),
-            tag if tag == context(0) => Ok(Shape::Ring(reader.small(tag, 2)?)),
-            _ => Err(Error::Malformed),
+            Some(1) => Ok(Shape::Ring(reader.small(tag, 2)?)),
+            Some(_) => Ok(Shape::Inner(Corner::read(reader)?)),
+            None => Err(Error::Malformed),
         })
+    }
+}
+
+/// The tags of a CHOICE: of each alternative its own, or those of a CHOICE.
+enum Tree {
+    Leaf(Tag),
+    Choice(&'static [Tree]),
+}
+
+const SHAPE: &[Tree] = &[
+    Tree::Leaf(NULL),
+    Tree::Leaf(context(0)),
+    Tree::Choice(&[Tree::Leaf(BOOLEAN), Tree::Leaf(OCTET_STRING)]),
+];
+
+/// The tags of a `Shape` in ascending order, with their places among the leaves.
+const SHAPE_LEAVES: &[(Tag, usize)] = &[(BOOLEAN, 2), (OCTET_STRING, 3), (NULL, 0), (context(0), 1)];
+
+/// The place of a tag among the leaves of a `Shape`.
+fn leaf_of_shape<F: Form>(tag: Tag) -> Option<usize> {
+    if F::MAKES_TABLE {
+        return leaf_in_table(SHAPE, SHAPE_LEAVES, tag);
+    }
+    match tag {
+        NULL => Some(0),
+        BOOLEAN => Some(2),
+        OCTET_STRING => Some(3),
+        tag if tag == context(0) => Some(1),
+        _ => None,
+    }
+}
+
+/// The place of a tag among the leaves of the trees, by a table that is made, and seen to fit them.
+#[inline(never)]
+fn leaf_in_table(trees: &[Tree], table: &[(Tag, usize)], tag: Tag) -> Option<usize> {
+    let mut leaves = Vec::new();
+    push_leaves(&mut leaves, trees);
+    let table = table.to_vec();
+    let fits = table.len() == leaves.len()
+        && table.iter().all(|(leaf, place)| leaves.get(*place) == Some(leaf))
+        && table.windows(2).all(|pair| pair[0] < pair[1]);
+    if !fits {
+        return leaves.iter().position(|leaf| *leaf == tag);
+    }
+    let found = table.binary_search_by_key(&tag, |(leaf, _)| *leaf).ok()?;
+    Some(table[found].1)
+}
+
+fn push_leaves(leaves: &mut Vec<Tag>, trees: &[Tree]) {
+    for tree in trees {
+        match tree {
+            Tree::Leaf(tag) => leaves.push(*tag),
+            Tree::Choice(trees) => push_leaves(leaves, trees),
+        }
     }
 }
 
@@ -816,6 +879,7 @@ fn main() {
     let (count, times) = (count.parse().unwrap_or(0), times.parse().unwrap_or(0));
     let done = match form.as_str() {
         "packed" => work::<Packed>(action, name, count, times),
+        "packed-with-table" => work::<PackedWithTable>(action, name, count, times),
         "tag" => work::<WithTags>(action, name, count, times),
         _ => work::<Der>(action, name, count, times),
     };

@@ -1,10 +1,10 @@
 -- What a buffer has written, from call to call.
-use Rattle.std.proofs.Common.{◌≡◌, ℕ, ◌+◌, ◌≤◌, ◌<◌, ◌^◌, Bool, true, false, List, [], ◌∷◌, ◌++◌, append_assoc, append-nil, refl, sym, ap, subst, ◌∙◌, arith, length, take, length-append, inr}
+use Rattle.std.proofs.Common.{◌≡◌, ℕ, zero, suc, ◌+◌, ◌≤◌, ◌<◌, ◌^◌, Bool, true, false, List, [], ◌∷◌, ◌++◌, append_assoc, append-nil, refl, sym, ap, subst, ◌∙◌, arith, length, take, length-append, inr}
 use Rattle.std.proofs.Math.Seq.{take-append_seam}
 use Rattle.std.proofs.lemmas.Bool.{eq-eqb, ne_eqb}
 use Rattle.std.specs.Prelude.{Some, ◌&&◌, ◌||◌, not, if◌then◌else◌}
 use Rattle.asn1_codec.specs.Writing.{Written, outermost, in_scope, in_group, followed_by}
-use Rattle.asn1_items.specs.Buffers.{IsWritten, TellsOfGroup, inward, is_group_innermost}
+use Rattle.asn1_items.specs.Buffers.{IsWritten, LeadsOut, TellsOfGroup, inward, is_group_innermost}
 use Rattle.asn1_items.specs.Contents.{LooksLike}
 use Rattle.asn1_items.specs.Headers.{kind_of, tag_bytes}
 use Rattle.asn1_items.specs.Items.{HasBytes, HaveBytes, IsItem, IsItemOf, IsLong, IsTooLong, MarkBytes, written_with}
@@ -43,22 +43,15 @@ inward-last inner (y ∷ xs) x = inward-last (y ∷ inner) xs x
 pub innermost : {A : Type 0} (xs ys : List A) (x : A) → xs ≡ ys ++ x ∷ [] → inward [] xs ≡ x ∷ inward [] ys
 innermost xs ys x is = ap (inward []) is ∙ inward-last [] ys x
 
-length-inward : {A : Type 0} (inner xs : List A) → length (inward inner xs) ≡ length inner + length xs
-length-inward inner [] = omega arith
-length-inward inner (x ∷ xs) = length-inward (x ∷ inner) xs ∙ omega arith
-
-pub as_many : {A : Type 0} (xs : List A) → length (inward [] xs) ≡ length xs
-as_many xs = length-inward [] xs ∙ omega arith
-
 -- the length of a scope is written before what is inside
-abbrev pub PatchedAs : List ℕ → List ℕ → ℕ → Type 0
-PatchedAs old new start =
-    (before place inside : List ℕ) → old ≡ before ++ (place ++ inside) → length place ≡ 4 → start ≡ length before + 4 →
-    (length inside < 2 ^ 32) × (new ≡ before ++ (four_bytes (length inside) ++ inside))
+abbrev pub PatchedAs : List ℕ → List ℕ → ℕ → ℕ → Type 0
+PatchedAs old new start was =
+    (before inside : List ℕ) (number : ℕ) → number < 2 ^ 32 → old ≡ before ++ (four_bytes number ++ inside) → start ≡ length before + 4 →
+    (length inside < 2 ^ 32) × (new ≡ before ++ (four_bytes (length inside) ++ inside)) × (was ≡ number)
 
 -- or what is inside is too long
 abbrev pub HasLongInside : List ℕ → ℕ → Type 0
-HasLongInside old start = (before place inside : List ℕ) → old ≡ before ++ (place ++ inside) → length place ≡ 4 → start ≡ length before + 4 → 2 ^ 32 ≤ length inside
+HasLongInside old start = (before inside : List ℕ) (number : ℕ) → number < 2 ^ 32 → old ≡ before ++ (four_bytes number ++ inside) → start ≡ length before + 4 → 2 ^ 32 ≤ length inside
 
 pub not_both : (b : Bool) → b ≡ false → b ≡ true → ⊥
 not_both b f t = let x : false ≡ true = sym f ∙ t in cc
@@ -104,25 +97,28 @@ module _ (marks : MarkBytes) where
   one_record r bytes p = record { first = bytes; others = []; is_first = p; are_others = refl; are = sym (append-nil bytes) }
 
   -- more records in the innermost list
-  followed : (w : Written) (scopes : List ℕ) (groups : List Group) (bytes more : List ℕ) (rs : List model.Record) → IsWritten marks w scopes groups bytes → HaveBytes (written_with marks) (held rs) more →
-      IsWritten marks (followed_by w rs) scopes groups (bytes ++ more)
-  followed (outermost before) [] [] bytes more rs p q = bytes-append before rs bytes more p q
-  followed (outermost before) [] (g ∷ groups) bytes more rs p q = absurd p
-  followed (outermost before) (s ∷ scopes) groups bytes more rs p q = absurd p
-  followed (in_scope h before w) [] groups bytes more rs p q = absurd p
-  followed (in_scope h before w) (s ∷ scopes) groups bytes more rs p q = record {
+  followed : (w : Written) (scopes start : ℕ) (far : List ℕ) (groups : List Group) (bytes more : List ℕ) (rs : List model.Record) → IsWritten marks w scopes start far groups bytes → HaveBytes (written_with marks) (held rs) more →
+      IsWritten marks (followed_by w rs) scopes start far groups (bytes ++ more)
+  followed (outermost before) zero start far [] bytes more rs p q = bytes-append before rs bytes more p q
+  followed (outermost before) zero start far (g ∷ groups) bytes more rs p q = absurd p
+  followed (outermost before) (suc scopes) start far groups bytes more rs p q = absurd p
+  followed (in_scope h before w) zero start far groups bytes more rs p q = absurd p
+  followed (in_scope h before w) (suc scopes) start far groups bytes more rs p q = record {
     before = p.before;
-    size = p.size;
+    link = p.link;
     inside = p.inside ++ more;
+    outer = p.outer;
+    outer_far = p.outer_far;
     outside = p.outside;
-    are = ap (λ l. l ++ more) p.are ∙ append_assoc (p.before ++ kind_of h ∷ tag_bytes (head_tag h)) (p.size ++ p.inside) more ∙ ap (λ l. (p.before ++ kind_of h ∷ tag_bytes (head_tag h)) ++ l) (append_assoc p.size p.inside more);
-    size_long = p.size_long;
+    are = ap (λ l. l ++ more) p.are ∙ append_assoc (p.before ++ kind_of h ∷ tag_bytes (head_tag h)) (four_bytes p.link ++ p.inside) more ∙ ap (λ l. (p.before ++ kind_of h ∷ tag_bytes (head_tag h)) ++ l) (append_assoc (four_bytes p.link) p.inside more);
+    link_fits = p.link_fits;
+    leads_out = p.leads_out;
     starts = p.starts;
     tag_fits = p.tag_fits;
     have_bytes = bytes-append before rs p.inside more p.have_bytes q;
   }
-  followed (in_group table before w) scopes [] bytes more rs p q = absurd p
-  followed (in_group table before w) scopes (g ∷ groups) bytes more rs p q =
+  followed (in_group table before w) scopes start far [] bytes more rs p q = absurd p
+  followed (in_group table before w) scopes start far (g ∷ groups) bytes more rs p q =
       let s = p.2 in (
         p.0,
         p.1,
@@ -137,40 +133,44 @@ module _ (marks : MarkBytes) where
       )
 
   -- a record was appended
-  pub appended : (w : Written) (scopes : List ℕ) (groups : List Group) (bytes more new : List ℕ) (r : model.Record) → HasBytes (written_with marks) r more → new ≡ bytes ++ more → IsWritten marks w scopes groups bytes →
-      IsWritten marks (followed_by w (r ∷ [])) scopes groups new
-  appended w scopes groups bytes more new r has is wrote = subst (IsWritten marks (followed_by w (r ∷ [])) scopes groups) (sym is) (followed w scopes groups bytes more (r ∷ []) wrote (one_record r more has))
+  pub appended : (w : Written) (scopes start : ℕ) (far : List ℕ) (groups : List Group) (bytes more new : List ℕ) (r : model.Record) → HasBytes (written_with marks) r more → new ≡ bytes ++ more → IsWritten marks w scopes start far groups bytes →
+      IsWritten marks (followed_by w (r ∷ [])) scopes start far groups new
+  appended w scopes start far groups bytes more new r has is wrote =
+      subst (IsWritten marks (followed_by w (r ∷ [])) scopes start far groups) (sym is) (followed w scopes start far groups bytes more (r ∷ []) wrote (one_record r more has))
 
   -- what was written is an item of the content
-  pub scalar_written : (y x : model.Content) (t : Tag) (c : ConstraintSet) (n : Name) (bytes new : List ℕ) → LooksLike y x → Appended (IsItemOf t y) bytes new → (scopes : List ℕ) (groups : List Group) (w : Written) → IsWritten marks w scopes groups bytes →
-      IsWritten marks (followed_by w (scalar t c n x ∷ [])) scopes groups new
-  scalar_written y x t c n bytes new like a scopes groups w wrote =
-      appended w scopes groups bytes a.added new (scalar t c n x) (record { inside = a.is.inside; is = like.bytes a.is.inside a.is.is; item = subst (λ k. IsItem 1 t (k ∷ []) a.is.inside a.added) like.kind a.is.item }) a.joined wrote
+  pub scalar_written : (y x : model.Content) (t : Tag) (c : ConstraintSet) (n : Name) (bytes new : List ℕ) → LooksLike y x → Appended (IsItemOf t y) bytes new → (scopes start : ℕ) (far : List ℕ) (groups : List Group) (w : Written) →
+      IsWritten marks w scopes start far groups bytes → IsWritten marks (followed_by w (scalar t c n x ∷ [])) scopes start far groups new
+  scalar_written y x t c n bytes new like a scopes start far groups w wrote =
+      appended w scopes start far groups bytes a.added new (scalar t c n x) (record { inside = a.is.inside; is = like.bytes a.is.inside a.is.is; item = subst (λ k. IsItem 1 t (k ∷ []) a.is.inside a.added) like.kind a.is.item }) a.joined wrote
 
   pub scalar_too_long : (y x : model.Content) (t : Tag) (c : ConstraintSet) (n : Name) → LooksLike y x → IsLong y → IsTooLong (written_with marks) (scalar t c n x)
   scalar_too_long y x t c n like long = (long.0, like.bytes long.0 long.1, long.2)
 
   -- a scope was opened
-  pub scope_opened : (h : model.Head) (w : Written) (scopes : List ℕ) (groups : List Group) (start : ℕ) (bytes new size : List ℕ) → start ≡ length new → (head_tag h).value < 2 ^ 32 → length size ≡ 4 →
-      new ≡ (bytes ++ kind_of h ∷ tag_bytes (head_tag h)) ++ size → IsWritten marks w scopes groups bytes → IsWritten marks (in_scope h [] w) (start ∷ scopes) groups new
-  scope_opened h w scopes groups start bytes new size starts tag_fits size_long is wrote =
-      let long = ap length is in record {
-        before = bytes;
-        size = size;
-        inside = [];
-        outside = wrote;
-        are = is ∙ ap (λ l. (bytes ++ kind_of h ∷ tag_bytes (head_tag h)) ++ l) (sym (append-nil size));
-        size_long = size_long;
-        starts = omega (arith, starts, long, size_long, length-append (bytes ++ kind_of h ∷ tag_bytes (head_tag h)) size, length-append bytes (kind_of h ∷ tag_bytes (head_tag h)));
-        tag_fits = tag_fits;
-        have_bytes = refl;
-      }
+  pub scope_opened : (h : model.Head) (w : Written) (scopes start link outer : ℕ) (far outer_far : List ℕ) (groups : List Group) (bytes new : List ℕ) → start ≡ length bytes + 10 → (head_tag h).value < 2 ^ 32 → link < 2 ^ 32 → LeadsOut link start far outer outer_far →
+      new ≡ (bytes ++ kind_of h ∷ tag_bytes (head_tag h)) ++ four_bytes link → IsWritten marks w scopes outer outer_far groups bytes → IsWritten marks (in_scope h [] w) (suc scopes) start far groups new
+  scope_opened h w scopes start link outer far outer_far groups bytes new starts tag_fits link_fits leads is wrote = record {
+    before = bytes;
+    link = link;
+    inside = [];
+    outer = outer;
+    outer_far = outer_far;
+    outside = wrote;
+    are = is ∙ ap (λ l. (bytes ++ kind_of h ∷ tag_bytes (head_tag h)) ++ l) (sym (append-nil (four_bytes link)));
+    link_fits = link_fits;
+    leads_out = leads;
+    starts = starts;
+    tag_fits = tag_fits;
+    have_bytes = refl;
+  }
 
-  pub scope_closed : (h : model.Head) (rs : List model.Record) (w : Written) (scopes : List ℕ) (groups : List Group) (start : ℕ) (bytes new : List ℕ) → PatchedAs bytes new start → IsWritten marks (in_scope h rs w) (start ∷ scopes) groups bytes →
-      IsWritten marks (followed_by w (holding h rs ∷ [])) scopes groups new
-  scope_closed h rs w scopes groups start bytes new patched s =
+  -- a scope was closed
+  pub scope_closed : (h : model.Head) (rs : List model.Record) (w : Written) (scopes start was : ℕ) (far : List ℕ) (groups : List Group) (bytes new : List ℕ) (start' : ℕ) (far' : List ℕ) → PatchedAs bytes new start was →
+      ((outer : ℕ) (outer_far : List ℕ) → LeadsOut was start far outer outer_far → (start' ≡ outer) × (far' ≡ outer_far)) → IsWritten marks (in_scope h rs w) (suc scopes) start far groups bytes → IsWritten marks (followed_by w (holding h rs ∷ [])) scopes start' far' groups new
+  scope_closed h rs w scopes start was far groups bytes new start' far' patched back s =
       let header = kind_of h ∷ tag_bytes (head_tag h) in
-      let p = patched (s.before ++ header) s.size s.inside s.are s.size_long (omega (arith, s.starts, length-append s.before header)) in
+      let p = patched (s.before ++ header) s.inside s.link s.link_fits s.are (omega (arith, s.starts, length-append s.before header)) in
       let item = header ++ (four_bytes (length s.inside) ++ s.inside) in
       let has : HasBytes (written_with marks) (holding h rs) item = record {
         inside = s.inside;
@@ -178,43 +178,40 @@ module _ (marks : MarkBytes) where
         item = record { are = refl; tag_fits = s.tag_fits; size_fits = p.0 };
       } in
       let whole : new ≡ s.before ++ item = p.1 ∙ append_assoc s.before header (four_bytes (length s.inside) ++ s.inside) in
-      appended w scopes groups s.before item new (holding h rs) has whole s.outside
+      let out = back s.outer s.outer_far (subst (λ l. LeadsOut l start far s.outer s.outer_far) (sym p.2) s.leads_out) in
+      let outside : IsWritten marks w scopes start' far' groups s.before = subst (λ f. IsWritten marks w scopes start' f groups s.before) (sym out.1) (subst (λ o. IsWritten marks w scopes o s.outer_far groups s.before) (sym out.0) s.outside) in
+      appended w scopes start' far' groups s.before item new (holding h rs) has whole outside
 
-  pub scope_too_long : (h : model.Head) (rs : List model.Record) (w : Written) (scopes : List ℕ) (groups : List Group) (start : ℕ) (bytes : List ℕ) → HasLongInside bytes start → IsWritten marks (in_scope h rs w) (start ∷ scopes) groups bytes →
+  pub scope_too_long : (h : model.Head) (rs : List model.Record) (w : Written) (scopes start : ℕ) (far : List ℕ) (groups : List Group) (bytes : List ℕ) → HasLongInside bytes start → IsWritten marks (in_scope h rs w) scopes start far groups bytes →
       IsTooLong (written_with marks) (holding h rs)
-  scope_too_long h rs w scopes groups start bytes long s =
+  scope_too_long h rs w zero start far groups bytes long s = absurd s
+  scope_too_long h rs w (suc scopes) start far groups bytes long s =
       let header = kind_of h ∷ tag_bytes (head_tag h) in
-      inr (s.inside, s.have_bytes, long (s.before ++ header) s.size s.inside s.are s.size_long (omega (arith, s.starts, length-append s.before header)))
+      inr (s.inside, s.have_bytes, long (s.before ++ header) s.inside s.link s.link_fits s.are (omega (arith, s.starts, length-append s.before header)))
 
   -- where more scopes are open than these, the innermost list is no group's
-  group_is_outside : (w : Written) (scopes : List ℕ) (groups : List Group) (bytes : List ℕ) (n : ℕ) → length scopes < n → IsWritten marks w scopes groups bytes → is_group_innermost groups n ≡ false
-  group_is_outside (outermost rs) [] [] bytes n less wrote = refl
-  group_is_outside (outermost rs) [] (g ∷ groups) bytes n less wrote = absurd wrote
-  group_is_outside (outermost rs) (s ∷ scopes) groups bytes n less wrote = absurd wrote
-  group_is_outside (in_scope h rs w) [] groups bytes n less wrote = absurd wrote
-  group_is_outside (in_scope h rs w) (s ∷ scopes) groups bytes n less wrote = group_is_outside w scopes groups wrote.before n (omega arith) wrote.outside
-  group_is_outside (in_group table rs w) scopes [] bytes n less wrote = absurd wrote
-  group_is_outside (in_group table rs w) scopes (g ∷ groups) bytes n less wrote = ne_eqb g.open_scopes n (λ same. omega (arith, wrote.0, same))
+  group_is_outside : (w : Written) (scopes start : ℕ) (far : List ℕ) (groups : List Group) (bytes : List ℕ) (n : ℕ) → scopes < n → IsWritten marks w scopes start far groups bytes → is_group_innermost groups n ≡ false
+  group_is_outside (outermost rs) zero start far [] bytes n less wrote = refl
+  group_is_outside (outermost rs) zero start far (g ∷ groups) bytes n less wrote = absurd wrote
+  group_is_outside (outermost rs) (suc scopes) start far groups bytes n less wrote = absurd wrote
+  group_is_outside (in_scope h rs w) zero start far groups bytes n less wrote = absurd wrote
+  group_is_outside (in_scope h rs w) (suc scopes) start far groups bytes n less wrote = group_is_outside w scopes wrote.outer wrote.outer_far groups wrote.before n (omega arith) wrote.outside
+  group_is_outside (in_group table rs w) scopes start far [] bytes n less wrote = absurd wrote
+  group_is_outside (in_group table rs w) scopes start far (g ∷ groups) bytes n less wrote = ne_eqb g.open_scopes n (λ same. omega (arith, wrote.0, same))
 
   -- which list is innermost
-  scope_innermost : (h : model.Head) (rs : List model.Record) (w : Written) (scopes : List ℕ) (groups : List Group) (bytes : List ℕ) → IsWritten marks (in_scope h rs w) scopes groups bytes → is_group_innermost groups (length scopes) ≡ false
-  scope_innermost h rs w [] groups bytes wrote = absurd wrote
-  scope_innermost h rs w (s ∷ scopes) groups bytes wrote = group_is_outside w scopes groups wrote.before (length (s ∷ scopes)) (omega arith) wrote.outside
+  pub scope_is_innermost : (h : model.Head) (rs : List model.Record) (w : Written) (scopes start : ℕ) (far : List ℕ) (groups : List Group) (bytes : List ℕ) → IsWritten marks (in_scope h rs w) scopes start far groups bytes → is_group_innermost groups scopes ≡ false
+  scope_is_innermost h rs w zero start far groups bytes wrote = absurd wrote
+  scope_is_innermost h rs w (suc scopes) start far groups bytes wrote = group_is_outside w scopes wrote.outer wrote.outer_far groups wrote.before (suc scopes) (omega arith) wrote.outside
 
-  group_innermost : (table : Table Line) (rs : List model.Record) (w : Written) (scopes : List ℕ) (groups : List Group) (bytes : List ℕ) → IsWritten marks (in_group table rs w) scopes groups bytes → is_group_innermost groups (length scopes) ≡ true
-  group_innermost table rs w scopes [] bytes wrote = absurd wrote
-  group_innermost table rs w scopes (g ∷ groups) bytes wrote = eq-eqb g.open_scopes (length scopes) wrote.0
-
-  pub scope_is_innermost : (h : model.Head) (rs : List model.Record) (w : Written) (scopes : List ℕ) (groups : List Group) (bytes : List ℕ) → IsWritten marks (in_scope h rs w) (inward [] scopes) groups bytes → is_group_innermost groups (length scopes) ≡ false
-  scope_is_innermost h rs w scopes groups bytes wrote = subst (λ n. is_group_innermost groups n ≡ false) (as_many scopes) (scope_innermost h rs w (inward [] scopes) groups bytes wrote)
-
-  pub group_is_innermost : (table : Table Line) (rs : List model.Record) (w : Written) (scopes : List ℕ) (groups : List Group) (bytes : List ℕ) → IsWritten marks (in_group table rs w) (inward [] scopes) groups bytes → is_group_innermost groups (length scopes) ≡ true
-  group_is_innermost table rs w scopes groups bytes wrote = subst (λ n. is_group_innermost groups n ≡ true) (as_many scopes) (group_innermost table rs w (inward [] scopes) groups bytes wrote)
+  pub group_is_innermost : (table : Table Line) (rs : List model.Record) (w : Written) (scopes start : ℕ) (far : List ℕ) (groups : List Group) (bytes : List ℕ) → IsWritten marks (in_group table rs w) scopes start far groups bytes → is_group_innermost groups scopes ≡ true
+  group_is_innermost table rs w scopes start far [] bytes wrote = absurd wrote
+  group_is_innermost table rs w scopes start far (g ∷ groups) bytes wrote = eq-eqb g.open_scopes scopes wrote.0
 
   -- a group was opened
-  pub group_opened : (table : Table Line) (w : Written) (scopes : List ℕ) (groups : List Group) (g : Group) (bytes new : List ℕ) → g.start ≡ length bytes → g.open_scopes ≡ length scopes → TellsOfGroup w g.outer_has_records → new ≡ bytes ++ marks (model.group_start table) →
-      IsWritten marks w scopes groups bytes → IsWritten marks (in_group table [] w) scopes (g ∷ groups) new
-  group_opened table w scopes groups g bytes new start around told is wrote = (
+  pub group_opened : (table : Table Line) (w : Written) (scopes start : ℕ) (far : List ℕ) (groups : List Group) (g : Group) (bytes new : List ℕ) → g.start ≡ length bytes → g.open_scopes ≡ scopes → TellsOfGroup w g.outer_has_records → new ≡ bytes ++ marks (model.group_start table) →
+      IsWritten marks w scopes start far groups bytes → IsWritten marks (in_group table [] w) scopes start far (g ∷ groups) new
+  group_opened table w scopes start far groups g bytes new begins around told is wrote = (
     around,
     told,
     record {
@@ -222,15 +219,16 @@ module _ (marks : MarkBytes) where
       inside = [];
       outside = wrote;
       are = is ∙ ap (λ l. bytes ++ l) (sym (append-nil (marks (model.group_start table))));
-      starts = start;
+      starts = begins;
       have_bytes = refl;
     },
   )
 
   -- a group that is there was closed
-  pub group_closed : (table : Table Line) (rs : List model.Record) (w : Written) (scopes : List ℕ) (groups : List Group) (g : Group) (bytes new end : List ℕ) (some : Bool) → some ≡ true → new ≡ bytes ++ end → marks model.group_end ≡ end →
-      IsWritten marks (in_group table rs w) scopes (g ∷ groups) bytes → some ≡ not (presence_marks_alone rs) → IsWritten marks (followed_by w (group_records table (Some rs))) scopes groups new × TellsOfGroup (followed_by w (group_records table (Some rs))) some
-  group_closed table rs w scopes groups g bytes new end some there is ends wrote told =
+  pub group_closed : (table : Table Line) (rs : List model.Record) (w : Written) (scopes outer : ℕ) (far : List ℕ) (groups : List Group) (g : Group) (bytes new end : List ℕ) (some : Bool) → some ≡ true → new ≡ bytes ++ end → marks model.group_end ≡ end →
+      IsWritten marks (in_group table rs w) scopes outer far (g ∷ groups) bytes → some ≡ not (presence_marks_alone rs) →
+      IsWritten marks (followed_by w (group_records table (Some rs))) scopes outer far groups new × TellsOfGroup (followed_by w (group_records table (Some rs))) some
+  group_closed table rs w scopes outer far groups g bytes new end some there is ends wrote told =
       let s = wrote.2 in
       let firm : presence_marks_alone rs ≡ false = not_alone (presence_marks_alone rs) (sym there ∙ told) in
       let start = marks (model.group_start table) in
@@ -239,26 +237,27 @@ module _ (marks : MarkBytes) where
       (bytes-append rs (model.presence_mark model.group_end ∷ []) s.inside end s.have_bytes (one_record (model.presence_mark model.group_end) end (sym ends))) in
       let whole : new ≡ s.before ++ (start ++ (s.inside ++ end)) = is ∙ ap (λ l. l ++ end) s.are ∙ append_assoc s.before (start ++ s.inside) end ∙ ap (λ l. s.before ++ l) (append_assoc start s.inside end) in
       let firm_group : not (presence_marks_alone group) ≡ true = alone-append rs (model.presence_mark model.group_end ∷ []) ∙ ap (λ b. not b || false) firm in
-      subst (λ rest. IsWritten marks (followed_by w rest) scopes groups new × TellsOfGroup (followed_by w rest) some) (sym (group_alone table rs false firm)) (
-        subst (IsWritten marks (followed_by w group) scopes groups) (sym whole) (followed w scopes groups s.before (start ++ (s.inside ++ end)) group s.outside have),
+      subst (λ rest. IsWritten marks (followed_by w rest) scopes outer far groups new × TellsOfGroup (followed_by w rest) some) (sym (group_alone table rs false firm)) (
+        subst (IsWritten marks (followed_by w group) scopes outer far groups) (sym whole) (followed w scopes outer far groups s.before (start ++ (s.inside ++ end)) group s.outside have),
         subst (TellsOfGroup (followed_by w group)) (sym there) (tells_of_records w group firm_group),
       )
 
   -- a group that is absent was closed
-  pub absent_group_closed : (table : Table Line) (rs : List model.Record) (w : Written) (scopes : List ℕ) (groups : List Group) (g : Group) (bytes cut new away : List ℕ) (some : Bool) → some ≡ false → cut ≡ take g.start bytes → new ≡ cut ++ away → marks model.group_absent ≡ away →
-      IsWritten marks (in_group table rs w) scopes (g ∷ groups) bytes → some ≡ not (presence_marks_alone rs) → IsWritten marks (followed_by w (group_records table (Some rs))) scopes groups new × TellsOfGroup (followed_by w (group_records table (Some rs))) g.outer_has_records
-  absent_group_closed table rs w scopes groups g bytes cut new away some none cut_is is absent wrote told =
+  pub absent_group_closed : (table : Table Line) (rs : List model.Record) (w : Written) (scopes outer : ℕ) (far : List ℕ) (groups : List Group) (g : Group) (bytes cut new away : List ℕ) (some : Bool) → some ≡ false → cut ≡ take g.start bytes → new ≡ cut ++ away → marks model.group_absent ≡ away →
+      IsWritten marks (in_group table rs w) scopes outer far (g ∷ groups) bytes → some ≡ not (presence_marks_alone rs) →
+      IsWritten marks (followed_by w (group_records table (Some rs))) scopes outer far groups new × TellsOfGroup (followed_by w (group_records table (Some rs))) g.outer_has_records
+  absent_group_closed table rs w scopes outer far groups g bytes cut new away some none cut_is is absent wrote told =
       let s = wrote.2 in
       let alone : presence_marks_alone rs ≡ true = is_alone (presence_marks_alone rs) (sym none ∙ told) in
       let kept : take g.start bytes ≡ s.before = ap (λ n. take n bytes) s.starts ∙ ap (take (length s.before)) s.are ∙ take-append_seam s.before (marks (model.group_start table) ++ s.inside) in
       let whole : new ≡ s.before ++ away = is ∙ ap (λ l. l ++ away) (cut_is ∙ kept) in
-      subst (λ rest. IsWritten marks (followed_by w rest) scopes groups new × TellsOfGroup (followed_by w rest) g.outer_has_records) (sym (group_alone table rs true alone)) (
-        appended w scopes groups s.before away new (model.presence_mark model.group_absent) (sym absent) whole s.outside,
+      subst (λ rest. IsWritten marks (followed_by w rest) scopes outer far groups new × TellsOfGroup (followed_by w rest) g.outer_has_records) (sym (group_alone table rs true alone)) (
+        appended w scopes outer far groups s.before away new (model.presence_mark model.group_absent) (sym absent) whole s.outside,
         tells_of_mark w model.group_absent g.outer_has_records wrote.1,
       )
 
   -- what was written at the end
-  pub finished : (scopes : List ℕ) (groups : List Group) (bytes : List ℕ) (rs : List model.Record) → IsWritten marks (outermost rs) scopes groups bytes → HaveBytes (written_with marks) (held rs) bytes
-  finished [] [] bytes rs wrote = wrote
-  finished [] (g ∷ groups) bytes rs wrote = absurd wrote
-  finished (s ∷ scopes) groups bytes rs wrote = absurd wrote
+  pub finished : (scopes start : ℕ) (far : List ℕ) (groups : List Group) (bytes : List ℕ) (rs : List model.Record) → IsWritten marks (outermost rs) scopes start far groups bytes → HaveBytes (written_with marks) (held rs) bytes
+  finished zero start far [] bytes rs wrote = wrote
+  finished zero start far (g ∷ groups) bytes rs wrote = absurd wrote
+  finished (suc scopes) start far groups bytes rs wrote = absurd wrote

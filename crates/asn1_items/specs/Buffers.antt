@@ -1,5 +1,5 @@
 -- What a buffer has written, with presence marks of these bytes.
-use Rattle.std.specs.Prelude.{◌≡◌, ⊤, ℕ, ◌+◌, ◌<◌, ◌≤◌, ◌^◌, ◌==◌, Bool, false, not, List, [], ◌∷◌, ◌++◌, length, IfOk, MatchResult, Result, Some}
+use Rattle.std.specs.Prelude.{◌≡◌, ◌⊎◌, ⊤, ℕ, zero, suc, ◌+◌, ◌<◌, ◌≤◌, ◌^◌, ◌==◌, Bool, false, not, List, [], ◌∷◌, ◌++◌, length, IfOk, MatchResult, Result, Some}
 use Rattle.asn1_codec.specs.Writing.{Written, followed_by, outermost, in_scope, in_group}
 use Rattle.asn1_items.specs.Headers.{kind_of, tag_bytes}
 use Rattle.asn1_items.specs.Items.{HaveBytes, IsTooLong, MarkBytes, written_with}
@@ -19,15 +19,24 @@ TellsOfGroup (outermost rs) has_records = ⊤
 TellsOfGroup (in_scope h rs w) has_records = ⊤
 TellsOfGroup (in_group table rs w) has_records = has_records ≡ not (presence_marks_alone rs)
 
+-- A number leads out of a scope, from the place at which its inside begins to that of the scope around it: it is how far that is. Or
+-- it is 0, and the place is the first of those that are far.
+abbrev pub LeadsOut : ℕ → ℕ → List ℕ → ℕ → List ℕ → Type 0
+LeadsOut link start far outer outer_far = ((0 < link) × (start ≡ outer + link) × (far ≡ outer_far)) ⊎ ((link ≡ 0) × (far ≡ outer ∷ outer_far))
+
 module _ (marks : MarkBytes) where
-  -- A scope that is open: what is outside, the header, whose length is not known yet, and what is inside.
-  pub record IsOpenScope (IsOutside : List ℕ → Type 0) (h : Head) (rs : List Record) (start : ℕ) (bytes : List ℕ) : Type 0 where
+  -- A scope that is open: what is outside; the header, in which a number that leads out stands for the length, which is not known
+  -- yet; and what is inside.
+  pub record IsOpenScope (IsOutside : ℕ → List ℕ → List ℕ → Type 0) (h : Head) (rs : List Record) (start : ℕ) (far : List ℕ) (bytes : List ℕ) : Type 0 where
     pub before : List ℕ
-    pub size : List ℕ
+    pub link : ℕ
     pub inside : List ℕ
-    pub outside : IsOutside before
-    pub are : bytes ≡ (before ++ kind_of h ∷ tag_bytes (head_tag h)) ++ (size ++ inside)
-    pub size_long : length size ≡ 4
+    pub outer : ℕ
+    pub outer_far : List ℕ
+    pub outside : IsOutside outer outer_far before
+    pub are : bytes ≡ (before ++ kind_of h ∷ tag_bytes (head_tag h)) ++ (four_bytes link ++ inside)
+    pub link_fits : link < 2 ^ 32
+    pub leads_out : LeadsOut link start far outer outer_far
     pub starts : start ≡ length before + 10
     pub tag_fits : (head_tag h).value < 2 ^ 32
     pub have_bytes : HaveBytes (written_with marks) (held rs) inside
@@ -41,16 +50,16 @@ module _ (marks : MarkBytes) where
     pub starts : start ≡ length before
     pub have_bytes : HaveBytes (written_with marks) (held rs) inside
 
-  -- What has been written. The first list has where the inside of each open scope begins, and the second the open groups, both the
-  -- innermost first.
-  abbrev pub IsWritten : Written → List ℕ → List Group → List ℕ → Type 0
-  IsWritten (outermost rs) [] [] bytes = HaveBytes (written_with marks) (held rs) bytes
-  IsWritten (outermost rs) [] (g ∷ gs) bytes = ⊥
-  IsWritten (outermost rs) (s ∷ ss) gs bytes = ⊥
-  IsWritten (in_scope h rs w) [] gs bytes = ⊥
-  IsWritten (in_scope h rs w) (s ∷ ss) gs bytes = IsOpenScope (λ before. IsWritten w ss gs before) h rs s bytes
-  IsWritten (in_group table rs w) ss [] bytes = ⊥
-  IsWritten (in_group table rs w) ss (g ∷ gs) bytes = (g.open_scopes ≡ length ss) × TellsOfGroup w g.outer_has_records × IsOpenGroup (λ before. IsWritten w ss gs before) table rs g.start bytes
+  -- What has been written. The numbers are how many scopes are open, and where the inside of the innermost one begins; the lists have
+  -- the places that are far, and the open groups, both the innermost first.
+  abbrev pub IsWritten : Written → ℕ → ℕ → List ℕ → List Group → List ℕ → Type 0
+  IsWritten (outermost rs) zero start far [] bytes = HaveBytes (written_with marks) (held rs) bytes
+  IsWritten (outermost rs) zero start far (g ∷ gs) bytes = ⊥
+  IsWritten (outermost rs) (suc scopes) start far gs bytes = ⊥
+  IsWritten (in_scope h rs w) zero start far gs bytes = ⊥
+  IsWritten (in_scope h rs w) (suc scopes) start far gs bytes = IsOpenScope (λ outer outer_far before. IsWritten w scopes outer outer_far gs before) h rs start far bytes
+  IsWritten (in_group table rs w) scopes start far [] bytes = ⊥
+  IsWritten (in_group table rs w) scopes start far (g ∷ gs) bytes = (g.open_scopes ≡ scopes) × TellsOfGroup w g.outer_has_records × IsOpenGroup (λ before. IsWritten w scopes start far gs before) table rs g.start bytes
 
 -- what is open, innermost first
 abbrev pub inward : {A : Type 0} → List A → List A → List A
@@ -63,9 +72,17 @@ abbrev pub is_group_innermost : List Group → ℕ → Bool
 is_group_innermost [] scopes = false
 is_group_innermost (g ∷ gs) scopes = g.open_scopes == scopes
 
+-- how many scopes of a buffer are open
+abbrev pub open_scopes : Buffer → ℕ
+open_scopes b = b.open_scopes
+
+-- whether the innermost list of a buffer is that of a group
+abbrev pub is_in_group : Buffer → Bool
+is_in_group b = is_group_innermost (inward [] b.groups.items) b.open_scopes
+
 -- The buffer has written these records, in the lists that are open.
 abbrev pub HasWritten : MarkBytes → Written → Buffer → Type 0
-HasWritten marks w b = IsWritten marks w (inward [] b.starts.items) (inward [] b.groups.items) b.bytes.items × TellsOfGroup w b.has_records
+HasWritten marks w b = IsWritten marks w b.open_scopes b.start (inward [] b.far_starts.items) (inward [] b.groups.items) b.bytes.items × TellsOfGroup w b.has_records
 
 module _ (marks : MarkBytes) where
   -- a call that appends records to the innermost list
@@ -83,11 +100,8 @@ module _ (marks : MarkBytes) where
   EndsGroup end absent old new result = (table : Table Line) (rs : List Record) (w : Written) → marks group_end ≡ end → marks group_absent ≡ absent → HasWritten marks (in_group table rs w) old →
       MatchResult result (λ _. HasWritten marks (followed_by w (group_records table (Some rs))) new) (λ e. e ≡ Memory)
 
--- how many scopes of a buffer are open
-abbrev pub open_scopes : Buffer → ℕ
-open_scopes b = length b.starts.items
-
--- A call that writes the length of what begins at a place over the four bytes before it, and fails where it is 2^32 or more.
-abbrev pub FillsLength : {A E : Type 0} → List ℕ → ℕ → List ℕ → Result A E → Type 0
-FillsLength old start new result = (before place inside : List ℕ) → old ≡ before ++ (place ++ inside) → length place ≡ 4 → start ≡ length before + 4 →
-    MatchResult result (λ _. (length inside < 2 ^ 32) × (new ≡ before ++ (four_bytes (length inside) ++ inside))) (λ _. 2 ^ 32 ≤ length inside)
+-- A call that writes the length of what begins at a place over the four bytes before it, and answers the number that these were. It
+-- fails where the length is 2^32 or more.
+abbrev pub FillsLength : {E : Type 0} → List ℕ → ℕ → List ℕ → Result ℕ E → Type 0
+FillsLength old start new result = (before inside : List ℕ) (number : ℕ) → number < 2 ^ 32 → old ≡ before ++ (four_bytes number ++ inside) → start ≡ length before + 4 →
+    MatchResult result (λ was. (length inside < 2 ^ 32) × (new ≡ before ++ (four_bytes (length inside) ++ inside)) × (was ≡ number)) (λ _. 2 ^ 32 ≤ length inside)

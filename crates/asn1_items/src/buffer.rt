@@ -1,16 +1,16 @@
 //! The bytes of items that are written.
 ghost use Rattle.asn1_codec.specs.Writing.{Written, followed_by, in_group, in_scope, outermost};
-ghost use Rattle.asn1_items.specs.Buffers.{AppendsRecords, EndsGroup, EndsScope, HasWritten, inward, is_group_innermost, open_scopes};
+ghost use Rattle.asn1_items.specs.Buffers.{AppendsRecords, EndsGroup, EndsScope, HasWritten, LeadsOut, inward, is_in_group, open_scopes};
 ghost use Rattle.asn1_items.specs.Contents.{LooksLike, content_of};
 ghost use Rattle.asn1_items.specs.Headers.{kind_of};
 ghost use Rattle.asn1_items.specs.Items.{HaveBytes, IsTooLong, MarkBytes, written_with};
-ghost use Rattle.asn1_items.specs.declared.error.BufferError.TheVariants.{Memory};
+ghost use Rattle.asn1_items.specs.declared.error.BufferError.TheVariants.{Memory, NotOpen};
 ghost use Rattle.asn1_model.specs.ConstraintSets.{ConstraintSet};
 ghost use Rattle.asn1_model.specs.Records as model;
 ghost use Rattle.asn1_model.specs.Records.{Name, group_start, held, presence_mark, open_type, scalar};
 ghost use Rattle.asn1_model.specs.RecordTables.{Line, Table};
 ghost use Rattle.asn1_model.specs.Tags.{head_tag};
-ghost use Rattle.std.specs.Prelude.{◌≡◌, ◌≢◌, ◌≤◌, ◌∷◌, [], IfErr, IfOk, List, OnOk, length, suc};
+ghost use Rattle.std.specs.Prelude.{◌≡◌, ◌≢◌, ◌≤◌, ◌<◌, ◌^◌, ◌∷◌, [], Err, IfErr, IfOk, List, OnOk, false, suc, true, ℕ};
 
 use crate::bytes::{push_mark, push_scope_header, write_length};
 use crate::content::Content;
@@ -18,18 +18,25 @@ use crate::error::BufferError;
 use crate::group::Group;
 use crate::scalars::push_item;
 use asn1_tags::Tag;
-use std::alloc::Global;
+use std::alloc::{AllocError, Global};
 
 /// The bytes of records, as an encoder writes them, which gives the bytes of each presence mark. The length of a scope is
-/// written when it is closed, so each byte is written once, however deep the scopes are.
+/// written when it is closed, so no byte is moved, however deep the scopes are.
+///
+/// Until then its four bytes tell where the inside of the scope around it begins: how far it is to there, or 0 where the distance
+/// does not fit, and the place is kept apart. So one list grows while scopes are opened.
 ///
 /// After an error nothing is promised about what has been written.
 #[derive(Drop)]
 pub struct Buffer {
     alloc: Global,
     bytes: Vec<u8>,
-    /// Where the inside of each open scope begins, the innermost scope last.
-    starts: Vec<usize>,
+    /// How many scopes are open.
+    open_scopes: usize,
+    /// Where the inside of the innermost open scope begins.
+    start: usize,
+    /// The places that are too far from the scopes that lead to them, the innermost last.
+    far_starts: Vec<usize>,
     /// The groups that are open, the innermost last.
     groups: Vec<Group>,
     /// If the innermost list is that of a group: whether there is a record in it that is no presence mark.
@@ -46,7 +53,9 @@ impl Buffer {
         Buffer {
             alloc,
             bytes: Vec::new(alloc),
-            starts: Vec::new(alloc),
+            open_scopes: 0,
+            start: 0,
+            far_starts: Vec::new(alloc),
             groups: Vec::new(alloc),
             has_records: false,
         }
@@ -126,11 +135,40 @@ impl Buffer {
         ensures one_more { OnOk result (open_scopes self.new ≡ suc (open_scopes self.old)) }
         ensures none_after_error { IfErr result (λ _. open_scopes self.new ≡ open_scopes self.old) }
     {
-        push_scope_header(&mut self.bytes, kind, tag)?;
-        if let Err(_) = self.starts.push(self.bytes.len()) {
+        let Some(open_scopes) = self.open_scopes.checked_add(1) else {
             return Err(BufferError::Memory);
-        }
+        };
+        let start = self.bytes.len() + 10;
+        let link = self.link_to_outer(start)?;
+        push_scope_header(&mut self.bytes, kind, tag, link)?;
+        self.start = start;
+        self.open_scopes = open_scopes;
         Ok(())
+    }
+
+    /// The number that leads out of a scope whose inside begins at this place.
+    ///
+    /// # Errors
+    /// [`AllocError`].
+    #[inline(always)]
+    fn link_to_outer(&mut self, start: usize) -> Result<u32, AllocError>
+        ensures leads { IfOk result (λ link. LeadsOut link start (inward [] self.new.far_starts.items)
+            self.old.start (inward [] self.old.far_starts.items)) }
+        ensures fits { IfOk result (λ link. link < 2 ^ 32) }
+        ensures same_bytes { self.new.bytes ≡ self.old.bytes }
+        ensures same_scopes { self.new.open_scopes ≡ self.old.open_scopes }
+        ensures same_groups { self.new.groups ≡ self.old.groups }
+        ensures same_records { self.new.has_records ≡ self.old.has_records }
+    {
+        match start.checked_sub(self.start) {
+            Some(distance) if 0 < distance && distance <= u32::MAX as usize => Ok(distance as u32),
+            _ => {
+                if let Err(_) = self.far_starts.push(self.start) {
+                    return Err(AllocError);
+                }
+                Ok(0)
+            }
+        }
     }
 
     /// Closes the innermost scope: its length is written over the place that was left for it.
@@ -140,18 +178,39 @@ impl Buffer {
     #[inline(always)]
     pub fn close_scope(&mut self) -> Result<(), BufferError>
         ensures closed { (marks : MarkBytes) → EndsScope marks self.old self.new result }
+        ensures in_group { is_in_group self.old ≡ true → result ≡ Err NotOpen }
+        ensures none_open { open_scopes self.old ≡ 0 → result ≡ Err NotOpen }
         ensures one_less { OnOk result (open_scopes self.old ≡ suc (open_scopes self.new)) }
         ensures no_more { open_scopes self.new ≤ open_scopes self.old }
     {
         if self.is_group_innermost() {
             return Err(BufferError::NotOpen);
         }
-        let Some(start) = self.starts.pop() else {
+        let Some(open_scopes) = self.open_scopes.checked_sub(1) else {
             return Err(BufferError::NotOpen);
         };
-        write_length(&mut self.bytes, start)?;
+        let link = write_length(&mut self.bytes, self.start)?;
+        self.start = self.outer_start(link);
+        self.open_scopes = open_scopes;
         self.has_records = true;
         Ok(())
+    }
+
+    /// Where the inside of the scope around the innermost one begins, to which this number leads.
+    #[inline(always)]
+    fn outer_start(&mut self, link: u32) -> usize
+        ensures leads { (outer : ℕ) (far : List ℕ) → LeadsOut link self.old.start
+            (inward [] self.old.far_starts.items) outer far →
+            (result ≡ outer) × (inward [] self.new.far_starts.items ≡ far) }
+        ensures same_bytes { self.new.bytes ≡ self.old.bytes }
+        ensures same_scopes { self.new.open_scopes ≡ self.old.open_scopes }
+        ensures same_groups { self.new.groups ≡ self.old.groups }
+        ensures same_records { self.new.has_records ≡ self.old.has_records }
+    {
+        if link == 0 {
+            return self.far_starts.pop().unwrap_or(0);
+        }
+        self.start.saturating_sub(link as usize)
     }
 
     /// Opens a group, which begins with this presence mark.
@@ -167,7 +226,7 @@ impl Buffer {
     {
         let group = Group {
             start: self.bytes.len(),
-            open_scopes: self.starts.len(),
+            open_scopes: self.open_scopes,
             outer_has_records: self.has_records,
         };
         push_mark(&mut self.bytes, start_mark)?;
@@ -186,6 +245,7 @@ impl Buffer {
     pub fn close_group(&mut self, end_mark: &[u8], absent_mark: &[u8]) -> Result<(), BufferError>
         ensures closed { (marks : MarkBytes) →
             EndsGroup marks end_mark.now absent_mark.now self.old self.new result }
+        ensures in_no_group { is_in_group self.old ≡ false → result ≡ Err NotOpen }
         ensures same_scopes { OnOk result (open_scopes self.new ≡ open_scopes self.old) }
         ensures no_more { open_scopes self.new ≤ open_scopes self.old }
     {
@@ -208,11 +268,10 @@ impl Buffer {
     /// Whether the innermost list is that of a group.
     #[inline(always)]
     fn is_group_innermost(&self) -> bool
-        ensures { result ≡ is_group_innermost (inward [] self.now.groups.items)
-            (length self.now.starts.items) }
+        ensures { result ≡ is_in_group self.now }
     {
         match &self.groups[..] {
-            [.., group] => group.open_scopes == self.starts.len(),
+            [.., group] => group.open_scopes == self.open_scopes,
             [] => false,
         }
     }

@@ -50,15 +50,21 @@ pub(crate) fn push_sized_header(
     Ok(())
 }
 
-/// Appends the header of an item of this kind that holds others, with zeros for the length of what is inside.
+/// Appends the header of an item of this kind that holds others, with another number for the length of what is inside.
 #[inline(always)]
-pub(crate) fn push_scope_header(bytes: &mut Vec<u8>, kind: u8, tag: Tag) -> Result<(), AllocError>
+pub(crate) fn push_scope_header(
+    bytes: &mut Vec<u8>,
+    kind: u8,
+    tag: Tag,
+    link: u32,
+) -> Result<(), AllocError>
     ensures appended { IfOk result (λ _. bytes.new.items ≡ bytes.old.items ++
-        kind ∷ (tag_bytes tag ++ 0 ∷ 0 ∷ 0 ∷ 0 ∷ [])) }
+        kind ∷ (tag_bytes tag ++ four_bytes link)) }
     ensures fits { OnOk result (tag.value < 2 ^ 32) }
 {
     let [a, b, c, d] = tag.value.to_be_bytes();
-    bytes.extend_from_slice(&[kind, tag.class as u8, a, b, c, d, 0, 0, 0, 0])
+    let [e, f, g, h] = link.to_be_bytes();
+    bytes.extend_from_slice(&[kind, tag.class as u8, a, b, c, d, e, f, g, h])
 }
 
 /// Appends the bytes of a presence mark. Most have one byte, or none.
@@ -76,9 +82,9 @@ pub(crate) fn push_mark(bytes: &mut Vec<u8>, mark: &[u8]) -> Result<(), AllocErr
     }
 }
 
-/// Writes the length of what begins at a place over the four bytes before it.
+/// Writes the length of what begins at a place over the four bytes before it, and answers the number that these were.
 #[inline(always)]
-pub(crate) fn write_length(bytes: &mut Vec<u8>, start: usize) -> Result<(), BufferError>
+pub(crate) fn write_length(bytes: &mut Vec<u8>, start: usize) -> Result<u32, BufferError>
     ensures written { FillsLength bytes.old.items start bytes.new.items result }
 {
     let end = bytes.len();
@@ -89,23 +95,29 @@ pub(crate) fn write_length(bytes: &mut Vec<u8>, start: usize) -> Result<(), Buff
     if size > u32::MAX as usize {
         return Err(BufferError::TooLong);
     }
-    patch(bytes.as_mut_slice(), start, size as u32);
-    Ok(())
+    Ok(patch(bytes.as_mut_slice(), start, size as u32))
 }
 
-/// Writes a length over the four bytes that end at a place.
+/// Writes a length over the four bytes that end at a place, and answers the number that these were.
 #[inline(always)]
-fn patch(bytes: &mut [u8], start: usize, size: u32)
-    ensures { (before place inside : List ℕ) → bytes.old ≡ before ++ (place ++ inside) →
-        length place ≡ 4 → start ≡ length before + 4 →
-        bytes.new ≡ before ++ (four_bytes size ++ inside) }
+fn patch(bytes: &mut [u8], start: usize, size: u32) -> u32
+    ensures { (before inside : List ℕ) (number : ℕ) → number < 2 ^ 32 →
+        bytes.old ≡ before ++ (four_bytes number ++ inside) → start ≡ length before + 4 →
+        (bytes.new ≡ before ++ (four_bytes size ++ inside)) × (result ≡ number) }
 {
     if start < 4 || bytes.len() < start {
-        return;
+        return 0;
     }
+    let number = u32::from_be_bytes([
+        bytes[start - 4],
+        bytes[start - 3],
+        bytes[start - 2],
+        bytes[start - 1],
+    ]);
     let [a, b, c, d] = size.to_be_bytes();
     bytes[start - 4] = a;
     bytes[start - 3] = b;
     bytes[start - 2] = c;
     bytes[start - 1] = d;
+    number
 }

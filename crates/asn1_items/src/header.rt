@@ -57,6 +57,7 @@ impl Wanted {
 /// # Errors
 /// [`ItemError::Missing`] where the bytes end before the header does, with the number of bytes that are missing of the kind or,
 /// where that is there, of the rest of the header; [`ItemError::Malformed`] where the kind is none, or the class of the tag.
+#[inline(always)]
 pub fn find_header(bytes: &[u8]) -> Result<Header<'_>, ItemError>
     ensures found { (h : Seen) → header_at bytes.now ≡ Some h →
         IsOkAnd result (λ found. IsHeader found h) }

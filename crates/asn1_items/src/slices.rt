@@ -82,6 +82,7 @@ impl<'a> Slices<'a> {
     /// # Errors
     /// As [`find_header`]; [`ItemError::Malformed`] where the header is not what is wanted; and [`ItemError::Missing`] where the
     /// bytes end before the item does, with the number of bytes that are missing inside it. Nothing is taken then.
+    #[inline(always)]
     pub fn take_item(&mut self, wanted: Wanted) -> Result<Item<'a>, ItemError>
         ensures took { TakesItem wanted self.old self.new result }
         ensures outside { left_outside self.new ≡ left_outside self.old }
@@ -134,6 +135,7 @@ impl<'a> Slices<'a> {
     ///
     /// # Errors
     /// As [`find_header`].
+    #[inline(always)]
     pub fn next_header(&self) -> Result<Header<'a>, ItemError>
         ensures found { (h : Seen) → header_at (left_inside self.now) ≡ Some h →
             IsOkAnd result (λ found. IsHeader found h) }

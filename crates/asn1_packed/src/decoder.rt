@@ -73,6 +73,7 @@ impl<'a, P: Presence> ItemDecoder<'a, P> {
     }
 
     /// Takes the next item, which is to be what is wanted.
+    #[inline(always)]
     fn take(&mut self, wanted: Wanted) -> Result<Item<'a>, DecodeError>
         ensures took { TakesItem wanted self.old.scopes self.new.scopes result }
         ensures outside { OnOk result
@@ -120,6 +121,7 @@ impl<'a, P: Presence> ItemDecoder<'a, P> {
     }
 
     /// Opens a scope.
+    #[inline(always)]
     fn open(&mut self, wanted: Wanted) -> Result<Opened, DecodeError>
         ensures read { OpensWanted (in_one_order P.mark_bytes) (IsWanted wanted)
             self.old self.new result }

@@ -7,11 +7,12 @@ use asn1_samples::{Badge, Shape};
 use asn1_tags::Tag;
 use std::alloc::Global;
 
-/// A badge, and the places of its components in the order in which they are written.
+/// A badge, the places of its components in the order in which they are written, and whether it is read by parts.
 #[derive(Drop)]
 struct BadgeCalls<'a> {
     badge: Badge,
     places: &'a [usize],
+    by_parts: bool,
 }
 
 impl BadgeCalls<'_> {
@@ -38,19 +39,39 @@ impl Calls for BadgeCalls<'_> {
     }
 
     fn read<D: Decoder>(&self, decoder: &mut D) -> Result<(), Failure> {
-        answers(Badge::decode(decoder), &self.badge)
+        let read = if self.by_parts {
+            decoder.decode_set(Tag::SET)
+        } else {
+            Badge::decode(decoder)
+        };
+        answers(read, &self.badge)
     }
 }
 
-/// Whether the badge of these components, in this order, comes back.
-fn in_this_order<R: CallRules>(rules: &R, alloc: Global, places: &[usize]) -> Result<(), Failure> {
+/// Whether the badge of these components, in this order, comes back, read by place or by parts.
+fn comes_back<R: CallRules>(
+    rules: &R,
+    alloc: Global,
+    places: &[usize],
+    by_parts: bool,
+) -> Result<(), Failure> {
     let label = letters(alloc, b"x")?;
     let badge = Badge {
         id: 7,
         label: Some(label),
         shape: Shape::Ring(300),
     };
-    calls_come_back(rules, BadgeCalls { badge, places })
+    let calls = BadgeCalls {
+        badge,
+        places,
+        by_parts,
+    };
+    calls_come_back(rules, calls)
+}
+
+/// Whether it comes back both ways.
+fn in_this_order<R: CallRules>(rules: &R, alloc: Global, places: &[usize]) -> Result<(), Failure> {
+    comes_back(rules, alloc, places, false).and(comes_back(rules, alloc, places, true))
 }
 
 /// Whether a badge is read of its components in each order.
@@ -69,18 +90,24 @@ pub fn badges_come_back_in_any_order<R: CallRules>(
         .and(in_this_order(rules, alloc, &[2, 1, 0]))
 }
 
-/// Whether a SET of these components is refused by this error.
+/// Whether it was not read, by this error.
+fn is_refused(read: Result<(), Failure>, expected: DecodeError) -> Result<(), Failure> {
+    match read {
+        Err(Failure::NotRead(error)) => is_this(error, expected),
+        Err(failure) => Err(failure),
+        Ok(()) => Err(Failure::Another),
+    }
+}
+
+/// Whether a SET of these components is refused by this error, both ways.
 fn is_no_badge<R: CallRules>(
     rules: &R,
     alloc: Global,
     places: &[usize],
     expected: DecodeError,
 ) -> Result<(), Failure> {
-    match in_this_order(rules, alloc, places) {
-        Err(Failure::NotRead(error)) => is_this(error, expected),
-        Err(failure) => Err(failure),
-        Ok(()) => Err(Failure::Another),
-    }
+    is_refused(comes_back(rules, alloc, places, false), expected)?;
+    is_refused(comes_back(rules, alloc, places, true), expected)
 }
 
 /// Whether a SET is refused where a component is there twice, or one is missing, by a codec that writes the components of a SET with

@@ -24,8 +24,8 @@
 //! - Each is read: from its records a codec gives an equal value (`Decode`), whatever the codec. The reader has a line
 //!   for each component (`decode_field`) or alternative (`decode_alternative`). Components and alternatives are read by place
 //!   (`asn1_slots`), with no proof; a `Shape` looks for its alternative in a table of the leaves of its tree. Two types show the
-//!   other forms, which have proofs: an `Envelope` reads its components one after another (`decode_fields`), and a `Badge` as
-//!   parts (`DecodeSet`). A component that may be absent is asked for under its own tag, which what follows does not begin with;
+//!   other forms, which have proofs: an `Envelope` reads its components one after another (`decode_fields`), and a `Badge` can be
+//!   read as parts too (`DecodeSet`). A component that may be absent is asked for under its own tag, which what follows does not begin with;
 //!   so it is in a group whose last components are absent, where what follows is after the group, as the note of a `Visit` is. A
 //!   tag that no alternative has is refused with the name of the CHOICE.
 //! - Each can be inside other types: `person_is_well_tagged` and the like.

@@ -94,6 +94,8 @@ impl<'a> Scopes<'a> {
     /// Makes the state failed, since an item was not read. Where bytes are missing outside all scopes the error is
     /// [`DecodeError::Incomplete`], and else, unless memory ran out, [`DecodeError::Custom`] with the text `bad item`. The depth
     /// left stays, and what is left of each scope.
+    #[cold]
+    #[inline(never)]
     pub fn fault(&mut self, error: ItemError) -> DecodeError
         ensures memory { error ≡ item_error.Memory → result ≡ Memory }
         ensures not_too_deep { result ≢ Depth }
@@ -121,6 +123,7 @@ impl<'a> Scopes<'a> {
     /// # Errors
     /// [`DecodeError::Failed`] where a call has failed before, else [`DecodeError::Depth`] where no depth is left, and else
     /// [`DecodeError::Memory`]. No scope is opened then, and the depth left stays.
+    #[inline(always)]
     pub fn open(&mut self, tag: Tag, inside: &'a [u8]) -> Result<Opened, DecodeError>
         ensures opened { IfOk result (IsOpen self.old self.new tag inside.now) }
         ensures one_less { OnOk result (self.old.depth_left ≡ suc self.new.depth_left) }
@@ -173,6 +176,7 @@ impl<'a> Scopes<'a> {
     /// # Errors
     /// [`DecodeError::Failed`] where a call has failed before, and else [`DecodeError::Custom`], with the text `bad item`, where
     /// something is left or no scope is open.
+    #[inline(always)]
     pub fn close(&mut self) -> Result<(), DecodeError>
         ensures closed { OnOk result (IsClosed self.old self.new) }
         ensures one_more { OnOk result (self.new.depth_left ≡ suc self.old.depth_left) }
