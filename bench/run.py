@@ -20,6 +20,7 @@ The third builds bench/plain_codecs.rs, and prints for lists of values and chain
 MB a second, that of plain Rust, and the ratio of the times; the instructions for each byte, if valgrind is there; and the peak memory of
 both. The time is that of the processor, the best of five, less what it takes to make the values. With --values it prints the
 instructions for each value of a list of 1000 and for each node of a chain of 200, those of plain Rust, and how many times as many.
+Reading a Badge in packed form is compared with plain Rust that makes the table of the tags of its CHOICE too.
 
 The next prints for each type that holds itself how many nested scopes a stack of 8 MiB holds in writing, reading and dropping. The
 one after it damages the bytes of a value of each sample type for this long, by one seed after another. The one before the last
@@ -190,6 +191,8 @@ def compare_codecs():
                 for action in ("write", "read"):
                     for count in counts:
                         compare_job(folder, plain, [codec, action, name, str(count)])
+        for count in LISTS["badge"]:
+            compare_job(folder, plain, ["packed", "read", "badge", str(count)], WITH_TABLE)
 
 
 # The codecs that bench/plain_codecs.rs has, and the lists with their lengths; of nodes the length of the chain.
@@ -197,16 +200,20 @@ CODECS = ("packed", "tag", "der")
 LISTS = {"person": (10**4, 10**5), "profile": (10**4, 10**5), "badge": (10**4, 10**5), "node": (500, 2000)}
 
 
-def compare_job(folder, plain, job):
-    """Prints what a job costs, and what it costs plain Rust."""
-    programs = [[SPEED_PROGRAM, *job], [plain, *job]]
+# Plain Rust that makes the table of tags of a CHOICE as the layer does, which only reading a Badge needs.
+WITH_TABLE = "packed-with-table"
+
+
+def compare_job(folder, plain, job, form=None):
+    """Prints what a job costs, and what it costs plain Rust, in this form if one is given."""
+    programs = [[SPEED_PROGRAM, *job], [plain, form or job[0], *job[1:]]]
     said = [answer([*words, "1"]) for words in programs]
     if said[0] != said[1]:
         sys.exit(f"{job}: {said[0]} but plain Rust: {said[1]}")
     megabytes = int(said[0].split()[0]) / 10**6
     times = max(1, round(100 / megabytes))
     ours, theirs = (cost(seconds_of, folder, words, times) for words in programs)
-    text = f"{' '.join(job)}: {megabytes / ours:.0f} MB/s, plain Rust {megabytes / theirs:.0f} MB/s, ratio {ours / theirs:.2f}"
+    text = f"{' '.join(job)}: {megabytes / ours:.0f} MB/s, {form or 'plain Rust'} {megabytes / theirs:.0f} MB/s, ratio {ours / theirs:.2f}"
     if shutil.which("valgrind"):
         ours, theirs = (cost(instructions_of, folder, words, 1) / 10**6 / megabytes for words in programs)
         text += f", {ours:.1f} and {theirs:.1f} instructions a byte, ratio {ours / theirs:.2f}"
@@ -225,9 +232,16 @@ def count_instructions():
         for name, count in COUNTED.items():
             for codec in CODECS:
                 for action in ("write", "read"):
-                    programs = [[program, codec, action, name, str(count)] for program in (SPEED_PROGRAM, plain)]
-                    ours, theirs = (cost(instructions_of, folder, words, 1) / count for words in programs)
-                    print(f"{name}, {codec}, {action}: {ours:.0f}, {theirs:.0f}: {ours / theirs:.1f}", flush=True)
+                    count_job(folder, plain, [codec, action, name, str(count)])
+        count_job(folder, plain, ["packed", "read", "badge", str(COUNTED["badge"])], WITH_TABLE)
+
+
+def count_job(folder, plain, job, form=None):
+    """Prints the instructions that a job takes for each value, and those of plain Rust, in this form if one is given."""
+    programs = [[SPEED_PROGRAM, *job], [plain, form or job[0], *job[1:]]]
+    ours, theirs = (cost(instructions_of, folder, words, 1) / int(job[3]) for words in programs)
+    beside = f", {form}" if form else ""
+    print(f"{job[2]}, {job[0]}, {job[1]}{beside}: {ours:.0f}, {theirs:.0f}: {ours / theirs:.1f}", flush=True)
 
 
 def reaches(words, step):
