@@ -1,5 +1,5 @@
 -- What a buffer has written, from call to call.
-use Rattle.std.proofs.Common.{◌≡◌, ℕ, zero, suc, ◌+◌, ◌≤◌, ◌<◌, ◌^◌, Bool, true, false, List, [], ◌∷◌, ◌++◌, append_assoc, append-nil, refl, sym, ap, subst, ◌∙◌, arith, length, take, length-append, inr}
+use Rattle.std.proofs.Common.{◌≡◌, ℕ, zero, suc, ◌+◌, ◌<◌, ◌^◌, Bool, true, false, List, [], ◌∷◌, ◌++◌, append_assoc, append-nil, refl, sym, ap, subst, ◌∙◌, arith, length, take, length-append}
 use Rattle.std.proofs.Math.Seq.{take-append_seam}
 use Rattle.std.proofs.lemmas.Bool.{eq-eqb, ne_eqb}
 use Rattle.std.specs.Prelude.{Some, ◌&&◌, ◌||◌, not, if◌then◌else◌}
@@ -45,13 +45,9 @@ innermost xs ys x is = ap (inward []) is ∙ inward-last [] ys x
 
 -- the length of a scope is written before what is inside
 abbrev pub PatchedAs : List ℕ → List ℕ → ℕ → ℕ → Type 0
-PatchedAs old new start was =
+PatchedAs old new start link =
     (before inside : List ℕ) (number : ℕ) → number < 2 ^ 32 → old ≡ before ++ (four_bytes number ++ inside) → start ≡ length before + 4 →
-    (length inside < 2 ^ 32) × (new ≡ before ++ (four_bytes (length inside) ++ inside)) × (was ≡ number)
-
--- or what is inside is too long
-abbrev pub HasLongInside : List ℕ → ℕ → Type 0
-HasLongInside old start = (before inside : List ℕ) (number : ℕ) → number < 2 ^ 32 → old ≡ before ++ (four_bytes number ++ inside) → start ≡ length before + 4 → 2 ^ 32 ≤ length inside
+    (length inside < 2 ^ 32) × (new ≡ before ++ (four_bytes (length inside) ++ inside)) × (link ≡ number)
 
 pub not_both : (b : Bool) → b ≡ false → b ≡ true → ⊥
 not_both b f t = let x : false ≡ true = sym f ∙ t in cc
@@ -166,9 +162,9 @@ module _ (marks : MarkBytes) where
   }
 
   -- a scope was closed
-  pub scope_closed : (h : model.Head) (rs : List model.Record) (w : Written) (scopes start was : ℕ) (far : List ℕ) (groups : List Group) (bytes new : List ℕ) (start' : ℕ) (far' : List ℕ) → PatchedAs bytes new start was →
-      ((outer : ℕ) (outer_far : List ℕ) → LeadsOut was start far outer outer_far → (start' ≡ outer) × (far' ≡ outer_far)) → IsWritten marks (in_scope h rs w) (suc scopes) start far groups bytes → IsWritten marks (followed_by w (holding h rs ∷ [])) scopes start' far' groups new
-  scope_closed h rs w scopes start was far groups bytes new start' far' patched back s =
+  pub scope_closed : (h : model.Head) (rs : List model.Record) (w : Written) (scopes start link : ℕ) (far : List ℕ) (groups : List Group) (bytes new : List ℕ) (start' : ℕ) (far' : List ℕ) → PatchedAs bytes new start link →
+      ((outer : ℕ) (outer_far : List ℕ) → LeadsOut link start far outer outer_far → (start' ≡ outer) × (far' ≡ outer_far)) → IsWritten marks (in_scope h rs w) (suc scopes) start far groups bytes → IsWritten marks (followed_by w (holding h rs ∷ [])) scopes start' far' groups new
+  scope_closed h rs w scopes start link far groups bytes new start' far' patched back s =
       let header = kind_of h ∷ tag_bytes (head_tag h) in
       let p = patched (s.before ++ header) s.inside s.link s.link_fits s.are (omega (arith, s.starts, length-append s.before header)) in
       let item = header ++ (four_bytes (length s.inside) ++ s.inside) in
@@ -181,13 +177,6 @@ module _ (marks : MarkBytes) where
       let out = back s.outer s.outer_far (subst (λ l. LeadsOut l start far s.outer s.outer_far) (sym p.2) s.leads_out) in
       let outside : IsWritten marks w scopes start' far' groups s.before = subst (λ f. IsWritten marks w scopes start' f groups s.before) (sym out.1) (subst (λ o. IsWritten marks w scopes o s.outer_far groups s.before) (sym out.0) s.outside) in
       appended w scopes start' far' groups s.before item new (holding h rs) has whole outside
-
-  pub scope_too_long : (h : model.Head) (rs : List model.Record) (w : Written) (scopes start : ℕ) (far : List ℕ) (groups : List Group) (bytes : List ℕ) → HasLongInside bytes start → IsWritten marks (in_scope h rs w) scopes start far groups bytes →
-      IsTooLong (written_with marks) (holding h rs)
-  scope_too_long h rs w zero start far groups bytes long s = absurd s
-  scope_too_long h rs w (suc scopes) start far groups bytes long s =
-      let header = kind_of h ∷ tag_bytes (head_tag h) in
-      inr (s.inside, s.have_bytes, long (s.before ++ header) s.inside s.link s.link_fits s.are (omega (arith, s.starts, length-append s.before header)))
 
   -- where more scopes are open than these, the innermost list is no group's
   group_is_outside : (w : Written) (scopes start : ℕ) (far : List ℕ) (groups : List Group) (bytes : List ℕ) (n : ℕ) → scopes < n → IsWritten marks w scopes start far groups bytes → is_group_innermost groups n ≡ false

@@ -6,7 +6,7 @@ use Rattle.asn1_items.specs.Items.{HaveBytes, IsTooLong, MarkBytes, written_with
 use Rattle.asn1_items.specs.Numbers.{four_bytes}
 use Rattle.asn1_items.specs.declared.buffer.Buffer.{Buffer}
 use Rattle.asn1_items.specs.declared.error.BufferError.{BufferError}
-use Rattle.asn1_items.specs.declared.error.BufferError.TheVariants.{Memory}
+use Rattle.asn1_items.specs.declared.error.BufferError.TheVariants.{Memory, TooLong}
 use Rattle.asn1_items.specs.declared.group.Group.{Group}
 use Rattle.asn1_model.specs.Composites.{group_records}
 use Rattle.asn1_model.specs.Records.{Record, Head, group_absent, group_end, group_start, held, holding, presence_marks_alone}
@@ -19,8 +19,8 @@ TellsOfGroup (outermost rs) has_records = ⊤
 TellsOfGroup (in_scope h rs w) has_records = ⊤
 TellsOfGroup (in_group table rs w) has_records = has_records ≡ not (presence_marks_alone rs)
 
--- A number leads out of a scope, from the place at which its inside begins to that of the scope around it: it is how far that is. Or
--- it is 0, and the place is the first of those that are far.
+-- A number leads out of a scope: it is the distance from the place at which the inside of the scope around it begins to the place of
+-- its own. Or it is 0, and the outer place is the first of those that are far.
 abbrev pub LeadsOut : ℕ → ℕ → List ℕ → ℕ → List ℕ → Type 0
 LeadsOut link start far outer outer_far = ((0 < link) × (start ≡ outer + link) × (far ≡ outer_far)) ⊎ ((link ≡ 0) × (far ≡ outer ∷ outer_far))
 
@@ -89,10 +89,10 @@ module _ (marks : MarkBytes) where
   abbrev pub AppendsRecords : {A : Type 0} → Buffer → List Record → Buffer → Result A BufferError → Type 0
   AppendsRecords old rs new result = (w : Written) → HasWritten marks w old → IfOk result (λ _. HasWritten marks (followed_by w rs) new)
 
-  -- a call that closes the innermost scope, which fails only where 2^32 bytes or more are inside
+  -- A call that closes the innermost scope, which fails only where 2^32 bytes or more are inside, and says so.
   abbrev pub EndsScope : {A : Type 0} → Buffer → Buffer → Result A BufferError → Type 0
   EndsScope old new result = (h : Head) (rs : List Record) (w : Written) → HasWritten marks (in_scope h rs w) old →
-      MatchResult result (λ _. HasWritten marks (followed_by w (holding h rs ∷ [])) new) (λ _. IsTooLong (written_with marks) (holding h rs))
+      MatchResult result (λ _. HasWritten marks (followed_by w (holding h rs ∷ [])) new) (λ e. (e ≡ TooLong) × IsTooLong (written_with marks) (holding h rs))
 
   -- A call that closes the innermost group, and is given the bytes of the presence mark of its end, and of that of an absent group.
   -- It fails only where memory runs out.
@@ -100,8 +100,8 @@ module _ (marks : MarkBytes) where
   EndsGroup end absent old new result = (table : Table Line) (rs : List Record) (w : Written) → marks group_end ≡ end → marks group_absent ≡ absent → HasWritten marks (in_group table rs w) old →
       MatchResult result (λ _. HasWritten marks (followed_by w (group_records table (Some rs))) new) (λ e. e ≡ Memory)
 
--- A call that writes the length of what begins at a place over the four bytes before it, and answers the number that these were. It
--- fails where the length is 2^32 or more.
-abbrev pub FillsLength : {E : Type 0} → List ℕ → ℕ → List ℕ → Result ℕ E → Type 0
+-- A call that writes the length of what begins at a place over the four bytes before it, and answers the number that they held. It
+-- fails where the length is 2^32 or more, and says so.
+abbrev pub FillsLength : List ℕ → ℕ → List ℕ → Result ℕ BufferError → Type 0
 FillsLength old start new result = (before inside : List ℕ) (number : ℕ) → number < 2 ^ 32 → old ≡ before ++ (four_bytes number ++ inside) → start ≡ length before + 4 →
-    MatchResult result (λ was. (length inside < 2 ^ 32) × (new ≡ before ++ (four_bytes (length inside) ++ inside)) × (was ≡ number)) (λ _. 2 ^ 32 ≤ length inside)
+    MatchResult result (λ held. (length inside < 2 ^ 32) × (new ≡ before ++ (four_bytes (length inside) ++ inside)) × (held ≡ number)) (λ e. (e ≡ TooLong) × (2 ^ 32 ≤ length inside))

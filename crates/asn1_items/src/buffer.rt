@@ -10,7 +10,7 @@ ghost use Rattle.asn1_model.specs.Records as model;
 ghost use Rattle.asn1_model.specs.Records.{Name, group_start, held, presence_mark, open_type, scalar};
 ghost use Rattle.asn1_model.specs.RecordTables.{Line, Table};
 ghost use Rattle.asn1_model.specs.Tags.{head_tag};
-ghost use Rattle.std.specs.Prelude.{◌≡◌, ◌≢◌, ◌≤◌, ◌<◌, ◌^◌, ◌∷◌, [], Err, IfErr, IfOk, List, OnOk, false, suc, true, ℕ};
+ghost use Rattle.std.specs.Prelude.{◌≡◌, ◌≢◌, ◌≤◌, ◌<◌, ◌+◌, ◌^◌, ◌∷◌, [], Err, IfErr, IfOk, List, OnOk, false, suc, true, ℕ};
 
 use crate::bytes::{push_mark, push_scope_header, write_length};
 use crate::content::Content;
@@ -24,7 +24,7 @@ use std::alloc::{AllocError, Global};
 /// written when it is closed, so no byte is moved, however deep the scopes are.
 ///
 /// Until then its four bytes tell where the inside of the scope around it begins: how far it is to there, or 0 where the distance
-/// does not fit, and the place is kept apart. So one list grows while scopes are opened.
+/// does not fit, and the place is kept apart. So no list of scopes grows beside the bytes.
 ///
 /// After an error nothing is promised about what has been written.
 #[derive(Drop)]
@@ -33,7 +33,7 @@ pub struct Buffer {
     bytes: Vec<u8>,
     /// How many scopes are open.
     open_scopes: usize,
-    /// Where the inside of the innermost open scope begins.
+    /// Where the inside of the innermost open scope begins; at first 0.
     start: usize,
     /// The places that are too far from the scopes that lead to them, the innermost last.
     far_starts: Vec<usize>,
@@ -135,6 +135,7 @@ impl Buffer {
         ensures one_more { OnOk result (open_scopes self.new ≡ suc (open_scopes self.old)) }
         ensures none_after_error { IfErr result (λ _. open_scopes self.new ≡ open_scopes self.old) }
     {
+        // Each open scope has ten bytes of a header, so memory runs out before their number does.
         let Some(open_scopes) = self.open_scopes.checked_add(1) else {
             return Err(BufferError::Memory);
         };
@@ -146,7 +147,8 @@ impl Buffer {
         Ok(())
     }
 
-    /// The number that leads out of a scope whose inside begins at this place.
+    /// The number that leads out of a scope whose inside begins at this place. If the scope around it is too far for a number, its
+    /// place is kept.
     ///
     /// # Errors
     /// [`AllocError`].
@@ -155,6 +157,8 @@ impl Buffer {
         ensures leads { IfOk result (λ link. LeadsOut link start (inward [] self.new.far_starts.items)
             self.old.start (inward [] self.old.far_starts.items)) }
         ensures fits { IfOk result (λ link. link < 2 ^ 32) }
+        ensures near { self.old.start < start → start < self.old.start + 2 ^ 32 →
+            self.new.far_starts ≡ self.old.far_starts }
         ensures same_bytes { self.new.bytes ≡ self.old.bytes }
         ensures same_scopes { self.new.open_scopes ≡ self.old.open_scopes }
         ensures same_groups { self.new.groups ≡ self.old.groups }
@@ -190,15 +194,16 @@ impl Buffer {
             return Err(BufferError::NotOpen);
         };
         let link = write_length(&mut self.bytes, self.start)?;
-        self.start = self.outer_start(link);
+        self.start = self.take_outer_start(link);
         self.open_scopes = open_scopes;
         self.has_records = true;
         Ok(())
     }
 
-    /// Where the inside of the scope around the innermost one begins, to which this number leads.
+    /// Where the inside of the scope around the innermost one begins, to which this number leads. If the place was kept, it is kept
+    /// no longer.
     #[inline(always)]
-    fn outer_start(&mut self, link: u32) -> usize
+    fn take_outer_start(&mut self, link: u32) -> usize
         ensures leads { (outer : ℕ) (far : List ℕ) → LeadsOut link self.old.start
             (inward [] self.old.far_starts.items) outer far →
             (result ≡ outer) × (inward [] self.new.far_starts.items ≡ far) }

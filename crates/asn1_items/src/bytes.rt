@@ -50,7 +50,7 @@ pub(crate) fn push_sized_header(
     Ok(())
 }
 
-/// Appends the header of an item of this kind that holds others, with another number for the length of what is inside.
+/// Appends the header of an item of this kind that holds others, with this number in the place of the length of what is inside.
 #[inline(always)]
 pub(crate) fn push_scope_header(
     bytes: &mut Vec<u8>,
@@ -82,7 +82,7 @@ pub(crate) fn push_mark(bytes: &mut Vec<u8>, mark: &[u8]) -> Result<(), AllocErr
     }
 }
 
-/// Writes the length of what begins at a place over the four bytes before it, and answers the number that these were.
+/// Writes the length of what begins at a place over the four bytes before it, and answers the number that they held.
 #[inline(always)]
 pub(crate) fn write_length(bytes: &mut Vec<u8>, start: usize) -> Result<u32, BufferError>
     ensures written { FillsLength bytes.old.items start bytes.new.items result }
@@ -98,7 +98,7 @@ pub(crate) fn write_length(bytes: &mut Vec<u8>, start: usize) -> Result<u32, Buf
     Ok(patch(bytes.as_mut_slice(), start, size as u32))
 }
 
-/// Writes a length over the four bytes that end at a place, and answers the number that these were.
+/// Writes a length over the four bytes that end at a place, and answers the number that they held.
 #[inline(always)]
 fn patch(bytes: &mut [u8], start: usize, size: u32) -> u32
     ensures { (before inside : List ℕ) (number : ℕ) → number < 2 ^ 32 →

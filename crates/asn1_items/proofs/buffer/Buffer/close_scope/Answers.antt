@@ -14,9 +14,9 @@ returns-then-is_group_innermost-clause-closed c = λ marks h rs w wrote.
 pub returns-clause-closed : goal.returns-clause-closed
 returns-clause-closed c = λ marks h rs w wrote.
     let old = c.args.self.now in
-    let back = c.outer_start-self.ensures in
-    let start = c.outer_start-self.result in
-    let far = inward [] c.outer_start-self.new.self.far_starts.items in
+    let back = c.take_outer_start-self.ensures in
+    let start = c.take_outer_start-self.result in
+    let far = inward [] c.take_outer_start-self.new.self.far_starts.items in
     let groups = inward [] old.groups.items in
     let scopes = c.in-Some.open_scopes in
     let patched = c.write_length.new.bytes.items in
@@ -24,6 +24,6 @@ returns-clause-closed c = λ marks h rs w wrote.
     let counted : old.open_scopes ≡ suc scopes = omega (arith, c.in-Some.ensures) in
     let was = subst (λ n. IsWritten marks (in_scope h rs w) n old.start (inward [] old.far_starts.items) groups old.bytes.items) counted wrote.0 in
     let closed = scope_closed marks h rs w scopes old.start c.in_ok-link.link (inward [] old.far_starts.items) groups old.bytes.items patched start far c.in_ok-link.ensures.written back.leads was in (
-      subst (λ g. IsWritten marks rest scopes start far (inward [] g.items) c.outer_start-self.new.self.bytes.items) (sym back.same_groups) (subst (λ b. IsWritten marks rest scopes start far groups b.items) (sym back.same_bytes) closed),
+      subst (λ g. IsWritten marks rest scopes start far (inward [] g.items) c.take_outer_start-self.new.self.bytes.items) (sym back.same_groups) (subst (λ b. IsWritten marks rest scopes start far groups b.items) (sym back.same_bytes) closed),
       tells_of_record w (holding h rs) refl,
     )

@@ -7,4 +7,4 @@ pub returns-in-Ok : goal.returns-in-Ok
 returns-in-Ok g c = λ h rs w wrote. record { closed = holding h rs; same = equal (holding h rs); wrote = c.in-Ok.ensures.closed g.P.Presence.mark_bytes h rs w wrote }
 
 pub returns-in-Err : goal.returns-in-Err
-returns-in-Err g c = λ h rs w wrote other. inl (c.in-Err.ensures.closed g.P.Presence.mark_bytes h rs w wrote)
+returns-in-Err g c = λ h rs w wrote other. inl (c.in-Err.ensures.closed g.P.Presence.mark_bytes h rs w wrote).1
