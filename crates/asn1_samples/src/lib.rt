@@ -25,9 +25,9 @@
 //!   for each component (`decode_field`) or alternative (`decode_alternative`). Components and alternatives are read by place
 //!   (`asn1_slots`), with no proof; a `Shape` looks for its alternative in a table of the leaves of its tree. Two types show the
 //!   other forms, which have proofs: an `Envelope` reads its components one after another (`decode_fields`), and a `Badge` can be
-//!   read as parts too (`DecodeSet`). A component that may be absent is asked for under its own tag, which what follows does not begin with;
-//!   so it is in a group whose last components are absent, where what follows is after the group, as the note of a `Visit` is. A
-//!   tag that no alternative has is refused with the name of the CHOICE.
+//!   read as parts too (`DecodeSet`). A component that may be absent is asked for under its own tag, which what follows does not
+//!   begin with; so it is in a group whose last components are absent, where what follows is after the group, as the note of a
+//!   `Visit` is. A tag that no alternative has is refused with the name of the CHOICE.
 //! - Each can be inside other types: `person_is_well_tagged` and the like.
 //! - [`laws`] says what the records of each value are (`specs/SampleRecords` writes them out), which values are valid, when two
 //!   values are equal, which names the tables have, and which types have an extension marker. `envelope_is_valid` and

@@ -24,7 +24,8 @@
 //! - `TagTree::smallest_tag` is the smallest of the leaves; `is_unique` and `is_unique_set` are true
 //!   if and only if no tag is at two leaves; `tag_contains` is true if and only if a leaf is the tag;
 //!   `leaf_count` is the number of leaves wherever it fits. `has_empty_choice` says whether a choice of
-//!   nothing is anywhere (`is_open`), and `shares_leaf` whether two trees have a leaf in common.
+//!   nothing is anywhere (`is_open`), `shares_leaf` whether two trees have a leaf in common, and
+//!   `can_begin_with` is true if and only if the tag is a leaf or a choice of nothing is anywhere.
 //! - `TagTree::leaf_position` is the first place of a tag among the leaves, and `leaf_at` the leaf at
 //!   a place. Each gives back what the other was asked (the clauses `back`), `leaf_at` where no tag
 //!   is at two leaves. Both require that the number of leaves fits, which `leaf_count` tests.

@@ -67,7 +67,7 @@ impl TagTree<'_> {
         walks::has_empty_choice(self)
     }
 
-    /// Whether a value of a type with the tree can begin with the tag: it is a leaf, unless a choice of nothing is anywhere in the
+    /// Whether a value of a type with the tree can begin with the tag: the tag is a leaf, or a choice of nothing is anywhere in the
     /// tree.
     #[inline(always)]
     pub fn can_begin_with(&self, tag: &Tag) -> bool
