@@ -1,18 +1,18 @@
 //! What `asn1_speed` does with lists and chains, in plain Rust, for comparing times: the same values and bytes, the same refusals,
-//! and no proof. Its arguments are as there: `packed write person 100000 10`.
+//! and no proof. Its arguments are as there: `packed write person 100000 10`; `packed-with-table` is a form of its own.
 //!
 //!     rustc -O --edition 2024 bench/plain_codecs.rs -o plain_codecs && ./plain_codecs packed read person 100000 10
 
 use std::env;
 use std::marker::PhantomData;
 
-/// What differs between the three forms.
+/// What differs between the forms.
 trait Form {
     /// Whether there are presence marks.
     const HAS_MARKS: bool;
     /// Whether headers, numbers and sets are those of DER.
     const IS_DER: bool;
-    /// Whether the alternative of a `Shape` is looked for in a table of all tags that is made each time, as the layer does it.
+    /// Whether the alternative of a `Shape` is looked for in a table of all tags that is made each time, as the layer makes it.
     const MAKES_TABLE: bool = false;
 }
 

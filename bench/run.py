@@ -20,7 +20,7 @@ The third builds bench/plain_codecs.rs, and prints for lists of values and chain
 MB a second, that of plain Rust, and the ratio of the times; the instructions for each byte, if valgrind is there; and the peak memory of
 both. The time is that of the processor, the best of five, less what it takes to make the values. With --values it prints the
 instructions for each value of a list of 1000 and for each node of a chain of 200, those of plain Rust, and how many times as many.
-Reading a Badge in packed form is compared with plain Rust that makes the table of the tags of its CHOICE too.
+Reading a Badge in packed form is compared a second time, with plain Rust that makes a table of the tags of its CHOICE.
 
 The next prints for each type that holds itself how many nested scopes a stack of 8 MiB holds in writing, reading and dropping. The
 one after it damages the bytes of a value of each sample type for this long, by one seed after another. The one before the last

@@ -7,12 +7,21 @@ use asn1_samples::{Badge, Shape};
 use asn1_tags::Tag;
 use std::alloc::Global;
 
-/// A badge, the places of its components in the order in which they are written, and whether it is read by parts.
+/// How a SET is read.
+#[derive(Clone, Copy, Drop)]
+enum Reading {
+    /// By the places of its components.
+    ByPlace,
+    /// As parts, which are put together when all are read.
+    ByParts,
+}
+
+/// A badge, the places of its components in the order in which they are written, and how it is read.
 #[derive(Drop)]
 struct BadgeCalls<'a> {
     badge: Badge,
     places: &'a [usize],
-    by_parts: bool,
+    reading: Reading,
 }
 
 impl BadgeCalls<'_> {
@@ -39,21 +48,20 @@ impl Calls for BadgeCalls<'_> {
     }
 
     fn read<D: Decoder>(&self, decoder: &mut D) -> Result<(), Failure> {
-        let read = if self.by_parts {
-            decoder.decode_set(Tag::SET)
-        } else {
-            Badge::decode(decoder)
+        let read = match self.reading {
+            Reading::ByPlace => Badge::decode(decoder),
+            Reading::ByParts => decoder.decode_set(Tag::SET),
         };
         answers(read, &self.badge)
     }
 }
 
-/// Whether the badge of these components, in this order, comes back, read by place or by parts.
+/// Whether the badge of these components, in this order, comes back.
 fn comes_back<R: CallRules>(
     rules: &R,
     alloc: Global,
     places: &[usize],
-    by_parts: bool,
+    reading: Reading,
 ) -> Result<(), Failure> {
     let label = letters(alloc, b"x")?;
     let badge = Badge {
@@ -64,14 +72,15 @@ fn comes_back<R: CallRules>(
     let calls = BadgeCalls {
         badge,
         places,
-        by_parts,
+        reading,
     };
     calls_come_back(rules, calls)
 }
 
 /// Whether it comes back both ways.
 fn in_this_order<R: CallRules>(rules: &R, alloc: Global, places: &[usize]) -> Result<(), Failure> {
-    comes_back(rules, alloc, places, false).and(comes_back(rules, alloc, places, true))
+    comes_back(rules, alloc, places, Reading::ByPlace)?;
+    comes_back(rules, alloc, places, Reading::ByParts)
 }
 
 /// Whether a badge is read of its components in each order.
@@ -106,8 +115,8 @@ fn is_no_badge<R: CallRules>(
     places: &[usize],
     expected: DecodeError,
 ) -> Result<(), Failure> {
-    is_refused(comes_back(rules, alloc, places, false), expected)?;
-    is_refused(comes_back(rules, alloc, places, true), expected)
+    is_refused(comes_back(rules, alloc, places, Reading::ByPlace), expected)?;
+    is_refused(comes_back(rules, alloc, places, Reading::ByParts), expected)
 }
 
 /// Whether a SET is refused where a component is there twice, or one is missing, by a codec that writes the components of a SET with
