@@ -1,5 +1,5 @@
 -- What a buffer has written, from call to call.
-use Rattle.std.proofs.Common.{◌≡◌, ℕ, zero, suc, ◌+◌, ◌<◌, ◌^◌, Bool, true, false, List, [], ◌∷◌, ◌++◌, append_assoc, append-nil, refl, sym, ap, subst, ◌∙◌, arith, length, take, length-append}
+use Rattle.std.proofs.Common.{◌≡◌, ℕ, zero, suc, ◌+◌, ◌≤◌, ◌<◌, ◌^◌, Bool, true, false, List, [], ◌∷◌, ◌++◌, append_assoc, append-nil, refl, sym, ap, subst, ◌∙◌, arith, length, take, length-append}
 use Rattle.std.proofs.Math.Seq.{take-append_seam}
 use Rattle.std.proofs.lemmas.Bool.{eq-eqb, ne_eqb}
 use Rattle.std.specs.Prelude.{Some, ◌&&◌, ◌||◌, not, if◌then◌else◌}
@@ -95,7 +95,7 @@ module _ (marks : MarkBytes) where
   -- more records in the innermost list
   followed : (w : Written) (scopes start : ℕ) (far : List ℕ) (groups : List Group) (bytes more : List ℕ) (rs : List model.Record) → IsWritten marks w scopes start far groups bytes → HaveBytes (written_with marks) (held rs) more →
       IsWritten marks (followed_by w rs) scopes start far groups (bytes ++ more)
-  followed (outermost before) zero start far [] bytes more rs p q = bytes-append before rs bytes more p q
+  followed (outermost before) zero start far [] bytes more rs p q = (omega (arith, p.0, length-append bytes more), bytes-append before rs bytes more p.1 q)
   followed (outermost before) zero start far (g ∷ groups) bytes more rs p q = absurd p
   followed (outermost before) (suc scopes) start far groups bytes more rs p q = absurd p
   followed (in_scope h before w) zero start far groups bytes more rs p q = absurd p
@@ -142,6 +142,20 @@ module _ (marks : MarkBytes) where
 
   pub scalar_too_long : (y x : model.Content) (t : Tag) (c : ConstraintSet) (n : Name) → LooksLike y x → IsLong y → IsTooLong (written_with marks) (scalar t c n x)
   scalar_too_long y x t c n like long = (long.0, like.bytes long.0 long.1, long.2)
+
+  -- the inside of the innermost scope begins in what was written
+  pub start_within : (w : Written) (scopes start : ℕ) (far : List ℕ) (groups : List Group) (bytes : List ℕ) → IsWritten marks w scopes start far groups bytes → start ≤ length bytes
+  start_within (outermost rs) zero start far [] bytes wrote = wrote.0
+  start_within (outermost rs) zero start far (g ∷ groups) bytes wrote = absurd wrote
+  start_within (outermost rs) (suc scopes) start far groups bytes wrote = absurd wrote
+  start_within (in_scope h rs w) zero start far groups bytes wrote = absurd wrote
+  start_within (in_scope h rs w) (suc scopes) start far groups bytes s =
+      let header = kind_of h ∷ tag_bytes (head_tag h) in
+      omega (arith, s.starts, ap length s.are, length-append (s.before ++ header) (four_bytes s.link ++ s.inside), length-append s.before header, length-append (four_bytes s.link) s.inside)
+  start_within (in_group table rs w) scopes start far [] bytes wrote = absurd wrote
+  start_within (in_group table rs w) scopes start far (g ∷ groups) bytes wrote =
+      let s = wrote.2 in
+      omega (arith, start_within w scopes start far groups s.before s.outside, ap length s.are, length-append s.before (marks (model.group_start table) ++ s.inside))
 
   -- a scope was opened
   pub scope_opened : (h : model.Head) (w : Written) (scopes start link outer : ℕ) (far outer_far : List ℕ) (groups : List Group) (bytes new : List ℕ) → start ≡ length bytes + 10 → (head_tag h).value < 2 ^ 32 → link < 2 ^ 32 → LeadsOut link start far outer outer_far →
@@ -247,6 +261,6 @@ module _ (marks : MarkBytes) where
 
   -- what was written at the end
   pub finished : (scopes start : ℕ) (far : List ℕ) (groups : List Group) (bytes : List ℕ) (rs : List model.Record) → IsWritten marks (outermost rs) scopes start far groups bytes → HaveBytes (written_with marks) (held rs) bytes
-  finished zero start far [] bytes rs wrote = wrote
+  finished zero start far [] bytes rs wrote = wrote.1
   finished zero start far (g ∷ groups) bytes rs wrote = absurd wrote
   finished (suc scopes) start far groups bytes rs wrote = absurd wrote

@@ -50,10 +50,10 @@ module _ (marks : MarkBytes) where
     pub starts : start ≡ length before
     pub have_bytes : HaveBytes (written_with marks) (held rs) inside
 
-  -- What has been written. The numbers are how many scopes are open, and where the inside of the innermost one begins; the lists have
-  -- the places that are far, and the open groups, both the innermost first.
+  -- What has been written. The numbers are how many scopes are open, and where the inside of the innermost one begins, or some place of
+  -- the bytes where none is open; the lists have the places that are far, and the open groups, both the innermost first.
   abbrev pub IsWritten : Written → ℕ → ℕ → List ℕ → List Group → List ℕ → Type 0
-  IsWritten (outermost rs) zero start far [] bytes = HaveBytes (written_with marks) (held rs) bytes
+  IsWritten (outermost rs) zero start far [] bytes = (start ≤ length bytes) × HaveBytes (written_with marks) (held rs) bytes
   IsWritten (outermost rs) zero start far (g ∷ gs) bytes = ⊥
   IsWritten (outermost rs) (suc scopes) start far gs bytes = ⊥
   IsWritten (in_scope h rs w) zero start far gs bytes = ⊥

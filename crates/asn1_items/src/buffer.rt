@@ -141,7 +141,7 @@ impl Buffer {
         };
         let start = self.bytes.len() + 10;
         let link = self.link_to_outer(start)?;
-        push_scope_header(&mut self.bytes, kind, tag, link)?;
+        push_scope_header(&mut self.bytes, kind, tag, start, link)?;
         self.start = start;
         self.open_scopes = open_scopes;
         Ok(())
@@ -154,8 +154,9 @@ impl Buffer {
     /// [`AllocError`].
     #[inline(always)]
     fn link_to_outer(&mut self, start: usize) -> Result<u32, AllocError>
-        ensures leads { IfOk result (λ link. LeadsOut link start (inward [] self.new.far_starts.items)
-            self.old.start (inward [] self.old.far_starts.items)) }
+        ensures leads { self.old.start < start → IfOk result (λ link. LeadsOut link start
+            (inward [] self.new.far_starts.items) self.old.start
+            (inward [] self.old.far_starts.items)) }
         ensures fits { IfOk result (λ link. link < 2 ^ 32) }
         ensures near { self.old.start < start → start < self.old.start + 2 ^ 32 →
             self.new.far_starts ≡ self.old.far_starts }
@@ -164,15 +165,14 @@ impl Buffer {
         ensures same_groups { self.new.groups ≡ self.old.groups }
         ensures same_records { self.new.has_records ≡ self.old.has_records }
     {
-        match start.checked_sub(self.start) {
-            Some(distance) if 0 < distance && distance <= u32::MAX as usize => Ok(distance as u32),
-            _ => {
-                if let Err(_) = self.far_starts.push(self.start) {
-                    return Err(AllocError);
-                }
-                Ok(0)
-            }
+        let distance = start.saturating_sub(self.start);
+        if distance <= u32::MAX as usize {
+            return Ok(distance as u32);
         }
+        if let Err(_) = self.far_starts.push(self.start) {
+            return Err(AllocError);
+        }
+        Ok(0)
     }
 
     /// Closes the innermost scope: its length is written over the place that was left for it.
@@ -190,12 +190,12 @@ impl Buffer {
         if self.is_group_innermost() {
             return Err(BufferError::NotOpen);
         }
-        let Some(open_scopes) = self.open_scopes.checked_sub(1) else {
+        if self.open_scopes == 0 {
             return Err(BufferError::NotOpen);
-        };
+        }
         let link = write_length(&mut self.bytes, self.start)?;
         self.start = self.take_outer_start(link);
-        self.open_scopes = open_scopes;
+        self.open_scopes -= 1;
         self.has_records = true;
         Ok(())
     }

@@ -50,21 +50,24 @@ pub(crate) fn push_sized_header(
     Ok(())
 }
 
-/// Appends the header of an item of this kind that holds others, with this number in the place of the length of what is inside.
+/// Appends the header of an item of this kind that holds others and begins at this place, with this number in the place of the
+/// length of what is inside.
 #[inline(always)]
 pub(crate) fn push_scope_header(
     bytes: &mut Vec<u8>,
     kind: u8,
     tag: Tag,
+    start: usize,
     link: u32,
 ) -> Result<(), AllocError>
-    ensures appended { IfOk result (λ _. bytes.new.items ≡ bytes.old.items ++
-        kind ∷ (tag_bytes tag ++ four_bytes link)) }
+    ensures appended { start ≡ length bytes.old.items + 10 → IfOk result (λ _. bytes.new.items ≡
+        (bytes.old.items ++ kind ∷ tag_bytes tag) ++ four_bytes link) }
     ensures fits { OnOk result (tag.value < 2 ^ 32) }
 {
     let [a, b, c, d] = tag.value.to_be_bytes();
-    let [e, f, g, h] = link.to_be_bytes();
-    bytes.extend_from_slice(&[kind, tag.class as u8, a, b, c, d, e, f, g, h])
+    bytes.extend_from_slice(&[kind, tag.class as u8, a, b, c, d, 0, 0, 0, 0])?;
+    let _ = exchange(bytes, start, link);
+    Ok(())
 }
 
 /// Appends the bytes of a presence mark. Most have one byte, or none.
@@ -95,15 +98,25 @@ pub(crate) fn write_length(bytes: &mut Vec<u8>, start: usize) -> Result<u32, Buf
     if size > u32::MAX as usize {
         return Err(BufferError::TooLong);
     }
-    Ok(patch(bytes.as_mut_slice(), start, size as u32))
+    Ok(exchange(bytes, start, size as u32))
 }
 
-/// Writes a length over the four bytes that end at a place, and answers the number that they held.
+/// Writes a number over the four bytes before a place, and answers the number that they held.
 #[inline(always)]
-fn patch(bytes: &mut [u8], start: usize, size: u32) -> u32
+fn exchange(bytes: &mut Vec<u8>, start: usize, new: u32) -> u32
+    ensures { (before inside : List ℕ) (number : ℕ) → number < 2 ^ 32 →
+        bytes.old.items ≡ before ++ (four_bytes number ++ inside) → start ≡ length before + 4 →
+        (bytes.new.items ≡ before ++ (four_bytes new ++ inside)) × (result ≡ number) }
+{
+    patch(bytes.as_mut_slice(), start, new)
+}
+
+/// The same in a slice.
+#[inline(always)]
+fn patch(bytes: &mut [u8], start: usize, new: u32) -> u32
     ensures { (before inside : List ℕ) (number : ℕ) → number < 2 ^ 32 →
         bytes.old ≡ before ++ (four_bytes number ++ inside) → start ≡ length before + 4 →
-        (bytes.new ≡ before ++ (four_bytes size ++ inside)) × (result ≡ number) }
+        (bytes.new ≡ before ++ (four_bytes new ++ inside)) × (result ≡ number) }
 {
     if start < 4 || bytes.len() < start {
         return 0;
@@ -114,7 +127,7 @@ fn patch(bytes: &mut [u8], start: usize, size: u32) -> u32
         bytes[start - 2],
         bytes[start - 1],
     ]);
-    let [a, b, c, d] = size.to_be_bytes();
+    let [a, b, c, d] = new.to_be_bytes();
     bytes[start - 4] = a;
     bytes[start - 3] = b;
     bytes[start - 2] = c;

@@ -1,4 +1,4 @@
-use Rattle.std.proofs.Common.{◌≡◌, suc, [], ◌∷◌, refl, sym, subst, ◌∙◌, arith}
+use Rattle.std.proofs.Common.{◌≡◌, ◌-◌, suc, [], ◌∷◌, refl, sym, subst, ◌∙◌, arith}
 use Rattle.asn1_codec.specs.Writing.{followed_by, in_scope}
 use Rattle.asn1_items.specs.Buffers.{IsWritten, inward}
 use Rattle.asn1_model.specs.Records.{holding}
@@ -18,10 +18,10 @@ returns-clause-closed c = λ marks h rs w wrote.
     let start = c.take_outer_start-self.result in
     let far = inward [] c.take_outer_start-self.new.self.far_starts.items in
     let groups = inward [] old.groups.items in
-    let scopes = c.in-Some.open_scopes in
+    let scopes = c.take_outer_start-self.new.self.open_scopes - 1 in
     let patched = c.write_length.new.bytes.items in
     let rest = followed_by w (holding h rs ∷ []) in
-    let counted : old.open_scopes ≡ suc scopes = omega (arith, c.in-Some.ensures) in
+    let counted : old.open_scopes ≡ suc scopes = omega (arith, back.same_scopes, c.if-self-eq0.false) in
     let was = subst (λ n. IsWritten marks (in_scope h rs w) n old.start (inward [] old.far_starts.items) groups old.bytes.items) counted wrote.0 in
     let closed = scope_closed marks h rs w scopes old.start c.in_ok-link.link (inward [] old.far_starts.items) groups old.bytes.items patched start far c.in_ok-link.ensures.written back.leads was in (
       subst (λ g. IsWritten marks rest scopes start far (inward [] g.items) c.take_outer_start-self.new.self.bytes.items) (sym back.same_groups) (subst (λ b. IsWritten marks rest scopes start far groups b.items) (sym back.same_bytes) closed),

@@ -1,10 +1,10 @@
-use Rattle.std.proofs.Common.{◌≡◌, append_assoc, ◌++◌, ◌∷◌, ◌<◌, ◌^◌, suc, ◌+◌, [], sym, ap, subst, ◌∙◌, arith, length}
+use Rattle.std.proofs.Common.{◌≡◌, ◌++◌, ◌∷◌, ◌<◌, ◌^◌, suc, ◌+◌, [], sym, ap, subst, ◌∙◌, arith, length}
 use Rattle.asn1_codec.specs.Writing.{in_scope}
 use Rattle.asn1_items.specs.Buffers.{IsWritten, inward}
 use Rattle.asn1_items.specs.Headers.{kind_of, tag_bytes}
 use Rattle.asn1_items.specs.Numbers.{four_bytes}
 use Rattle.asn1_model.specs.Tags.{head_tag}
-use Rattle.asn1_items.proofs.Writing.{scope_opened}
+use Rattle.asn1_items.proofs.Writing.{scope_opened, start_within}
 use Rattle.asn1_items.proofs.buffer.Buffer.open_scope.Goals as goal
 
 pub returns-clause-opened : goal.returns-clause-opened
@@ -13,15 +13,21 @@ returns-clause-opened c = λ marks h w kind tag wrote.
     let linked = c.link_to_outer.new.self in
     let link = c.in_ok-link.link in
     let headed = c.push_scope_header.new.bytes.items in
+    let was_far = inward [] old.far_starts.items in
     let far = inward [] linked.far_starts.items in
     let groups = inward [] old.groups.items in
-    let start : c.len-start.result + 10 ≡ length old.bytes.items + 10 = omega (arith, c.len-start.ensures, old.bytes.ok.0) in
+    let start = c.len-start.result + 10 in
+    let same = c.in_ok-link.ensures.same_bytes in
+    let starts : start ≡ length old.bytes.items + 10 = omega (arith, c.len-start.ensures, old.bytes.ok.0) in
+    let starts_again : start ≡ length linked.bytes.items + 10 = starts ∙ ap (λ b. length b.items + 10) (sym same) in
     let header : headed ≡ (old.bytes.items ++ kind_of h ∷ tag_bytes (head_tag h)) ++ four_bytes link =
-    c.in_ok-push_scope_header.ensures.appended ∙ ap (λ b. b.items ++ c.args.kind ∷ (tag_bytes c.args.tag ++ four_bytes link)) c.in_ok-link.ensures.same_bytes ∙ ap (λ k. old.bytes.items ++ k ∷ (tag_bytes c.args.tag ++ four_bytes link)) (sym kind)
-    ∙ ap (λ t. old.bytes.items ++ kind_of h ∷ (tag_bytes t ++ four_bytes link)) (sym tag) ∙ sym (append_assoc old.bytes.items (kind_of h ∷ tag_bytes (head_tag h)) (four_bytes link)) in
-    let opened = scope_opened marks h w old.open_scopes (c.len-start.result + 10) link old.start far (inward [] old.far_starts.items) groups old.bytes.items headed start (subst (λ t. t.value < 2 ^ 32) (sym tag) c.in_ok-push_scope_header.ensures.fits)
-    c.in_ok-link.ensures.fits c.in_ok-link.ensures.leads header wrote.0 in
+    c.in_ok-push_scope_header.ensures.appended starts_again ∙ ap (λ b. (b.items ++ c.args.kind ∷ tag_bytes c.args.tag) ++ four_bytes link) same ∙ ap (λ k. (old.bytes.items ++ k ∷ tag_bytes c.args.tag) ++ four_bytes link) (sym kind)
+    ∙ ap (λ t. (old.bytes.items ++ kind_of h ∷ tag_bytes t) ++ four_bytes link) (sym tag) in
+    let further : old.start < start = omega (arith, starts, start_within marks w old.open_scopes old.start was_far groups old.bytes.items wrote.0) in
+    let tag_fits = subst (λ t. t.value < 2 ^ 32) (sym tag) c.in_ok-push_scope_header.ensures.fits in
+    let leads = c.in_ok-link.ensures.leads further in
+    let opened = scope_opened marks h w old.open_scopes start link old.start far was_far groups old.bytes.items headed starts tag_fits c.in_ok-link.ensures.fits leads header wrote.0 in
     let counted : c.in-Some.open_scopes ≡ suc old.open_scopes = omega (arith, c.in-Some.ensures) in (
-      subst (λ g. IsWritten marks (in_scope h [] w) c.in-Some.open_scopes (c.len-start.result + 10) far (inward [] g.items) headed) (sym c.in_ok-link.ensures.same_groups) (subst (λ n. IsWritten marks (in_scope h [] w) n (c.len-start.result + 10) far groups headed) (sym counted) opened),
+      subst (λ g. IsWritten marks (in_scope h [] w) c.in-Some.open_scopes start far (inward [] g.items) headed) (sym c.in_ok-link.ensures.same_groups) (subst (λ n. IsWritten marks (in_scope h [] w) n start far groups headed) (sym counted) opened),
       tt,
     )
