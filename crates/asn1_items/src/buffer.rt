@@ -135,7 +135,7 @@ impl Buffer {
         ensures one_more { OnOk result (open_scopes self.new ≡ suc (open_scopes self.old)) }
         ensures none_after_error { IfErr result (λ _. open_scopes self.new ≡ open_scopes self.old) }
     {
-        // Each open scope has ten bytes of a header, so memory runs out before their number does.
+        // Each open scope has a header of ten bytes, so memory runs out before the number of scopes does.
         let Some(open_scopes) = self.open_scopes.checked_add(1) else {
             return Err(BufferError::Memory);
         };

@@ -50,8 +50,8 @@ pub(crate) fn push_sized_header(
     Ok(())
 }
 
-/// Appends the header of an item of this kind that holds others and begins at this place, with this number in the place of the
-/// length of what is inside.
+/// Appends the header of an item of this kind that holds others, whose inside begins at this place, with this number where the
+/// length of what is inside will be.
 #[inline(always)]
 pub(crate) fn push_scope_header(
     bytes: &mut Vec<u8>,
