@@ -24,12 +24,12 @@ at before l i j is = ap (λ n. get_or (before ++ l) n 0) is ∙ get_or-append-ad
 number_at : (before inside xs : List ℕ) (start number : ℕ) → number < 2 ^ 32 → xs ≡ before ++ (four_bytes number ++ inside) → start ≡ length before + 4 →
     from_be_bytes w32 (get_or xs (start - 4) 0 ∷ get_or xs (start - 3) 0 ∷ get_or xs (start - 2) 0 ∷ get_or xs (start - 1) 0 ∷ []) ≡ number
 number_at before inside xs start number fits is starts =
-    let all = before ++ (four_bytes number ++ inside) in
+    let l = before ++ (four_bytes number ++ inside) in
     let bs = four_bytes number ++ inside in
     ap (λ l. from_be_bytes w32 (get_or l (start - 4) 0 ∷ get_or l (start - 3) 0 ∷ get_or l (start - 2) 0 ∷ get_or l (start - 1) 0 ∷ [])) is
-    ∙ ap (λ a. from_be_bytes w32 (a ∷ get_or all (start - 3) 0 ∷ get_or all (start - 2) 0 ∷ get_or all (start - 1) 0 ∷ [])) (at before bs (start - 4) 0 (omega arith))
-    ∙ ap (λ b. from_be_bytes w32 (get_or bs 0 0 ∷ b ∷ get_or all (start - 2) 0 ∷ get_or all (start - 1) 0 ∷ [])) (at before bs (start - 3) 1 (omega arith))
-    ∙ ap (λ c. from_be_bytes w32 (get_or bs 0 0 ∷ get_or bs 1 0 ∷ c ∷ get_or all (start - 1) 0 ∷ [])) (at before bs (start - 2) 2 (omega arith))
+    ∙ ap (λ a. from_be_bytes w32 (a ∷ get_or l (start - 3) 0 ∷ get_or l (start - 2) 0 ∷ get_or l (start - 1) 0 ∷ [])) (at before bs (start - 4) 0 (omega arith))
+    ∙ ap (λ b. from_be_bytes w32 (get_or bs 0 0 ∷ b ∷ get_or l (start - 2) 0 ∷ get_or l (start - 1) 0 ∷ [])) (at before bs (start - 3) 1 (omega arith))
+    ∙ ap (λ c. from_be_bytes w32 (get_or bs 0 0 ∷ get_or bs 1 0 ∷ c ∷ get_or l (start - 1) 0 ∷ [])) (at before bs (start - 2) 2 (omega arith))
     ∙ ap (λ d. from_be_bytes w32 (get_or bs 0 0 ∷ get_or bs 1 0 ∷ get_or bs 2 0 ∷ d ∷ [])) (at before bs (start - 1) 3 (omega arith))
     ∙ from_be_bytes-to_be_bytes_4 number fits
 
