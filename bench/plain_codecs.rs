@@ -1,5 +1,6 @@
 //! What `asn1_speed` does with lists and chains, in plain Rust, for comparing times: the same values and bytes, the same refusals,
-//! and no proof. Its arguments are as there: `packed write person 100000 10`; `packed-with-table` is a form of its own.
+//! of memory too, and no proof. Its arguments are as there: `packed write person 100000 10`. There are more forms: with `-ending`
+//! after the name of one the program ends where memory is refused, and `packed-with-table` makes a table of tags.
 //!
 //!     rustc -O --edition 2024 bench/plain_codecs.rs -o plain_codecs && ./plain_codecs packed read person 100000 10
 
@@ -12,24 +13,25 @@ trait Form {
     const HAS_MARKS: bool;
     /// Whether headers, numbers and sets are those of DER.
     const IS_DER: bool;
+    /// Whether memory that is refused is an error, as it is for the layer. Else it ends the program, as is usual in Rust.
+    const ANSWERS_MEMORY: bool = true;
     /// Whether the alternative of a `Shape` is looked for in a table of all tags that is made each time, as the layer makes it.
     const MAKES_TABLE: bool = false;
 }
 
 struct Packed;
-struct PackedWithTable;
 struct WithTags;
 struct Der;
+
+/// A form in which memory that is refused ends the program.
+struct Ending<F>(PhantomData<F>);
+
+/// A form with the table of tags.
+struct WithTable<F>(PhantomData<F>);
 
 impl Form for Packed {
     const HAS_MARKS: bool = true;
     const IS_DER: bool = false;
-}
-
-impl Form for PackedWithTable {
-    const HAS_MARKS: bool = true;
-    const IS_DER: bool = false;
-    const MAKES_TABLE: bool = true;
 }
 
 impl Form for WithTags {
@@ -40,6 +42,18 @@ impl Form for WithTags {
 impl Form for Der {
     const HAS_MARKS: bool = false;
     const IS_DER: bool = true;
+}
+
+impl<F: Form> Form for Ending<F> {
+    const HAS_MARKS: bool = F::HAS_MARKS;
+    const IS_DER: bool = F::IS_DER;
+    const ANSWERS_MEMORY: bool = false;
+}
+
+impl<F: Form> Form for WithTable<F> {
+    const HAS_MARKS: bool = F::HAS_MARKS;
+    const IS_DER: bool = F::IS_DER;
+    const MAKES_TABLE: bool = true;
 }
 
 #[derive(Clone, Copy, PartialEq, Eq, PartialOrd, Ord)]
@@ -67,6 +81,7 @@ const VISIBLE_STRING: Tag = universal(26);
 
 #[derive(Clone, Copy, Debug)]
 enum Error {
+    Memory,
     TooDeep,
     TooLong,
     Missing(usize),
@@ -85,15 +100,35 @@ trait Value: Sized {
     fn read<F: Form>(reader: &mut Reader<'_, F>) -> Result<Self, Error>;
 }
 
-fn signed(negative: bool, magnitude: &[u8]) -> Vec<u8> {
-    let mut content = vec![u8::from(negative)];
+/// Makes room for this many more in a list. Where memory that is refused ends the program, the list does so as it grows.
+fn reserve<F: Form, T>(list: &mut Vec<T>, count: usize) -> Result<(), Error> {
+    if F::ANSWERS_MEMORY {
+        return list.try_reserve(count).map_err(|_| Error::Memory);
+    }
+    Ok(())
+}
+
+fn copied<F: Form, T: Copy>(items: &[T]) -> Result<Vec<T>, Error> {
+    if !F::ANSWERS_MEMORY {
+        return Ok(items.to_vec());
+    }
+    let mut copy = Vec::new();
+    copy.try_reserve_exact(items.len()).map_err(|_| Error::Memory)?;
+    copy.extend_from_slice(items);
+    Ok(copy)
+}
+
+fn signed<F: Form>(negative: bool, magnitude: &[u8]) -> Result<Vec<u8>, Error> {
+    let mut content = Vec::new();
+    reserve::<F, _>(&mut content, 1 + magnitude.len())?;
+    content.push(u8::from(negative));
     content.extend_from_slice(magnitude);
-    content
+    Ok(content)
 }
 
 /// The two's complement of a number that is no `i128`.
-fn complement(negative: bool, magnitude: &[u8]) -> Vec<u8> {
-    let mut content = signed(false, magnitude);
+fn complement<F: Form>(negative: bool, magnitude: &[u8]) -> Result<Vec<u8>, Error> {
+    let mut content = signed::<F>(false, magnitude)?;
     if negative {
         let mut carry = true;
         for byte in content.iter_mut().rev() {
@@ -104,7 +139,7 @@ fn complement(negative: bool, magnitude: &[u8]) -> Vec<u8> {
     if content[1] >> 7 == sign >> 7 {
         content.remove(0);
     }
-    content
+    Ok(content)
 }
 
 struct Writer<F> {
@@ -114,11 +149,17 @@ struct Writer<F> {
 }
 
 impl<F: Form> Writer<F> {
-    /// The identifier octets of DER.
-    fn identifier(&mut self, tag: Tag, constructed: u8) {
+    fn reserve(&mut self, count: usize) -> Result<(), Error> {
+        reserve::<F, _>(&mut self.bytes, count)
+    }
+
+    /// The identifier octets of DER, of which there are six at most, with room for this many more octets.
+    fn identifier(&mut self, tag: Tag, constructed: u8, more: usize) -> Result<(), Error> {
+        self.reserve(6 + more)?;
         let first = tag.class << 6 | constructed;
         if tag.number < 31 {
-            return self.bytes.push(first | tag.number as u8);
+            self.bytes.push(first | tag.number as u8);
+            return Ok(());
         }
         self.bytes.push(first | 31);
         let sevens = tag.number.checked_ilog2().unwrap_or(0) / 7;
@@ -126,31 +167,34 @@ impl<F: Form> Writer<F> {
             self.bytes.push(0x80 | (tag.number >> (7 * place)) as u8);
         }
         self.bytes.push(tag.number as u8 & 0x7f);
+        Ok(())
     }
 
-    fn scalar_in_der(&mut self, tag: Tag, content: &[u8]) {
-        self.identifier(tag, 0);
+    fn scalar_in_der(&mut self, tag: Tag, content: &[u8]) -> Result<(), Error> {
+        self.identifier(tag, 0, 1 + content.len())?;
         let start = self.bytes.len();
         self.bytes.push(0);
         self.bytes.extend_from_slice(content);
-        self.close_in_der(start);
+        self.close_in_der(start)
     }
 
     /// Puts the length octets at this place, where one byte was left for them.
-    fn close_in_der(&mut self, start: usize) {
+    fn close_in_der(&mut self, start: usize) -> Result<(), Error> {
         let inside = start + 1;
         let size = self.bytes.len() - inside;
         if size < 128 {
             self.bytes[start] = size as u8;
-            return;
+            return Ok(());
         }
         let octets = size.to_be_bytes();
         let octets = &octets[size.leading_zeros() as usize / 8..];
         self.bytes[start] = 0x80 | octets.len() as u8;
         let end = self.bytes.len();
+        self.reserve(octets.len())?;
         self.bytes.resize(end + octets.len(), 0);
         self.bytes.copy_within(inside..end, inside + octets.len());
         self.bytes[inside..inside + octets.len()].copy_from_slice(octets);
+        Ok(())
     }
 
     fn boolean(&mut self, tag: Tag, value: bool) -> Result<(), Error> {
@@ -160,9 +204,9 @@ impl<F: Form> Writer<F> {
 
     fn scalar(&mut self, tag: Tag, kind: u8, content: &[u8]) -> Result<(), Error> {
         if F::IS_DER {
-            self.scalar_in_der(tag, content);
-            return Ok(());
+            return self.scalar_in_der(tag, content);
         }
+        self.reserve(11 + content.len())?;
         let [a, b, c, d] = tag.number.to_be_bytes();
         let size = u32::try_from(content.len()).map_err(|_| Error::TooLong)?;
         let [e, f, g, h] = size.to_be_bytes();
@@ -189,8 +233,8 @@ impl<F: Form> Writer<F> {
         match number {
             Integer::Narrow(number) => self.number(tag, 2, *number),
             Integer::Wide { negative, magnitude } => {
-                let content = if F::IS_DER { complement(*negative, magnitude) } else { signed(*negative, magnitude) };
-                self.scalar(tag, 2, &content)
+                let octets = if F::IS_DER { complement::<F> } else { signed::<F> };
+                self.scalar(tag, 2, &octets(*negative, magnitude)?)
             }
         }
     }
@@ -205,6 +249,7 @@ impl<F: Form> Writer<F> {
         if F::IS_DER {
             return self.scope_in_der(kind, tag, inside);
         }
+        self.reserve(10)?;
         let [a, b, c, d] = tag.number.to_be_bytes();
         self.bytes.extend_from_slice(&[kind, tag.class, a, b, c, d, 0, 0, 0, 0]);
         let start = self.bytes.len();
@@ -224,32 +269,31 @@ impl<F: Form> Writer<F> {
         if kind == 7 {
             inside(self)?;
         } else {
-            self.identifier(tag, 0x20);
+            self.identifier(tag, 0x20, 1)?;
             let start = self.bytes.len();
             self.bytes.push(0);
             inside(self)?;
-            self.close_in_der(start);
+            self.close_in_der(start)?;
         }
         self.depth_left += 1;
         Ok(())
     }
 
-    fn mark(&mut self, byte: u8) {
+    fn mark(&mut self, byte: u8) -> Result<(), Error> {
         if F::HAS_MARKS {
+            self.reserve(1)?;
             self.bytes.push(byte);
         }
+        Ok(())
     }
 
     fn optional_string(&mut self, tag: Tag, kind: u8, units: Option<&[u8]>) -> Result<(), Error> {
         match units {
             Some(units) => {
-                self.mark(0x10);
+                self.mark(0x10)?;
                 self.scalar(tag, kind, units)
             }
-            None => {
-                self.mark(0x11);
-                Ok(())
-            }
+            None => self.mark(0x11),
         }
     }
 }
@@ -362,9 +406,9 @@ impl<'a, F: Form> Reader<'a, F> {
             [first, ..] => *first >= 0x80,
         };
         if content.len() > 16 {
-            let magnitude = if negative { complement(true, content) } else { content.to_vec() };
+            let magnitude = if negative { complement::<F>(true, content)? } else { copied::<F, _>(content)? };
             let zeros = magnitude.iter().take_while(|digit| **digit == 0).count();
-            return Ok(Integer::Wide { negative, magnitude: magnitude[zeros..].to_vec() });
+            return Ok(Integer::Wide { negative, magnitude: copied::<F, _>(&magnitude[zeros..])? });
         }
         let start = if negative { -1 } else { 0 };
         Ok(Integer::Narrow(content.iter().fold(start, |number, digit| number << 8 | i128::from(*digit))))
@@ -381,9 +425,9 @@ impl<'a, F: Form> Reader<'a, F> {
         if *sign > 1 || digits.first() == Some(&0) || (negative && digits.is_empty()) {
             return Err(Error::Malformed);
         }
-        let wide = || Integer::Wide { negative, magnitude: digits.to_vec() };
+        let wide = || Ok(Integer::Wide { negative, magnitude: copied::<F, _>(digits)? });
         if digits.len() > 16 {
-            return Ok(wide());
+            return wide();
         }
         let absolute = digits.iter().fold(0u128, |number, digit| number << 8 | u128::from(*digit));
         let number = if negative {
@@ -391,7 +435,7 @@ impl<'a, F: Form> Reader<'a, F> {
         } else {
             0i128.checked_add_unsigned(absolute)
         };
-        Ok(number.map_or_else(wide, Integer::Narrow))
+        number.map_or_else(wide, |number| Ok(Integer::Narrow(number)))
     }
 
     fn small<T: TryFrom<i128>>(&mut self, tag: Tag, kind: u8) -> Result<T, Error> {
@@ -403,12 +447,19 @@ impl<'a, F: Form> Reader<'a, F> {
 
     fn text(&mut self, tag: Tag) -> Result<String, Error> {
         let units = self.scalar(tag, 8)?;
-        Ok(std::str::from_utf8(units).map_err(|_| Error::Malformed)?.to_owned())
+        let text = std::str::from_utf8(units).map_err(|_| Error::Malformed)?;
+        if !F::ANSWERS_MEMORY {
+            return Ok(text.to_owned());
+        }
+        let mut copy = String::new();
+        copy.try_reserve_exact(text.len()).map_err(|_| Error::Memory)?;
+        copy.push_str(text);
+        Ok(copy)
     }
 
     fn letters(&mut self, tag: Tag, kind: u8, is_allowed: fn(u8) -> bool) -> Result<Vec<u8>, Error> {
         let units = self.scalar(tag, kind)?;
-        if units.iter().all(|unit| is_allowed(*unit)) { Ok(units.to_vec()) } else { Err(Error::Malformed) }
+        if units.iter().all(|unit| is_allowed(*unit)) { copied::<F, _>(units) } else { Err(Error::Malformed) }
     }
 
     fn scope<T>(
@@ -499,7 +550,9 @@ impl<T: Value> Value for Vec<T> {
         reader.scope(is_scope::<F>(4, SEQUENCE), |reader, _| {
             let mut list = Vec::new();
             while !reader.left.is_empty() {
-                list.push(T::read(reader)?);
+                let value = T::read(reader)?;
+                reserve::<F, _>(&mut list, 1)?;
+                list.push(value);
             }
             Ok(list)
         })
@@ -554,19 +607,19 @@ impl Value for Profile {
             writer.optional_string(context(0), 8, self.nick.as_ref().map(|nick| nick.as_bytes()))?;
             writer.number(context(1), 2, i128::from(self.level))?;
             if self.color == Color::Red {
-                writer.mark(0x11);
+                writer.mark(0x11)?;
             } else {
-                writer.mark(0x10);
+                writer.mark(0x10)?;
                 writer.number(context(2), 3, self.color as i128)?;
             }
             match &self.contact {
                 Some(contact) if contact.phone.is_some() || contact.mail.is_some() => {
-                    writer.mark(0x12);
+                    writer.mark(0x12)?;
                     writer.optional_string(PHONE, 14, contact.phone.as_deref())?;
                     writer.optional_string(MAIL, 12, contact.mail.as_deref())?;
-                    writer.mark(0x14);
+                    writer.mark(0x14)?;
                 }
-                _ => writer.mark(0x13),
+                _ => writer.mark(0x13)?,
             }
             Ok(())
         })
@@ -634,7 +687,7 @@ impl Value for Corner {
     fn read<F: Form>(reader: &mut Reader<'_, F>) -> Result<Self, Error> {
         reader.choice(|reader, tag| match tag {
             BOOLEAN => Ok(Corner::Left(reader.boolean(BOOLEAN)?)),
-            OCTET_STRING => Ok(Corner::Right(reader.scalar(OCTET_STRING, 6)?.to_vec())),
+            OCTET_STRING => Ok(Corner::Right(copied::<F, _>(reader.scalar(OCTET_STRING, 6)?)?)),
             _ => Err(Error::Malformed),
         })
     }
@@ -663,7 +716,7 @@ impl Value for Shape {
     }
 
     fn read<F: Form>(reader: &mut Reader<'_, F>) -> Result<Self, Error> {
-        reader.choice(|reader, tag| match leaf_of_shape::<F>(tag) {
+        reader.choice(|reader, tag| match leaf_of_shape::<F>(tag)? {
             Some(0) => match reader.scalar(NULL, 4)? {
                 [] => Ok(Shape::Dot),
                 _ => Err(Error::Malformed),
@@ -691,42 +744,45 @@ const SHAPE: &[Tree] = &[
 const SHAPE_LEAVES: &[(Tag, usize)] = &[(BOOLEAN, 2), (OCTET_STRING, 3), (NULL, 0), (context(0), 1)];
 
 /// The place of a tag among the leaves of a `Shape`.
-fn leaf_of_shape<F: Form>(tag: Tag) -> Option<usize> {
+fn leaf_of_shape<F: Form>(tag: Tag) -> Result<Option<usize>, Error> {
     if F::MAKES_TABLE {
-        return leaf_in_table(SHAPE, SHAPE_LEAVES, tag);
+        return leaf_in_table::<F>(SHAPE, SHAPE_LEAVES, tag);
     }
-    match tag {
+    Ok(match tag {
         NULL => Some(0),
         BOOLEAN => Some(2),
         OCTET_STRING => Some(3),
         tag if tag == context(0) => Some(1),
         _ => None,
-    }
+    })
 }
 
 /// The place of a tag among the leaves of the trees, by a table that is made, and seen to fit them.
 #[inline(never)]
-fn leaf_in_table(trees: &[Tree], table: &[(Tag, usize)], tag: Tag) -> Option<usize> {
+fn leaf_in_table<F: Form>(trees: &[Tree], table: &[(Tag, usize)], tag: Tag) -> Result<Option<usize>, Error> {
     let mut leaves = Vec::new();
-    push_leaves(&mut leaves, trees);
-    let table = table.to_vec();
+    push_leaves::<F>(&mut leaves, trees)?;
+    let table = copied::<F, _>(table)?;
     let fits = table.len() == leaves.len()
         && table.iter().all(|(leaf, place)| leaves.get(*place) == Some(leaf))
         && table.windows(2).all(|pair| pair[0] < pair[1]);
     if !fits {
-        return leaves.iter().position(|leaf| *leaf == tag);
+        return Ok(leaves.iter().position(|leaf| *leaf == tag));
     }
-    let found = table.binary_search_by_key(&tag, |(leaf, _)| *leaf).ok()?;
-    Some(table[found].1)
+    Ok(table.binary_search_by_key(&tag, |(leaf, _)| *leaf).ok().map(|found| table[found].1))
 }
 
-fn push_leaves(leaves: &mut Vec<Tag>, trees: &[Tree]) {
+fn push_leaves<F: Form>(leaves: &mut Vec<Tag>, trees: &[Tree]) -> Result<(), Error> {
     for tree in trees {
         match tree {
-            Tree::Leaf(tag) => leaves.push(*tag),
-            Tree::Choice(trees) => push_leaves(leaves, trees),
+            Tree::Leaf(tag) => {
+                reserve::<F, _>(leaves, 1)?;
+                leaves.push(*tag);
+            }
+            Tree::Choice(trees) => push_leaves::<F>(leaves, trees)?,
         }
     }
+    Ok(())
 }
 
 struct Badge {
@@ -879,9 +935,12 @@ fn main() {
     let (count, times) = (count.parse().unwrap_or(0), times.parse().unwrap_or(0));
     let done = match form.as_str() {
         "packed" => work::<Packed>(action, name, count, times),
-        "packed-with-table" => work::<PackedWithTable>(action, name, count, times),
+        "packed-ending" => work::<Ending<Packed>>(action, name, count, times),
+        "packed-with-table" => work::<WithTable<Packed>>(action, name, count, times),
         "tag" => work::<WithTags>(action, name, count, times),
-        _ => work::<Der>(action, name, count, times),
+        "tag-ending" => work::<Ending<WithTags>>(action, name, count, times),
+        "der" => work::<Der>(action, name, count, times),
+        _ => work::<Ending<Der>>(action, name, count, times),
     };
     match done {
         Ok(()) => {}

@@ -1,6 +1,4 @@
 //! The encoder over a buffer.
-ghost use Rattle.std.specs.Prelude.{◌≤◌};
-
 use crate::buffer::RecordBuffer;
 use crate::error::WriteError;
 use crate::kinds::{MarkKind, ScopeKind};
@@ -21,13 +19,10 @@ use std::alloc::Global;
 #[derive(Drop)]
 pub struct BufferEncoder<B> {
     alloc: Global,
-    /// How many nested scopes may be open.
-    limit: usize,
-    /// How many more may be opened.
+    /// How many more nested scopes may be opened.
     depth_left: usize,
     failed: bool,
     buffer: B,
-    ghost within_limit: { depth_left ≤ limit },
 }
 
 impl<B: RecordBuffer> BufferEncoder<B> {
@@ -52,7 +47,6 @@ impl<B: RecordBuffer> BufferEncoder<B> {
     {
         BufferEncoder {
             alloc,
-            limit: depth,
             depth_left: depth,
             failed: false,
             buffer: B::new(alloc),
@@ -172,12 +166,13 @@ impl<B: RecordBuffer> BufferEncoder<B> {
         if self.failed {
             return Err(EncodeError::Failed);
         }
-        if self.depth_left == self.limit {
+        // The depth left and the scopes that are open make up the depth at first, so where one more does not fit none is open.
+        let Some(depth_left) = self.depth_left.checked_add(1) else {
             return Err(self.refuse(WriteError::Rejected("nothing is open")));
-        }
+        };
         match self.buffer.end_scope() {
             Ok(()) => {
-                self.depth_left += 1;
+                self.depth_left = depth_left;
                 Ok(())
             }
             Err(error) => Err(self.refuse(error)),

@@ -1,5 +1,5 @@
 -- What a buffer has written, with presence marks of these bytes.
-use Rattle.std.specs.Prelude.{◌≡◌, ◌⊎◌, ⊤, ℕ, zero, suc, ◌+◌, ◌<◌, ◌≤◌, ◌^◌, ◌==◌, Bool, false, not, List, [], ◌∷◌, ◌++◌, length, IfOk, MatchResult, Result, Some}
+use Rattle.std.specs.Prelude.{◌≡◌, ◌⊎◌, ⊤, ℕ, ◌+◌, ◌<◌, ◌≤◌, ◌^◌, Bool, false, true, not, List, [], ◌∷◌, ◌++◌, length, IfOk, MatchResult, Result, Some}
 use Rattle.asn1_codec.specs.Writing.{Written, followed_by, outermost, in_scope, in_group}
 use Rattle.asn1_items.specs.Headers.{kind_of, tag_bytes}
 use Rattle.asn1_items.specs.Items.{HaveBytes, IsTooLong, MarkBytes, written_with}
@@ -50,39 +50,41 @@ module _ (marks : MarkBytes) where
     pub starts : start ≡ length before
     pub have_bytes : HaveBytes (written_with marks) (held rs) inside
 
-  -- What has been written. The numbers are how many scopes are open, and where the inside of the innermost one begins, or some place of
-  -- the bytes where none is open; the lists have the places that are far, and the open groups, both the innermost first.
-  abbrev pub IsWritten : Written → ℕ → ℕ → List ℕ → List Group → List ℕ → Type 0
-  IsWritten (outermost rs) zero start far [] bytes = (start ≤ length bytes) × HaveBytes (written_with marks) (held rs) bytes
-  IsWritten (outermost rs) zero start far (g ∷ gs) bytes = ⊥
-  IsWritten (outermost rs) (suc scopes) start far gs bytes = ⊥
-  IsWritten (in_scope h rs w) zero start far gs bytes = ⊥
-  IsWritten (in_scope h rs w) (suc scopes) start far gs bytes = IsOpenScope (λ outer outer_far before. IsWritten w scopes outer outer_far gs before) h rs start far bytes
-  IsWritten (in_group table rs w) scopes start far [] bytes = ⊥
-  IsWritten (in_group table rs w) scopes start far (g ∷ gs) bytes = (g.open_scopes ≡ scopes) × TellsOfGroup w g.outer_has_records × IsOpenGroup (λ before. IsWritten w scopes start far gs before) table rs g.start bytes
+  -- What has been written. The number is where the inside of the innermost open scope begins, and 0 where none is open; the lists have
+  -- the places that are far, and the open groups, both the innermost first.
+  abbrev pub IsWritten : Written → ℕ → List ℕ → List Group → List ℕ → Type 0
+  IsWritten (outermost rs) start far [] bytes = (start ≡ 0) × HaveBytes (written_with marks) (held rs) bytes
+  IsWritten (outermost rs) start far (g ∷ gs) bytes = ⊥
+  IsWritten (in_scope h rs w) start far gs bytes = IsOpenScope (λ outer outer_far before. IsWritten w outer outer_far gs before) h rs start far bytes
+  IsWritten (in_group table rs w) start far [] bytes = ⊥
+  IsWritten (in_group table rs w) start far (g ∷ gs) bytes = TellsOfGroup w g.outer_has_records × IsOpenGroup (λ before. IsWritten w start far gs before) table rs g.start bytes
 
 -- what is open, innermost first
 abbrev pub inward : {A : Type 0} → List A → List A → List A
 inward inner [] = inner
 inward inner (x ∷ xs) = inward (x ∷ inner) xs
 
--- Whether the innermost list is that of a group, where this many scopes are open: as many were open when the innermost group was
--- opened.
-abbrev pub is_group_innermost : List Group → ℕ → Bool
-is_group_innermost [] scopes = false
-is_group_innermost (g ∷ gs) scopes = g.open_scopes == scopes
+-- The innermost list is that of a group, where the inside of the innermost scope begins at this place: the innermost group begins
+-- there or after it.
+abbrev pub GroupIsInnermost : List Group → ℕ → Type 0
+GroupIsInnermost [] start = ⊥
+GroupIsInnermost (g ∷ gs) start = start ≤ g.start
 
--- how many scopes of a buffer are open
-abbrev pub open_scopes : Buffer → ℕ
-open_scopes b = b.open_scopes
+-- whether the innermost list is that of a scope
+abbrev pub is_in_scope : Written → Bool
+is_in_scope (outermost rs) = false
+is_in_scope (in_scope h rs w) = true
+is_in_scope (in_group table rs w) = false
 
--- whether the innermost list of a buffer is that of a group
-abbrev pub is_in_group : Buffer → Bool
-is_in_group b = is_group_innermost (inward [] b.groups.items) b.open_scopes
+-- whether the innermost list is that of a group
+abbrev pub is_in_group : Written → Bool
+is_in_group (outermost rs) = false
+is_in_group (in_scope h rs w) = false
+is_in_group (in_group table rs w) = true
 
 -- The buffer has written these records, in the lists that are open.
 abbrev pub HasWritten : MarkBytes → Written → Buffer → Type 0
-HasWritten marks w b = IsWritten marks w b.open_scopes b.start (inward [] b.far_starts.items) (inward [] b.groups.items) b.bytes.items × TellsOfGroup w b.has_records
+HasWritten marks w b = IsWritten marks w b.start (inward [] b.far_starts.items) (inward [] b.groups.items) b.bytes.items × TellsOfGroup w b.has_records
 
 module _ (marks : MarkBytes) where
   -- a call that appends records to the innermost list

@@ -1,6 +1,6 @@
 //! The bytes of items that are written.
 ghost use Rattle.asn1_codec.specs.Writing.{Written, followed_by, in_group, in_scope, outermost};
-ghost use Rattle.asn1_items.specs.Buffers.{AppendsRecords, EndsGroup, EndsScope, HasWritten, LeadsOut, inward, is_in_group, open_scopes};
+ghost use Rattle.asn1_items.specs.Buffers.{AppendsRecords, EndsGroup, EndsScope, GroupIsInnermost, HasWritten, LeadsOut, inward, is_in_group, is_in_scope};
 ghost use Rattle.asn1_items.specs.Contents.{LooksLike, content_of};
 ghost use Rattle.asn1_items.specs.Headers.{kind_of};
 ghost use Rattle.asn1_items.specs.Items.{HaveBytes, IsTooLong, MarkBytes, written_with};
@@ -10,7 +10,7 @@ ghost use Rattle.asn1_model.specs.Records as model;
 ghost use Rattle.asn1_model.specs.Records.{Name, group_start, held, presence_mark, open_type, scalar};
 ghost use Rattle.asn1_model.specs.RecordTables.{Line, Table};
 ghost use Rattle.asn1_model.specs.Tags.{head_tag};
-ghost use Rattle.std.specs.Prelude.{◌≡◌, ◌≢◌, ◌≤◌, ◌<◌, ◌+◌, ◌^◌, ◌∷◌, [], Err, IfErr, IfOk, List, OnOk, false, suc, true, ℕ};
+ghost use Rattle.std.specs.Prelude.{◌≡◌, ◌≢◌, ◌↔◌, ◌<◌, ◌+◌, ◌^◌, ◌∷◌, [], Err, IfErr, IfOk, IsTrue, List, false, ℕ};
 
 use crate::bytes::{push_mark, push_scope_header, write_length};
 use crate::content::Content;
@@ -19,6 +19,9 @@ use crate::group::Group;
 use crate::scalars::push_item;
 use asn1_tags::Tag;
 use std::alloc::{AllocError, Global};
+
+/// How many bytes the header of a scope has.
+const SCOPE_HEADER: usize = 10;
 
 /// The bytes of records, as an encoder writes them, which gives the bytes of each presence mark. The length of a scope is
 /// written when it is closed, so no byte is moved, however deep the scopes are.
@@ -31,9 +34,7 @@ use std::alloc::{AllocError, Global};
 pub struct Buffer {
     alloc: Global,
     bytes: Vec<u8>,
-    /// How many scopes are open.
-    open_scopes: usize,
-    /// Where the inside of the innermost open scope begins; at first 0.
+    /// Where the inside of the innermost open scope begins, and 0 where none is open.
     start: usize,
     /// The places that are too far from the scopes that lead to them, the innermost last.
     far_starts: Vec<usize>,
@@ -48,12 +49,10 @@ impl Buffer {
     pub fn new(alloc: Global) -> Buffer
         ensures nothing_written { (marks : MarkBytes) →
             HasWritten marks (outermost []) result }
-        ensures none_open { open_scopes result ≡ 0 }
     {
         Buffer {
             alloc,
             bytes: Vec::new(alloc),
-            open_scopes: 0,
             start: 0,
             far_starts: Vec::new(alloc),
             groups: Vec::new(alloc),
@@ -82,7 +81,6 @@ impl Buffer {
         ensures too_long { (marks : MarkBytes) (c : ConstraintSet) (n : Name) (x : model.Content) →
             LooksLike (content_of content.entry) x →
             IfErr result (λ e. e ≢ Memory → IsTooLong (written_with marks) (scalar tag c n x)) }
-        ensures same_scopes { open_scopes self.new ≡ open_scopes self.old }
     {
         if let Err(error) = push_item(&mut self.bytes, self.alloc, tag, content) {
             return Err(error);
@@ -99,7 +97,6 @@ impl Buffer {
         ensures written { (marks : MarkBytes) (n : Name) →
             AppendsRecords marks self.old (open_type n bytes.now ∷ []) self.new result }
         ensures memory { IfErr result (λ e. e ≡ Memory) }
-        ensures same_scopes { open_scopes self.new ≡ open_scopes self.old }
     {
         self.bytes.extend_from_slice(bytes)?;
         self.has_records = true;
@@ -116,7 +113,6 @@ impl Buffer {
             marks m ≡ bytes.now → HasWritten marks w self.old →
             IfOk result (λ _. HasWritten marks (followed_by w (presence_mark m ∷ [])) self.new) }
         ensures memory { IfErr result (λ e. e ≡ Memory) }
-        ensures same_scopes { open_scopes self.new ≡ open_scopes self.old }
     {
         push_mark(&mut self.bytes, bytes)?;
         Ok(())
@@ -132,18 +128,11 @@ impl Buffer {
             kind_of h ≡ kind → head_tag h ≡ tag → HasWritten marks w self.old →
             IfOk result (λ _. HasWritten marks (in_scope h [] w) self.new) }
         ensures memory { IfErr result (λ e. e ≡ Memory) }
-        ensures one_more { OnOk result (open_scopes self.new ≡ suc (open_scopes self.old)) }
-        ensures none_after_error { IfErr result (λ _. open_scopes self.new ≡ open_scopes self.old) }
     {
-        // Each open scope has a header of ten bytes, so memory runs out before the number of scopes does.
-        let Some(open_scopes) = self.open_scopes.checked_add(1) else {
-            return Err(BufferError::Memory);
-        };
-        let start = self.bytes.len() + 10;
+        let start = self.bytes.len() + SCOPE_HEADER;
         let link = self.link_to_outer(start)?;
         push_scope_header(&mut self.bytes, kind, tag, start, link)?;
         self.start = start;
-        self.open_scopes = open_scopes;
         Ok(())
     }
 
@@ -161,7 +150,6 @@ impl Buffer {
         ensures near { self.old.start < start → start < self.old.start + 2 ^ 32 →
             self.new.far_starts ≡ self.old.far_starts }
         ensures same_bytes { self.new.bytes ≡ self.old.bytes }
-        ensures same_scopes { self.new.open_scopes ≡ self.old.open_scopes }
         ensures same_groups { self.new.groups ≡ self.old.groups }
         ensures same_records { self.new.has_records ≡ self.old.has_records }
     {
@@ -182,20 +170,17 @@ impl Buffer {
     #[inline(always)]
     pub fn close_scope(&mut self) -> Result<(), BufferError>
         ensures closed { (marks : MarkBytes) → EndsScope marks self.old self.new result }
-        ensures in_group { is_in_group self.old ≡ true → result ≡ Err NotOpen }
-        ensures none_open { open_scopes self.old ≡ 0 → result ≡ Err NotOpen }
-        ensures one_less { OnOk result (open_scopes self.old ≡ suc (open_scopes self.new)) }
-        ensures no_more { open_scopes self.new ≤ open_scopes self.old }
+        ensures in_no_scope { (marks : MarkBytes) (w : Written) → HasWritten marks w self.old →
+            is_in_scope w ≡ false → result ≡ Err NotOpen }
     {
-        if self.is_group_innermost() {
+        if self.start < SCOPE_HEADER {
             return Err(BufferError::NotOpen);
         }
-        if self.open_scopes == 0 {
+        if self.is_group_innermost() {
             return Err(BufferError::NotOpen);
         }
         let link = write_length(&mut self.bytes, self.start)?;
         self.start = self.take_outer_start(link);
-        self.open_scopes -= 1;
         self.has_records = true;
         Ok(())
     }
@@ -208,7 +193,6 @@ impl Buffer {
             (inward [] self.old.far_starts.items) outer far →
             (result ≡ outer) × (inward [] self.new.far_starts.items ≡ far) }
         ensures same_bytes { self.new.bytes ≡ self.old.bytes }
-        ensures same_scopes { self.new.open_scopes ≡ self.old.open_scopes }
         ensures same_groups { self.new.groups ≡ self.old.groups }
         ensures same_records { self.new.has_records ≡ self.old.has_records }
     {
@@ -227,11 +211,9 @@ impl Buffer {
             marks (group_start table) ≡ start_mark.now → HasWritten marks w self.old →
             IfOk result (λ _. HasWritten marks (in_group table [] w) self.new) }
         ensures memory { IfErr result (λ e. e ≡ Memory) }
-        ensures same_scopes { open_scopes self.new ≡ open_scopes self.old }
     {
         let group = Group {
             start: self.bytes.len(),
-            open_scopes: self.open_scopes,
             outer_has_records: self.has_records,
         };
         push_mark(&mut self.bytes, start_mark)?;
@@ -250,9 +232,8 @@ impl Buffer {
     pub fn close_group(&mut self, end_mark: &[u8], absent_mark: &[u8]) -> Result<(), BufferError>
         ensures closed { (marks : MarkBytes) →
             EndsGroup marks end_mark.now absent_mark.now self.old self.new result }
-        ensures in_no_group { is_in_group self.old ≡ false → result ≡ Err NotOpen }
-        ensures same_scopes { OnOk result (open_scopes self.new ≡ open_scopes self.old) }
-        ensures no_more { open_scopes self.new ≤ open_scopes self.old }
+        ensures in_no_group { (marks : MarkBytes) (w : Written) → HasWritten marks w self.old →
+            is_in_group w ≡ false → result ≡ Err NotOpen }
     {
         if !self.is_group_innermost() {
             return Err(BufferError::NotOpen);
@@ -270,13 +251,14 @@ impl Buffer {
         Ok(())
     }
 
-    /// Whether the innermost list is that of a group.
+    /// Whether the innermost list is that of a group: the inside of the innermost scope began before the innermost group did.
     #[inline(always)]
     fn is_group_innermost(&self) -> bool
-        ensures { result ≡ is_in_group self.now }
+        ensures { IsTrue result ↔
+            GroupIsInnermost (inward [] self.now.groups.items) self.now.start }
     {
         match &self.groups[..] {
-            [.., group] => group.open_scopes == self.open_scopes,
+            [.., group] => self.start <= group.start,
             [] => false,
         }
     }

@@ -5,8 +5,6 @@
 pub(crate) struct Group {
     /// Where its bytes begin.
     pub(crate) start: usize,
-    /// How many scopes were open when it was opened.
-    pub(crate) open_scopes: usize,
     /// If the list around it is that of a group too: whether there is a record in that list that is no presence mark.
     pub(crate) outer_has_records: bool,
 }

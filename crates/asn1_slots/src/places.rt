@@ -3,7 +3,8 @@ ghost use Rattle.asn1_choices.specs.Alternatives.{all_of, trees_of};
 ghost use Rattle.asn1_slots.specs.TagPlaces.{BeginsAt, IsPlaceOf};
 ghost use Rattle.asn1_tags.specs.Trees.{leaves_of, shapes};
 ghost use Rattle.asn1_tags.specs.declared.tags.Tag.{Tag};
-ghost use Rattle.std.specs.Prelude.{◌≡◌, IfOk, MatchOption, Some, slice_get};
+ghost use Rattle.std.specs.Option.{SomeIff};
+ghost use Rattle.std.specs.Prelude.{◌≡◌, ◌<◌, ◌^◌, ◌∷◌, [], IfOk, MatchOption, Some, length, slice_get};
 
 use asn1_choices::ChoiceType;
 use asn1_model::TreeForm;
@@ -31,7 +32,7 @@ fn place_of_leaf(trees: &[TagTree<'static>], position: usize) -> Option<usize>
 {
     let mut left = position;
     for place in 0..trees.len() {
-        match TagTree::leaf_count(slice::from_ref(&trees[place])) {
+        match leaf_number(&trees[place]) {
             Some(count) => {
                 if left < count {
                     return Some(place);
@@ -44,7 +45,20 @@ fn place_of_leaf(trees: &[TagTree<'static>], position: usize) -> Option<usize>
     None
 }
 
+/// How many leaves the tree has, if the number fits.
+#[inline(always)]
+fn leaf_number(tree: &TagTree<'static>) -> Option<usize>
+    ensures { let number = length (leaves_of (shapes (tree.now ∷ []))) in
+        SomeIff result (number < 2 ^ 64) number }
+{
+    match tree {
+        TagTree::Leaf(_) => Some(1),
+        TagTree::Choice(_) => TagTree::leaf_count(slice::from_ref(tree)),
+    }
+}
+
 /// The leaves of the trees with this table, or with none where it does not fit.
+#[inline(always)]
 fn variants_with(
     alloc: Global,
     trees: &[TagTree<'static>],
@@ -60,6 +74,7 @@ fn variants_with(
 }
 
 /// The place of a tree that has the tag as a leaf, which is looked for in a table of the leaves.
+#[inline(always)]
 fn find_in_table(
     alloc: Global,
     trees: &[TagTree<'static>],
