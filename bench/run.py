@@ -17,10 +17,11 @@ The second builds bench/plain.rs, a program in plain Rust that does the same job
 time that both take for 20 MB, the best of five.
 
 The third builds bench/plain_codecs.rs, and prints for lists of values and chains of nodes, by each codec and both ways: the rate in
-MB a second, that of plain Rust, and the ratio of the times; the instructions for each byte, if valgrind is there; and the peak memory of
-both. The time is that of the processor, the best of five, less what it takes to make the values. With --values it prints the
-instructions for each value of a list of 1000 and for each node of a chain of 200, those of plain Rust, and how many times as many.
-Reading a Badge in packed form is compared a second time, with plain Rust that makes a table of the tags of its CHOICE.
+MB a second, the instructions for each byte, if valgrind is there, and the peak memory; the same of plain Rust that answers where
+memory is refused, as the codecs do, and of plain Rust that ends there, with the ratio of the times. The time is that of the processor,
+the best of five, less what it takes to make the values. With --values it prints the instructions for each value of a list of 1000 and
+for each node of a chain of 200, those of plain Rust, and how many times as many. Reading a Badge in packed form is compared a third
+time, with plain Rust that makes a table of the tags of its CHOICE.
 
 The next prints for each type that holds itself how many nested scopes a stack of 8 MiB holds in writing, reading and dropping. The
 one after it damages the bytes of a value of each sample type for this long, by one seed after another. The one before the last
@@ -182,66 +183,81 @@ def cost(measure, folder, words, times):
     return (measure([*words, str(times)], folder) - measure([*words, "0"], folder)) / times
 
 
-def compare_codecs():
-    """Prints rates, instructions and memory of the codecs over bytes, and of plain Rust."""
-    with tempfile.TemporaryDirectory() as folder:
-        plain = build_plain(folder, "plain_codecs")
-        for codec in CODECS:
-            for name, counts in LISTS.items():
-                for action in ("write", "read"):
-                    for count in counts:
-                        compare_job(folder, plain, [codec, action, name, str(count)])
-        for count in LISTS["badge"]:
-            compare_job(folder, plain, ["packed", "read", "badge", str(count)], WITH_TABLE)
-
-
 # The codecs that bench/plain_codecs.rs has, and the lists with their lengths; of nodes the length of the chain.
 CODECS = ("packed", "tag", "der")
 LISTS = {"person": (10**4, 10**5), "profile": (10**4, 10**5), "badge": (10**4, 10**5), "node": (500, 2000)}
 
-
-# Plain Rust that makes the table of tags of a CHOICE as the layer does, which only reading a Badge needs.
-WITH_TABLE = "packed-with-table"
-
-
-def compare_job(folder, plain, job, form=None):
-    """Prints what a job costs, and what it costs plain Rust, in this form if one is given."""
-    programs = [[SPEED_PROGRAM, *job], [plain, form or job[0], *job[1:]]]
-    said = [answer([*words, "1"]) for words in programs]
-    if said[0] != said[1]:
-        sys.exit(f"{job}: {said[0]} but plain Rust: {said[1]}")
-    megabytes = int(said[0].split()[0]) / 10**6
-    times = max(1, round(100 / megabytes))
-    ours, theirs = (cost(seconds_of, folder, words, times) for words in programs)
-    text = f"{' '.join(job)}: {megabytes / ours:.0f} MB/s, {form or 'plain Rust'} {megabytes / theirs:.0f} MB/s, ratio {ours / theirs:.2f}"
-    if shutil.which("valgrind"):
-        ours, theirs = (cost(instructions_of, folder, words, 1) / 10**6 / megabytes for words in programs)
-        text += f", {ours:.1f} and {theirs:.1f} instructions a byte, ratio {ours / theirs:.2f}"
-    ours, theirs = (memory_of([*words, "1"]) for words in programs)
-    print(f"{text}, peak memory {ours:.1f} and {theirs:.1f} MB", flush=True)
-
-
 # The lists whose values are counted, and the chain whose nodes are.
-COUNTED = {"person": 1000, "profile": 1000, "badge": 1000, "node": 200}
+COUNTED = {"person": (1000,), "profile": (1000,), "badge": (1000,), "node": (200,)}
+
+
+def jobs_of(lists):
+    """The words of each job: the codec, the action, the values and how many."""
+    return [
+        [codec, action, name, str(count)]
+        for codec in CODECS
+        for name, counts in lists.items()
+        for action in ("write", "read")
+        for count in counts
+    ]
+
+
+def plain_forms(job):
+    """The forms of plain Rust with which a job is compared: one that answers where memory is refused, one that ends there, and for a
+    Badge, read in packed form, one that makes a table of the tags of its CHOICE."""
+    forms = [job[0], f"{job[0]}-ending"]
+    return [*forms, "packed-with-table"] if job[:3] == ["packed", "read", "badge"] else forms
+
+
+def compare_codecs():
+    """Prints rates, instructions and memory of the codecs over bytes, and of plain Rust."""
+    with tempfile.TemporaryDirectory() as folder:
+        plain = build_plain(folder, "plain_codecs")
+        for job in jobs_of(LISTS):
+            compare_job(folder, plain, job)
+
+
+def compare_job(folder, plain, job):
+    """Prints what a job costs, and what it costs each form of plain Rust."""
+    ours, *others = [[SPEED_PROGRAM, *job], *([plain, form, *job[1:]] for form in plain_forms(job))]
+    said = answer([*ours, "1"])
+    if any(answer([*words, "1"]) != said for words in others):
+        sys.exit(f"{job}: {said}, but plain Rust says something else")
+    megabytes = int(said.split()[0]) / 10**6
+    times = max(1, round(100 / megabytes))
+    seconds, text = measured(folder, ours, times, megabytes)
+    print(f"{' '.join(job)}: {text}", flush=True)
+    for words in others:
+        theirs, text = measured(folder, words, times, megabytes)
+        print(f"    {words[1]}: {text}, ratio {seconds / theirs:.2f}", flush=True)
+
+
+def measured(folder, words, times, megabytes):
+    """The seconds that a job takes a program; and in words its rate, its instructions for each byte, if valgrind is there, and its
+    peak memory."""
+    seconds = cost(seconds_of, folder, words, times)
+    text = f"{megabytes / seconds:.0f} MB/s"
+    if shutil.which("valgrind"):
+        text += f", {cost(instructions_of, folder, words, 1) / 10**6 / megabytes:.1f} instructions a byte"
+    return seconds, f"{text}, peak memory {memory_of([*words, '1']):.1f} MB"
 
 
 def count_instructions():
     """Prints the instructions that the codecs take for each value, those of plain Rust, and how many times as many."""
     with tempfile.TemporaryDirectory() as folder:
         plain = build_plain(folder, "plain_codecs")
-        for name, count in COUNTED.items():
-            for codec in CODECS:
-                for action in ("write", "read"):
-                    count_job(folder, plain, [codec, action, name, str(count)])
-        count_job(folder, plain, ["packed", "read", "badge", str(COUNTED["badge"])], WITH_TABLE)
+        for job in jobs_of(COUNTED):
+            count_job(folder, plain, job)
 
 
-def count_job(folder, plain, job, form=None):
-    """Prints the instructions that a job takes for each value, and those of plain Rust, in this form if one is given."""
-    programs = [[SPEED_PROGRAM, *job], [plain, form or job[0], *job[1:]]]
-    ours, theirs = (cost(instructions_of, folder, words, 1) / int(job[3]) for words in programs)
-    beside = f", {form}" if form else ""
-    print(f"{job[2]}, {job[0]}, {job[1]}{beside}: {ours:.0f}, {theirs:.0f}: {ours / theirs:.1f}", flush=True)
+def count_job(folder, plain, job):
+    """Prints the instructions that a job takes for each value, and those of each form of plain Rust."""
+    ours, *others = (
+        cost(instructions_of, folder, words, 1) / int(job[3])
+        for words in [[SPEED_PROGRAM, *job], *([plain, form, *job[1:]] for form in plain_forms(job))]
+    )
+    beside = ", ".join(f"{form} {theirs:.0f}: {ours / theirs:.2f}" for form, theirs in zip(plain_forms(job), others))
+    print(f"{job[2]}, {job[0]}, {job[1]}: {ours:.0f}; {beside}", flush=True)
 
 
 def reaches(words, step):
