@@ -47,6 +47,7 @@ fn place_of_leaf(trees: &[TagTree<'static>], position: usize) -> Option<usize>
 
 /// How many leaves the tree has, if the number fits.
 #[inline(always)]
+#[tactic(auto, using(asn1_tags::proofs::Leaves::tree_shapes))]
 fn leaf_number(tree: &TagTree<'static>) -> Option<usize>
     ensures { let number = length (leaves_of (shapes (tree.now ∷ []))) in
         SomeIff result (number < 2 ^ 64) number }
