@@ -1,4 +1,4 @@
-use Rattle.std.proofs.Common.{◌≡◌, ◌+◌, refl, suc, arith}
+use Rattle.std.proofs.Common.{◌≡◌, suc, arith}
 use Rattle.asn1_buffers.proofs.Written.{scope_is_closed, scope_is_not_closed}
 use Rattle.asn1_buffers.specs.Encoder.{in_one_order}
 use Rattle.asn1_codec.proofs.WritingUpToOrder.{scope_is_not_closed as not_closed_in_any_order}
