@@ -44,9 +44,9 @@ scopes_in-followed (in_group table done w) rs = refl
 module _ {B : Type 0} (F : BufferForm B) where
   -- a record was appended
   pub appended : (old new : BufferEncoder B) (r : Record) → height r ≡ 0 → ((w : Written) → F.wrote old.buffer w → F.wrote new.buffer (followed_by w (r ∷ []))) →
-      new.depth_left ≡ old.depth_left → old.failed ≡ false → new.failed ≡ false → Appends (in_one_order F) old (r ∷ []) ⊤ new
-  appended old new r flat written depth_left was now = record {
-    written = λ w wrote. (written w wrote.0, omega (arith, wrote.1, depth_left, scopes_in-followed w (r ∷ [])));
+      new.limit ≡ old.limit → new.depth_left ≡ old.depth_left → old.failed ≡ false → new.failed ≡ false → Appends (in_one_order F) old (r ∷ []) ⊤ new
+  appended old new r flat written limit depth_left was now = record {
+    written = λ w wrote. (written w wrote.0, omega (arith, wrote.1, limit, depth_left, scopes_in-followed w (r ∷ [])));
     failed_as_before = now ∙ sym was;
     unless_failed = λ failed. absurd (not_both old.failed was failed);
     same_depth = depth_left;
@@ -68,10 +68,10 @@ module _ {B : Type 0} (F : BufferForm B) where
   }
 
   -- scopes
-  pub scope_is_opened : (old new : BufferEncoder B) (h : Head) → ((w : Written) → F.wrote old.buffer w → F.wrote new.buffer (in_scope h [] w)) →
+  pub scope_is_opened : (old new : BufferEncoder B) (h : Head) → ((w : Written) → F.wrote old.buffer w → F.wrote new.buffer (in_scope h [] w)) → new.limit ≡ old.limit →
       old.failed ≡ false → new.failed ≡ false → old.depth_left ≡ suc new.depth_left → ScopeIsOpen (in_one_order F) old h new
-  scope_is_opened old new h opened was now less = record {
-    opened = λ w wrote. (opened w wrote.0, omega (arith, wrote.1, less));
+  scope_is_opened old new h opened limit was now less = record {
+    opened = λ w wrote. (opened w wrote.0, omega (arith, wrote.1, limit, less));
     no_failure_before = was;
     no_failure = now;
     one_less = less;
@@ -87,15 +87,15 @@ module _ {B : Type 0} (F : BufferForm B) where
 
   -- A scope was closed, whose records are held in some order.
   pub scope_is_closed : (old new : BufferEncoder B) → ((h : Head) (rs : List Record) (w : Written) → F.wrote old.buffer (in_scope h rs w) → ScopeIsHeld F h rs w new.buffer) →
-      old.failed ≡ false → new.failed ≡ false → new.depth_left ≡ suc old.depth_left → ScopeIsClosed (buffer_writer F) old new
-  scope_is_closed old new held was now more = record {
+      new.limit ≡ old.limit → old.failed ≡ false → new.failed ≡ false → new.depth_left ≡ suc old.depth_left → ScopeIsClosed (buffer_writer F) old new
+  scope_is_closed old new held limit was now more = record {
     closed = λ h rs w q.
         let s = same_as_scope q.same in
         let exact = subst (λ y. (in_one_order F).wrote old y) s.is q.wrote in
         let last = held h s.records s.outer exact.0 in
         record {
           exactly = followed_by s.outer (last.closed ∷ []);
-          wrote = (last.wrote, omega (arith, exact.1, more, scopes_in-followed s.outer (last.closed ∷ [])));
+          wrote = (last.wrote, omega (arith, exact.1, limit, more, scopes_in-followed s.outer (last.closed ∷ [])));
           same = same_followed_by (last.closed ∷ []) (holding h rs ∷ []) s.same_outer (next (Same-trans last.same (in_place h s.same)) at_end);
         };
     no_failure_before = was;
@@ -108,10 +108,10 @@ module _ {B : Type 0} (F : BufferForm B) where
   scope_is_not_closed old new e rejected not_deep other was now = record { error = is_error old new e other was now; not_too_deep = not_deep; rejected = rejected }
 
   -- groups
-  pub group_is_opened : (old new : BufferEncoder B) (table : Table Line) → ((w : Written) → F.wrote old.buffer w → F.wrote new.buffer (in_group table [] w)) →
+  pub group_is_opened : (old new : BufferEncoder B) (table : Table Line) → ((w : Written) → F.wrote old.buffer w → F.wrote new.buffer (in_group table [] w)) → new.limit ≡ old.limit →
       old.failed ≡ false → new.failed ≡ false → new.depth_left ≡ old.depth_left → GroupIsOpen (in_one_order F) old table new
-  group_is_opened old new table opened was now same = record {
-    opened = λ w wrote. (opened w wrote.0, omega (arith, wrote.1, same));
+  group_is_opened old new table opened limit was now same = record {
+    opened = λ w wrote. (opened w wrote.0, omega (arith, wrote.1, limit, same));
     no_failure_before = was;
     no_failure = now;
     same_depth = same;
@@ -121,9 +121,9 @@ module _ {B : Type 0} (F : BufferForm B) where
   group_is_not_opened old new e not_custom not_deep other was now = record { error = is_error old new e other was now; not_too_deep = not_deep; not_rejected = not_custom }
 
   pub group_is_closed : (old new : BufferEncoder B) → ((table : Table Line) (rs : List Record) (w : Written) → F.wrote old.buffer (in_group table rs w) → F.wrote new.buffer (followed_by w (group_records table (Some rs)))) →
-      old.failed ≡ false → new.failed ≡ false → new.depth_left ≡ old.depth_left → GroupIsClosed (in_one_order F) old new
-  group_is_closed old new closed was now same = record {
-    closed = λ table rs w wrote. (closed table rs w wrote.0, omega (arith, wrote.1, same, scopes_in-followed w (group_records table (Some rs))));
+      new.limit ≡ old.limit → old.failed ≡ false → new.failed ≡ false → new.depth_left ≡ old.depth_left → GroupIsClosed (in_one_order F) old new
+  group_is_closed old new closed limit was now same = record {
+    closed = λ table rs w wrote. (closed table rs w wrote.0, omega (arith, wrote.1, limit, same, scopes_in-followed w (group_records table (Some rs))));
     no_failure_before = was;
     no_failure = now;
     same_depth = same;

@@ -1,5 +1,5 @@
 -- What an encoder over a buffer has written, and what it rejects.
-use Rattle.std.specs.Prelude.{ℕ, suc, ◌+◌, ◌<◌, ◌^◌, List}
+use Rattle.std.specs.Prelude.{◌≡◌, ℕ, suc, ◌+◌, List}
 use Rattle.asn1_buffers.specs.Buffers.{BufferForm}
 use Rattle.asn1_buffers.specs.declared.encoder.BufferEncoder.{BufferEncoder}
 use Rattle.asn1_codec.specs.Writing.{Writer, Written, in_group, in_scope, outermost}
@@ -20,11 +20,11 @@ pub record CarriesUpToOrder (HaveBytes : List Record → List ℕ → Type 0) (b
   pub same : SameRecords exactly rs
 
 module _ {B : Type 0} (F : BufferForm B) where
-  -- The encoder in the order in which it writes: its buffer has written the records, and the open scopes and the depth left are fewer
-  -- than 2^64 together.
+  -- The encoder in the order in which it writes: its buffer has written the records, and the open scopes and the depth left make up
+  -- the limit.
   abbrev pub in_one_order : Writer (BufferEncoder B)
   in_one_order = record {
-    wrote = λ e w. F.wrote e.buffer w × (scopes_in w + e.depth_left < 2 ^ 64);
+    wrote = λ e w. F.wrote e.buffer w × (scopes_in w + e.depth_left ≡ e.limit);
     failed = λ e. e.failed;
     depth_left = λ e. e.depth_left;
     rejects = λ rs. F.rejects rs;

@@ -1,4 +1,6 @@
 //! The encoder over a buffer.
+ghost use Rattle.std.specs.Prelude.{◌≤◌};
+
 use crate::buffer::RecordBuffer;
 use crate::error::WriteError;
 use crate::kinds::{MarkKind, ScopeKind};
@@ -19,10 +21,13 @@ use std::alloc::Global;
 #[derive(Drop)]
 pub struct BufferEncoder<B> {
     alloc: Global,
-    /// How many more nested scopes may be opened.
+    /// How many nested scopes may be open.
+    limit: usize,
+    /// How many more may be opened.
     depth_left: usize,
     failed: bool,
     buffer: B,
+    ghost within_limit: { depth_left ≤ limit },
 }
 
 impl<B: RecordBuffer> BufferEncoder<B> {
@@ -47,6 +52,7 @@ impl<B: RecordBuffer> BufferEncoder<B> {
     {
         BufferEncoder {
             alloc,
+            limit: depth,
             depth_left: depth,
             failed: false,
             buffer: B::new(alloc),
@@ -166,13 +172,12 @@ impl<B: RecordBuffer> BufferEncoder<B> {
         if self.failed {
             return Err(EncodeError::Failed);
         }
-        // The depth left and the scopes that are open make up the depth at first, so where one more does not fit none is open.
-        let Some(depth_left) = self.depth_left.checked_add(1) else {
+        if self.depth_left == self.limit {
             return Err(self.refuse(WriteError::Rejected("nothing is open")));
-        };
+        }
         match self.buffer.end_scope() {
             Ok(()) => {
-                self.depth_left = depth_left;
+                self.depth_left += 1;
                 Ok(())
             }
             Err(error) => Err(self.refuse(error)),

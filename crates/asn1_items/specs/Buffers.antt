@@ -84,7 +84,7 @@ is_in_group (in_group table rs w) = true
 
 -- The buffer has written these records, in the lists that are open.
 abbrev pub HasWritten : MarkBytes → Written → Buffer → Type 0
-HasWritten marks w b = IsWritten marks w b.start (inward [] b.far_starts.items) (inward [] b.groups.items) b.bytes.items × TellsOfGroup w b.has_records
+HasWritten marks w b = IsWritten marks w b.scope_start (inward [] b.far_starts.items) (inward [] b.groups.items) b.bytes.items × TellsOfGroup w b.has_records
 
 module _ (marks : MarkBytes) where
   -- a call that appends records to the innermost list

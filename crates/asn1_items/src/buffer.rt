@@ -35,7 +35,7 @@ pub struct Buffer {
     alloc: Global,
     bytes: Vec<u8>,
     /// Where the inside of the innermost open scope begins, and 0 where none is open.
-    start: usize,
+    scope_start: usize,
     /// The places that are too far from the scopes that lead to them, the innermost last.
     far_starts: Vec<usize>,
     /// The groups that are open, the innermost last.
@@ -53,7 +53,7 @@ impl Buffer {
         Buffer {
             alloc,
             bytes: Vec::new(alloc),
-            start: 0,
+            scope_start: 0,
             far_starts: Vec::new(alloc),
             groups: Vec::new(alloc),
             has_records: false,
@@ -132,7 +132,7 @@ impl Buffer {
         let start = self.bytes.len() + SCOPE_HEADER;
         let link = self.link_to_outer(start)?;
         push_scope_header(&mut self.bytes, kind, tag, start, link)?;
-        self.start = start;
+        self.scope_start = start;
         Ok(())
     }
 
@@ -143,21 +143,21 @@ impl Buffer {
     /// [`AllocError`].
     #[inline(always)]
     fn link_to_outer(&mut self, start: usize) -> Result<u32, AllocError>
-        ensures leads { self.old.start < start → IfOk result (λ link. LeadsOut link start
-            (inward [] self.new.far_starts.items) self.old.start
+        ensures leads { self.old.scope_start < start → IfOk result (λ link. LeadsOut link start
+            (inward [] self.new.far_starts.items) self.old.scope_start
             (inward [] self.old.far_starts.items)) }
         ensures fits { IfOk result (λ link. link < 2 ^ 32) }
-        ensures near { self.old.start < start → start < self.old.start + 2 ^ 32 →
+        ensures near { self.old.scope_start < start → start < self.old.scope_start + 2 ^ 32 →
             self.new.far_starts ≡ self.old.far_starts }
         ensures same_bytes { self.new.bytes ≡ self.old.bytes }
         ensures same_groups { self.new.groups ≡ self.old.groups }
         ensures same_records { self.new.has_records ≡ self.old.has_records }
     {
-        let distance = start.saturating_sub(self.start);
+        let distance = start.saturating_sub(self.scope_start);
         if distance <= u32::MAX as usize {
             return Ok(distance as u32);
         }
-        if let Err(_) = self.far_starts.push(self.start) {
+        if let Err(_) = self.far_starts.push(self.scope_start) {
             return Err(AllocError);
         }
         Ok(0)
@@ -173,14 +173,15 @@ impl Buffer {
         ensures in_no_scope { (marks : MarkBytes) (w : Written) → HasWritten marks w self.old →
             is_in_scope w ≡ false → result ≡ Err NotOpen }
     {
-        if self.start < SCOPE_HEADER {
+        // Nothing that is inside a scope begins before a header ends, so none is open.
+        if self.scope_start < SCOPE_HEADER {
             return Err(BufferError::NotOpen);
         }
         if self.is_group_innermost() {
             return Err(BufferError::NotOpen);
         }
-        let link = write_length(&mut self.bytes, self.start)?;
-        self.start = self.take_outer_start(link);
+        let link = write_length(&mut self.bytes, self.scope_start)?;
+        self.scope_start = self.take_outer_start(link);
         self.has_records = true;
         Ok(())
     }
@@ -189,7 +190,7 @@ impl Buffer {
     /// no longer.
     #[inline(always)]
     fn take_outer_start(&mut self, link: u32) -> usize
-        ensures leads { (outer : ℕ) (far : List ℕ) → LeadsOut link self.old.start
+        ensures leads { (outer : ℕ) (far : List ℕ) → LeadsOut link self.old.scope_start
             (inward [] self.old.far_starts.items) outer far →
             (result ≡ outer) × (inward [] self.new.far_starts.items ≡ far) }
         ensures same_bytes { self.new.bytes ≡ self.old.bytes }
@@ -199,7 +200,7 @@ impl Buffer {
         if link == 0 {
             return self.far_starts.pop().unwrap_or(0);
         }
-        self.start.saturating_sub(link as usize)
+        self.scope_start.saturating_sub(link as usize)
     }
 
     /// Opens a group, which begins with this presence mark.
@@ -251,14 +252,15 @@ impl Buffer {
         Ok(())
     }
 
-    /// Whether the innermost list is that of a group: the inside of the innermost scope began before the innermost group did.
+    /// Whether the innermost list is that of a group: the innermost group begins where the inside of the innermost scope does, or
+    /// after it.
     #[inline(always)]
     fn is_group_innermost(&self) -> bool
         ensures { IsTrue result ↔
-            GroupIsInnermost (inward [] self.now.groups.items) self.now.start }
+            GroupIsInnermost (inward [] self.now.groups.items) self.now.scope_start }
     {
         match &self.groups[..] {
-            [.., group] => self.start <= group.start,
+            [.., group] => self.scope_start <= group.start,
             [] => false,
         }
     }

@@ -8,7 +8,7 @@ use Rattle.asn1_buffers.proofs.encoder.BufferEncoder.append_mark.Goals as goal
 pub returns-in-Ok : goal.returns-in-Ok
 returns-in-Ok g c = λ m is.
     let F = g.B.RecordBuffer.form in
-    appends (in_one_order F) (appended F _ _ (presence_mark m) refl (c.in-Ok.ensures m is) refl c.if-self.false c.if-self.false)
+    appends (in_one_order F) (appended F _ _ (presence_mark m) refl (c.in-Ok.ensures m is) refl refl c.if-self.false c.if-self.false)
 
 pub returns-in-Err : goal.returns-in-Err
 returns-in-Err g c = λ m is.

@@ -8,7 +8,7 @@ use Rattle.asn1_buffers.proofs.encoder.BufferEncoder.append_open_type.Goals as g
 pub returns-in-Ok : goal.returns-in-Ok
 returns-in-Ok g c = λ n.
     let F = g.B.RecordBuffer.form in
-    appends (in_one_order F) (appended F _ _ (open_type n c.args.bytes.now) refl (c.in-Ok.ensures n) refl c.if-self.false c.if-self.false)
+    appends (in_one_order F) (appended F _ _ (open_type n c.args.bytes.now) refl (c.in-Ok.ensures n) refl refl c.if-self.false c.if-self.false)
 
 pub returns-in-Err : goal.returns-in-Err
 returns-in-Err g c = λ n.

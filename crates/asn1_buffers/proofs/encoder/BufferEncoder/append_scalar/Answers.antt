@@ -8,7 +8,7 @@ use Rattle.asn1_buffers.proofs.encoder.BufferEncoder.append_scalar.Goals as goal
 pub returns-in-Ok : goal.returns-in-Ok
 returns-in-Ok g c = λ k n x is.
     let F = g.B.RecordBuffer.form in
-    appends (in_one_order F) (appended F _ _ (scalar c.args.tag k n x) refl (c.in-Ok.ensures k n x is) refl c.if-self.false c.if-self.false)
+    appends (in_one_order F) (appended F _ _ (scalar c.args.tag k n x) refl (c.in-Ok.ensures k n x is) refl refl c.if-self.false c.if-self.false)
 
 pub returns-in-Err : goal.returns-in-Err
 returns-in-Err g c = λ k n x is.

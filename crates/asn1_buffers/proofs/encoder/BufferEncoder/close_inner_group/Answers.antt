@@ -7,7 +7,7 @@ use Rattle.asn1_buffers.proofs.encoder.BufferEncoder.close_inner_group.Goals as 
 pub returns-in-Ok : goal.returns-in-Ok
 returns-in-Ok g c =
     let F = g.B.RecordBuffer.form in
-    closed_in_any_order (in_one_order F) (group_is_closed F _ _ c.in-Ok.ensures c.if-self.false c.if-self.false refl)
+    closed_in_any_order (in_one_order F) (group_is_closed F _ _ c.in-Ok.ensures refl c.if-self.false c.if-self.false refl)
 
 pub returns-in-Err : goal.returns-in-Err
 returns-in-Err g c =

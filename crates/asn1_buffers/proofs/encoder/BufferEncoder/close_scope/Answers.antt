@@ -1,4 +1,4 @@
-use Rattle.std.proofs.Common.{◌≡◌, suc, arith}
+use Rattle.std.proofs.Common.{◌≡◌, ◌+◌, refl, suc, arith}
 use Rattle.asn1_buffers.proofs.Written.{scope_is_closed, scope_is_not_closed}
 use Rattle.asn1_buffers.specs.Encoder.{in_one_order}
 use Rattle.asn1_codec.proofs.WritingUpToOrder.{scope_is_not_closed as not_closed_in_any_order}
@@ -7,8 +7,8 @@ use Rattle.asn1_buffers.proofs.encoder.BufferEncoder.close_scope.Goals as goal
 pub returns-in-Ok : goal.returns-in-Ok
 returns-in-Ok g c =
     let F = g.B.RecordBuffer.form in
-    let one_more : c.in-Some.depth_left ≡ suc c.args.self.now.depth_left = omega (arith, c.in-Some.ensures) in
-    scope_is_closed F _ _ c.in-Ok.ensures c.if-self.false c.if-self.false one_more
+    let one_more : c.args.self.now.depth_left + 1 ≡ suc c.args.self.now.depth_left = omega arith in
+    scope_is_closed F _ _ c.in-Ok.ensures refl c.if-self.false c.if-self.false one_more
 
 pub returns-in-Err : goal.returns-in-Err
 returns-in-Err g c =

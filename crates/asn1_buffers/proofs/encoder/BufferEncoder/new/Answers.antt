@@ -6,4 +6,4 @@ use Rattle.asn1_buffers.proofs.encoder.BufferEncoder.new.Goals as goal
 
 pub returns-clause-nothing_written : goal.returns-clause-nothing_written
 returns-clause-nothing_written g c =
-    wrote_exactly (in_one_order g.B.RecordBuffer.form) (record { alloc = c.args.alloc; depth_left = c.args.depth; failed = false; buffer = c.new.result }) (outermost []) (c.new.ensures, omega arith)
+    wrote_exactly (in_one_order g.B.RecordBuffer.form) (record { alloc = c.args.alloc; limit = c.args.depth; depth_left = c.args.depth; failed = false; buffer = c.new.result; within_limit = search }) (outermost []) (c.new.ensures, omega arith)

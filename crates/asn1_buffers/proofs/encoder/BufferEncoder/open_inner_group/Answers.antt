@@ -7,7 +7,7 @@ use Rattle.asn1_buffers.proofs.encoder.BufferEncoder.open_inner_group.Goals as g
 pub returns-in-Ok : goal.returns-in-Ok
 returns-in-Ok g c = λ table.
     let F = g.B.RecordBuffer.form in
-    group_is_open (in_one_order F) (group_is_opened F _ _ table (c.in-Ok.ensures table) c.if-self.false c.if-self.false refl)
+    group_is_open (in_one_order F) (group_is_opened F _ _ table (c.in-Ok.ensures table) refl c.if-self.false c.if-self.false refl)
 
 pub returns-in-Err : goal.returns-in-Err
 returns-in-Err g c = λ table.

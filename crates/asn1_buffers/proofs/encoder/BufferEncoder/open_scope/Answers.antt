@@ -1,4 +1,4 @@
-use Rattle.std.proofs.Common.{◌≡◌, ◌-◌, suc, arith}
+use Rattle.std.proofs.Common.{◌≡◌, ◌-◌, refl, suc, arith}
 use Rattle.asn1_buffers.proofs.Written.{scope_is_not_opened, scope_is_opened}
 use Rattle.asn1_buffers.specs.Encoder.{in_one_order}
 use Rattle.asn1_codec.proofs.WritingUpToOrder.{scope_is_not_open, scope_is_open}
@@ -8,7 +8,7 @@ pub returns-in-Ok : goal.returns-in-Ok
 returns-in-Ok g c = λ h kind tag.
     let F = g.B.RecordBuffer.form in
     let one_less : c.args.self.now.depth_left ≡ suc (c.args.self.now.depth_left - 1) = omega arith in
-    scope_is_open (in_one_order F) (scope_is_opened F _ _ h (c.in-Ok.ensures h kind tag) c.if-self.false c.if-self.false one_less)
+    scope_is_open (in_one_order F) (scope_is_opened F _ _ h (c.in-Ok.ensures h kind tag) refl c.if-self.false c.if-self.false one_less)
 
 pub returns-in-Err : goal.returns-in-Err
 returns-in-Err g c = λ h kind tag.

@@ -14,17 +14,17 @@ pub returns-then-is_group_innermost-clause-closed :
     goal.returns-then-is_group_innermost-clause-closed
 returns-then-is_group_innermost-clause-closed c = λ marks h rs w wrote.
     let old = c.args.self.now in
-    absurd (scope_is_innermost marks h rs w old.start (inward [] old.far_starts.items) (inward [] old.groups.items) old.bytes.items wrote.0 (c.is_group_innermost.ensures.0 c.if-is_group_innermost.true))
+    absurd (scope_is_innermost marks h rs w old.scope_start (inward [] old.far_starts.items) (inward [] old.groups.items) old.bytes.items wrote.0 (c.is_group_innermost.ensures.0 c.if-is_group_innermost.true))
 
 pub returns-in_err-link-clause-in_no_scope : goal.returns-in_err-link-clause-in_no_scope
 returns-in_err-link-clause-in_no_scope c = λ marks w wrote outside.
     let old = c.args.self.now in
-    absurd (not_in_scope marks w old.start (inward [] old.far_starts.items) (inward [] old.groups.items) old.bytes.items wrote.0 outside c.if-self-lt-SCOPE_HEADER.false (not_so _ c.if-is_group_innermost.false c.is_group_innermost.ensures.1))
+    absurd (not_in_scope marks w old.scope_start (inward [] old.far_starts.items) (inward [] old.groups.items) old.bytes.items wrote.0 outside c.if-self-lt-SCOPE_HEADER.false (not_so _ c.if-is_group_innermost.false c.is_group_innermost.ensures.1))
 
 pub returns-clause-in_no_scope : goal.returns-clause-in_no_scope
 returns-clause-in_no_scope c = λ marks w wrote outside.
     let old = c.args.self.now in
-    absurd (not_in_scope marks w old.start (inward [] old.far_starts.items) (inward [] old.groups.items) old.bytes.items wrote.0 outside c.if-self-lt-SCOPE_HEADER.false (not_so _ c.if-is_group_innermost.false c.is_group_innermost.ensures.1))
+    absurd (not_in_scope marks w old.scope_start (inward [] old.far_starts.items) (inward [] old.groups.items) old.bytes.items wrote.0 outside c.if-self-lt-SCOPE_HEADER.false (not_so _ c.if-is_group_innermost.false c.is_group_innermost.ensures.1))
 
 pub returns-clause-closed : goal.returns-clause-closed
 returns-clause-closed c = λ marks h rs w wrote.
@@ -35,7 +35,7 @@ returns-clause-closed c = λ marks h rs w wrote.
     let groups = inward [] old.groups.items in
     let patched = c.write_length.new.bytes.items in
     let rest = followed_by w (holding h rs ∷ []) in
-    let closed = scope_closed marks h rs w old.start c.in_ok-link.link (inward [] old.far_starts.items) groups old.bytes.items patched start far c.in_ok-link.ensures.written back.leads wrote.0 in (
+    let closed = scope_closed marks h rs w old.scope_start c.in_ok-link.link (inward [] old.far_starts.items) groups old.bytes.items patched start far c.in_ok-link.ensures.written back.leads wrote.0 in (
       subst (λ g. IsWritten marks rest start far (inward [] g.items) c.take_outer_start-self.new.self.bytes.items) (sym back.same_groups) (subst (λ b. IsWritten marks rest start far groups b.items) (sym back.same_bytes) closed),
       tells_of_record w (holding h rs) refl,
     )

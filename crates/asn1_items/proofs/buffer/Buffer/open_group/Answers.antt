@@ -12,7 +12,7 @@ returns-clause-opened c = λ marks table w is wrote.
     let far = inward [] old.far_starts.items in
     let start : c.len.result ≡ length old.bytes.items = omega (arith, c.len.ensures, old.bytes.ok.0) in
     let marked = c.in_ok-push_mark.ensures ∙ ap (λ b. old.bytes.items ++ b) (sym is) in
-    let opened = group_opened marks table w old.start far (inward [] old.groups.items) group old.bytes.items c.push_mark.new.bytes.items start wrote.1 marked wrote.0 in (
-      subst (λ groups. IsWritten marks (in_group table [] w) old.start far groups c.push_mark.new.bytes.items) (sym (innermost c.push.new.self.items old.groups.items group c.in_default.ensures.items)) opened,
+    let opened = group_opened marks table w old.scope_start far (inward [] old.groups.items) group old.bytes.items c.push_mark.new.bytes.items start wrote.1 marked wrote.0 in (
+      subst (λ groups. IsWritten marks (in_group table [] w) old.scope_start far groups c.push_mark.new.bytes.items) (sym (innermost c.push.new.self.items old.groups.items group c.in_default.ensures.items)) opened,
       refl,
     )

@@ -23,10 +23,10 @@ returns-clause-opened c = λ marks h w kind tag wrote.
     let header : headed ≡ (old.bytes.items ++ kind_of h ∷ tag_bytes (head_tag h)) ++ four_bytes link =
     c.in_ok-push_scope_header.ensures.appended starts_again ∙ ap (λ b. (b.items ++ c.args.kind ∷ tag_bytes c.args.tag) ++ four_bytes link) same ∙ ap (λ k. (old.bytes.items ++ k ∷ tag_bytes c.args.tag) ++ four_bytes link) (sym kind)
     ∙ ap (λ t. (old.bytes.items ++ kind_of h ∷ tag_bytes t) ++ four_bytes link) (sym tag) in
-    let further : old.start < start = omega (arith, starts, start_within marks w old.start was_far groups old.bytes.items wrote.0) in
+    let further : old.scope_start < start = omega (arith, starts, start_within marks w old.scope_start was_far groups old.bytes.items wrote.0) in
     let tag_fits = subst (λ t. t.value < 2 ^ 32) (sym tag) c.in_ok-push_scope_header.ensures.fits in
     let leads = c.in_ok-link.ensures.leads further in
-    let opened = scope_opened marks h w start link old.start far was_far groups old.bytes.items headed starts tag_fits c.in_ok-link.ensures.fits leads header wrote.0 in (
+    let opened = scope_opened marks h w start link old.scope_start far was_far groups old.bytes.items headed starts tag_fits c.in_ok-link.ensures.fits leads header wrote.0 in (
       subst (λ g. IsWritten marks (in_scope h [] w) start far (inward [] g.items) headed) (sym c.in_ok-link.ensures.same_groups) opened,
       tt,
     )
