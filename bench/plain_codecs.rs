@@ -1,6 +1,6 @@
 //! What `asn1_speed` does with lists and chains, in plain Rust, for comparing times: the same values and bytes, the same refusals,
-//! of memory too, and no proof. Its arguments are as there: `packed write person 100000 10`. There are more forms: with `-ending`
-//! after the name of one the program ends where memory is refused, and `packed-with-table` makes a table of tags.
+//! of memory too, and no proof. Its arguments are as there: `packed write person 100000 10`. There are more forms: with `-aborting`
+//! after the name of one the program aborts if memory runs out, and `packed-with-table` makes a table of tags.
 //!
 //!     rustc -O --edition 2024 bench/plain_codecs.rs -o plain_codecs && ./plain_codecs packed read person 100000 10
 
@@ -13,7 +13,7 @@ trait Form {
     const HAS_MARKS: bool;
     /// Whether headers, numbers and sets are those of DER.
     const IS_DER: bool;
-    /// Whether memory that is refused is an error, as it is for the layer. Else it ends the program, as is usual in Rust.
+    /// Whether it is an error if memory runs out, as it is for the layer. Else the program aborts, as is usual in Rust.
     const ANSWERS_MEMORY: bool = true;
     /// Whether the alternative of a `Shape` is looked for in a table of all tags that is made each time, as the layer makes it.
     const MAKES_TABLE: bool = false;
@@ -23,8 +23,8 @@ struct Packed;
 struct WithTags;
 struct Der;
 
-/// A form in which memory that is refused ends the program.
-struct Ending<F>(PhantomData<F>);
+/// A form in which the program aborts if memory runs out.
+struct Aborting<F>(PhantomData<F>);
 
 /// A form with the table of tags.
 struct WithTable<F>(PhantomData<F>);
@@ -44,7 +44,7 @@ impl Form for Der {
     const IS_DER: bool = true;
 }
 
-impl<F: Form> Form for Ending<F> {
+impl<F: Form> Form for Aborting<F> {
     const HAS_MARKS: bool = F::HAS_MARKS;
     const IS_DER: bool = F::IS_DER;
     const ANSWERS_MEMORY: bool = false;
@@ -100,7 +100,7 @@ trait Value: Sized {
     fn read<F: Form>(reader: &mut Reader<'_, F>) -> Result<Self, Error>;
 }
 
-/// Makes room for this many more in a list. Where memory that is refused ends the program, the list does so as it grows.
+/// Makes room for this many more in a list. Where the program aborts if memory runs out, the list makes it as it grows.
 fn reserve<F: Form, T>(list: &mut Vec<T>, count: usize) -> Result<(), Error> {
     if F::ANSWERS_MEMORY {
         return list.try_reserve(count).map_err(|_| Error::Memory);
@@ -126,14 +126,19 @@ fn signed<F: Form>(negative: bool, magnitude: &[u8]) -> Result<Vec<u8>, Error> {
     Ok(content)
 }
 
+/// Negates a number in two's complement.
+fn negate(octets: &mut [u8]) {
+    let mut carry = true;
+    for octet in octets.iter_mut().rev() {
+        (*octet, carry) = (!*octet).overflowing_add(u8::from(carry));
+    }
+}
+
 /// The two's complement of a number that is no `i128`.
 fn complement<F: Form>(negative: bool, magnitude: &[u8]) -> Result<Vec<u8>, Error> {
     let mut content = signed::<F>(false, magnitude)?;
     if negative {
-        let mut carry = true;
-        for byte in content.iter_mut().rev() {
-            (*byte, carry) = (!*byte).overflowing_add(u8::from(carry));
-        }
+        negate(&mut content);
     }
     let sign = if negative { 0xff } else { 0 };
     if content[1] >> 7 == sign >> 7 {
@@ -206,9 +211,9 @@ impl<F: Form> Writer<F> {
         if F::IS_DER {
             return self.scalar_in_der(tag, content);
         }
+        let size = u32::try_from(content.len()).map_err(|_| Error::TooLong)?;
         self.reserve(11 + content.len())?;
         let [a, b, c, d] = tag.number.to_be_bytes();
-        let size = u32::try_from(content.len()).map_err(|_| Error::TooLong)?;
         let [e, f, g, h] = size.to_be_bytes();
         self.bytes.extend_from_slice(&[1, tag.class, a, b, c, d, kind, e, f, g, h]);
         self.bytes.extend_from_slice(content);
@@ -222,11 +227,13 @@ impl<F: Form> Writer<F> {
             return self.scalar(tag, kind, content);
         }
         let absolute = number.unsigned_abs();
-        let zeros = absolute.leading_zeros() as usize / 8;
-        let mut content = [0; 17];
-        content[0] = u8::from(number < 0);
-        content[1..17 - zeros].copy_from_slice(&absolute.to_be_bytes()[zeros..]);
-        self.scalar(tag, kind, &content[..17 - zeros])
+        let digits = &absolute.to_be_bytes()[absolute.leading_zeros() as usize / 8..];
+        self.reserve(12 + digits.len())?;
+        let [a, b, c, d] = tag.number.to_be_bytes();
+        let (size, sign) = (1 + digits.len() as u8, u8::from(number < 0));
+        self.bytes.extend_from_slice(&[1, tag.class, a, b, c, d, kind, 0, 0, 0, size, sign]);
+        self.bytes.extend_from_slice(digits);
+        Ok(())
     }
 
     fn integer(&mut self, tag: Tag, number: &Integer) -> Result<(), Error> {
@@ -302,7 +309,6 @@ impl<F: Form> Writer<F> {
 struct Header<'a> {
     kind: u8,
     tag: Tag,
-    content: u8,
     size: usize,
     body: &'a [u8],
 }
@@ -341,7 +347,7 @@ impl<'a, F: Form> Reader<'a, F> {
             }
             body = after;
         }
-        Ok(Header { kind: *first & 0x20, tag, content: 0, size, body })
+        Ok(Header { kind: *first & 0x20, tag, size, body })
     }
 
     fn header(&self) -> Result<Header<'a>, Error> {
@@ -351,12 +357,10 @@ impl<'a, F: Form> Reader<'a, F> {
         let [kind, rest @ ..] = self.left else {
             return Err(Error::Missing(1));
         };
-        let (class, number, content, size, body) = match (*kind, rest) {
-            (1, [class, a, b, c, d, content, e, f, g, h, body @ ..]) => {
-                (*class, [*a, *b, *c, *d], *content, [*e, *f, *g, *h], body)
-            }
-            (2..=7, [class, a, b, c, d, e, f, g, h, body @ ..]) => {
-                (*class, [*a, *b, *c, *d], 0, [*e, *f, *g, *h], body)
+        let (class, number, size, body) = match (*kind, rest) {
+            (1, [class, a, b, c, d, _, e, f, g, h, body @ ..])
+            | (2..=7, [class, a, b, c, d, e, f, g, h, body @ ..]) => {
+                (*class, [*a, *b, *c, *d], [*e, *f, *g, *h], body)
             }
             (1, _) => return Err(Error::Missing(10 - rest.len())),
             (2..=7, _) => return Err(Error::Missing(9 - rest.len())),
@@ -367,7 +371,7 @@ impl<'a, F: Form> Reader<'a, F> {
         }
         let tag = Tag { class, number: u32::from_be_bytes(number) };
         let size = u32::from_be_bytes(size) as usize;
-        Ok(Header { kind: *kind, tag, content, size, body })
+        Ok(Header { kind: *kind, tag, size, body })
     }
 
     fn take(&mut self, is_wanted: impl FnOnce(Header<'a>) -> bool) -> Result<(Tag, &'a [u8]), Error> {
@@ -386,7 +390,20 @@ impl<'a, F: Form> Reader<'a, F> {
         if F::IS_DER {
             return Ok(self.take(|h| h.kind == 0 && h.tag == tag)?.1);
         }
-        let (_, inside) = self.take(|h| h.kind == 1 && h.tag == tag && h.content == kind)?;
+        let Some((&[1, class, a, b, c, d, content, e, f, g, h], body)) = self.left.split_first_chunk() else {
+            // This tells which bytes are missing. Where none are, the item holds others.
+            self.header()?;
+            return Err(Error::Malformed);
+        };
+        let number = u32::from_be_bytes([a, b, c, d]);
+        if (Tag { class, number }, content) != (tag, kind) {
+            return Err(Error::Malformed);
+        }
+        let size = u32::from_be_bytes([e, f, g, h]) as usize;
+        let Some((inside, rest)) = body.split_at_checked(size) else {
+            return Err(Error::Missing(size - body.len()));
+        };
+        self.left = rest;
         Ok(inside)
     }
 
@@ -406,7 +423,10 @@ impl<'a, F: Form> Reader<'a, F> {
             [first, ..] => *first >= 0x80,
         };
         if content.len() > 16 {
-            let magnitude = if negative { complement::<F>(true, content)? } else { copied::<F, _>(content)? };
+            let mut magnitude = copied::<F, _>(content)?;
+            if negative {
+                negate(&mut magnitude);
+            }
             let zeros = magnitude.iter().take_while(|digit| **digit == 0).count();
             return Ok(Integer::Wide { negative, magnitude: copied::<F, _>(&magnitude[zeros..])? });
         }
@@ -935,12 +955,13 @@ fn main() {
     let (count, times) = (count.parse().unwrap_or(0), times.parse().unwrap_or(0));
     let done = match form.as_str() {
         "packed" => work::<Packed>(action, name, count, times),
-        "packed-ending" => work::<Ending<Packed>>(action, name, count, times),
+        "packed-aborting" => work::<Aborting<Packed>>(action, name, count, times),
         "packed-with-table" => work::<WithTable<Packed>>(action, name, count, times),
         "tag" => work::<WithTags>(action, name, count, times),
-        "tag-ending" => work::<Ending<WithTags>>(action, name, count, times),
+        "tag-aborting" => work::<Aborting<WithTags>>(action, name, count, times),
         "der" => work::<Der>(action, name, count, times),
-        _ => work::<Ending<Der>>(action, name, count, times),
+        "der-aborting" => work::<Aborting<Der>>(action, name, count, times),
+        _ => return println!("not understood"),
     };
     match done {
         Ok(()) => {}

@@ -17,11 +17,11 @@ The second builds bench/plain.rs, a program in plain Rust that does the same job
 time that both take for 20 MB, the best of five.
 
 The third builds bench/plain_codecs.rs, and prints for lists of values and chains of nodes, by each codec and both ways: the rate in
-MB a second, the instructions for each byte, if valgrind is there, and the peak memory; the same of plain Rust that answers where
-memory is refused, as the codecs do, and of plain Rust that ends there, with the ratio of the times. The time is that of the processor,
-the best of five, less what it takes to make the values. With --values it prints the instructions for each value of a list of 1000 and
-for each node of a chain of 200, those of plain Rust, and how many times as many. Reading a Badge in packed form is compared a third
-time, with plain Rust that makes a table of the tags of its CHOICE.
+MB a second, the instructions for each byte, if valgrind is there, and the peak memory; the same of plain Rust that answers if memory
+runs out, as the codecs do, and of plain Rust that aborts then, with the ratio of the times. The time is that of the processor, the
+best of five, less what it takes to make the values. With --values it prints the instructions for each value of a list of 1000 and for
+each node of a chain of 200, those of plain Rust, and how many times as many. Reading a Badge in packed form is compared a third time,
+with plain Rust that makes a table of the tags of its CHOICE.
 
 The next prints for each type that holds itself how many nested scopes a stack of 8 MiB holds in writing, reading and dropping. The
 one after it damages the bytes of a value of each sample type for this long, by one seed after another. The one before the last
@@ -203,9 +203,9 @@ def jobs_of(lists):
 
 
 def plain_forms(job):
-    """The forms of plain Rust with which a job is compared: one that answers where memory is refused, one that ends there, and for a
-    Badge, read in packed form, one that makes a table of the tags of its CHOICE."""
-    forms = [job[0], f"{job[0]}-ending"]
+    """The forms of plain Rust with which a job is compared: one that answers if memory runs out, one that aborts then, and for a Badge,
+    read in packed form, one that makes a table of the tags of its CHOICE."""
+    forms = [job[0], f"{job[0]}-aborting"]
     return [*forms, "packed-with-table"] if job[:3] == ["packed", "read", "badge"] else forms
 
 
@@ -217,19 +217,26 @@ def compare_codecs():
             compare_job(folder, plain, job)
 
 
+def programs_for(plain, job):
+    """The words of each program that does a job: that of the codecs first, and then plain Rust in each of its forms."""
+    return [[SPEED_PROGRAM, *job], *([plain, form, *job[1:]] for form in plain_forms(job))]
+
+
 def compare_job(folder, plain, job):
     """Prints what a job costs, and what it costs each form of plain Rust."""
-    ours, *others = [[SPEED_PROGRAM, *job], *([plain, form, *job[1:]] for form in plain_forms(job))]
-    said = answer([*ours, "1"])
-    if any(answer([*words, "1"]) != said for words in others):
-        sys.exit(f"{job}: {said}, but plain Rust says something else")
+    ours, *others = programs_for(plain, job)
+    said = answer([*ours, "1"]).strip()
+    for words in others:
+        theirs = answer([*words, "1"]).strip()
+        if theirs != said:
+            sys.exit(f"{' '.join(job)}: {said}, but plain Rust, {words[1]}: {theirs}")
     megabytes = int(said.split()[0]) / 10**6
     times = max(1, round(100 / megabytes))
     seconds, text = measured(folder, ours, times, megabytes)
     print(f"{' '.join(job)}: {text}", flush=True)
     for words in others:
         theirs, text = measured(folder, words, times, megabytes)
-        print(f"    {words[1]}: {text}, ratio {seconds / theirs:.2f}", flush=True)
+        print(f"    plain Rust, {words[1]}: {text}, ratio {seconds / theirs:.2f}", flush=True)
 
 
 def measured(folder, words, times, megabytes):
@@ -252,12 +259,9 @@ def count_instructions():
 
 def count_job(folder, plain, job):
     """Prints the instructions that a job takes for each value, and those of each form of plain Rust."""
-    ours, *others = (
-        cost(instructions_of, folder, words, 1) / int(job[3])
-        for words in [[SPEED_PROGRAM, *job], *([plain, form, *job[1:]] for form in plain_forms(job))]
-    )
+    ours, *others = (cost(instructions_of, folder, words, 1) / int(job[3]) for words in programs_for(plain, job))
     beside = ", ".join(f"{form} {theirs:.0f}: {ours / theirs:.2f}" for form, theirs in zip(plain_forms(job), others))
-    print(f"{job[2]}, {job[0]}, {job[1]}: {ours:.0f}; {beside}", flush=True)
+    print(f"{job[2]}, {job[0]}, {job[1]}: {ours:.0f}; plain Rust, {beside}", flush=True)
 
 
 def reaches(words, step):
