@@ -1,5 +1,5 @@
 -- An encoder over a buffer keeps the laws of a codec, by what its buffer has written.
-use Rattle.std.proofs.Common.{◌≡◌, ◌≢◌, ℕ, suc, Bool, false, true, List, [], ◌∷◌, refl, sym, subst, ◌∙◌, arith, Result, Ok, Err}
+use Rattle.std.proofs.Common.{◌≡◌, ◌≢◌, ℕ, suc, Bool, false, true, List, [], ◌∷◌, refl, ap, sym, subst, ◌∙◌, arith, Result, Ok, Err}
 use Rattle.std.proofs.lemmas.Bool.{false≢true}
 use Rattle.std.specs.Prelude.{⊤, Some}
 use Rattle.asn1_buffers.specs.Buffers.{BufferForm, ScopeIsHeld}
@@ -9,7 +9,7 @@ use Rattle.asn1_buffers.specs.MarksAndScopes.{unlabelled}
 use Rattle.asn1_buffers.specs.declared.encoder.BufferEncoder.{BufferEncoder}
 use Rattle.asn1_codec.proofs.WritingUpToOrder.{same_as_outermost, same_as_scope, same_followed_by}
 use Rattle.asn1_codec.specs.WritingUpToOrder.{WroteUpToOrder}
-use Rattle.asn1_codec.specs.Writing.{Written, outermost, in_scope, in_group, followed_by, Appends, Fails, IsRejection, IsError, ScopeIsOpen, ScopeIsNotOpen, ScopeIsClosed, ScopeIsNotClosed, GroupIsOpen, GroupIsNotOpen, GroupIsClosed, GroupIsNotClosed, Writes}
+use Rattle.asn1_codec.specs.Writing.{Written, outermost, in_scope, in_group, followed_by, SameWritten, same_outermost, same_scope, same_group, Appends, Fails, IsRejection, IsError, ScopeIsOpen, ScopeIsNotOpen, ScopeIsClosed, ScopeIsNotClosed, GroupIsOpen, GroupIsNotOpen, GroupIsClosed, GroupIsNotClosed, Writes}
 use Rattle.asn1_codec.specs.declared.encode_error.EncodeError.{EncodeError}
 use Rattle.asn1_codec.specs.declared.encode_error.EncodeError.TheVariants.{Depth, Failed}
 use Rattle.asn1_model.proofs.SameUpToOrder.{Same-trans}
@@ -41,7 +41,17 @@ scopes_in-followed (outermost done) rs = refl
 scopes_in-followed (in_scope h done w) rs = refl
 scopes_in-followed (in_group table done w) rs = refl
 
+-- and in another order inside sets
+scopes_in-same : {w x : Written} → SameWritten w x → scopes_in w ≡ scopes_in x
+scopes_in-same (same_outermost rs) = refl
+scopes_in-same (same_scope h rs outside) = ap suc (scopes_in-same outside)
+scopes_in-same (same_group table rs outside) = scopes_in-same outside
+
 module _ {B : Type 0} (F : BufferForm B) where
+  -- where no scope is open, all of the depth is left
+  pub all_is_left : (e : BufferEncoder B) (w : Written) → (buffer_writer F).wrote e w → scopes_in w ≡ 0 → e.depth_left ≡ e.limit
+  all_is_left e w wrote none = omega (arith, wrote.wrote.1, scopes_in-same wrote.same, none)
+
   -- a record was appended
   pub appended : (old new : BufferEncoder B) (r : Record) → height r ≡ 0 → ((w : Written) → F.wrote old.buffer w → F.wrote new.buffer (followed_by w (r ∷ []))) →
       new.limit ≡ old.limit → new.depth_left ≡ old.depth_left → old.failed ≡ false → new.failed ≡ false → Appends (in_one_order F) old (r ∷ []) ⊤ new

@@ -31,10 +31,10 @@ pub struct BufferEncoder<B> {
 }
 
 impl<B: RecordBuffer> BufferEncoder<B> {
-    ghost use Rattle.asn1_buffers.specs.Encoder.{CarriesUpToOrder, buffer_writer};
+    ghost use Rattle.asn1_buffers.specs.Encoder.{CarriesUpToOrder, buffer_writer, scopes_in};
     ghost use Rattle.asn1_buffers.specs.MarksAndScopes.{kind_of_mark, kind_of_scope, unlabelled};
     ghost use Rattle.asn1_buffers.specs.declared.error.WriteError.TheVariants as write_error;
-    ghost use Rattle.asn1_codec.specs.Writing.{WritesEnd, ClosesGroup, IsRejection, WritesHead, OpensGroup, IsOutOfMemory, Writes, outermost};
+    ghost use Rattle.asn1_codec.specs.Writing.{WritesEnd, ClosesGroup, IsRejection, WritesHead, OpensGroup, IsOutOfMemory, Writes, Written, outermost};
     ghost use Rattle.asn1_codec.specs.declared.encode_error.EncodeError.TheVariants.{Depth, Failed, Memory};
     ghost use Rattle.asn1_items.specs.Contents.{content_of};
     ghost use Rattle.asn1_model.specs.ConstraintSets.{ConstraintSet};
@@ -42,7 +42,7 @@ impl<B: RecordBuffer> BufferEncoder<B> {
     ghost use Rattle.asn1_model.specs.Records.{Name, presence_mark, open_type, scalar};
     ghost use Rattle.asn1_model.specs.RecordTables.{Line, Table};
     ghost use Rattle.asn1_model.specs.Tags.{head_tag};
-    ghost use Rattle.std.specs.Prelude.{◌≡◌, ◌≢◌, ◌∷◌, [], ⊤, List, false, true};
+    ghost use Rattle.std.specs.Prelude.{◌≡◌, ◌≢◌, ◌∷◌, [], ⊤, IsErr, List, false, true};
 
     /// An encoder that has written nothing, and may open this many nested scopes.
     pub fn new(alloc: Global, depth: usize) -> BufferEncoder<B>
@@ -167,7 +167,9 @@ impl<B: RecordBuffer> BufferEncoder<B> {
     /// Closes the innermost scope.
     #[inline(always)]
     fn close_scope(&mut self) -> Result<(), EncodeError>
-        ensures { WritesEnd (buffer_writer B.form) self.old self.new result }
+        ensures closed { WritesEnd (buffer_writer B.form) self.old self.new result }
+        ensures none_open { (w : Written) → (buffer_writer B.form).wrote self.old w →
+            scopes_in w ≡ 0 → IsErr result }
     {
         if self.failed {
             return Err(EncodeError::Failed);
@@ -217,8 +219,9 @@ impl<B: RecordBuffer> BufferEncoder<B> {
 #[tactic(auto, using(crate::proofs::Written::known))]
 impl<B: RecordBuffer> Encoder for BufferEncoder<B> {
     ghost use Rattle.asn1_codec.proofs.WritingUpToOrder.{lawful};
-    ghost use Rattle.asn1_buffers.specs.Encoder.{buffer_writer, in_one_order};
-    ghost use Rattle.std.specs.Prelude.{◌≡◌};
+    ghost use Rattle.asn1_codec.specs.Writing.{WritesEnd, Written};
+    ghost use Rattle.asn1_buffers.specs.Encoder.{buffer_writer, in_one_order, scopes_in};
+    ghost use Rattle.std.specs.Prelude.{◌≡◌, IsErr};
 
     ghost writer = { buffer_writer B.form };
 
@@ -381,7 +384,11 @@ impl<B: RecordBuffer> Encoder for BufferEncoder<B> {
     }
 
     #[inline(always)]
-    fn close(&mut self) -> Result<(), EncodeError> {
+    fn close(&mut self) -> Result<(), EncodeError>
+        ensures closed { WritesEnd (buffer_writer B.form) self.old self.new result }
+        ensures none_open { (w : Written) → (buffer_writer B.form).wrote self.old w →
+            scopes_in w ≡ 0 → IsErr result }
+    {
         self.close_scope()
     }
 
