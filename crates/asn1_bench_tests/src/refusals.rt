@@ -6,10 +6,11 @@ use asn1_codec_tests::is_not_read;
 use asn1_codec_tests::made::list;
 use asn1_dec::{Decode, DecodeError, Needed};
 use asn1_open::Open;
+use asn1_packed::PackedDecoder;
 use asn1_rules::Rules;
 use asn1_samples::{Badge, Color, Corner, Person, Profile, Shape};
 use asn1_streams::FrontReader;
-use asn1_strings::{BitString, BmpString, Ia5String, ObjectIdentifier, VisibleString};
+use asn1_strings::{BitString, BmpString, Ia5String, ObjectIdentifier, OctetString, VisibleString};
 use asn1_tagform::TagRules;
 use asn1_tags::Tag;
 use asn1_types::Any;
@@ -95,6 +96,24 @@ fn missing_bytes_are_counted(rt: HostRuntime) {
     lacks::<bool>(&rt, alloc, "a great length", &long, 4_294_967_294);
     let mark = DecodeError::Incomplete(Needed::Size(1));
     refused_with_marks::<Option<bool>>(&rt, alloc, "no mark", &[], mark);
+}
+
+/// Asserts how many bytes are missing, by a decoder that borrows the others.
+fn lacks_in_borrowed<T: Decode + Drop>(rt: &impl Abort, alloc: Global, bytes: &[u8], count: usize) {
+    match T::decode(&mut PackedDecoder::new(alloc, bytes, 4)) {
+        Ok(_) => assert!(rt; false),
+        Err(error) => assert!(rt; error == DecodeError::Incomplete(Needed::Size(count))),
+    }
+}
+
+// With `--fail-alloc 1` too, since no memory is asked for.
+#[test]
+fn a_length_in_a_header_reserves_nothing(rt: HostRuntime) {
+    let alloc = rt.alloc();
+    let octets = [1, 0, 0, 0, 0, 4, 6, 0xff, 0xff, 0xff, 0xff, 7];
+    lacks_in_borrowed::<OctetString>(&rt, alloc, &octets, 4_294_967_294);
+    let persons = [4, 0, 0, 0, 0, 16, 0xff, 0xff, 0xff, 0xff, 2];
+    lacks_in_borrowed::<Vec<Person>>(&rt, alloc, &persons, 4_294_967_294);
 }
 
 #[test]

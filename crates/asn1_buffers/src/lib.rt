@@ -17,8 +17,8 @@
 //! - The encoder keeps the laws of every encoder (`Encoder`). It has written what its buffer has; as types see it, the order
 //!   inside sets means nothing (`buffer_writer` of `specs/Encoder.antt`). It rejects the records that the buffer rejects, up to
 //!   order, and no others. So an error of a type's writing is `Memory`, `Depth`, `Custom` with a text of the buffer or, after
-//!   another error, `Failed`; another `Custom`, with the text `nothing is open`, comes only where a scope is closed and none is
-//!   open.
+//!   another error, `Failed`. A `Custom` of the encoder's own, with the text `nothing is open`, comes only where a scope is closed
+//!   and none is open, which always fails (`none_open` of `close`).
 //! - Scopes may come back in another order than they were written: a buffer may sort what is in a set when the set ends
 //!   (`ScopeIsHeld`).
 //! - The format of a codec that writes in a buffer (`buffer_format` of `specs/Format.antt`) keeps to its law, and

@@ -27,7 +27,7 @@ const SCOPE_HEADER: usize = 10;
 /// written when it is closed, so no byte is moved, however deep the scopes are.
 ///
 /// Until then its four bytes tell where the inside of the scope around it begins: how far it is to there, or 0 where the distance
-/// does not fit, and the place is kept apart. So no list of scopes grows beside the bytes.
+/// does not fit, and the place is kept apart. So no list of scopes grows beside the bytes, but for scopes 4 GiB apart.
 ///
 /// After an error nothing is promised about what has been written.
 #[derive(Drop)]
@@ -173,7 +173,7 @@ impl Buffer {
         ensures in_no_scope { (marks : MarkBytes) (w : Written) → HasWritten marks w self.old →
             is_in_scope w ≡ false → result ≡ Err NotOpen }
     {
-        // Nothing that is inside a scope begins before a header ends, so none is open.
+        // What is inside a scope begins after its header: a smaller number says that none is open.
         if self.scope_start < SCOPE_HEADER {
             return Err(BufferError::NotOpen);
         }
