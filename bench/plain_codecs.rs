@@ -777,7 +777,8 @@ fn leaf_of_shape<F: Form>(tag: Tag) -> Result<Option<usize>, Error> {
     })
 }
 
-/// The place of a tag among the leaves of the trees, by a table that is made, and seen to fit them.
+/// The place of a tag among the leaves of the trees, by a table that is made, and seen to fit them. Inlined, it takes 230
+/// instructions more.
 #[inline(never)]
 fn leaf_in_table<F: Form>(trees: &[Tree], table: &[(Tag, usize)], tag: Tag) -> Result<Option<usize>, Error> {
     let mut leaves = Vec::new();

@@ -167,15 +167,14 @@ def instructions_of(words, folder):
         return next(int(line.split()[1]) for line in lines if line.startswith("totals:"))
 
 
-# Prints the peak memory of a program in KB, of which a process of its own is asked.
-PEAK = """import resource, subprocess, sys
-subprocess.run(sys.argv[1:], stdout=subprocess.DEVNULL)
-print(resource.getrusage(resource.RUSAGE_CHILDREN).ru_maxrss)"""
-
-
 def memory_of(words):
-    """The peak memory of a program in MB."""
-    return int(answer([sys.executable, "-c", PEAK, *words])) / 1000
+    """The peak memory of a program in MB, as the system has it for as long as the program runs."""
+    peak = 0
+    with subprocess.Popen(words, stdin=subprocess.DEVNULL, stdout=subprocess.DEVNULL) as process:
+        while process.poll() is None:
+            with open(f"/proc/{process.pid}/status") as status:
+                peak = next((int(line.split()[1]) for line in status if line.startswith("VmHWM:")), peak)
+    return peak * 1024 / 10**6
 
 
 def cost(measure, folder, words, times):
@@ -246,7 +245,7 @@ def measured(folder, words, times, megabytes):
     text = f"{megabytes / seconds:.0f} MB/s"
     if shutil.which("valgrind"):
         text += f", {cost(instructions_of, folder, words, 1) / 10**6 / megabytes:.1f} instructions a byte"
-    return seconds, f"{text}, peak memory {memory_of([*words, '1']):.1f} MB"
+    return seconds, f"{text}, peak memory {memory_of([*words, str(times)]):.1f} MB"
 
 
 def count_instructions():
