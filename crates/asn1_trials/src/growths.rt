@@ -1,9 +1,9 @@
-//! A value of each sample type that is written and read, whole, in a list and out of pieces, where a growth may be refused.
+//! A value of each sample type that is written and read, whole, in a list of two and out of pieces, where a growth may be refused.
 use asn1_bench::{BenchReader, BenchRules};
-use asn1_codec_tests::{Failure, ValueCase, comes_back, is_same};
+use asn1_codec_tests::{Failure, ValueCase, is_same};
 use asn1_dec::Decode;
 use asn1_enc::Encode;
-use asn1_rules::Rules;
+use asn1_rules::{Rules, round_trip};
 use asn1_sample_tests::samples::each_sample_passes;
 use asn1_streams::{Pieces, read_pieces, write_list};
 use std::alloc::Global;
@@ -52,8 +52,7 @@ fn print_answer(rt: &impl Print, answer: Result<(), Failure>) -> io::Result<()> 
 
 impl<R: Rules<Output = Vec<u8>>> ValueCase for Whole<'_, R> {
     fn try_value<T: Encode + Decode>(&self, value: T) -> Result<(), Failure> {
-        comes_back(self.rules, &value)?;
-        let values = list_of_one(self.alloc, value)?;
+        let values = twice(self.alloc, self.rules, value)?;
         match write_list(self.alloc, self.rules, &values, DEPTH) {
             Ok(_) => Ok(()),
             Err(error) => Err(Failure::of_writing(error)),
@@ -63,14 +62,31 @@ impl<R: Rules<Output = Vec<u8>>> ValueCase for Whole<'_, R> {
 
 impl ValueCase for InPieces {
     fn try_value<T: Encode + Decode>(&self, value: T) -> Result<(), Failure> {
-        come_out_of_pieces(self.alloc, &list_of_one(self.alloc, value)?)
+        let rules = BenchRules::new(self.alloc);
+        come_out_of_pieces(self.alloc, &twice(self.alloc, &rules, value)?)
     }
 }
 
-fn list_of_one<T: Encode + Decode>(alloc: Global, value: T) -> Result<Vec<T>, Failure> {
+/// A list of a value and of what comes back of it, which has to be the same.
+fn twice<R: Rules, T: Encode + Decode>(
+    alloc: Global,
+    rules: &R,
+    value: T,
+) -> Result<Vec<T>, Failure> {
+    let back = match round_trip(rules, &value, DEPTH, DEPTH) {
+        Ok(back) => back,
+        Err(error) => return Err(Failure::of_round_trip(error)),
+    };
+    is_same(&back, &value)?;
     let mut values = Vec::new(alloc);
+    push(&mut values, value)?;
+    push(&mut values, back)?;
+    Ok(values)
+}
+
+fn push<T: Drop>(values: &mut Vec<T>, value: T) -> Result<(), Failure> {
     match values.push(value) {
-        Ok(()) => Ok(values),
+        Ok(()) => Ok(()),
         Err(_) => Err(Failure::Memory),
     }
 }
