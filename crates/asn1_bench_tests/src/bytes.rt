@@ -8,10 +8,9 @@ use asn1_packed::PackedEncoder;
 use asn1_rules::Rules;
 use asn1_sample_tests::samples::{bare_chain, person};
 use asn1_samples::{Badge, Color, Contact, Labelled, Plate, Profile, Settings, Shape};
-use asn1_strings::kind::{Bmp, Teletex};
-use asn1_strings::{BitString, NumericString, ObjectIdentifier};
 use asn1_tags::{Class, Identifier, Tag};
-use asn1_values::Integer;
+use asn1_values::kind::{Bmp, Teletex};
+use asn1_values::{BitString, Integer, NumericString, ObjectIdentifier};
 use std::alloc::Global;
 use std::process::Abort;
 

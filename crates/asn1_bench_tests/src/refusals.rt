@@ -10,11 +10,13 @@ use asn1_packed::PackedDecoder;
 use asn1_rules::Rules;
 use asn1_samples::{Badge, Color, Corner, Person, Profile, Shape};
 use asn1_streams::FrontReader;
-use asn1_strings::{BitString, BmpString, Ia5String, ObjectIdentifier, OctetString, VisibleString};
 use asn1_tagform::TagRules;
 use asn1_tags::Tag;
 use asn1_types::Any;
-use asn1_values::{ConstrainedInteger, Integer};
+use asn1_values::{
+    BitString, BmpString, ConstrainedInteger, Ia5String, Integer, ObjectIdentifier, OctetString,
+    VisibleString,
+};
 use std::alloc::Global;
 use std::marker::PhantomData;
 use std::process::Abort;

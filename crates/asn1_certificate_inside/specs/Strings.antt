@@ -6,7 +6,7 @@ use Rattle.asn1_model.specs.Meaning.{Meaning}
 use Rattle.asn1_model.specs.Records.{bits, ia5, numeric, octet, units}
 use Rattle.asn1_model.specs.Tags.{universal}
 use Rattle.asn1_model.specs.declared.tag.Marker.{Marker}
-use Rattle.asn1_strings.specs.Alphabets.{is_ia5, is_numeric}
+use Rattle.asn1_values.specs.Alphabets.{is_ia5, is_numeric}
 use Rattle.asn1_types.specs.Kinds.{implicit_type}
 use Rattle.asn1_types.specs.declared.implicit.Implicit.{Implicit}
 

@@ -7,7 +7,7 @@ use crate::name_strings::{UniversalOctets, characters_of};
 use crate::objects::named;
 use asn1_certificate_report::{Attribute, AttributeValue, NamePart, ShownName};
 use asn1_rules::Rules;
-use asn1_strings::{Ia5String, NumericString};
+use asn1_values::{Ia5String, NumericString};
 use asn1_x509::{AttributeTypeAndValue, DirectoryString, Name, RelativeDistinguishedName};
 use std::alloc::{AllocError, Global};
 

@@ -4,7 +4,7 @@ ghost use Rattle.std.specs.Prelude.{◌≡◌, IfOk, map};
 ghost use Rattle.std.specs.Str.{chars};
 ghost use Rattle.asn1_certificate_reader.specs.Characters.{directory_characters, teletex_character};
 
-use asn1_strings::Ia5String;
+use asn1_values::Ia5String;
 use asn1_x509::DirectoryString;
 use std::alloc::{AllocError, Global};
 

@@ -11,8 +11,8 @@ use asn1_certificate_report::{KeySize, ShownKey, Signature};
 use asn1_certificate_text::{bit_length, curve_of};
 use asn1_items::Content;
 use asn1_rules::Rules;
-use asn1_strings::ObjectIdentifier;
 use asn1_types::{Any, AnyStr};
+use asn1_values::ObjectIdentifier;
 use asn1_x509::{
     AlgorithmIdentifier, RsaPublicKey, SubjectPublicKeyInfo, rsa_public_key_is_well_tagged,
 };

@@ -11,8 +11,8 @@ use asn1_certificate_inside::{read_inside, universal_characters};
 use asn1_dec::Decode;
 use asn1_model::tag::UNIVERSAL_STRING;
 use asn1_rules::Rules;
-use asn1_strings::{Ia5String, NumericString, OctetString};
 use asn1_types::Implicit;
+use asn1_values::{Ia5String, NumericString, OctetString};
 use asn1_x509::{DirectoryString, directory_string_is_well_tagged};
 use std::alloc::{AllocError, Global};
 

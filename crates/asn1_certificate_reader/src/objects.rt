@@ -6,7 +6,7 @@ ghost use Rattle.asn1_certificate_text.specs.Objects.{NamesObject, known_objects
 
 use asn1_certificate_report::Object;
 use asn1_certificate_text::object_named;
-use asn1_strings::ObjectIdentifier;
+use asn1_values::ObjectIdentifier;
 use std::alloc::{AllocError, Global};
 
 /// An object with the name that it has here.

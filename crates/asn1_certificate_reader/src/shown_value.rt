@@ -13,8 +13,7 @@ use asn1_certificate_report::{
 };
 use asn1_dec::Decode;
 use asn1_rules::Rules;
-use asn1_strings::{BitString, ObjectIdentifier, OctetString};
-use asn1_values::Integer;
+use asn1_values::{BitString, Integer, ObjectIdentifier, OctetString};
 use asn1_x509_extensions::{
     AuthorityKeyIdentifier, BasicConstraints, GeneralName, GeneralNames, KeyIdentifier, PathLength,
     authority_key_identifier_is_well_tagged, basic_constraints_is_well_tagged,

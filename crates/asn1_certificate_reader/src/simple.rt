@@ -4,8 +4,7 @@ ghost use Rattle.asn1_certificate_reader.specs.Simple.{IsOctetNumberOf, IsTextOf
 
 use asn1_certificate_report::{OctetNumber, ShownTime, Version};
 use asn1_certificate_text::Moment;
-use asn1_strings::VisibleString;
-use asn1_values::Integer;
+use asn1_values::{Integer, VisibleString};
 use asn1_x509::Time;
 use std::alloc::{AllocError, Global};
 

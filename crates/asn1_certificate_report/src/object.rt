@@ -2,7 +2,7 @@
 ghost use Rattle.asn1_certificate_report.specs.Objects.{object_text};
 
 use crate::shows::Shows;
-use asn1_strings::ObjectIdentifier;
+use asn1_values::ObjectIdentifier;
 use std::alloc::AllocError;
 use std::fmt::Write;
 

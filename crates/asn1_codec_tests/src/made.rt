@@ -2,7 +2,7 @@
 ghost use Rattle.std.specs.Prelude.{◌≡◌, IfOk, string_bytes};
 
 use crate::failure::Failure;
-use asn1_strings::{Alphabet, AlphabetString, UnitString};
+use asn1_values::{Alphabet, AlphabetString, UnitString};
 use std::alloc::Global;
 
 /// A string of a kind that has an alphabet.

@@ -13,7 +13,7 @@ ghost use Rattle.asn1_model.specs.Records.{Name, absent, arcs, bits, bmp, discri
 ghost use Rattle.asn1_model.specs.Tags.{tree_tags};
 ghost use Rattle.asn1_tags.specs.Trees.{choice, shape};
 ghost use Rattle.asn1_tags.specs.declared.tags.Tag.{Tag};
-ghost use Rattle.asn1_strings.specs.Alphabets.{is_ia5, is_numeric, is_printable, is_visible};
+ghost use Rattle.asn1_values.specs.Alphabets.{is_ia5, is_numeric, is_printable, is_visible};
 ghost use Rattle.std.specs.Cmp.Lexicographic.{pointwise};
 ghost use Rattle.std.specs.Prelude.{◌≡◌, ◌≤◌, ◌<◌, ◌^◌, ⊤, All, IsTrue, true};
 ghost use Rattle.std.specs.Str.{IsUtf8};
@@ -34,16 +34,15 @@ use asn1_choices::{Choice, ChoiceType};
 use asn1_codec::{DecodeError, Side};
 use asn1_components::{ConstructedType, FieldTable};
 use asn1_enumerations::{Enumerated, EnumeratedTable};
-use asn1_strings::kind::{
-    Bits, Bmp, General, Graphic, Ia5, Numeric, Octets, Printable, Teletex, Visible,
-};
-use asn1_strings::{
-    BitString, BmpString, GeneralString, GraphicString, Ia5String, NumericString, ObjectIdentifier,
-    PrintableString, TeletexString, VisibleString,
-};
 use asn1_tags::{Tag, TagTree};
 use asn1_types::{Any, CodecString, SetOf, Utf8};
-use asn1_values::IntegerType;
+use asn1_values::kind::{
+    Bits, Bmp, General, Graphic, Ia5, Numeric, Octets, Printable, Teletex, Visible,
+};
+use asn1_values::{
+    BitString, BmpString, GeneralString, GraphicString, Ia5String, IntegerType, NumericString,
+    ObjectIdentifier, PrintableString, TeletexString, VisibleString,
+};
 use std::alloc::{AllocError, Global};
 
 /// A codec that reads records: by calls of its own, on which those for whole types rest.

@@ -14,10 +14,9 @@ use asn1_enumerations::EnumeratedTable;
 use asn1_items::{StringOf, group_can_begin_with};
 use asn1_model::can_begin_with;
 use asn1_scopes::{BAD_ITEM, Opened, Scopes};
-use asn1_strings::ObjectIdentifier;
 use asn1_tags::{Tag, TagTree};
 use asn1_types::{Any, CodecString};
-use asn1_values::{Integer, IntegerType};
+use asn1_values::{Integer, IntegerType, ObjectIdentifier};
 use std::alloc::Global;
 
 /// A decoder that reads from the bytes of DER. It borrows them, and copies none but those of the values that it answers.

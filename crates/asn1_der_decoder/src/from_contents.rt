@@ -9,9 +9,8 @@ ghost use Rattle.std.specs.Prelude.{◌≡◌, ⊤, Bool, List, MatchResult, ℕ
 
 use asn1_der_items::{read_arcs, read_integer};
 use asn1_items::{ItemError, StringOf, read_bits, read_twos};
-use asn1_strings::ObjectIdentifier;
 use asn1_types::{AnyString, CodecString, StringKind};
-use asn1_values::{Integer, IntegerType};
+use asn1_values::{Integer, IntegerType, ObjectIdentifier};
 use std::alloc::{AllocError, Global};
 
 /// A type that is read from the contents octets of an element.

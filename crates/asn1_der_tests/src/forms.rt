@@ -3,8 +3,7 @@ use crate::reading::{BAD_ITEM, refuses, refuses_component};
 use asn1_dec::{DecodeError, Needed};
 use asn1_recursive::Node;
 use asn1_samples::{Badge, Color, Notice, Person, Profile};
-use asn1_strings::{BitString, ObjectIdentifier, OctetString, Utf8String};
-use asn1_values::Integer;
+use asn1_values::{BitString, Integer, ObjectIdentifier, OctetString, Utf8String};
 
 // X.690, 8.2.1, 8.3.1, 8.4, 8.8.1, 8.19.1 and 10.2.
 #[test]

@@ -1,7 +1,7 @@
 //! Values that hold no others and have no DER.
 use crate::cases::rejects;
-use asn1_strings::kind::Teletex;
-use asn1_strings::{ObjectIdentifier, UnitString};
+use asn1_values::kind::Teletex;
+use asn1_values::{ObjectIdentifier, UnitString};
 use std::alloc::Global;
 use std::process::Abort;
 

@@ -3,13 +3,12 @@ use crate::reading::{BAD_ITEM, read, refuses};
 use asn1_dec::{Decode, DecodeError, Decoder, Needed};
 use asn1_der_decoder::DerDecoder;
 use asn1_packed::read_whole;
-use asn1_strings::{
-    BitString, BmpString, Ia5String, NumericString, ObjectIdentifier, OctetString, PrintableString,
-    TeletexString, VisibleString,
-};
 use asn1_tags::{Tag, TagTree};
 use asn1_types::{Any, InstanceOf, SetOf};
-use asn1_values::Integer;
+use asn1_values::{
+    BitString, BmpString, Ia5String, Integer, NumericString, ObjectIdentifier, OctetString,
+    PrintableString, TeletexString, VisibleString,
+};
 use std::alloc::Global;
 use std::process::Abort;
 

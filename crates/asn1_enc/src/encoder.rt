@@ -11,7 +11,7 @@ ghost use Rattle.asn1_model.specs.Composites.{option_records, open_type_records,
 ghost use Rattle.asn1_model.specs.ConstraintSets.{constraint_set, unconstrained};
 ghost use Rattle.asn1_model.specs.Records.{absent, alternative, arcs, bits, bmp, discriminant, general, graphic, group_absent, ia5, in_additions, in_root, null, number, numeric, octet, explicit_tag, present, printable, sequence, sequence_of, set, set_of, teletex, boolean, units, utf8, visible};
 ghost use Rattle.asn1_tags.specs.Names.{name_of};
-ghost use Rattle.asn1_strings.specs.Alphabets.{is_ia5, is_numeric, is_printable, is_visible};
+ghost use Rattle.asn1_values.specs.Alphabets.{is_ia5, is_numeric, is_printable, is_visible};
 ghost use Rattle.std.specs.Option.{option_copied};
 ghost use Rattle.std.specs.Prelude.{◌≡◌, ◌<◌, ◌^◌, [], ◌∷◌, ⊤, All, IsTrue, None, Some};
 ghost use Rattle.std.specs.Str.{IsUtf8};
@@ -27,16 +27,15 @@ use asn1_codec::{EncodeError, Side};
 use asn1_components::{ConstructedType, FieldTable};
 use asn1_enumerations::{Enumerated, EnumeratedTable};
 use asn1_model::AsnType;
-use asn1_strings::kind::{
-    Bits, Bmp, General, Graphic, Ia5, Numeric, Octets, Printable, Teletex, Visible,
-};
-use asn1_strings::{
-    BmpString, GeneralString, GraphicString, Ia5String, NumericString, PrintableString,
-    TeletexString, VisibleString,
-};
 use asn1_tags::{Identifier, Tag};
 use asn1_types::{Any, CodecString, SetOf, Utf8};
-use asn1_values::IntegerType;
+use asn1_values::kind::{
+    Bits, Bmp, General, Graphic, Ia5, Numeric, Octets, Printable, Teletex, Visible,
+};
+use asn1_values::{
+    BmpString, GeneralString, GraphicString, Ia5String, IntegerType, NumericString,
+    PrintableString, TeletexString, VisibleString,
+};
 use std::alloc::{AllocError, Global};
 
 /// A codec that writes records: by calls of its own, on which those for whole types rest.

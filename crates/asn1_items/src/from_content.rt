@@ -11,9 +11,8 @@ use crate::bits::read_bits;
 use crate::content::kind_of_octets;
 use crate::error::ItemError;
 use crate::numbers::{read_fours, read_integer, read_twos};
-use asn1_strings::ObjectIdentifier;
 use asn1_types::{AnyString, CodecString, StringKind};
-use asn1_values::{Integer, IntegerType};
+use asn1_values::{Integer, IntegerType, ObjectIdentifier};
 use std::alloc::Global;
 
 /// A type that is read from the content of an item.

@@ -2,7 +2,7 @@
 //! implementation picks. Each is the contract of a function, so that a wrong one is refused.
 ghost use Rattle.std.specs.Prelude.{◌≡◌, ◌↔◌, ℕ, ℤ, ◌<◌, ◌^◌, Bool, IsTrue, FitsSigned, List, [], ◌∷◌, All, None, Some, codes};
 ghost use Rattle.std.specs.Int.{w8, w16, w32, w64, w128};
-ghost use Rattle.asn1_strings.specs.Alphabets.{is_visible, is_ia5, is_numeric, is_printable};
+ghost use Rattle.asn1_values.specs.Alphabets.{is_visible, is_ia5, is_numeric, is_printable};
 ghost use Rattle.asn1_tags.specs.Derives.{ClonesAll};
 ghost use Rattle.asn1_model.specs.ConstraintSets.{unconstrained};
 ghost use Rattle.asn1_model.specs.Meaning.{own_records};
@@ -21,7 +21,7 @@ use crate::tag::{
     VIDEOTEX_STRING, VISIBLE_STRING,
 };
 use crate::type_table::{TreeForm, TypeTable};
-use asn1_strings::{
+use asn1_values::{
     BitString, BmpString, GeneralString, GraphicString, Ia5String, NumericString, ObjectIdentifier,
     OctetString, PrintableString, TeletexString, VisibleString,
 };

@@ -8,10 +8,10 @@ ghost use Rattle.asn1_model.specs.Records.{Content, bits, units, octet, visible,
 ghost use Rattle.asn1_model.specs.Tags.{universal};
 
 use crate::type_table::TypeTable;
-use asn1_strings::kind::{
+use asn1_tags::{Identifier, Tag};
+use asn1_values::kind::{
     Bits, Bmp, General, Graphic, Ia5, Numeric, Octets, Printable, Teletex, Visible,
 };
-use asn1_tags::{Identifier, Tag};
 
 /// What a kind of string is in a schema, as the kind's marker says it.
 pub trait StringType<U> {

@@ -17,9 +17,9 @@ use Rattle.asn1_model.specs.contracts.impls.boolean.BoolAsnType.TheImpl.{ghosts 
 use Rattle.asn1_model.specs.contracts.impls.integer.IntegerAsnType.TheImpl.{ghosts as integer}
 use Rattle.asn1_model.specs.contracts.impls.null.UnitAsnType.TheImpl.{ghosts as null}
 use Rattle.asn1_model.specs.declared.tag.Marker.{Marker}
-use Rattle.asn1_strings.specs.Alphabets.{is_visible}
-use Rattle.asn1_strings.specs.contracts.strings.string_unit.BoolStringUnit.TheImpl.{ghosts as bit}
-use Rattle.asn1_strings.specs.contracts.strings.string_unit.U8StringUnit.TheImpl.{ghosts as byte}
+use Rattle.asn1_values.specs.Alphabets.{is_visible}
+use Rattle.asn1_values.specs.string_contracts.strings.string_unit.BoolStringUnit.TheImpl.{ghosts as bit}
+use Rattle.asn1_values.specs.string_contracts.strings.string_unit.U8StringUnit.TheImpl.{ghosts as byte}
 use Rattle.asn1_types.specs.Kinds.{implicit_type, instance_of_components}
 use Rattle.asn1_types.specs.declared.implicit.Implicit.{Implicit}
 use Rattle.asn1_types.specs.declared.instance_of.InstanceOf.{InstanceOf as Instance}

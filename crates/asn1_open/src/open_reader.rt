@@ -14,9 +14,8 @@ ghost use Rattle.std.specs.Result.{IsErrAnd};
 
 use crate::open_value::Open;
 use asn1_dec::{Decode, DecodeError, Decoder};
-use asn1_strings::{BitString, ObjectIdentifier, OctetString, Utf8String, VisibleString};
 use asn1_types::{Class, Constraints, Implicit, InstanceOf, Tag, tag};
-use asn1_values::Integer;
+use asn1_values::{BitString, Integer, ObjectIdentifier, OctetString, Utf8String, VisibleString};
 
 const VALUE: Tag = Tag {
     class: Class::Context,

@@ -13,12 +13,11 @@ ghost use Rattle.std.specs.declared.boxed.Box.{Box};
 use crate::open_reader::{read_alternative, read_open};
 use asn1_dec::{Decode, DecodeChoice, DecodeError, Decoder};
 use asn1_enc::{Encode, EncodeChoice, EncodeError, Encoder};
-use asn1_strings::{BitString, ObjectIdentifier, OctetString, Utf8String, VisibleString};
 use asn1_types::{
     AsnType, Choice, ChoiceType, Constraints, Identifier, Implicit, InstanceOf, Tag, TagTree,
     TypeTable, tag,
 };
-use asn1_values::Integer;
+use asn1_values::{BitString, Integer, ObjectIdentifier, OctetString, Utf8String, VisibleString};
 
 /// A value of one of nine types, each under its own tag.
 #[derive(PartialEq, Eq, Debug, Drop)]

@@ -7,10 +7,9 @@ use asn1_dec::{DecodeError, Decoder};
 use asn1_enumerations::EnumeratedTable;
 use asn1_items::{FromContent, Item, StringOf, Wanted};
 use asn1_scopes::{BAD_ITEM, Opened, Scopes};
-use asn1_strings::ObjectIdentifier;
 use asn1_tags::{Tag, TagTree};
 use asn1_types::{Any, CodecString};
-use asn1_values::{Integer, IntegerType};
+use asn1_values::{Integer, IntegerType, ObjectIdentifier};
 use std::alloc::Global;
 use std::marker::PhantomData;
 

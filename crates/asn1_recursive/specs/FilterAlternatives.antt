@@ -9,7 +9,7 @@ use Rattle.asn1_model.specs.ConstraintSets.{unconstrained}
 use Rattle.asn1_model.specs.Kinds.{string_type}
 use Rattle.asn1_model.specs.Meaning.{Meaning, own_records}
 use Rattle.asn1_model.specs.contracts.strings.OctetsStringTypeU8.TheImpl.{ghosts as octets}
-use Rattle.asn1_strings.specs.contracts.strings.string_unit.U8StringUnit.TheImpl.{ghosts as octet}
+use Rattle.asn1_values.specs.string_contracts.strings.string_unit.U8StringUnit.TheImpl.{ghosts as octet}
 use Rattle.asn1_model.specs.RecordTables.{Line, Table}
 use Rattle.asn1_model.specs.WellFormed.{well_formed_append, well_formed_elements}
 use Rattle.asn1_model.specs.TaggedTypes.{tagged}

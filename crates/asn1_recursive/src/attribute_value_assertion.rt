@@ -7,10 +7,10 @@ ghost use Rattle.asn1_types.specs.Words.{IsWellTagged, constructed_agrees, const
 use asn1_dec::{Decode, DecodeError, Decoder};
 use asn1_enc::{Encode, EncodeError, EncodeFields, Encoder};
 use asn1_slots::{DecodeByPlace, Decoded, Tagging, decode_sequence_by_place, filled, required};
-use asn1_strings::OctetString;
 use asn1_types::{
     AsnType, Constraints, ConstructedType, Field, FieldTable, Identifier, Tag, TypeTable,
 };
+use asn1_values::OctetString;
 use std::alloc::Global;
 
 /// What is said of an attribute: its name, and a value.

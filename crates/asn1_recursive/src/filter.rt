@@ -26,10 +26,10 @@ use crate::matching_rule_assertion::MatchingRuleAssertion;
 use crate::substring_filter::SubstringFilter;
 use asn1_dec::{Decode, DecodeChoice, DecodeError, Decoder};
 use asn1_enc::{Encode, EncodeChoice, EncodeError, Encoder};
-use asn1_strings::OctetString;
 use asn1_types::{
     AsnType, Choice, ChoiceType, Class, Constraints, Identifier, SetOf, Tag, TagTree, TypeTable,
 };
+use asn1_values::OctetString;
 
 /// Which entries a search finds: a CHOICE that holds itself, and sets of itself.
 #[derive(PartialEq, Eq, Debug, Drop)]

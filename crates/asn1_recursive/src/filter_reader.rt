@@ -21,8 +21,8 @@ use crate::filter::{
 use crate::matching_rule_assertion::MatchingRuleAssertion;
 use crate::substring_filter::SubstringFilter;
 use asn1_dec::{Decode, DecodeError, Decoder};
-use asn1_strings::OctetString;
 use asn1_types::{Constraints, SetOf, Tag};
+use asn1_values::OctetString;
 
 /// A filter under a tag: untagged under the CHOICE marker tag, and else after the tag.
 #[cycle(filters)]

@@ -18,10 +18,10 @@ use asn1_slots::{
     DecodeByPlace, Decoded, Tagging, decode_sequence_by_place, filled, optional, or_default,
     required,
 };
-use asn1_strings::OctetString;
 use asn1_types::{
     AsnType, Class, Constraints, ConstructedType, Field, FieldTable, Identifier, Tag, TypeTable,
 };
+use asn1_values::OctetString;
 use std::alloc::Global;
 
 /// A value, the rule by which it is compared, and with what.

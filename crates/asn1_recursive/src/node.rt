@@ -9,10 +9,10 @@ ghost use Rattle.asn1_recursive.specs.declared.node.Node.{out-Node};
 use crate::node_reader::read_node;
 use asn1_dec::{Decode, DecodeError, Decoder};
 use asn1_enc::{Encode, EncodeError, EncodeFields, Encoder};
-use asn1_strings::Utf8String;
 use asn1_types::{
     AsnType, Constraints, ConstructedType, Field, FieldTable, Identifier, Tag, TypeTable,
 };
+use asn1_values::Utf8String;
 
 /// A tree of labels: a type that holds itself.
 #[derive(PartialEq, Eq, Debug, Drop)]

@@ -7,10 +7,10 @@ ghost use Rattle.asn1_recursive.specs.declared.substring.Substring.TheVariants.{
 use asn1_dec::{Decode, DecodeChoice, DecodeError, Decoder};
 use asn1_enc::{Encode, EncodeChoice, EncodeError, Encoder};
 use asn1_slots::{DecodeChoiceByPlace, Tagging, alternative, from_tag_by_place};
-use asn1_strings::OctetString;
 use asn1_types::{
     AsnType, Choice, ChoiceType, Class, Constraints, Identifier, Tag, TagTree, TypeTable,
 };
+use asn1_values::OctetString;
 
 /// A part of a text: where it begins, what is in it, or where it ends.
 #[derive(PartialEq, Eq, Debug, Drop)]

@@ -8,10 +8,10 @@ use crate::substring::Substring;
 use asn1_dec::{Decode, DecodeError, Decoder};
 use asn1_enc::{Encode, EncodeError, EncodeFields, Encoder};
 use asn1_slots::{DecodeByPlace, Decoded, Tagging, decode_sequence_by_place, filled, required};
-use asn1_strings::OctetString;
 use asn1_types::{
     AsnType, Constraints, ConstructedType, Field, FieldTable, Identifier, Tag, TypeTable,
 };
+use asn1_values::OctetString;
 use std::alloc::Global;
 
 /// The parts of a text, in their order.

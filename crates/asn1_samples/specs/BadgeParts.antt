@@ -5,7 +5,7 @@ use Rattle.asn1_model.specs.Kinds.{string_type}
 use Rattle.asn1_model.specs.Records.{units, visible}
 use Rattle.asn1_model.specs.TaggedTypes.{TaggedType, untagged}
 use Rattle.asn1_model.specs.Tags.{universal}
-use Rattle.asn1_strings.specs.Alphabets.{is_visible}
+use Rattle.asn1_values.specs.Alphabets.{is_visible}
 use Rattle.asn1_samples.specs.declared.badge.Badge.{Badge}
 use Rattle.asn1_samples.specs.declared.badge.BadgePart.{BadgePart}
 use Rattle.asn1_samples.specs.declared.badge.BadgePart.TheVariants.{Id, Label, Figure}

@@ -11,10 +11,10 @@ use crate::shape::Shape;
 use asn1_dec::{Decode, DecodeError, DecodeSet, Decoder, keep_once};
 use asn1_enc::{Encode, EncodeError, EncodeFields, Encoder};
 use asn1_slots::{DecodeSetByPlace, Decoded, Tagging, decode_set_by_place, filled, once};
-use asn1_strings::VisibleString;
 use asn1_types::{
     AsnType, Choice, Constraints, ConstructedType, Field, FieldTable, Identifier, Tag, TypeTable,
 };
+use asn1_values::VisibleString;
 use std::alloc::Global;
 
 /// What someone wears: a SET, whose components may be written in any order.

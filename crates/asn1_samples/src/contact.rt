@@ -6,9 +6,9 @@ ghost use Rattle.asn1_types.specs.Words.{context, tagged};
 use asn1_dec::{DecodeError, DecodeFields, Decoder};
 use asn1_enc::{Encode, EncodeError, EncodeFields, Encoder};
 use asn1_slots::{DecodeByPlace, Decoded, Tagging, decode_fields_by_place, optional};
-use asn1_strings::{Ia5String, NumericString};
 use asn1_tags::tag;
 use asn1_types::{AsnType, Field, FieldTable, Tag, TagTree};
+use asn1_values::{Ia5String, NumericString};
 use std::alloc::Global;
 
 /// How to reach someone: a group of additions, which has no tag of its own.

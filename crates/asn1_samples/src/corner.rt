@@ -7,8 +7,8 @@ ghost use Rattle.asn1_samples.specs.declared.corner.Corner.TheVariants.{Left, Ri
 use asn1_dec::{Decode, DecodeChoice, DecodeError, Decoder};
 use asn1_enc::{Encode, EncodeChoice, EncodeError, Encoder};
 use asn1_slots::{DecodeChoiceByPlace, Tagging, alternative, from_tag_by_place};
-use asn1_strings::OctetString;
 use asn1_types::{AsnType, Choice, ChoiceType, Constraints, Identifier, Tag, TagTree, TypeTable};
+use asn1_values::OctetString;
 
 /// A corner of a figure.
 #[derive(PartialEq, Eq, Debug, Drop)]

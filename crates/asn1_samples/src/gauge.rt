@@ -9,11 +9,11 @@ use asn1_enc::{Encode, EncodeError, EncodeFields, Encoder};
 use asn1_slots::{
     DecodeSetByPlace, Decoded, Tagging, decode_set_by_place, filled, once, once_with_constraints,
 };
-use asn1_strings::Utf8String;
 use asn1_tags::tag;
 use asn1_types::{
     AsnType, Constraints, ConstructedType, Field, FieldTable, Identifier, Tag, TypeTable,
 };
+use asn1_values::Utf8String;
 use std::alloc::Global;
 
 /// What a gauge shows: a SET two of whose components are under constraints of their own. The definition has no limits for the

@@ -8,11 +8,11 @@ use asn1_enc::{Encode, EncodeError, EncodeFields, Encoder, encode_explicit_optio
 use asn1_slots::{
     DecodeByPlace, Decoded, Tagging, decode_sequence_by_place, filled, optional, required,
 };
-use asn1_strings::Utf8String;
 use asn1_tags::tag;
 use asn1_types::{
     AsnType, Constraints, ConstructedType, Field, FieldTable, Identifier, Tag, TypeTable,
 };
+use asn1_values::Utf8String;
 use std::alloc::Global;
 
 /// What someone is told, and whether at once.

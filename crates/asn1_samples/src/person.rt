@@ -6,11 +6,10 @@ ghost use Rattle.asn1_types.specs.Words.{untagged, constructed_type, constructed
 use asn1_dec::{Decode, DecodeError, Decoder};
 use asn1_enc::{Encode, EncodeError, EncodeFields, Encoder};
 use asn1_slots::{DecodeByPlace, Decoded, Tagging, decode_sequence_by_place, filled, required};
-use asn1_strings::Utf8String;
 use asn1_types::{
     AsnType, Constraints, ConstructedType, Field, FieldTable, Identifier, Tag, TypeTable,
 };
-use asn1_values::Integer;
+use asn1_values::{Integer, Utf8String};
 use std::alloc::Global;
 
 /// How old someone is, and their name.

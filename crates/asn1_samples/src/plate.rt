@@ -2,12 +2,12 @@
 ghost use Rattle.std.specs.Prelude.{Some, IsTrue, All, codes};
 ghost use Rattle.asn1_model.specs.Kinds.{scalar_type, under_own_name};
 ghost use Rattle.asn1_types.specs.Words.{universal, characters_of, IsWellTagged, units, visible};
-ghost use Rattle.asn1_strings.specs.Alphabets.{is_visible};
+ghost use Rattle.asn1_values.specs.Alphabets.{is_visible};
 
 use asn1_dec::{Decode, DecodeError, Decoder};
 use asn1_enc::{Encode, EncodeError, Encoder};
-use asn1_strings::VisibleString;
 use asn1_types::{AsnType, ConstraintTable, Constraints, Identifier, Tag, TypeTable};
+use asn1_values::VisibleString;
 
 /// What is written on a plate: the letters A, B and C. That a value has these alone is left to whoever makes it.
 #[derive(PartialEq, Eq, Debug, Drop)]

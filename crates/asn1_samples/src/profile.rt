@@ -22,11 +22,11 @@ use asn1_slots::{
     DecodeByPlace, Decoded, Tagging, decode_sequence_by_place, filled, group, optional, or_default,
     required,
 };
-use asn1_strings::{Ia5String, Utf8String};
 use asn1_tags::tag;
 use asn1_types::{
     AsnType, Constraints, ConstructedType, Field, FieldTable, Identifier, Tag, TypeTable,
 };
+use asn1_values::{Ia5String, Utf8String};
 use std::alloc::Global;
 
 /// What is known of someone.

@@ -8,11 +8,11 @@ use asn1_enc::{Encode, EncodeError, EncodeFields, Encoder};
 use asn1_slots::{
     DecodeSetByPlace, Decoded, Tagging, decode_set_by_place, filled, once, or_default,
 };
-use asn1_strings::Utf8String;
 use asn1_tags::tag;
 use asn1_types::{
     AsnType, Constraints, ConstructedType, Field, FieldTable, Identifier, Tag, TypeTable,
 };
+use asn1_values::Utf8String;
 use std::alloc::Global;
 
 /// Where someone sits, perhaps who, and whether it is paid: a SET with a default.

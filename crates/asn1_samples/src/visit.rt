@@ -18,11 +18,11 @@ use asn1_enc::{Encode, EncodeError, EncodeFields, Encoder};
 use asn1_slots::{
     DecodeByPlace, Decoded, Tagging, addition, decode_sequence_by_place, filled, group, required,
 };
-use asn1_strings::{NumericString, Utf8String};
 use asn1_tags::tag;
 use asn1_types::{
     AsnType, Constraints, ConstructedType, Field, FieldTable, Identifier, Tag, TypeTable,
 };
+use asn1_values::{NumericString, Utf8String};
 use std::alloc::Global;
 
 /// When someone came, and what is known of it.

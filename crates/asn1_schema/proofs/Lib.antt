@@ -10,7 +10,6 @@ pub use Rattle.asn1_open.proofs as open_value_lemmas
 pub use Rattle.asn1_ranges.proofs as range_lemmas
 pub use Rattle.asn1_slots.proofs as slot_lemmas
 pub use Rattle.asn1_streams.proofs as stream_lemmas
-pub use Rattle.asn1_strings.proofs as string_lemmas
 pub use Rattle.asn1_tags.proofs as tag_lemmas
 pub use Rattle.asn1_types.proofs as type_lemmas
 pub use Rattle.asn1_values.proofs as value_lemmas

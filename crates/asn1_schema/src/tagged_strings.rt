@@ -5,8 +5,8 @@ ghost use Rattle.asn1_schema.specs.TaggedStrings.{IsContentUnderEachTag, IsOwnCo
 ghost use Rattle.std.specs.Prelude.{ℕ, Bool, List, codes};
 ghost use Rattle.std.specs.String.{string_bytes};
 
-use asn1_strings::{GraphicString, Utf8String, VisibleString};
 use asn1_types::{AsnType, Implicit, tag};
+use asn1_values::{GraphicString, Utf8String, VisibleString};
 
 /// A UniversalString (X.680, 41.1): a text under the tag of that kind, which is Universal 28. Its content is that of a
 /// UTF8String, as in rasn.

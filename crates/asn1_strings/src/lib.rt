@@ -1,7 +1,7 @@
 //! The strings below ASN.1's types: bits, octets, the kinds of character string, and names of objects.
 //!
 //! The crate is below the types and codecs of the schema layer. A codec gives and takes strings of these types, and each
-//! type guards what its values are: the alphabet of a character string. Numbers are in `asn1_values`, and neither crate
+//! type guards what its values are: the alphabet of a character string. Numbers are in `asn1_integers`, and neither crate
 //! uses the other.
 //!
 //! | Type | What it is | Contracts see |

@@ -2,7 +2,7 @@
 ghost use Rattle.std.specs.Prelude.{◌≡◌, ◌<◌, ◌^◌, ⊤, All, IfSome, IsSomeAnd, IsTrue, List, codes, refl};
 ghost use Rattle.std.specs.Str.{IsUtf8};
 ghost use Rattle.std.specs.String.{string_bytes};
-ghost use Rattle.asn1_strings.specs.Alphabets.{is_ia5, is_numeric, is_printable, is_visible};
+ghost use Rattle.asn1_values.specs.Alphabets.{is_ia5, is_numeric, is_printable, is_visible};
 ghost use Rattle.asn1_model.specs.Records.{units, utf8};
 ghost use Rattle.asn1_model.specs.Tags.{universal};
 ghost use Rattle.asn1_types.specs.AnyStrings.{IsStringOf, content_of_str, content_of_string};
@@ -12,14 +12,14 @@ ghost use Rattle.asn1_types.specs.declared.any_string.StringKind.{StringKind};
 
 use crate::any_string::{AnyStr, AnyString, OctetKind, StringKind};
 use asn1_model::{StringType, TypeTable};
-use asn1_strings::kind::{
+use asn1_tags::{Identifier, Tag};
+use asn1_values::kind::{
     Bits, Bmp, General, Graphic, Ia5, Numeric, Octets, Printable, Teletex, Visible,
 };
-use asn1_strings::{
+use asn1_values::{
     BitString, BmpString, GeneralString, GraphicString, Ia5String, NumericString, PrintableString,
     TeletexString, VisibleString,
 };
-use asn1_tags::{Identifier, Tag};
 
 /// A kind of string, by the kind's marker, as a codec writes and reads it: one call of a codec serves all kinds.
 pub trait CodecString<U>: StringType<U> {

@@ -7,8 +7,8 @@ mod fields;
 
 use asn1_components::{ConstructedType, FieldTable};
 use asn1_model::{AsnType, TypeTable};
-use asn1_strings::ObjectIdentifier;
 use asn1_tags::{Identifier, Tag};
+use asn1_values::ObjectIdentifier;
 
 /// A value beside the name of its type.
 #[derive(Debug, PartialEq, Eq, PartialOrd, Ord, Hash, Drop)]

@@ -1,3 +1,5 @@
-pub mod Digits
-pub mod Signs
-pub mod Texts
+-- of whole numbers
+pub use Rattle.asn1_integers.proofs.Digits
+pub use Rattle.asn1_integers.proofs.Signs
+-- of strings and names of objects
+pub use Rattle.asn1_strings.proofs.AsciiTexts

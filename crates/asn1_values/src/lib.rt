@@ -1,45 +1,22 @@
-//! The numbers below ASN.1's types: whole numbers of any size, and whole numbers within limits.
+//! The values below ASN.1's types: whole numbers of any size, strings of each kind, and names of objects.
 //!
-//! The crate is below the bounds, types and codecs of the schema layer. A codec gives and takes numbers of these types, and
-//! a constrained number guards its limits. Strings and names of objects are in `asn1_strings`, and neither crate uses the
-//! other.
+//! The crate has no code of its own. It exports the types and traits of `asn1_integers` and of `asn1_strings`, whose pages
+//! say what they promise, so that the crates above name one crate for both.
 //!
-//! | Type | What it is | Contracts see |
-//! |---|---|---|
-//! | [`Integer`] | a whole number of any size | its number |
-//! | [`IntegerType`] | what the built-in integers and `Integer` have in common | `number`, and the numbers that fit |
-//! | [`ConstrainedInteger`], [`LimitedInteger`] | a whole number from a least to a greatest one | its number |
-//! | [`OutOfRangeError`] | why a built-in integer was not made | |
+//! | Types | From |
+//! |---|---|
+//! | [`Integer`], [`IntegerType`], [`ConstrainedInteger`], [`LimitedInteger`] | `asn1_integers` |
+//! | [`VisibleString`], [`OctetString`] and the other kinds of string, [`ObjectIdentifier`] | `asn1_strings` |
 //!
-//! The module [`laws`] says by contracts what derives, aliases and definitions give.
-//!
-//! What the contracts promise, and the words that they use:
-//!
-//! - A number goes into an `Integer` and comes back: `Integer::from_sign_magnitude` gives the number of
-//!   the sign and the bytes, `signed` and `magnitude` of `specs/Numbers.antt`, and `sign_magnitude` gives
-//!   them back (`number`) with no leading zero (`shortest`). `to_i128` answers if and only if the number
-//!   fits. Equality, order and hash are those of the number.
-//! - `Integer` is also made by `From` of an `i128` and of each built-in integer of at most 64 bits, copied by `try_clone`
-//!   (`number`), and made by `Default`, which is 0. Each built-in integer
-//!   is made by `TryFrom<Integer>` if and only if the number fits it, else the error is [`OutOfRangeError`].
-//! - An `Integer` is written as `integer_text` of `specs/Text.antt`: in decimal what an `i128` holds, else in hexadecimal.
-//! - `IntegerType::try_from_integer` answers if and only if the number fits the type (`fitting`), and with
-//!   the value of that number (`same_number`). Two values with one number are equal (`injective`).
-//! - `LimitedInteger::new` and `from_i64` succeed if and only if the number is within the limits (`within`).
-//!
-//! Calls that take memory take the allocator, and fail only where there is none: `from_sign_magnitude`,
-//! `sign_magnitude`, `try_clone` and `to_integer`. All but the second take none for a number of 128 bits
-//! (`succeeds`).
+//! `specs/Lib.antt` exports the definitions of both under their own names, and `proofs/Lib.antt` their lemmas.
 #![tactic(auto)]
 
-mod constrained;
-mod error;
-mod integer;
-mod integer_type;
-pub mod laws;
-mod magnitude;
-
-pub use constrained::{Between, ConstrainedInteger, LimitedInteger, Limits};
-pub use error::OutOfRangeError;
-pub use integer::Integer;
-pub use integer_type::IntegerType;
+pub use asn1_integers::{
+    Between, ConstrainedInteger, Integer, IntegerType, LimitedInteger, Limits, OutOfRangeError,
+};
+pub use asn1_strings::{
+    Alphabet, AlphabetError, AlphabetString, ArcError, AsciiAlphabet, BitStr, BitString, BmpString,
+    GeneralString, GraphicString, Ia5String, NumericString, ObjectIdentifier,
+    ObjectIdentifierError, OctetString, PrintableString, StringError, StringUnit, TeletexString,
+    UnitString, Utf8String, VisibleString, kind,
+};

@@ -9,10 +9,10 @@ use asn1_enc::{Encode, EncodeError, EncodeFields, Encoder};
 use asn1_slots::{
     DecodeByPlace, Decoded, Tagging, decode_sequence_by_place, filled, optional, required,
 };
-use asn1_strings::ObjectIdentifier;
 use asn1_types::{
     Any, AsnType, Constraints, ConstructedType, Field, FieldTable, Identifier, Tag, TypeTable,
 };
+use asn1_values::ObjectIdentifier;
 use std::alloc::Global;
 
 /// An algorithm, and its parameters where it has any: an open type that may be absent.

@@ -17,10 +17,10 @@ ghost use Rattle.asn1_x509.specs.declared.directory_string.DirectoryString.TheVa
 use asn1_dec::{Decode, DecodeChoice, DecodeError, Decoder};
 use asn1_enc::{Encode, EncodeChoice, EncodeError, Encoder};
 use asn1_slots::{DecodeChoiceByPlace, Tagging, alternative, from_tag_by_place};
-use asn1_strings::{BmpString, PrintableString, TeletexString, Utf8String};
 use asn1_types::{
     AsnType, Choice, ChoiceType, Constraints, Identifier, Implicit, Tag, TagTree, TypeTable, tag,
 };
+use asn1_values::{BmpString, PrintableString, TeletexString, Utf8String};
 
 /// A text in one of five kinds of string. That it is not empty is the caller's to see.
 #[derive(PartialEq, Eq, Debug, Drop)]

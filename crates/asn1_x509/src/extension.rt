@@ -9,10 +9,10 @@ use asn1_slots::{
     DecodeByPlace, Decoded, Tagging, decode_sequence_by_place, filled, optional, or_default,
     required,
 };
-use asn1_strings::{ObjectIdentifier, OctetString};
 use asn1_types::{
     AsnType, Constraints, ConstructedType, Field, FieldTable, Identifier, Tag, TypeTable,
 };
+use asn1_values::{ObjectIdentifier, OctetString};
 use std::alloc::Global;
 
 /// `Extensions ::= SEQUENCE SIZE (1..MAX) OF Extension`. That there is one is the caller's to see.

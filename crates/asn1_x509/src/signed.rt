@@ -9,10 +9,10 @@ use crate::algorithm_identifier::AlgorithmIdentifier;
 use asn1_dec::{Decode, DecodeError, Decoder};
 use asn1_enc::{Encode, EncodeError, EncodeFields, Encoder};
 use asn1_slots::{DecodeByPlace, Decoded, Tagging, decode_sequence_by_place, filled, required};
-use asn1_strings::BitString;
 use asn1_types::{
     AsnType, Constraints, ConstructedType, Field, FieldTable, Identifier, Tag, TypeTable,
 };
+use asn1_values::BitString;
 use std::alloc::Global;
 
 /// What is signed, of any type, with its signature.

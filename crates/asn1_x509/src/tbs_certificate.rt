@@ -33,12 +33,11 @@ use asn1_slots::{
     DecodeByPlace, Decoded, Tagging, decode_sequence_by_place, filled, optional, or_default,
     required,
 };
-use asn1_strings::BitString;
 use asn1_tags::tag;
 use asn1_types::{
     AsnType, Constraints, ConstructedType, Field, FieldTable, Identifier, Tag, TypeTable,
 };
-use asn1_values::Integer;
+use asn1_values::{BitString, Integer};
 use std::alloc::Global;
 
 /// `Version ::= INTEGER { v1(0), v2(1), v3(2) }`

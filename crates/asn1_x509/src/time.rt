@@ -7,10 +7,10 @@ ghost use Rattle.asn1_x509.specs.declared.time.Time.TheVariants.{Utc, General};
 use asn1_dec::{Decode, DecodeChoice, DecodeError, Decoder};
 use asn1_enc::{Encode, EncodeChoice, EncodeError, Encoder};
 use asn1_slots::{DecodeChoiceByPlace, Tagging, alternative, from_tag_by_place};
-use asn1_strings::VisibleString;
 use asn1_types::{
     AsnType, Choice, ChoiceType, Constraints, Identifier, Implicit, Tag, TagTree, TypeTable, tag,
 };
+use asn1_values::VisibleString;
 
 /// A point in time, in one of two kinds of text.
 #[derive(PartialEq, Eq, Debug, Drop)]

@@ -6,11 +6,11 @@ ghost use Rattle.asn1_types.specs.Words.{IsWellTagged, constructed_agrees, const
 use asn1_dec::{Decode, DecodeError, Decoder};
 use asn1_enc::{Encode, EncodeError, EncodeFields, Encoder};
 use asn1_slots::{DecodeByPlace, Decoded, Tagging, decode_sequence_by_place, filled, required};
-use asn1_strings::ObjectIdentifier;
 use asn1_tags::tag;
 use asn1_types::{
     Any, AsnType, Constraints, ConstructedType, Field, FieldTable, Identifier, Tag, TypeTable,
 };
+use asn1_values::ObjectIdentifier;
 use std::alloc::Global;
 
 /// A name of a kind that has a name of its own.

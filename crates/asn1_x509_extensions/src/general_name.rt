@@ -24,11 +24,11 @@ use crate::edi_party_name::EdiPartyName;
 use asn1_dec::{Decode, DecodeChoice, DecodeError, Decoder};
 use asn1_enc::{Encode, EncodeChoice, EncodeError, Encoder};
 use asn1_slots::{DecodeChoiceByPlace, Tagging, alternative, from_tag_by_place};
-use asn1_strings::{Ia5String, ObjectIdentifier, OctetString};
 use asn1_tags::tag;
 use asn1_types::{
     Any, AsnType, Choice, ChoiceType, Constraints, Identifier, Tag, TagTree, TypeTable,
 };
+use asn1_values::{Ia5String, ObjectIdentifier, OctetString};
 use asn1_x509::Name;
 
 /// `GeneralNames ::= SEQUENCE SIZE (1..MAX) OF GeneralName`. That there is one is the caller's to see.

@@ -2,8 +2,8 @@
 ghost use Rattle.asn1_types.specs.Words.{IsWellTagged};
 ghost use Rattle.std.specs.Prelude.{Bool, List, ℕ};
 
-use asn1_strings::{BitString, ObjectIdentifier, OctetString};
 use asn1_types::AsnType;
+use asn1_values::{BitString, ObjectIdentifier, OctetString};
 
 /// `KeyIdentifier ::= OCTET STRING` (RFC 5280, 4.2.1.1)
 pub type KeyIdentifier = OctetString;

@@ -3,8 +3,8 @@ use crate::call_rules::CallRules;
 use crate::calls::tagged::{comes_back_under_a_tag, made_comes_back_under_a_tag};
 use crate::failure::Failure;
 use crate::made::{letters, list, units};
-use asn1_strings::{BitString, BmpString, ObjectIdentifier, TeletexString, VisibleString};
 use asn1_types::{InstanceOf, SetOf};
+use asn1_values::{BitString, BmpString, ObjectIdentifier, TeletexString, VisibleString};
 use std::alloc::Global;
 
 /// Whether a BOOLEAN, a NULL, an INTEGER and an object identifier come back under a tag.

@@ -3,11 +3,11 @@ use crate::failure::Failure;
 use crate::made::{letters, list, text, units};
 use crate::round_trips::made_comes_back;
 use asn1_rules::Rules;
-use asn1_strings::{
+use asn1_types::Any;
+use asn1_values::{
     BitString, BmpString, GeneralString, GraphicString, Ia5String, NumericString, ObjectIdentifier,
     OctetString, PrintableString, TeletexString, VisibleString,
 };
-use asn1_types::Any;
 use std::alloc::Global;
 
 /// Whether a string of each kind that has an alphabet comes back.

@@ -3,9 +3,9 @@ use crate::decode::{Decode, DecodeFields};
 use crate::decoder::Decoder;
 use asn1_bounds::Constraints;
 use asn1_codec::DecodeError;
-use asn1_strings::ObjectIdentifier;
 use asn1_tags::{Class, Tag};
 use asn1_types::InstanceOf;
+use asn1_values::ObjectIdentifier;
 
 const VALUE: Tag = Tag {
     class: Class::Context,

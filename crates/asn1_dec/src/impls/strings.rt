@@ -3,11 +3,11 @@ use crate::decode::Decode;
 use crate::decoder::Decoder;
 use asn1_bounds::Constraints;
 use asn1_codec::DecodeError;
-use asn1_strings::{
+use asn1_tags::Tag;
+use asn1_values::{
     BitString, BmpString, GeneralString, GraphicString, Ia5String, NumericString, ObjectIdentifier,
     OctetString, PrintableString, TeletexString, VisibleString,
 };
-use asn1_tags::Tag;
 
 impl Decode for ObjectIdentifier {
     #[inline(always)]

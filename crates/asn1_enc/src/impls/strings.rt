@@ -3,11 +3,11 @@ use crate::encode::Encode;
 use crate::encoder::Encoder;
 use asn1_bounds::Constraints;
 use asn1_codec::EncodeError;
-use asn1_strings::{
+use asn1_tags::{Identifier, Tag};
+use asn1_values::{
     BitString, BmpString, GeneralString, GraphicString, Ia5String, NumericString, ObjectIdentifier,
     OctetString, PrintableString, TeletexString, VisibleString,
 };
-use asn1_tags::{Identifier, Tag};
 
 impl Encode for ObjectIdentifier {
     #[inline(always)]

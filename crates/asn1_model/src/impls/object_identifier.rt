@@ -3,8 +3,8 @@ ghost use Rattle.asn1_model.specs.Kinds.{object_identifier};
 
 use crate::asn_type::AsnType;
 use crate::type_table::TypeTable;
-use asn1_strings::ObjectIdentifier;
 use asn1_tags::{Identifier, Tag};
+use asn1_values::ObjectIdentifier;
 
 impl AsnType for ObjectIdentifier {
     ghost meaning = { object_identifier };

@@ -13,8 +13,10 @@ ghost use Rattle.asn1_model.specs.Tags.{universal};
 
 use crate::asn_type::AsnType;
 use crate::strings::StringType;
-use asn1_strings::{Alphabet, AlphabetString, ObjectIdentifier, StringUnit, UnitString};
-use asn1_values::{Integer, LimitedInteger, Limits};
+use asn1_values::{
+    Alphabet, AlphabetString, Integer, LimitedInteger, Limits, ObjectIdentifier, StringUnit,
+    UnitString,
+};
 use std::borrow::Cow;
 use std::marker::PhantomData;
 

@@ -8,11 +8,10 @@ ghost use Rattle.asn1_types.specs.Words.{IsWellTagged, Range, application, const
 use asn1_dec::{Decode, DecodeError, Decoder};
 use asn1_enc::{Encode, EncodeError, EncodeFields, Encoder};
 use asn1_slots::{DecodeByPlace, Decoded, Tagging, decode_sequence_by_place, filled, required};
-use asn1_strings::OctetString;
 use asn1_types::{
     AsnType, Class, Constraints, ConstructedType, Field, FieldTable, Identifier, Tag, TypeTable,
 };
-use asn1_values::ConstrainedInteger;
+use asn1_values::{ConstrainedInteger, OctetString};
 use std::alloc::Global;
 
 /// `INTEGER (1..127)`

@@ -18,10 +18,10 @@ use crate::ldap::bind_request::BIND_REQUEST;
 use asn1_dec::{Decode, DecodeChoice, DecodeError, Decoder};
 use asn1_enc::{Encode, EncodeChoice, EncodeError, Encoder};
 use asn1_slots::{DecodeChoiceByPlace, Tagging, alternative, from_tag_by_place};
-use asn1_strings::OctetString;
 use asn1_types::{
     AsnType, Choice, ChoiceType, Class, Constraints, Identifier, Tag, TagTree, TypeTable,
 };
+use asn1_values::OctetString;
 
 /// What is asked.
 #[derive(PartialEq, Eq, Debug, Drop)]

@@ -2,12 +2,12 @@
 ghost use Rattle.std.specs.Prelude.{◌≡◌, All, IsTrue, Some, codes, List, Bool, ℕ};
 ghost use Rattle.asn1_types.specs.Words.{IsWellTagged, application, unconstrained, units, visible};
 ghost use Rattle.asn1_model.specs.Kinds.{scalar_type, under_own_name};
-ghost use Rattle.asn1_strings.specs.Alphabets.{is_visible};
+ghost use Rattle.asn1_values.specs.Alphabets.{is_visible};
 
 use asn1_dec::{Decode, DecodeError, Decoder};
 use asn1_enc::{Encode, EncodeError, Encoder};
-use asn1_strings::VisibleString;
 use asn1_types::{AsnType, Class, Constraints, Identifier, Tag, TypeTable};
+use asn1_values::VisibleString;
 
 /// A day. That its text is one is left to whoever makes it.
 #[derive(PartialEq, Eq, Debug, Drop)]

@@ -6,10 +6,10 @@ ghost use Rattle.asn1_types.specs.Words.{IsWellTagged, application, constructed_
 use asn1_dec::{Decode, DecodeError, Decoder};
 use asn1_enc::{Encode, EncodeError, EncodeFields, Encoder};
 use asn1_slots::{DecodeByPlace, Decoded, Tagging, decode_sequence_by_place, filled, required};
-use asn1_strings::VisibleString;
 use asn1_types::{
     AsnType, Class, Constraints, ConstructedType, Field, FieldTable, Identifier, Tag, TypeTable,
 };
+use asn1_values::VisibleString;
 use std::alloc::Global;
 
 /// What someone is called.

@@ -19,11 +19,10 @@ use crate::personnel::{ChildInformation, Date, Name};
 use asn1_dec::{Decode, DecodeError, Decoder};
 use asn1_enc::{Encode, EncodeError, EncodeFields, Encoder};
 use asn1_slots::{DecodeSetByPlace, Decoded, Tagging, decode_set_by_place, filled, once, or_empty};
-use asn1_strings::VisibleString;
 use asn1_types::{
     AsnType, Class, Constraints, ConstructedType, Field, FieldTable, Identifier, Tag, TypeTable,
 };
-use asn1_values::Integer;
+use asn1_values::{Integer, VisibleString};
 use std::alloc::Global;
 
 /// `SEQUENCE OF ChildInformation`

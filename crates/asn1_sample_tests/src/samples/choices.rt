@@ -2,7 +2,7 @@
 use asn1_codec_tests::made::{letters, units};
 use asn1_codec_tests::{Failure, ValueCase};
 use asn1_samples::{Badge, Color, Corner, Shape};
-use asn1_strings::VisibleString;
+use asn1_values::VisibleString;
 use std::alloc::Global;
 
 /// Whether a case passes of each alternative of each CHOICE.

@@ -3,8 +3,7 @@ use asn1_codec_tests::made::{letters, text};
 use asn1_codec_tests::{Failure, ValueCase, comes_back_as};
 use asn1_rules::Rules;
 use asn1_samples::{Color, Contact, Person, Profile};
-use asn1_strings::{Alphabet, AlphabetString};
-use asn1_values::Integer;
+use asn1_values::{Alphabet, AlphabetString, Integer};
 use std::alloc::{AllocError, Global};
 
 /// Ann, who is 30.

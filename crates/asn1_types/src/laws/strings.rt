@@ -9,10 +9,10 @@ ghost use Rattle.asn1_model.specs.Records.{units, utf8};
 use crate::any_string::{AnyStr, OctetKind, StringKind};
 use crate::codec_string::{CodecString, Utf8};
 use asn1_model::{AsnType, StringType};
-use asn1_strings::kind::{
+use asn1_values::kind::{
     Bits, Bmp, General, Graphic, Ia5, Numeric, Octets, Printable, Teletex, Visible,
 };
-use asn1_strings::{
+use asn1_values::{
     BitString, BmpString, GeneralString, GraphicString, Ia5String, NumericString, OctetString,
     PrintableString, TeletexString, VisibleString,
 };

@@ -1,6 +1,6 @@
 //! Character strings that are made of texts.
 use crate::assertions::{assert_that, assert_written};
-use asn1_strings::{AlphabetError, PrintableString, StringError};
+use asn1_values::{AlphabetError, PrintableString, StringError};
 use std::alloc::Global;
 use std::process::Abort;
 

@@ -1,7 +1,6 @@
 //! The texts of errors.
 use crate::assertions::assert_written;
-use asn1_strings::{AlphabetError, ArcError, ObjectIdentifierError, StringError};
-use asn1_values::OutOfRangeError;
+use asn1_values::{AlphabetError, ArcError, ObjectIdentifierError, OutOfRangeError, StringError};
 
 #[test]
 fn says_what_is_wrong(rt: HostRuntime) {

@@ -1,6 +1,6 @@
 //! Object identifiers from and to dotted texts.
 use crate::assertions::{assert_that, assert_written};
-use asn1_strings::{ArcError, ObjectIdentifier, ObjectIdentifierError};
+use asn1_values::{ArcError, ObjectIdentifier, ObjectIdentifierError};
 use std::alloc::Global;
 use std::process::Abort;
 

@@ -1,5 +1,5 @@
 use Rattle.std.proofs.lemmas.Result.{err_from_is_err_and}
-use Rattle.asn1_values.specs.contracts.integer.order.IntegerPartialEq.TheImpl.{ghosts as integers}
+use Rattle.asn1_values.specs.integer_contracts.integer.order.IntegerPartialEq.TheImpl.{ghosts as integers}
 use Rattle.asn1_slots.proofs.FilledSlots.{both, default_holds, empty_holds_nothing, filled_holds, is_later, is_this}
 use Rattle.asn1_x509.proofs.tbs_certificate.TbsCertificateDecodeByPlace.from_slots.Goals as goal
 
