@@ -28,7 +28,7 @@ const WHY: &[(DecodeError, &str)] = &[
         },
         "field id: error 13",
     ),
-    (DecodeError::DuplicateField("id"), "field id is there twice"),
+    (DecodeError::DuplicateField("id"), "field id stands twice"),
 ];
 
 const FOUND: &[(DecodeError, &str)] = &[

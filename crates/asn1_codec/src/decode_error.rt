@@ -41,7 +41,7 @@ pub enum DecodeError {
         cause: u8,
     },
     /// A component is there twice, by its name.
-    #[error("field {0} is there twice")]
+    #[error("field {0} stands twice")]
     DuplicateField(&'static str),
     /// A SET has no component of this tag.
     #[error("unknown field {index}, {tag}")]
