@@ -4,7 +4,7 @@
 //! The work is done by [`asn1_report::check`], whose contract is the theorem: what is written is the report of what was
 //! read. `main` answers the outcome of the check of standard input (`checked` of `src/outcome.rt`, over any reader and writer):
 //! the program ends with 0 if every line was understood and every table had its `end`, with 1 if not, and with 2 after an
-//! error, whose text is then on standard error. The stored run of this crate ends with 1.
+//! error, whose text is then on standard error. The stored run is of one tree, which is understood.
 #![tactic(auto)]
 
 mod outcome;

@@ -1,11 +1,11 @@
 -- What was read of an input, and what is written for it.
-use Rattle.std.proofs.Common.{◌≡◌, ℕ, Bool, Option, Result, Ok, Err, List, [], ◌++◌, take, refl, subst}
+use Rattle.std.proofs.Common.{◌≡◌, ◌≤◌, ℕ, Bool, Option, Result, Ok, Err, List, [], ◌++◌, length, take, refl, subst, arith}
 use Rattle.std.specs.Prelude.{IfOk, IfSome, OnOk}
 use Rattle.std.specs.Io.KnownBytes.{Appends, Consumes, Keeps, IsAtEnd}
 use Rattle.std.proofs.KnownBytes.{Appends-kept, Consumes-nil, Consumes-trans, Consumes-kept, Consumes-whole}
 use Rattle.std.proofs.lemmas.List.{append-nil}
 use Rattle.asn1_report.specs.Lines.{whole_lines}
-use Rattle.asn1_report.specs.Reading.{Ends, HasTaken, ReadInPart, ReadSoFar, ReadToEnd, Takes, TakesSome}
+use Rattle.asn1_report.specs.Reading.{Ends, HasTaken, HasTakenSome, ReadInPart, ReadSoFar, ReadToEnd, Takes, TakesSome, one_read}
 use Rattle.asn1_report.specs.Report.{all_understood, report, text_for}
 use Rattle.asn1_report.specs.declared.checker.Checker.{Checker}
 
@@ -56,22 +56,27 @@ read_to_end_if_ok (Err e) r mid_r new_r w mid_w new_w c bytes count before took 
 read_to_end_if_ok (Ok understood) r mid_r new_r w mid_w new_w c bytes count before took none no_more ends =
     read_to_end r mid_r new_r w mid_w new_w c understood before (subst (λ n. Consumes mid_r new_r (take n bytes)) none took) no_more ends
 
+-- no more than some bytes are left, and these are no more than one read gives
+no_more_than_a_read : {given : List ℕ} {before written : Option (List ℕ)} (bytes : List ℕ) → HasTakenSome given (length bytes) before written → length bytes ≤ one_read →
+    HasTakenSome given one_read before written
+no_more_than_a_read bytes some few = record { taken = some.taken; left = some.left; parts = some.parts; few = (let here = some.few in omega arith); text = some.text }
+
 -- memory runs out at the end
-pub read_but_end : (r mid_r new_r w mid_w new_w : Option (List ℕ)) (c : Checker) (bytes : List ℕ) → ReadUpTo r mid_r w mid_w c → Consumes mid_r new_r bytes → Keeps mid_w new_w →
-    ReadInPart r new_r w new_w
-read_but_end r mid_r new_r w mid_w new_w c bytes before took kept = record {
+pub read_but_end : (r mid_r new_r w mid_w new_w : Option (List ℕ)) (c : Checker) (bytes : List ℕ) → length bytes ≤ one_read → ReadUpTo r mid_r w mid_w c →
+    Consumes mid_r new_r bytes → Keeps mid_w new_w → ReadInPart r new_r w new_w
+read_but_end r mid_r new_r w mid_w new_w c bytes few before took kept = record {
   given = before.given ++ bytes;
   took = Consumes-trans r mid_r new_r before.given bytes before.took took;
-  some = record { taken = before.given; left = bytes; parts = refl; text = Appends-kept w mid_w new_w (text_for (whole_lines before.given)) before.taken.text kept };
+  some = record { taken = before.given; left = bytes; parts = refl; few = few; text = Appends-kept w mid_w new_w (text_for (whole_lines before.given)) before.taken.text kept };
 }
 
 -- or where bytes are taken
-pub read_in_part : (r mid_r new_r w mid_w new_w : Option (List ℕ)) (c : Checker) (bytes : List ℕ) → ReadUpTo r mid_r w mid_w c → Consumes mid_r new_r bytes →
-    TakesSome bytes mid_w new_w c → ReadInPart r new_r w new_w
-read_in_part r mid_r new_r w mid_w new_w c bytes before took accepts = record {
+pub read_in_part : (r mid_r new_r w mid_w new_w : Option (List ℕ)) (c : Checker) (bytes : List ℕ) → length bytes ≤ one_read → ReadUpTo r mid_r w mid_w c →
+    Consumes mid_r new_r bytes → TakesSome bytes mid_w new_w c → ReadInPart r new_r w new_w
+read_in_part r mid_r new_r w mid_w new_w c bytes few before took accepts = record {
   given = before.given ++ bytes;
   took = Consumes-trans r mid_r new_r before.given bytes before.took took;
-  some = accepts.after before.given w before.taken;
+  some = no_more_than_a_read bytes (accepts.after before.given w before.taken) few;
 }
 
 -- At the end of the input the report is written, and the answer says whether all was understood.
@@ -102,10 +107,11 @@ earlier_written r new_r w mid_w new_w so_far kept = (
 
 -- and where memory ran out, that for the first of them.
 pub some_written : (r new_r w mid_w new_w : Option (List ℕ)) → ReadInPart r new_r w mid_w → Keeps mid_w new_w →
-    (given : List ℕ) × (more : List ℕ) × Consumes r new_r (given ++ more) × Appends w new_w (text_for (whole_lines given))
+    (given : List ℕ) × (more : List ℕ) × Consumes r new_r (given ++ more) × (length more ≤ one_read) × Appends w new_w (text_for (whole_lines given))
 some_written r new_r w mid_w new_w part kept = (
   part.some.taken,
   part.some.left,
   subst (Consumes r new_r) part.some.parts part.took,
+  part.some.few,
   Appends-kept w mid_w new_w (text_for (whole_lines part.some.taken)) part.some.text kept,
 )

@@ -1,5 +1,5 @@
 -- What a checker has taken, byte by byte and line by line.
-use Rattle.std.proofs.Common.{◌≡◌, ℕ, suc, Bool, true, false, ◌==◌, ◌+◌, ◌-◌, ◌<◌, Option, None, Some, Result, Ok, Err, List, [], ◌∷◌, ◌++◌, length, get_or, take, drop, drop-cons, length-drop, length-take, refl, sym, ap, subst, ◌∙◌, append_assoc, arith}
+use Rattle.std.proofs.Common.{◌≡◌, ℕ, suc, Bool, true, false, ◌==◌, ◌+◌, ◌-◌, ◌<◌, Option, None, Some, Result, Ok, Err, List, [], ◌∷◌, ◌++◌, length, get_or, take, drop, drop-cons, length-append, length-drop, length-take, refl, sym, ap, subst, ◌∙◌, append_assoc, arith}
 use Rattle.std.specs.Prelude.{OnOk, option_and_then}
 use Rattle.std.specs.Io.KnownBytes.{Appends, Keeps}
 use Rattle.memchr.specs.Find.{IsFirstByte, is_byte}
@@ -164,6 +164,7 @@ some_taken bytes rest u v w a b before kept = record {
     taken = given ++ before.front;
     left = rest;
     parts = ap (λ xs. given ++ xs) before.parts ∙ sym (append_assoc given before.front rest);
+    few = (let all = ap length before.parts ∙ length-append before.front rest in omega arith);
     text = Appends-kept before_all v w (text_for (whole_lines (given ++ before.front))) (before.accepts.after given before_all taken).text kept;
   };
 }

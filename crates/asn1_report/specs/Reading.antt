@@ -1,5 +1,5 @@
 -- How far a check has come in its input.
-use Rattle.std.specs.Prelude.{◌≡◌, ℕ, Bool, false, ◌==◌, List, ◌++◌, Option, All}
+use Rattle.std.specs.Prelude.{◌≡◌, ◌≤◌, ◌*◌, ℕ, Bool, false, ◌==◌, List, ◌++◌, length, Option, All}
 use Rattle.std.specs.Io.KnownBytes.{Appends, Consumes, IsAtEnd}
 use Rattle.asn1_report.specs.Flattened.{flat_state}
 use Rattle.asn1_report.specs.Lines.{unended, whole_lines, within_limit}
@@ -23,17 +23,23 @@ pub record Takes (bytes : List ℕ) (old_written new_written : Option (List ℕ)
   pub after : (given : List ℕ) (before : Option (List ℕ)) → HasTaken given before old_written old →
       HasTaken (given ++ bytes) before new_written new
 
--- Of these bytes the first were taken: the text for the lines that ended among them is written after what was written before.
-pub record HasTakenSome (given : List ℕ) (before written : Option (List ℕ)) : Type 0 where
+-- as many bytes as a read gives at most
+abbrev pub one_read : ℕ
+one_read = 32 * 1024
+
+-- Of these bytes all but the last were taken, of which no more than a number are left: the text for the lines that ended among
+-- those that were taken is written after what was written before.
+pub record HasTakenSome (given : List ℕ) (most : ℕ) (before written : Option (List ℕ)) : Type 0 where
   pub taken : List ℕ
   pub left : List ℕ
   pub parts : given ≡ taken ++ left
+  pub few : length left ≤ most
   pub text : Appends before written (text_for (whole_lines taken))
 
--- A checker takes the first of these bytes after all that it has taken before.
+-- A checker takes some of these bytes, from the first on, after all that it has taken before.
 pub record TakesSome (bytes : List ℕ) (old_written new_written : Option (List ℕ)) (old : Checker) : Type 0 where
   pub after : (given : List ℕ) (before : Option (List ℕ)) → HasTaken given before old_written old →
-      HasTakenSome (given ++ bytes) before new_written
+      HasTakenSome (given ++ bytes) (length bytes) before new_written
 
 -- The report on all that a checker has taken is written, and the answer says whether all of it was understood.
 pub record Ends (old_written new_written : Option (List ℕ)) (old : Checker) (understood : Bool) : Type 0 where
@@ -46,11 +52,11 @@ pub record ReadSoFar (read_old read_new before written : Option (List ℕ)) : Ty
   pub took : Consumes read_old read_new given
   pub text : Appends before written (text_for (whole_lines given))
 
--- Of what was read the first bytes were taken.
+-- Of what was read all was taken but some of what the last read gave.
 pub record ReadInPart (read_old read_new before written : Option (List ℕ)) : Type 0 where
   pub given : List ℕ
   pub took : Consumes read_old read_new given
-  pub some : HasTakenSome given before written
+  pub some : HasTakenSome given one_read before written
 
 -- All was read: the report on it is written, and the answer says whether all of it was understood.
 pub record ReadToEnd (read_old read_new before written : Option (List ℕ)) (understood : Bool) : Type 0 where

@@ -1,8 +1,8 @@
 //! The check of an input.
-ghost use Rattle.std.specs.Prelude.{◌≡◌, ◌<◌, ◌++◌, ℕ, List, length, IfSome, IfOk, OnOk, IsErrOf};
+ghost use Rattle.std.specs.Prelude.{◌≡◌, ◌≤◌, ◌++◌, ℕ, List, length, IfSome, IfOk, OnOk, IsErrOf};
 ghost use Rattle.std.specs.Io.KnownBytes.{Appends, Consumes, IsAtEnd};
 ghost use Rattle.asn1_report.specs.Lines.{whole_lines};
-ghost use Rattle.asn1_report.specs.Reading.{ReadInPart, ReadSoFar, ReadToEnd};
+ghost use Rattle.asn1_report.specs.Reading.{ReadInPart, ReadSoFar, ReadToEnd, one_read};
 ghost use Rattle.asn1_report.specs.Report.{report, all_understood, text_for};
 
 use crate::checker::Checker;
@@ -22,8 +22,8 @@ const BUFFER_LENGTH: usize = 32 * 1024;
 ///
 /// An interrupted read is tried again. A read that fails, or 2^64 - 1 reads that meet no end of the input, answer
 /// [`CheckError::Reading`]; then the text for all lines that had ended is written. Where memory runs out it answers
-/// [`CheckError::Memory`]; then the text for the lines before that one is written. A table that is open then has neither its
-/// verdict nor `not checked`. After [`CheckError::Writing`] nothing is known of what is written.
+/// [`CheckError::Memory`]; then the text for the lines before the one for which it ran out is written, so that no line before the
+/// last read, of 32 KiB at most, is without its text. A table that is open then has neither its verdict nor `not checked`. After [`CheckError::Writing`] nothing is known of what is written.
 pub fn check<R: Read, W: Write>(
     alloc: Global,
     reader: &mut R,
@@ -36,12 +36,14 @@ pub fn check<R: Read, W: Write>(
         IfSome (R.remaining reader.old) (λ input. answer ≡ all_understood input)) }
     ensures read { OnOk result (IsAtEnd (R.remaining reader.new)) }
 
-    // After an error it is the text for the lines that had ended among what was read, or among the first bytes of it.
+    // After an error it is the text for the lines that had ended among what was read, or, where memory ran out, among all of it
+    // but the last bytes, no more than one read gives.
     ensures reading { IsErrOf result CheckError.Reading → (given : List ℕ)
         × Consumes (R.remaining reader.old) (R.remaining reader.new) given
         × Appends (W.contents writer.old) (W.contents writer.new) (text_for (whole_lines given)) }
     ensures memory { IsErrOf result CheckError.Memory → (given : List ℕ) × (more : List ℕ)
         × Consumes (R.remaining reader.old) (R.remaining reader.new) (given ++ more)
+        × (length more ≤ one_read)
         × Appends (W.contents writer.old) (W.contents writer.new) (text_for (whole_lines given)) }
 {
     let mut buffer = vec![in alloc; 0; BUFFER_LENGTH]?;
@@ -62,7 +64,7 @@ fn read_to_end<R: Read, W: Write>(
     buffer: &mut [u8],
     writer: &mut W,
 ) -> Result<bool, CheckError>
-    requires room { 0 < length buffer.old }
+    requires room { length buffer.old ≡ one_read }
     ensures finished { IfOk result (ReadToEnd (R.remaining reader.old) (R.remaining reader.new)
         (W.contents writer.old) (W.contents writer.new)) }
     ensures reading { IsErrOf result CheckError.Reading →

@@ -202,17 +202,26 @@ fn full_reads_are_handed_on(rt: HostRuntime) {
     assert!(rt; a == b"line 1: not understood\n".len() && b == a && page.length == a);
 }
 
-// With ample memory the report is whole. Run with each allocation failing in turn, it ends after a line.
+// Checks what comes byte by byte, and says whether all of it was read. Where memory ran out, the text is that of the lines that
+// ended before the last byte that was read.
+fn reads_all(rt: &(impl Abort + AllocGlobal)) -> bool {
+    let mut page = Page::new(1000, false);
+    let mut reader = Trickle::new(1, None);
+    let answer = check(rt.alloc(), &mut reader, &mut page);
+    let given = INPUT.len().saturating_sub(reader.rest.len());
+    if answer == Ok(false) {
+        assert_written(rt, &page, REPORT.len());
+        return true;
+    }
+    assert!(rt; answer == Err(CheckError::Memory), "{given}");
+    assert_written(rt, &page, ended_by(given.saturating_sub(1)));
+    false
+}
+
+// With `--fail-alloc N` too: one of the two runs has its memory.
 #[test]
 fn growth_that_fails(rt: HostRuntime) {
-    let mut page = Page::new(1000, false);
-    match check(rt.alloc(), &mut Trickle::new(1000, None), &mut page) {
-        Ok(understood) => assert!(rt; !understood && page.length == REPORT.len()),
-        Err(error) => {
-            assert!(rt;
-                error == CheckError::Memory && LINES.iter().any(|line| line.1 == page.length)
-            );
-        }
-    }
-    assert_written(&rt, &page, page.length);
+    let first = reads_all(&rt);
+    let second = reads_all(&rt);
+    assert!(&rt; first || second);
 }

@@ -60,6 +60,11 @@ const TABLES: &[(&str, bool, &str)] = &[
         "line 2: not understood\nset q: not checked\nline 5: not understood\n",
     ),
     (
+        "tree t (U0 U3 (A0 A1) (C0 C2) P0 P1)\ntree u (U0\nsequence s\na optional C0\nb required C0\n",
+        false,
+        "tree t: unique, smallest Universal 0, 8 leaves\nline 2: not understood\nsequence s: not checked\n",
+    ),
+    (
         "set q.\na required U0\nset q\na needed U0\na required\na. required U0\nend \nset r",
         false,
         "line 1: not understood\nline 2: not understood\nline 4: not understood\nline 5: not understood\n\
