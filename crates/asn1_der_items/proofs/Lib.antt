@@ -1,5 +1,6 @@
 pub mod Behind
 mod Complements
+mod ElementFronts
 pub mod Encodings
 pub mod Found
 mod Measuring

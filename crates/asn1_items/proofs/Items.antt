@@ -12,6 +12,7 @@ use Rattle.asn1_tags.specs.declared.tags.Tag.{Tag}
 use Rattle.asn1_model.specs.Records as model
 use Rattle.asn1_model.specs.Records.{sequence, set, sequence_of, set_of, explicit_tag, alternative}
 use Rattle.asn1_model.specs.Tags.{head_tag}
+use Rattle.asn1_items.proofs.Fronts.{IsReadOf, Leaves, after_byte, read_before}
 use Rattle.asn1_items.specs.Headers.{Header, class_at, number_at, from_size, from_content, of_kind, from_class, header_at, is_one, is_one_item, kind_of}
 use Rattle.asn1_items.specs.Numbers.{four_bytes}
 use Rattle.asn1_items.specs.Items.{IsItem}
@@ -28,38 +29,56 @@ extend h ys = record { kind = h.kind; tag = h.tag; content = h.content; size = h
 some_is : {A : Type 0} {x y : A} → Some x ≡ Some y → x ≡ y
 some_is e = cc
 
-from_size-append : (kind : ℕ) (t : Tag) (content : ℕ) (xs ys : List ℕ) (h : Header) → from_size kind t content xs ≡ Some h → from_size kind t content (xs ++ ys) ≡ Some (extend h ys)
-from_size-append kind t content (a ∷ b ∷ c ∷ d ∷ body) ys h e = ap (λ g. Some (extend g ys)) (some_is e)
-from_size-append kind t content _ ys h e = cc
+-- the header with other bytes after it
+abbrev before : Header → List ℕ → Header
+before h back = record { kind = h.kind; tag = h.tag; content = h.content; size = h.size; body = back }
 
-from_content-append : (kind : ℕ) (t : Tag) (xs ys : List ℕ) (h : Header) → from_content kind t xs ≡ Some h → from_content kind t (xs ++ ys) ≡ Some (extend h ys)
-from_content-append kind t [] ys h e = cc
-from_content-append kind t (content ∷ xs) ys h e = from_size-append kind t content xs ys h e
+abbrev header_leaves : Leaves Header
+header_leaves = record { left = λ h. h.body; leaving = λ h back. before h back }
 
-of_kind-append : (kind : ℕ) (t : Tag) (xs ys : List ℕ) (h : Header) → of_kind kind t xs ≡ Some h → of_kind kind t (xs ++ ys) ≡ Some (extend h ys)
-of_kind-append kind t xs ys h e = by (kind == 1) e
+size_read : (kind : ℕ) (t : Tag) (content : ℕ) (xs : List ℕ) (h : Header) → from_size kind t content xs ≡ Some h → IsReadOf header_leaves (from_size kind t content) xs h
+size_read kind t content (a ∷ b ∷ c ∷ d ∷ body) h e = record {
+  front = a ∷ b ∷ c ∷ d ∷ [];
+  are = ap (λ (g : Header). a ∷ b ∷ c ∷ d ∷ g.body) (some_is e);
+  whatever = λ back. ap (λ g. Some (before g back)) (some_is e);
+}
+size_read kind t content _ h e = cc
+
+content_read : (kind : ℕ) (t : Tag) (xs : List ℕ) (h : Header) → from_content kind t xs ≡ Some h → IsReadOf header_leaves (from_content kind t) xs h
+content_read kind t [] h e = cc
+content_read kind t (content ∷ xs) h e = after_byte header_leaves (from_content kind t) content xs h (size_read kind t content xs h e)
+
+kind_read : (kind : ℕ) (t : Tag) (xs : List ℕ) (h : Header) → of_kind kind t xs ≡ Some h → IsReadOf header_leaves (of_kind kind t) xs h
+kind_read kind t xs h e = by (kind == 1) e
   where
-    by : (b : Bool) → (if b then from_content kind t xs else from_size kind t 0 xs) ≡ Some h → (if b then from_content kind t (xs ++ ys) else from_size kind t 0 (xs ++ ys)) ≡ Some (extend h ys)
-    by true e = from_content-append kind t xs ys h e
-    by false e = from_size-append kind t 0 xs ys h e
+    by : (b : Bool) → (if b then from_content kind t xs else from_size kind t 0 xs) ≡ Some h →
+        IsReadOf header_leaves (λ l. if b then from_content kind t l else from_size kind t 0 l) xs h
+    by true e = content_read kind t xs h e
+    by false e = size_read kind t 0 xs h e
 
-from_class-append : (kind : ℕ) (xs ys : List ℕ) (h : Header) → from_class kind xs ≡ Some h → from_class kind (xs ++ ys) ≡ Some (extend h ys)
-from_class-append kind (class ∷ a ∷ b ∷ c ∷ d ∷ rest) ys h e = by (class_at class) e
+class_read : (kind : ℕ) (xs : List ℕ) (h : Header) → from_class kind xs ≡ Some h → IsReadOf header_leaves (from_class kind) xs h
+class_read kind (class ∷ a ∷ b ∷ c ∷ d ∷ rest) h e =
+    let r = by (class_at class) e in
+    record { front = class ∷ a ∷ b ∷ c ∷ d ∷ r.front; are = ap (λ l. class ∷ a ∷ b ∷ c ∷ d ∷ l) r.are; whatever = r.whatever }
   where
     by : (o : Option Class) → option_and_then (λ k. of_kind kind (record { class = k; value = number_at a b c d }) rest) o ≡ Some h →
-        option_and_then (λ k. of_kind kind (record { class = k; value = number_at a b c d }) (rest ++ ys)) o ≡ Some (extend h ys)
+        IsReadOf header_leaves (λ l. option_and_then (λ k. of_kind kind (record { class = k; value = number_at a b c d }) l) o) rest h
     by None e = cc
-    by (Some k) e = of_kind-append kind (record { class = k; value = number_at a b c d }) rest ys h e
-from_class-append kind _ ys h e = cc
+    by (Some k) e = kind_read kind (record { class = k; value = number_at a b c d }) rest h e
+class_read kind _ h e = cc
 
--- the header stays with any bytes behind
-pub header_at-append : (xs ys : List ℕ) (h : Header) → header_at xs ≡ Some h → header_at (xs ++ ys) ≡ Some (extend h ys)
-header_at-append [] ys h e = cc
-header_at-append (kind ∷ rest) ys h e = by (nat_le 1 kind && nat_le kind 7) e
+-- The header is read of the front of the bytes.
+pub header_read : (xs : List ℕ) (h : Header) → header_at xs ≡ Some h → IsReadOf header_leaves header_at xs h
+header_read [] h e = cc
+header_read (kind ∷ rest) h e = after_byte header_leaves header_at kind rest h (by (nat_le 1 kind && nat_le kind 7) e)
   where
-    by : (b : Bool) → (if b then from_class kind rest else None) ≡ Some h → (if b then from_class kind (rest ++ ys) else None) ≡ Some (extend h ys)
-    by true e = from_class-append kind rest ys h e
+    by : (b : Bool) → (if b then from_class kind rest else None) ≡ Some h → IsReadOf header_leaves (λ l. if b then from_class kind l else None) rest h
+    by true e = class_read kind rest h e
     by false e = cc
+
+-- So the header stays with any bytes behind.
+pub header_at-append : (xs ys : List ℕ) (h : Header) → header_at xs ≡ Some h → header_at (xs ++ ys) ≡ Some (extend h ys)
+header_at-append xs ys h e = read_before header_leaves header_at xs h (header_read xs h e) ys
 
 -- What is one item, whatever follows it.
 pub record IsOneItem (own back : List ℕ) : Type 0 where

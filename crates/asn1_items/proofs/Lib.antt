@@ -1,4 +1,5 @@
 mod Fours
+pub mod Fronts
 mod GroupTags
 mod Headers
 pub mod Items

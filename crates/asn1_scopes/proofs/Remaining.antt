@@ -1,6 +1,6 @@
 -- What remains exactly to be read of the scopes that are open, from call to call.
 use Rattle.std.proofs.Common.{◌≡◌, ℕ, ◌+◌, ◌≤◌, Bool, true, false, List, [], ◌∷◌, ◌++◌, refl, sym, ap, subst, arith, length, length-append, ◌∙◌, inl}
-use Rattle.std.specs.Prelude.{⊤, ◌≢◌, ◌↔◌, Decides, Result, Ok, Err, IfErr, IfOk, OnErr, OnOk, MatchResult, not}
+use Rattle.std.specs.Prelude.{⊤, ◌&&◌, ◌≢◌, ◌↔◌, Decides, Result, Ok, Err, IfErr, IfOk, OnErr, OnOk, MatchResult, not}
 use Rattle.asn1_codec.proofs.ReadingUpToOrder.{at_the_end, reads_end, remains_exactly, tells_more}
 use Rattle.asn1_codec.specs.Reading.{HasAdvanced, MayFail, Outside, ReadsEnd, ReadsHead, Reader, TellsMore, nothing, records_in}
 use Rattle.asn1_codec.specs.ReadingUpToOrder.{up_to_order}
@@ -10,13 +10,18 @@ use Rattle.asn1_items.specs.Items.{IsJoined}
 use Rattle.asn1_items.specs.Slices.{left_inside, left_of, left_outside, open_lists}
 use Rattle.asn1_items.specs.declared.slices.Rest.{Rest}
 use Rattle.asn1_items.specs.declared.slices.Slices.{Slices}
+use Rattle.asn1_model.proofs.SameUpToOrder.{same-marks_alone}
 use Rattle.asn1_model.specs.Orders.{SameRecords}
-use Rattle.asn1_model.specs.Records.{Head, Name, Record, is_presence_mark, scalar, scope, open_type, presence_mark}
+use Rattle.asn1_model.specs.Records.{Head, Name, Record, is_presence_mark, presence_marks_alone, scalar, scope, open_type, presence_mark}
 use Rattle.asn1_model.specs.Tags.{head_tag}
 use Rattle.asn1_scopes.specs.Remaining.{AllHave, IsAtEnd, IsClosed, IsOpen, IsOpened, IsReadForm, NoneToClose, OpensWanted, ReadForm, RemainsExactly, exact_reader, lists_outside}
 use Rattle.asn1_scopes.specs.declared.scopes.Opened.{Opened}
 use Rattle.asn1_scopes.specs.declared.scopes.Scopes.{Scopes}
 use Rattle.asn1_tags.specs.declared.tags.Tag.{Tag}
+
+nothing_later : (xs ys : List ℕ) → xs ++ ys ≡ [] → ys ≡ []
+nothing_later [] ys e = e
+nothing_later (x ∷ xs) ys e = cc
 
 pub not_both : (b : Bool) → b ≡ false → b ≡ true → ⊥
 not_both true f t = cc
@@ -59,6 +64,18 @@ module _ {F : ReadForm} (form : IsReadForm F) where
   some_left r rest bytes no_mark p none =
       let j = form.joined r rest bytes p in
       omega (arith, ap length none, ap length j.are, length-append j.first j.others, form.long r j.first no_mark j.is_first)
+
+  -- so it is where records are that are not presence marks alone
+  some_of_all_left : (rs : List Record) (bytes : List ℕ) → presence_marks_alone rs ≡ false → F.Have rs bytes → bytes ≡ [] → ⊥
+  some_of_all_left [] bytes some p none = cc
+  some_of_all_left (r ∷ rs) bytes some p none = by (is_presence_mark r) refl some (λ others e. some_of_all_left rs others e)
+    where
+      by : (b : Bool) → is_presence_mark r ≡ b → (b && presence_marks_alone rs) ≡ false →
+          ((others : List ℕ) → presence_marks_alone rs ≡ false → F.Have rs others → others ≡ [] → ⊥) → ⊥
+      by false no_mark e later = some_left r rs bytes no_mark p none
+      by true mark e later =
+          let j = form.joined r rs bytes p in
+          later j.others e j.are_others (nothing_later j.first j.others (sym j.are ∙ none))
 
   -- no list is outside where none is open
   none_outside : (lists : List (List ℕ)) → AllHave F [] lists → lists ≡ []
@@ -175,3 +192,9 @@ module _ {F : ReadForm} (form : IsReadForm F) where
     nothing_is_left d at =
         let e = at_the_end (exact_reader F scopes) d at in
         record { no_failure = e.no_failure; inside = form.only_nothing (left_inside (scopes d).slices) e.inside; outside = none_outside (left_outside (scopes d).slices) e.outside }
+
+    -- records that are not presence marks alone are not the end
+    pub records_are_not_the_end : (d : D) (rs : List Record) → presence_marks_alone rs ≡ false → (up_to_order (exact_reader F scopes)).remains d (rs, []) →
+        (up_to_order (exact_reader F scopes)).remains d ([], []) → ⊥
+    records_are_not_the_end d rs some at end =
+        some_of_all_left at.exactly.0 (left_inside (scopes d).slices) (same-marks_alone at.exactly.0 rs at.same.here ∙ some) at.remains.inside (nothing_is_left d end).inside
