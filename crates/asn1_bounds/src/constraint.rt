@@ -1,5 +1,5 @@
 //! One constraint.
-ghost use Rattle.std.specs.Prelude.{◌≡◌, pos, Some, None, IsNone, IsOk, IfOk};
+ghost use Rattle.std.specs.Prelude.{◌≡◌, ◌↔◌, IsTrue, pos, Some, None, IsNone, IsOk, IfOk};
 ghost use Rattle.std.specs.Option.{option_copied};
 ghost use Rattle.asn1_bounds.specs.declared.constraint.Constraint.TheVariants as constraint;
 
@@ -33,6 +33,16 @@ pub enum ConstraintDiscriminant {
     PermittedAlphabet,
     /// Of [`Constraint::Extensible`].
     Extensible,
+}
+
+impl ConstraintDiscriminant {
+    /// Whether the two are the same kind, as `==` answers.
+    #[allow(clippy::should_implement_trait)]
+    pub fn eq(&self, other: &Self) -> bool
+        ensures { IsTrue result ↔ (self.now ≡ other.now) }
+    {
+        *self == *other
+    }
 }
 
 impl<'a> Constraint<'a> {

@@ -35,10 +35,10 @@ impl Class {
     }
 
     /// Whether this is the class of the tags that X.680 itself assigns.
-    pub fn is_universal(&self) -> bool
-        ensures { IsTrue result ↔ (self.now ≡ Class.Universal) }
+    pub fn is_universal(self) -> bool
+        ensures { IsTrue result ↔ (self ≡ Class.Universal) }
     {
-        *self == Class::Universal
+        self == Class::Universal
     }
 }
 

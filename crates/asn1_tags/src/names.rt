@@ -121,17 +121,17 @@ impl Identifier {
     pub const UTC_TIME: Identifier = Identifier(Some("UTCTime"));
 
     /// This name, or the other where this one is empty.
-    pub fn or(self, other: Identifier) -> Identifier
-        ensures named { IsSome (name_of self) → name_of result ≡ name_of self }
-        ensures empty { name_of self ≡ None → name_of result ≡ name_of other }
+    pub fn or(&self, other: Self) -> Self
+        ensures named { IsSome (name_of self.now) → name_of result ≡ name_of self.now }
+        ensures empty { name_of self.now ≡ None → name_of result ≡ name_of other }
     {
         Identifier(self.0.or(other.0))
     }
 
     /// The text of the name, which is not to be empty.
-    pub fn unwrap(self) -> &'static str
-        requires { IsSome (name_of self) }
-        ensures { name_of self ≡ Some result.now }
+    pub fn unwrap(&self) -> &'static str
+        requires { IsSome (name_of self.now) }
+        ensures { name_of self.now ≡ Some result.now }
     {
         self.0.unwrap()
     }

@@ -71,16 +71,16 @@ impl Tag {
     }
 
     /// Whether the two are the same tag.
-    pub fn const_eq(&self, other: &Self) -> bool
-        ensures same { IsTrue result ↔ (self.now ≡ other.now) }
-        ensures as_eq { result ≡ ⟦<Tag as PartialEq>⟧.eq self.now other.now }
+    pub fn const_eq(self, other: &Self) -> bool
+        ensures same { IsTrue result ↔ (self ≡ other.now) }
+        ensures as_eq { result ≡ ⟦<Tag as PartialEq>⟧.eq self other.now }
     {
         self.class as u8 == other.class as u8 && self.value == other.value
     }
 
     /// Whether this tag comes before the other in the canonical order.
-    pub fn const_less_than(&self, other: Self) -> bool
-        ensures { IsTrue result ↔ (tag_cmp self.now other ≡ Less) }
+    pub fn const_less_than(self, other: Self) -> bool
+        ensures { IsTrue result ↔ (tag_cmp self other ≡ Less) }
     {
         self.const_cmp(&other).is_lt()
     }
