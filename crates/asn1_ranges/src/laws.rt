@@ -1,5 +1,5 @@
 //! What the derives of bounds answer, and the ghost members that an impl states for itself.
-ghost use Rattle.std.specs.Prelude.{◌≡◌, Some, ℕ, ℤ, pos};
+ghost use Rattle.std.specs.Prelude.{◌≡◌, ◌-◌, ◌^◌, Some, ℕ, ℤ, pos};
 ghost use Rattle.asn1_ranges.specs.declared.bounded.Bounded.{Bounded};
 ghost use Rattle.asn1_ranges.specs.Compared.{TellsApart, ClonesExactly, bound_eq, bound_cmp, bound_hash};
 ghost use Rattle.asn1_ranges.specs.Text.{bound_text};
@@ -49,4 +49,21 @@ pub fn whole_numbers_are_their_values()
     ensures of_i64 { (n : ℤ) → ⟦<i64 as WholeNumber>⟧.number n ≡ n }
     ensures of_i128 { (n : ℤ) → ⟦<i128 as WholeNumber>⟧.number n ≡ n }
     ensures of_isize { (n : ℤ) → ⟦<isize as WholeNumber>⟧.number n ≡ n }
+{}
+
+/// The greatest number of a built-in integer type is that of its width: of `w` bits one below 2 to the power of `w`, and of
+/// `w - 1` where the type is signed.
+pub fn whole_numbers_end_where_their_widths_do()
+    ensures of_u8 { ⟦<u8 as WholeNumber>⟧.greatest ≡ pos (2 ^ 8 - 1) }
+    ensures of_u16 { ⟦<u16 as WholeNumber>⟧.greatest ≡ pos (2 ^ 16 - 1) }
+    ensures of_u32 { ⟦<u32 as WholeNumber>⟧.greatest ≡ pos (2 ^ 32 - 1) }
+    ensures of_u64 { ⟦<u64 as WholeNumber>⟧.greatest ≡ pos (2 ^ 64 - 1) }
+    ensures of_u128 { ⟦<u128 as WholeNumber>⟧.greatest ≡ pos (2 ^ 128 - 1) }
+    ensures of_usize { ⟦<usize as WholeNumber>⟧.greatest ≡ pos (2 ^ 64 - 1) }
+    ensures of_i8 { ⟦<i8 as WholeNumber>⟧.greatest ≡ pos (2 ^ 7 - 1) }
+    ensures of_i16 { ⟦<i16 as WholeNumber>⟧.greatest ≡ pos (2 ^ 15 - 1) }
+    ensures of_i32 { ⟦<i32 as WholeNumber>⟧.greatest ≡ pos (2 ^ 31 - 1) }
+    ensures of_i64 { ⟦<i64 as WholeNumber>⟧.greatest ≡ pos (2 ^ 63 - 1) }
+    ensures of_i128 { ⟦<i128 as WholeNumber>⟧.greatest ≡ pos (2 ^ 127 - 1) }
+    ensures of_isize { ⟦<isize as WholeNumber>⟧.greatest ≡ pos (2 ^ 63 - 1) }
 {}

@@ -1,5 +1,6 @@
 //! What the derived members of this crate's types say.
-ghost use Rattle.std.specs.Prelude.{◌≡◌, ◌↔◌, ◌++◌, IsTrue, pos};
+ghost use Rattle.std.specs.Prelude.{◌≡◌, ◌↔◌, ◌++◌, ℕ, IsTrue, Some, codes, pos};
+ghost use Rattle.std.specs.Fmt.{decimal};
 ghost use Rattle.std.specs.Hash as fed;
 ghost use Rattle.std.specs.Ordering.{nat_cmp};
 ghost use Rattle.asn1_tags.specs.Derives.{ClonesAll, ComparesAll};
@@ -14,6 +15,7 @@ use crate::error::VariantsError;
 use crate::names::Identifier;
 use crate::tags::Tag;
 use crate::trees::TagTree;
+use std::fmt;
 use std::hash::Hash;
 
 /// Comparisons, hashes and clones take every part of a class, a tag, a name and an error.
@@ -46,6 +48,29 @@ pub fn derives_take_every_part()
     ensures error_eq { ComparesAll ⟦<VariantsError as PartialEq>⟧.eq }
     ensures error_clone { ClonesAll ⟦<VariantsError as Clone>⟧.is_clone
         ⟦<VariantsError as Clone>⟧.is_infallible }
+{}
+
+/// The texts of classes and tags. A class is written in small letters; a tag is its class with a capital letter, a space, and its
+/// number in decimal digits, as `Context 0`.
+pub fn classes_and_tags_are_printed_by_name()
+    ensures universal { ⟦<Class as fmt::Display>⟧.output Class.Universal ≡
+        Some (codes "universal") }
+    ensures application { ⟦<Class as fmt::Display>⟧.output Class.Application ≡
+        Some (codes "application") }
+    ensures context { ⟦<Class as fmt::Display>⟧.output Class.Context ≡ Some (codes "context") }
+    ensures private { ⟦<Class as fmt::Display>⟧.output Class.Private ≡ Some (codes "private") }
+    ensures universal_tag { (number : ℕ) → ⟦<Tag as fmt::Display>⟧.output
+        (record { class = Class.Universal; value = number }) ≡
+        Some (codes "Universal " ++ decimal number) }
+    ensures application_tag { (number : ℕ) → ⟦<Tag as fmt::Display>⟧.output
+        (record { class = Class.Application; value = number }) ≡
+        Some (codes "Application " ++ decimal number) }
+    ensures context_tag { (number : ℕ) → ⟦<Tag as fmt::Display>⟧.output
+        (record { class = Class.Context; value = number }) ≡
+        Some (codes "Context " ++ decimal number) }
+    ensures private_tag { (number : ℕ) → ⟦<Tag as fmt::Display>⟧.output
+        (record { class = Class.Private; value = number }) ≡
+        Some (codes "Private " ++ decimal number) }
 {}
 
 /// What `tag!` gives for each of its four forms, in the order of the classes.

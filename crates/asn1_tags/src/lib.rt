@@ -40,7 +40,8 @@
 //! - An `Identifier` is its text, `name_of` in `specs/Names.antt`: `or` keeps a name and takes the
 //!   other in place of none.
 //! - `laws::derives_take_every_part` does nothing. Its contract says what the derived equality, order, hash
-//!   and clone of these types are, in the words of `specs/Derives.antt`.
+//!   and clone of these types are, in the words of `specs/Derives.antt`. `laws::classes_and_tags_are_printed_by_name` says their
+//!   texts, byte for byte.
 //!
 //! Of the calls of this crate `new`, `from_static`, `from_slice`, `with_table` and `try_clone` of
 //! `Variants` take memory. `with_table` also fails where its table does not fit, and each of the others
