@@ -11,3 +11,4 @@ pub mod OneRecord
 pub mod WellFormed
 pub mod TaggedTypes
 pub mod Premises
+pub mod BeginningTags

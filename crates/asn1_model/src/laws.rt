@@ -9,8 +9,10 @@ ghost use Rattle.asn1_model.specs.Meaning.{own_records};
 ghost use Rattle.asn1_model.specs.Records.{arcs, bits, units, octet, visible, general, graphic, ia5, printable, numeric, teletex, bmp, null, scalar};
 ghost use Rattle.asn1_model.specs.Tags.{universal};
 
+mod invariants;
 mod premises;
 mod records;
+mod tags;
 
 use crate::asn_type::AsnType;
 use crate::tag::{
@@ -25,6 +27,7 @@ use asn1_values::{
     BitString, BmpString, GeneralString, GraphicString, Ia5String, NumericString, ObjectIdentifier,
     OctetString, PrintableString, TeletexString, VisibleString,
 };
+pub use invariants::{holders_are_of_type_as_their_contents, plain_types_state_their_invariants};
 pub use premises::{
     holders_are_tagged_as_their_contents, holders_are_valid_as_their_contents,
     types_that_hold_no_others_are_plain,
@@ -32,6 +35,10 @@ pub use premises::{
 pub use records::{
     holders_have_the_records_of_their_contents, numbers_have_their_records,
     strings_have_their_records,
+};
+pub use tags::{
+    holders_are_there_as_their_contents, holders_begin_as_their_contents,
+    lists_begin_with_their_tags, types_that_hold_no_others_begin_with_their_tags,
 };
 
 /// A law of the markers: each name is that of the number that X.680 gives its type (8.4, table 1), and the marker of a

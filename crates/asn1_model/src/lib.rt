@@ -43,7 +43,8 @@
 //! (`without_alphabet`). No other call takes any.
 //!
 //! The module [`laws`] says what aliases come to, and the words by which types state their meaning: the records of a value
-//! of each type of this crate, the units of each kind of string, the numbers of each built-in integer.
+//! of each type of this crate, the tags with which it begins (`specs/BeginningTags.antt`), which values are valid and meet the
+//! type's invariant, the units of each kind of string, the numbers of each built-in integer.
 #![tactic(auto, using(asn1_tags::proofs::Leaves::tree_shapes))]
 
 mod asn_type;
