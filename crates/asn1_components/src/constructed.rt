@@ -30,7 +30,7 @@ pub trait Constructed<const RL: usize, const EL: usize>: FieldTable {
     final fn fields() -> Fields<'static, RL>
         ensures { entries (fields_of result) ≡ root_entries Self.components }
     {
-        Fields::from_static(Self::root_fields())
+        Fields::from_slice(Self::root_fields()).unwrap()
     }
 
     /// The additions, as a table; `None` where there is no extension marker.
@@ -40,7 +40,7 @@ pub trait Constructed<const RL: usize, const EL: usize>: FieldTable {
             (entries (fields_of table) ≡ added_entries Self.components)) }
     {
         if Self::is_extensible() {
-            Some(Fields::from_static(Self::added_fields()))
+            Fields::from_slice(Self::added_fields())
         } else {
             None
         }

@@ -6,6 +6,7 @@ ghost use Rattle.asn1_fields.specs.Entries.{may_be_absent};
 use crate::field::Field;
 use crate::iterators::{FieldIter, IdentifierIter, OptionalFieldIter};
 use crate::presence::FieldPresence;
+use crate::table_field::TableField;
 use crate::{canonical_order, distinct_tags};
 
 /// The fields of a SEQUENCE or a SET type, `N` of them, in the order of its table.
@@ -18,18 +19,31 @@ pub struct Fields<'a, const N: usize> {
 }
 
 impl<'a, const N: usize> Fields<'a, N> {
-    ghost use Rattle.std.specs.Prelude.{◌≡◌, ◌↔◌, ◌<◌, Any, IsTrue, length};
+    ghost use Rattle.std.specs.Prelude.{◌≡◌, ◌↔◌, ◌<◌, Any, IfSome, IsSome, IsTrue, length};
     ghost use Rattle.asn1_fields.specs.CanonicalOrder.{IsCanonical, canonical};
     ghost use Rattle.asn1_fields.specs.DistinctTags.{IsLeast, IsSequenceClash, IsSetClash, sequence_clash, set_clash};
     ghost use Rattle.asn1_fields.specs.Entries.{components};
     ghost use Rattle.asn1_fields.specs.FieldLists.{fields_left, fields_of, names_left, names_of, optional_fields, optional_left};
 
-    /// The table of these fields, of which there have to be `N`.
-    pub fn from_static(fields: &'a [Field<'a>]) -> Self
-        requires { length fields.now ≡ N }
-        ensures { fields_of result ≡ fields.now }
+    /// The table of the fields in an array.
+    pub fn from_static<F: TableField<'a>>(fields: &'a [F; N]) -> Self
+        ensures { fields_of result ≡ F.fields fields.now }
     {
-        Fields { fields }
+        Fields {
+            fields: F::as_fields(fields),
+        }
+    }
+
+    /// The table of the fields in a slice, and `None` where these are not `N`.
+    pub fn from_slice(fields: &'a [Field<'a>]) -> Option<Self>
+        ensures counted { IsSome result ↔ (length fields.now ≡ N) }
+        ensures table { IfSome result (λ table. fields_of table ≡ fields.now) }
+    {
+        if fields.len() == N {
+            Some(Fields { fields })
+        } else {
+            None
+        }
     }
 
     /// The number of fields.

@@ -1,6 +1,6 @@
 //! Laws of the traits that are derived, or written beside a derive, and of loops.
 ghost use Rattle.std.specs.Iterator.{YieldsFirst, YieldsFirstBy};
-ghost use Rattle.std.specs.Prelude.{◌≡◌, ◌↔◌, IsTrue};
+ghost use Rattle.std.specs.Prelude.{◌≡◌, ◌↔◌, IsTrue, List};
 ghost use Rattle.asn1_tags.specs.Derives.{ClonesAll};
 ghost use Rattle.asn1_fields.specs.Entries.{entry_of};
 ghost use Rattle.asn1_fields.specs.EntryOrder.{entry_cmp, presence_cmp};
@@ -16,6 +16,7 @@ use crate::field::Field;
 use crate::fields::Fields;
 use crate::iterators::{FieldIter, IdentifierIter, OptionalFieldIter};
 use crate::presence::FieldPresence;
+use crate::table_field::TableField;
 
 /// Laws of the derived traits. Presences are equal if they are the same, and go as they are listed. Fields are equal if
 /// they say the same, and go by what they say, part after part. A clone is its source, and none fails; one of an
@@ -53,6 +54,11 @@ pub fn derives_take_every_part()
 pub fn tables_are_cloned_as_they_are<'a, const N: usize>()
     ensures { ClonesAll ⟦<Fields<'a, N> as Clone>⟧.is_clone
         ⟦<Fields<'a, N> as Clone>⟧.is_infallible }
+{}
+
+/// A law of tables: one that is made of an array has the array's fields.
+pub fn tables_have_the_fields_of_their_arrays<'a>()
+    ensures { (fields : List Field) → ⟦<Field<'a> as TableField<'a>>⟧.fields fields ≡ fields }
 {}
 
 /// A law of loops: `for` over a table, or over a reference to it, gives its fields in order, each once.

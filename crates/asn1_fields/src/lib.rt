@@ -9,6 +9,7 @@
 //! | [`Field`] | a line of a table: place, tag, tree of tags, presence and name | `field.rt` | `Entries` |
 //! | [`FieldPresence`] | whether a component is always there, OPTIONAL or has a DEFAULT | `presence.rt` | `Entries` |
 //! | [`Fields`] | a table of a known number of fields | `fields.rt` | `FieldLists` |
+//! | [`TableField`] | an element of an array of which a table is made: a `Field` | `table_field.rt` | |
 //! | [`FieldIter`] and the like | its fields, those that may be absent, and its names | `iterators.rt` | `FieldLists` |
 //! | [`laws`] | laws of equality, order, default and clones | `laws.rt` | `EntryOrder` |
 //! | [`first_sequence_clash`], [`first_set_clash`] | the rules on distinct tags | `distinct_tags.rt` | `DistinctTags` |
@@ -27,7 +28,8 @@
 //!   (`at_most_one_rearrangement_is_canonical`).
 //! - A `Fields` is the list of its fields (`fields_of`). Each iterator gives its items once, in the order of the table,
 //!   and ends; it knows how many are left (`exact`), and a clone of it has the same ones left. `Fields::from_static`
-//!   requires that there are as many fields as its type says.
+//!   takes an array of as many fields as its type says, and `from_slice` answers a table if and only if a slice has as
+//!   many (`counted`).
 //! - Fields are equal if and only if they say the same (`field_equal`), and go by what they say, part after part
 //!   (`field_order`). Presences go as they are listed, and the default one is `Default`.
 //! - `Field::new_required_type` and the like take the tree of tags from the type's meaning (`typed_entry`,
@@ -47,6 +49,7 @@ mod fields;
 mod iterators;
 pub mod laws;
 mod presence;
+mod table_field;
 
 pub use canonical_order::{at_most_one_rearrangement_is_canonical, is_canonical};
 pub use distinct_tags::{first_sequence_clash, first_set_clash};
@@ -54,3 +57,4 @@ pub use field::Field;
 pub use fields::Fields;
 pub use iterators::{FieldIter, IdentifierIter, OptionalFieldIter};
 pub use presence::FieldPresence;
+pub use table_field::TableField;

@@ -141,6 +141,7 @@ pub use asn1_types::SetOf;
 pub use asn1_types::Size;
 pub use asn1_types::StringKind;
 pub use asn1_types::StringType;
+pub use asn1_types::TableField;
 pub use asn1_types::Tag;
 pub use asn1_types::TagTree;
 pub use asn1_types::TreeForm;

@@ -83,7 +83,7 @@ pub use asn1_enumerations::{
     written_number,
 };
 pub use asn1_fields::{
-    Field, FieldIter, FieldPresence, Fields, IdentifierIter, OptionalFieldIter,
+    Field, FieldIter, FieldPresence, Fields, IdentifierIter, OptionalFieldIter, TableField,
     at_most_one_rearrangement_is_canonical, first_sequence_clash, first_set_clash, is_canonical,
 };
 pub use asn1_model::{
