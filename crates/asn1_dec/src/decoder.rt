@@ -605,21 +605,6 @@ pub trait Decoder: Sized {
         read_default(self, Side::Root, Some(tag), Some(constraints), default)
     }
 
-    /// The same as `decode_default`, after an explicit tag.
-    final fn decode_default_with_explicit_prefix<
-        T: Decode,
-        F: FnOnce(Global) -> Result<T, AllocError>,
-    >(&mut self, tag: Tag, default: F) -> Result<T, DecodeError>
-        requires { F.IsAlwaysCallable default }
-        ensures read { ReadsDefault reader in_root
-            (given_after_tag tag T.meaning.constraints T.meaning) (MayAnswer F.FnOnce default) T.eq
-            self.old self.new result }
-        ensures keeps_depth { KeepsDepth reader self.old self.new result }
-    {
-        let value = self.decode_optional_with_explicit_prefix(tag)?;
-        or_make_default(self, value, default)
-    }
-
     /// An addition with a default, which is what the closure answers where the addition is absent.
     final fn decode_extension_addition_with_default<
         T: Decode,

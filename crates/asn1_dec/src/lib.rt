@@ -16,8 +16,9 @@
 //!
 //! The types of the lower crates and of the language are read: `()`, `bool`, the built-in integers but `u128`, `Integer`,
 //! `LimitedInteger`, every kind of string, `ObjectIdentifier`, `Option`, `Box`, `Cow`, `Vec`, `SetOf`, `Implicit`, `Explicit`,
-//! `InstanceOf`, `Any` and `PhantomData`. An array is read as an `Array` of `asn1_types`: the borrow checker does not cover a
-//! function that answers an array, of a length that is a parameter, or an error with a text.
+//! `InstanceOf`, `Any` and `PhantomData`. An array of octets is read as `[u8; N]`; of any other type as an `Array` of
+//! `asn1_types`, since the borrow checker does not cover a function that answers an array of a type parameter, or an error with
+//! a text.
 //!
 //! What the contracts promise, and the words that they use:
 //!

@@ -7,10 +7,10 @@
 //! | Item | What it is |
 //! |---|---|
 //! | [`EnumerationItem`], `item!` | a value with its number and its name: a line of a type's table; a macro that writes one |
-//! | [`Enumerated`] | a type with such tables, and all calls on them |
+//! | [`EnumeratedItems`] | the two tables of a type: the items of its root, and those after the extension marker |
+//! | [`Enumerated`], [`written_number`] | a type of ASN.1 whose meaning is that of its items, with all calls on them; the number in the records of a value |
 //! | [`EnumeratedTable`] | the numbers and names of such a type's items, in their places: what a codec may know of the type |
 //! | [`VariantIter`], [`DiscriminantIter`], [`ItemIdentifierIter`] | the values of a table, these with their numbers, and the names |
-//! | [`EnumeratedType`], [`written_number`] | an `Enumerated` type of ASN.1 whose meaning is that of its items, and the number in the records of a value |
 //! | [`laws`] | what the iterators give, and what a clone of a line is |
 //!
 //! What the contracts promise, and the words that they use:
@@ -27,21 +27,21 @@
 //! - A codec sees the items without their values, as `Labels` (`specs/Labels.antt`): `EnumeratedTable` answers by them, and each
 //!   `Enumerated` type has it.
 //! - `specs/Meanings.antt` says what an ENUMERATED type means (`enumeration_type`), and what it is for a type to mean the
-//!   same (`AgreesWithEnumeration`, the law of `EnumeratedType`). `enumeration_agrees` proves the law of each
+//!   same (`AgreesWithEnumeration`, the law `agrees` of `Enumerated`). `enumeration_agrees` proves the law of each
 //!   `enumeration_type`. `written_number` ensures that the records of a value have the number that `discriminant` answers.
 //!
 //! No call takes memory.
 #![tactic(auto)]
 
 mod enumerated;
+mod enumerated_items;
 mod enumerated_table;
-mod enumerated_type;
 mod items;
 mod iterators;
 pub mod laws;
 
-pub use enumerated::Enumerated;
+pub use enumerated::{Enumerated, written_number};
+pub use enumerated_items::EnumeratedItems;
 pub use enumerated_table::EnumeratedTable;
-pub use enumerated_type::{EnumeratedType, written_number};
 pub use items::EnumerationItem;
 pub use iterators::{DiscriminantIter, ItemIdentifierIter, VariantIter};

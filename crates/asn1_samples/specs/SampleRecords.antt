@@ -14,7 +14,7 @@ use Rattle.asn1_model.specs.TaggedTypes.{tagged}
 use Rattle.asn1_tags.specs.declared.tags.Tag.{Tag}
 use Rattle.asn1_types.specs.Words.{Range, boolean, characters_of, context, discriminant, ia5, in_additions, in_root, labels_of, lines, null, number, numeric, open_type, scalar, table_of, unconstrained, units, universal, utf8, values_of, visible}
 use Rattle.asn1_samples.specs.contracts.badge.BadgeFieldTable.TheImpl.{ghosts as badge}
-use Rattle.asn1_samples.specs.contracts.color.ColorEnumerated.TheImpl.{ghosts as color}
+use Rattle.asn1_samples.specs.contracts.color.ColorEnumeratedItems.TheImpl.{ghosts as color}
 use Rattle.asn1_samples.specs.contracts.color.ColorPartialEq.TheImpl.{ghosts as colors}
 use Rattle.asn1_samples.specs.contracts.contact.ContactFieldTable.TheImpl.{ghosts as contact}
 use Rattle.asn1_samples.specs.contracts.corner.CornerChoice.TheImpl.{ghosts as corner}

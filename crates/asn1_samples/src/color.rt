@@ -7,7 +7,7 @@ use asn1_dec::{Decode, DecodeError, Decoder};
 use asn1_enc::{Encode, EncodeError, Encoder};
 use asn1_enumerations::item;
 use asn1_types::{
-    AsnType, Constraints, Enumerated, EnumeratedType, EnumerationItem, Identifier, Tag, TypeTable,
+    AsnType, Constraints, Enumerated, EnumeratedItems, EnumerationItem, Identifier, Tag, TypeTable,
 };
 
 /// One of three colors.
@@ -28,14 +28,10 @@ const ROOT: &[EnumerationItem<Color>] = &[
 
 const ADDITIONS: &[EnumerationItem<Color>] = &[item!(Color::Blue, 5, "blue")];
 
-impl Enumerated for Color {
+impl EnumeratedItems for Color {
     ghost enumeration = { extensible_enumeration
         (item Red (pos 0) (codes "red") ∷ item Green (pos 1) (codes "green") ∷ [])
         (item Blue (pos 5) (codes "blue") ∷ []) };
-
-    ghost complete = { elim [ Red ↦ refl | Green ↦ refl | Blue ↦ refl ] };
-
-    ghost lawful = { by_test refl };
 
     fn items() -> &'static [EnumerationItem<Color>] {
         ROOT
@@ -47,7 +43,7 @@ impl Enumerated for Color {
 }
 
 impl AsnType for Color {
-    ghost meaning = { enumeration_type (codes "Color") ⟦<Color as Enumerated>⟧.enumeration ⟦<Color as PartialEq>⟧.eq };
+    ghost meaning = { enumeration_type (codes "Color") ⟦<Color as EnumeratedItems>⟧.enumeration ⟦<Color as PartialEq>⟧.eq };
 
     fn table() -> TypeTable {
         TypeTable::new(Tag::ENUMERATED, Identifier(Some("Color")))
@@ -58,7 +54,11 @@ impl AsnType for Color {
     }
 }
 
-impl EnumeratedType for Color {
+impl Enumerated for Color {
+    ghost complete = { elim [ Red ↦ refl | Green ↦ refl | Blue ↦ refl ] };
+
+    ghost lawful = { by_test refl };
+
     ghost agrees = { enumeration_agrees };
 }
 

@@ -78,7 +78,7 @@ pub fn alternatives_and_items_have_their_names()
         codes "ring" ∷ codes "inner" ∷ [] }
     ensures corner { names_of (all_of ⟦<Corner as Choice>⟧.alternatives) ≡ codes "left" ∷
         codes "right" ∷ [] }
-    ensures color { names (items ⟦<Color as Enumerated>⟧.enumeration) ≡ codes "red" ∷
+    ensures color { names (items ⟦<Color as EnumeratedItems>⟧.enumeration) ≡ codes "red" ∷
         codes "green" ∷ codes "blue" ∷ [] }
 {}
 

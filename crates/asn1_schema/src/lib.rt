@@ -119,7 +119,7 @@ pub use asn1_types::Constructed;
 pub use asn1_types::ConstructedType;
 pub use asn1_types::DiscriminantIter;
 pub use asn1_types::Enumerated;
-pub use asn1_types::EnumeratedType;
+pub use asn1_types::EnumeratedItems;
 pub use asn1_types::EnumerationItem;
 pub use asn1_types::Explicit;
 pub use asn1_types::Extensible;

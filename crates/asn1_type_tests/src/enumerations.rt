@@ -3,12 +3,12 @@ ghost use Rattle.std.specs.Prelude.{◌≡◌};
 ghost use Rattle.asn1_enumerations.specs.Labels.{labels_of};
 ghost use Rattle.asn1_type_tests.specs.EnumerationExamples.{color_labels};
 
-use asn1_enumerations::Enumerated;
+use asn1_enumerations::{Enumerated, EnumeratedItems};
 use asn1_samples::Color;
 
 /// The labels beside a number: those of the root, and those after the extension marker.
 fn labels_of_colors()
-    ensures { labels_of ⟦<Color as Enumerated>⟧.enumeration ≡ color_labels }
+    ensures { labels_of ⟦<Color as EnumeratedItems>⟧.enumeration ≡ color_labels }
 {}
 
 /// Whether the color has that number and that name, and is found by each of them.

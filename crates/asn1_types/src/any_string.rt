@@ -2,9 +2,7 @@
 //! these types.
 ghost use Rattle.asn1_types.specs.AnyStrings.{content_of_str, content_of_string, octet_kind};
 ghost use Rattle.asn1_model.specs.Records.{units};
-ghost use Rattle.std.specs.Prelude.{◌≡◌, IfOk, IfSome, IsSomeAnd, List, ℕ};
-
-use std::alloc::{AllocError, Global};
+ghost use Rattle.std.specs.Prelude.{◌≡◌, IfSome, IsSomeAnd, List, ℕ};
 
 /// A kind of string whose units are octets (X.680, 23 and 41).
 #[derive(Clone, Copy, Debug, PartialEq, Eq)]
@@ -64,23 +62,6 @@ pub enum AnyString {
     Bmp(Vec<u16>),
     /// A TeletexString.
     Teletex(Vec<u32>),
-}
-
-impl AnyStr<'_> {
-    /// The same string, in memory of its own.
-    pub fn to_any_string(self, alloc: Global) -> Result<AnyString, AllocError>
-        ensures same { IfOk result (λ string.
-            content_of_string string ≡ content_of_str self.entry) }
-    {
-        match self {
-            AnyStr::Bits(bits) => Ok(AnyString::Bits(Vec::from_slice(alloc, bits)?)),
-            AnyStr::Octets(kind, octets) => {
-                Ok(AnyString::Octets(kind, Vec::from_slice(alloc, octets)?))
-            }
-            AnyStr::Bmp(units) => Ok(AnyString::Bmp(Vec::from_slice(alloc, units)?)),
-            AnyStr::Teletex(units) => Ok(AnyString::Teletex(Vec::from_slice(alloc, units)?)),
-        }
-    }
 }
 
 impl AnyString {

@@ -16,6 +16,7 @@ ghost use Rattle.asn1_types.specs.declared.implicit.Implicit.{Implicit};
 ghost use Rattle.asn1_types.specs.declared.instance_of.InstanceOf.{InstanceOf};
 
 mod premises;
+mod records;
 mod strings;
 
 use crate::any::Any;
@@ -26,7 +27,14 @@ use crate::instance_of::InstanceOf;
 use crate::set_of::SetOf;
 use asn1_components::FieldTable;
 use asn1_model::AsnType;
-pub use premises::{types_are_tagged_as_their_contents, values_are_valid_as_their_contents};
+pub use premises::{
+    types_are_tagged_as_their_contents, values_are_of_type_as_their_contents,
+    values_are_valid_as_their_contents,
+};
+pub use records::{
+    sets_feed_their_length, types_begin_with_their_tags, types_have_the_records_of_their_contents,
+    values_are_always_there,
+};
 use std::hash::Hash;
 pub use strings::{
     kinds_of_string_are_compared_as_they_are, kinds_of_string_say_what_their_types_say,

@@ -20,7 +20,7 @@
 //! | [`Field`], [`Fields`] | field tables: of `asn1_fields` | |
 //! | [`FieldTable`], [`ConstructedType`], [`Constructed`] | SEQUENCE and SET types: of `asn1_components` | |
 //! | [`Choice`], [`ChoiceType`] | CHOICE types: of `asn1_choices` | |
-//! | [`Enumerated`], [`EnumerationItem`], [`EnumeratedType`] | ENUMERATED types: of `asn1_enumerations` | |
+//! | [`Enumerated`], [`EnumeratedItems`], [`EnumerationItem`] | ENUMERATED types: of `asn1_enumerations` | |
 //!
 //! What the contracts promise, and the words that they use:
 //!
@@ -49,9 +49,9 @@
 //!   and `instance_of_components`.
 //! - The words for a type of your own are in `specs/Words.antt`, from all crates below.
 //!
-//! `SetOf::with_capacity`, `insert`, `to_vec`, `from_slice`, `from_array` and `try_clone`, and `Any::try_clone` may
-//! allocate, and fail only if memory runs out; so may `AnyStr::to_any_string`, and `AsnType::constraints` of a type with a
-//! permitted alphabet. No other call takes any.
+//! `SetOf::with_capacity`, `insert`, `try_insert`, `to_vec`, `from_slice`, `from_array` and `try_clone`, and `Any::try_clone` may
+//! allocate, and fail only if memory runs out; so may `AsnType::constraints` of a type with a permitted alphabet. No other call
+//! takes any.
 #![tactic(auto, using(asn1_tags::proofs::Leaves::tree_shapes))]
 
 mod any;
@@ -79,7 +79,7 @@ pub use asn1_components::{
     tables_are_in_order,
 };
 pub use asn1_enumerations::{
-    DiscriminantIter, Enumerated, EnumeratedType, EnumerationItem, ItemIdentifierIter, VariantIter,
+    DiscriminantIter, Enumerated, EnumeratedItems, EnumerationItem, ItemIdentifierIter, VariantIter,
     written_number,
 };
 pub use asn1_fields::{

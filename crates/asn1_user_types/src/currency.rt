@@ -5,7 +5,7 @@ ghost use Rattle.asn1_user_types.specs.declared.currency.Currency.TheVariants.{E
 
 use asn1_schema::{
     AsnType, Constraints, Decode, DecodeError, Decoder, Encode, EncodeError, Encoder, Enumerated,
-    EnumeratedType, EnumerationItem, Identifier, Tag, TypeTable,
+    EnumeratedItems, EnumerationItem, Identifier, Tag, TypeTable,
 };
 
 /// In what a price is paid.
@@ -30,13 +30,9 @@ const ITEMS: &[EnumerationItem<Currency>] = &[
     },
 ];
 
-impl Enumerated for Currency {
+impl EnumeratedItems for Currency {
     ghost enumeration = { closed_enumeration
         (item Euro (pos 0) (codes "euro") ∷ item Yen (pos 1) (codes "yen") ∷ []) };
-
-    ghost complete = { elim [ Euro ↦ refl | Yen ↦ refl ] };
-
-    ghost lawful = { by_test refl };
 
     fn items() -> &'static [EnumerationItem<Currency>] {
         ITEMS
@@ -48,7 +44,7 @@ impl Enumerated for Currency {
 }
 
 impl AsnType for Currency {
-    ghost meaning = { enumeration_type (codes "Currency") ⟦<Currency as Enumerated>⟧.enumeration ⟦<Currency as PartialEq>⟧.eq };
+    ghost meaning = { enumeration_type (codes "Currency") ⟦<Currency as EnumeratedItems>⟧.enumeration ⟦<Currency as PartialEq>⟧.eq };
 
     fn table() -> TypeTable {
         TypeTable::new(Tag::ENUMERATED, Identifier(Some("Currency")))
@@ -59,7 +55,11 @@ impl AsnType for Currency {
     }
 }
 
-impl EnumeratedType for Currency {
+impl Enumerated for Currency {
+    ghost complete = { elim [ Euro ↦ refl | Yen ↦ refl ] };
+
+    ghost lawful = { by_test refl };
+
     ghost agrees = { enumeration_agrees };
 }
 

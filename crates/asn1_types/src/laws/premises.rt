@@ -1,6 +1,6 @@
 //! When the premises of a round trip hold of each type of this crate: which values are valid, and under which tags the type is
 //! well tagged.
-ghost use Rattle.std.specs.Prelude.{◌≡◌, ◌↔◌, ℕ, Bool, List, All, IsTrue};
+ghost use Rattle.std.specs.Prelude.{◌≡◌, ◌↔◌, ℕ, ◌<◌, ◌^◌, Bool, List, All, IsTrue};
 ghost use Rattle.asn1_model.specs.Meaning.{IsWellTagged, IsWellTaggedUnder, tags};
 ghost use Rattle.asn1_model.specs.Premises.{IsTaggedAs};
 ghost use Rattle.asn1_model.specs.Tags.{IsATag, only};
@@ -32,6 +32,20 @@ pub fn values_are_valid_as_their_contents<T: AsnType, V: AsnType>()
         V.meaning.IsValid accepts v.value }
     ensures instance { (accepts : List ℕ → Bool) (v : InstanceOf V) →
         ⟦<InstanceOf<V> as AsnType>⟧.meaning.IsValid accepts v ↔ V.meaning.IsValid accepts v.value }
+{}
+
+/// A law of the types' invariants: the bytes of an open type may be any; the arcs of the name in an INSTANCE OF are below 2^32; and
+/// of what a value holds, its own invariant holds. Of arrays `arrays_are_their_elements` says it.
+pub fn values_are_of_type_as_their_contents<T: AsnType, V: AsnType>()
+    ensures any { (bytes : List ℕ) → ⟦<Any as AsnType>⟧.meaning.IsOfType bytes }
+    ensures set { (set : List V) → ⟦<SetOf<V> as AsnType>⟧.meaning.IsOfType set ↔
+        All V.meaning.IsOfType set }
+    ensures implicit { (v : Implicit T V) → ⟦<Implicit<T, V> as AsnType>⟧.meaning.IsOfType v ↔
+        V.meaning.IsOfType v.value }
+    ensures explicit { (v : Explicit T V) → ⟦<Explicit<T, V> as AsnType>⟧.meaning.IsOfType v ↔
+        V.meaning.IsOfType v.value }
+    ensures instance { (v : InstanceOf V) → ⟦<InstanceOf<V> as AsnType>⟧.meaning.IsOfType v ↔
+        (All (λ arc. arc < 2 ^ 32) v.type_id × V.meaning.IsOfType v.value) }
 {}
 
 /// A law of tags: an open type is well tagged under each tag, a set and a value after an explicit tag where the type inside is well

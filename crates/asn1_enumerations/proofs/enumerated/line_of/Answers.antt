@@ -10,7 +10,7 @@ use Rattle.asn1_enumerations.proofs.enumerated.line_of.Goals as goal
 pub unreachable-requires : goal.unreachable-requires
 unreachable-requires g c =
     let v = c.args.value.now in
-    let e = g.T.Enumerated.enumeration in
+    let e = g.T.EnumeratedItems.enumeration in
     let eq = g.T.PartialEq.eq in
     let its = its_item eq g.met.T.Eq.laws e g.met.T.Enumerated.complete g.met.T.Enumerated.lawful.distinct v in
     none-some its.0
@@ -19,7 +19,7 @@ unreachable-requires g c =
 
 pub returns : goal.returns
 returns g c =
-    let e = g.T.Enumerated.enumeration in
+    let e = g.T.EnumeratedItems.enumeration in
     let eq = g.T.PartialEq.eq in
     sym (line_found e (λ i. eq i.value c.args.value.now) c.items.result.now c.added_lines.result.now c.items.ensures c.added_lines.ensures)
     ∙ sym (ap (option_map line_item) (c.in-Some.ensures {u = tt}))

@@ -8,7 +8,7 @@ pub unreachable-requires : goal.unreachable-requires
 unreachable-requires g c =
     let eq = g.Self.PartialEq.eq in
     let equal = g.met.Self.Eq.laws in
-    let e = g.Self.Enumerated.enumeration in
+    let e = g.Self.EnumeratedItems.enumeration in
     let laws = g.met.Self.Enumerated in
     let v = c.args.self.now in
     let not_root = sym (place_found (λ i. eq i.value v) c.items.result.now e.root None (c.in-None.ensures {u = tt}) c.items.ensures) in
@@ -22,7 +22,7 @@ pub returns-in-Some-clause-root : goal.returns-in-Some-clause-root
 returns-in-Some-clause-root g c = λ among.
     let eq = g.Self.PartialEq.eq in
     let equal = g.met.Self.Eq.laws in
-    let e = g.Self.Enumerated.enumeration in
+    let e = g.Self.EnumeratedItems.enumeration in
     let laws = g.met.Self.Enumerated in
     let v = c.args.self.now in
     value_at eq equal e laws.complete laws.lawful.distinct e.root v c.in-Some.place
@@ -32,7 +32,7 @@ pub returns-in-Some-clause-extended : goal.returns-in-Some-clause-extended
 returns-in-Some-clause-extended g c = λ among.
     let eq = g.Self.PartialEq.eq in
     let equal = g.met.Self.Eq.laws in
-    let e = g.Self.Enumerated.enumeration in
+    let e = g.Self.EnumeratedItems.enumeration in
     let laws = g.met.Self.Enumerated in
     let v = c.args.self.now in
     let at = value_at eq equal e laws.complete laws.lawful.distinct e.root v c.in-Some.place
@@ -43,7 +43,7 @@ pub returns-in-Some-place_in-clause-root : goal.returns-in-Some-place_in-clause-
 returns-in-Some-place_in-clause-root g c = λ among.
     let eq = g.Self.PartialEq.eq in
     let equal = g.met.Self.Eq.laws in
-    let e = g.Self.Enumerated.enumeration in
+    let e = g.Self.EnumeratedItems.enumeration in
     let laws = g.met.Self.Enumerated in
     let v = c.args.self.now in
     let not_root = sym (place_found (λ i. eq i.value v) c.items.result.now e.root None (c.in-None.ensures {u = tt}) c.items.ensures) in
@@ -53,7 +53,7 @@ pub returns-in-Some-place_in-clause-extended : goal.returns-in-Some-place_in-cla
 returns-in-Some-place_in-clause-extended g c = λ among.
     let eq = g.Self.PartialEq.eq in
     let equal = g.met.Self.Eq.laws in
-    let e = g.Self.Enumerated.enumeration in
+    let e = g.Self.EnumeratedItems.enumeration in
     let laws = g.met.Self.Enumerated in
     let v = c.args.self.now in
     value_at eq equal e laws.complete laws.lawful.distinct (added e) v c.in-Some-place_in.place

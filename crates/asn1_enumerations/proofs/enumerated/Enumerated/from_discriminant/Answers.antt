@@ -11,7 +11,7 @@ use Rattle.asn1_enumerations.proofs.enumerated.Enumerated.from_discriminant.Goal
 
 pub returns-clause-back : goal.returns-clause-back
 returns-clause-back g c = λ v same.
-    let e = g.Self.Enumerated.enumeration in
+    let e = g.Self.EnumeratedItems.enumeration in
     let laws = g.met.Self.Enumerated in
     let lines = c.items.result.now ++ c.added_lines.result.now in
     let given = to_z-of_z w64 c.args.discriminant c.ranges.discriminant in
@@ -23,7 +23,7 @@ returns-clause-back g c = λ v same.
 
 pub returns-clause-only : goal.returns-clause-only
 returns-clause-only g c =
-    let e = g.Self.Enumerated.enumeration in
+    let e = g.Self.EnumeratedItems.enumeration in
     let laws = g.met.Self.Enumerated in
     let lines = c.items.result.now ++ c.added_lines.result.now in
     let given = to_z-of_z w64 c.args.discriminant c.ranges.discriminant in

@@ -8,7 +8,7 @@ use Rattle.asn1_enumerations.proofs.enumerated.Enumerated.from_identifier.Goals 
 
 pub returns-clause-back : goal.returns-clause-back
 returns-clause-back g c = λ v same.
-    let e = g.Self.Enumerated.enumeration in
+    let e = g.Self.EnumeratedItems.enumeration in
     let laws = g.met.Self.Enumerated in
     c.with_name.ensures
     ∙ (value_found e (λ i. bytes_eq i.name c.args.identifier.now) c.items.result.now c.added_lines.result.now c.items.ensures c.added_lines.ensures
@@ -17,7 +17,7 @@ returns-clause-back g c = λ v same.
 
 pub returns-clause-only : goal.returns-clause-only
 returns-clause-only g c =
-    let e = g.Self.Enumerated.enumeration in
+    let e = g.Self.EnumeratedItems.enumeration in
     let laws = g.met.Self.Enumerated in
     let found =
     c.with_name.ensures

@@ -7,7 +7,7 @@ use Rattle.asn1_enumerations.proofs.enumerated.Enumerated.is_extended_variant.Go
 pub returns : goal.returns
 returns g c =
     let eq = g.Self.PartialEq.eq in
-    let e = g.Self.Enumerated.enumeration in
+    let e = g.Self.EnumeratedItems.enumeration in
     let laws = g.met.Self.Enumerated in
     let v = c.args.self.now in
     let found = place_found (λ i. eq i.value v) c.added_lines.result.now (added e) c.place_in.result c.place_in.ensures c.added_lines.ensures in

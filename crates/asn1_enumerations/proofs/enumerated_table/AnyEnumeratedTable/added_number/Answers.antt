@@ -7,4 +7,4 @@ use Rattle.asn1_enumerations.proofs.enumerated_table.AnyEnumeratedTable.added_nu
 pub returns : goal.returns
 returns g c =
     c.number_at.ensures
-    ∙ number_at_place c.added_lines.result.now _ (ap (map label_of) c.added_lines.ensures ∙ sym (added_labels_are g.E.Enumerated.enumeration)) c.args.place
+    ∙ number_at_place c.added_lines.result.now _ (ap (map label_of) c.added_lines.ensures ∙ sym (added_labels_are g.E.EnumeratedItems.enumeration)) c.args.place

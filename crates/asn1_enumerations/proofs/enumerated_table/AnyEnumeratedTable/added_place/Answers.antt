@@ -11,4 +11,4 @@ pub returns : goal.returns
 returns g c =
     let given = to_z-of_z w64 c.args.number c.ranges.number in
     subst (λ n. c.place_of.result ≡ position (λ l. int_eq l.number n) c.added_lines.result.now) given c.place_of.ensures
-    ∙ place_of_number c.added_lines.result.now _ (ap (map label_of) c.added_lines.ensures ∙ sym (added_labels_are g.E.Enumerated.enumeration)) c.args.number
+    ∙ place_of_number c.added_lines.result.now _ (ap (map label_of) c.added_lines.ensures ∙ sym (added_labels_are g.E.EnumeratedItems.enumeration)) c.args.number

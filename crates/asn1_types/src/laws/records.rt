@@ -1,0 +1,94 @@
+//! What each type of this crate says of itself, and the records of its values, for all values.
+ghost use Rattle.std.specs.Hash as fed;
+ghost use Rattle.std.specs.List.{flat_map};
+ghost use Rattle.std.specs.Prelude.{◌≡◌, ℕ, List, [], ◌∷◌, ◌++◌, None, Some, codes, false, length, true};
+ghost use Rattle.asn1_components.specs.Components.{lines};
+ghost use Rattle.asn1_model.specs.Composites.{explicit_tag_records, open_type_records, sequence_records, set_of_records};
+ghost use Rattle.asn1_model.specs.ConstraintSets.{ConstraintSet, unconstrained};
+ghost use Rattle.asn1_model.specs.Meaning.{HasOwn, own_records};
+ghost use Rattle.asn1_model.specs.Records.{Name, arcs, name_or, scalar};
+ghost use Rattle.asn1_model.specs.Tags.{CHOICE, context, universal};
+ghost use Rattle.asn1_tags.specs.Trees.{choice, leaf, none};
+ghost use Rattle.asn1_tags.specs.declared.tags.Tag.{Tag};
+ghost use Rattle.asn1_types.specs.declared.array.Array.{Array};
+ghost use Rattle.asn1_types.specs.declared.explicit.Explicit.{Explicit};
+ghost use Rattle.asn1_types.specs.declared.implicit.Implicit.{Implicit};
+ghost use Rattle.asn1_types.specs.declared.instance_of.InstanceOf.{InstanceOf};
+
+use crate::any::Any;
+use crate::array::Array;
+use crate::explicit::Explicit;
+use crate::implicit::Implicit;
+use crate::instance_of::InstanceOf;
+use crate::set_of::SetOf;
+use asn1_components::FieldTable;
+use asn1_model::AsnType;
+use std::hash::Hash;
+
+/// A law of records. An open type is its bytes, under whatever tag; a SET OF is a record of those of its elements; a value under
+/// an implicit tag is the value under it; one under an explicit tag is a record of the value as it is; and an INSTANCE OF is a
+/// SEQUENCE of the name of a type, and of a value after the tag Context 0. Of arrays `arrays_are_their_elements` says it.
+pub fn types_have_the_records_of_their_contents<T: AsnType, V: AsnType>()
+    ensures any_own { HasOwn ⟦<Any as AsnType>⟧.meaning CHOICE unconstrained None }
+    ensures of_any { (bytes : List ℕ) (t : Tag) (c : ConstraintSet) (name : Name) →
+        ⟦<Any as AsnType>⟧.meaning.records bytes t c name ≡ open_type_records name bytes }
+    ensures set_own { HasOwn ⟦<SetOf<V> as AsnType>⟧.meaning (universal 17) unconstrained
+        (Some (codes "SET_OF")) }
+    ensures of_set { (set : List V) (t : Tag) (c : ConstraintSet) (name : Name) →
+        ⟦<SetOf<V> as AsnType>⟧.meaning.records set t c name ≡
+        set_of_records t c (name_or name (Some (codes "SET_OF")))
+        (flat_map (own_records V.meaning) set) }
+    ensures implicit_own { HasOwn ⟦<Implicit<T, V> as AsnType>⟧.meaning T.meaning.tag unconstrained
+        None }
+    ensures of_implicit { (v : Implicit T V) (t : Tag) (c : ConstraintSet) (name : Name) →
+        ⟦<Implicit<T, V> as AsnType>⟧.meaning.records v t c name ≡
+        V.meaning.records v.value t c name }
+    ensures explicit_own { HasOwn ⟦<Explicit<T, V> as AsnType>⟧.meaning T.meaning.tag unconstrained
+        None }
+    ensures of_explicit { (v : Explicit T V) (t : Tag) (c : ConstraintSet) (name : Name) →
+        ⟦<Explicit<T, V> as AsnType>⟧.meaning.records v t c name ≡
+        explicit_tag_records t name (own_records V.meaning v.value) }
+    ensures instance_own { HasOwn ⟦<InstanceOf<V> as AsnType>⟧.meaning (universal 8) unconstrained
+        (Some (codes "SEQUENCE")) }
+    ensures of_instance { (v : InstanceOf V) (t : Tag) (c : ConstraintSet) (name : Name) →
+        ⟦<InstanceOf<V> as AsnType>⟧.meaning.records v t c name ≡
+        sequence_records t (lines ⟦<InstanceOf<V> as FieldTable>⟧.components) name
+        (scalar (universal 6) unconstrained (Some (codes "OBJECT_IDENTIFIER")) (arcs v.type_id) ∷
+        explicit_tag_records (context 0) (Some (codes "SEQUENCE"))
+        (own_records V.meaning v.value)) }
+{}
+
+/// A law of the tags with which a value can begin: every tag for an open type, and for each other type of this crate the tag
+/// that it is written under. None of them is a CHOICE.
+pub fn types_begin_with_their_tags<T: AsnType, V: AsnType, const N: usize>()
+    ensures any { (t : Tag) → ⟦<Any as AsnType>⟧.meaning.tree t ≡ choice none }
+    ensures set { (t : Tag) → ⟦<SetOf<V> as AsnType>⟧.meaning.tree t ≡ leaf t }
+    ensures implicit { (t : Tag) → ⟦<Implicit<T, V> as AsnType>⟧.meaning.tree t ≡ leaf t }
+    ensures explicit { (t : Tag) → ⟦<Explicit<T, V> as AsnType>⟧.meaning.tree t ≡ leaf t }
+    ensures instance { (t : Tag) → ⟦<InstanceOf<V> as AsnType>⟧.meaning.tree t ≡ leaf t }
+    ensures array { (t : Tag) → ⟦<Array<V, N> as AsnType>⟧.meaning.tree t ≡ leaf t }
+    ensures any_is_no_choice { ⟦<Any as AsnType>⟧.meaning.is_choice ≡ false }
+    ensures set_is_no_choice { ⟦<SetOf<V> as AsnType>⟧.meaning.is_choice ≡ false }
+    ensures implicit_is_no_choice { ⟦<Implicit<T, V> as AsnType>⟧.meaning.is_choice ≡ false }
+    ensures explicit_is_no_choice { ⟦<Explicit<T, V> as AsnType>⟧.meaning.is_choice ≡ false }
+    ensures instance_is_no_choice { ⟦<InstanceOf<V> as AsnType>⟧.meaning.is_choice ≡ false }
+    ensures array_is_no_choice { ⟦<Array<V, N> as AsnType>⟧.meaning.is_choice ≡ false }
+{}
+
+/// A law of presence: each value of the types of this crate is there, also where what it holds is an option without one.
+pub fn values_are_always_there<T: AsnType, V: AsnType, const N: usize>()
+    ensures any { (bytes : List ℕ) → ⟦<Any as AsnType>⟧.meaning.is_present bytes ≡ true }
+    ensures set { (set : List V) → ⟦<SetOf<V> as AsnType>⟧.meaning.is_present set ≡ true }
+    ensures implicit { (v : Implicit T V) → ⟦<Implicit<T, V> as AsnType>⟧.meaning.is_present v ≡
+        true }
+    ensures explicit { (v : Explicit T V) → ⟦<Explicit<T, V> as AsnType>⟧.meaning.is_present v ≡
+        true }
+    ensures instance { (v : InstanceOf V) → ⟦<InstanceOf<V> as AsnType>⟧.meaning.is_present v ≡
+        true }
+    ensures array { (v : Array V N) → ⟦<Array<V, N> as AsnType>⟧.meaning.is_present v ≡ true }
+{}
+
+/// A law of the hash of a set: it is that of how many elements there are.
+pub fn sets_feed_their_length<V: Eq>()
+    ensures { (set : List V) → ⟦<SetOf<V> as Hash>⟧.hash_input set ≡ fed.usize (length set) }
+{}
