@@ -1,10 +1,10 @@
 -- The lines of a CHOICE's table have the trees and the names of its alternatives.
-use Rattle.std.specs.Prelude.{◌≡◌, ℕ, false, List, [], ◌∷◌, ◌++◌, All, Option, None, Some, map, refl}
+use Rattle.std.specs.Prelude.{◌≡◌, ℕ, false, List, [], ◌∷◌, ◌++◌, All, Some, map, refl}
 use Rattle.std.proofs.Common.{ap, ◌∙◌}
 use Rattle.std.proofs.lemmas.List.Elements.{All-nil, All-cons}
 use Rattle.std.specs.Option.{option_map}
 use Rattle.asn1_tags.specs.Trees.{more}
-use Rattle.asn1_model.specs.RecordTables.{Line, Table}
+use Rattle.asn1_model.specs.RecordTables.{Line}
 use Rattle.asn1_choices.specs.Alternatives.{Alternative, Alternatives, added_trees_of, all_lines, all_of, closed, extensible, line_of, names_of, root_of, table_of, trees_in, trees_of}
 
 trees_of_lines : (alts : List Alternative) → trees_in (map line_of alts) ≡ trees_of alts

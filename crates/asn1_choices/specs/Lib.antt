@@ -1,3 +1,4 @@
 pub mod Alternatives
 pub mod ChosenTags
 pub mod ChoiceTypes
+pub mod UntaggedItself

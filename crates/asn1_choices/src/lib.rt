@@ -25,7 +25,9 @@
 //!   record, which begins with one of its own tags, and no other alternative has that tag (X.680, 29.3).
 //! - A CHOICE that holds itself says by recursion on a value what the chosen alternative says of it (`ValueMeaning`). To its
 //!   own alternatives it is `inside_itself`, where nothing is asked of it, and to all others `choice_holding_itself`, whose
-//!   law is `itself_agrees`. The crate `asn1_recursive` has such types.
+//!   law is `itself_agrees`. The crate `asn1_recursive` has such types. One that holds itself without a tag, as a component of a
+//!   SEQUENCE or a SET, is to its own alternatives `untagged_inside_itself` (`specs/UntaggedItself.antt`), which begins with the
+//!   tags of its alternatives.
 //!
 //! No call takes memory.
 #![tactic(auto, using(asn1_tags::proofs::Leaves::tree_shapes))]

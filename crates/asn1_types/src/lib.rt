@@ -79,8 +79,8 @@ pub use asn1_components::{
     tables_are_in_order,
 };
 pub use asn1_enumerations::{
-    DiscriminantIter, Enumerated, EnumeratedItems, EnumerationItem, ItemIdentifierIter, VariantIter,
-    written_number,
+    DiscriminantIter, Enumerated, EnumeratedItems, EnumerationItem, ItemIdentifierIter,
+    VariantIter, written_number,
 };
 pub use asn1_fields::{
     Field, FieldIter, FieldPresence, Fields, IdentifierIter, OptionalFieldIter, TableField,
