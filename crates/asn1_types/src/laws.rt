@@ -33,7 +33,6 @@ pub use premises::{
 };
 pub use records::{
     sets_feed_their_length, types_begin_with_their_tags, types_have_the_records_of_their_contents,
-    values_are_always_there,
 };
 use std::hash::Hash;
 pub use strings::{

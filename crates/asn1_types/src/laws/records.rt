@@ -1,16 +1,16 @@
 //! What each type of this crate says of itself, and the records of its values, for all values.
 ghost use Rattle.std.specs.Hash as fed;
 ghost use Rattle.std.specs.List.{flat_map};
-ghost use Rattle.std.specs.Prelude.{◌≡◌, ℕ, List, [], ◌∷◌, ◌++◌, None, Some, codes, false, length, true};
+ghost use Rattle.std.specs.Prelude.{◌≡◌, ℕ, List, [], ◌∷◌, None, Some, codes, false, length};
 ghost use Rattle.asn1_components.specs.Components.{lines};
+ghost use Rattle.asn1_model.specs.BeginningTags.{HasTagOfItsOwn, IsAlwaysThere};
 ghost use Rattle.asn1_model.specs.Composites.{explicit_tag_records, open_type_records, sequence_records, set_of_records};
 ghost use Rattle.asn1_model.specs.ConstraintSets.{ConstraintSet, unconstrained};
 ghost use Rattle.asn1_model.specs.Meaning.{HasOwn, own_records};
 ghost use Rattle.asn1_model.specs.Records.{Name, arcs, name_or, scalar};
 ghost use Rattle.asn1_model.specs.Tags.{CHOICE, context, universal};
-ghost use Rattle.asn1_tags.specs.Trees.{choice, leaf, none};
+ghost use Rattle.asn1_tags.specs.Trees.{choice, none};
 ghost use Rattle.asn1_tags.specs.declared.tags.Tag.{Tag};
-ghost use Rattle.asn1_types.specs.declared.array.Array.{Array};
 ghost use Rattle.asn1_types.specs.declared.explicit.Explicit.{Explicit};
 ghost use Rattle.asn1_types.specs.declared.implicit.Implicit.{Implicit};
 ghost use Rattle.asn1_types.specs.declared.instance_of.InstanceOf.{InstanceOf};
@@ -58,34 +58,17 @@ pub fn types_have_the_records_of_their_contents<T: AsnType, V: AsnType>()
         (own_records V.meaning v.value)) }
 {}
 
-/// A law of the tags with which a value can begin: every tag for an open type, and for each other type of this crate the tag
-/// that it is written under. None of them is a CHOICE.
+/// A law of the tags with which a value can begin: every tag for an open type, which is no CHOICE; and for each other type of this
+/// crate the tag that it is written under. Each value is there, also where what it holds is an option without one.
 pub fn types_begin_with_their_tags<T: AsnType, V: AsnType, const N: usize>()
     ensures any { (t : Tag) → ⟦<Any as AsnType>⟧.meaning.tree t ≡ choice none }
-    ensures set { (t : Tag) → ⟦<SetOf<V> as AsnType>⟧.meaning.tree t ≡ leaf t }
-    ensures implicit { (t : Tag) → ⟦<Implicit<T, V> as AsnType>⟧.meaning.tree t ≡ leaf t }
-    ensures explicit { (t : Tag) → ⟦<Explicit<T, V> as AsnType>⟧.meaning.tree t ≡ leaf t }
-    ensures instance { (t : Tag) → ⟦<InstanceOf<V> as AsnType>⟧.meaning.tree t ≡ leaf t }
-    ensures array { (t : Tag) → ⟦<Array<V, N> as AsnType>⟧.meaning.tree t ≡ leaf t }
     ensures any_is_no_choice { ⟦<Any as AsnType>⟧.meaning.is_choice ≡ false }
-    ensures set_is_no_choice { ⟦<SetOf<V> as AsnType>⟧.meaning.is_choice ≡ false }
-    ensures implicit_is_no_choice { ⟦<Implicit<T, V> as AsnType>⟧.meaning.is_choice ≡ false }
-    ensures explicit_is_no_choice { ⟦<Explicit<T, V> as AsnType>⟧.meaning.is_choice ≡ false }
-    ensures instance_is_no_choice { ⟦<InstanceOf<V> as AsnType>⟧.meaning.is_choice ≡ false }
-    ensures array_is_no_choice { ⟦<Array<V, N> as AsnType>⟧.meaning.is_choice ≡ false }
-{}
-
-/// A law of presence: each value of the types of this crate is there, also where what it holds is an option without one.
-pub fn values_are_always_there<T: AsnType, V: AsnType, const N: usize>()
-    ensures any { (bytes : List ℕ) → ⟦<Any as AsnType>⟧.meaning.is_present bytes ≡ true }
-    ensures set { (set : List V) → ⟦<SetOf<V> as AsnType>⟧.meaning.is_present set ≡ true }
-    ensures implicit { (v : Implicit T V) → ⟦<Implicit<T, V> as AsnType>⟧.meaning.is_present v ≡
-        true }
-    ensures explicit { (v : Explicit T V) → ⟦<Explicit<T, V> as AsnType>⟧.meaning.is_present v ≡
-        true }
-    ensures instance { (v : InstanceOf V) → ⟦<InstanceOf<V> as AsnType>⟧.meaning.is_present v ≡
-        true }
-    ensures array { (v : Array V N) → ⟦<Array<V, N> as AsnType>⟧.meaning.is_present v ≡ true }
+    ensures any_is_there { IsAlwaysThere ⟦<Any as AsnType>⟧.meaning }
+    ensures set { HasTagOfItsOwn ⟦<SetOf<V> as AsnType>⟧.meaning }
+    ensures implicit { HasTagOfItsOwn ⟦<Implicit<T, V> as AsnType>⟧.meaning }
+    ensures explicit { HasTagOfItsOwn ⟦<Explicit<T, V> as AsnType>⟧.meaning }
+    ensures instance { HasTagOfItsOwn ⟦<InstanceOf<V> as AsnType>⟧.meaning }
+    ensures array { HasTagOfItsOwn ⟦<Array<V, N> as AsnType>⟧.meaning }
 {}
 
 /// A law of the hash of a set: it is that of how many elements there are.
