@@ -9,7 +9,7 @@ mod size;
 mod table;
 mod value;
 
-use asn1_bounds::{Constraints, Extensible, PermittedAlphabet, Value};
+use asn1_bounds::{Constraints, Extensible, PermittedAlphabet, Size, Value};
 use std::alloc::Global;
 use std::process::Abort;
 
@@ -31,4 +31,9 @@ fn permits(set: &Constraints<'_>, characters: &[u32]) -> bool {
 /// Whether the set has these values, with no marker of their own.
 fn has_value(set: &Constraints<'_>, value: Value) -> bool {
     set.value().copied() == Some(Extensible::new(value))
+}
+
+/// Whether the set has these lengths, with no marker of their own.
+fn has_size(set: &Constraints<'_>, size: Size) -> bool {
+    set.size().copied() == Some(Extensible::new(size))
 }

@@ -64,6 +64,12 @@ fn classes_and_tags_have_their_texts(rt: HostRuntime) {
     assert_written(&rt, alloc, &greatest, "Private 4294967295");
 }
 
+#[test]
+fn classes_have_the_numbers_below_4(rt: HostRuntime) {
+    assert_that(&rt, Class::from_u8(3) == Some(Class::Private), "3");
+    assert_that(&rt, Class::from_u8(4).is_none(), "4");
+}
+
 macro_rules! tag {
     ($class:ident $value:literal) => {
         Tag {

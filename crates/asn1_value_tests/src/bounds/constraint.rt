@@ -5,10 +5,11 @@ use asn1_bounds::{Constraint, Extensible};
 use std::alloc::Global;
 use std::process::Abort;
 
-/// Asserts that a copy of the constraint has an extension marker.
+/// Asserts that a copy of the constraint is equal to it, and of the same kind.
 fn assert_copy(rt: &impl Abort, alloc: Global, constraint: &Constraint) {
     let copy = constraint.try_clone(alloc).expect(rt, "memory");
-    assert_that(rt, copy.is_extensible(), "the marker");
+    assert_that(rt, copy == *constraint, "the copy");
+    assert_that(rt, copy.kind().eq(&constraint.kind()), "the kind");
 }
 
 #[test]

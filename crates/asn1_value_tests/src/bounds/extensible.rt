@@ -1,7 +1,7 @@
 //! Constraints with an extension marker.
 use super::{LETTERS, permitted};
 use crate::assertions::assert_that;
-use asn1_bounds::{Extensible, PermittedAlphabet};
+use asn1_bounds::{Bounded, Extensible, PermittedAlphabet, Value};
 use std::alloc::Global;
 use std::process::Abort;
 
@@ -22,10 +22,21 @@ fn assert_common(
     assert_that(rt, both.extensible.is_none(), "no marker");
 }
 
-/// Asserts that the copy of the part has a marker.
+/// Asserts that the copy of the part is equal to it.
 fn assert_copy(rt: &impl Abort, alloc: Global, part: &Extensible<PermittedAlphabet>) {
     let copy = part.try_clone(alloc).expect(rt, "memory");
-    assert_that(rt, copy.extensible.is_some(), "the marker");
+    assert_that(rt, copy == *part, "the copy");
+}
+
+#[test]
+fn is_extensible_where_both_are(rt: HostRuntime) {
+    let value = Value::new(Bounded::Single(1));
+    let additions = [Value::new(Bounded::Single(2))];
+    let extensible = Extensible::new_extensible(value, &additions);
+    let fixed = Extensible::new(value);
+    assert_that(&rt, extensible.intersect(&fixed) == fixed, "one of them");
+    let both = extensible.intersect(&extensible);
+    assert_that(&rt, both == extensible, "both");
 }
 
 #[test]

@@ -10,4 +10,11 @@ fn has_no_length_in_common(rt: HostRuntime) {
         *both.bounded() == Bounded::const_new(1, 0),
         "no length",
     );
+    assert_that(&rt, !both.bounded().contains(&3), "not 3");
+}
+
+#[test]
+fn has_no_bound_by_default(rt: HostRuntime) {
+    let size = Size::default();
+    assert_that(&rt, *size.bounded() == Bounded::None, "no bound");
 }

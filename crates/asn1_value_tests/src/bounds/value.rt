@@ -11,4 +11,13 @@ fn has_no_value_in_common(rt: HostRuntime) {
         *both.bounded() == Bounded::const_new(1, -1),
         "no value",
     );
+    let octets = (both.get_sign(), both.get_range());
+    assert_that(&rt, octets == (false, None), "no octets");
+    let in_bytes = both.bounded().range_in_bytes();
+    assert_that(&rt, in_bytes == (false, None), "range_in_bytes");
+}
+
+#[test]
+fn is_signed_by_default(rt: HostRuntime) {
+    assert_that(&rt, Value::default().get_sign(), "the sign");
 }

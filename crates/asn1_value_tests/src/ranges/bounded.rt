@@ -1,7 +1,8 @@
 //! What bounds have in common, how many members they have, and how they print.
-use crate::assertions::{assert_that, assert_written};
+use crate::assertions::{assert_that, assert_written, number};
 use asn1_ranges::{Bounded, WholeNumber};
 use either::{Either, Left, Right};
+use std::alloc::Global;
 use std::process::Abort;
 
 const OPEN: Bounded<i128> = Bounded::Range {
@@ -77,6 +78,7 @@ const COMMON: &[(Bounded<i128>, Bounded<i128>, Option<Bounded<i128>>)] = &[
     (CLOSED, APART, None),
     (SINGLE, APART, None),
     (WITHOUT_MEMBERS, CLOSED, None),
+    (WITHOUT_MEMBERS, Bounded::Single(4), None),
     (WITHOUT_MEMBERS, Bounded::None, Some(WITHOUT_MEMBERS)),
 ];
 
@@ -136,6 +138,7 @@ fn counts_members(rt: HostRuntime) {
     assert_count(&rt, range(1, i128::MAX), Some(i128::MAX));
     assert_count(&rt, range(2, i128::MAX), Some(i128::MAX - 1));
     assert_count(&rt, Bounded::<usize>::new(0, 255), Some(256));
+    assert_count(&rt, FROM, None);
 }
 
 fn assert_value(rt: &impl Abort, found: Either<i128, i128>, wanted: Either<i128, i128>) {
@@ -145,9 +148,53 @@ fn assert_value(rt: &impl Abort, found: Either<i128, i128>, wanted: Either<i128,
 #[test]
 fn gives_effective_values(rt: HostRuntime) {
     assert_value(&rt, Bounded::new(5, 10).effective_value(7), Left(2));
+    assert_value(&rt, UP_TO.effective_value(7), Right(7));
     assert_value(&rt, Bounded::Single(5).effective_value(5), Right(5));
     let from_below_0 = Bounded::start_from(-1).effective_value(i128::MAX - 1);
     assert_value(&rt, from_below_0, Left(i128::MAX));
+}
+
+#[test]
+fn hands_out_what_is_given_for_a_number_outside(rt: HostRuntime) {
+    let outside = Bounded::<i128>::new(5, 10).contains_or(&11, 7u8);
+    assert_that(&rt, outside == Err(7), "outside");
+    let inside = Bounded::<i128>::new(5, 10).contains_or(&7, 7u8);
+    assert_that(&rt, inside == Ok(()), "inside");
+}
+
+fn assert_minimum(rt: &impl Abort, bound: Bounded<i128>, least: i128) {
+    assert_that(rt, bound.minimum() == least, "the minimum");
+}
+
+#[test]
+fn gives_minima(rt: HostRuntime) {
+    assert_minimum(&rt, UP_TO, 0);
+    assert_minimum(&rt, Bounded::start_from(5), 5);
+    assert_minimum(&rt, Bounded::None, 0);
+}
+
+// The magnitude of the number below the least `i128`.
+const TWO_TO_127_AND_1: [u8; 16] = [0x80, 0, 0, 0, 0, 0, 0, 0, 0, 0, 0, 0, 0, 0, 0, 1];
+
+/// Asserts whether the number below the least `i128` is in the bound.
+fn assert_below(rt: &impl Abort, alloc: Global, bound: Bounded<i128>, is_in: bool) {
+    let below = number(rt, alloc, true, &TWO_TO_127_AND_1);
+    assert_that(rt, bound.in_bound(&below) == is_in, "below an i128");
+}
+
+#[test]
+fn holds_numbers_beyond_its_own_type(rt: HostRuntime) {
+    let from_0 = Bounded::<i128>::start_from(0);
+    assert_that(&rt, from_0.in_bound(&u128::MAX), "the greatest u128");
+    assert_below(&rt, rt.alloc(), from_0, false);
+    assert_below(&rt, rt.alloc(), Bounded::up_to(0), true);
+}
+
+#[test]
+fn goes_by_kind_and_ends(rt: HostRuntime) {
+    let single = Bounded::<i128>::Single(0);
+    assert_that(&rt, Bounded::None < single, "no bound and a single");
+    assert_that(&rt, single < range(0, 0), "a single and a range");
 }
 
 fn assert_octets(rt: &impl Abort, bound: Bounded<i128>, is_signed: bool, octets: Option<u8>) {
@@ -155,13 +202,19 @@ fn assert_octets(rt: &impl Abort, bound: Bounded<i128>, is_signed: bool, octets:
     assert_that(rt, found == (is_signed, octets), "the octets");
 }
 
+const UP_TO_ONE: Bounded<i128> = Bounded::Range {
+    start: None,
+    end: Some(1),
+};
+
 // Bounds, whether their numbers are signed, and in how many octets they go.
 const OCTETS: &[(Bounded<i128>, bool, Option<u8>)] = &[
     (WITHOUT_MEMBERS, false, Some(1)),
     (Bounded::Single(-129), true, Some(2)),
     (Bounded::Single(-9_223_372_036_854_775_809), true, None),
     (Bounded::Single(18_446_744_073_709_551_615), false, Some(8)),
-    (UP_TO, true, None),
+    (Bounded::Single(18_446_744_073_709_551_616), false, None),
+    (UP_TO_ONE, true, None),
     (FROM, false, None),
     (Bounded::None, true, None),
 ];
@@ -174,8 +227,10 @@ fn gives_octets(rt: HostRuntime) {
 }
 
 // The least and the greatest number of each signed type, and in how many octets they go; then with one number more at either
-// end.
+// end. Before these a single number, and a range of none.
 const SIGNED: &[(i128, i128, Option<u8>)] = &[
+    (-1, -1, Some(1)),
+    (-1, -300, Some(2)),
     (-128, 127, Some(1)),
     (-129, 127, Some(2)),
     (-128, 128, Some(2)),
@@ -196,6 +251,7 @@ const SIGNED: &[(i128, i128, Option<u8>)] = &[
 
 // The same of each unsigned type, whose numbers begin at 0. With a number below 0 they are signed.
 const UNSIGNED: &[(i128, i128, Option<u8>)] = &[
+    (0, 0, Some(1)),
     (0, 255, Some(1)),
     (-1, 255, Some(2)),
     (0, 256, Some(2)),

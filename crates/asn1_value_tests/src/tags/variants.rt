@@ -5,18 +5,39 @@ use asn1_tags::{Class, Tag, TagTree, Variants, VariantsError};
 use std::alloc::{AllocError, Global};
 use std::process::Abort;
 
-/// Asserts that the list was made, and has this many tags.
-fn assert_made(rt: &impl Abort, made: Result<Variants, AllocError>, count: usize) {
+/// Asserts that the list was made and has these tags, and that a tag is found at this place in this many comparisons, which tell
+/// whether there is a table.
+fn assert_made(
+    rt: &impl Abort,
+    made: Result<Variants, AllocError>,
+    tags: &[Tag],
+    (tag, place, count): (Tag, usize, usize),
+) {
     let variants = made.expect(rt, "memory");
-    assert_that(rt, variants.as_slice().len() == count, "the tags");
+    assert_that(rt, variants.as_slice() == tags, "the tags");
+    assert_found(rt, &variants, tag, Some(place), count);
 }
+
+const A0: Tag = Tag {
+    class: Class::Application,
+    value: 0,
+};
+
+const C2: Tag = Tag {
+    class: Class::Context,
+    value: 2,
+};
+
+const A0_A0_C2: &[Tag] = &[A0, A0, C2];
 
 #[test]
 fn lists_of_tags_are_made(rt: HostRuntime) {
     let alloc = rt.alloc();
-    assert_made(&rt, Variants::new(alloc, A0_TWICE), 3);
-    assert_made(&rt, Variants::from_slice(alloc, A0_TWICE), 3);
-    assert_made(&rt, Variants::from_static(alloc, A0_TWICE), 3);
+    let last = (C2, 2, 3);
+    assert_made(&rt, Variants::new(alloc, A0_TWICE), A0_A0_C2, last);
+    assert_made(&rt, Variants::from_slice(alloc, A0_TWICE), A0_A0_C2, last);
+    assert_made(&rt, Variants::from_static(alloc, A0_TWICE), A0_A0_C2, last);
+    assert_found(&rt, &Variants::empty(alloc), U3, None, 0);
 }
 
 const C0: Tag = Tag {
@@ -77,6 +98,8 @@ const MISMATCHES: &[(&[(Tag, usize)], usize)] = &[
     (&[(U3, 1), (U3, 2)], 2),
     (&[(U3, 1), (U3, 2), (C0, 0), (C0, 0)], 3),
     (&[(U3, 2), (U3, 1), (C0, 0)], 1),
+    (&[(U3, 1), (U3, 1), (C0, 0)], 1),
+    (&[(U3, 1), (U3, 3), (C0, 0)], 1),
     (&[(U3, 0), (U3, 1), (C0, 2)], 0),
 ];
 
@@ -104,7 +127,9 @@ fn a_table_gives_the_first_place(rt: HostRuntime) {
     assert_found(&rt, &variants, Tag::BIT_STRING, Some(1), 2);
     assert_found(&rt, &variants, C0, Some(0), 2);
     assert_found(&rt, &variants, Tag::NULL, None, 2);
-    assert_made(&rt, variants.try_clone(rt.alloc()), 3);
+    assert_that(&rt, variants.position_of(&U3) == Some(1), "position_of");
+    let copy = variants.try_clone(rt.alloc());
+    assert_made(&rt, copy, &[C0, U3, U3], (C0, 0, 2));
 }
 
 #[test]
@@ -121,6 +146,8 @@ fn a_list_without_a_table_is_searched_from_the_left(rt: HostRuntime) {
     let variants = Variants::new(rt.alloc(), C0_U3_U3).expect(&rt, "memory");
     assert_found(&rt, &variants, Tag::BIT_STRING, Some(1), 2);
     assert_found(&rt, &variants, Tag::NULL, None, 3);
+    let copy = variants.try_clone(rt.alloc());
+    assert_made(&rt, copy, &[C0, U3, U3], (C0, 0, 1));
 }
 
 #[test]

@@ -16,6 +16,17 @@ fn is_refused(alloc: Global, text: &str, index: usize) -> bool {
     made.err() == Some(StringError::NotAllowed(AlphabetError(index)))
 }
 
+/// Whether no string is made of the units, for the unit with this index.
+fn is_refused_of(rt: &impl Abort, alloc: Global, units: &[u8], index: usize) -> bool {
+    let units = Vec::from_slice(alloc, units).expect(rt, "memory");
+    PrintableString::new(units).err() == Some(AlphabetError(index))
+}
+
+#[test]
+fn units_outside_the_alphabet_are_refused(rt: HostRuntime) {
+    assert_that(&rt, is_refused_of(&rt, rt.alloc(), b"A*", 1), "A*");
+}
+
 #[test]
 fn strings_are_made_of_texts(rt: HostRuntime) {
     assert_text(&rt, rt.alloc(), "Ann (1)");

@@ -1,6 +1,6 @@
 //! Whole numbers of any size.
 use crate::assertions::{assert_that, assert_written, number};
-use asn1_values::{Integer, IntegerType};
+use asn1_values::{ConstrainedInteger, Integer, IntegerType};
 use std::alloc::Global;
 use std::process::Abort;
 
@@ -22,6 +22,49 @@ fn gives_sign_and_magnitude_back(rt: HostRuntime) {
     magnitude[99] = 0xff;
     let wide = number(&rt, alloc, true, &magnitude);
     assert_magnitude(&rt, alloc, &wide, &magnitude[3..]);
+}
+
+/// Asserts which `i128` the number of this sign and magnitude is, if it is one.
+fn assert_i128(
+    rt: &impl Abort,
+    alloc: Global,
+    is_negative: bool,
+    magnitude: &[u8],
+    narrow: Option<i128>,
+) {
+    let wide = number(rt, alloc, is_negative, magnitude);
+    assert_that(rt, wide.to_i128() == narrow, "the i128");
+}
+
+/// Asserts that the number of this sign and magnitude is equal to that `i128`, and has its sign.
+fn assert_equal(rt: &impl Abort, alloc: Global, is_negative: bool, magnitude: &[u8], narrow: i128) {
+    let wide = number(rt, alloc, is_negative, magnitude);
+    assert_that(rt, wide == Integer::from_i128(narrow), "the number");
+    assert_that(rt, wide.is_negative() == (narrow < 0), "the sign");
+}
+
+#[test]
+fn one_number_has_one_form(rt: HostRuntime) {
+    let alloc = rt.alloc();
+    assert_equal(&rt, alloc, true, &TWO_TO_127, i128::MIN);
+    assert_equal(&rt, alloc, true, &[0, 0], 0);
+    assert_i128(&rt, alloc, true, &TWO_TO_127, Some(i128::MIN));
+    assert_i128(&rt, alloc, false, &TWO_TO_127, None);
+}
+
+/// Whether there is no number from 1 to 10 of that value.
+fn is_out_of_limits(number: i128) -> bool {
+    ConstrainedInteger::<1, 10>::new(Integer::from_i128(number)).is_none()
+}
+
+#[test]
+fn numbers_out_of_range_are_refused(rt: HostRuntime) {
+    let of_256 = u8::try_from_integer(Integer::from_i128(256));
+    assert_that(&rt, of_256.is_none(), "256");
+    let of_255 = u8::try_from_integer(Integer::from_i128(255));
+    assert_that(&rt, of_255 == Some(255), "255");
+    assert_that(&rt, is_out_of_limits(11), "11");
+    assert_that(&rt, !is_out_of_limits(10), "10");
 }
 
 /// Asserts how the number of this sign and magnitude is written.
