@@ -1,5 +1,5 @@
 -- What a buffer says of itself, and what a call of it does.
-use Rattle.std.specs.Prelude.{◌≡◌, ◌≢◌, ℕ, List, [], ◌∷◌, MatchResult, Result, Some}
+use Rattle.std.specs.Prelude.{◌≡◌, ◌≢◌, ℕ, List, [], ◌∷◌, MatchResult, OnOk, Result, Some}
 use Rattle.asn1_buffers.specs.declared.error.WriteError.{WriteError}
 use Rattle.asn1_buffers.specs.declared.error.WriteError.TheVariants.{Memory}
 use Rattle.asn1_codec.specs.Writing.{Written, followed_by, in_group, in_scope}
@@ -35,6 +35,11 @@ module _ {B : Type 0} (F : BufferForm B) where
   abbrev pub EndsScope : {A : Type 0} → B → B → Result A WriteError → Type 0
   EndsScope old new result = (h : Head) (rs : List Record) (w : Written) → F.wrote old (in_scope h rs w) →
       MatchResult result (λ _. ScopeIsHeld h rs w new) (λ e. e ≢ Memory → F.rejects (holding h rs ∷ []))
+
+  -- the same of a buffer that leaves what is in a scope in the order in which it was written, inside sets too
+  abbrev pub EndsScopeInOrder : {A : Type 0} → B → B → Result A WriteError → Type 0
+  EndsScopeInOrder old new result = (h : Head) (rs : List Record) (w : Written) → F.wrote old (in_scope h rs w) →
+      OnOk result (F.wrote new (followed_by w (holding h rs ∷ [])))
 
   -- a call that begins a group of additions
   abbrev pub BeginsGroup : {A : Type 0} → B → Table Line → B → Result A WriteError → Type 0

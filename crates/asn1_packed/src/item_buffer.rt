@@ -25,6 +25,7 @@ pub struct ItemBuffer<P> {
 }
 
 impl<P: Presence> RecordBuffer for ItemBuffer<P> {
+    ghost use Rattle.asn1_buffers.specs.Buffers.{EndsScope, EndsScopeInOrder};
     ghost use Rattle.asn1_packed.specs.Written.{rejects_by_parts, written_items};
 
     ghost form = { written_items P.mark_bytes };
@@ -77,8 +78,13 @@ impl<P: Presence> RecordBuffer for ItemBuffer<P> {
         }
     }
 
+    // The items of a SET, and the elements of a SET OF, stay in the order in which they were written (`in_order`).
     #[inline(always)]
-    fn end_scope(&mut self) -> Result<(), WriteError> {
+    fn end_scope(&mut self) -> Result<(), WriteError>
+        ensures ended { EndsScope (written_items P.mark_bytes) self.old self.new result }
+        ensures in_order { EndsScopeInOrder (written_items P.mark_bytes)
+            self.old self.new result }
+    {
         match self.items.close_scope() {
             Ok(()) => Ok(()),
             Err(error) => Err(told(error)),

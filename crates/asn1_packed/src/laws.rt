@@ -3,8 +3,8 @@ ghost use Rattle.asn1_bounds.specs.declared.codec.Codec.TheVariants.{Other};
 ghost use Rattle.asn1_codec.specs.Reading.{Remaining};
 ghost use Rattle.asn1_codec.specs.Writing.{Written};
 ghost use Rattle.asn1_items.specs.Headers.{is_one_item};
-ghost use Rattle.asn1_items.specs.Items.{packed_marks};
-ghost use Rattle.asn1_model.specs.Records.{PresenceMark, Record};
+ghost use Rattle.asn1_items.specs.Items.{HaveBytes, SomeTooLong, packed_marks, written_with};
+ghost use Rattle.asn1_model.specs.Records.{PresenceMark, Record, held};
 ghost use Rattle.asn1_packed.specs.Decoder.{Remains};
 ghost use Rattle.asn1_packed.specs.Written.{item_writer};
 ghost use Rattle.std.specs.Prelude.{◌≡◌, ◌↔◌, List, ℕ};
@@ -13,7 +13,9 @@ use crate::decoder::ItemDecoder;
 use crate::item_buffer::ItemBuffer;
 use crate::marks::PresenceMarks;
 use crate::presence::Presence;
-use asn1_buffers::BufferEncoder;
+use crate::{PackedDecoder, PackedEncoder};
+use asn1_bounds::Codec;
+use asn1_buffers::{BufferEncoder, RecordBuffer};
 use asn1_dec::Decoder;
 use asn1_enc::Encoder;
 
@@ -26,6 +28,28 @@ pub fn the_encoder_writes_items<P: Presence>(encoder: &BufferEncoder<ItemBuffer<
         ⟦<BufferEncoder<ItemBuffer<P>> as Encoder>⟧.writer.rejects rs ↔
         (item_writer {P = P} P.mark_bytes).rejects rs }
 {}
+
+/// A law of the buffer: bytes are those of records if and only if they are the bytes of their items (`have_bytes`), and the
+/// records are not taken of which one is too long, at whatever depth (`rejects`). The name of the codec is that of its way to
+/// tell what may be absent (`codec`).
+pub fn the_buffer_has_the_bytes_of_items<P: Presence>()
+    ensures have_bytes { (rs : List Record) (bytes : List ℕ) →
+        ⟦<ItemBuffer<P> as RecordBuffer>⟧.form.have_bytes rs bytes ↔
+        HaveBytes (written_with P.mark_bytes) (held rs) bytes }
+    ensures rejects { (rs : List Record) → ⟦<ItemBuffer<P> as RecordBuffer>⟧.form.rejects rs ↔
+        SomeTooLong (written_with P.mark_bytes) (held rs) }
+    ensures codec { ⟦<ItemBuffer<P> as RecordBuffer>⟧.own_codec ≡ P.own_codec }
+{}
+
+/// A law of the packed codec: its encoder and its decoder both have the name `Other(0)`.
+pub fn packed_codecs_have_one_name(
+    encoder: &PackedEncoder,
+    decoder: &PackedDecoder<'_>,
+) -> (Codec, Codec)
+    ensures { result ≡ (Other 0, Other 0) }
+{
+    (encoder.codec(), decoder.codec())
+}
 
 /// A law of the decoder: what types see that remains (`remains`), and that it takes one item as one value of an open type
 /// (`accepts`).

@@ -1,5 +1,5 @@
 -- What a codec as a whole says of itself, and what writing and reading a value answer.
-use Rattle.std.specs.Prelude.{◌≡◌, ◌≢◌, ◌⊎◌, ℕ, ◌≤◌, ◌<◌, Bool, true, List, [], ◌∷◌, ◌++◌, IsErr, MatchResult, Result}
+use Rattle.std.specs.Prelude.{◌≡◌, ◌≢◌, ◌⊎◌, ℕ, ◌≤◌, ◌<◌, Bool, true, false, List, [], ◌∷◌, ◌++◌, IsErr, MatchResult, Result}
 use Rattle.asn1_codec.specs.Writing.{IsRejection}
 use Rattle.asn1_codec.specs.declared.encode_error.EncodeError.{EncodeError}
 use Rattle.asn1_codec.specs.declared.encode_error.EncodeError.TheVariants as writing
@@ -8,7 +8,7 @@ use Rattle.asn1_codec.specs.Reading.{MayFail}
 use Rattle.asn1_codec.specs.Refusals.{Refusals}
 use Rattle.asn1_model.specs.Meaning.{Meaning, IsWellTagged, own_records}
 use Rattle.asn1_model.specs.Orders.{SameRecords}
-use Rattle.asn1_model.specs.Records.{Record, Head, highest, holding}
+use Rattle.asn1_model.specs.Records.{Record, Head, highest, holding, presence_marks_alone}
 use Rattle.asn1_model.specs.WellFormed.{AreWellFormed}
 
 -- What the outputs of a codec are: which records an output carries, which records may be refused, and which byte strings are
@@ -77,3 +77,10 @@ module _ {V : Type 0} (accepts : List ℕ → Bool) (Carried : List Record → T
   RefusesMore result =
       (v : V) (r : Record) (rest : List Record) → IsWellTagged m → m.IsOfType v → m.IsValid accepts v →
       AreWellFormed accepts (r ∷ rest) → Carried (own_records m v ++ r ∷ rest) → IsErr result
+
+  -- The same of a codec whose presence marks may have no bytes: where the records that follow are not presence marks alone, the
+  -- answer is an error.
+  abbrev pub RefusesTrailingRecords : Result V DecodeError → Type 0
+  RefusesTrailingRecords result =
+      (v : V) (rest : List Record) → IsWellTagged m → m.IsOfType v → m.IsValid accepts v → AreWellFormed accepts rest →
+      presence_marks_alone rest ≡ false → Carried (own_records m v ++ rest) → IsErr result

@@ -8,7 +8,7 @@ use asn1_enc::{Encode, EncodeError};
 /// The rules by which values become outputs and outputs are read: a codec as a whole.
 ///
 /// An output carries lists of records. What `write_value` gives carries the value's own records, and of an output that carries
-/// the own records of a valid value of a well-tagged type `read_value` makes an equal value. Well-formed records that a type refuses
+/// the own records of a valid value of a well-tagged type, which meets the type's invariant, `read_value` makes an equal value. Well-formed records that a type refuses
 /// by an error of its own, `read_value` refuses by that error.
 ///
 /// # Depth
@@ -35,8 +35,8 @@ pub trait Rules {
     /// Reads a value, with at most this many nested scopes.
     ///
     /// # Errors
-    /// Where the output carries the own records of a valid value of a well-tagged type, [`DecodeError::Depth`] only where these
-    /// are nested deeper than the depth, and else [`DecodeError::Memory`]. Where it carries well-formed records that the type refuses, the error of
+    /// Where the output carries the own records of a valid value of a well-tagged type, which meets the type's invariant,
+    /// [`DecodeError::Depth`] only where these are nested deeper than the depth, and else [`DecodeError::Memory`]. Where it carries well-formed records that the type refuses, the error of
     /// the type, or one of these two in the same way. About other outputs nothing is promised.
     fn read_value<T: Decode>(&self, output: &Self::Output, depth: usize) -> Result<T, DecodeError>
         ensures read { ReadsCarried format.accepts (format.carries output.now) T.meaning T.eq depth
