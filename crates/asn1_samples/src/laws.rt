@@ -30,7 +30,7 @@ use crate::settings::Settings;
 use crate::shape::Shape;
 use crate::ticket::Ticket;
 use crate::visit::Visit;
-use asn1_types::{AsnType, Choice, Enumerated, FieldTable};
+use asn1_types::{AsnType, Choice, EnumeratedItems, FieldTable};
 pub use records::{
     alternatives_and_items_have_their_records, pairs_have_their_records,
     sequences_have_their_records, sets_have_their_records,
