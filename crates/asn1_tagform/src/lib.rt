@@ -15,7 +15,9 @@
 //!
 //! - [`TagRules`] keep the laws of every codec (`Rules` of `asn1_rules`), so that what is written is read back equal. Their format
 //!   is `tag_format` of `specs/Format.antt`: bytes carry the records whose items they are, up to the order inside sets
-//!   (`CarriesWith` of `asn1_packed`, with `no_marks` of `specs/Next.antt`). Records are rejected that are too long, and no others.
+//!   (`CarriesWith` of `asn1_packed`, with `no_marks` of `specs/Next.antt`). Records are rejected that are too long, and no others
+//!   ([`laws::the_tag_form_has_its_bytes`]).
+//! - Trailing records are refused, if they are not presence marks alone, which have no bytes here (`none_left` of `read_value`).
 //! - About bytes that no value gave nothing is promised; tests try such bytes. The errors are those of the packed form.
 #![tactic(auto)]
 

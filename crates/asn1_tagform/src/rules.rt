@@ -33,6 +33,7 @@ impl TagRules {
 }
 
 impl Rules for TagRules {
+    ghost use Rattle.asn1_rules.specs.Rules.{ReadsCarried, RefusesCarried, RefusesTrailingRecords};
     ghost use Rattle.asn1_tagform.specs.Format.{tag_format, tag_form_is_lawful};
 
     type Output = Vec<u8>;
@@ -43,7 +44,14 @@ impl Rules for TagRules {
         write_whole::<ItemBuffer<NextItem>, T>(self.alloc, value, depth)
     }
 
-    fn read_value<T: Decode>(&self, output: &Vec<u8>, depth: usize) -> Result<T, DecodeError> {
+    fn read_value<T: Decode>(&self, output: &Vec<u8>, depth: usize) -> Result<T, DecodeError>
+        ensures read { ReadsCarried tag_format.accepts (tag_format.carries output.now)
+            T.meaning T.eq depth result }
+        ensures refuses { RefusesCarried tag_format.accepts (tag_format.carries output.now)
+            T.meaning T.refusals depth result }
+        ensures none_left { RefusesTrailingRecords tag_format.accepts
+            (tag_format.carries output.now) T.meaning result }
+    {
         let decoder = ItemDecoder::<NextItem>::new(self.alloc, output.as_slice(), depth);
         read_whole(decoder)
     }

@@ -1,6 +1,10 @@
+use Rattle.std.proofs.Common.{◌++◌}
 use Rattle.asn1_items.specs.Headers.{is_one_item}
 use Rattle.asn1_model.specs.Meaning.{own_records}
+use Rattle.asn1_model.specs.WellFormed.{well_formed_append}
+use Rattle.asn1_packed.proofs.Remaining.{is_form}
 use Rattle.asn1_packed.specs.Carried.{CarriesWith}
+use Rattle.asn1_scopes.proofs.Remaining.{records_are_not_the_end}
 use Rattle.asn1_tagform.specs.Next.{no_marks}
 use Rattle.asn1_tagform.proofs.rules.TagRulesRules.read_value.Goals as goal
 
@@ -15,3 +19,12 @@ pub returns-clause-refuses : goal.returns-clause-refuses
 returns-clause-refuses g c = λ rs error refused well carries.
     let carried : CarriesWith no_marks c.as_slice.result.now rs = rw c.as_slice.ensures.value carries in
     rw (← c.new-decoder.ensures.depth_left) (c.read_whole.ensures.refuses rs error refused (c.new-decoder.ensures.before rs carried well))
+
+pub returns-clause-none_left : goal.returns-clause-none_left
+returns-clause-none_left g c = λ v rest can of_type valid well some carries.
+    let m = g.T.AsnType.meaning in
+    let rs = own_records m v ++ rest in
+    let carried : CarriesWith no_marks c.as_slice.result.now rs = rw c.as_slice.ensures.value carries in
+    let own = m.well_formed (λ own. is_one_item own) v m.tag m.constraints m.name valid in
+    let both = well_formed_append (λ own. is_one_item own) (own_records m v) rest own well in
+    c.read_whole.ensures.none_left v rest can of_type valid (c.new-decoder.ensures.before rs carried both) (λ d. records_are_not_the_end (is_form no_marks) (λ d. d.scopes) d rest some)
