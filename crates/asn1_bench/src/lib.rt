@@ -5,6 +5,8 @@
 //! |---|---|
 //! | [`BenchRules`] | the rules of the codec: values become bytes, and are read from them |
 //! | [`BenchReader`] | reads values one after another from the front of bytes |
+//! | [`ByteReader`] | a reader whose values are single bytes, for runs of streams without a codec |
+//! | [`NoRules`] | rules that write and read nothing, for runs in which a value is refused |
 //! | [`laws`] | what the codec and its reader come to |
 //!
 //! `asn1_items` has the bytes of items, and `asn1_packed` the encoder and the decoder; the tests are in `asn1_bench_tests`. What
@@ -17,14 +19,19 @@
 //!   open type is one item (`is_one_item` of `asn1_items`).
 //! - The records that are rejected are those with 2^32 bytes or more inside an item (`rejects` of [`laws`]), which never have an
 //!   output (`what_is_too_long_has_no_output`). So a value that is not written is too deep or too long, or memory was short.
-//! - A reader finds the item with which an input begins, and reads that as a whole (`IsFrontOf` of `specs/Fronts.antt`). It is
-//!   steady (`steady` of [`laws`]) and, for each type that can be inside others, belongs to the rules (`belongs`): so values
+//! - A reader finds the item with which an input begins, and reads that as a whole (`IsFrontOf` of `specs/Fronts.antt`). The bytes of
+//!   one value are one whole item, no more and no less (`cut` of [`laws`]), and it opens as many scopes as it was made with (`depth`).
+//!   It is steady (`steady` of [`laws`]) and, for each type that can be inside others, belongs to the rules (`belongs`): so values
 //!   that were written one after another come back in their order, however their bytes are cut.
 #![tactic(auto)]
 
+mod byte_reader;
 pub mod laws;
+mod no_rules;
 mod reader;
 mod rules;
 
+pub use byte_reader::ByteReader;
+pub use no_rules::NoRules;
 pub use reader::BenchReader;
 pub use rules::BenchRules;
