@@ -6,7 +6,9 @@ ghost use Rattle.asn1_types.specs.Words.{IsWellTagged, constructed_agrees, const
 
 use asn1_dec::{Decode, DecodeError, Decoder};
 use asn1_enc::{Encode, EncodeError, EncodeFields, Encoder};
-use asn1_slots::{DecodeByPlace, Decoded, Tagging, decode_sequence_by_place, filled, required};
+use asn1_slots::{
+    DecodeByPlace, Decoded, Tagging, decode_sequence_naming_errors, filled, required,
+};
 use asn1_types::{
     AsnType, Constraints, ConstructedType, Field, FieldTable, Identifier, Tag, TypeTable,
 };
@@ -118,6 +120,6 @@ impl Decode for AttributeValueAssertion {
         tag: Tag,
         _constraints: &Constraints<'_>,
     ) -> Result<AttributeValueAssertion, DecodeError> {
-        decode_sequence_by_place(decoder, tag)
+        decode_sequence_naming_errors(decoder, tag)
     }
 }

@@ -15,7 +15,7 @@ ghost use Rattle.asn1_types.specs.Words.{IsWellTagged, constructed_agrees, const
 use asn1_dec::{Decode, DecodeError, Decoder};
 use asn1_enc::{Encode, EncodeError, EncodeFields, Encoder};
 use asn1_slots::{
-    DecodeByPlace, Decoded, Tagging, decode_sequence_by_place, filled, optional, or_default,
+    DecodeByPlace, Decoded, Tagging, decode_sequence_naming_errors, filled, optional, or_default,
     required,
 };
 use asn1_types::{
@@ -179,6 +179,6 @@ impl Decode for MatchingRuleAssertion {
         tag: Tag,
         _constraints: &Constraints<'_>,
     ) -> Result<MatchingRuleAssertion, DecodeError> {
-        decode_sequence_by_place(decoder, tag)
+        decode_sequence_naming_errors(decoder, tag)
     }
 }

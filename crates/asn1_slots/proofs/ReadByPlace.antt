@@ -5,10 +5,9 @@ use Rattle.asn1_components.specs.ComponentLists.{CanBeInSequence, EachIsOfType, 
 use Rattle.asn1_components.specs.ComponentTypes.{ComponentType}
 use Rattle.asn1_components.specs.Following.{EndsApart, records_then}
 use Rattle.std.specs.Prelude.{MatchResult}
-use Rattle.asn1_codec.specs.declared.decode_error.DecodeError.TheVariants.{Memory}
 use Rattle.asn1_model.specs.Records.{Record, highest}
 use Rattle.asn1_codec.specs.declared.decode_error.DecodeError.{DecodeError}
-use Rattle.asn1_codec.specs.Reading.{HasAdvanced, MayFail, Outside, Reader, ReadsBack}
+use Rattle.asn1_codec.specs.Reading.{HasAdvanced, MayFail, Outside, Reader, ReadsBack, Remaining}
 use Rattle.asn1_codec.proofs.ReadingComponents.{ComponentsRead, begin, step, stops, through}
 
 reads_as : {D V : Type 0} (A : Type 0) (R : Reader D) (c d : ComponentType V) (holds : V → Bool) (old new : D) (result : Result A DecodeError) → SameComponent c d →
@@ -75,9 +74,10 @@ module _ {D S V : Type 0} (R : Reader D) (cs : List (ComponentType V)) (ds : Lis
       pub not_read : (e : DecodeError) → ReadsAt {A = A} R ds place now then new (Err e) → MayFail (R.depth_left began) (highest (all_records cs v)) e
       not_read e reads = stops_at A R began now then new v (highest (all_records cs v)) rest outer e cs ds all place low upto.part reads
 
-    pub all_read : (eq : V → V → Bool) (now : D) (s : S) (place : ℕ) (result : Result V DecodeError) → length cs ≡ place → ReadUpTo place began now s v rest outer → MakesValueOfSlots ds eq s result →
-        MatchResult result (λ w. HasAdvanced R began now (highest (all_records cs v)) (rest, outer) (eq w v ≡ true)) (MayFail (R.depth_left began) (highest (all_records cs v)))
-    all_read eq now s place result end upto makes = answered result (makes v (subst (λ n. HoldBefore ds n s v) (sym end ∙ same_length cs ds all) upto.hold))
+    pub all_read : (now : D) (s : S) (place : ℕ) → length cs ≡ place → ReadUpTo place began now s v rest outer →
+        HasAdvanced R began now (highest (all_records cs v)) (rest, outer) (HoldBefore ds (length ds) s v)
+    all_read now s place end upto =
+        through (none_left cs place (omega (arith, end)) upto.part) (subst (λ n. HoldBefore ds n s v) (sym end ∙ same_length cs ds all) upto.hold)
       where
         none_left : (ds : List (ComponentType V)) (k : ℕ) → length ds ≤ k → ComponentsRead R began now (drop k ds) v (highest (all_records cs v)) rest outer → ComponentsRead R began now [] v (highest (all_records cs v)) rest outer
         none_left [] zero past part = part
@@ -85,7 +85,9 @@ module _ {D S V : Type 0} (R : Reader D) (cs : List (ComponentType V)) (ds : Lis
         none_left (d ∷ ds) zero past part = absurd (omega (arith, past))
         none_left (d ∷ ds) (suc k) past part = none_left ds k (omega (arith, past)) part
 
-        answered : (result : Result V DecodeError) → MatchResult result (λ w. eq w v ≡ true) (λ e. e ≡ Memory) →
-            MatchResult result (λ w. HasAdvanced R began now (highest (all_records cs v)) (rest, outer) (eq w v ≡ true)) (MayFail (R.depth_left began) (highest (all_records cs v)))
-        answered (Ok w) made = through (none_left cs place (omega (arith, end)) upto.part) made
-        answered (Err e) made = inl made
+-- Of the slots that were read a value is made.
+pub made : {D S V : Type 0} (R : Reader D) (ds : List (Slot S V)) (eq : V → V → Bool) (v : V) (old new : D) (height : ℕ) (after : Remaining) (s : S) (result : Result V DecodeError) →
+    HasAdvanced R old new height after (HoldBefore ds (length ds) s v) → MakesValueOfSlots ds eq s result →
+    MatchResult result (λ w. HasAdvanced R old new height after (eq w v ≡ true)) (MayFail (R.depth_left old) height)
+made R ds eq v old new height after s (Ok w) moved makes = record { answer = makes v moved.answer; at = moved.at; within_depth_left = moved.within_depth_left }
+made R ds eq v old new height after s (Err e) moved makes = inl (makes v moved.answer)

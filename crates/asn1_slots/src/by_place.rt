@@ -2,10 +2,11 @@
 ghost use Rattle.asn1_codec.specs.DecodeErrors.{lacks_name, reason};
 ghost use Rattle.asn1_codec.specs.Reading.{KeepsDepth, NeedsDepth, ReadsValue};
 ghost use Rattle.asn1_codec.specs.ReadingTypes.{ReadsComponents, ReadsFields};
-ghost use Rattle.asn1_components.specs.Components.{is_sequence};
+ghost use Rattle.asn1_components.specs.Components.{is_sequence, table};
 ghost use Rattle.asn1_model.specs.ConstraintSets.{ConstraintSet};
+ghost use Rattle.asn1_slots.specs.ReadSlots.{ReadsSlots};
 ghost use Rattle.asn1_slots.specs.Slots.{HoldBefore, IsLayoutOf, IsOfSlots, MakesValueOfSlots, ReadsAt, RefusesMissing, Slot};
-ghost use Rattle.std.specs.Prelude.{◌≡◌, IfErr, List, OnOk, true};
+ghost use Rattle.std.specs.Prelude.{◌≡◌, ◌<◌, IfErr, List, OnOk, length, true};
 
 use crate::calls::Decoded;
 use crate::errors::in_component;
@@ -40,11 +41,58 @@ pub trait DecodeByPlace: Eq + Sized + Drop {
             D.reader.depth_left decoder.old) };
 }
 
-/// Reads all components: what [`asn1_dec::DecodeFields::decode_fields`] of a group of additions calls, where the layout is that of
-/// its components (`read`). A success leaves the depth as it was (`same_depth`). An error of a component is answered with its name
-/// ([`DecodeError::in_field`]); one that lacks a name is one of [`DecodeByPlace::from_slots`] (`named`).
+/// A component that was not read.
+#[derive(Drop)]
+struct NotRead {
+    /// The place of the component.
+    place: usize,
+    /// Its error, as it is.
+    error: DecodeError,
+}
+
+/// The slots of all components, which are read one after another.
+#[inline(always)]
+fn read_slots<C: DecodeByPlace + FieldTable, D: Decoder>(
+    decoder: &mut D,
+) -> Result<C::Slots, NotRead>
+    ensures read { IsLayoutOf C.components C.layout →
+        ReadsSlots D.reader C.components C.layout decoder.old decoder.new result }
+    ensures same_depth { OnOk result (D.reader.depth_left decoder.new ≡
+        D.reader.depth_left decoder.old) }
+    ensures in_table { IfErr result (λ failure. failure.place < length (table C.components)) }
+{
+    let mut slots = C::Slots::default();
+    for place in 0..C::field_count() {
+        match C::decode_field(place, &mut slots, decoder) {
+            Ok(()) => {}
+            Err(error) => return Err(NotRead { place, error }),
+        }
+    }
+    Ok(slots)
+}
+
+/// Reads all components, with errors as they are: what [`asn1_dec::DecodeFields::decode_fields`] of a SEQUENCE or a group of
+/// additions calls, where the layout is that of its components (`read`). A success leaves the depth as it was (`same_depth`). An
+/// error of a component is answered as its call answers it, without a name; that it is the same is tested.
 #[inline(always)]
 pub fn decode_fields_by_place<C: DecodeByPlace + FieldTable, D: Decoder>(
+    decoder: &mut D,
+) -> Result<C, DecodeError>
+    ensures read { IsLayoutOf C.components C.layout →
+        ReadsFields D.reader C.components C.eq decoder.old decoder.new result }
+    ensures same_depth { OnOk result (D.reader.depth_left decoder.new ≡
+        D.reader.depth_left decoder.old) }
+{
+    match read_slots::<C, D>(decoder) {
+        Ok(slots) => C::from_slots(decoder.global(), slots),
+        Err(failure) => Err(failure.error),
+    }
+}
+
+/// Reads all components as [`decode_fields_by_place`] does, but an error of a component is answered with its name
+/// ([`DecodeError::in_field`]); one that lacks a name is one of [`DecodeByPlace::from_slots`] (`named`).
+#[inline(always)]
+pub fn decode_fields_naming_errors<C: DecodeByPlace + FieldTable, D: Decoder>(
     decoder: &mut D,
 ) -> Result<C, DecodeError>
     ensures read { IsLayoutOf C.components C.layout →
@@ -54,14 +102,10 @@ pub fn decode_fields_by_place<C: DecodeByPlace + FieldTable, D: Decoder>(
     ensures named { IfErr result (λ error. lacks_name (reason error) ≡ true →
         IsOfSlots C.layout C.eq error) }
 {
-    let mut slots = C::Slots::default();
-    for place in 0..C::field_count() {
-        match C::decode_field(place, &mut slots, decoder) {
-            Ok(()) => {}
-            Err(error) => return Err(in_component::<C>(place, error)),
-        }
+    match read_slots::<C, D>(decoder) {
+        Ok(slots) => C::from_slots(decoder.global(), slots),
+        Err(failure) => Err(in_component::<C>(failure.place, failure.error)),
     }
-    C::from_slots(decoder.global(), slots)
 }
 
 /// A SEQUENCE under a tag.
@@ -76,7 +120,7 @@ fn read_sequence<S: DecodeByPlace + FieldTable, D: Decoder>(
     ensures keeps_depth { KeepsDepth D.reader decoder.old decoder.new result }
 {
     decoder.open_sequence::<S>(tag)?;
-    let value = match decode_fields_by_place(decoder) {
+    let value = match decode_fields_naming_errors(decoder) {
         Ok(value) => value,
         Err(error) => return Err(decoder.refuse(error)),
     };
@@ -84,16 +128,18 @@ fn read_sequence<S: DecodeByPlace + FieldTable, D: Decoder>(
     Ok(value)
 }
 
-/// Reads a SEQUENCE, by its components, one after another. Where the layout is that of the type's components it reads these under
-/// the tag (`components`), and of a type that is a SEQUENCE a value of the type, under whatever constraints (`as_meant`). Where no
-/// depth is left the error is [`DecodeError::Depth`], before anything but that the decoder has failed (`depth_first`). An error
-/// makes the decoder failed, one that had failed answers so, and a success keeps the depth left (`keeps_depth`).
+/// Reads a SEQUENCE, by its components, one after another, and answers an error of a component with its name. Where the layout is
+/// that of the type's components it reads these under the tag (`components`), and of a type that is a SEQUENCE a value of the
+/// type, under whatever constraints (`as_meant`). Where no depth is left the error is [`DecodeError::Depth`], before anything but
+/// that the decoder has failed (`depth_first`). An error makes the decoder failed, one that had failed answers so, and a success
+/// keeps the depth left (`keeps_depth`). A type whose errors are to be as they are has `decode_fields` of [`asn1_dec::DecodeFields`]
+/// in its place, which calls [`decode_fields_by_place`], and is read by [`Decoder::decode_sequence`].
 ///
 /// Which name an error has is said of the calls that it rests on: an error of a component is answered with the component's name,
-/// so that one without a name is an error of [`DecodeByPlace::from_slots`] (`named` of [`decode_fields_by_place`]); and of missing
-/// components the first is named (`missing` of [`DecodeByPlace::from_slots`]).
+/// so that one without a name is an error of [`DecodeByPlace::from_slots`] (`named` of [`decode_fields_naming_errors`]); and of
+/// missing components the first is named (`missing` of [`DecodeByPlace::from_slots`]).
 #[inline(always)]
-pub fn decode_sequence_by_place<S: DecodeByPlace + ConstructedType, D: Decoder>(
+pub fn decode_sequence_naming_errors<S: DecodeByPlace + ConstructedType, D: Decoder>(
     decoder: &mut D,
     tag: Tag,
 ) -> Result<S, DecodeError>

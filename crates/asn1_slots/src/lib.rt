@@ -13,8 +13,9 @@
 //! | Item | What it is |
 //! |---|---|
 //! | [`DecodeByPlace`] | a SEQUENCE or a group of additions: its slots, and how its components are read into them |
-//! | [`decode_sequence_by_place`], [`decode_fields_by_place`] | read a SEQUENCE, and the components of a group |
-//! | [`DecodeSetByPlace`], [`decode_set_by_place`] | the same of a SET, whose components come in any order |
+//! | [`decode_fields_by_place`] | reads the components of a SEQUENCE or a group, with errors as they are |
+//! | [`decode_fields_naming_errors`], [`decode_sequence_naming_errors`] | the same with the name of the component in its error, and a SEQUENCE under a tag |
+//! | [`DecodeSetByPlace`], [`decode_set_by_place`] | the same of a SET, whose components come in any order, and whose errors have their names |
 //! | [`required`], [`optional`], [`addition`], [`group`], [`once`] | the calls that read a component into its slot, which answer [`Decoded`] |
 //! | [`required_with_constraints`], [`optional_with_constraints`], [`addition_with_constraints`], [`once_with_constraints`] | the same under constraints of the component's own |
 //! | [`filled`], [`or_default`], [`or_empty`] | what is in a slot |
@@ -36,9 +37,10 @@
 //! - At each place of a type its call has to promise that (`ReadsAt`, `ReadsOnceAt`), and to leave what other slots hold (`kept`).
 //! - Of slots that hold what a value has an equal value is made (`MakesValueOfSlots`). Where a component is missing that is always
 //!   there, the error says which is the first (`RefusesMissing`).
-//! - An error of a component has a component's name, unless it is about more than the component (`named` of
-//!   [`decode_fields_by_place`], [`once`] and [`once_with_constraints`]). That the name is that of this component is tested.
-//! - So [`decode_fields_by_place`] reads a group as `decode_fields` of `asn1_dec` has to, and [`decode_sequence_by_place`] and
+//! - A type chooses whether errors name its components. By [`decode_fields_by_place`] an error of a component is as it is, which is
+//!   tested. By the calls that name errors it has a component's name, unless it is about more than the component (`named` of
+//!   [`decode_fields_naming_errors`], [`once`] and [`once_with_constraints`]). That the name is that of this component is tested.
+//! - Both read the components as `decode_fields` of `asn1_dec` has to, and [`decode_sequence_naming_errors`] and
 //!   [`decode_set_by_place`] read a SEQUENCE and a SET as `decode_sequence` and `decode_set` of `Decoder` do, where the layout is
 //!   that of the type's components (`IsLayoutOf`), which the check finds.
 //! - An alternative and its variant are a `Case` (`specs/Cases.antt`), made by `variant`; of the list of these are made the
@@ -64,7 +66,10 @@ mod slot_values;
 mod tagged;
 mod tagging;
 
-pub use by_place::{DecodeByPlace, decode_fields_by_place, decode_sequence_by_place};
+pub use by_place::{
+    DecodeByPlace, decode_fields_by_place, decode_fields_naming_errors,
+    decode_sequence_naming_errors,
+};
 pub use calls::{Decoded, addition, group, once, optional, required};
 pub use cases::{alternative, alternative_with_constraints};
 pub use choice_by_place::{DecodeChoiceByPlace, from_tag_by_place, from_tag_by_table};

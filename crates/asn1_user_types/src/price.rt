@@ -6,7 +6,7 @@ use crate::currency::Currency;
 use asn1_schema::{
     AsnType, Constraints, ConstructedType, Decode, DecodeByPlace, DecodeError, Decoded, Decoder,
     Encode, EncodeError, EncodeFields, Encoder, Field, FieldTable, Identifier, Tag, Tagging,
-    TypeTable, decode_sequence_by_place, filled, required,
+    TypeTable, decode_sequence_naming_errors, filled, required,
 };
 use std::alloc::Global;
 
@@ -110,6 +110,6 @@ impl Decode for Price {
         tag: Tag,
         _constraints: &Constraints<'_>,
     ) -> Result<Price, DecodeError> {
-        decode_sequence_by_place(decoder, tag)
+        decode_sequence_naming_errors(decoder, tag)
     }
 }

@@ -7,8 +7,8 @@ use crate::payment::Payment;
 use asn1_schema::{
     AsnType, Constraints, ConstructedType, Decode, DecodeByPlace, DecodeError, Decoded, Decoder,
     Encode, EncodeError, EncodeFields, Encoder, Field, FieldTable, Identifier, OctetString,
-    RoundTripError, Rules, Tag, Tagging, TypeTable, decode_sequence_by_place, filled, required,
-    round_trip,
+    RoundTripError, Rules, Tag, Tagging, TypeTable, decode_sequence_naming_errors, filled,
+    required, round_trip,
 };
 use std::alloc::Global;
 
@@ -114,7 +114,7 @@ impl<T: Decode> Decode for Signed<T> {
         tag: Tag,
         _constraints: &Constraints<'_>,
     ) -> Result<Signed<T>, DecodeError> {
-        decode_sequence_by_place(decoder, tag)
+        decode_sequence_naming_errors(decoder, tag)
     }
 }
 

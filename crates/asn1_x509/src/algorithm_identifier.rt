@@ -7,7 +7,7 @@ ghost use Rattle.asn1_x509.specs.OpenValues.{ParametersAreAccepted};
 use asn1_dec::{Decode, DecodeError, Decoder};
 use asn1_enc::{Encode, EncodeError, EncodeFields, Encoder};
 use asn1_slots::{
-    DecodeByPlace, Decoded, Tagging, decode_sequence_by_place, filled, optional, required,
+    DecodeByPlace, Decoded, Tagging, decode_sequence_naming_errors, filled, optional, required,
 };
 use asn1_types::{
     Any, AsnType, Constraints, ConstructedType, Field, FieldTable, Identifier, Tag, TypeTable,
@@ -124,6 +124,6 @@ impl Decode for AlgorithmIdentifier {
         tag: Tag,
         _constraints: &Constraints<'_>,
     ) -> Result<AlgorithmIdentifier, DecodeError> {
-        decode_sequence_by_place(decoder, tag)
+        decode_sequence_naming_errors(decoder, tag)
     }
 }

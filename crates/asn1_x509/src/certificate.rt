@@ -10,7 +10,9 @@ use crate::algorithm_identifier::AlgorithmIdentifier;
 use crate::tbs_certificate::TbsCertificate;
 use asn1_dec::{Decode, DecodeError, Decoder};
 use asn1_enc::{Encode, EncodeError, EncodeFields, Encoder};
-use asn1_slots::{DecodeByPlace, Decoded, Tagging, decode_sequence_by_place, filled, required};
+use asn1_slots::{
+    DecodeByPlace, Decoded, Tagging, decode_sequence_naming_errors, filled, required,
+};
 use asn1_types::{
     AsnType, Constraints, ConstructedType, Field, FieldTable, Identifier, Tag, TypeTable,
 };
@@ -145,6 +147,6 @@ impl Decode for Certificate {
         tag: Tag,
         _constraints: &Constraints<'_>,
     ) -> Result<Certificate, DecodeError> {
-        decode_sequence_by_place(decoder, tag)
+        decode_sequence_naming_errors(decoder, tag)
     }
 }

@@ -8,7 +8,9 @@ ghost use Rattle.asn1_x509.specs.OpenValues.{ParametersAreAccepted};
 use crate::algorithm_identifier::AlgorithmIdentifier;
 use asn1_dec::{Decode, DecodeError, Decoder};
 use asn1_enc::{Encode, EncodeError, EncodeFields, Encoder};
-use asn1_slots::{DecodeByPlace, Decoded, Tagging, decode_sequence_by_place, filled, required};
+use asn1_slots::{
+    DecodeByPlace, Decoded, Tagging, decode_sequence_naming_errors, filled, required,
+};
 use asn1_types::{
     AsnType, Constraints, ConstructedType, Field, FieldTable, Identifier, Tag, TypeTable,
 };
@@ -138,6 +140,6 @@ impl<T: Decode> Decode for Signed<T> {
         tag: Tag,
         _constraints: &Constraints<'_>,
     ) -> Result<Signed<T>, DecodeError> {
-        decode_sequence_by_place(decoder, tag)
+        decode_sequence_naming_errors(decoder, tag)
     }
 }

@@ -7,7 +7,9 @@ ghost use Rattle.asn1_x509.specs.OpenValues.{ParametersAreAccepted};
 use crate::algorithm_identifier::AlgorithmIdentifier;
 use asn1_dec::{Decode, DecodeError, Decoder};
 use asn1_enc::{Encode, EncodeError, EncodeFields, Encoder};
-use asn1_slots::{DecodeByPlace, Decoded, Tagging, decode_sequence_by_place, filled, required};
+use asn1_slots::{
+    DecodeByPlace, Decoded, Tagging, decode_sequence_naming_errors, filled, required,
+};
 use asn1_types::{
     AsnType, Constraints, ConstructedType, Field, FieldTable, Identifier, Tag, TypeTable,
 };
@@ -123,6 +125,6 @@ impl Decode for SubjectPublicKeyInfo {
         tag: Tag,
         _constraints: &Constraints<'_>,
     ) -> Result<SubjectPublicKeyInfo, DecodeError> {
-        decode_sequence_by_place(decoder, tag)
+        decode_sequence_naming_errors(decoder, tag)
     }
 }

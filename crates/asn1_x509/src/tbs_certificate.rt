@@ -30,7 +30,7 @@ use crate::validity::Validity;
 use asn1_dec::{Decode, DecodeError, Decoder};
 use asn1_enc::{Encode, EncodeError, EncodeFields, Encoder, encode_explicit_optional};
 use asn1_slots::{
-    DecodeByPlace, Decoded, Tagging, decode_sequence_by_place, filled, optional, or_default,
+    DecodeByPlace, Decoded, Tagging, decode_sequence_naming_errors, filled, optional, or_default,
     required,
 };
 use asn1_tags::tag;
@@ -258,6 +258,6 @@ impl Decode for TbsCertificate {
         tag: Tag,
         _constraints: &Constraints<'_>,
     ) -> Result<TbsCertificate, DecodeError> {
-        decode_sequence_by_place(decoder, tag)
+        decode_sequence_naming_errors(decoder, tag)
     }
 }

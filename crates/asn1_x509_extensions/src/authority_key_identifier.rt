@@ -16,7 +16,7 @@ use crate::general_name::GeneralNames;
 use crate::key_identifier::KeyIdentifier;
 use asn1_dec::{Decode, DecodeError, Decoder};
 use asn1_enc::{Encode, EncodeError, EncodeFields, Encoder};
-use asn1_slots::{DecodeByPlace, Decoded, Tagging, decode_sequence_by_place, optional};
+use asn1_slots::{DecodeByPlace, Decoded, Tagging, decode_sequence_naming_errors, optional};
 use asn1_tags::tag;
 use asn1_types::{
     AsnType, Constraints, ConstructedType, Field, FieldTable, Identifier, Tag, TypeTable,
@@ -178,6 +178,6 @@ impl Decode for AuthorityKeyIdentifier {
         tag: Tag,
         _constraints: &Constraints<'_>,
     ) -> Result<AuthorityKeyIdentifier, DecodeError> {
-        decode_sequence_by_place(decoder, tag)
+        decode_sequence_naming_errors(decoder, tag)
     }
 }

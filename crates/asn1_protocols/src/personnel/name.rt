@@ -5,7 +5,9 @@ ghost use Rattle.asn1_types.specs.Words.{IsWellTagged, application, constructed_
 
 use asn1_dec::{Decode, DecodeError, Decoder};
 use asn1_enc::{Encode, EncodeError, EncodeFields, Encoder};
-use asn1_slots::{DecodeByPlace, Decoded, Tagging, decode_sequence_by_place, filled, required};
+use asn1_slots::{
+    DecodeByPlace, Decoded, Tagging, decode_sequence_naming_errors, filled, required,
+};
 use asn1_types::{
     AsnType, Class, Constraints, ConstructedType, Field, FieldTable, Identifier, Tag, TypeTable,
 };
@@ -138,6 +140,6 @@ impl Decode for Name {
         tag: Tag,
         _constraints: &Constraints<'_>,
     ) -> Result<Name, DecodeError> {
-        decode_sequence_by_place(decoder, tag)
+        decode_sequence_naming_errors(decoder, tag)
     }
 }

@@ -7,8 +7,8 @@ use Rattle.asn1_x509_extensions.proofs.authority_key_identifier.AuthorityKeyIden
 
 pub returns-clause-read : goal.returns-clause-read
 returns-clause-read g c =
-    c.decode_sequence_by_place.ensures.as_meant (slots_agree fields.components) refl (constraint_set c.args._constraints.now)
+    c.decode_sequence_naming_errors.ensures.as_meant (slots_agree fields.components) refl (constraint_set c.args._constraints.now)
 
 pub returns-clause-after_reading : goal.returns-clause-after_reading
 returns-clause-after_reading g c =
-    leaves_kept g.D.Decoder.reader _ c.args.tag (constraint_set c.args._constraints.now) _ _ _ c.decode_sequence_by_place.ensures.keeps_depth
+    leaves_kept g.D.Decoder.reader _ c.args.tag (constraint_set c.args._constraints.now) _ _ _ c.decode_sequence_naming_errors.ensures.keeps_depth

@@ -6,7 +6,7 @@ use Rattle.asn1_codec.specs.Reading.{Outside}
 use Rattle.asn1_model.specs.Records.{Record}
 use Rattle.asn1_slots.proofs.ReadByPlace.{ReadUpTo}
 use Rattle.asn1_slots.specs.Slots.{AreSlotsOf}
-use Rattle.asn1_slots.proofs.by_place.decode_fields_by_place.Given as goal
+use Rattle.asn1_slots.proofs.by_place.read_slots.Given as goal
 
 abbrev pub invariant-loop-place : goal.invariant-loop-place
 invariant-loop-place g l =
