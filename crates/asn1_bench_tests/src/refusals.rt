@@ -8,7 +8,7 @@ use asn1_dec::{Decode, DecodeError, Needed};
 use asn1_open::Open;
 use asn1_packed::PackedDecoder;
 use asn1_rules::Rules;
-use asn1_samples::{Badge, Color, Corner, Person, Profile, Shape};
+use asn1_samples::{Badge, Color, Corner, Pair, Person, Profile, Shape};
 use asn1_streams::FrontReader;
 use asn1_tagform::TagRules;
 use asn1_tags::Tag;
@@ -272,36 +272,38 @@ fn what_is_missing_inside_a_scope_is_bad(rt: HostRuntime) {
         "past the end",
         &[4, 0, 0, 0, 0, 16, 0, 0, 0, 1, 1],
     );
-    let no_age = DecodeError::FieldError {
-        name: "age",
-        cause: 1,
-    };
-    let no_nick = DecodeError::FieldError {
-        name: "nick",
-        cause: 1,
-    };
     let empty = [2, 0, 0, 0, 0, 16, 0, 0, 0, 0];
-    refused::<Person>(&rt, alloc, "none", &empty, no_age);
-    refused_with_marks::<Profile>(&rt, alloc, "no mark", &empty, no_nick);
+    is_bad::<Person>(&rt, alloc, "none", &empty);
+    refused_with_marks::<Profile>(&rt, alloc, "no mark", &empty, BAD_ITEM);
     let other = [2, 0, 0, 0, 0, 16, 0, 0, 0, 1, 18];
-    refused::<Profile>(&rt, alloc, "another mark", &other, no_nick);
+    is_bad::<Profile>(&rt, alloc, "another mark", &other);
 }
 
-/// Asserts that a person is refused for this component, where the byte at the place is 9.
-fn assert_named(rt: &impl Abort, alloc: Global, place: usize, name: &'static str) {
+/// Asserts that a person is refused where the byte at the place is 9, by the error of the component as it is.
+fn assert_refused_with_nine(rt: &impl Abort, alloc: Global, place: usize) {
     let mut bytes = list(alloc, PERSON).expect(rt, "memory");
     if let Some(byte) = bytes.get_mut(place) {
         *byte = 9;
     }
-    let error = DecodeError::FieldError { name, cause: 1 };
-    refused::<Person>(rt, alloc, name, &bytes, error);
+    is_bad::<Person>(rt, alloc, "a nine", &bytes);
 }
 
 /// The tag of each component is another.
 #[test]
+fn an_error_of_a_component_is_as_it_is(rt: HostRuntime) {
+    assert_refused_with_nine(&rt, rt.alloc(), 15);
+    assert_refused_with_nine(&rt, rt.alloc(), 28);
+}
+
+/// A `Pair` names its components in errors.
+#[test]
 fn an_error_names_the_component(rt: HostRuntime) {
-    assert_named(&rt, rt.alloc(), 15, "age");
-    assert_named(&rt, rt.alloc(), 28, "name");
+    let error = DecodeError::FieldError {
+        name: "first",
+        cause: 1,
+    };
+    let empty = [2, 0, 0, 0, 0, 16, 0, 0, 0, 0];
+    refused::<Pair<bool, bool>>(&rt, rt.alloc(), "no first", &empty, error);
 }
 
 /// `TRUE`, twice.

@@ -3,8 +3,7 @@ use crate::bytes::{assert_node, assert_plate, assert_reached, assert_settings, p
 use crate::cases::{why_not_read, writes};
 use crate::refusals::refused_by;
 use asn1_dec::{Decode, DecodeError, Needed};
-use asn1_recursive::Node;
-use asn1_samples::{Badge, Contact, Profile, Ticket};
+use asn1_samples::{Badge, Contact, Node, Profile, Ticket};
 use asn1_tagform::TagRules;
 use asn1_tags::Tag;
 use std::alloc::Global;
@@ -99,12 +98,9 @@ const NO_SEAT: &[u8] = &[
 ];
 
 #[test]
-fn an_error_names_the_component(rt: HostRuntime) {
+fn an_error_says_what_is_wrong(rt: HostRuntime) {
     let alloc = rt.alloc();
-    let no_level = DecodeError::FieldError {
-        name: "level",
-        cause: 1,
-    };
+    let no_level = DecodeError::Custom("bad item");
     refused::<Profile>(
         &rt,
         alloc,

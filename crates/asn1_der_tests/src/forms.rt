@@ -1,8 +1,7 @@
 //! Primitive elements where others are to be inside, and the reverse; and more than is asked for inside an element.
 use crate::reading::{BAD_ITEM, refuses, refuses_component};
 use asn1_dec::{DecodeError, Needed};
-use asn1_recursive::Node;
-use asn1_samples::{Badge, Color, Notice, Person, Profile};
+use asn1_samples::{Badge, Color, Node, Notice, Person, Profile};
 use asn1_values::{BitString, Integer, ObjectIdentifier, OctetString, Utf8String};
 
 // X.690, 8.2.1, 8.3.1, 8.4, 8.8.1, 8.19.1 and 10.2.
@@ -38,11 +37,11 @@ fn nothing_is_left_inside(rt: HostRuntime) {
     let after = [0x30, 7, 2, 1, 30, 0x0c, 0, 5, 0];
     refuses::<Person>(&rt, alloc, &after, BAD_ITEM);
     let twice = [0x30, 8, 2, 1, 30, 2, 1, 30, 0x0c, 0];
-    refuses_component::<Person>(&rt, alloc, &twice, "name");
+    refuses::<Person>(&rt, alloc, &twice, BAD_ITEM);
     let one_byte = [0x30, 6, 2, 1, 30, 0x0c, 0, 5];
     refuses::<Person>(&rt, alloc, &one_byte, BAD_ITEM);
     let long = [0x30, 9, 2, 1, 30, 0x0c, 0x84, 0x7f, 0xff, 0xff, 0xff];
-    refuses_component::<Person>(&rt, alloc, &long, "name");
+    refuses::<Person>(&rt, alloc, &long, BAD_ITEM);
 }
 
 // X.690, 10.1 and 8.3.2, inside others.
@@ -52,11 +51,11 @@ fn lengths_and_numbers_inside_are_the_shortest(rt: HostRuntime) {
     refuses::<Person>(&rt, alloc, &[0x30, 0x81, 5, 2, 1, 30, 0x0c, 0], BAD_ITEM);
     refuses::<Person>(&rt, alloc, &[0x30, 0x80, 2, 1, 30, 0x0c, 0, 0, 0], BAD_ITEM);
     let age = [0x30, 6, 2, 2, 0, 30, 0x0c, 0];
-    refuses_component::<Person>(&rt, alloc, &age, "age");
+    refuses::<Person>(&rt, alloc, &age, BAD_ITEM);
     let name = [0x30, 6, 2, 1, 30, 0x0c, 0x81, 0];
-    refuses_component::<Person>(&rt, alloc, &name, "name");
+    refuses::<Person>(&rt, alloc, &name, BAD_ITEM);
     let color = [0x30, 7, 0x81, 1, 7, 0x82, 2, 0, 5];
-    refuses_component::<Profile>(&rt, alloc, &color, "color");
+    refuses::<Profile>(&rt, alloc, &color, BAD_ITEM);
     let inner = [0x30, 5, 0x30, 0x81, 2, 0x30, 0];
     refuses::<Node>(&rt, alloc, &inner, BAD_ITEM);
 }

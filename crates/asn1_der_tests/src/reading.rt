@@ -101,8 +101,8 @@ fn what_is_absent_is_its_default_and_what_is_written_too(rt: HostRuntime) {
     assert_color(&rt, alloc, &[0x30, 3, 0x81, 1, 7], Color::Red);
     assert_color(&rt, alloc, &[0x30, 6, 0x81, 1, 7, 0x82, 1, 5], Color::Blue);
     assert_color(&rt, alloc, &[0x30, 6, 0x81, 1, 7, 0x82, 1, 0], Color::Red);
-    refuses_component::<Profile>(&rt, alloc, &[0x30, 6, 0x82, 1, 5, 0x81, 1, 7], "level");
-    refuses_component::<Profile>(&rt, alloc, &[0x30, 6, 0x81, 1, 7, 0x82, 1, 2], "color");
+    refuses::<Profile>(&rt, alloc, &[0x30, 6, 0x82, 1, 5, 0x81, 1, 7], BAD_ITEM);
+    refuses::<Profile>(&rt, alloc, &[0x30, 6, 0x81, 1, 7, 0x82, 1, 2], BAD_ITEM);
 }
 
 /// Asserts whether the notice 7 is urgent that is read from these bytes.

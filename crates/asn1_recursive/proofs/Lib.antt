@@ -1,5 +1,3 @@
 pub mod FilterLaws
 pub mod NestedLaws
-pub mod NodeHeights
-pub mod NodeLaws
 pub mod Validity

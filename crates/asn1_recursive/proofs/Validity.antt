@@ -2,15 +2,11 @@
 use Rattle.std.proofs.Common.{List, [], ◌∷◌, ℕ, Bool}
 use Rattle.std.specs.Prelude.{All, IfSome, None, Option, Some, ⊤}
 use Rattle.std.proofs.lemmas.List.Elements.{All-nil, All-cons}
-use Rattle.std.specs.declared.alloc.Global.{Global}
-use Rattle.std.specs.declared.string.String.{String}
 use Rattle.asn1_recursive.specs.FilterAlternatives.{filter_means, filters_mean}
 use Rattle.asn1_recursive.specs.NestedAlternatives.{nested_means}
-use Rattle.asn1_recursive.specs.NodeComponents.{label_is_valid, labels, node_is_valid, text}
 use Rattle.asn1_recursive.specs.contracts.substring.SubstringAsnType.TheImpl.{ghosts as substring}
 use Rattle.asn1_recursive.specs.declared.filter.Filter.{Filter, And', Or', Not', EqualityMatch, Substrings, GreaterOrEqual, LessOrEqual, Present, ApproxMatch, ExtensibleMatch, Row_of-Filter, end_of-Filter, more_of-Filter}
 use Rattle.asn1_recursive.specs.declared.nested.Nested.{Nested, Null, Flag, Inner'}
-use Rattle.asn1_recursive.specs.declared.node.Node.{Node}
 use Rattle.asn1_recursive.specs.declared.substring.Substring.{Substring}
 use Rattle.asn1_recursive.specs.declared.substring.Substring.TheVariants.{Initial, Any, Final}
 
@@ -55,11 +51,3 @@ pub each_nested_valid : (v : Nested) (accepts : List ℕ → Bool) → (nested_m
 each_nested_valid Null accepts = tt
 each_nested_valid (Flag b) accepts = tt
 each_nested_valid (Inner' p inner) accepts = each_nested_valid inner accepts
-
-labels_valid : (accepts : List ℕ → Bool) (found : List (Option (String Global))) → All (λ label. IfSome label (text.IsValid accepts)) found
-labels_valid accepts [] = All-nil (λ label. IfSome label (text.IsValid accepts))
-labels_valid accepts (label ∷ rest) = All-cons (λ label. IfSome label (text.IsValid accepts)) label rest (label_is_valid accepts label) (labels_valid accepts rest)
-
--- and a node by the labels inside it
-pub each_node_valid : (n : Node) (accepts : List ℕ → Bool) → node_is_valid accepts n
-each_node_valid n accepts = labels_valid accepts (labels n)

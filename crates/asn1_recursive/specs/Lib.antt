@@ -1,4 +1,3 @@
-pub mod NodeComponents
 pub mod FilterAlternatives
 pub mod NestedAlternatives
 pub mod ReadingWhole

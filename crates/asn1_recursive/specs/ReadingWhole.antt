@@ -10,13 +10,6 @@ use Rattle.asn1_model.specs.Meaning.{Meaning, own_records}
 use Rattle.asn1_model.specs.Records.{Head, Name, Record, highest}
 
 module _ {D : Type 0} (R : Reader D) {V W : Type 0} (m : Meaning V) where
-  -- A call that reads a value under this tag, by any name: of each that is of the type and valid, it answers one that is
-  -- equal.
-  abbrev pub ReadsUnder : Tag → (W → V → Bool) → D → D → Result W DecodeError → Type 0
-  ReadsUnder t eq old new result =
-      (v : V) (n : Name) (rest : List Record) (outer : Outside) → m.IsOfType v → m.IsValid R.accepts v →
-      ReadsBack R old new (m.records v t unconstrained n) rest outer (λ w. eq w v ≡ true) result
-
   -- A call that reads a SET OF such values (X.680, 28) under this tag.
   abbrev pub ReadsSetUnder : Tag → (W → List V → Bool) → D → D → Result W DecodeError → Type 0
   ReadsSetUnder t eq old new result =

@@ -1,28 +1,15 @@
-//! Laws of what no other contract names: the names in the tables, that the parts of a filter are valid, and
-//! which trees are equal.
+//! Laws of what no other contract names: the names in the tables, and that the parts of a filter are valid.
 ghost use Rattle.asn1_choices.specs.Alternatives.{all_of, names_of};
-ghost use Rattle.asn1_components.specs.Components.{table};
 ghost use Rattle.asn1_recursive.specs.FilterAlternatives.{filter_names};
-ghost use Rattle.std.specs.Cmp.Lexicographic.{pointwise};
-ghost use Rattle.std.specs.Option.{option_eq};
-ghost use Rattle.std.specs.Prelude.{◌≡◌, ◌&&◌, [], ◌∷◌, codes, map, List, Bool, ℕ};
-ghost use Rattle.std.specs.String.{string_eq};
-ghost use Rattle.asn1_recursive.specs.declared.node.Node.{out-Node};
+ghost use Rattle.std.specs.Prelude.{◌≡◌, [], ◌∷◌, codes, List, Bool, ℕ};
 
 use crate::attribute_value_assertion::AttributeValueAssertion;
 use crate::filter::Filter;
 use crate::matching_rule_assertion::MatchingRuleAssertion;
 use crate::nested::Nested;
-use crate::node::Node;
 use crate::substring::Substring;
 use crate::substring_filter::SubstringFilter;
-use asn1_types::{AsnType, Choice, FieldTable};
-
-/// A law of the table: the names of the components.
-pub fn components_have_their_names()
-    ensures { map (λ entry. entry.name) (table ⟦<Node as FieldTable>⟧.components) ≡ codes "label" ∷
-        codes "children" ∷ [] }
-{}
+use asn1_types::{AsnType, Choice};
 
 /// A law of the tables: the names of the alternatives of a CHOICE.
 pub fn alternatives_have_their_names()
@@ -47,12 +34,3 @@ pub fn parts_of_filters_are_valid(
     ensures rule { (accepts : List ℕ → Bool) →
         ⟦<MatchingRuleAssertion as AsnType>⟧.meaning.IsValid accepts rule.now }
 {}
-
-/// Whether two nodes have the same label, and equal children in the same order.
-pub fn nodes_are_compared_by_label_and_children(a: &Node, b: &Node) -> bool
-    ensures { result ≡ (option_eq string_eq (out-Node a.now).label (out-Node b.now).label &&
-        pointwise ⟦<Node as PartialEq>⟧.eq (out-Node a.now).children.items
-        (out-Node b.now).children.items) }
-{
-    a == b
-}

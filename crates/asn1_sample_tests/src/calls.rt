@@ -114,4 +114,5 @@ pub fn each_sample_call_comes_back<R: CallRules>(rules: &R, alloc: Global) -> Re
         .and(choices_come_back_under_a_tag(rules))
         .and(sets::badges_come_back_in_any_order(rules, alloc))
         .and(sets::what_is_no_badge_is_refused(rules, alloc))
+        .and(sets::no_other_component_is_read(rules))
 }

@@ -1,1 +1,5 @@
 pub mod ChosenRecords
+pub mod NodeHeights
+pub mod NodeLaws
+pub mod NodeValidity
+mod ShapeTable

@@ -1,3 +1,4 @@
 pub mod BadgeParts
 pub mod ComponentNames
+pub mod NodeComponents
 pub mod SampleRecords

@@ -1,7 +1,6 @@
 //! `Badge ::= SET { id INTEGER (0..4294967295), label VisibleString OPTIONAL, shape Shape }`
-ghost use Rattle.std.specs.Prelude.{◌≡◌, [], ◌∷◌, OnOk, map, codes, refl};
-ghost use Rattle.asn1_slots.specs.Slots.{optional_slot, required_slot, set_of_slots};
-ghost use Rattle.asn1_types.specs.Words.{untagged, constructed_type, constructed_agrees, IsWellTagged};
+ghost use Rattle.std.specs.Prelude.{◌≡◌, [], ◌∷◌, OnOk, map, codes};
+ghost use Rattle.asn1_types.specs.Words.{untagged, required, optional, set, constructed_type, constructed_agrees, IsWellTagged};
 ghost use Rattle.asn1_components.specs.Components.{all_components, root_entries, table};
 ghost use Rattle.asn1_codec.specs.SetParts.{EachFits, MakesValue};
 ghost use Rattle.asn1_fields.specs.CanonicalOrder.{IsCanonical};
@@ -10,7 +9,6 @@ ghost use Rattle.asn1_fields.specs.Entries.{component_of};
 use crate::shape::Shape;
 use asn1_dec::{Decode, DecodeError, DecodeSet, Decoder, keep_once};
 use asn1_enc::{Encode, EncodeError, EncodeFields, Encoder};
-use asn1_slots::{DecodeSetByPlace, Decoded, Tagging, decode_set_by_place, filled, once};
 use asn1_types::{
     AsnType, Choice, Constraints, ConstructedType, Field, FieldTable, Identifier, Tag, TypeTable,
 };
@@ -28,7 +26,7 @@ pub struct Badge {
     pub shape: Shape,
 }
 
-/// A component of a badge, as it is read by parts.
+/// A component of a badge that was read.
 #[derive(Drop)]
 pub enum BadgePart {
     /// `id`
@@ -39,37 +37,11 @@ pub enum BadgePart {
     Figure(Shape),
 }
 
-impl DecodeSetByPlace for Badge {
-    type Slots = (Option<u32>, Option<VisibleString>, Option<Shape>);
-
-    ghost layout = { required_slot (codes "id") (λ b. b.id) (λ s. s.0) (untagged ⟦<u32 as AsnType>⟧.meaning) ⟦<u32 as PartialEq>⟧.eq ∷
-        optional_slot (codes "label") (λ b. b.label) (λ s. s.1) (untagged ⟦<VisibleString as AsnType>⟧.meaning) ⟦<VisibleString as PartialEq>⟧.eq ∷
-        required_slot (codes "shape") (λ b. b.shape) (λ s. s.2) (untagged ⟦<Shape as AsnType>⟧.meaning) ⟦<Shape as PartialEq>⟧.eq ∷ [] };
-
-    fn from_slots(_alloc: Global, slots: Self::Slots) -> Result<Badge, DecodeError> {
-        Ok(Badge {
-            id: filled(slots.0, "id")?,
-            label: slots.1,
-            shape: filled(slots.2, "shape")?,
-        })
-    }
-
-    fn decode_field<D: Decoder>(place: usize, slots: &mut Self::Slots, decoder: &mut D) -> Decoded {
-        match place {
-            0 => once(&mut slots.0, decoder, Tagging::Untagged, "id"),
-            1 => once(&mut slots.1, decoder, Tagging::Untagged, "label"),
-            2 => once(&mut slots.2, decoder, Tagging::Untagged, "shape"),
-            _ => Ok(()),
-        }
-    }
-
-    ghost no_group = { refl };
-
-    ghost empty_at_first = { λ slots empty. (empty.0, (empty.1, empty.2)) };
-}
-
 impl FieldTable for Badge {
-    ghost components = { set_of_slots ⟦<Badge as DecodeSetByPlace>⟧.layout };
+    ghost components = { set (
+        required (codes "id") (λ b. b.id) (untagged ⟦<u32 as AsnType>⟧.meaning) ∷
+        optional (codes "label") (λ b. b.label) (untagged ⟦<VisibleString as AsnType>⟧.meaning) ∷
+        required (codes "shape") (λ b. b.shape) (untagged ⟦<Shape as AsnType>⟧.meaning) ∷ []) };
 
     fn field_count() -> usize {
         3
@@ -141,7 +113,7 @@ impl EncodeFields for Badge {
     }
 }
 
-/// A badge by parts, as `decode_set` of a decoder reads it: the same value as by place.
+/// A badge is read by parts: each component by itself, and then all are put together.
 impl DecodeSet for Badge {
     ghost use Rattle.asn1_samples.specs.BadgeParts.{IsBadgePart, badge_index};
     ghost use Rattle.asn1_codec.proofs.OneRecordEach.{optional_is_one};
@@ -200,6 +172,6 @@ impl Decode for Badge {
         tag: Tag,
         _constraints: &Constraints<'_>,
     ) -> Result<Badge, DecodeError> {
-        decode_set_by_place(decoder, tag)
+        decoder.decode_set(tag)
     }
 }

@@ -7,9 +7,9 @@ ghost use Rattle.std.specs.Ordering.{on};
 ghost use Rattle.asn1_slots.specs.Slots.{required_slot, sequence_of_slots};
 ghost use Rattle.asn1_types.specs.Words.{context, tagged, constructed_type, constructed_agrees, IsWellTagged};
 
-use asn1_dec::{Decode, DecodeError, Decoder};
+use asn1_dec::{Decode, DecodeError, DecodeFields, Decoder};
 use asn1_enc::{Encode, EncodeError, EncodeFields, Encoder};
-use asn1_slots::{DecodeByPlace, Decoded, Tagging, decode_sequence_by_place, filled, required};
+use asn1_slots::{DecodeByPlace, Decoded, Tagging, decode_fields_by_place, filled, required};
 use asn1_tags::tag;
 use asn1_types::{
     AsnType, Constraints, ConstructedType, Field, FieldTable, Identifier, Tag, TypeTable,
@@ -141,6 +141,12 @@ impl Decode for Labelled {
         tag: Tag,
         _constraints: &Constraints<'_>,
     ) -> Result<Labelled, DecodeError> {
-        decode_sequence_by_place(decoder, tag)
+        decoder.decode_sequence(tag)
+    }
+}
+
+impl DecodeFields for Labelled {
+    fn decode_fields<D: Decoder>(decoder: &mut D) -> Result<Labelled, DecodeError> {
+        decode_fields_by_place(decoder)
     }
 }

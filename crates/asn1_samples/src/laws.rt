@@ -1,15 +1,19 @@
 //! Laws of what no other contract names: the records of each value, the names in the tables, which types have an extension
 //! marker, which values are valid, which values of a type are equal, and what a clone is.
-ghost use Rattle.asn1_choices.specs.Alternatives.{all_of, names_of};
+ghost use Rattle.asn1_choices.specs.Alternatives.{all_of, names_of, trees_of};
 ghost use Rattle.asn1_components.specs.Components.{has_marker};
 ghost use Rattle.asn1_enumerations.specs.Enumerations.{items, names};
 ghost use Rattle.asn1_samples.specs.ComponentNames.{component_names};
+ghost use Rattle.std.specs.Cmp.Lexicographic.{pointwise};
 ghost use Rattle.std.specs.Hash as fed;
 ghost use Rattle.std.specs.Option.{option_eq};
 ghost use Rattle.std.specs.Prelude.{◌≡◌, ◌↔◌, ◌&&◌, [], ◌∷◌, IsTrue, codes, false, nat_eq, true};
 ghost use Rattle.std.specs.String.{string_bytes, string_eq};
 ghost use Rattle.asn1_samples.specs.declared.labelled.Labelled.{Labelled};
+ghost use Rattle.asn1_samples.specs.declared.node.Node.{out-Node};
 ghost use Rattle.asn1_tags.specs.Derives.{ClonesAll, ComparesAll};
+ghost use Rattle.asn1_tags.specs.TagTables.{TableFits};
+ghost use Rattle.asn1_tags.specs.Trees.{leaves_of};
 
 mod records;
 mod validity;
@@ -21,13 +25,14 @@ use crate::corner::Corner;
 use crate::envelope::Envelope;
 use crate::gauge::Gauge;
 use crate::labelled::Labelled;
+use crate::node::Node;
 use crate::notice::Notice;
 use crate::pair::Pair;
 use crate::person::Person;
 use crate::plate::Plate;
 use crate::profile::Profile;
 use crate::settings::Settings;
-use crate::shape::Shape;
+use crate::shape::{LEAVES, Shape};
 use crate::ticket::Ticket;
 use crate::visit::Visit;
 use asn1_types::{AsnType, Choice, EnumeratedItems, FieldTable};
@@ -59,6 +64,8 @@ pub fn components_have_their_names()
     ensures labelled { component_names ⟦<Labelled as FieldTable>⟧.components ≡ codes "key" ∷
         codes "note" ∷ [] }
     ensures settings { component_names ⟦<Settings as FieldTable>⟧.components ≡ codes "entry" ∷ [] }
+    ensures node { component_names ⟦<Node as FieldTable>⟧.components ≡ codes "label" ∷
+        codes "children" ∷ [] }
     ensures ticket { component_names ⟦<Ticket as FieldTable>⟧.components ≡ codes "seat" ∷
         codes "name" ∷ codes "paid" ∷ [] }
     ensures gauge { component_names ⟦<Gauge as FieldTable>⟧.components ≡ codes "level" ∷
@@ -80,6 +87,12 @@ pub fn alternatives_and_items_have_their_names()
         codes "right" ∷ [] }
     ensures color { names (items ⟦<Color as EnumeratedItems>⟧.enumeration) ≡ codes "red" ∷
         codes "green" ∷ codes "blue" ∷ [] }
+{}
+
+/// A law of the table in which a `Shape` looks for its alternative: it has each leaf of the alternatives once, with its place among
+/// all, in ascending order. So a tag is looked for in this table, and not in the list of leaves.
+pub fn the_table_of_a_shape_fits()
+    ensures { TableFits (leaves_of (trees_of (all_of ⟦<Shape as Choice>⟧.alternatives))) LEAVES.now }
 {}
 
 /// A law of the extension markers: of the SEQUENCE and SET types a `Profile` and a `Visit` have one, and no other.
@@ -181,6 +194,15 @@ pub fn labelled_are_compared_by_key(a: &Labelled, b: &Labelled) -> bool
 /// Whether two settings have entries with the same key.
 pub fn settings_are_compared_by_key(a: &Settings, b: &Settings) -> bool
     ensures { IsTrue result ↔ (a.now.entry.key ≡ b.now.entry.key) }
+{
+    a == b
+}
+
+/// Whether two nodes have the same label, and equal children in the same order.
+pub fn nodes_are_compared_by_label_and_children(a: &Node, b: &Node) -> bool
+    ensures { result ≡ (option_eq string_eq (out-Node a.now).label (out-Node b.now).label &&
+        pointwise ⟦<Node as PartialEq>⟧.eq (out-Node a.now).children.items
+        (out-Node b.now).children.items) }
 {
     a == b
 }

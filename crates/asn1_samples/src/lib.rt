@@ -15,6 +15,7 @@
 //! | [`Envelope`] | a SEQUENCE with an open type |
 //! | [`Labelled`] | a SEQUENCE that is compared by one of its components |
 //! | [`Settings`] | a SEQUENCE whose default is such a value |
+//! | [`Node`] | a SEQUENCE that holds itself, in a list |
 //! | [`Plate`] | a string with a permitted alphabet |
 //!
 //! What the contracts promise:
@@ -23,19 +24,27 @@
 //!   same. The writer has a line for each component (`encode_field`) or alternative (`encode_alternative`), and no proof.
 //! - Each is read: from its records a codec gives an equal value (`Decode`), whatever the codec. The reader has a line
 //!   for each component (`decode_field`) or alternative (`decode_alternative`). Components and alternatives are read by place
-//!   (`asn1_slots`), with no proof; a `Shape` looks for its alternative in a table of the leaves of its tree. Two types show the
-//!   other forms, which have proofs: an `Envelope` reads its components one after another (`decode_fields`), and a `Badge` can be
-//!   read as parts too (`DecodeSet`). A component that may be absent is asked for under its own tag, which what follows does not
-//!   begin with; so it is in a group whose last components are absent, where what follows is after the group, as the note of a
-//!   `Visit` is. A tag that no alternative has is refused with the name of the CHOICE.
+//!   (`asn1_slots`), with no proof; a `Shape` looks for its alternative in a table of the leaves of its tree, which fits
+//!   (`the_table_of_a_shape_fits`). Three types show the other forms, which have proofs: an `Envelope` reads its components one
+//!   after another (`decode_fields`), a `Badge` is read as parts (`DecodeSet`), and a `Node` by functions that call one another;
+//!   each node opens two scopes, so the depth left of the decoder ends the recursion, whatever the input. A component that may be
+//!   absent is asked for under its own tag, which what follows does not begin with; so it is in a group whose last components are
+//!   absent, where what follows is after the group, as the note of a `Visit` is. A tag that no alternative has is refused with the
+//!   name of the CHOICE.
+//! - The errors of a component are as they are where a type is read by `decode_sequence` or `decode_set` of the decoder: `Person`,
+//!   `Profile`, `Envelope`, `Labelled`, `Settings`, `Node` and `Badge`, and the group `Contact`. They have the name of the
+//!   component in a `Notice`, a `Pair`, a `Visit`, a `Ticket` and a `Gauge`.
 //! - Each can be inside other types: `person_is_well_tagged` and the like.
 //! - [`laws`] says what the records of each value are (`specs/SampleRecords` writes them out), which values are valid, when two
 //!   values are equal, which names the tables have, and which types have an extension marker. `envelope_is_valid` and
-//!   `pair_is_valid` say when an `Envelope` and a `Pair` are valid.
+//!   `pair_is_valid` say when an `Envelope` and a `Pair` are valid; each `Node` is valid (`each_node_is_valid`).
+//! - A `Node` states its components by what is inside a value (`specs/NodeComponents`): the records follow by a fold, and a node
+//!   meets its type's invariant if and only if all labels inside it meet theirs. Its records are written out, by those of its
+//!   children (`node_has_its_records`), and how deep they are nested (`node_is_two_higher_than_its_children`).
 //!
 //! A call takes memory only where a codec does, for what is read, for the alphabet of a `Plate` and for the table of a `Shape`.
-//! Types that hold themselves are in the crate `asn1_recursive`. `docs/USING.md` explains how such types are written, and quotes
-//! `Notice`, and `Contact` and `Profile` for groups.
+//! CHOICE types that hold themselves are in the crate `asn1_recursive`. `docs/USING.md` explains how such types are written, and
+//! quotes `Notice`, and `Contact` and `Profile` for groups.
 #![tactic(auto, using(asn1_tags::proofs::Leaves::tree_shapes))]
 
 mod badge;
@@ -46,6 +55,8 @@ mod envelope;
 mod gauge;
 mod labelled;
 pub mod laws;
+mod node;
+mod node_reader;
 mod notice;
 mod pair;
 mod person;
@@ -63,6 +74,10 @@ pub use corner::{Corner, corner_is_well_tagged};
 pub use envelope::{Envelope, envelope_is_valid, envelope_is_well_tagged};
 pub use gauge::{Gauge, gauge_is_well_tagged};
 pub use labelled::{Labelled, labelled_is_well_tagged};
+pub use node::{
+    Node, each_node_is_valid, node_has_its_records, node_is_two_higher_than_its_children,
+    node_is_well_tagged,
+};
 pub use notice::{Notice, notice_is_well_tagged};
 pub use pair::{Pair, pair_is_valid, pair_is_well_tagged};
 pub use person::{Person, person_is_well_tagged};

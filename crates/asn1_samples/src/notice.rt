@@ -6,7 +6,7 @@ ghost use Rattle.asn1_types.specs.Words.{context, tagged, explicitly_tagged, con
 use asn1_dec::{Decode, DecodeError, Decoder};
 use asn1_enc::{Encode, EncodeError, EncodeFields, Encoder, encode_explicit_optional};
 use asn1_slots::{
-    DecodeByPlace, Decoded, Tagging, decode_sequence_by_place, filled, optional, required,
+    DecodeByPlace, Decoded, Tagging, decode_sequence_naming_errors, filled, optional, required,
 };
 use asn1_tags::tag;
 use asn1_types::{
@@ -122,6 +122,6 @@ impl Decode for Notice {
         tag: Tag,
         _constraints: &Constraints<'_>,
     ) -> Result<Notice, DecodeError> {
-        decode_sequence_by_place(decoder, tag)
+        decode_sequence_naming_errors(decoder, tag)
     }
 }

@@ -6,7 +6,7 @@ ghost use Rattle.asn1_types.specs.Words.{context, tagged, untagged, required, op
 use asn1_dec::{Decode, DecodeError, Decoder};
 use asn1_enc::{Encode, EncodeError, EncodeFields, Encoder};
 use asn1_slots::{
-    DecodeByPlace, Decoded, Tagging, decode_sequence_by_place, filled, optional, required,
+    DecodeByPlace, Decoded, Tagging, decode_sequence_naming_errors, filled, optional, required,
 };
 use asn1_tags::tag;
 use asn1_types::{
@@ -124,6 +124,6 @@ impl<T: Decode, U: Decode> Decode for Pair<T, U> {
         tag: Tag,
         _constraints: &Constraints<'_>,
     ) -> Result<Pair<T, U>, DecodeError> {
-        decode_sequence_by_place(decoder, tag)
+        decode_sequence_naming_errors(decoder, tag)
     }
 }

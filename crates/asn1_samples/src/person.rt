@@ -3,9 +3,9 @@ ghost use Rattle.std.specs.Prelude.{[], ◌∷◌, codes};
 ghost use Rattle.asn1_slots.specs.Slots.{required_slot, sequence_of_slots};
 ghost use Rattle.asn1_types.specs.Words.{untagged, constructed_type, constructed_agrees, IsWellTagged};
 
-use asn1_dec::{Decode, DecodeError, Decoder};
+use asn1_dec::{Decode, DecodeError, DecodeFields, Decoder};
 use asn1_enc::{Encode, EncodeError, EncodeFields, Encoder};
-use asn1_slots::{DecodeByPlace, Decoded, Tagging, decode_sequence_by_place, filled, required};
+use asn1_slots::{DecodeByPlace, Decoded, Tagging, decode_fields_by_place, filled, required};
 use asn1_types::{
     AsnType, Constraints, ConstructedType, Field, FieldTable, Identifier, Tag, TypeTable,
 };
@@ -112,6 +112,12 @@ impl Decode for Person {
         tag: Tag,
         _constraints: &Constraints<'_>,
     ) -> Result<Person, DecodeError> {
-        decode_sequence_by_place(decoder, tag)
+        decoder.decode_sequence(tag)
+    }
+}
+
+impl DecodeFields for Person {
+    fn decode_fields<D: Decoder>(decoder: &mut D) -> Result<Person, DecodeError> {
+        decode_fields_by_place(decoder)
     }
 }

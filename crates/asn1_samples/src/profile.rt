@@ -16,10 +16,10 @@ ghost use Rattle.asn1_samples.specs.declared.color.Color.TheVariants.{Red};
 
 use crate::color::Color;
 use crate::contact::{CONTACT, Contact};
-use asn1_dec::{Decode, DecodeError, Decoder};
+use asn1_dec::{Decode, DecodeError, DecodeFields, Decoder};
 use asn1_enc::{Encode, EncodeError, EncodeFields, Encoder};
 use asn1_slots::{
-    DecodeByPlace, Decoded, Tagging, decode_sequence_by_place, filled, group, optional, or_default,
+    DecodeByPlace, Decoded, Tagging, decode_fields_by_place, filled, group, optional, or_default,
     required,
 };
 use asn1_tags::tag;
@@ -153,6 +153,12 @@ impl Decode for Profile {
         tag: Tag,
         _constraints: &Constraints<'_>,
     ) -> Result<Profile, DecodeError> {
-        decode_sequence_by_place(decoder, tag)
+        decoder.decode_sequence(tag)
+    }
+}
+
+impl DecodeFields for Profile {
+    fn decode_fields<D: Decoder>(decoder: &mut D) -> Result<Profile, DecodeError> {
+        decode_fields_by_place(decoder)
     }
 }

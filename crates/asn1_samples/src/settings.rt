@@ -4,9 +4,9 @@ ghost use Rattle.asn1_slots.specs.Slots.{default_slot, sequence_of_slots};
 ghost use Rattle.asn1_types.specs.Words.{context, tagged, constructed_type, constructed_agrees, IsWellTagged};
 
 use crate::labelled::Labelled;
-use asn1_dec::{Decode, DecodeError, Decoder};
+use asn1_dec::{Decode, DecodeError, DecodeFields, Decoder};
 use asn1_enc::{Encode, EncodeError, EncodeFields, Encoder};
-use asn1_slots::{DecodeByPlace, Decoded, Tagging, decode_sequence_by_place, optional, or_default};
+use asn1_slots::{DecodeByPlace, Decoded, Tagging, decode_fields_by_place, optional, or_default};
 use asn1_tags::tag;
 use asn1_types::{
     AsnType, Constraints, ConstructedType, Field, FieldTable, Identifier, Tag, TypeTable,
@@ -111,6 +111,12 @@ impl Decode for Settings {
         tag: Tag,
         _constraints: &Constraints<'_>,
     ) -> Result<Settings, DecodeError> {
-        decode_sequence_by_place(decoder, tag)
+        decoder.decode_sequence(tag)
+    }
+}
+
+impl DecodeFields for Settings {
+    fn decode_fields<D: Decoder>(decoder: &mut D) -> Result<Settings, DecodeError> {
+        decode_fields_by_place(decoder)
     }
 }

@@ -131,7 +131,7 @@ impl Decode for Shape {
 
 /// The leaves of the alternatives in ascending order, each with its place among all: that of an octet string is the last, the
 /// second of `inner`.
-const LEAVES: &[(Tag, usize)] = &[
+pub(crate) const LEAVES: &[(Tag, usize)] = &[
     (Tag::BOOL, 2),
     (Tag::OCTET_STRING, 3),
     (Tag::NULL, 0),

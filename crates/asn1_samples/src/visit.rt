@@ -16,7 +16,8 @@ use crate::contact::{CONTACT, Contact};
 use asn1_dec::{Decode, DecodeError, Decoder};
 use asn1_enc::{Encode, EncodeError, EncodeFields, Encoder};
 use asn1_slots::{
-    DecodeByPlace, Decoded, Tagging, addition, decode_sequence_by_place, filled, group, required,
+    DecodeByPlace, Decoded, Tagging, addition, decode_sequence_naming_errors, filled, group,
+    required,
 };
 use asn1_tags::tag;
 use asn1_types::{
@@ -136,6 +137,6 @@ impl Decode for Visit {
         tag: Tag,
         _constraints: &Constraints<'_>,
     ) -> Result<Visit, DecodeError> {
-        decode_sequence_by_place(decoder, tag)
+        decode_sequence_naming_errors(decoder, tag)
     }
 }

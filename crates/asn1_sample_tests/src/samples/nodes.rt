@@ -1,7 +1,7 @@
 //! `Node`.
 use asn1_codec_tests::made::text;
 use asn1_codec_tests::{Failure, ValueCase};
-use asn1_recursive::Node;
+use asn1_samples::Node;
 use std::alloc::{AllocError, Global};
 
 /// A node with a label and without children, with so many nodes around it, one in another.

@@ -3,11 +3,11 @@ ghost use Rattle.std.specs.List.{flat_map};
 ghost use Rattle.std.specs.Prelude.{◌≡◌, ◌+◌, Bool, List, [], ℕ};
 ghost use Rattle.asn1_types.specs.Words.{IsWellTagged, own_records};
 ghost use Rattle.asn1_model.specs.Records.{highest};
-ghost use Rattle.asn1_recursive.specs.NodeComponents.{node_components, node_agrees, node_meaning, records_by_children};
-ghost use Rattle.asn1_recursive.specs.declared.node.Node.{out-Node};
+ghost use Rattle.asn1_samples.specs.NodeComponents.{node_components, node_agrees, node_meaning, records_by_children};
+ghost use Rattle.asn1_samples.specs.declared.node.Node.{out-Node};
 
-use crate::node_reader::read_node;
-use asn1_dec::{Decode, DecodeError, Decoder};
+use crate::node_reader::read_fields;
+use asn1_dec::{Decode, DecodeError, DecodeFields, Decoder};
 use asn1_enc::{Encode, EncodeError, EncodeFields, Encoder};
 use asn1_types::{
     AsnType, Constraints, ConstructedType, Field, FieldTable, Identifier, Tag, TypeTable,
@@ -65,7 +65,7 @@ pub fn node_is_well_tagged()
 {}
 
 /// Each `Node` is valid, whatever labels it holds.
-#[tactic(auto, using(crate::proofs::Validity::each_node_valid))]
+#[tactic(auto, using(crate::proofs::NodeValidity::each_node_valid))]
 pub fn each_node_is_valid(node: &Node)
     ensures { (accepts : List ℕ → Bool) → ⟦<Node as AsnType>⟧.meaning.IsValid accepts node.now }
 {}
@@ -110,7 +110,13 @@ impl Decode for Node {
         tag: Tag,
         _constraints: &Constraints<'_>,
     ) -> Result<Node, DecodeError> {
-        read_node(decoder, tag)
+        decoder.decode_sequence(tag)
+    }
+}
+
+impl DecodeFields for Node {
+    fn decode_fields<D: Decoder>(decoder: &mut D) -> Result<Node, DecodeError> {
+        read_fields(decoder)
     }
 }
 

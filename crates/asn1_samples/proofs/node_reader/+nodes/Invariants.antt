@@ -4,16 +4,19 @@ use Rattle.asn1_codec.proofs.ReadingElements.{ElementsRead}
 use Rattle.asn1_codec.specs.Reading.{Outside}
 use Rattle.asn1_model.specs.Meaning.{own_records}
 use Rattle.asn1_model.specs.Records.{Head, Record}
-use Rattle.asn1_recursive.specs.NodeComponents.{node_is_of_type, node_is_valid, node_meaning}
-use Rattle.asn1_recursive.specs.contracts.node.NodePartialEq.TheImpl.{ghosts}
-use Rattle.asn1_recursive.specs.declared.node.Node.{Node}
-use Rattle.asn1_recursive.proofs.node_reader.+nodes.Given as goal
+use Rattle.asn1_samples.specs.NodeComponents.{node_is_of_type, node_is_valid, node_meaning}
+use Rattle.asn1_samples.specs.contracts.node.NodePartialEq.TheImpl.{ghosts}
+use Rattle.asn1_samples.specs.declared.node.Node.{Node}
+use Rattle.asn1_samples.proofs.node_reader.+nodes.Given as goal
 
-abbrev pub decreases-read_node : goal.decreases-read_node
-decreases-read_node g l = 2 * g.D.Decoder.reader.depth_left l.decoder.now
+abbrev pub decreases-read_fields : goal.decreases-read_fields
+decreases-read_fields g l = 2 * g.D.Decoder.reader.depth_left l.decoder.now
 
 abbrev pub decreases-read_children : goal.decreases-read_children
 decreases-read_children g l = 2 * g.D.Decoder.reader.depth_left l.decoder.now + 1
+
+abbrev pub decreases-read_child : goal.decreases-read_child
+decreases-read_child g l = 2 * g.D.Decoder.reader.depth_left l.decoder.now
 
 abbrev pub invariant-read_children-loop-index : goal.invariant-read_children-loop-index
 invariant-read_children-loop-index g l = record {

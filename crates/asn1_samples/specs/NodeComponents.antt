@@ -12,7 +12,7 @@ use Rattle.asn1_components.proofs.HeldInside.{all_own_and_inside}
 use Rattle.asn1_components.specs.ComponentLists.{all_well_formed}
 use Rattle.asn1_components.specs.Components.{AgreesWithComponents, Components, all_components, component_records, components_with_itself, head_in, holding_itself, inside_itself, is_sequence, sequence, table_with_itself}
 use Rattle.asn1_components.specs.ComponentTypes.{optional, required}
-use Rattle.asn1_recursive.specs.declared.node.Node.{Node, Node-F, out-Node, fold-Node, fold_out-Node}
+use Rattle.asn1_samples.specs.declared.node.Node.{Node, Node-F, out-Node, fold-Node, fold_out-Node}
 use Rattle.asn1_model.specs.Composites.{list_records, option_records, sequence_records}
 use Rattle.asn1_model.specs.ConstraintSets.{unconstrained}
 use Rattle.asn1_model.specs.Kinds.{Inside, list_type, utf8_string}

@@ -2,8 +2,8 @@ use Rattle.std.specs.Prelude.{⊤}
 use Rattle.asn1_codec.proofs.WritingComponents.{appends_component, fails_at_component}
 use Rattle.asn1_codec.proofs.WritingSteps.{appends_none, exits}
 use Rattle.asn1_components.specs.Components.{all_components}
-use Rattle.asn1_recursive.specs.NodeComponents.{node_components}
-use Rattle.asn1_recursive.proofs.node.+node.Goals as goal
+use Rattle.asn1_samples.specs.NodeComponents.{node_components}
+use Rattle.asn1_samples.proofs.node.+node.Goals as goal
 
 pub NodeEncodeFields::encode_fields-returns-in_err-encode_field :
     goal.NodeEncodeFields::encode_fields-returns-in_err-encode_field

@@ -1,6 +1,6 @@
 use Rattle.std.proofs.Common.{◌∙◌}
-use Rattle.asn1_recursive.proofs.laws.nodes_are_compared_by_label_and_children.Goals as goal
-use Rattle.asn1_recursive.specs.contracts.node.NodePartialEq.TheImpl.Laws.{is}
+use Rattle.asn1_samples.proofs.laws.nodes_are_compared_by_label_and_children.Goals as goal
+use Rattle.asn1_samples.specs.contracts.node.NodePartialEq.TheImpl.Laws.{is}
 
 -- one level of the equality of a type that holds itself
 pub returns : goal.returns
