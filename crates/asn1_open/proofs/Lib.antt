@@ -1,2 +1,3 @@
+pub mod OpenEquality
 pub mod OpenLaws
 pub mod OpenValues

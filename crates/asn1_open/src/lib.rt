@@ -21,7 +21,7 @@
 //! | Item | What it is |
 //! |---|---|
 //! | [`Open`] | the CHOICE |
-//! | [`laws`] | the names, the tags and the places of its alternatives |
+//! | [`laws`] | the names, the tags and the places of its alternatives, and when two values are equal |
 //!
 //! What the contracts promise, and the words that they use:
 //!
