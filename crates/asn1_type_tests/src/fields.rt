@@ -1,5 +1,7 @@
 //! Field tables.
-use asn1_fields::{Field, FieldPresence, first_sequence_clash, first_set_clash, is_canonical};
+use asn1_fields::{
+    Field, FieldPresence, Fields, first_sequence_clash, first_set_clash, is_canonical,
+};
 use asn1_tags::{Class, Tag, TagTree};
 use std::process::Abort;
 
@@ -41,6 +43,8 @@ const ORDERS: &[(&[Field<'static>], bool)] = &[
     (&[U3, A0, C2], true),
     (&[U3, C2, A0], false),
     (&[C2, U3, C2], false),
+    (&[C0, OPTIONAL_C0], true),
+    (&[OPTIONAL_C0, C0], true),
     (&[], true),
 ];
 
@@ -53,6 +57,16 @@ fn fields_go_by_their_smallest_tags(rt: HostRuntime) {
     for (fields, canonical) in ORDERS {
         assert_order(&rt, fields, *canonical);
     }
+}
+
+const TWO: &[Field<'static>; 2] = &[U3, A0];
+
+#[test]
+fn tables_are_made_of_arrays_and_slices(rt: HostRuntime) {
+    assert!(rt; Fields::from_static(TWO).as_slice() == TWO.as_slice());
+    let of_slice = Fields::<2>::from_slice(TWO).unwrap();
+    assert!(rt; of_slice.as_slice() == TWO.as_slice());
+    assert!(rt; Fields::<2>::from_slice(&[U3]).is_none());
 }
 
 // The fields as those of a SEQUENCE: their clash, and whether they are in canonical order.
