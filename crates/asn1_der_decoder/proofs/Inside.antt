@@ -1,13 +1,19 @@
 -- What is inside a record that holds others.
-use Rattle.std.proofs.Common.{◌≡◌, ℕ, true, List, refl, subst, ◌∙◌}
-use Rattle.std.specs.Prelude.{Option, Some, None, IfSome}
+use Rattle.std.proofs.Common.{◌≡◌, ℕ, true, List, [], Ok, Err, refl, subst, sym, ◌∙◌}
+use Rattle.std.specs.Prelude.{Option, Some, None, IfOk, IfSome, OnOk, Result}
+use Rattle.asn1_codec.specs.declared.decode_error.DecodeError.{DecodeError}
 use Rattle.asn1_der_items.proofs.OneElement.{element_alone, element_of, one_of}
 use Rattle.asn1_der_records.specs.Bytes.{HasDer, HaveDer, HoldsInForm}
 use Rattle.asn1_der_items.specs.Series.{IsAlone}
 use Rattle.asn1_der_records.specs.declared.form.ScopeForm.{ScopeForm}
 use Rattle.asn1_der_records.specs.declared.form.ScopeForm.TheVariants.{AsDefined, ByTag, ByEncoding, Chosen}
-use Rattle.asn1_der_decoder.specs.Decoder.{IsInside, IsWanted}
+use Rattle.asn1_der_decoder.specs.Decoder.{AreInForm, IsInside, IsSeen, IsWanted}
+use Rattle.asn1_der_decoder.specs.declared.taken.Taken.{Taken}
 use Rattle.asn1_der_items.specs.Elements.{Element}
+use Rattle.asn1_items.specs.Slices.{left_inside}
+use Rattle.asn1_scopes.specs.Remaining.{IsOpen}
+use Rattle.asn1_scopes.specs.declared.scopes.Opened.{Opened}
+use Rattle.asn1_scopes.specs.declared.scopes.Scopes.{Scopes}
 use Rattle.asn1_model.specs.Records as model
 use Rattle.asn1_model.specs.Records.{Records, held, holding}
 use Rattle.asn1_model.specs.Tags.{head_tag}
@@ -60,3 +66,18 @@ inside_wanted form tag h items own wanted has = inside_of form (head_tag h) (hel
 pub asked_tag : (tag : Option Tag) (own t : Tag) → own ≡ t → IfSome tag (λ asked. t ≡ asked) → IfSome tag (λ asked. own ≡ asked)
 asked_tag None own t same is = is
 asked_tag (Some asked) own t same is = same ∙ is
+
+-- what is inside an element is in the order of the form
+in_order : (form : ScopeForm) (e : Element) (own inside : List ℕ) → IsInside form e own inside → AreInForm form inside
+in_order AsDefined e own inside is = tt
+in_order ByTag e own inside is = is.1
+in_order ByEncoding e own inside is = is.1
+in_order Chosen e own inside is = tt
+
+-- and so it is where a scope was opened
+pub opened_in_order : (form : ScopeForm) (taken : Taken) (inside : List ℕ) (old new : Scopes) (tag : Tag) (result : Result Opened DecodeError) →
+    ((e : Element) (own : List ℕ) → IsSeen taken e own → IsInside form e own inside) → IfOk result (IsOpen old new tag inside) → OnOk result (AreInForm form (left_inside new.slices))
+opened_in_order form taken inside old new tag (Err e) is opened = tt
+opened_in_order form taken inside old new tag (Ok w) is opened =
+    let e : Element = record { tag = taken.tag; constructed = taken.constructed; contents = taken.contents.now; rest = [] } in
+    subst (AreInForm form) (sym opened.inside_is) (in_order form e taken.bytes.now inside (is e taken.bytes.now (record { tag = refl; constructed = refl; contents = refl; bytes = refl })))

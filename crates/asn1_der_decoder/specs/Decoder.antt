@@ -1,5 +1,5 @@
 -- What remains to be read by a decoder of DER, and what it opens.
-use Rattle.std.specs.Prelude.{◌≡◌, ℕ, true, List, Option, IfSome}
+use Rattle.std.specs.Prelude.{◌≡◌, ℕ, ⊤, true, List, Option, IfSome}
 use Rattle.asn1_codec.specs.ReadingUpToOrder.{up_to_order}
 use Rattle.asn1_codec.specs.Reading.{Reader, Remaining}
 use Rattle.asn1_der_records.specs.Bytes.{HasDer, HaveDer, form_of}
@@ -68,3 +68,9 @@ IsInside AsDefined e own inside = IsHolding e inside
 IsInside ByTag e own inside = IsHolding e inside × AreElements RiseByTag inside
 IsInside ByEncoding e own inside = IsHolding e inside × AreElements RiseByEncoding inside
 IsInside Chosen e own inside = own ≡ inside
+
+-- The bytes are in the order that a form has: elements by their tags in a SET, and by their encodings in a SET OF.
+abbrev pub AreInForm : ScopeForm → List ℕ → Type 0
+AreInForm ByTag inside = AreElements RiseByTag inside
+AreInForm ByEncoding inside = AreElements RiseByEncoding inside
+AreInForm _ inside = ⊤

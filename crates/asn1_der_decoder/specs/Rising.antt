@@ -7,7 +7,7 @@ use Rattle.std.specs.Ordering.{is_lt, nat_cmp}
 use Rattle.asn1_der_records.specs.declared.form.ScopeForm.{ScopeForm}
 use Rattle.asn1_der_records.specs.declared.form.ScopeForm.TheVariants.{ByTag, ByEncoding}
 use Rattle.asn1_der_decoder.specs.declared.rising.Key.{Key}
-use Rattle.asn1_der_items.specs.Series.{is_one_element, tag_of}
+use Rattle.asn1_der_items.specs.Series.{AreElements, is_one_element, tag_of}
 use Rattle.asn1_tags.specs.Tags.{tag_cmp}
 use Rattle.asn1_tags.specs.declared.tags.Tag.{Tag}
 
@@ -30,10 +30,16 @@ abbrev pub RiseFrom : ScopeForm → List ℕ → List (List ℕ) → Type 0
 RiseFrom form before [] = ⊤
 RiseFrom form before (own ∷ elements) = (falls form own before ≡ false) × RiseFrom form own elements
 
--- What is left are elements, in the order of a form, after one of this tag and these bytes.
-pub record AreAfter (form : ScopeForm) (tag : Tag) (before left : List ℕ) : Type 0 where
+-- What is left are elements, in the order of a form, after one of these bytes.
+pub record AreAfter (form : ScopeForm) (before left : List ℕ) : Type 0 where
   pub elements : List (List ℕ)
   pub each : All (λ e. IsTrue (is_one_element e)) elements
   pub rise : RiseFrom form before elements
   pub are : left ≡ flat_map (λ e. e) elements
-  pub tag_of_it : tag ≡ tag_of before
+
+-- Of the contents, what is left comes after an element of this tag and these bytes: the contents are elements in the order of a
+-- form if and only if what is left are such elements after it.
+pub record IsReached (form : ScopeForm) (contents : List ℕ) (tag : Tag) (before left : List ℕ) : Type 0 where
+  pub its_tag : tag ≡ tag_of before
+  pub ahead : AreElements (IsInOrder form) contents → AreAfter form before left
+  pub back : AreAfter form before left → AreElements (IsInOrder form) contents

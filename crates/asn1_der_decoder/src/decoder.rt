@@ -1,5 +1,5 @@
 //! The decoder that reads from the bytes of DER.
-ghost use Rattle.std.specs.Prelude.{◌≡◌, IfSome, true};
+ghost use Rattle.std.specs.Prelude.{◌≡◌, Decides, IfSome};
 
 use crate::from_contents::FromContents;
 use crate::taken::Taken;
@@ -41,7 +41,7 @@ impl<'a> DerDecoder<'a> {
     ghost use Rattle.asn1_der_records.specs.Bytes.{HaveDer};
     ghost use Rattle.asn1_der_items.specs.Series.{IsAlone};
     ghost use Rattle.asn1_der_records.specs.declared.form.ScopeForm.TheVariants.{AsDefined};
-    ghost use Rattle.asn1_der_decoder.specs.Decoder.{AreLeft, IsTaken, IsWanted, Remains, der_reader, in_one_order};
+    ghost use Rattle.asn1_der_decoder.specs.Decoder.{AreInForm, AreLeft, IsTaken, IsWanted, Remains, der_reader, in_one_order};
     ghost use Rattle.asn1_der_decoder.specs.Unread.{unread};
     ghost use Rattle.asn1_scopes.specs.Remaining.{IsWithinBound, OpensWanted, ReadsWantedHead, ReadsWantedSet};
     ghost use Rattle.asn1_der_items.specs.Contents.{HasOctetsOf};
@@ -173,6 +173,7 @@ impl<'a> DerDecoder<'a> {
     /// Opens a scope of this form, under this tag, where one is asked for.
     fn open(&mut self, form: ScopeForm, tag: Option<Tag>) -> Result<Opened, DecodeError>
         ensures read { OpensWanted in_one_order (IsWanted form tag) self.old self.new result }
+        ensures in_form { OnOk result (AreInForm form (left_inside self.new.scopes.slices)) }
         ensures takes_depth { TakesDepth der_reader self.old self.new result }
     {
         if self.scopes.failed {
@@ -207,6 +208,7 @@ impl<'a> DerDecoder<'a> {
             self.old self.new result }
         ensures read_set { ReadsWantedSet der_reader (IsWanted form (Some tag)) IsWithinBound
             self.old self.new result }
+        ensures in_form { OnOk result (AreInForm form (left_inside self.new.scopes.slices)) }
         ensures takes_depth { TakesDepth der_reader self.old self.new result }
     {
         let opened = self.open(form, Some(tag))?;
@@ -216,7 +218,7 @@ impl<'a> DerDecoder<'a> {
 
 /// Whether a tag is the one that is asked for, if one is.
 fn is_under(own: Tag, asked: Option<Tag>) -> bool
-    ensures { IfSome asked (λ t. own ≡ t) → result ≡ true }
+    ensures { Decides result (IfSome asked (λ t. own ≡ t)) }
 {
     match asked {
         Some(tag) => own == tag,
@@ -227,8 +229,14 @@ fn is_under(own: Tag, asked: Option<Tag>) -> bool
 impl<'a> Decoder for DerDecoder<'a> {
     ghost use Rattle.asn1_bounds.specs.declared.codec.Codec.TheVariants.{Der};
     ghost use Rattle.asn1_codec.proofs.ReadingUpToOrder.{lawful};
+    ghost use Rattle.asn1_codec.specs.Reading.{ReadsHeadOfSet, TakesDepth, records_in};
+    ghost use Rattle.asn1_components.specs.Components.{lines};
     ghost use Rattle.asn1_der_decoder.specs.Decoder.{der_reader, in_one_order};
-    ghost use Rattle.std.specs.Prelude.{◌≡◌, true};
+    ghost use Rattle.asn1_der_items.specs.Series.{AreElements, RiseByEncoding, RiseByTag};
+    ghost use Rattle.asn1_items.specs.Slices.{left_inside};
+    ghost use Rattle.asn1_model.specs.ConstraintSets.{constraint_set};
+    ghost use Rattle.asn1_model.specs.Records.{set, set_of};
+    ghost use Rattle.std.specs.Prelude.{◌≡◌, ◌≤◌, OnOk, true};
 
     ghost reader = { der_reader };
 
@@ -337,7 +345,14 @@ impl<'a> Decoder for DerDecoder<'a> {
         self.open_in_order(tag)
     }
 
-    fn open_set<C: FieldTable>(&mut self, tag: Tag) -> Result<usize, DecodeError> {
+    // The elements of a SET that was opened are in the order of their tags.
+    fn open_set<C: FieldTable>(&mut self, tag: Tag) -> Result<usize, DecodeError>
+        ensures read { ReadsHeadOfSet der_reader self.old self.new
+            (set tag (lines C.components)) (λ items bound. records_in items ≤ bound) result }
+        ensures takes_depth { TakesDepth der_reader self.old self.new result }
+        ensures in_order { OnOk result
+            (AreElements RiseByTag (left_inside self.new.scopes.slices)) }
+    {
         self.open_list(ScopeForm::ByTag, tag)
     }
 
@@ -353,11 +368,15 @@ impl<'a> Decoder for DerDecoder<'a> {
         self.open_list(ScopeForm::AsDefined, tag)
     }
 
-    fn open_set_of(
-        &mut self,
-        tag: Tag,
-        _constraints: &Constraints<'_>,
-    ) -> Result<usize, DecodeError> {
+    // The elements of a SET OF that was opened are in the order of their encodings.
+    fn open_set_of(&mut self, tag: Tag, constraints: &Constraints<'_>) -> Result<usize, DecodeError>
+        ensures read { ReadsHeadOfSet der_reader self.old self.new
+            (set_of tag (constraint_set constraints.now)) (λ items bound. records_in items ≤ bound)
+            result }
+        ensures takes_depth { TakesDepth der_reader self.old self.new result }
+        ensures in_order { OnOk result
+            (AreElements RiseByEncoding (left_inside self.new.scopes.slices)) }
+    {
         self.open_list(ScopeForm::ByEncoding, tag)
     }
 

@@ -22,7 +22,7 @@
 //! - [`DerDecoder::unread`] answers how many bytes have not been read, of all scopes that are open (`unread` of
 //!   `specs/Unread.antt`), if so many can be counted.
 //! - A SET whose elements are in the order of their tags is opened, and a SET OF whose elements are in the order of their
-//!   encodings (`IsInOrder` of `specs/Rising.antt`).
+//!   encodings (`IsInOrder` of `specs/Rising.antt`), and no others (`in_order` of `open_set` and `open_set_of`).
 //!
 //! About bytes that are not the DER of the type nothing is promised. Tests have that each of these is an error: a length
 //! that is indefinite or not the shortest, an integer, a tag or an arc that is not the shortest, a BOOLEAN other than 0 and 255,

@@ -1,7 +1,7 @@
 //! The order of elements inside sets.
 ghost use Rattle.asn1_der_decoder.specs.Rising.{HasItsTag, IsInOrder, falls as falls_below};
 ghost use Rattle.asn1_der_items.specs.Series.{AreElements};
-ghost use Rattle.std.specs.Prelude.{◌≡◌, true};
+ghost use Rattle.std.specs.Prelude.{◌≡◌, Decides};
 
 use asn1_der_items::find_element;
 use asn1_der_records::ScopeForm;
@@ -16,7 +16,7 @@ struct Key<'a> {
 
 /// Whether the bytes are elements in the order of this form.
 pub(crate) fn rises(contents: &[u8], form: ScopeForm) -> bool
-    ensures { AreElements (IsInOrder form) contents.now → result ≡ true }
+    ensures { Decides result (AreElements (IsInOrder form) contents.now) }
 {
     let mut before = Key {
         tag: Tag::CHOICE,

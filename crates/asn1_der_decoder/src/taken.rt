@@ -1,7 +1,7 @@
 //! An element that was taken, and what is inside.
 ghost use Rattle.asn1_der_decoder.specs.Decoder.{IsInside, IsSeen};
 ghost use Rattle.asn1_der_items.specs.Elements.{Element};
-ghost use Rattle.std.specs.Prelude.{◌≡◌, IsSomeAnd, List, ℕ, false, true};
+ghost use Rattle.std.specs.Prelude.{◌≡◌, IfSome, IsSome, IsSomeAnd, List, ℕ, false, true};
 
 use crate::rising::rises;
 use asn1_der_records::ScopeForm;
@@ -17,10 +17,12 @@ pub(crate) struct Taken<'a> {
 }
 
 impl<'a> Taken<'a> {
-    /// What is inside, if the element is one that holds records in this form.
+    /// What is inside, if and only if the element is one that holds records in this form.
     pub(crate) fn inside(self, form: ScopeForm) -> Option<&'a [u8]>
-        ensures { (e : Element) (own inside : List ℕ) → IsSeen self.entry e own →
+        ensures found { (e : Element) (own inside : List ℕ) → IsSeen self.entry e own →
             IsInside form e own inside → IsSomeAnd result (λ bytes. bytes.now ≡ inside) }
+        ensures only { (e : Element) (own : List ℕ) → IsSeen self.entry e own →
+            IfSome result (λ bytes. IsInside form e own bytes.now) }
     {
         match form {
             ScopeForm::AsDefined => self.held(),
@@ -32,10 +34,11 @@ impl<'a> Taken<'a> {
         }
     }
 
-    /// The contents octets, if the element is a primitive one under this tag.
+    /// The contents octets, if and only if the element is a primitive one under this tag.
     pub(crate) fn contents_under(self, tag: Tag) -> Option<&'a [u8]>
-        ensures { self.entry.constructed ≡ false → self.entry.tag ≡ tag →
+        ensures found { self.entry.constructed ≡ false → self.entry.tag ≡ tag →
             IsSomeAnd result (λ octets. octets.now ≡ self.entry.contents.now) }
+        ensures only { IsSome result → (self.entry.constructed ≡ false) × (self.entry.tag ≡ tag) }
     {
         if self.constructed || self.tag != tag {
             return None;
@@ -43,10 +46,12 @@ impl<'a> Taken<'a> {
         Some(self.contents)
     }
 
-    /// The contents octets, if the element holds others.
+    /// The contents octets, if and only if the element holds others.
     fn held(self) -> Option<&'a [u8]>
-        ensures { self.entry.constructed ≡ true →
+        ensures found { self.entry.constructed ≡ true →
             IsSomeAnd result (λ bytes. bytes.now ≡ self.entry.contents.now) }
+        ensures only { IfSome result (λ bytes. (self.entry.constructed ≡ true) ×
+            (bytes.now ≡ self.entry.contents.now)) }
     {
         if self.constructed {
             Some(self.contents)

@@ -21,7 +21,7 @@ returns-in_default-clause-read g c = λ content same k.
     (λ x n rest outer of_type at.
     let next = next_is is_form c.args.self.now.scopes (scalar c.args.tag k n (content x)) rest outer at in
     let taken = c.in_ok-element.ensures.took next.front next.back _ at.no_failure (element_alone c.args.tag _ next.has.contents next.front next.has.element) next.left in
-    absurd (c.in_default.ensures taken.seen.constructed taken.seen.tag))
+    absurd (c.in_default.ensures.found taken.seen.constructed taken.seen.tag))
 
 pub returns-in-Ok-clause-read : goal.returns-in-Ok-clause-read
 returns-in-Ok-clause-read g c = λ content same k.
@@ -30,7 +30,7 @@ returns-in-Ok-clause-read g c = λ content same k.
     let next = next_is is_form c.args.self.now.scopes (scalar c.args.tag k n (content x)) rest outer at in
     let taken = c.in_ok-element.ensures.took next.front next.back _ at.no_failure (element_alone c.args.tag _ next.has.contents next.front next.has.element) next.left in
     record {
-      answer = c.in-Ok.ensures.read x of_type (subst (HasContents (g.V.FromContents.content x)) (sym (c.in-Some.ensures taken.seen.constructed taken.seen.tag ∙ taken.seen.contents)) ((same x).octets next.has.contents next.has.are));
+      answer = c.in-Ok.ensures.read x of_type (subst (HasContents (g.V.FromContents.content x)) (sym (c.in-Some.ensures.found taken.seen.constructed taken.seen.tag ∙ taken.seen.contents)) ((same x).octets next.has.contents next.has.are));
       at = next.after c.take.new.self.scopes c.in_ok-element.ensures.opens_nothing.keeps_depth.no_failure taken.left c.in_ok-element.ensures.outside;
       within_depth_left = omega arith;
     })
@@ -41,4 +41,4 @@ returns-in-Err-clause-read g c = λ content same k.
     (λ x n rest outer of_type at.
     let next = next_is is_form c.args.self.now.scopes (scalar c.args.tag k n (content x)) rest outer at in
     let taken = c.in_ok-element.ensures.took next.front next.back _ at.no_failure (element_alone c.args.tag _ next.has.contents next.front next.has.element) next.left in
-    inl (c.fault.ensures.memory (c.in-Err.ensures.read x of_type (subst (HasContents (g.V.FromContents.content x)) (sym (c.in-Some.ensures taken.seen.constructed taken.seen.tag ∙ taken.seen.contents)) ((same x).octets next.has.contents next.has.are)))))
+    inl (c.fault.ensures.memory (c.in-Err.ensures.read x of_type (subst (HasContents (g.V.FromContents.content x)) (sym (c.in-Some.ensures.found taken.seen.constructed taken.seen.tag ∙ taken.seen.contents)) ((same x).octets next.has.contents next.has.are)))))
