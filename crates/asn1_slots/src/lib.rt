@@ -23,6 +23,7 @@
 //! | [`from_tag_by_place`], [`from_tag_by_table`] | read the alternative that can begin with a tag |
 //! | [`alternative`], [`alternative_with_constraints`] | the calls that read the value of an alternative |
 //! | [`Tagging`] | how the type of a component or an alternative is tagged: as the type's list says |
+//! | [`laws`] | a component with a default is absent where it has the default |
 //!
 //! What the contracts promise, and the words that they use:
 //!
@@ -60,6 +61,7 @@ mod cases;
 mod choice_by_place;
 mod constrained;
 mod errors;
+pub mod laws;
 mod places;
 mod set_by_place;
 mod slot_values;
