@@ -6,7 +6,9 @@ ghost use Rattle.asn1_der_encoder.specs.Written.{der_writer};
 ghost use Rattle.asn1_model.specs.Records.{Record, held};
 ghost use Rattle.std.specs.Prelude.{◌≡◌, ◌↔◌, List, ℕ};
 
+use crate::DerEncoder;
 use crate::buffer::DerBuffer;
+use asn1_bounds::Codec;
 use asn1_buffers::{BufferEncoder, RecordBuffer};
 use asn1_enc::Encoder;
 
@@ -19,6 +21,13 @@ pub fn the_buffer_is_der()
         SomeHasNoDer (held rs) }
     ensures codec { ⟦<DerBuffer as RecordBuffer>⟧.own_codec ≡ Der }
 {}
+
+/// A law: the name of an encoder of DER.
+pub fn name_of_the_encoder(encoder: &DerEncoder) -> Codec
+    ensures { result ≡ Der }
+{
+    encoder.codec()
+}
 
 /// A law of the encoder: what types see that it has written.
 pub fn the_encoder_writes_der(encoder: &BufferEncoder<DerBuffer>)
