@@ -1,11 +1,15 @@
--- Elements are cut off: bytes behind change nothing, and what was written is one element.
-use Rattle.std.proofs.Common.{◌≡◌, ℕ, Bool, false, List, [], ◌∷◌, ◌++◌, Some, ap, sym, subst, ◌∙◌, arith, append-nil, length, length-append}
+-- Elements are cut off: bytes behind change nothing, what is cut off is one element, and so is what was written.
+use Rattle.std.proofs.Common.{◌≡◌, ℕ, ◌≤◌, Bool, false, List, [], ◌∷◌, ◌++◌, Some, ap, sym, subst, ◌∙◌, arith, append-nil, drop, length, length-append, length-drop, refl, take}
+use Rattle.std.proofs.Math.Seq.{take-append_seam}
+use Rattle.std.proofs.lemmas.List.{take-append-drop}
+use Rattle.std.specs.Prelude.{◌↔◌, IsTrue}
 use Rattle.asn1_der_records.proofs.RecordElements.{record_element}
 use Rattle.asn1_der_records.specs.Bytes.{HaveDer}
 use Rattle.asn1_der_encoder.specs.Format.{Carries, der_format}
-use Rattle.asn1_der_items.proofs.Behind.{element_at-append, element_before}
+use Rattle.asn1_der_items.proofs.Behind.{cut_off, element_at-append, element_before}
+use Rattle.asn1_der_items.proofs.OneElement.{one, some_bytes}
 use Rattle.asn1_der_items.specs.Elements.{Element, element_at}
-use Rattle.asn1_der_items.specs.Series.{is_one_element}
+use Rattle.asn1_der_items.specs.Series.{is_one_element, is_whole}
 use Rattle.asn1_der.specs.Cuts.{IsCut, cut_within, der_fronts}
 use Rattle.asn1_der.specs.declared.reader.DerReader.{DerReader}
 use Rattle.asn1_model.proofs.SameRecords.{same-mark}
@@ -31,6 +35,33 @@ one_cut bytes m n a b =
     let found : Some a.element ≡ Some b.element = sym a.at ∙ b.at in
     let same : a.element ≡ b.element = cc in
     omega (arith, a.long, b.long, ap (λ (e : Element). length e.rest) same)
+
+-- What is cut off is one element, and one element is cut off.
+abbrev IsElementLong : List ℕ → ℕ → Type 0
+IsElementLong bytes n = (n ≤ length bytes) × IsTrue (is_one_element (take n bytes))
+
+element_of_cut : (bytes : List ℕ) (n : ℕ) → IsCut bytes n → IsElementLong bytes n
+element_of_cut bytes n cut =
+    let c = cut_off bytes cut.element cut.at in
+    let long : n ≡ length c.own = omega (arith, cut.long, ap length c.are, length-append c.own cut.element.rest) in
+    let first : take n bytes ≡ c.own = ap (λ l. take n l) c.are ∙ ap (λ k. take k (c.own ++ cut.element.rest)) long ∙ take-append_seam c.own cut.element.rest in
+    (omega (arith, cut.long), ap is_one_element first ∙ ap is_whole c.alone.at)
+
+cut_of_element : (bytes : List ℕ) (n : ℕ) → IsElementLong bytes n → IsCut bytes n
+cut_of_element bytes n (within, is) =
+    let e = one (take n bytes) is in
+    record {
+      element = element_before e.element (drop n bytes);
+      at = ap element_at (sym (take-append-drop n bytes)) ∙ element_at-append (take n bytes) (drop n bytes) e.element e.alone.at;
+      long = omega (arith, within, ap length e.alone.alone, length-append e.element.rest (drop n bytes), length-drop n bytes);
+    }
+
+pub cut_is_element : (bytes : List ℕ) (n : ℕ) → IsCut bytes n ↔ ((n ≤ length bytes) × IsTrue (is_one_element (take n bytes)))
+cut_is_element bytes n = ((λ cut. element_of_cut bytes n cut), (λ element. cut_of_element bytes n element))
+
+-- no element is empty
+pub no_empty_cut : (bytes : List ℕ) → IsCut bytes 0 → ⊥
+no_empty_cut bytes cut = some_bytes (take 0 bytes) (element_of_cut bytes 0 cut).1 refl
 
 cuts_elements : CutsItems IsCut
 cuts_elements = record {

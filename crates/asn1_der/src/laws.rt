@@ -1,13 +1,12 @@
 //! Laws of what no other contract names: what the codec and its reader come to, and what derives give.
-ghost use Rattle.asn1_der_records.specs.Bytes.{SomeHasNoDer};
 ghost use Rattle.asn1_der_encoder.specs.Format.{Carries};
 ghost use Rattle.asn1_der_items.specs.Series.{is_one_element};
 ghost use Rattle.asn1_der.specs.Outputs.{HaveNoDer};
-ghost use Rattle.asn1_model.specs.Meaning.{IsWellTagged};
-ghost use Rattle.asn1_model.specs.Records.{Record, held};
+ghost use Rattle.asn1_model.specs.Meaning.{IsWellTagged, own_records};
+ghost use Rattle.asn1_model.specs.Records.{Record, highest};
 ghost use Rattle.asn1_streams.specs.Fronts.{BelongsTo, IsSteady};
 ghost use Rattle.asn1_tags.specs.Derives.{ClonesAll};
-ghost use Rattle.std.specs.Prelude.{◌≡◌, ◌↔◌, List, ℕ};
+ghost use Rattle.std.specs.Prelude.{◌≡◌, ◌↔◌, ◌≤◌, IsTrue, List, ℕ, length, take};
 
 use crate::reader::DerReader;
 use crate::rules::DerRules;
@@ -34,6 +33,20 @@ pub fn the_reader_belongs_to_the_rules<T: Decode>(reader: &DerReader)
     ensures belongs { IsWellTagged T.meaning →
         BelongsTo ⟦<DerReader as FrontReader<T>>⟧.fronts reader.now
         ⟦<DerRules as Rules>⟧.format T.meaning T.eq }
+{}
+
+/// A law of the reader: it takes the first bytes of an input for those of one value if and only if they are one whole element
+/// (`cut`), and never none (`never_none`). It opens as many nested scopes as it was made with (`depth`), and a value has the height
+/// of its own records (`height`).
+pub fn the_reader_cuts_one_element<T: Decode>(reader: &DerReader)
+    ensures cut { (bytes : List ℕ) (n : ℕ) →
+        ⟦<DerReader as FrontReader<T>>⟧.fronts.cut reader.now bytes n ↔
+        ((n ≤ length bytes) × IsTrue (is_one_element (take n bytes))) }
+    ensures never_none { (bytes : List ℕ) →
+        ¬ ⟦<DerReader as FrontReader<T>>⟧.fronts.cut reader.now bytes 0 }
+    ensures depth { ⟦<DerReader as FrontReader<T>>⟧.fronts.depth reader.now ≡ reader.now.depth }
+    ensures height { (v : T) → ⟦<DerReader as FrontReader<T>>⟧.fronts.height v ≡
+        highest (own_records T.meaning v) }
 {}
 
 /// A law of the derives: clones of the rules and of a reader are their sources.

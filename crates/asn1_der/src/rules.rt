@@ -36,6 +36,7 @@ impl DerRules {
 
 impl Rules for DerRules {
     ghost use Rattle.asn1_der_encoder.specs.Format.{der_format, der_is_lawful};
+    ghost use Rattle.asn1_rules.specs.Rules.{ReadsCarried, RefusesCarried, RefusesTrailingRecords};
 
     type Output = Vec<u8>;
 
@@ -45,7 +46,14 @@ impl Rules for DerRules {
         write_whole::<DerBuffer, T>(self.alloc, value, depth)
     }
 
-    fn read_value<T: Decode>(&self, output: &Vec<u8>, depth: usize) -> Result<T, DecodeError> {
+    fn read_value<T: Decode>(&self, output: &Vec<u8>, depth: usize) -> Result<T, DecodeError>
+        ensures read { ReadsCarried der_format.accepts (der_format.carries output.now)
+            T.meaning T.eq depth result }
+        ensures refuses { RefusesCarried der_format.accepts (der_format.carries output.now)
+            T.meaning T.refusals depth result }
+        ensures none_left { RefusesTrailingRecords der_format.accepts
+            (der_format.carries output.now) T.meaning result }
+    {
         let decoder = DerDecoder::new(self.alloc, output.as_slice(), depth);
         read_whole(decoder)
     }
