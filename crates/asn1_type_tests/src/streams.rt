@@ -1,53 +1,11 @@
 //! Runs over a reader whose values are single bytes, and over rules that refuse everything.
-ghost use Rattle.asn1_type_tests.specs.Bytes.{byte_fronts, byte_front_is_cut};
-ghost use Rattle.std.proofs.Common.{rules};
-ghost use Rattle.asn1_type_tests.specs.NoRules.{no_format, no_format_is_lawful};
-
-use asn1_dec::{Decode, DecodeError, Needed};
-use asn1_enc::{Encode, EncodeError};
-use asn1_rules::{RoundTripError, Rules};
-use asn1_streams::{FrontReader, Iter, iter_of, read_pieces, round_trip_in_pieces, write_list};
+use asn1_bench::{ByteReader, NoRules};
+use asn1_dec::{DecodeError, Needed};
+use asn1_enc::EncodeError;
+use asn1_rules::RoundTripError;
+use asn1_streams::{Iter, iter_of, read_pieces, round_trip_in_pieces, write_list};
 use std::alloc::Global;
 use std::process::Abort;
-
-/// Reads one byte as a value.
-#[derive(Clone, Copy, Drop)]
-struct ByteReader;
-
-impl FrontReader<u8> for ByteReader {
-    ghost fronts = { byte_fronts };
-
-    fn read_front(&self, input: &[u8]) -> Result<(u8, usize), DecodeError> {
-        match input {
-            [] => Err(DecodeError::Incomplete(Needed::Size(1))),
-            [first, ..] => Ok((*first, 1)),
-        }
-    }
-
-    ghost lawful = { record {
-      is_cut = λ reader bytes v n front. byte_front_is_cut bytes v n front;
-      within = λ reader bytes n cut. Prim.search rules;
-    } };
-}
-
-/// Writes and reads nothing.
-struct NoRules;
-
-impl Rules for NoRules {
-    type Output = Vec<u8>;
-
-    ghost format = { no_format };
-
-    fn write_value<T: Encode>(&self, _value: &T, _depth: usize) -> Result<Vec<u8>, EncodeError> {
-        Err(EncodeError::Custom("refused"))
-    }
-
-    fn read_value<T: Decode>(&self, _output: &Vec<u8>, _depth: usize) -> Result<T, DecodeError> {
-        Err(DecodeError::Custom("refused"))
-    }
-
-    ghost lawful = { no_format_is_lawful };
-}
 
 /// The next byte is this one, and then this many bytes have been consumed and shifted.
 fn assert_next(
