@@ -8,9 +8,11 @@
 //! | [`Integer`], [`IntegerType`], [`ConstrainedInteger`], [`LimitedInteger`] | `asn1_integers` |
 //! | [`VisibleString`], [`OctetString`] and the other kinds of string, [`ObjectIdentifier`] | `asn1_strings` |
 //!
-//! `specs/Lib.antt` exports the definitions of both under their own names, and `proofs/Lib.antt` their lemmas.
+//! Both crates are here as [`integers`] and [`strings`] too, with their modules of laws. `specs/Lib.antt` exports the
+//! definitions of both under their own names, and `proofs/Lib.antt` their lemmas.
 #![tactic(auto)]
 
+pub use asn1_integers as integers;
 pub use asn1_integers::{
     Between, ConstrainedInteger, Integer, IntegerType, LimitedInteger, Limits, OutOfRangeError,
 };
