@@ -22,8 +22,10 @@ const BUFFER_LENGTH: usize = 32 * 1024;
 ///
 /// An interrupted read is tried again. A read that fails, or 2^64 - 1 reads that meet no end of the input, answer
 /// [`CheckError::Reading`]; then the text for all lines that had ended is written. Where memory runs out it answers
-/// [`CheckError::Memory`]; then the text for the lines before the one for which it ran out is written, so that no line before the
-/// last read, of 32 KiB at most, is without its text. A table that is open then has neither its verdict nor `not checked`. After [`CheckError::Writing`] nothing is known of what is written.
+/// [`CheckError::Memory`]; then the text for the lines before the one for which it ran out is written. The clause `memory` says
+/// so of all that was read but the last 32 KiB at most, since no clause can name the last read; tests show the exact text. A
+/// table that is open then has neither its verdict nor `not checked`. After [`CheckError::Writing`] nothing is known of what is
+/// written.
 pub fn check<R: Read, W: Write>(
     alloc: Global,
     reader: &mut R,

@@ -95,7 +95,8 @@ pub fn the_table_of_a_shape_fits()
     ensures { TableFits (leaves_of (trees_of (all_of ⟦<Shape as Choice>⟧.alternatives))) LEAVES.now }
 {}
 
-/// A law of the extension markers: of the SEQUENCE and SET types a `Profile` and a `Visit` have one, and no other.
+/// A law of the extension markers: of the SEQUENCE and SET types that do not hold themselves a `Profile` and a `Visit` have one,
+/// and no other.
 pub fn some_types_have_an_extension_marker()
     ensures person { has_marker ⟦<Person as FieldTable>⟧.components.extension ≡ false }
     ensures notice { has_marker ⟦<Notice as FieldTable>⟧.components.extension ≡ false }

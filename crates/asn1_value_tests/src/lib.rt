@@ -1,4 +1,4 @@
-//! Tests of the public calls of the crates below `asn1_model`: `asn1_values`, `asn1_values`, `asn1_tags`, `asn1_ranges` and
+//! Tests of the public calls of the crates below `asn1_model`: `asn1_values` (numbers and strings), `asn1_tags`, `asn1_ranges` and
 //! `asn1_bounds`.
 //!
 //! A crate that has tests is proved twice, so those that need no private item are together here, and the crates below are

@@ -72,6 +72,6 @@ pub fn types_begin_with_their_tags<T: AsnType, V: AsnType, const N: usize>()
 {}
 
 /// A law of the hash of a set: it is that of how many elements there are.
-pub fn sets_feed_their_length<V: Eq>()
+pub fn sets_feed_their_length<V: Eq + Hash>()
     ensures { (set : List V) → ⟦<SetOf<V> as Hash>⟧.hash_input set ≡ fed.usize (length set) }
 {}
