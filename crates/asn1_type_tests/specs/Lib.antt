@@ -1,3 +1,4 @@
+pub mod ChainExample
 pub mod ChoiceExamples
 pub mod ComponentExamples
 pub mod EnumerationExamples

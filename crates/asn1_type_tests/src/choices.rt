@@ -10,6 +10,7 @@ ghost use Rattle.asn1_model.specs.Tags.{context};
 ghost use Rattle.asn1_choices.specs.Alternatives.{alternative, closed, extensible, table_of, variance_of};
 ghost use Rattle.asn1_choices.specs.ChoiceTypes.{choice_of};
 ghost use Rattle.asn1_recursive.specs.declared.nested.Nested.TheVariants.{Flag, Inner};
+ghost use Rattle.asn1_type_tests.specs.ChainExample.{chain_meaning};
 ghost use Rattle.asn1_type_tests.specs.ChoiceExamples.{inner_flag_true, later_nine, reply_table, two_places_and_more};
 ghost use Rattle.asn1_type_tests.specs.declared.choices.reply.Reply.TheVariants as reply;
 ghost use Rattle.asn1_samples.specs.declared.shape.Shape.TheVariants as shape;
@@ -34,6 +35,13 @@ fn same_tag_twice()
     ensures inside { ¬ IsWellTagged (choice_of (codes "Twice") (closed (
         alternative (codes "inner") (untagged ⟦<Corner as AsnType>⟧.meaning) ∷
         alternative (codes "flag") (untagged ⟦<bool as AsnType>⟧.meaning) ∷ [])) (λ x. x)) }
+{}
+
+/// A CHOICE that holds itself without a tag, in a SET among its alternatives, can be inside others where its neighbour there has
+/// a tag of none of its alternatives.
+fn a_choice_in_a_set_of_its_own()
+    ensures apart { IsWellTagged (chain_meaning (context 5)) }
+    ensures shared { ¬ IsWellTagged (chain_meaning (context 1)) }
 {}
 
 /// `later : 9`, of an alternative after the extension marker.

@@ -1,5 +1,4 @@
-//! What a codec is told beside the records, and the texts of errors. The records of each type and of each call are tested
+//! What a codec is told beside the records. The records of each type and of each call are tested
 //! over a codec that keeps them, in `asn1_bench_tests`.
-mod errors;
 mod listener;
 mod told;

@@ -1,4 +1,4 @@
-//! Tests of the public calls of the crates from `asn1_model` to `asn1_enc`, and of `asn1_samples`, `asn1_recursive`,
+//! Tests of the public calls of the crates from `asn1_model` to `asn1_dec`, and of `asn1_samples`, `asn1_recursive`,
 //! `asn1_clash` and `asn1_streams`.
 //!
 //! A crate that has tests is proved twice, so those that need no private item are together here, and the crates below are
@@ -14,8 +14,10 @@
 //! | `choices` | CHOICE types that cannot be, and one with an alternative after the extension marker |
 //! | `enumerations` | an ENUMERATED type: its numbers and names |
 //! | `types` | sets, open types and wrappers: worked values, and copies |
-//! | `encoder` | what a codec is told beside the records when a value is written, and the texts of errors |
-//! | `samples` | a type whose constraints take memory |
+//! | `encoder` | what a codec is told beside the records when a value is written |
+//! | `errors` | the texts of all errors |
+//! | `samples` | a type whose constraints take memory, and sets of values that are equal by a part |
+//! | `packed` | types that are written and not read, arrays of octets, and an entry point, in packed bytes |
 //! | `streams` | what an `Iter` has unread, consumed and moved, and what comes out of pieces |
 //! | `clash` | the search for components without distinct tags, against that of `asn1_fields` |
 //!
@@ -36,9 +38,13 @@ mod encoder;
 #[cfg(test)]
 mod enumerations;
 #[cfg(test)]
+mod errors;
+#[cfg(test)]
 mod fields;
 #[cfg(test)]
 mod model;
+#[cfg(test)]
+mod packed;
 #[cfg(test)]
 mod samples;
 #[cfg(test)]

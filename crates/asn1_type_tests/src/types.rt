@@ -98,9 +98,7 @@ fn assert_bytes(rt: &impl Abort, bytes: &[u8], wanted: &[u8]) {
 
 /// Puts the number into the set.
 fn put(rt: &impl Abort, numbers: &mut SetOf<u8>, number: u8) {
-    if numbers.insert(number).is_err() {
-        panic!(rt; "memory");
-    }
+    numbers.try_insert(number).expect(rt, "memory");
 }
 
 /// Puts the number into the set. Where there is no room for it, it comes back, and the set has what it had; then it is put again.
@@ -112,12 +110,27 @@ fn put_again(rt: &impl Abort, numbers: &mut SetOf<u8>, number: u8, before: &[u8]
     assert!(rt; numbers.eq_slice(after));
 }
 
-/// Asserts how many elements a copy of the set has, and a list of them.
-fn assert_copied(rt: &impl Abort, alloc: Global, set: &SetOf<u8>, count: usize) {
+/// The set of these numbers, in this order.
+fn set_of(rt: &impl Abort, alloc: Global, numbers: &[u8]) -> SetOf<u8> {
+    SetOf::from_slice(alloc, numbers).expect(rt, "memory")
+}
+
+/// Asserts that the set has these elements in this order, and so has a copy of it.
+fn assert_copied(rt: &impl Abort, alloc: Global, set: SetOf<u8>, expected: &[u8]) {
     let copy = set.try_clone(alloc).expect(rt, "memory");
-    assert!(rt; copy.len() == count);
+    assert_bytes(rt, copy.into_vec().as_slice(), expected);
+    assert_bytes(rt, set.into_vec().as_slice(), expected);
+}
+
+/// Asserts that a list of references to the elements of the set has these, in this order.
+fn assert_listed(rt: &impl Abort, alloc: Global, set: &SetOf<u8>, expected: &[u8]) {
     let list = set.to_vec(alloc).expect(rt, "memory");
-    assert!(rt; list.len() == count);
+    assert!(rt; list.len() == expected.len());
+    assert!(rt;
+        list.iter()
+            .zip(expected.iter())
+            .all(|(listed, number)| **listed == *number)
+    );
 }
 
 #[test]
@@ -125,7 +138,8 @@ fn sets_are_made_and_copied(rt: HostRuntime) {
     let mut numbers = SetOf::with_capacity(rt.alloc(), 1).expect(&rt, "memory");
     put(&rt, &mut numbers, 3);
     put(&rt, &mut numbers, 1);
-    assert_copied(&rt, rt.alloc(), &numbers, 2);
+    assert_listed(&rt, rt.alloc(), &numbers, &[3, 1]);
+    assert_copied(&rt, rt.alloc(), numbers, &[3, 1]);
 }
 
 /// Under `rt try --test --fail-alloc N` the Nth growth is refused.
@@ -140,9 +154,49 @@ fn a_number_without_room_comes_back(rt: HostRuntime) {
 }
 
 #[test]
-fn sets_are_made_of_arrays(rt: HostRuntime) {
+fn sets_are_made_of_slices_and_arrays(rt: HostRuntime) {
+    let set = set_of(&rt, rt.alloc(), &[3, 1, 3]);
+    assert_copied(&rt, rt.alloc(), set, &[3, 1, 3]);
     let set = SetOf::from_array(rt.alloc(), &[3u8, 1, 3]).expect(&rt, "memory");
-    assert_copied(&rt, rt.alloc(), &set, 3);
+    assert_copied(&rt, rt.alloc(), set, &[3, 1, 3]);
+}
+
+/// Asserts whether the sets of these numbers are equal.
+fn assert_equality(rt: &impl Abort, alloc: Global, left: &[u8], right: &[u8], is_equal: bool) {
+    let set = set_of(rt, alloc, left);
+    let other = set_of(rt, alloc, right);
+    assert!(rt; (set == other) == is_equal && (other == set) == is_equal);
+    assert!(rt; set.eq_slice(right) == is_equal && other.eq_slice(left) == is_equal);
+}
+
+#[test]
+fn sets_are_equal_by_how_often_each_element_is_there(rt: HostRuntime) {
+    assert_equality(&rt, rt.alloc(), &[1, 2, 3, 4, 5], &[5, 4, 3, 2, 1], true);
+    assert_equality(&rt, rt.alloc(), &[1, 2, 3, 4, 5], &[1, 2, 3, 4, 6], false);
+    assert_equality(&rt, rt.alloc(), &[1, 1, 2], &[1, 2, 2], false);
+    assert_equality(&rt, rt.alloc(), &[1, 2, 3], &[1, 1, 2, 2, 3, 3], false);
+}
+
+/// Asserts whether the number is found in the set of these, and what is left once it is taken.
+fn assert_removed(
+    rt: &impl Abort,
+    alloc: Global,
+    numbers: &[u8],
+    number: u8,
+    is_found: bool,
+    left: &[u8],
+) {
+    let mut set = set_of(rt, alloc, numbers);
+    assert!(rt; set.contains(&number) == is_found);
+    assert!(rt; set.remove(&number) == is_found);
+    assert!(rt; set.len() == left.len());
+    assert_bytes(rt, set.into_vec().as_slice(), left);
+}
+
+#[test]
+fn the_first_equal_element_is_taken(rt: HostRuntime) {
+    assert_removed(&rt, rt.alloc(), &[1, 1, 2], 1, true, &[2, 1]);
+    assert_removed(&rt, rt.alloc(), &[3, 1], 7, false, &[3, 1]);
 }
 
 #[test]
