@@ -1,5 +1,5 @@
 -- Single bytes as values.
-use Rattle.std.proofs.Common.{◌≡◌, ◌∙◌, ℕ, List, [], ◌∷◌, ◌++◌, Some, sym, ap, refl, rules}
+use Rattle.std.proofs.Common.{◌≡◌, ◌∙◌, ℕ, List, [], ◌∷◌, ◌++◌, Some, sym, ap}
 use Rattle.std.specs.Prelude.{◌↔◌, slice_get}
 use Rattle.asn1_bench.specs.Bytes.{byte_cut, byte_front, byte_fronts}
 use Rattle.asn1_bench.specs.declared.byte_reader.ByteReader.{ByteReader}

@@ -7,14 +7,14 @@ use Rattle.std.specs.Ordering.{is_lt, nat_cmp}
 use Rattle.std.proofs.lemmas.Bool.Decides.{nat_tests}
 use Rattle.std.proofs.lemmas.List.Elements.{All-cons, All-head, All-nil, All-tail}
 use borrow.Author.Tests.{eqb-true}
-use Rattle.asn1_der_decoder.specs.Rising.{AreAfter, IsInOrder, IsReached, RiseFrom, falls}
+use Rattle.asn1_der_decoder.specs.Rising.{AreAfter, IsReached, RiseFrom, falls}
 use Rattle.asn1_der_records.specs.declared.form.ScopeForm.{ScopeForm}
 use Rattle.asn1_der_records.specs.declared.form.ScopeForm.TheVariants.{AsDefined, ByTag, ByEncoding, Chosen}
 use Rattle.asn1_der_items.proofs.Behind.{cut_off}
 use Rattle.asn1_der_items.proofs.OneElement.{one}
 use Rattle.asn1_der_decoder.proofs.Taking.{found_before, front_of, is_found}
 use Rattle.asn1_der_items.specs.Elements.{Element, element_at}
-use Rattle.asn1_der_items.specs.Series.{AreElements, IsAlone, is_one_element, is_whole, tag_found, tag_of}
+use Rattle.asn1_der_items.specs.Series.{IsAlone, is_one_element, is_whole, tag_found, tag_of}
 use Rattle.asn1_model.specs.Tags.{CHOICE}
 use Rattle.asn1_tags.specs.Tags.{tag_cmp}
 use Rattle.asn1_tags.specs.declared.classes.Class.{Class}

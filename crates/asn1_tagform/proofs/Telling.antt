@@ -1,6 +1,6 @@
 -- What the tag of the next item tells: whether something is there.
-use Rattle.std.proofs.Common.{◌≡◌, Bool, true, false, List, [], ◌∷◌, ◌++◌, Option, None, Some, Ok, Err, refl, ap, sym, subst, ◌∙◌}
-use Rattle.std.specs.Prelude.{◌↔◌, ℕ, IsTrue, MatchResult}
+use Rattle.std.proofs.Common.{◌≡◌, Bool, true, false, List, [], ◌∷◌, ◌++◌, None, Some, Ok, Err, refl, ap, sym, subst, ◌∙◌}
+use Rattle.std.specs.Prelude.{◌↔◌, ℕ, IsTrue}
 use Rattle.asn1_codec.proofs.MarksPassed.{first_left, none_left}
 use Rattle.asn1_codec.specs.Reading.{marks_passed}
 use Rattle.asn1_items.specs.Headers.{Header, header_at}
@@ -10,7 +10,7 @@ use Rattle.asn1_items.specs.Slices.{left_inside}
 use Rattle.asn1_items.specs.declared.error.ItemError.{ItemError}
 use Rattle.asn1_items.specs.declared.slices.Slices.{Slices}
 use Rattle.asn1_model.specs.Records as model
-use Rattle.asn1_model.specs.Records.{held, presence_mark, presence_marks_alone}
+use Rattle.asn1_model.specs.Records.{held, presence_mark}
 use Rattle.asn1_model.specs.Tags.{Tags, Has, first_tags, record_tags}
 use Rattle.asn1_model.proofs.TagSets.{lies_has}
 use Rattle.asn1_packed.proofs.NextTags.{next_header, none_next}

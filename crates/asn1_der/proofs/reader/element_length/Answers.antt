@@ -1,7 +1,6 @@
-use Rattle.std.proofs.Common.{arith, length}
+use Rattle.std.proofs.Common.{arith}
 use Rattle.asn1_der_items.proofs.Behind.{element_at-shorter}
 use Rattle.asn1_der_items.specs.Elements.{Element}
-use Rattle.asn1_der.specs.Cuts.{IsCut}
 use Rattle.asn1_der.proofs.reader.element_length.Goals as goal
 
 pub overflow_sub-result : goal.overflow_sub-result
