@@ -57,12 +57,12 @@ fn read_components<S: DecodeSet, D: Decoder>(decoder: &mut D, tag: Tag) -> Resul
 {
     let bound = decoder.open_set::<S>(tag)?;
     let parts = read_parts::<S, D>(decoder, bound)?;
-    let value = match S::from_fields(decoder.global(), parts) {
-        Ok(value) => value,
-        Err(error) => return Err(decoder.refuse(error)),
-    };
+    // What is left then was read as no component: one of no bytes came again and again.
     decoder.close()?;
-    Ok(value)
+    match S::from_fields(decoder.global(), parts) {
+        Ok(value) => Ok(value),
+        Err(error) => Err(decoder.refuse(error)),
+    }
 }
 
 /// A SET, by its components, in whatever order they come. Of a type that is one it reads a value of the type, under whatever

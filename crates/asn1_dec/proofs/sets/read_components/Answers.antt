@@ -20,7 +20,7 @@ returns-in_err-close-clause-read g c =
     rw (p.1, p.2) (not_closed g.D.Decoder.reader c.args.tag g.S.FieldTable.components g.S.PartialEq.eq _ _ _ c.args.decoder.now _ c.in_ok-bound.ensures.read
     c.in_ok-parts.parts (λ v parts. ArePartsOf (all_components g.S.FieldTable.components) v g.S.DecodeSet.index_of (g.S.DecodeSet.is_part_of v) parts.items) c.in_ok-parts.ensures.read c.in_err-close.ensures.read)
 
-pub returns-clause-read : goal.returns-clause-read
-returns-clause-read g c =
+pub returns-in-Ok-clause-read : goal.returns-in-Ok-clause-read
+returns-in-Ok-clause-read g c =
     is_read g.D.Decoder.reader c.args.tag g.S.FieldTable.components g.S.PartialEq.eq _ _ _ _ _ c.in_ok-bound.ensures.read
     c.in_ok-parts.parts (λ v parts. ArePartsOf (all_components g.S.FieldTable.components) v g.S.DecodeSet.index_of (g.S.DecodeSet.is_part_of v) parts.items) c.in_ok-parts.ensures.read _ c.in_ok-bound.ensures.takes_depth.one_less c.in-Ok.ensures.made c.in_ok-close.ensures.read
