@@ -302,13 +302,14 @@ def damage(seconds):
         seed += 1
         process = subprocess.run([TRIALS_PROGRAM, "each", "damage", str(seed), "10000"], stdout=subprocess.PIPE)
         said = process.stdout.decode()
-        if process.returncode != 0 or any(not line.endswith(": what was read comes back") for line in said.splitlines()):
+        if process.returncode != 0 or said.splitlines() != [f"{codec}: what was read comes back" for codec in CODECS]:
             sys.exit(f"seed {seed}: status {process.returncode}, {said}")
     print(f"{seed} seeds")
 
 
 def refuse_growths():
-    """Refuses each growth in turn, and stops where the program says anything else than that all come back or that there is no memory."""
+    """Refuses each growth in turn, and stops where the program says anything else than that all come back or that there is no memory,
+    or where it does not say that all come back once no growth is refused."""
     with tempfile.TemporaryDirectory() as folder:
         library = os.path.join(folder, "librefuse.so")
         source = os.path.join(ROOT, "bench", "refuse.rs")
@@ -324,12 +325,15 @@ def refused_growths(library, job):
         environment = {**os.environ, "LD_PRELOAD": library, "REFUSED": str(number)}
         process = subprocess.run([TRIALS_PROGRAM, *job], env=environment, capture_output=True)
         said = process.stdout.decode().rstrip()
+        name = job[1] if job[1] == "pieces" else job[0]
         if b"a growth is refused" not in process.stderr:
+            if process.returncode != 0 or said != f"{name}: all come back":
+                sys.exit(f"{job}, no growth refused: status {process.returncode}, {said}")
             return number - 1
-        if process.returncode == 0 and not said.endswith((": all come back", ": no memory")):
-            sys.exit(f"{job}, growth {number}: {said}")
-        if process.returncode not in (0, 1):
-            sys.exit(f"{job}, growth {number}: status {process.returncode}")
+        # with status 1 the program had no memory for its arguments or its output
+        allowed = {0: (f"{name}: all come back", f"{name}: no memory"), 1: ("", f"{name}:")}
+        if said not in allowed.get(process.returncode, ()):
+            sys.exit(f"{job}, growth {number}: status {process.returncode}, {said}")
         number += 1
 
 

@@ -1,14 +1,13 @@
-//! Tests of the packed codec and of the tag form: what no contract says, by bytes that were made by hand, and the cases of every codec.
+//! Tests of the packed codec and of the tag form: what no contract says, by calls, and the cases of every codec. What bytes say by
+//! themselves is a line of `test_vectors`.
 //!
 //! | Module | What it tries |
 //! |---|---|
-//! | `bytes` | the bytes of worked values in packed form |
-//! | `tag_form` | the bytes of worked values in the tag form, and what is refused there |
+//! | `bytes` | the bytes of worked values that no line of `test_vectors` can have |
 //! | `types` | a value of each type, and what no codec reads |
 //! | `samples` | the sample types, and from one codec to the other |
-//! | `sets` | a SET that is read by place |
 //! | `calls` | each call of the encoder and of the decoder |
-//! | `refusals` | bytes that no value has: which part is looked at first, and by which error it is refused |
+//! | `refusals` | bytes that are damaged, begun or told to be long |
 //! | `depth` | how long nested values are, and what is answered where no scope may be opened |
 //! | `streams` | values one after another, out of bytes that come in pieces |
 //! | `failures` | errors of writing, and an encoder after an error |
@@ -37,10 +36,6 @@ mod refusals;
 #[cfg(test)]
 mod samples;
 #[cfg(test)]
-mod sets;
-#[cfg(test)]
 mod streams;
-#[cfg(test)]
-mod tag_form;
 #[cfg(test)]
 mod types;

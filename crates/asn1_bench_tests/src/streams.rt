@@ -3,8 +3,10 @@ use crate::bytes::{PERSON, TRUE};
 use asn1_bench::{BenchReader, BenchRules};
 use asn1_codec_tests::made::text;
 use asn1_dec::{Decode, DecodeError, Needed};
+use asn1_rules::Rules;
 use asn1_samples::Person;
 use asn1_streams::{Iter, iter_of, read_pieces, write_list};
+use asn1_tagform::TagRules;
 use asn1_values::Integer;
 use std::alloc::Global;
 use std::process::Abort;
@@ -21,38 +23,48 @@ fn append<T: Decode>(rt: &impl Abort, iter: &mut Iter<'_, T, BenchReader>, piece
     iter.append_bytes(piece).expect(rt, "memory");
 }
 
+/// Asserts that this value is next.
+fn assert_next<T: Decode>(rt: &impl Abort, iter: &mut Iter<'_, T, BenchReader>, value: &T) {
+    match iter.next() {
+        Some(Ok(next)) => assert!(rt; next == *value),
+        _ => assert!(rt; false),
+    }
+}
+
 /// Asserts that a value comes with the last of its bytes, and not before.
 fn assert_comes<T: Decode>(
     rt: &impl Abort,
     iter: &mut Iter<'_, T, BenchReader>,
     begun: &[u8],
     last: u8,
+    value: &T,
 ) {
     for byte in begun {
         append(rt, iter, &[*byte]);
         assert_incomplete(rt, iter);
     }
     append(rt, iter, &[last]);
-    assert!(rt; matches!(iter.next(), Some(Ok(_))));
+    assert_next(rt, iter, value);
     assert!(rt; iter.unread().is_empty());
 }
 
-fn assert_comes_twice<T: Decode>(rt: &impl Abort, alloc: Global, bytes: &[u8]) {
+fn assert_comes_twice<T: Decode>(rt: &impl Abort, alloc: Global, bytes: &[u8], value: &T) {
     let [begun @ .., last] = bytes else {
         return;
     };
     let mut iter = iter_of::<T, BenchReader>(alloc, &[], BenchReader::new(alloc, 1));
     assert_incomplete(rt, &mut iter);
-    assert_comes(rt, &mut iter, begun, *last);
-    assert_comes(rt, &mut iter, begun, *last);
+    assert_comes(rt, &mut iter, begun, *last, value);
+    assert_comes(rt, &mut iter, begun, *last, value);
     assert_incomplete(rt, &mut iter);
     assert_incomplete(rt, &mut iter);
 }
 
 #[test]
 fn a_value_comes_with_its_last_byte(rt: HostRuntime) {
-    assert_comes_twice::<bool>(&rt, rt.alloc(), TRUE);
-    assert_comes_twice::<Person>(&rt, rt.alloc(), PERSON);
+    let alloc = rt.alloc();
+    assert_comes_twice(&rt, alloc, TRUE, &true);
+    assert_comes_twice(&rt, alloc, PERSON, &person(&rt, alloc, 30, "Ann"));
 }
 
 fn person(rt: &impl Abort, alloc: Global, age: u8, name: &str) -> Person {
@@ -101,16 +113,29 @@ fn persons_come_back_wherever_their_bytes_are_cut(rt: HostRuntime) {
     assert_read_wherever_cut(&rt, rt.alloc(), &three_persons(&rt, rt.alloc()));
 }
 
-fn assert_list(rt: &impl Abort, alloc: Global, values: &[bool], bytes: &[u8]) {
-    let written = write_list(alloc, &BenchRules::new(alloc), values, 0).expect(rt, "memory");
+fn assert_list<R: Rules<Output = Vec<u8>>>(
+    rt: &impl Abort,
+    alloc: Global,
+    rules: &R,
+    values: &[bool],
+    bytes: &[u8],
+) {
+    let written = write_list(alloc, rules, values, 0).expect(rt, "memory");
     assert!(rt; written.as_slice() == bytes);
 }
 
+/// `TRUE` and `FALSE`, one after the other.
+const BOTH: &[u8] = &[
+    1, 0, 0, 0, 0, 1, 1, 0, 0, 0, 1, 1, 1, 0, 0, 0, 0, 1, 1, 0, 0, 0, 1, 0,
+];
+
 #[test]
 fn a_list_is_written_item_after_item(rt: HostRuntime) {
-    let both = [
-        1, 0, 0, 0, 0, 1, 1, 0, 0, 0, 1, 1, 1, 0, 0, 0, 0, 1, 1, 0, 0, 0, 1, 0,
-    ];
-    assert_list(&rt, rt.alloc(), &[true, false], &both);
-    assert_list(&rt, rt.alloc(), &[], &[]);
+    let alloc = rt.alloc();
+    let packed = BenchRules::new(alloc);
+    assert_list(&rt, alloc, &packed, &[true, false], BOTH);
+    assert_list(&rt, alloc, &packed, &[], &[]);
+    let tags = TagRules::new(alloc);
+    assert_list(&rt, alloc, &tags, &[true, false], BOTH);
+    assert_list(&rt, alloc, &tags, &[], &[]);
 }

@@ -13,7 +13,7 @@ mod tagged;
 pub use additions::{additions_come_back, additions_with_defaults_come_back};
 pub use defaults::{a_default_without_memory_is_an_error, defaults_come_back};
 pub use each::each_call_comes_back;
-pub use entry_points::entry_points_come_back;
+pub use entry_points::{comes_back_by_entry_points, entry_points_come_back};
 pub use explicit_tags::explicit_tags_come_back;
 pub use kinds::{
     scalars_come_back_under_a_tag, scopes_come_back_under_a_tag, strings_come_back_under_a_tag,

@@ -1,13 +1,14 @@
-//! Calls for groups of additions, items of an ENUMERATED, and a CHOICE under a tag.
+//! Calls for groups of additions, items of an ENUMERATED, a CHOICE under a tag, and a type whose own constraints take memory.
 use crate::samples::contact;
 use crate::sets;
-use asn1_codec_tests::calls::comes_back_under;
+use asn1_codec_tests::calls::{comes_back_by_entry_points, comes_back_under};
+use asn1_codec_tests::made::letters;
 use asn1_codec_tests::{
     CallRules, Calls, FIRST, Failure, NAME, answers, answers_none, calls_come_back,
 };
 use asn1_dec::Decoder;
 use asn1_enc::{EncodeError, Encoder};
-use asn1_samples::{Color, Contact, Shape};
+use asn1_samples::{Color, Contact, Plate, Shape};
 use asn1_tags::Tag;
 use std::alloc::Global;
 
@@ -103,6 +104,17 @@ pub fn choices_come_back_under_a_tag<R: CallRules>(rules: &R) -> Result<(), Fail
     ))
 }
 
+/// Whether a plate comes back by each entry point, with its own alphabet or without.
+///
+/// # Errors
+/// Why it did not.
+pub fn plates_come_back_by_entry_points<R: CallRules>(
+    rules: &R,
+    alloc: Global,
+) -> Result<(), Failure> {
+    comes_back_by_entry_points(rules, Plate(letters(alloc, b"AB")?))
+}
+
 /// Whether each of these calls comes back, and a badge of its components in each order; what is no badge is refused, by a codec that
 /// writes the components of a SET with their tags, whatever they are.
 ///
@@ -112,6 +124,7 @@ pub fn each_sample_call_comes_back<R: CallRules>(rules: &R, alloc: Global) -> Re
     groups_come_back(rules, alloc)
         .and(items_come_back(rules))
         .and(choices_come_back_under_a_tag(rules))
+        .and(plates_come_back_by_entry_points(rules, alloc))
         .and(sets::badges_come_back_in_any_order(rules, alloc))
         .and(sets::what_is_no_badge_is_refused(rules, alloc))
         .and(sets::no_other_component_is_read(rules))

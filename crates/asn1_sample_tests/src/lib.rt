@@ -4,7 +4,7 @@
 //! |---|---|
 //! | [`samples`] | values of each sample type, with what may be absent and without: written and read back, and from one codec to another |
 //! | [`sets`] | a SET in each order of its components, and what is none |
-//! | [`calls`] | the calls for groups of additions, items of an ENUMERATED and a CHOICE under a tag |
+//! | [`calls`] | the calls for groups of additions, items of an ENUMERATED and a CHOICE under a tag, and the entry points of a `Plate` |
 //! | [`depth`] | how many scopes the values take, up to a hundred nested nodes |
 #![tactic(auto)]
 

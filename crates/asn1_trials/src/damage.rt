@@ -1,4 +1,4 @@
-//! Bytes that are damaged, and what is read of them.
+//! Bytes that are damaged, and what is read of them. Undamaged, they are read as the value that was written.
 use crate::request::Request;
 use crate::source::Source;
 use asn1_codec_tests::{Failure, ValueCase, is_same};
@@ -44,7 +44,10 @@ pub(crate) fn run<R: Rules<Output = Vec<u8>>>(
 impl<R: Rules<Output = Vec<u8>>> ValueCase for Damage<'_, R> {
     fn try_value<T: Encode + Decode>(&self, value: T) -> Result<(), Failure> {
         match self.rules.write_value(&value, DEPTH) {
-            Ok(bytes) => self.try_bytes::<T>(&bytes),
+            Ok(bytes) => {
+                self.try_same(&bytes, &value)?;
+                self.try_bytes::<T>(&bytes)
+            }
             Err(error) => Err(Failure::of_writing(error)),
         }
     }

@@ -48,5 +48,16 @@ impl<T: Encode + Decode> NumberedCalls for EntryPoints<T> {
 /// # Errors
 /// Why it was not.
 pub fn entry_points_come_back<R: CallRules>(rules: &R, alloc: Global) -> Result<(), Failure> {
-    numbered_calls_come_back(rules, EntryPoints(String::from_str(alloc, "7")?))
+    comes_back_by_entry_points(rules, String::from_str(alloc, "7")?)
+}
+
+/// Whether a value is written and read by each entry point of its type.
+///
+/// # Errors
+/// Why it was not.
+pub fn comes_back_by_entry_points<R: CallRules, T: Encode + Decode>(
+    rules: &R,
+    value: T,
+) -> Result<(), Failure> {
+    numbered_calls_come_back(rules, EntryPoints(value))
 }

@@ -1,0 +1,74 @@
+//! The codecs that are asked.
+use asn1_bench::{BenchReader, BenchRules};
+use asn1_dec::{Decode, DecodeError};
+use asn1_der::{DerReader, DerRules};
+use asn1_enc::{Encode, EncodeError};
+use asn1_rules::Rules;
+use asn1_streams::FrontReader;
+use asn1_tagform::TagRules;
+use std::alloc::Global;
+
+/// A codec, by its name.
+#[derive(Clone, Copy, Drop)]
+pub(crate) enum Codec {
+    /// The packed codec.
+    Packed,
+    /// The tag form.
+    TagForm,
+    /// DER.
+    Der,
+}
+
+impl Codec {
+    /// The codec of this name.
+    pub(crate) fn of_name(name: &str) -> Option<Codec> {
+        match name {
+            "packed" => Some(Codec::Packed),
+            "tag" => Some(Codec::TagForm),
+            "der" => Some(Codec::Der),
+            _ => None,
+        }
+    }
+
+    /// Reads a value of all of the bytes.
+    pub(crate) fn read<T: Decode>(
+        self,
+        alloc: Global,
+        bytes: &Vec<u8>,
+        depth: usize,
+    ) -> Result<T, DecodeError> {
+        match self {
+            Codec::Packed => BenchRules::new(alloc).read_value(bytes, depth),
+            Codec::TagForm => TagRules::new(alloc).read_value(bytes, depth),
+            Codec::Der => DerRules::new(alloc).read_value(bytes, depth),
+        }
+    }
+
+    /// Reads a value of the front of the bytes. The tag form has no reader of streams, and takes them all.
+    pub(crate) fn read_front<T: Decode>(
+        self,
+        alloc: Global,
+        bytes: &Vec<u8>,
+        depth: usize,
+    ) -> Result<(T, usize), DecodeError> {
+        match self {
+            Codec::Packed => BenchReader::new(alloc, depth).read_front(bytes),
+            Codec::TagForm => Ok((self.read(alloc, bytes, depth)?, bytes.len())),
+            Codec::Der => DerReader::new(alloc, depth).read_front(bytes),
+        }
+    }
+
+    /// Writes a value.
+    pub(crate) fn write<T: Encode>(
+        self,
+        alloc: Global,
+        value: &T,
+        depth: usize,
+    ) -> Result<Vec<u8>, EncodeError> {
+        match self {
+            Codec::Packed => BenchRules::new(alloc).write_value(value, depth),
+            Codec::TagForm => TagRules::new(alloc).write_value(value, depth),
+            Codec::Der => DerRules::new(alloc).write_value(value, depth),
+        }
+    }
+}

@@ -1,0 +1,108 @@
+//! `Hollow ::= SET { nothing NULL }`, whose component is written as nothing.
+ghost use Rattle.asn1_slots.specs.Slots.{required_slot, set_of_slots};
+ghost use Rattle.asn1_types.specs.Words.{constructed_agrees, constructed_type, untagged};
+ghost use Rattle.std.specs.Prelude.{[], ◌∷◌, codes, refl};
+
+use asn1_dec::{Decode, DecodeError, Decoder};
+use asn1_enc::{Encode, EncodeError, EncodeFields, Encoder};
+use asn1_slots::{DecodeSetByPlace, Decoded, Tagging, decode_set_by_place, filled, once};
+use asn1_types::{
+    AsnType, Constraints, ConstructedType, Field, FieldTable, Identifier, Tag, TypeTable,
+};
+use std::alloc::Global;
+use std::marker::PhantomData;
+
+/// A SET with a component that takes no byte.
+#[derive(PartialEq, Eq, Debug, Drop)]
+pub(crate) struct Hollow {
+    nothing: PhantomData<u8>,
+}
+
+impl DecodeSetByPlace for Hollow {
+    type Slots = (Option<PhantomData<u8>>,);
+
+    ghost layout = { required_slot (codes "nothing") (λ h. h.nothing) (λ s. s.0) (untagged ⟦<PhantomData<u8> as AsnType>⟧.meaning) ⟦<PhantomData<u8> as PartialEq>⟧.eq ∷ [] };
+
+    fn from_slots(_alloc: Global, slots: Self::Slots) -> Result<Hollow, DecodeError> {
+        Ok(Hollow {
+            nothing: filled(slots.0, "nothing")?,
+        })
+    }
+
+    fn decode_field<D: Decoder>(place: usize, slots: &mut Self::Slots, decoder: &mut D) -> Decoded {
+        match place {
+            0 => once(&mut slots.0, decoder, Tagging::Untagged, "nothing"),
+            _ => Ok(()),
+        }
+    }
+
+    ghost no_group = { refl };
+
+    ghost empty_at_first = { λ slots empty. empty };
+}
+
+impl FieldTable for Hollow {
+    ghost components = { set_of_slots ⟦<Hollow as DecodeSetByPlace>⟧.layout };
+
+    fn field_count() -> usize {
+        1
+    }
+
+    fn field_at(place: usize) -> Option<Field<'static>> {
+        match place {
+            0 => Some(Field::new_required_type::<PhantomData<u8>>(0, "nothing")),
+            _ => None,
+        }
+    }
+
+    fn marker_place() -> Option<usize> {
+        None
+    }
+}
+
+impl AsnType for Hollow {
+    ghost meaning = { constructed_type (codes "Hollow") ⟦<Hollow as FieldTable>⟧.components };
+
+    fn table() -> TypeTable {
+        TypeTable::new(Tag::SET, Identifier(Some("Hollow")))
+    }
+
+    fn is_present(&self) -> bool {
+        true
+    }
+}
+
+impl ConstructedType for Hollow {
+    ghost agrees = { constructed_agrees };
+}
+
+impl Encode for Hollow {
+    fn encode_with_tag_and_constraints<E: Encoder>(
+        &self,
+        encoder: &mut E,
+        tag: Tag,
+        _constraints: &Constraints<'_>,
+        name: Identifier,
+    ) -> Result<(), EncodeError> {
+        encoder.encode_set(tag, self, name)
+    }
+}
+
+impl EncodeFields for Hollow {
+    fn encode_field<E: Encoder>(&self, place: usize, encoder: &mut E) -> Result<(), EncodeError> {
+        match place {
+            0 => self.nothing.encode(encoder),
+            _ => Ok(()),
+        }
+    }
+}
+
+impl Decode for Hollow {
+    fn decode_with_tag_and_constraints<D: Decoder>(
+        decoder: &mut D,
+        tag: Tag,
+        _constraints: &Constraints<'_>,
+    ) -> Result<Hollow, DecodeError> {
+        decode_set_by_place(decoder, tag)
+    }
+}
