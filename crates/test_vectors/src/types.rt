@@ -6,7 +6,7 @@ use crate::request::Request;
 use asn1_open::Open;
 use asn1_recursive::Node;
 use asn1_samples::{
-    Badge, Color, Corner, Envelope, Labelled, Person, Plate, Profile, Settings, Shape, Ticket,
+    Badge, Color, Corner, Envelope, Labelled, Notice, Person, Plate, Profile, Settings, Shape, Ticket,
 };
 use asn1_types::{Any, Explicit, SetOf};
 use asn1_values::{
@@ -60,6 +60,9 @@ fn holder(alloc: Global, request: &Request<'_>) -> Answer {
         "Vec<u8>" => ask::<Vec<u8>>(alloc, request),
         "[u8;2]" => ask::<[u8; 2]>(alloc, request),
         "Vec<1..10>" => ask::<Vec<ConstrainedInteger<1, 10>>>(alloc, request),
+        "Vec<()>" => ask::<Vec<()>>(alloc, request),
+        "Vec<OctetString>" => ask::<Vec<OctetString>>(alloc, request),
+        "SetOf<u16>" => ask::<SetOf<u16>>(alloc, request),
         "SetOf<u8>" => ask::<SetOf<u8>>(alloc, request),
         "[1]bool" => ask::<Explicit<ContextTag<1>, bool>>(alloc, request),
         "Option<bool>" => ask::<Option<bool>>(alloc, request),
@@ -75,6 +78,7 @@ fn sample(alloc: Global, request: &Request<'_>) -> Answer {
         "Profile" => ask::<Profile>(alloc, request),
         "Badge" => ask::<Badge>(alloc, request),
         "Ticket" => ask::<Ticket>(alloc, request),
+        "Notice" => ask::<Notice>(alloc, request),
         "Hollow" => ask::<Hollow>(alloc, request),
         "Settings" => ask::<Settings>(alloc, request),
         "Labelled" => ask::<Labelled>(alloc, request),
