@@ -6,7 +6,8 @@ use crate::request::Request;
 use asn1_open::Open;
 use asn1_recursive::Node;
 use asn1_samples::{
-    Badge, Color, Corner, Envelope, Labelled, Notice, Person, Plate, Profile, Settings, Shape, Ticket,
+    Badge, Color, Corner, Envelope, Labelled, Notice, Person, Plate, Profile, Settings, Shape,
+    Ticket,
 };
 use asn1_types::{Any, Explicit, SetOf};
 use asn1_values::{
