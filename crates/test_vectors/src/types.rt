@@ -4,10 +4,9 @@ use crate::context_tag::ContextTag;
 use crate::hollow::Hollow;
 use crate::request::Request;
 use asn1_open::Open;
-use asn1_recursive::Node;
 use asn1_samples::{
-    Badge, Color, Corner, Envelope, Labelled, Notice, Person, Plate, Profile, Settings, Shape,
-    Ticket,
+    Badge, Color, Corner, Envelope, Labelled, Node, Notice, Pair, Person, Plate, Profile, Settings,
+    Shape, Ticket,
 };
 use asn1_types::{Any, Explicit, SetOf};
 use asn1_values::{
@@ -79,6 +78,7 @@ fn sample(alloc: Global, request: &Request<'_>) -> Answer {
         "Profile" => ask::<Profile>(alloc, request),
         "Badge" => ask::<Badge>(alloc, request),
         "Ticket" => ask::<Ticket>(alloc, request),
+        "Pair" => ask::<Pair<bool, bool>>(alloc, request),
         "Notice" => ask::<Notice>(alloc, request),
         "Hollow" => ask::<Hollow>(alloc, request),
         "Settings" => ask::<Settings>(alloc, request),
