@@ -17,11 +17,14 @@ ghost use Rattle.asn1_samples.specs.declared.shape.Shape.TheVariants as shape;
 
 mod reply;
 
+use asn1_bounds::{Bounded, Value};
 use asn1_choices::Choice;
 use asn1_model::AsnType;
 use asn1_recursive::Nested;
 use asn1_samples::{Corner, Shape};
 use reply::Reply;
+use std::alloc::Global;
+use std::process::Abort;
 
 /// A CHOICE cannot be inside others with the same tag twice: in the root, on both sides of the extension marker, or in an
 /// untagged CHOICE and beside it.
@@ -78,6 +81,21 @@ fn replies()
     ensures later { (accepts : List ℕ → Bool) (n : ℕ) →
         ⟦<Reply as AsnType>⟧.meaning.IsValid accepts (reply.Later n) }
 {}
+
+/// Asserts that a type's constraint of an alternative's place is a range from 0 to here, with a marker or none.
+fn assert_places<T: Choice>(rt: &impl Abort, alloc: Global, last: i128, extensible: bool) {
+    let set = T::variance_constraint(alloc).expect(rt, "memory");
+    let places = set.value().expect(rt, "a constraint of values");
+    assert!(rt; places.constraint == Value::new(Bounded::const_new(0, last)));
+    assert!(rt; places.extensible.is_some() == extensible && set.size().is_none());
+}
+
+#[test]
+fn places_are_constrained(rt: HostRuntime) {
+    assert_places::<Shape>(&rt, rt.alloc(), 2, false);
+    assert_places::<Corner>(&rt, rt.alloc(), 1, false);
+    assert_places::<Reply>(&rt, rt.alloc(), 1, true);
+}
 
 /// The number that an alternative holds is within its type.
 fn values_of_types()

@@ -189,7 +189,7 @@ fn assert_removed(
     let mut set = set_of(rt, alloc, numbers);
     assert!(rt; set.contains(&number) == is_found);
     assert!(rt; set.remove(&number) == is_found);
-    assert!(rt; set.len() == left.len());
+    assert!(rt; set.len() == left.len() && set.contains(&number) == left.contains(&number));
     assert_bytes(rt, set.into_vec().as_slice(), left);
 }
 

@@ -39,18 +39,18 @@ fn names_of_64_bytes(rt: HostRuntime) {
 #[test]
 fn lines_of_4096_bytes(rt: HostRuntime) {
     let alloc = rt.alloc();
-    let verdict = "tree t: repeated, smallest Universal 0, 1362 leaves\n";
+    let verdict = "tree ttt: repeated, smallest Universal 0, 1362 leaves\n";
     assert_line(
         &rt,
         alloc,
-        ("tree t (U100", " U0", 1361, ")"),
+        ("tree ttt (U0", " U0", 1361, ")"),
         true,
         verdict,
     );
     assert_line(
         &rt,
         alloc,
-        ("tree t (U1000", " U0", 1361, ")"),
+        ("tree tttt (U0", " U0", 1361, ")"),
         false,
         NOT_UNDERSTOOD,
     );
@@ -74,10 +74,10 @@ fn assert_depth(
 #[test]
 fn trees_of_16_brackets(rt: HostRuntime) {
     let alloc = rt.alloc();
-    let one = "tree t: unique, smallest Context 1, 1 leaves\n";
+    let one = "tree t: unique, smallest Universal 0, 1 leaves\n";
     let none = "tree t: unique, smallest Private 4294967295, 0 leaves\n";
-    assert_depth(&rt, alloc, 16, "C1", true, one);
-    assert_depth(&rt, alloc, 17, "C1", false, NOT_UNDERSTOOD);
+    assert_depth(&rt, alloc, 16, "U0", true, one);
+    assert_depth(&rt, alloc, 17, "U0", false, NOT_UNDERSTOOD);
     assert_depth(&rt, alloc, 16, "", true, none);
     assert_depth(&rt, alloc, 17, "", false, NOT_UNDERSTOOD);
 }

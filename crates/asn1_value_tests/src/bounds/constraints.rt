@@ -52,11 +52,13 @@ fn intersects_alphabets(rt: HostRuntime) {
     assert_that(&rt, permits(&set, &[99]), "c");
 }
 
-/// Asserts that the two sets have in common the values from 5 to 10 and the letter c.
+/// Asserts that the two sets have in common the values from 5 to 10 and the letter c, with no lengths and no marker.
 fn assert_common(rt: &impl Abort, alloc: Global, left: &Constraints, right: &Constraints) {
     let both = left.intersect(alloc, right).expect(rt, "memory");
     assert_that(rt, has_value(&both, value(5, 10)), "the values");
     assert_that(rt, permits(&both, &[99]), "c");
+    assert_that(rt, both.size().is_none(), "no lengths");
+    assert_that(rt, !both.extensible(), "no marker");
 }
 
 #[test]

@@ -116,29 +116,46 @@ fn names_the_first_component_at_fault(rt: HostRuntime) {
     );
 }
 
-/// Asserts why a letter that contains TRUE in DER is refused, if it is.
+/// What validation answers of a letter of this version that contains TRUE in DER.
+fn letter_validated(
+    rt: &impl Abort,
+    alloc: Global,
+    version: u8,
+    codec: Option<Codec>,
+) -> Result<Letter, InnerSubtypeConstraintError> {
+    let content = truth_in(alloc, Codec::Der).expect(rt, "memory");
+    Letter { version, content }.validate_and_decode_containing(alloc, codec)
+}
+
+/// Asserts why a letter of this version is refused.
 fn assert_refused(
     rt: &impl Abort,
     alloc: Global,
     version: u8,
     codec: Option<Codec>,
-    error: Option<InnerSubtypeConstraintError>,
+    error: InnerSubtypeConstraintError,
 ) {
-    let content = truth_in(alloc, Codec::Der).expect(rt, "memory");
-    let letter = Letter { version, content };
-    let found = letter.validate_and_decode_containing(alloc, codec).err();
-    assert_that(rt, found == error, "the error");
+    let found = letter_validated(rt, alloc, version, codec).err();
+    assert_that(rt, found == Some(error), "the error");
+}
+
+/// Asserts that a letter of version 3 comes back as it was.
+fn assert_kept(rt: &impl Abort, alloc: Global, codec: Option<Codec>) {
+    let letter = letter_validated(rt, alloc, 3, codec).ok();
+    let kept = letter.expect(rt, "a letter");
+    assert_that(rt, kept.version == 3, "the version");
+    assert_that(rt, kept.content == [1u8, 1, 255], "the content");
 }
 
 #[test]
 fn looks_into_contents_with_a_codec(rt: HostRuntime) {
     let alloc = rt.alloc();
-    let wrong_value = Some(InnerSubtypeConstraintError::Value("version"));
+    let wrong_value = InnerSubtypeConstraintError::Value("version");
     assert_refused(&rt, alloc, 2, None, wrong_value);
-    assert_refused(&rt, alloc, 3, None, None);
-    assert_refused(&rt, alloc, 3, Some(Codec::Der), None);
-    let wrong_content = Some(InnerSubtypeConstraintError::Contained("content"));
+    assert_kept(&rt, alloc, None);
+    assert_kept(&rt, alloc, Some(Codec::Der));
+    let wrong_content = InnerSubtypeConstraintError::Contained("content");
     assert_refused(&rt, alloc, 3, Some(Codec::Jer), wrong_content);
-    let no_memory = Some(InnerSubtypeConstraintError::Memory);
+    let no_memory = InnerSubtypeConstraintError::Memory;
     assert_refused(&rt, alloc, 3, Some(Codec::Other(0)), no_memory);
 }
