@@ -1,10 +1,34 @@
-//! Laws of defaults: the default of a component is among the values of which the component is absent.
-ghost use Rattle.asn1_slots.specs.Slots.{is_empty_list};
-ghost use Rattle.std.specs.Prelude.{◌≡◌, [], true};
+//! Laws of defaults: a component is absent of the values that have its default, and of no others.
+ghost use Rattle.asn1_model.specs.Meaning.{own_records};
+ghost use Rattle.asn1_model.specs.Records.{absent, in_additions, in_root, presence_mark, present};
+ghost use Rattle.asn1_model.specs.TaggedTypes.{untagged};
+ghost use Rattle.asn1_slots.specs.Slots.{addition_with_default_slot, default_slot, is_empty_list};
+ghost use Rattle.std.specs.Prelude.{◌≡◌, ℕ, List, [], ◌∷◌, Option, true, false};
 
-/// A law of `default_slot`: its test is whether a value equals the default, and the default passes it.
-pub fn a_default_passes_its_test<T: Eq>(default_value: &T)
-    ensures { T.eq default_value.now default_value.now ≡ true }
+use asn1_model::AsnType;
+
+/// A law of `default_slot` and `addition_with_default_slot`: a component is absent of the values that have what is equal to its
+/// default (X.690, 11.5), and there in all others. The default is among the first.
+pub fn a_component_is_absent_where_it_has_its_default<S, V, W: AsnType + Eq>(default_value: &W)
+    ensures passes { W.eq default_value.now default_value.now ≡ true }
+    ensures absent_from_root { (name : List ℕ) (get : V → W) (slot : S → Option W) (v : V) →
+        W.eq (get v) default_value.now ≡ true →
+        (default_slot name get default_value.now slot (untagged W.meaning) W.eq).component.records v
+        ≡ presence_mark (absent in_root W.meaning.tag) ∷ [] }
+    ensures in_the_root { (name : List ℕ) (get : V → W) (slot : S → Option W) (v : V) →
+        W.eq (get v) default_value.now ≡ false →
+        (default_slot name get default_value.now slot (untagged W.meaning) W.eq).component.records v
+        ≡ presence_mark (present in_root W.meaning.tag) ∷ own_records W.meaning (get v) }
+    ensures absent_from_additions { (name : List ℕ) (get : V → W) (slot : S → Option W) (v : V) →
+        W.eq (get v) default_value.now ≡ true →
+        (addition_with_default_slot name get default_value.now slot (untagged W.meaning)
+        W.eq).component.records v ≡
+        presence_mark (absent in_additions W.meaning.tag) ∷ [] }
+    ensures in_the_additions { (name : List ℕ) (get : V → W) (slot : S → Option W) (v : V) →
+        W.eq (get v) default_value.now ≡ false →
+        (addition_with_default_slot name get default_value.now slot (untagged W.meaning)
+        W.eq).component.records v ≡
+        presence_mark (present in_additions W.meaning.tag) ∷ own_records W.meaning (get v) }
 {}
 
 /// A law of `is_empty_list`, the test of `DEFAULT {}`: a list without elements passes it, and no other.
