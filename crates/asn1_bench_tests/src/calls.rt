@@ -2,11 +2,12 @@
 use crate::cases::passes;
 use asn1_bounds::Codec;
 use asn1_codec_tests::{CallRules, Calls, Failure, calls};
-use asn1_dec::{DecodeError, Decoder};
+use asn1_dec::{Decode, DecodeError, Decoder};
 use asn1_enc::{EncodeError, Encoder};
 use asn1_packed::{ItemDecoder, ItemEncoder, PackedDecoder, PackedEncoder};
 use asn1_sample_tests::calls::each_sample_call_comes_back;
 use asn1_tagform::NextItem;
+use asn1_values::ConstrainedInteger;
 use std::alloc::Global;
 use std::process::Abort;
 
@@ -92,6 +93,17 @@ fn the_encoder_and_the_decoder_say_what_they_are(rt: HostRuntime) {
     assert!(&rt; encoder.codec() == Codec::Other(0) && encoder.depth() == 4);
     let decoder = PackedDecoder::new(rt.alloc(), &[], 3);
     assert!(&rt; decoder.codec() == Codec::Other(0) && decoder.depth() == 3);
+}
+
+/// INTEGER 11.
+const ELEVEN: &[u8] = &[1, 0, 0, 0, 0, 2, 2, 0, 0, 0, 2, 0, 11];
+
+#[test]
+fn a_number_outside_its_limits_has_been_read(rt: HostRuntime) {
+    let mut decoder = PackedDecoder::new(rt.alloc(), ELEVEN, 0);
+    let limited = ConstrainedInteger::<1, 10>::decode(&mut decoder);
+    assert!(&rt; matches!(limited, Err(DecodeError::OutOfRange)));
+    assert!(&rt; decoder.finish().is_ok());
 }
 
 #[test]

@@ -11,7 +11,6 @@
 //! | `depth` | how long nested values are, and what is answered where no scope may be opened |
 //! | `streams` | values one after another, out of bytes that come in pieces |
 //! | `failures` | errors of writing, and an encoder after an error |
-//! | `errors` | the texts of errors |
 //! | `memory`, `no_memory` | memory that runs out |
 #![tactic(auto)]
 
@@ -23,8 +22,6 @@ mod calls;
 mod cases;
 #[cfg(test)]
 mod depth;
-#[cfg(test)]
-mod errors;
 #[cfg(test)]
 mod failures;
 #[cfg(test)]

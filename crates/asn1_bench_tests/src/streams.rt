@@ -5,7 +5,7 @@ use asn1_codec_tests::made::text;
 use asn1_dec::{Decode, DecodeError, Needed};
 use asn1_rules::Rules;
 use asn1_samples::Person;
-use asn1_streams::{Iter, iter_of, read_pieces, write_list};
+use asn1_streams::{Iter, iter_of, read_pieces, round_trip_in_pieces, write_list};
 use asn1_tagform::TagRules;
 use asn1_values::Integer;
 use std::alloc::Global;
@@ -67,6 +67,25 @@ fn a_value_comes_with_its_last_byte(rt: HostRuntime) {
     assert_comes_twice(&rt, alloc, PERSON, &person(&rt, alloc, 30, "Ann"));
 }
 
+/// Asserts that one byte more is wanted of a truth value, and that these are unread.
+fn assert_one_byte_more(rt: &impl Abort, alloc: Global, bytes: &[u8]) {
+    let mut iter = iter_of::<bool, BenchReader>(alloc, bytes, BenchReader::new(alloc, 0));
+    assert!(rt;
+        matches!(
+            iter.next(),
+            Some(Err(DecodeError::Incomplete(Needed::Size(1))))
+        )
+    );
+    assert!(rt; iter.unread() == bytes);
+}
+
+#[test]
+fn what_is_missing_is_counted(rt: HostRuntime) {
+    let alloc = rt.alloc();
+    assert_one_byte_more(&rt, alloc, &[1, 0, 0, 0, 0, 1, 1, 0, 0, 0, 1]);
+    assert_one_byte_more(&rt, alloc, &[]);
+}
+
 fn person(rt: &impl Abort, alloc: Global, age: u8, name: &str) -> Person {
     Person {
         age: Integer::from(age),
@@ -111,6 +130,19 @@ fn assert_read_wherever_cut(rt: &impl Abort, alloc: Global, persons: &[Person]) 
 #[test]
 fn persons_come_back_wherever_their_bytes_are_cut(rt: HostRuntime) {
     assert_read_wherever_cut(&rt, rt.alloc(), &three_persons(&rt, rt.alloc()));
+}
+
+/// Asserts that these persons come back out of two pieces.
+fn assert_round_trip(rt: &impl Abort, alloc: Global, persons: &[Person]) {
+    let rules = BenchRules::new(alloc);
+    let reader = BenchReader::new(alloc, 1);
+    let read = round_trip_in_pieces(alloc, &rules, reader, persons, 1, &[20]).expect(rt, "memory");
+    assert!(rt; read.values.as_slice() == persons && read.last.is_none());
+}
+
+#[test]
+fn persons_make_the_round_trip_in_pieces(rt: HostRuntime) {
+    assert_round_trip(&rt, rt.alloc(), &three_persons(&rt, rt.alloc()));
 }
 
 fn assert_list<R: Rules<Output = Vec<u8>>>(

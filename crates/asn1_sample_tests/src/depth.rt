@@ -1,5 +1,5 @@
 //! How many scopes the values take.
-use crate::samples::node_chain;
+use crate::samples::bare_chain;
 use asn1_codec_tests::{Failure, needs_depth};
 use asn1_rules::Rules;
 use asn1_samples::{Corner, Shape};
@@ -15,6 +15,6 @@ pub fn samples_need_their_depth<R: Rules>(rules: &R, alloc: Global) -> Result<()
 }
 
 fn hundred_nodes<R: Rules>(rules: &R, alloc: Global) -> Result<(), Failure> {
-    let node = node_chain(alloc, 100)?;
+    let node = bare_chain(alloc, 100)?;
     needs_depth(rules, &node, 202)
 }

@@ -54,10 +54,29 @@ impl<R: Rules<Output = Vec<u8>>> ValueCase for Whole<'_, R> {
     fn try_value<T: Encode + Decode>(&self, value: T) -> Result<(), Failure> {
         let values = twice(self.alloc, self.rules, value)?;
         match write_list(self.alloc, self.rules, &values, DEPTH) {
-            Ok(_) => Ok(()),
+            Ok(bytes) => are_one_after_another(self.rules, &values, &bytes),
             Err(error) => Err(Failure::of_writing(error)),
         }
     }
+}
+
+/// Whether the bytes are those of the values, one value after another.
+fn are_one_after_another<R: Rules<Output = Vec<u8>>, T: Encode>(
+    rules: &R,
+    values: &[T],
+    bytes: &[u8],
+) -> Result<(), Failure> {
+    let mut rest = bytes;
+    for value in values {
+        let one = match rules.write_value(value, DEPTH) {
+            Ok(one) => one,
+            Err(error) => return Err(Failure::of_writing(error)),
+        };
+        let (first, others) = rest.split_at(one.len().min(rest.len()));
+        is_same(&(first == one), &true)?;
+        rest = others;
+    }
+    is_same(&rest.is_empty(), &true)
 }
 
 impl ValueCase for InPieces {

@@ -2,7 +2,7 @@
 use asn1_bounds::{InnerSubtypeConstraintError, TooWide};
 use asn1_codec::{DecodeError, EncodeError, Needed};
 use asn1_report::CheckError;
-use asn1_rules::RecodeError;
+use asn1_rules::{RecodeError, RoundTripError};
 use asn1_tags::{Tag, VariantsError};
 use asn1_values::AlphabetError;
 use std::alloc::Global;
@@ -90,6 +90,17 @@ const RECODING: &[(RecodeError, &str)] = &[
     (RecodeError::Write(EncodeError::Depth), "nested too deep"),
 ];
 
+const ROUND_TRIPS: &[(RoundTripError, &str)] = &[
+    (
+        RoundTripError::Writing(EncodeError::Depth),
+        "not written: nested too deep",
+    ),
+    (
+        RoundTripError::Reading(DecodeError::Memory),
+        "not read back: no memory",
+    ),
+];
+
 const CHECKS: &[(CheckError, &str)] = &[
     (CheckError::Reading, "check: reading failed"),
     (CheckError::Writing, "check: writing failed"),
@@ -114,5 +125,6 @@ fn errors_are_told_by_their_texts(rt: HostRuntime) {
     assert_texts(&rt, alloc, BOUNDS);
     assert_texts(&rt, alloc, COMPONENTS);
     assert_texts(&rt, alloc, RECODING);
+    assert_texts(&rt, alloc, ROUND_TRIPS);
     assert_texts(&rt, alloc, CHECKS);
 }

@@ -2,7 +2,7 @@
 use asn1_bench::{ByteReader, NoRules};
 use asn1_dec::{DecodeError, Needed};
 use asn1_enc::EncodeError;
-use asn1_rules::RoundTripError;
+use asn1_rules::{RoundTripError, Rules};
 use asn1_streams::{Iter, iter_of, read_pieces, round_trip_in_pieces, write_list};
 use std::alloc::Global;
 use std::process::Abort;
@@ -106,12 +106,14 @@ fn values_are_read_from_pieces(rt: HostRuntime) {
 }
 
 #[test]
-fn rules_that_refuse_write_only_the_empty_list(rt: HostRuntime) {
+fn rules_that_refuse_write_only_the_empty_list_and_read_nothing(rt: HostRuntime) {
     let alloc = rt.alloc();
     let none = write_list::<u8, NoRules>(alloc, &NoRules, &[], 1).expect(&rt, "no value");
     assert!(rt; none.is_empty());
     let refused = write_list::<u8, NoRules>(alloc, &NoRules, &[7], 1).err();
     assert!(rt; refused == Some(EncodeError::Custom("refused")));
+    let not_read = NoRules.read_value::<u8>(&none, 1).err();
+    assert!(rt; not_read == Some(DecodeError::Custom("refused")));
 }
 
 #[test]

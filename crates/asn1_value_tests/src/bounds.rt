@@ -2,7 +2,6 @@
 mod alphabet;
 mod constraint;
 mod constraints;
-mod error;
 mod extensible;
 mod inner_subtype;
 mod size;

@@ -10,7 +10,7 @@ use asn1_enc::{EncodeError, Encoder};
 use asn1_tags::Tag;
 use std::alloc::{AllocError, Global};
 
-/// Writes an addition, by a call of its own: the second and the last are absent.
+/// Writes an addition, by a call of its own: the second and the sixth are absent.
 fn write_addition<E: Encoder>(encoder: &mut E, number: usize) -> Result<(), EncodeError> {
     let constraints = &Constraints::NONE;
     let value = match number {
@@ -18,7 +18,7 @@ fn write_addition<E: Encoder>(encoder: &mut E, number: usize) -> Result<(), Enco
         _ => Some(&9u8),
     };
     match number {
-        0 | 1 => encoder.encode_extension_addition(Tag::INTEGER, constraints, value, NAME),
+        0 | 1 | 6 => encoder.encode_extension_addition(Tag::INTEGER, constraints, value, NAME),
         2 => encoder.encode_extension_addition(FIRST, constraints, value, NAME),
         4 => encoder.encode_extension_addition_with_explicit_prefix(FIRST, value, NAME),
         _ => encoder.encode_extension_addition_with_tag(FIRST, value, NAME),
@@ -31,7 +31,7 @@ struct AdditionCalls;
 
 impl NumberedCalls for AdditionCalls {
     fn count(&self) -> usize {
-        6
+        7
     }
 
     fn write_call<E: Encoder>(&self, encoder: &mut E, number: usize) -> Result<(), EncodeError> {
@@ -57,7 +57,11 @@ impl NumberedCalls for AdditionCalls {
                 ),
                 &9u8,
             ),
-            _ => answers_none(decoder.decode_extension_addition_with_tag::<u8>(FIRST)),
+            5 => answers_none(decoder.decode_extension_addition_with_tag::<u8>(FIRST)),
+            _ => answers_some(
+                decoder.decode_extension_addition_with_constraints(constraints),
+                &9u8,
+            ),
         }
     }
 }
@@ -74,17 +78,17 @@ fn eight(_alloc: Global) -> Result<u8, AllocError> {
     Ok(8)
 }
 
-/// The first four additions, with a default, which the second has.
+/// The first four additions and the last, with a default, which the second has.
 #[derive(Drop)]
 struct AdditionsWithDefaults;
 
 impl NumberedCalls for AdditionsWithDefaults {
     fn count(&self) -> usize {
-        4
+        5
     }
 
     fn write_call<E: Encoder>(&self, encoder: &mut E, number: usize) -> Result<(), EncodeError> {
-        write_addition(encoder, number)
+        write_addition(encoder, if number == 4 { 6 } else { number })
     }
 
     fn read_call<D: Decoder>(&self, decoder: &mut D, number: usize) -> Result<(), Failure> {
@@ -99,12 +103,16 @@ impl NumberedCalls for AdditionsWithDefaults {
                 decoder.decode_extension_addition_with_default_and_tag(FIRST, eight),
                 &9u8,
             ),
-            _ => answers(
+            3 => answers(
                 decoder.decode_extension_addition_with_default_and_tag_and_constraints(
                     FIRST,
                     eight,
                     constraints,
                 ),
+                &9u8,
+            ),
+            _ => answers(
+                decoder.decode_extension_addition_with_default_and_constraints(eight, constraints),
                 &9u8,
             ),
         }

@@ -14,7 +14,7 @@ struct OptionCalls<T>(T);
 
 impl<T: Encode + Decode> NumberedCalls for OptionCalls<T> {
     fn count(&self) -> usize {
-        6
+        7
     }
 
     fn write_call<E: Encoder>(&self, encoder: &mut E, number: usize) -> Result<(), EncodeError> {
@@ -26,6 +26,7 @@ impl<T: Encode + Decode> NumberedCalls for OptionCalls<T> {
             2 => encoder.encode_some_with_tag(FIRST, value, NAME),
             3 => encoder.encode_some_with_tag_and_constraints(FIRST, constraints, value, NAME),
             4 => encoder.encode_some_with_explicit_prefix(FIRST, value, NAME),
+            5 => encoder.encode_some(value, NAME),
             _ => encoder.encode_none_with_tag(FIRST, NAME),
         }
     }
@@ -42,6 +43,7 @@ impl<T: Encode + Decode> NumberedCalls for OptionCalls<T> {
                 value,
             ),
             4 => answers_some(decoder.decode_optional_with_explicit_prefix(FIRST), value),
+            5 => answers_some(decoder.decode_optional_with_constraints(constraints), value),
             _ => answers_none(decoder.decode_optional_with_tag::<T>(FIRST)),
         }
     }

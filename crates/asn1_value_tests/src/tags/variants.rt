@@ -1,6 +1,6 @@
 //! Lists of tags, with a table or none.
 use super::A0_TWICE;
-use crate::assertions::{assert_that, assert_written};
+use crate::assertions::assert_that;
 use asn1_tags::{Class, Tag, TagTree, Variants, VariantsError};
 use std::alloc::{AllocError, Global};
 use std::process::Abort;
@@ -148,12 +148,4 @@ fn a_list_without_a_table_is_searched_from_the_left(rt: HostRuntime) {
     assert_found(&rt, &variants, Tag::NULL, None, 3);
     let copy = variants.try_clone(rt.alloc());
     assert_made(&rt, copy, &[C0, U3, U3], (C0, 0, 1));
-}
-
-#[test]
-fn errors_say_what_is_wrong(rt: HostRuntime) {
-    let alloc = rt.alloc();
-    assert_written(&rt, alloc, &VariantsError::Memory, "no memory");
-    let mismatch = VariantsError::TableMismatch(7);
-    assert_written(&rt, alloc, &mismatch, "table entry 7 does not fit");
 }
