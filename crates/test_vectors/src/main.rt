@@ -12,8 +12,8 @@
 //! the names in `src/types.rt`. `BYTES` are in hexadecimal, with spaces wherever they help. Lines that are empty or begin with `#`
 //! are written as they are.
 //!
-//! The stored run is the test. The answers in `stdout` were made by hand or with another tool, and each line names its source. A
-//! value is told by its bytes in another codec, and a refusal by the text of its error.
+//! The stored run is the test. The answers in `stdout` were made by hand or with another tool, and a line
+//! without a source was made by hand. A value is told by its bytes in another codec, and a refusal by the text of its error.
 #![tactic(auto)]
 
 mod answer;
