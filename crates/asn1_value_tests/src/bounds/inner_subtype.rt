@@ -144,7 +144,11 @@ fn assert_kept(rt: &impl Abort, alloc: Global, codec: Option<Codec>) {
     let letter = letter_validated(rt, alloc, 3, codec).ok();
     let kept = letter.expect(rt, "a letter");
     assert_that(rt, kept.version == 3, "the version");
-    assert_that(rt, kept.content == [1u8, 1, 255], "the content");
+    assert_that(
+        rt,
+        kept.content.as_slice() == [1u8, 1, 255].as_slice(),
+        "the content",
+    );
 }
 
 #[test]
