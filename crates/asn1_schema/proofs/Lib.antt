@@ -12,5 +12,4 @@ pub use Rattle.asn1_slots.proofs as slot_lemmas
 pub use Rattle.asn1_streams.proofs as stream_lemmas
 pub use Rattle.asn1_tags.proofs as tag_lemmas
 pub use Rattle.asn1_types.proofs as type_lemmas
-pub use Rattle.asn1_values.proofs as string_lemmas
 pub use Rattle.asn1_values.proofs as value_lemmas

@@ -15,5 +15,4 @@ pub use Rattle.asn1_slots.specs as slots
 pub use Rattle.asn1_streams.specs as streams
 pub use Rattle.asn1_tags.specs as tags
 pub use Rattle.asn1_types.specs as types
-pub use Rattle.asn1_values.specs as strings
 pub use Rattle.asn1_values.specs as values
