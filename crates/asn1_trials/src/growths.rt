@@ -73,7 +73,7 @@ fn are_one_after_another<R: Rules<Output = Vec<u8>>, T: Encode>(
             Err(error) => return Err(Failure::of_writing(error)),
         };
         let (first, others) = rest.split_at(one.len().min(rest.len()));
-        is_same(&(first == one), &true)?;
+        is_same(&(first == one.as_slice()), &true)?;
         rest = others;
     }
     is_same(&rest.is_empty(), &true)
