@@ -164,7 +164,6 @@ pub use asn1_types::tables_are_in_order;
 pub use asn1_types::tag;
 pub use asn1_types::the_chosen_tag_tells_the_alternative;
 pub use asn1_types::written_number;
-pub use asn1_values as strings;
 pub use asn1_values as values;
 pub use asn1_values::Alphabet;
 pub use asn1_values::AlphabetError;

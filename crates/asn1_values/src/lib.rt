@@ -22,3 +22,4 @@ pub use asn1_strings::{
     ObjectIdentifierError, OctetString, PrintableString, StringError, StringUnit, TeletexString,
     UnitString, Utf8String, VisibleString, kind,
 };
+pub use asn1_strings as strings;
