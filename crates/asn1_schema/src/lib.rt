@@ -196,6 +196,7 @@ pub use asn1_values::Utf8String;
 pub use asn1_values::VisibleString;
 pub use asn1_values::integers;
 pub use asn1_values::kind;
+pub use asn1_values::strings;
 pub use tagged_strings::GeneralizedTime;
 pub use tagged_strings::ObjectDescriptor;
 pub use tagged_strings::UniversalString;
