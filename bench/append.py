@@ -1,5 +1,5 @@
 #!/usr/bin/env python3
-"""Times what it costs to append bytes to a stream (crate asn1_streams): 100 MB in pieces of 1 KB, and in one piece.
+"""Times what it costs to append bytes to a stream (crate asn1_rules): 100 MB in pieces of 1 KB, and in one piece.
 
     python3 bench/append.py
 

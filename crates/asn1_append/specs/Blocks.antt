@@ -1,6 +1,6 @@
 -- The fronts of a stream of blocks: the first 1000 bytes, whatever they are.
 use Rattle.std.specs.Prelude.{◌≡◌, ◌≤◌, ℕ, ⊤, true, List, length}
-use Rattle.asn1_streams.specs.Fronts.{Fronts, IsLawful}
+use Rattle.asn1_rules.specs.Fronts.{Fronts, IsLawful}
 
 -- the first n bytes are a block
 abbrev pub is_block : List ℕ → ℕ → Type 0

@@ -2,7 +2,7 @@
 ghost use Rattle.asn1_append.specs.Blocks.{block_fronts, block_fronts_are_lawful};
 
 use asn1_dec::{DecodeError, Needed};
-use asn1_streams::FrontReader;
+use asn1_rules::FrontReader;
 
 /// Reads a block of 1000 bytes, whatever they are.
 #[derive(Clone, Copy, Drop)]

@@ -6,7 +6,7 @@
 
 mod blocks;
 
-use asn1_streams::{Iter, iter_of};
+use asn1_rules::{Iter, iter_of};
 use blocks::BlockReader;
 use std::alloc::{AllocError, Global};
 use std::{env, io};

@@ -3,7 +3,7 @@ use Rattle.std.proofs.Common.{◌≡◌, ◌∙◌, ℕ, List, [], ◌∷◌, �
 use Rattle.std.specs.Prelude.{◌↔◌, slice_get}
 use Rattle.asn1_bench.specs.Bytes.{byte_cut, byte_front, byte_fronts}
 use Rattle.asn1_bench.specs.declared.byte_reader.ByteReader.{ByteReader}
-use Rattle.asn1_streams.specs.Fronts.{IsSteady}
+use Rattle.asn1_rules.specs.Fronts.{IsSteady}
 
 -- the value is the first byte
 pub byte_front_is_first : (bytes : List ℕ) (v n : ℕ) → byte_front bytes v n ↔ ((n ≡ 1) × (slice_get bytes 0 ≡ Some v))

@@ -13,11 +13,11 @@ use Rattle.asn1_model.specs.Orders.{Same, SameRecords, equal}
 use Rattle.asn1_model.specs.Records.{Name, Record, held, is_presence_mark, presence_mark, more, none, open_type, scalar, scope}
 use Rattle.asn1_model.specs.Tags.{IsOneRecord, Tags, head_tag}
 use Rattle.asn1_model.specs.WellFormed.{AreWellFormed, IsWellFormed}
-use Rattle.asn1_packed.specs.Carried.{Carries, TakesBytes}
-use Rattle.asn1_packed.specs.Format.{packed_format}
-use Rattle.asn1_streams.proofs.ItemFronts.{belongs, steady}
-use Rattle.asn1_streams.specs.Fronts.{BelongsTo, IsSteady}
-use Rattle.asn1_streams.specs.ItemFronts.{CutsItems}
+use Rattle.asn1_bench.specs.Carried.{Carries, TakesBytes}
+use Rattle.asn1_bench.specs.Format.{packed_format}
+use Rattle.asn1_rules.proofs.ItemFronts.{belongs, steady}
+use Rattle.asn1_rules.specs.Fronts.{BelongsTo, IsSteady}
+use Rattle.asn1_rules.specs.ItemFronts.{CutsItems}
 
 -- bytes behind change nothing
 cut_remains : (bytes behind : List ℕ) (n : ℕ) → IsCut bytes n → IsCut (bytes ++ behind) n

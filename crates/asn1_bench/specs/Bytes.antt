@@ -1,6 +1,6 @@
 -- Fronts of single bytes: each byte is a value.
 use Rattle.std.specs.Prelude.{◌≡◌, ◌==◌, ℕ, List, [], ◌∷◌}
-use Rattle.asn1_streams.specs.Fronts.{Fronts}
+use Rattle.asn1_rules.specs.Fronts.{Fronts}
 
 -- one byte is a cut, where there is one
 abbrev pub byte_cut : List ℕ → ℕ → Type 0

@@ -4,9 +4,9 @@ use Rattle.std.proofs.Common.{arith}
 use Rattle.asn1_bench.specs.declared.reader.BenchReader.{BenchReader}
 use Rattle.asn1_items.specs.Headers.{Header, header_at, is_one_item}
 use Rattle.asn1_model.specs.Meaning.{Meaning}
-use Rattle.asn1_packed.specs.Carried.{Carries}
-use Rattle.asn1_streams.specs.Fronts.{Fronts}
-use Rattle.asn1_streams.specs.ItemFronts.{item_fronts}
+use Rattle.asn1_bench.specs.Carried.{Carries}
+use Rattle.asn1_rules.specs.Fronts.{Fronts}
+use Rattle.asn1_rules.specs.ItemFronts.{item_fronts}
 
 -- The bytes begin with an item of n bytes: with a header, after which all bytes are there that it says are inside.
 pub record IsCut (bytes : List ℕ) (n : ℕ) : Type 0 where

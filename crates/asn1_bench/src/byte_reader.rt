@@ -3,7 +3,7 @@ ghost use Rattle.asn1_bench.specs.Bytes.{byte_fronts, byte_front_is_cut};
 ghost use Rattle.std.proofs.Common.{rules};
 
 use asn1_dec::{DecodeError, Needed};
-use asn1_streams::FrontReader;
+use asn1_rules::FrontReader;
 
 /// Reads one byte as a value: the first byte of the input, with length 1.
 ///
@@ -12,9 +12,9 @@ use asn1_streams::FrontReader;
 pub struct ByteReader;
 
 impl FrontReader<u8> for ByteReader {
-    ghost use Rattle.asn1_codec.specs.declared.decode_error.DecodeError.TheVariants.{Incomplete};
-    ghost use Rattle.asn1_codec.specs.declared.needed.Needed.TheVariants.{Size};
-    ghost use Rattle.asn1_streams.specs.Fronts.{ReadsFront};
+    ghost use Rattle.asn1_laws.specs.declared.decode_error.DecodeError.TheVariants.{Incomplete};
+    ghost use Rattle.asn1_laws.specs.declared.needed.Needed.TheVariants.{Size};
+    ghost use Rattle.asn1_rules.specs.Fronts.{ReadsFront};
     ghost use Rattle.std.specs.Prelude.{◌≡◌, ◌∷◌, [], Err, List, Ok, ℕ};
 
     ghost fronts = { byte_fronts };

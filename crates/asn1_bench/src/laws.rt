@@ -3,20 +3,19 @@ ghost use Rattle.asn1_bench.specs.Outputs.{AreTooLong};
 ghost use Rattle.asn1_items.specs.Headers.{is_one_item};
 ghost use Rattle.asn1_model.specs.Meaning.{IsWellTagged, own_records};
 ghost use Rattle.asn1_model.specs.Records.{Record, highest};
-ghost use Rattle.asn1_packed.specs.Carried.{Carries, CarriesWith};
-ghost use Rattle.asn1_packed.specs.Written.{item_writer};
-ghost use Rattle.asn1_streams.specs.Fronts.{BelongsTo, IsSteady};
+ghost use Rattle.asn1_bench.specs.Carried.{Carries, CarriesWith};
+ghost use Rattle.asn1_bench.specs.Written.{item_writer};
+ghost use Rattle.asn1_rules.specs.Fronts.{BelongsTo, IsSteady};
 ghost use Rattle.asn1_tags.specs.Derives.{ClonesAll};
 ghost use Rattle.std.specs.Prelude.{◌≡◌, ◌↔◌, ◌<◌, ◌≤◌, ◌^◌, All, IsTrue, List, Some, ℕ, false, length, slice_get, take};
 
+use crate::Presence;
 use crate::byte_reader::ByteReader;
 use crate::no_rules::NoRules;
 use crate::reader::BenchReader;
 use crate::rules::BenchRules;
 use asn1_dec::Decode;
-use asn1_packed::Presence;
-use asn1_rules::Rules;
-use asn1_streams::FrontReader;
+use asn1_rules::{FrontReader, Rules};
 
 /// A law of the codec: an output carries the records whose bytes it is, up to the order inside sets; one value of an open type
 /// is one item; and the records that are too long are rejected, and no others.

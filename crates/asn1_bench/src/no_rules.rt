@@ -10,8 +10,8 @@ pub struct NoRules;
 
 impl Rules for NoRules {
     ghost use Rattle.asn1_bench.specs.NoRules.{no_format, no_format_is_lawful};
-    ghost use Rattle.asn1_codec.specs.DecodeErrors.{custom, reason as said};
-    ghost use Rattle.asn1_codec.specs.EncodeErrors.{reason, rejected};
+    ghost use Rattle.asn1_laws.specs.DecodeErrors.{custom, reason as said};
+    ghost use Rattle.asn1_laws.specs.EncodeErrors.{reason, rejected};
     ghost use Rattle.asn1_model.specs.Meaning.{own_records};
     ghost use Rattle.asn1_rules.specs.Rules.{ReadsCarried, RefusesCarried, WritesWhole};
     ghost use Rattle.std.specs.Prelude.{◌≡◌, MatchResult, codes};

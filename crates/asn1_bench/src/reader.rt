@@ -2,10 +2,11 @@
 ghost use Rattle.asn1_bench.specs.Fronts.{IsCut};
 ghost use Rattle.std.specs.Prelude.{MatchOption, ℕ};
 
+use crate::PackedDecoder;
+use asn1_buffers::read_whole;
 use asn1_dec::{Decode, DecodeError};
 use asn1_items::find_header;
-use asn1_packed::{PackedDecoder, read_whole};
-use asn1_streams::FrontReader;
+use asn1_rules::FrontReader;
 use std::alloc::Global;
 
 /// Reads values from the front of packed bytes, each with at most this many nested scopes.
@@ -22,7 +23,7 @@ pub struct BenchReader {
 
 impl BenchReader {
     ghost use Rattle.asn1_items.specs.Headers.{is_one_item};
-    ghost use Rattle.asn1_packed.specs.Carried.{Carries};
+    ghost use Rattle.asn1_bench.specs.Carried.{Carries};
     ghost use Rattle.asn1_rules.specs.Rules.{ReadsCarried};
     ghost use Rattle.std.specs.Prelude.{◌≡◌};
 

@@ -1,7 +1,8 @@
 //! The packed codec as a whole.
+use crate::{PackedBuffer, PackedDecoder};
+use asn1_buffers::{read_whole, write_whole};
 use asn1_dec::{Decode, DecodeError};
 use asn1_enc::{Encode, EncodeError};
-use asn1_packed::{PackedBuffer, PackedDecoder, read_whole, write_whole};
 use asn1_rules::Rules;
 use std::alloc::Global;
 
@@ -32,7 +33,7 @@ impl BenchRules {
 }
 
 impl Rules for BenchRules {
-    ghost use Rattle.asn1_packed.specs.Format.{packed_format, packed_is_lawful};
+    ghost use Rattle.asn1_bench.specs.Format.{packed_format, packed_is_lawful};
     ghost use Rattle.asn1_rules.specs.Rules.{ReadsCarried, RefusesCarried, RefusesMore};
 
     type Output = Vec<u8>;

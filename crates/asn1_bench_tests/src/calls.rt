@@ -4,7 +4,7 @@ use asn1_bounds::Codec;
 use asn1_codec_tests::{CallRules, Calls, Failure, calls};
 use asn1_dec::{Decode, DecodeError, Decoder};
 use asn1_enc::{EncodeError, Encoder};
-use asn1_packed::{ItemDecoder, ItemEncoder, PackedDecoder, PackedEncoder};
+use asn1_bench::{ItemDecoder, ItemEncoder, PackedDecoder, PackedEncoder};
 use asn1_sample_tests::calls::each_sample_call_comes_back;
 use asn1_tagform::NextItem;
 use asn1_values::ConstrainedInteger;

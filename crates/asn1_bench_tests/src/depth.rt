@@ -2,7 +2,7 @@
 use asn1_bench::BenchRules;
 use asn1_dec::{Decode, DecodeError, Decoder};
 use asn1_enc::Encode;
-use asn1_packed::PackedDecoder;
+use asn1_bench::PackedDecoder;
 use asn1_rules::Rules;
 use asn1_sample_tests::samples::{bare_chain, null_inside_instances};
 use std::alloc::Global;

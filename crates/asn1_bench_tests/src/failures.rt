@@ -5,7 +5,7 @@ use asn1_bounds::Constraints;
 use asn1_codec_tests::NAME;
 use asn1_codec_tests::made::letters;
 use asn1_enc::{Encode, EncodeError, Encoder};
-use asn1_packed::{ItemEncoder, PackedEncoder, Presence};
+use asn1_bench::{ItemEncoder, PackedEncoder, Presence};
 use asn1_rules::Rules;
 use asn1_sample_tests::samples::person;
 use asn1_samples::{Contact, Person, Plate};

@@ -8,7 +8,7 @@ use asn1_codec_tests::made::letters;
 use asn1_codec_tests::types::each_type_comes_back;
 use asn1_codec_tests::{ComesBack, ValueCase, one_passes};
 use asn1_dec::{Decode, DecodeError, Decoder};
-use asn1_packed::{ItemDecoder, PackedDecoder};
+use asn1_bench::{ItemDecoder, PackedDecoder};
 use asn1_rules::Rules;
 use asn1_sample_tests::samples::each_sample_passes;
 use asn1_samples::Plate;

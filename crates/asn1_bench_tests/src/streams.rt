@@ -5,7 +5,7 @@ use asn1_codec_tests::made::text;
 use asn1_dec::{Decode, DecodeError, Needed};
 use asn1_rules::Rules;
 use asn1_samples::Person;
-use asn1_streams::{Iter, iter_of, read_pieces, round_trip_in_pieces, write_list};
+use asn1_rules::{Iter, iter_of, read_pieces, round_trip_in_pieces, write_list};
 use asn1_tagform::TagRules;
 use asn1_values::Integer;
 use std::alloc::Global;

@@ -7,11 +7,11 @@ use Rattle.asn1_buffers.specs.Encoder.{CarriesUpToOrder, buffer_writer, in_one_o
 use Rattle.asn1_buffers.specs.Format.{buffer_format}
 use Rattle.asn1_buffers.specs.MarksAndScopes.{unlabelled}
 use Rattle.asn1_buffers.specs.declared.encoder.BufferEncoder.{BufferEncoder}
-use Rattle.asn1_codec.proofs.WritingUpToOrder.{same_as_outermost, same_as_scope, same_followed_by}
-use Rattle.asn1_codec.specs.WritingUpToOrder.{WroteUpToOrder}
-use Rattle.asn1_codec.specs.Writing.{Written, outermost, in_scope, in_group, followed_by, SameWritten, same_outermost, same_scope, same_group, Appends, Fails, IsRejection, IsError, ScopeIsOpen, ScopeIsNotOpen, ScopeIsClosed, ScopeIsNotClosed, GroupIsOpen, GroupIsNotOpen, GroupIsClosed, GroupIsNotClosed, Writes}
-use Rattle.asn1_codec.specs.declared.encode_error.EncodeError.{EncodeError}
-use Rattle.asn1_codec.specs.declared.encode_error.EncodeError.TheVariants.{Depth, Failed}
+use Rattle.asn1_laws.proofs.WritingUpToOrder.{same_as_outermost, same_as_scope, same_followed_by}
+use Rattle.asn1_laws.specs.WritingUpToOrder.{WroteUpToOrder}
+use Rattle.asn1_laws.specs.Writing.{Written, outermost, in_scope, in_group, followed_by, SameWritten, same_outermost, same_scope, same_group, Appends, Fails, IsRejection, IsError, ScopeIsOpen, ScopeIsNotOpen, ScopeIsClosed, ScopeIsNotClosed, GroupIsOpen, GroupIsNotOpen, GroupIsClosed, GroupIsNotClosed, Writes}
+use Rattle.asn1_laws.specs.declared.encode_error.EncodeError.{EncodeError}
+use Rattle.asn1_laws.specs.declared.encode_error.EncodeError.TheVariants.{Depth, Failed}
 use Rattle.asn1_model.proofs.SameUpToOrder.{Same-trans}
 use Rattle.asn1_model.specs.Composites.{group_records}
 use Rattle.asn1_model.specs.Orders.{at_end, in_place, next}

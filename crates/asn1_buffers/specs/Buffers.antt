@@ -2,7 +2,7 @@
 use Rattle.std.specs.Prelude.{◌≡◌, ◌≢◌, ℕ, List, [], ◌∷◌, MatchResult, OnOk, Result, Some}
 use Rattle.asn1_buffers.specs.declared.error.WriteError.{WriteError}
 use Rattle.asn1_buffers.specs.declared.error.WriteError.TheVariants.{Memory}
-use Rattle.asn1_codec.specs.Writing.{Written, followed_by, in_group, in_scope}
+use Rattle.asn1_laws.specs.Writing.{Written, followed_by, in_group, in_scope}
 use Rattle.asn1_model.specs.Composites.{group_records}
 use Rattle.asn1_model.specs.Orders.{Same}
 use Rattle.asn1_model.specs.Records.{Head, Record, holding}

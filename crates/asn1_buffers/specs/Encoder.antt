@@ -2,8 +2,8 @@
 use Rattle.std.specs.Prelude.{◌≡◌, ℕ, suc, ◌+◌, List}
 use Rattle.asn1_buffers.specs.Buffers.{BufferForm}
 use Rattle.asn1_buffers.specs.declared.encoder.BufferEncoder.{BufferEncoder}
-use Rattle.asn1_codec.specs.Writing.{Writer, Written, in_group, in_scope, outermost}
-use Rattle.asn1_codec.specs.WritingUpToOrder.{up_to_order}
+use Rattle.asn1_laws.specs.Writing.{Writer, Written, in_group, in_scope, outermost}
+use Rattle.asn1_laws.specs.WritingUpToOrder.{up_to_order}
 use Rattle.asn1_model.specs.Orders.{SameRecords}
 use Rattle.asn1_model.specs.Records.{Record}
 

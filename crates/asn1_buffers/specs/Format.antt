@@ -3,8 +3,8 @@ use Rattle.std.specs.Prelude.{ℕ, Bool, List, Vec}
 use Rattle.std.specs.declared.alloc.Global.{Global}
 use Rattle.asn1_buffers.specs.Buffers.{BufferForm}
 use Rattle.asn1_buffers.specs.Encoder.{CarriesUpToOrder, buffer_writer, in_one_order}
-use Rattle.asn1_codec.proofs.WritingUpToOrder.{lawful}
-use Rattle.asn1_codec.specs.WritingUpToOrder.{RejectsByParts}
+use Rattle.asn1_laws.proofs.WritingUpToOrder.{lawful}
+use Rattle.asn1_laws.specs.WritingUpToOrder.{RejectsByParts}
 use Rattle.asn1_model.proofs.SameUpToOrder.{SameAll-trans}
 use Rattle.asn1_rules.specs.Rules.{Format, IsLawful}
 

@@ -5,10 +5,8 @@ use crate::buffer::RecordBuffer;
 use crate::error::WriteError;
 use crate::kinds::{MarkKind, ScopeKind};
 use asn1_bounds::{Codec, Constraints};
-use asn1_choices::Choice;
-use asn1_components::FieldTable;
+use asn1_components::{Choice, EnumeratedTable, FieldTable};
 use asn1_enc::{EncodeError, Encoder};
-use asn1_enumerations::EnumeratedTable;
 use asn1_items::Content;
 use asn1_tags::{Identifier, Tag};
 use asn1_types::{Any, CodecString};
@@ -34,8 +32,8 @@ impl<B: RecordBuffer> BufferEncoder<B> {
     ghost use Rattle.asn1_buffers.specs.Encoder.{CarriesUpToOrder, buffer_writer, scopes_in};
     ghost use Rattle.asn1_buffers.specs.MarksAndScopes.{kind_of_mark, kind_of_scope, unlabelled};
     ghost use Rattle.asn1_buffers.specs.declared.error.WriteError.TheVariants as write_error;
-    ghost use Rattle.asn1_codec.specs.Writing.{WritesEnd, ClosesGroup, IsRejection, WritesHead, OpensGroup, IsOutOfMemory, Writes, Written, outermost};
-    ghost use Rattle.asn1_codec.specs.declared.encode_error.EncodeError.TheVariants.{Depth, Failed, Memory};
+    ghost use Rattle.asn1_laws.specs.Writing.{WritesEnd, ClosesGroup, IsRejection, WritesHead, OpensGroup, IsOutOfMemory, Writes, Written, outermost};
+    ghost use Rattle.asn1_laws.specs.declared.encode_error.EncodeError.TheVariants.{Depth, Failed, Memory};
     ghost use Rattle.asn1_items.specs.Contents.{content_of};
     ghost use Rattle.asn1_model.specs.ConstraintSets.{ConstraintSet};
     ghost use Rattle.asn1_model.specs.Records as model;
@@ -218,8 +216,8 @@ impl<B: RecordBuffer> BufferEncoder<B> {
 
 #[tactic(auto, using(crate::proofs::Written::known))]
 impl<B: RecordBuffer> Encoder for BufferEncoder<B> {
-    ghost use Rattle.asn1_codec.proofs.WritingUpToOrder.{lawful};
-    ghost use Rattle.asn1_codec.specs.Writing.{WritesEnd, Written};
+    ghost use Rattle.asn1_laws.proofs.WritingUpToOrder.{lawful};
+    ghost use Rattle.asn1_laws.specs.Writing.{WritesEnd, Written};
     ghost use Rattle.asn1_buffers.specs.Encoder.{buffer_writer, in_one_order, scopes_in};
     ghost use Rattle.std.specs.Prelude.{◌≡◌, IsErr};
 

@@ -1,6 +1,6 @@
 //! Laws of what no other contract names: what the encoder is as types see it, and what derives give.
 ghost use Rattle.asn1_buffers.specs.Encoder.{buffer_writer};
-ghost use Rattle.asn1_codec.specs.Writing.{Written};
+ghost use Rattle.asn1_laws.specs.Writing.{Written};
 ghost use Rattle.asn1_model.specs.Records.{Record};
 ghost use Rattle.asn1_tags.specs.Derives.{ClonesAll};
 ghost use Rattle.std.specs.Prelude.{◌↔◌, List};

@@ -1,10 +1,11 @@
-//! Encoders that write bytes: one encoder, over any buffer in which the bytes of records are put together.
+//! One encoder over any buffer in which the bytes of records are put together; whole values, written and read.
 //!
 //! | Item | What it is |
 //! |---|---|
 //! | [`RecordBuffer`] | a buffer of the bytes of records, in the form of a codec |
 //! | [`BufferEncoder`] | the encoder over it |
-//! | [`write_whole`] | a value and all of its bytes |
+//! | [`write_whole`], [`read_whole`] | write a value to bytes, and read one of all bytes |
+//! | [`WholeDecoder`] | a decoder of a whole input |
 //! | [`MarkKind`], [`ScopeKind`] | the kinds of presence marks and of scopes, by which a buffer is told them |
 //! | [`WriteError`] | why something was not written |
 //! | [`laws`] | what types see of the encoder, and what the derives give |
@@ -23,6 +24,8 @@
 //!   (`ScopeIsHeld`).
 //! - The format of a codec that writes in a buffer (`buffer_format` of `specs/Format.antt`) keeps to its law, and
 //!   [`write_whole`] writes by it.
+//! - [`read_whole`] reads back equal a value whose own records remain (`read`), refuses the records that its type refuses
+//!   (`refuses`), and refuses trailing records (`none_left`; the words are in `specs/Whole.antt`).
 #![tactic(auto)]
 
 mod buffer;
@@ -36,4 +39,4 @@ pub use buffer::RecordBuffer;
 pub use encoder::BufferEncoder;
 pub use error::WriteError;
 pub use kinds::{MarkKind, ScopeKind};
-pub use whole::write_whole;
+pub use whole::{WholeDecoder, read_whole, write_whole};

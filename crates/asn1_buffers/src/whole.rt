@@ -1,11 +1,13 @@
 //! A value and all of its bytes.
 ghost use Rattle.asn1_buffers.specs.Format.{buffer_format};
+ghost use Rattle.asn1_buffers.specs.Whole.{ReadsOwnRecords, RefusesAsItsType, RefusesWhatFollows};
 ghost use Rattle.asn1_model.specs.Meaning.{own_records};
 ghost use Rattle.asn1_rules.specs.Rules.{WritesWhole};
-ghost use Rattle.std.specs.Prelude.{Bool, List, ℕ};
+ghost use Rattle.std.specs.Prelude.{◌↔◌, Bool, List, ℕ, [], IsOk};
 
 use crate::buffer::RecordBuffer;
 use crate::encoder::BufferEncoder;
+use asn1_dec::{Decode, DecodeError, Decoder};
 use asn1_enc::{Encode, EncodeError};
 use std::alloc::Global;
 
@@ -25,4 +27,30 @@ pub fn write_whole<B: RecordBuffer, T: Encode>(
     let mut encoder = BufferEncoder::<B>::new(alloc, depth);
     value.encode(&mut encoder)?;
     Ok(encoder.finish())
+}
+
+/// A decoder of a whole input, which can tell that all was read.
+pub trait WholeDecoder: Decoder + Drop + Sized {
+    /// Ends the reading, which succeeds if and only if all has been read.
+    ///
+    /// # Errors
+    /// [`DecodeError::Failed`] where a call has failed before, and else [`DecodeError::Custom`], with the text `bad item`.
+    fn end(self) -> Result<(), DecodeError>
+        ensures { IsOk result ↔ Self.reader.remains self ([], []) };
+}
+
+/// Reads the value of which a decoder has the whole input, with no trailing bytes.
+///
+/// # Errors
+/// Where the own records of a valid value of a well-tagged type remain, [`DecodeError::Depth`] only where these are nested deeper
+/// than the depth left, and else [`DecodeError::Memory`]. Where records remain that the type refuses, the error of the type, or
+/// one of these two in the same way. Before others, the error of the decoder.
+pub fn read_whole<T: Decode, D: WholeDecoder>(mut decoder: D) -> Result<T, DecodeError>
+    ensures read { ReadsOwnRecords D.reader T.meaning T.eq decoder result }
+    ensures refuses { RefusesAsItsType D.reader T.meaning T.refusals decoder result }
+    ensures none_left { RefusesWhatFollows D.reader T.meaning decoder result }
+{
+    let value = T::decode(&mut decoder)?;
+    decoder.end()?;
+    Ok(value)
 }

@@ -1,6 +1,6 @@
 //! A certificate that is read and written over and over.
 ghost use Rattle.std.specs.Prelude.{IfOk};
-ghost use Rattle.asn1_der_encoder.specs.Format.{Carries};
+ghost use Rattle.asn1_der.specs.Format.{Carries};
 ghost use Rattle.asn1_model.specs.Meaning.{own_records};
 
 use asn1_dec::DecodeError;

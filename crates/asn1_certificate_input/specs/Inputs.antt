@@ -1,7 +1,7 @@
 -- The certificate that an input has.
 use Rattle.std.specs.Prelude.{◌≡◌, ◌<◌, ◌⊎◌, ℕ, List, false, true}
 use Rattle.asn1_certificate_text.specs.Pem.{AreOctetsOfText}
-use Rattle.asn1_der_encoder.specs.Format.{Carries}
+use Rattle.asn1_der.specs.Format.{Carries}
 use Rattle.asn1_der_items.specs.Series.{is_one_element}
 use Rattle.asn1_model.specs.Meaning.{own_records}
 use Rattle.asn1_model.specs.Records.{Record, highest}

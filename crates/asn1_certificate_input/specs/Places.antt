@@ -3,7 +3,7 @@ use Rattle.std.specs.Prelude.{ℕ, ◌-◌, Bool, List, [], ◌∷◌, Option, N
 use Rattle.std.specs.Option.{unwrap_or}
 use Rattle.asn1_certificate_inside.specs.declared.name_faults.NameFault.{NameFault}
 use Rattle.asn1_der_items.specs.Elements.{Element, element_at}
-use Rattle.asn1_faults.specs.Paths.{place_of}
+use Rattle.asn1_der_items.specs.Paths.{place_of}
 use Rattle.asn1_model.specs.Tags.{context}
 use Rattle.asn1_tags.specs.Tags.{tag_eq}
 

@@ -13,10 +13,10 @@ use Rattle.asn1_certificate_inside.specs.NameFaults.{AnswersName}
 use Rattle.asn1_certificate_inside.specs.Parameters.{HasBadParameters}
 use Rattle.asn1_certificate_text.specs.PemRefusals.{IsRefusal}
 use Rattle.asn1_certificate_text.specs.declared.pem.PemError.TheVariants as pem
-use Rattle.asn1_codec.specs.declared.encode_error.EncodeError.TheVariants as writing
-use Rattle.asn1_der_encoder.specs.Format.{Carries, der_format}
+use Rattle.asn1_laws.specs.declared.encode_error.EncodeError.TheVariants as writing
+use Rattle.asn1_der.specs.Format.{Carries, der_format}
 use Rattle.asn1_der_items.specs.Series.{is_one_element}
-use Rattle.asn1_faults.specs.Faults.{AreElementsDownTo, IsFirstFault}
+use Rattle.asn1_der_items.specs.Faults.{AreElementsDownTo, IsFirstFault}
 use Rattle.asn1_rules.specs.Rules.{IsNotWritten}
 use Rattle.asn1_x509.specs.declared.certificate.Certificate.{Certificate}
 

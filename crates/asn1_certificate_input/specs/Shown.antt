@@ -6,7 +6,7 @@ use Rattle.asn1_certificate_inside.specs.NameFaults.{AnswersName}
 use Rattle.asn1_certificate_reader.specs.Reports.{IsReportOf}
 use Rattle.asn1_certificate_report.specs.Reports.{report_text}
 use Rattle.asn1_certificate_report.specs.declared.report.Report.{Report}
-use Rattle.asn1_der_encoder.specs.Format.{Carries, der_format}
+use Rattle.asn1_der.specs.Format.{Carries, der_format}
 use Rattle.asn1_x509.specs.declared.certificate.Certificate.{Certificate}
 
 -- Each value in the two names of the certificate is one that a name can have.

@@ -4,7 +4,7 @@ ghost use Rattle.asn1_certificate_input.specs.Inputs.{AreInputOctets, AreOfNoCer
 ghost use Rattle.asn1_certificate_input.specs.Refused.{IsNotRead, IsRefusalOfCertificate, IsRefusalOfInput, IsRefusalOfOctets, IsRefusalOfText};
 ghost use Rattle.asn1_certificate_input.specs.Shown.{AreLinesOf, AreLinesOfInput, IsDerOfInput};
 ghost use Rattle.asn1_certificate_input.specs.declared.output.InputError.TheVariants.{Memory};
-ghost use Rattle.asn1_der_encoder.specs.Format.{Carries};
+ghost use Rattle.asn1_der.specs.Format.{Carries};
 
 use crate::form::Form;
 use crate::open_types::check_open_types;
@@ -14,10 +14,10 @@ use asn1_certificate_report::report_text;
 use asn1_certificate_text::{PemError, certificate_octets};
 use asn1_dec::{Decode, DecodeError};
 use asn1_der::DerRules;
-use asn1_der_decoder::DerDecoder;
+use asn1_der::DerDecoder;
 use asn1_der_items::is_one_element;
 use asn1_enc::EncodeError;
-use asn1_faults::first_fault;
+use asn1_der_items::first_fault;
 use asn1_rules::Rules;
 use asn1_x509::{Certificate, certificate_is_well_tagged};
 use std::alloc::{AllocError, Global};

@@ -4,7 +4,7 @@ ghost use Rattle.asn1_certificate_input.specs.Places.{contents_of, number_of, pl
 
 use asn1_certificate_inside::NameFault;
 use asn1_der_items::find_element;
-use asn1_faults::place_of;
+use asn1_der_items::place_of;
 use asn1_tags::Tag;
 
 /// Which component of what is signed the algorithm of the signature is, from 0, where the version is said.

@@ -2,9 +2,9 @@
 use Rattle.std.proofs.Common.{◌≡◌, ℕ, Bool, Err, List, None, Ok, Some, Vec, arith, inl, inr}
 use Rattle.std.specs.declared.alloc.Global.{Global}
 use Rattle.asn1_certificate_inside.specs.Inside.{AreOctetsOfValue, AreReadAs}
-use Rattle.asn1_codec.specs.declared.decode_error.DecodeError.{DecodeError}
-use Rattle.asn1_codec.specs.declared.decode_error.DecodeError.TheVariants.{Memory}
-use Rattle.asn1_codec.specs.Reading.{MayFail}
+use Rattle.asn1_laws.specs.declared.decode_error.DecodeError.{DecodeError}
+use Rattle.asn1_laws.specs.declared.decode_error.DecodeError.TheVariants.{Memory}
+use Rattle.asn1_laws.specs.Reading.{MayFail}
 use Rattle.asn1_model.specs.Meaning.{IsWellTagged, Meaning, own_records}
 use Rattle.asn1_model.specs.Records.{highest}
 use Rattle.asn1_rules.specs.Rules.{Format, ReadsCarried}

@@ -1,7 +1,7 @@
 //! Why a case fails.
 ghost use Rattle.asn1_codec_tests.specs.declared.failure.Failure.TheVariants.{Another, Memory, NotRead, NotWritten};
-ghost use Rattle.asn1_codec.specs.declared.decode_error.DecodeError.TheVariants as reading;
-ghost use Rattle.asn1_codec.specs.declared.encode_error.EncodeError.TheVariants as writing;
+ghost use Rattle.asn1_laws.specs.declared.decode_error.DecodeError.TheVariants as reading;
+ghost use Rattle.asn1_laws.specs.declared.encode_error.EncodeError.TheVariants as writing;
 ghost use Rattle.std.specs.Prelude.{◌≡◌, ◌≢◌, ◌⊎◌, IsOk, OnOk};
 
 use asn1_dec::DecodeError;

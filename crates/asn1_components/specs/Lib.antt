@@ -2,3 +2,13 @@ pub mod ComponentLists
 pub mod ComponentTypes
 pub mod Components
 pub mod Following
+pub mod Alternatives
+pub mod ChosenTags
+pub mod ChoiceTypes
+pub mod UntaggedItself
+pub mod EnumerationLaws
+pub mod Enumerations
+pub mod LabelLaws
+pub mod Labels
+pub mod Meanings
+pub mod ItemTables

@@ -1,13 +1,13 @@
 //! A CHOICE under whatever tag.
-ghost use Rattle.asn1_codec.specs.Reading.{KeepsDepth, NeedsDepth, ReadsValue};
-ghost use Rattle.asn1_codec.specs.TaggedChoices.{ReadsAfterTag};
+ghost use Rattle.asn1_laws.specs.Reading.{KeepsDepth, NeedsDepth, ReadsValue};
+ghost use Rattle.asn1_laws.specs.TaggedChoices.{ReadsAfterTag};
 ghost use Rattle.asn1_model.specs.ConstraintSets.{constraint_set};
 
 use crate::decode::DecodeChoice;
 use crate::decoder::Decoder;
 use asn1_bounds::Constraints;
-use asn1_choices::ChoiceType;
-use asn1_codec::DecodeError;
+use asn1_components::ChoiceType;
+use asn1_laws::DecodeError;
 use asn1_tags::Tag;
 
 /// A CHOICE after an explicit tag, under its own constraints.

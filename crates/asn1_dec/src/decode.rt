@@ -1,18 +1,18 @@
 //! Types that are read.
-ghost use Rattle.asn1_choices.specs.Alternatives.{Each, all_of};
-ghost use Rattle.asn1_choices.specs.ChosenTags.{LacksTag};
-ghost use Rattle.asn1_codec.specs.DecodeErrors.{no_memory, no_valid_choice, reason};
-ghost use Rattle.asn1_codec.specs.Reading.{AfterReading, AfterReadingWithOwnConstraints, ReadsValue, Refuses};
-ghost use Rattle.asn1_codec.specs.ReadingTypes.{ReadsAlternative, ReadsFields};
-ghost use Rattle.asn1_codec.specs.Refusals.{Refusals, no_refusals};
+ghost use Rattle.asn1_components.specs.Alternatives.{Each, all_of};
+ghost use Rattle.asn1_components.specs.ChosenTags.{LacksTag};
+ghost use Rattle.asn1_laws.specs.DecodeErrors.{no_memory, no_valid_choice, reason};
+ghost use Rattle.asn1_laws.specs.Reading.{AfterReading, AfterReadingWithOwnConstraints, ReadsValue, Refuses};
+ghost use Rattle.asn1_laws.specs.ReadingTypes.{ReadsAlternative, ReadsFields};
+ghost use Rattle.asn1_laws.specs.Refusals.{Refusals, no_refusals};
 ghost use Rattle.asn1_model.specs.ConstraintSets.{constraint_set};
 ghost use Rattle.std.specs.Prelude.{◌≡◌, ◌≢◌, OnOk, [], unwrap_or};
 ghost use Rattle.std.specs.Result.{IsErrAnd};
 
 use crate::decoder::Decoder;
 use asn1_bounds::Constraints;
-use asn1_choices::Choice;
-use asn1_codec::DecodeError;
+use asn1_components::Choice;
+use asn1_laws::DecodeError;
 use asn1_components::FieldTable;
 use asn1_model::AsnType;
 use asn1_tags::Tag;

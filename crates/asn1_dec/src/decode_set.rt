@@ -1,13 +1,13 @@
 //! SET types that are read.
 ghost use Rattle.asn1_components.specs.ComponentLists.{EachIsWellTagged};
 ghost use Rattle.asn1_components.specs.Components.{all_components};
-ghost use Rattle.asn1_codec.specs.DecodeErrors.{duplicate_field, reason};
-ghost use Rattle.asn1_codec.specs.declared.decode_error.DecodeError.TheVariants.{UnknownField};
-ghost use Rattle.asn1_codec.specs.SetParts.{EachFits, EachIsOneRecord, MakesValue, ReadsPart};
+ghost use Rattle.asn1_laws.specs.DecodeErrors.{duplicate_field, reason};
+ghost use Rattle.asn1_laws.specs.declared.decode_error.DecodeError.TheVariants.{UnknownField};
+ghost use Rattle.asn1_laws.specs.SetParts.{EachFits, EachIsOneRecord, MakesValue, ReadsPart};
 ghost use Rattle.std.specs.Prelude.{◌≡◌, ◌≤◌, Err, IfErr, IsSome, None, OnErr, OnOk, Some, length, ℕ};
 
 use crate::decoder::Decoder;
-use asn1_codec::DecodeError;
+use asn1_laws::DecodeError;
 use asn1_components::FieldTable;
 use asn1_tags::Tag;
 use std::alloc::Global;

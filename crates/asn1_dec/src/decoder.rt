@@ -1,13 +1,13 @@
 //! What a codec reads with.
 ghost use Rattle.asn1_components.specs.ComponentLists.{trees_of};
 ghost use Rattle.asn1_components.specs.Components.{all_components, is_sequence, is_set, lines};
-ghost use Rattle.asn1_codec.specs.Defaults.{MayAnswer};
-ghost use Rattle.asn1_codec.specs.GivenTypes.{as_it_is, given, given_after_tag, with_constraints, with_tag};
-ghost use Rattle.asn1_codec.specs.Reading.{GivesDepthBack, IsLawful, KeepsDepth, NeedsDepth, OpensNothing, TakesDepth, Reader, ReadsEnd, ReadsHead, ReadsHeadOfSet, ReadsMark, ReadsValue, TellsMore, TellsNextTag, TellsPresence, records_in};
-ghost use Rattle.asn1_codec.specs.ReadingTypes.{Reads, ReadsChoice, ReadsComponents, ReadsContent, ReadsDefault, ReadsElements, ReadsGroup, ReadsHeadOfChoice, ReadsOpenType, ReadsOptional};
-ghost use Rattle.asn1_codec.specs.SetParts.{CanBeInSet};
-ghost use Rattle.asn1_enumerations.specs.Enumerations.{number_of};
-ghost use Rattle.asn1_enumerations.specs.Labels.{HasNumber, labels_of};
+ghost use Rattle.asn1_laws.specs.Defaults.{MayAnswer};
+ghost use Rattle.asn1_laws.specs.GivenTypes.{as_it_is, given, given_after_tag, with_constraints, with_tag};
+ghost use Rattle.asn1_laws.specs.Reading.{GivesDepthBack, IsLawful, KeepsDepth, NeedsDepth, OpensNothing, TakesDepth, Reader, ReadsEnd, ReadsHead, ReadsHeadOfSet, ReadsMark, ReadsValue, TellsMore, TellsNextTag, TellsPresence, records_in};
+ghost use Rattle.asn1_laws.specs.ReadingTypes.{Reads, ReadsChoice, ReadsComponents, ReadsContent, ReadsDefault, ReadsElements, ReadsGroup, ReadsHeadOfChoice, ReadsOpenType, ReadsOptional};
+ghost use Rattle.asn1_laws.specs.SetParts.{CanBeInSet};
+ghost use Rattle.asn1_components.specs.Enumerations.{number_of};
+ghost use Rattle.asn1_components.specs.Labels.{HasNumber, labels_of};
 ghost use Rattle.asn1_model.specs.ConstraintSets.{ConstraintSet, constraint_set, unconstrained};
 ghost use Rattle.asn1_model.specs.Records.{Name, absent, arcs, bits, bmp, discriminant, general, graphic, group_absent, group_end, group_start, ia5, in_additions, in_root, null, number, numeric, octet, explicit_tag, present, printable, sequence, sequence_of, set, set_of, teletex, boolean, units, utf8, visible};
 ghost use Rattle.asn1_model.specs.Tags.{tree_tags};
@@ -30,10 +30,10 @@ use crate::sequences::read_sequence;
 use crate::sets::read_set;
 use crate::sets_of::read_set_of;
 use asn1_bounds::{Codec, Constraints};
-use asn1_choices::{Choice, ChoiceType};
-use asn1_codec::{DecodeError, Side};
+use asn1_components::{Choice, ChoiceType};
+use asn1_laws::{DecodeError, Side};
 use asn1_components::{ConstructedType, FieldTable};
-use asn1_enumerations::{Enumerated, EnumeratedTable};
+use asn1_components::{Enumerated, EnumeratedTable};
 use asn1_tags::{Tag, TagTree};
 use asn1_types::{Any, CodecString, SetOf, Utf8};
 use asn1_values::kind::{

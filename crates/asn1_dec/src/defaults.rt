@@ -1,17 +1,17 @@
 //! A component that is absent where it equals a default.
-ghost use Rattle.asn1_codec.specs.Defaults.{MayAnswer};
-ghost use Rattle.asn1_codec.specs.GivenTypes.{constraints_or_own, given};
-ghost use Rattle.asn1_codec.specs.Reading.{KeepsDepth};
-ghost use Rattle.asn1_codec.specs.ReadingTypes.{ReadsDefault};
-ghost use Rattle.asn1_codec.specs.Sides.{side_of};
-ghost use Rattle.asn1_codec.specs.declared.decode_error.DecodeError.TheVariants.{Memory};
+ghost use Rattle.asn1_laws.specs.Defaults.{MayAnswer};
+ghost use Rattle.asn1_laws.specs.GivenTypes.{constraints_or_own, given};
+ghost use Rattle.asn1_laws.specs.Reading.{KeepsDepth};
+ghost use Rattle.asn1_laws.specs.ReadingTypes.{ReadsDefault};
+ghost use Rattle.asn1_laws.specs.Sides.{side_of};
+ghost use Rattle.asn1_laws.specs.declared.decode_error.DecodeError.TheVariants.{Memory};
 ghost use Rattle.std.specs.Prelude.{◌≡◌, IfNone, IfSome, MatchResult, Ok, true, unwrap_or};
 
 use crate::decode::Decode;
 use crate::decoder::Decoder;
 use crate::optionals::read_optional;
 use asn1_bounds::Constraints;
-use asn1_codec::{DecodeError, Side};
+use asn1_laws::{DecodeError, Side};
 use asn1_tags::Tag;
 use std::alloc::{AllocError, Global};
 

@@ -1,11 +1,11 @@
 //! The elements of a list.
-ghost use Rattle.asn1_codec.specs.ReadingTypes.{ReadsElementsLeft};
+ghost use Rattle.asn1_laws.specs.ReadingTypes.{ReadsElementsLeft};
 ghost use Rattle.std.specs.Cmp.Lexicographic.{pointwise};
 ghost use Rattle.std.specs.Prelude.{◌≡◌, OnErr, OnOk, true};
 
 use crate::decode::Decode;
 use crate::decoder::Decoder;
-use asn1_codec::DecodeError;
+use asn1_laws::DecodeError;
 
 /// The elements that are left in the innermost scope, of which there are at most this many.
 #[inline(always)]

@@ -1,13 +1,13 @@
 //! A value after an explicit tag.
-ghost use Rattle.asn1_codec.specs.GivenTypes.{constraints_or_own, given_after_tag};
-ghost use Rattle.asn1_codec.specs.Reading.{KeepsDepth, NeedsDepth};
-ghost use Rattle.asn1_codec.specs.ReadingTypes.{Reads};
+ghost use Rattle.asn1_laws.specs.GivenTypes.{constraints_or_own, given_after_tag};
+ghost use Rattle.asn1_laws.specs.Reading.{KeepsDepth, NeedsDepth};
+ghost use Rattle.asn1_laws.specs.ReadingTypes.{Reads};
 
 use crate::decode::Decode;
 use crate::decoder::Decoder;
 use crate::values::read_value;
 use asn1_bounds::Constraints;
-use asn1_codec::DecodeError;
+use asn1_laws::DecodeError;
 use asn1_tags::Tag;
 
 /// A value after an explicit tag, under its type's own tag, and constraints, or the type's own where none are given.

@@ -1,6 +1,6 @@
 //! The component that begins with a tag.
 ghost use Rattle.asn1_components.specs.Components.{all_components};
-ghost use Rattle.asn1_codec.specs.SetParts.{CanBeginWith};
+ghost use Rattle.asn1_laws.specs.SetParts.{CanBeginWith};
 ghost use Rattle.asn1_model.specs.Tags.{Has, tree_tags};
 ghost use Rattle.asn1_tags.specs.Trees.{shape};
 ghost use Rattle.std.specs.Prelude.{IfSome, IsTrue, MatchOption, ℕ};

@@ -1,5 +1,5 @@
 //! Laws of what no other contract names: what types refuse.
-ghost use Rattle.asn1_codec.specs.Refusals.{HasOtherLength, IsOutside, RefuseTheSame};
+ghost use Rattle.asn1_laws.specs.Refusals.{HasOtherLength, IsOutside, RefuseTheSame};
 
 use crate::decode::Decode;
 use asn1_model::AsnType;

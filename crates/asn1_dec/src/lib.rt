@@ -22,7 +22,7 @@
 //!
 //! What the contracts promise, and the words that they use:
 //!
-//! - What remains to be read is what is left of each list that is open (`remains` of `Reader`, in `specs/Reading.antt` of `asn1_codec`). Before
+//! - What remains to be read is what is left of each list that is open (`remains` of `Reader`, in `specs/Reading.antt` of `asn1_laws`). Before
 //!   the records of a valid value of a well-tagged type, under the asked tag and constraints and any name, a call answers an
 //!   equal value, and then what follows remains to be read (`ReadsValue`, `ReadsBack`). It fails there only if memory runs out, or
 //!   where the records are nested deeper than the depth left (`MayFail`). A success is within the depth left (`within_depth_left`).
@@ -51,7 +51,7 @@
 //!   `MakesValue` of `specs/SetParts.antt` there); no value is made where a component came twice, or one is missing (`EachFits`).
 //!   Which component a record is follows from its tag and the table of the type.
 //!
-//! The words are those of `specs/` of `asn1_codec`, whose page says which of its lemmas are for authors of types and of codecs.
+//! The words are those of `specs/` of `asn1_laws`, whose page says which of its lemmas are for authors of types and of codecs.
 //!
 //! Calls that make values take memory, and those with constraints that have a permitted alphabet.
 #![tactic(auto)]
@@ -73,7 +73,7 @@ mod sets;
 mod sets_of;
 mod values;
 
-pub use asn1_codec::{DecodeError, Needed};
+pub use asn1_laws::{DecodeError, Needed};
 pub use decode::{Decode, DecodeChoice, DecodeFields};
 pub use decode_set::{DecodeSet, keep_once};
 pub use decoder::Decoder;

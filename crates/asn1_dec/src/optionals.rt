@@ -1,8 +1,8 @@
 //! A component that may be absent, on either side of an extension marker.
-ghost use Rattle.asn1_codec.specs.GivenTypes.{constraints_or_own, given, given_after_tag};
-ghost use Rattle.asn1_codec.specs.Reading.{KeepsDepth, OpensNothing, TellsPresence};
-ghost use Rattle.asn1_codec.specs.ReadingTypes.{Reads, ReadsOptional};
-ghost use Rattle.asn1_codec.specs.Sides.{side_of};
+ghost use Rattle.asn1_laws.specs.GivenTypes.{constraints_or_own, given, given_after_tag};
+ghost use Rattle.asn1_laws.specs.Reading.{KeepsDepth, OpensNothing, TellsPresence};
+ghost use Rattle.asn1_laws.specs.ReadingTypes.{Reads, ReadsOptional};
+ghost use Rattle.asn1_laws.specs.Sides.{side_of};
 ghost use Rattle.asn1_model.specs.Records.{absent, present};
 ghost use Rattle.asn1_model.specs.Tags.{tree_tags};
 ghost use Rattle.asn1_tags.specs.Trees.{shape};
@@ -14,7 +14,7 @@ use crate::decoder::Decoder;
 use crate::explicit_tags::read_after_explicit_tag;
 use crate::values::read_value;
 use asn1_bounds::Constraints;
-use asn1_codec::{DecodeError, Side};
+use asn1_laws::{DecodeError, Side};
 use asn1_tags::{Tag, TagTree};
 
 /// Whether the component is there that is written under this tag, and begins with a tag of the tree.

@@ -1,11 +1,11 @@
 //! A SEQUENCE, by its components.
 ghost use Rattle.asn1_components.specs.Components.{is_sequence};
-ghost use Rattle.asn1_codec.specs.Reading.{KeepsDepth, NeedsDepth};
-ghost use Rattle.asn1_codec.specs.ReadingTypes.{ReadsComponents};
+ghost use Rattle.asn1_laws.specs.Reading.{KeepsDepth, NeedsDepth};
+ghost use Rattle.asn1_laws.specs.ReadingTypes.{ReadsComponents};
 
 use crate::decode::DecodeFields;
 use crate::decoder::Decoder;
-use asn1_codec::DecodeError;
+use asn1_laws::DecodeError;
 use asn1_tags::Tag;
 
 /// A SEQUENCE under a tag.

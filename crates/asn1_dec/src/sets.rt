@@ -1,14 +1,14 @@
 //! A SET, by its components.
 ghost use Rattle.asn1_components.specs.Components.{is_set};
-ghost use Rattle.asn1_codec.specs.Reading.{KeepsDepth, NeedsDepth, ReadsValue};
-ghost use Rattle.asn1_codec.specs.ReadingTypes.{ReadsComponents, ReadsPartsLeft};
+ghost use Rattle.asn1_laws.specs.Reading.{KeepsDepth, NeedsDepth, ReadsValue};
+ghost use Rattle.asn1_laws.specs.ReadingTypes.{ReadsComponents, ReadsPartsLeft};
 ghost use Rattle.asn1_model.specs.ConstraintSets.{ConstraintSet};
 ghost use Rattle.std.specs.Prelude.{◌≡◌, OnErr, OnOk, true};
 
 use crate::decode_set::DecodeSet;
 use crate::decoder::Decoder;
 use crate::fields::component_with_tag;
-use asn1_codec::DecodeError;
+use asn1_laws::DecodeError;
 use asn1_components::ConstructedType;
 use asn1_tags::Tag;
 

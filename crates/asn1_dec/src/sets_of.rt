@@ -1,6 +1,6 @@
 //! A SET OF.
-ghost use Rattle.asn1_codec.specs.Reading.{KeepsDepth, NeedsDepth};
-ghost use Rattle.asn1_codec.specs.ReadingTypes.{ReadsElements};
+ghost use Rattle.asn1_laws.specs.Reading.{KeepsDepth, NeedsDepth};
+ghost use Rattle.asn1_laws.specs.ReadingTypes.{ReadsElements};
 ghost use Rattle.asn1_model.specs.ConstraintSets.{constraint_set};
 ghost use Rattle.asn1_model.specs.Records.{set_of};
 
@@ -8,7 +8,7 @@ use crate::decode::Decode;
 use crate::decoder::Decoder;
 use crate::elements::read_elements;
 use asn1_bounds::Constraints;
-use asn1_codec::DecodeError;
+use asn1_laws::DecodeError;
 use asn1_tags::Tag;
 use asn1_types::SetOf;
 

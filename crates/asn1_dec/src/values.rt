@@ -1,12 +1,12 @@
 //! A value under what a call is given.
-ghost use Rattle.asn1_codec.specs.GivenTypes.{constraints_or_own};
-ghost use Rattle.asn1_codec.specs.Reading.{ReadsValue};
+ghost use Rattle.asn1_laws.specs.GivenTypes.{constraints_or_own};
+ghost use Rattle.asn1_laws.specs.Reading.{ReadsValue};
 ghost use Rattle.std.specs.Prelude.{◌≡◌, OnOk};
 
 use crate::decode::Decode;
 use crate::decoder::Decoder;
 use asn1_bounds::Constraints;
-use asn1_codec::DecodeError;
+use asn1_laws::DecodeError;
 use asn1_tags::Tag;
 
 /// A value under a tag, and constraints, or the type's own where none are given.

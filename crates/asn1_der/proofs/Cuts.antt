@@ -3,9 +3,9 @@ use Rattle.std.proofs.Common.{◌≡◌, ℕ, ◌≤◌, Bool, false, List, [], 
 use Rattle.std.proofs.Math.Seq.{take-append_seam}
 use Rattle.std.proofs.lemmas.List.{take-append-drop}
 use Rattle.std.specs.Prelude.{◌↔◌, IsTrue}
-use Rattle.asn1_der_records.proofs.RecordElements.{record_element}
-use Rattle.asn1_der_records.specs.Bytes.{HaveDer}
-use Rattle.asn1_der_encoder.specs.Format.{Carries, der_format}
+use Rattle.asn1_der_items.proofs.RecordElements.{record_element}
+use Rattle.asn1_der_items.specs.Bytes.{HaveDer}
+use Rattle.asn1_der.specs.Format.{Carries, der_format}
 use Rattle.asn1_der_items.proofs.Behind.{cut_off, element_at-append, element_before}
 use Rattle.asn1_der_items.proofs.OneElement.{one, some_bytes}
 use Rattle.asn1_der_items.specs.Elements.{Element, element_at}
@@ -19,9 +19,9 @@ use Rattle.asn1_model.specs.Orders.{SameRecords}
 use Rattle.asn1_model.specs.Records.{Record, held, is_presence_mark, more, none}
 use Rattle.asn1_model.specs.Tags.{IsOneRecord, Tags}
 use Rattle.asn1_model.specs.WellFormed.{AreWellFormed}
-use Rattle.asn1_streams.proofs.ItemFronts.{belongs, steady}
-use Rattle.asn1_streams.specs.Fronts.{BelongsTo, IsSteady}
-use Rattle.asn1_streams.specs.ItemFronts.{CutsItems}
+use Rattle.asn1_rules.proofs.ItemFronts.{belongs, steady}
+use Rattle.asn1_rules.specs.Fronts.{BelongsTo, IsSteady}
+use Rattle.asn1_rules.specs.ItemFronts.{CutsItems}
 
 cut_remains : (bytes behind : List ℕ) (n : ℕ) → IsCut bytes n → IsCut (bytes ++ behind) n
 cut_remains bytes behind n cut = record {

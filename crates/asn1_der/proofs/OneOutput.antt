@@ -4,8 +4,8 @@ use Rattle.std.proofs.lemmas.List.Elements.{All-cons, All-head, All-nil, All-tai
 use Rattle.std.proofs.lemmas.List.Sorted.{All-permutation}
 use Rattle.std.specs.Prelude.{All}
 use Rattle.asn1_der.specs.OneOutput.{HasNoSet, HaveNoSet, HaveOneOutput, IsNoSet}
-use Rattle.asn1_der_records.proofs.Canonical.{same_ders}
-use Rattle.asn1_der_records.specs.DistinctTags.{AreDistinctIn, HasDistinctSets, HaveDistinctSets}
+use Rattle.asn1_der_items.proofs.Canonical.{same_ders}
+use Rattle.asn1_der_items.specs.DistinctTags.{AreDistinctIn, HasDistinctSets, HaveDistinctSets}
 use Rattle.asn1_model.proofs.SameUpToOrder.{SameAll-sym, SameAll-trans}
 use Rattle.asn1_model.specs.Orders.{Same, SameAll, SameRecords, at_end, equal, in_any_order, in_place, next}
 use Rattle.asn1_model.specs.Records.{Head, Record, Records, alternative, explicit_tag, held, listed, more, none, open_type, presence_mark, scalar, scope, sequence, sequence_of, set, set_of}

@@ -1,13 +1,13 @@
 -- Fronts of bytes of DER: the element with which they begin.
 use Rattle.std.specs.Prelude.{◌≡◌, ◌≤◌, ◌+◌, ℕ, Bool, List, Some, length}
 use Rattle.std.proofs.Common.{arith}
-use Rattle.asn1_der_encoder.specs.Format.{Carries}
+use Rattle.asn1_der.specs.Format.{Carries}
 use Rattle.asn1_der_items.specs.Elements.{Element, element_at}
 use Rattle.asn1_der_items.specs.Series.{is_one_element}
 use Rattle.asn1_der.specs.declared.reader.DerReader.{DerReader}
 use Rattle.asn1_model.specs.Meaning.{Meaning}
-use Rattle.asn1_streams.specs.Fronts.{Fronts}
-use Rattle.asn1_streams.specs.ItemFronts.{item_fronts}
+use Rattle.asn1_rules.specs.Fronts.{Fronts}
+use Rattle.asn1_rules.specs.ItemFronts.{item_fronts}
 
 -- The bytes begin with an element of n bytes.
 pub record IsCut (bytes : List ℕ) (n : ℕ) : Type 0 where

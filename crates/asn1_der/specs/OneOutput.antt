@@ -1,7 +1,7 @@
 -- Of which records DER has one output alone, whatever the order inside sets.
 use Rattle.std.specs.Prelude.{◌≡◌, ⊤, ℕ, List}
 use Rattle.std.specs.Int.Digits.{AllBelowBase}
-use Rattle.asn1_der_encoder.specs.Format.{Carries}
+use Rattle.asn1_der.specs.Format.{Carries}
 use Rattle.asn1_model.specs.Records.{Head, Record, Records, scalar, scope, open_type, presence_mark, none, more, sequence, set, sequence_of, set_of, explicit_tag, alternative}
 
 -- what holds records is no SET (X.680, 27); it may be a SET OF

@@ -1,6 +1,6 @@
 -- Which records have no output.
 use Rattle.std.specs.Prelude.{List}
-use Rattle.asn1_der_records.specs.Bytes.{SomeHasNoDer}
+use Rattle.asn1_der_items.specs.Bytes.{SomeHasNoDer}
 use Rattle.asn1_model.specs.Orders.{SameRecords}
 use Rattle.asn1_model.specs.Records.{Record, held}
 

@@ -8,7 +8,7 @@ ghost use Rattle.std.specs.Prelude.{List};
 /// holds one. So octets that carry the records of a value are those that are written of every value with the same records. Values
 /// that are equal by their type's own equality need not have the same records.
 ///
-/// Of records with a SET, whose components have distinct tags, `der_is_canonical` of `asn1_der_records` says the same.
+/// Of records with a SET, whose components have distinct tags, `der_is_canonical` of `asn1_der_items` says the same.
 pub fn output_is_unique()
     ensures { (rs ss : List Record) → SameRecords rs ss → HaveNoSet (held rs) →
         HaveOneOutput rs ss }

@@ -1,18 +1,17 @@
 //! Laws of what no other contract names: what the codec and its reader come to, and what derives give.
-ghost use Rattle.asn1_der_encoder.specs.Format.{Carries};
+ghost use Rattle.asn1_der.specs.Format.{Carries};
 ghost use Rattle.asn1_der_items.specs.Series.{is_one_element};
 ghost use Rattle.asn1_der.specs.Outputs.{HaveNoDer};
 ghost use Rattle.asn1_model.specs.Meaning.{IsWellTagged, own_records};
 ghost use Rattle.asn1_model.specs.Records.{Record, highest};
-ghost use Rattle.asn1_streams.specs.Fronts.{BelongsTo, IsSteady};
+ghost use Rattle.asn1_rules.specs.Fronts.{BelongsTo, IsSteady};
 ghost use Rattle.asn1_tags.specs.Derives.{ClonesAll};
 ghost use Rattle.std.specs.Prelude.{◌≡◌, ◌↔◌, ◌≤◌, IsTrue, List, ℕ, length, take};
 
 use crate::reader::DerReader;
 use crate::rules::DerRules;
 use asn1_dec::Decode;
-use asn1_rules::Rules;
-use asn1_streams::FrontReader;
+use asn1_rules::{FrontReader, Rules};
 
 /// A law of the codec: an output carries the records whose DER it is, up to the order inside sets; one value of an open type is
 /// one element; and the records that have no DER are rejected, and no others.

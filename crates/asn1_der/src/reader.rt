@@ -2,11 +2,11 @@
 ghost use Rattle.asn1_der.specs.Cuts.{IsCut};
 ghost use Rattle.std.specs.Prelude.{MatchOption, ℕ};
 
+use crate::DerDecoder;
+use asn1_buffers::read_whole;
 use asn1_dec::{Decode, DecodeError};
-use asn1_der_decoder::DerDecoder;
 use asn1_der_items::find_element;
-use asn1_packed::read_whole;
-use asn1_streams::FrontReader;
+use asn1_rules::FrontReader;
 use std::alloc::Global;
 
 /// Reads values from the front of bytes of DER, each with at most this many nested scopes.
@@ -22,7 +22,7 @@ pub struct DerReader {
 }
 
 impl DerReader {
-    ghost use Rattle.asn1_der_encoder.specs.Format.{Carries};
+    ghost use Rattle.asn1_der.specs.Format.{Carries};
     ghost use Rattle.asn1_der_items.specs.Series.{is_one_element};
     ghost use Rattle.asn1_rules.specs.Rules.{ReadsCarried};
     ghost use Rattle.std.specs.Prelude.{◌≡◌};

@@ -1,10 +1,8 @@
 //! The codec DER as a whole.
-use asn1_buffers::write_whole;
+use crate::{DerBuffer, DerDecoder};
+use asn1_buffers::{read_whole, write_whole};
 use asn1_dec::{Decode, DecodeError};
-use asn1_der_decoder::DerDecoder;
-use asn1_der_encoder::DerBuffer;
 use asn1_enc::{Encode, EncodeError};
-use asn1_packed::read_whole;
 use asn1_rules::Rules;
 use std::alloc::Global;
 
@@ -35,7 +33,7 @@ impl DerRules {
 }
 
 impl Rules for DerRules {
-    ghost use Rattle.asn1_der_encoder.specs.Format.{der_format, der_is_lawful};
+    ghost use Rattle.asn1_der.specs.Format.{der_format, der_is_lawful};
     ghost use Rattle.asn1_rules.specs.Rules.{ReadsCarried, RefusesCarried, RefusesTrailingRecords};
 
     type Output = Vec<u8>;

@@ -11,3 +11,13 @@ mod ReadingArcs
 mod Septets
 pub mod SomeEncoding
 mod WritingArcs
+pub mod Canonical
+pub mod Marks
+pub mod OneEncoding
+pub mod RecordElements
+pub mod SetOrders
+mod SomeDer
+pub mod SomeOrder
+pub mod Sorting
+mod Places
+mod Reached

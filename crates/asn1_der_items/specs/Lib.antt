@@ -6,3 +6,9 @@ pub mod Identifiers
 pub mod Integers
 pub mod Lengths
 pub mod Series
+pub mod Bytes
+pub mod DistinctTags
+pub mod Existence
+pub mod RecordElements
+pub mod Faults
+pub mod Paths

@@ -1,4 +1,4 @@
-//! Elements, the bytes of DER (X.690): identifier octets, length octets and contents octets.
+//! Elements, the bytes of DER (X.690): identifier octets, length octets and contents octets; the DER of records; places in DER.
 //!
 //! | Item | What it is |
 //! |---|---|
@@ -9,7 +9,10 @@
 //! | [`append_arcs`], [`read_arcs`] | the contents octets of an OBJECT IDENTIFIER |
 //! | [`append_teletex`] | the contents octets of a TeletexString |
 //! | [`ElementError`] | why an element was not written |
-//! | [`laws`] | what no other contract names |
+//! | [`ScopeForm`] | the form in which the bytes of a record hold others |
+//! | [`first_fault`] | the first place where an element is due and none begins |
+//! | [`place_of`] | the place to which a path leads through elements that hold others |
+//! | [`laws`], [`record_laws`], [`fault_laws`] | laws of elements, of the DER of records, and of places |
 //!
 //! The errors of reading, the contents that are written, and the octets of bits and of a BMPString are those of `asn1_items`.
 //!
@@ -27,6 +30,16 @@
 //!   (`HasNoContents`): these are refused, and else a call fails only where memory runs out (`refused`).
 //! - An integer is in two's complement with the fewest octets (`IsInteger` of `specs/Integers.antt`). It is read from these octets
 //!   alone (`only`).
+//! - The DER of a record is one element (`HasDer` of `specs/Bytes.antt`): primitive of a content, and constructed of what holds
+//!   others. The components of a SET come by their tags, and the elements of a SET OF by their encodings. A CHOICE has the bytes of
+//!   its alternative and no others ([`record_laws::a_choice_has_no_element_of_its_own`]), and a presence mark has none
+//!   ([`record_laws::presence_marks_have_no_bytes`]).
+//! - A record has no DER (`HasNoDer`) where some arcs or units have no octets, a CHOICE is not one element of its tag, or an open
+//!   type is not one element.
+//! - [`first_fault`] answers a place where an element is due and none begins, behind elements alone, down to the depth that is given
+//!   (`IsFirstFault` of `specs/Faults.antt`; X.690, 8.1.1). Where it answers none, the bytes are elements down to that depth
+//!   (`AreElementsDownTo`). Both never hold of the same bytes and the same depth
+//!   ([`fault_laws::bytes_with_a_fault_are_no_elements`]). [`place_of`] follows a path (`place_of` of `specs/Paths.antt`).
 //!
 //! [`find_element`] copies nothing, and reserves no memory by the length that bytes tell.
 #![tactic(auto)]
@@ -37,10 +50,15 @@ mod base128;
 mod contents;
 mod elements;
 mod error;
+mod fault;
+pub mod fault_laws;
+mod form;
 mod identifiers;
 mod integers;
 pub mod laws;
 mod lengths;
+mod path;
+pub mod record_laws;
 mod teletex;
 
 pub use arcs_read::read_arcs;
@@ -50,5 +68,8 @@ pub use elements::{
     Element, append_primitive, begin_element, end_element, find_element, is_one_element,
 };
 pub use error::ElementError;
+pub use fault::first_fault;
+pub use form::ScopeForm;
 pub use integers::{append_integer, read_integer};
+pub use path::place_of;
 pub use teletex::append_teletex;

@@ -1,7 +1,7 @@
 //! What is asserted of a case, and of a value that is written.
 use asn1_buffers::write_whole;
 use asn1_codec_tests::Failure;
-use asn1_der_encoder::DerBuffer;
+use asn1_der::DerBuffer;
 use asn1_enc::{Encode, EncodeError};
 use std::alloc::Global;
 use std::process::Abort;

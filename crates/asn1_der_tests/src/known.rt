@@ -1,6 +1,6 @@
 //! The bytes of whole values of protocols, by the calls of the buffer.
 use asn1_buffers::{RecordBuffer, ScopeKind};
-use asn1_der_encoder::DerBuffer;
+use asn1_der::DerBuffer;
 use asn1_items::Content;
 use asn1_tags::{Tag, tag};
 use asn1_types::{AnyStr, OctetKind};

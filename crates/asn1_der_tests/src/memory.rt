@@ -10,7 +10,7 @@ use asn1_codec_tests::{ComesBack, Failure, is_same, one_passes};
 use asn1_der::{DerReader, DerRules};
 use asn1_sample_tests::samples::{each_sample_passes, person};
 use asn1_samples::Person;
-use asn1_streams::{FrontReader, write_list};
+use asn1_rules::{FrontReader, write_list};
 use std::alloc::Global;
 
 #[test]

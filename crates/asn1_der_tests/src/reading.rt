@@ -1,7 +1,7 @@
 //! Values that are read, and lengths that bytes tell. The lines of `test_vectors` have which bytes are read and refused.
 use asn1_dec::{Decode, DecodeError, Needed};
-use asn1_der_decoder::DerDecoder;
-use asn1_packed::read_whole;
+use asn1_der::DerDecoder;
+use asn1_buffers::read_whole;
 use asn1_samples::Person;
 use asn1_values::OctetString;
 use std::alloc::Global;

@@ -1,7 +1,7 @@
 //! Values that hold others.
 use crate::cases::{rejects, writes};
 use asn1_buffers::{MarkKind, RecordBuffer, ScopeKind, WriteError};
-use asn1_der_encoder::DerBuffer;
+use asn1_der::DerBuffer;
 use asn1_items::Content;
 use asn1_samples::Ticket;
 use asn1_tags::Tag;

@@ -3,7 +3,7 @@ use crate::cases::writes;
 use asn1_codec_tests::made::text;
 use asn1_der::{DerReader, DerRules};
 use asn1_samples::Person;
-use asn1_streams::{read_pieces, write_list};
+use asn1_rules::{read_pieces, write_list};
 use asn1_values::Integer;
 use std::alloc::Global;
 use std::process::Abort;

@@ -2,8 +2,8 @@
 //! lines of `test_vectors` have which contents are refused.
 use crate::reading::BAD_ITEM;
 use asn1_dec::{Decode, DecodeError, Decoder};
-use asn1_der_decoder::DerDecoder;
-use asn1_packed::read_whole;
+use asn1_der::DerDecoder;
+use asn1_buffers::read_whole;
 use asn1_tags::{Tag, TagTree};
 use asn1_types::InstanceOf;
 use std::alloc::Global;

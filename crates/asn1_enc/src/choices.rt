@@ -1,8 +1,8 @@
 //! A CHOICE under whatever tag.
-ghost use Rattle.asn1_codec.specs.TaggedChoices.{WritesAfterTag};
-ghost use Rattle.asn1_codec.specs.GivenTypes.{given};
-ghost use Rattle.asn1_codec.specs.Writing.{NeedsDepth};
-ghost use Rattle.asn1_codec.specs.WritingTypes.{WritesValue};
+ghost use Rattle.asn1_laws.specs.TaggedChoices.{WritesAfterTag};
+ghost use Rattle.asn1_laws.specs.GivenTypes.{given};
+ghost use Rattle.asn1_laws.specs.Writing.{NeedsDepth};
+ghost use Rattle.asn1_laws.specs.WritingTypes.{WritesValue};
 ghost use Rattle.asn1_model.specs.ConstraintSets.{constraint_set, table_constraints};
 ghost use Rattle.asn1_tags.specs.Names.{name_of};
 
@@ -10,8 +10,8 @@ use crate::encode::EncodeChoice;
 use crate::encoder::Encoder;
 use crate::own_constraints::make_constraints;
 use asn1_bounds::Constraints;
-use asn1_choices::ChoiceType;
-use asn1_codec::EncodeError;
+use asn1_components::ChoiceType;
+use asn1_laws::EncodeError;
 use asn1_model::TypeTable;
 use asn1_tags::{Identifier, Tag};
 

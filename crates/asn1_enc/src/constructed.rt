@@ -1,8 +1,8 @@
 //! A SEQUENCE or a SET, by its components.
 ghost use Rattle.asn1_components.specs.Components.{head_in, lines};
-ghost use Rattle.asn1_codec.specs.GivenTypes.{given};
-ghost use Rattle.asn1_codec.specs.Writing.{NeedsDepth, WritesHead};
-ghost use Rattle.asn1_codec.specs.WritingTypes.{WritesComponents, WritesValue};
+ghost use Rattle.asn1_laws.specs.GivenTypes.{given};
+ghost use Rattle.asn1_laws.specs.Writing.{NeedsDepth, WritesHead};
+ghost use Rattle.asn1_laws.specs.WritingTypes.{WritesComponents, WritesValue};
 ghost use Rattle.asn1_enc.specs.SequencesAndSets.{kind_of};
 ghost use Rattle.asn1_model.specs.ConstraintSets.{unconstrained};
 ghost use Rattle.asn1_tags.specs.Names.{name_of};
@@ -10,7 +10,7 @@ ghost use Rattle.std.specs.Prelude.{◌≡◌};
 
 use crate::encode::EncodeFields;
 use crate::encoder::Encoder;
-use asn1_codec::EncodeError;
+use asn1_laws::EncodeError;
 use asn1_components::{ConstructedType, FieldTable};
 use asn1_tags::{Identifier, Tag};
 

@@ -1,8 +1,8 @@
 //! A component that is absent where it equals a default.
-ghost use Rattle.asn1_codec.specs.Defaults.{MayAnswer};
-ghost use Rattle.asn1_codec.specs.GivenTypes.{constraints_or_own, given};
-ghost use Rattle.asn1_codec.specs.Writing.{IsOutOfMemory};
-ghost use Rattle.asn1_codec.specs.WritingTypes.{WritesDefault};
+ghost use Rattle.asn1_laws.specs.Defaults.{MayAnswer};
+ghost use Rattle.asn1_laws.specs.GivenTypes.{constraints_or_own, given};
+ghost use Rattle.asn1_laws.specs.Writing.{IsOutOfMemory};
+ghost use Rattle.asn1_laws.specs.WritingTypes.{WritesDefault};
 ghost use Rattle.asn1_tags.specs.Names.{name_of};
 ghost use Rattle.std.specs.Prelude.{◌≡◌, IfErr, IfOk, OnOk};
 
@@ -10,7 +10,7 @@ use crate::encode::Encode;
 use crate::encoder::Encoder;
 use crate::optionals::write_present;
 use asn1_bounds::Constraints;
-use asn1_codec::{EncodeError, Side};
+use asn1_laws::{EncodeError, Side};
 use asn1_tags::{Identifier, Tag};
 use std::alloc::{AllocError, Global};
 

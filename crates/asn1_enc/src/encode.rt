@@ -1,11 +1,11 @@
 //! Types that are written.
-ghost use Rattle.asn1_choices.specs.Alternatives.{all_of};
-ghost use Rattle.asn1_choices.specs.ChosenTags.{chosen_tag as tag_of_chosen};
+ghost use Rattle.asn1_components.specs.Alternatives.{all_of};
+ghost use Rattle.asn1_components.specs.ChosenTags.{chosen_tag as tag_of_chosen};
 ghost use Rattle.asn1_components.specs.Components.{all_components};
-ghost use Rattle.asn1_codec.specs.Places.{IsOfTypeAt, records_at};
-ghost use Rattle.asn1_codec.specs.Writing.{Writes};
-ghost use Rattle.asn1_codec.specs.GivenTypes.{as_it_is, given, with_constraints, with_tag};
-ghost use Rattle.asn1_codec.specs.WritingTypes.{WritesAlternative, WritesFields, WritesValue};
+ghost use Rattle.asn1_laws.specs.Places.{IsOfTypeAt, records_at};
+ghost use Rattle.asn1_laws.specs.Writing.{Writes};
+ghost use Rattle.asn1_laws.specs.GivenTypes.{as_it_is, given, with_constraints, with_tag};
+ghost use Rattle.asn1_laws.specs.WritingTypes.{WritesAlternative, WritesFields, WritesValue};
 ghost use Rattle.asn1_model.specs.ConstraintSets.{constraint_set};
 ghost use Rattle.asn1_model.specs.TaggedTypes.{tagged, untagged};
 ghost use Rattle.asn1_tags.specs.Names.{name_of};
@@ -14,8 +14,8 @@ ghost use Rattle.std.specs.Prelude.{◌≡◌};
 use crate::encoder::Encoder;
 use crate::own_constraints::make_constraints;
 use asn1_bounds::Constraints;
-use asn1_choices::Choice;
-use asn1_codec::EncodeError;
+use asn1_components::Choice;
+use asn1_laws::EncodeError;
 use asn1_components::FieldTable;
 use asn1_model::AsnType;
 use asn1_tags::{Identifier, Tag};

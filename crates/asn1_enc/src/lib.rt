@@ -19,7 +19,7 @@
 //! What the contracts promise, and the words that they use:
 //!
 //! - What a call writes is exactly the records of its value, after what was written before, in the innermost list that is open
-//!   (`Writes` of `specs/Writing.antt` of `asn1_codec`). They are nested no deeper than the depth left, which is then what it was. A success also
+//!   (`Writes` of `specs/Writing.antt` of `asn1_laws`). They are nested no deeper than the depth left, which is then what it was. A success also
 //!   tells that the value meets its type's invariant (`IsOfType`: range, alphabet, length), so that no caller has to show it.
 //! - An error comes only where the encoder has failed from then on (`IsError`), and it is `Failed` if and only if the encoder
 //!   had failed before. `Depth` comes only where the records are nested deeper than the depth left, and `Custom` only where the codec
@@ -32,7 +32,7 @@
 //!   record of it holds, presence marks alone never are, and the order inside sets means nothing.
 //! - The calls for whole types that open a scope at once answer `Depth` before any other error but `Failed` too
 //!   (`NeedsDepth`).
-//! - A type states a line for each component (`encode_field`, `specs/Places.antt` of `asn1_codec`), and no proof:
+//! - A type states a line for each component (`encode_field`, `specs/Places.antt` of `asn1_laws`), and no proof:
 //!   `EncodeFields::encode_fields` is a loop over the places of the field table, proved once, unless a type has its own.
 //! - `encode_sequence` and `encode_set` (`as_meant`) and `encode_choice_with_tag` write the records of the type, by the law that
 //!   ties its meaning to its components or alternatives. So the writer of such a type is one call, without a proof, also of a
@@ -51,7 +51,7 @@ mod impls;
 mod optionals;
 mod own_constraints;
 
-pub use asn1_codec::EncodeError;
+pub use asn1_laws::EncodeError;
 pub use encode::{Encode, EncodeChoice, EncodeFields};
 pub use encoder::Encoder;
 pub use optionals::encode_explicit_optional;

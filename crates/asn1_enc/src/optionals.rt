@@ -1,8 +1,8 @@
 //! A component that may be absent, on either side of an extension marker.
-ghost use Rattle.asn1_codec.specs.GivenTypes.{after_tag, constraints_or_own, given};
-ghost use Rattle.asn1_codec.specs.Sides.{side_of};
-ghost use Rattle.asn1_codec.specs.Writing.{Writes};
-ghost use Rattle.asn1_codec.specs.WritingTypes.{WritesOptional};
+ghost use Rattle.asn1_laws.specs.GivenTypes.{after_tag, constraints_or_own, given};
+ghost use Rattle.asn1_laws.specs.Sides.{side_of};
+ghost use Rattle.asn1_laws.specs.Writing.{Writes};
+ghost use Rattle.asn1_laws.specs.WritingTypes.{WritesOptional};
 ghost use Rattle.asn1_model.specs.Composites.{marked};
 ghost use Rattle.asn1_model.specs.Records.{in_root, present};
 ghost use Rattle.asn1_tags.specs.Names.{name_of};
@@ -11,7 +11,7 @@ ghost use Rattle.std.specs.Prelude.{⊤, Some};
 use crate::encode::Encode;
 use crate::encoder::Encoder;
 use asn1_bounds::Constraints;
-use asn1_codec::{EncodeError, Side};
+use asn1_laws::{EncodeError, Side};
 use asn1_model::AsnType;
 use asn1_tags::{Identifier, Tag};
 

@@ -1,11 +1,11 @@
 //! The constraints of a type, by its table.
-ghost use Rattle.asn1_codec.specs.Writing.{IsOutOfMemory};
+ghost use Rattle.asn1_laws.specs.Writing.{IsOutOfMemory};
 ghost use Rattle.asn1_model.specs.ConstraintSets.{constraint_set, table_constraints};
 ghost use Rattle.std.specs.Prelude.{◌≡◌, IfErr, IfOk, OnOk};
 
 use crate::encoder::Encoder;
 use asn1_bounds::Constraints;
-use asn1_codec::EncodeError;
+use asn1_laws::EncodeError;
 use asn1_model::TypeTable;
 
 /// Makes the constraints of a table. Where there is no memory for them, the encoder has failed.

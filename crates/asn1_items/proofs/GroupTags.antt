@@ -9,8 +9,8 @@ use Rattle.std.proofs.lemmas.Bool.{eqb-true}
 use Rattle.std.proofs.lemmas.List.Sorted.{length_permutation}
 use Rattle.asn1_components.specs.Components.{Components, all_components, table}
 use Rattle.asn1_components.specs.ComponentTypes.{ComponentType}
-use Rattle.asn1_codec.proofs.ComponentTags.{found, not_found}
-use Rattle.asn1_codec.specs.SetParts.{CanBeginWith}
+use Rattle.asn1_laws.proofs.ComponentTags.{found, not_found}
+use Rattle.asn1_laws.specs.SetParts.{CanBeginWith}
 use Rattle.asn1_fields.specs.Entries.{Entry}
 use Rattle.asn1_model.specs.Tags.{Tags, every, among, Has, tree_tags}
 use Rattle.asn1_model.proofs.TagSets.{has_first, has_later}

@@ -9,3 +9,4 @@ mod OctetsWritten
 mod Twos
 mod Writing
 mod SizedItems
+pub mod Remaining

@@ -2,7 +2,7 @@
 use Rattle.std.proofs.Common.{◌≡◌, ℕ, ◌+◌, ◌≤◌, ◌<◌, ◌^◌, Bool, true, false, List, [], ◌∷◌, ◌++◌, append_assoc, append-nil, refl, sym, ap, subst, ◌∙◌, arith, length, take, length-append}
 use Rattle.std.proofs.Math.Seq.{take-append_seam}
 use Rattle.std.specs.Prelude.{Some, ◌&&◌, ◌||◌, not, if◌then◌else◌}
-use Rattle.asn1_codec.specs.Writing.{Written, outermost, in_scope, in_group, followed_by}
+use Rattle.asn1_laws.specs.Writing.{Written, outermost, in_scope, in_group, followed_by}
 use Rattle.asn1_items.specs.Buffers.{GroupIsInnermost, IsWritten, LeadsOut, TellsOfGroup, inward, is_in_group, is_in_scope}
 use Rattle.asn1_items.specs.Contents.{LooksLike}
 use Rattle.asn1_items.specs.Headers.{kind_of, tag_bytes}

@@ -1,6 +1,6 @@
 -- What a buffer has written, with presence marks of these bytes.
 use Rattle.std.specs.Prelude.{◌≡◌, ◌⊎◌, ⊤, ℕ, ◌+◌, ◌<◌, ◌≤◌, ◌^◌, Bool, false, true, not, List, [], ◌∷◌, ◌++◌, length, IfOk, MatchResult, Result, Some}
-use Rattle.asn1_codec.specs.Writing.{Written, followed_by, outermost, in_scope, in_group}
+use Rattle.asn1_laws.specs.Writing.{Written, followed_by, outermost, in_scope, in_group}
 use Rattle.asn1_items.specs.Headers.{kind_of, tag_bytes}
 use Rattle.asn1_items.specs.Items.{HaveBytes, IsTooLong, MarkBytes, written_with}
 use Rattle.asn1_items.specs.Numbers.{four_bytes}

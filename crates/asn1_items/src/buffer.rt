@@ -1,5 +1,5 @@
 //! The bytes of items that are written.
-ghost use Rattle.asn1_codec.specs.Writing.{Written, followed_by, in_group, in_scope, outermost};
+ghost use Rattle.asn1_laws.specs.Writing.{Written, followed_by, in_group, in_scope, outermost};
 ghost use Rattle.asn1_items.specs.Buffers.{AppendsRecords, EndsGroup, EndsScope, GroupIsInnermost, HasWritten, LeadsOut, inward, is_in_group, is_in_scope};
 ghost use Rattle.asn1_items.specs.Contents.{LooksLike, content_of};
 ghost use Rattle.asn1_items.specs.Headers.{kind_of};

@@ -1,4 +1,4 @@
-//! Items, the bytes of records: what is common to codecs over bytes, in the packed form.
+//! Items, the bytes of records in packed form, and the state of a decoder over bytes.
 //!
 //! | Item | What it is |
 //! |---|---|
@@ -8,6 +8,8 @@
 //! | [`Buffer`] | the bytes that are written, and which scopes and groups are open |
 //! | [`Slices`], [`Item`] | the bytes that are read, list by list |
 //! | [`group_can_begin_with`] | whether a group is there, by the tag that is next |
+//! | [`Scopes`], [`Opened`] | the state of every decoder over bytes: the bytes left of each open scope, the depth left, and whether a call has failed; a scope that was opened |
+//! | [`BAD_ITEM`] | the error where the bytes are not those of the item that is asked for |
 //! | [`ItemError`], [`BufferError`] | why an item was not read, or not written |
 //! | [`laws`] | what the derives give |
 //!
@@ -29,6 +31,14 @@
 //!   `specs/Buffers.antt`). It refuses the records that are too long, and else fails only where memory runs out.
 //! - [`Slices`] are what is left of each list (`left_inside` and `left_outside` of `specs/Slices.antt`). An item is cut off by
 //!   the length in its header (`took` of [`Slices::take_item`]), and nothing is copied or reserved by a length that a header tells.
+//! - A decoder's state begins outside all scopes, with all of the bytes left ([`Scopes::new`]). [`Scopes::finish`] succeeds if and
+//!   only if no call has failed, no scope is open and no byte is left (`all_read`). [`Scopes::open`] goes into a scope (`IsOpen`
+//!   of `specs/Remaining.antt`) and takes one from the depth left, or refuses where none is left (`too_deep`).
+//!   [`Scopes::close`] leaves the innermost scope if nothing is left of it (`IsClosed`), and gives it back. [`Scopes::fail`],
+//!   [`Scopes::fault`] and every error of these calls make the state failed (`has_failed`), and keep the depth left (`same_depth`).
+//! - Each decoder defines how records have bytes by a form (`ReadForm` of `specs/Remaining.antt`). The lists whose bytes are left
+//!   in that form are those that remain to be read (`exact_reader`); `OpensWanted`, `ReadsWantedHead` and `ReadsWantedSet` define
+//!   what a decoder's calls do to them. `proofs/Remaining` has the lemmas for decoders.
 //!
 //! Of bytes that are no item, and of contents that are not those that are asked for, the docs of each call say which error comes.
 //! The lemmas of `proofs/Items` are for the crates above.
@@ -38,6 +48,7 @@ mod bits;
 mod buffer;
 mod bytes;
 mod content;
+mod decode_state;
 mod error;
 mod from_content;
 mod group;
@@ -51,6 +62,7 @@ mod tags;
 pub use bits::read_bits;
 pub use buffer::Buffer;
 pub use content::Content;
+pub use decode_state::{BAD_ITEM, Opened, Scopes};
 pub use error::{BufferError, ItemError};
 pub use from_content::{FromContent, StringOf};
 pub use header::{Header, Wanted, find_header};

@@ -1,7 +1,7 @@
 -- The equality of two values of an `Open`: they are of one alternative, and what they hold is equal.
 use Rattle.std.proofs.Common.{◌≡◌, ◌∙◌, Bool, List, false, true, refl, subst, sym}
 use Rattle.std.proofs.lemmas.Bool.{false≢true}
-use Rattle.asn1_choices.specs.Alternatives.{all_of, chosen}
+use Rattle.asn1_components.specs.Alternatives.{all_of, chosen}
 use Rattle.asn1_open.specs.OpenAlternatives.{open_alternatives, open_pick}
 use Rattle.asn1_open.specs.contracts.open_value.OpenPartialEq.TheImpl.{ghosts}
 use Rattle.asn1_open.specs.contracts.open_value.OpenPartialEq.TheImpl.Laws.{is}

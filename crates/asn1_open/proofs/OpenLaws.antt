@@ -1,11 +1,11 @@
 -- What a reader of an `Open` goes by: the law of the type, which alternative has a tag, and how deep an INSTANCE OF is nested.
 use Rattle.std.proofs.Common.{◌≡◌, ◌+◌, ◌++◌, ℕ, Bool, true, false, List, [], ◌∷◌, eqb, refl, arith, rules, sym, subst}
 use Rattle.std.specs.Prelude.{Some, codes}
-use Rattle.asn1_choices.specs.Alternatives.{all_of, chosen}
-use Rattle.asn1_choices.specs.ChoiceTypes.{AgreesWithChoice, itself_agrees}
+use Rattle.asn1_components.specs.Alternatives.{all_of, chosen}
+use Rattle.asn1_components.specs.ChoiceTypes.{AgreesWithChoice, itself_agrees}
 use Rattle.asn1_components.specs.Components.{lines}
-use Rattle.asn1_codec.proofs.ReadingSteps.{highest-append, highest-holding}
-use Rattle.asn1_codec.proofs.TellingTags.{its_tag}
+use Rattle.asn1_laws.proofs.ReadingSteps.{highest-append, highest-holding}
+use Rattle.asn1_laws.proofs.TellingTags.{its_tag}
 use Rattle.asn1_model.specs.Kinds.{object_identifier}
 use Rattle.asn1_model.specs.Meaning.{IsWellTagged, own_records}
 use Rattle.asn1_model.specs.Records.{Record, highest, holding, explicit_tag, sequence}

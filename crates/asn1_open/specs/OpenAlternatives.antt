@@ -2,10 +2,10 @@
 use Rattle.std.specs.Prelude.{◌≡◌, ℕ, Bool as Truth, true, List, [], ◌∷◌, IsTrue, Result, codes, refl}
 use Rattle.std.specs.String.{string_bytes}
 use Rattle.std.proofs.Common.{inl, inr}
-use Rattle.asn1_choices.specs.Alternatives.{Alternatives, OneOf, SaysTheSame, ValueMeaning, all_of, alternative, chosen_meaning, closed, says_itself, value_meaning}
-use Rattle.asn1_choices.specs.ChoiceTypes.{alternatives_with_itself, choice_holding_itself, inside_itself, table_with_itself}
-use Rattle.asn1_codec.specs.Reading.{Outside, Reader, ReadsBack}
-use Rattle.asn1_codec.specs.declared.decode_error.DecodeError.{DecodeError}
+use Rattle.asn1_components.specs.Alternatives.{Alternatives, OneOf, SaysTheSame, ValueMeaning, all_of, alternative, chosen_meaning, closed, says_itself, value_meaning}
+use Rattle.asn1_components.specs.ChoiceTypes.{alternatives_with_itself, choice_holding_itself, inside_itself, table_with_itself}
+use Rattle.asn1_laws.specs.Reading.{Outside, Reader, ReadsBack}
+use Rattle.asn1_laws.specs.declared.decode_error.DecodeError.{DecodeError}
 use Rattle.asn1_components.specs.Components.{constructed_type_under}
 use Rattle.asn1_model.specs.Kinds.{object_identifier, string_type, utf8_string}
 use Rattle.asn1_model.specs.Meaning.{Meaning, own_records}

@@ -1,5 +1,5 @@
 //! Laws of the tables of an `Open`, and of its equality.
-ghost use Rattle.asn1_choices.specs.Alternatives.{all_of, chosen, names_of, trees_of, variance_of};
+ghost use Rattle.asn1_components.specs.Alternatives.{all_of, chosen, names_of, trees_of, variance_of};
 ghost use Rattle.asn1_model.specs.ConstraintSets.{values_of};
 ghost use Rattle.asn1_model.specs.Tags.{universal};
 ghost use Rattle.asn1_open.specs.OpenAlternatives.{open_names};

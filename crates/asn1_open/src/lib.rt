@@ -35,7 +35,7 @@
 //! - The scopes of an INSTANCE OF are nested three deeper than those of the value in it, and those
 //!   of every other alternative one deep (`an_instance_is_three_deeper_than_its_value`). So a NULL
 //!   with `k` of them around it takes `1 + 3k` scopes.
-//! - `proofs/ReadingChoices.antt` of `asn1_codec` is for the author of any CHOICE that holds itself: a
+//! - `proofs/ReadingChoices.antt` of `asn1_laws` is for the author of any CHOICE that holds itself: a
 //!   lemma for each way out of its reading functions, which do what `ReadsValue`, `ReadsHeadOfChoice`
 //!   and `ReadsAlternative` say.
 //!

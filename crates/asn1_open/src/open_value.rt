@@ -1,5 +1,5 @@
 //! `Open`: a CHOICE that holds itself, as rasn's `types::Open`.
-ghost use Rattle.asn1_choices.specs.ChoiceTypes.{itself_agrees};
+ghost use Rattle.asn1_components.specs.ChoiceTypes.{itself_agrees};
 ghost use Rattle.asn1_model.specs.Meaning.{IsWellTagged, own_records};
 ghost use Rattle.asn1_model.specs.Records.{highest};
 ghost use Rattle.asn1_open.specs.OpenAlternatives.{open_agrees, open_alternatives, open_meaning, open_pick};

@@ -1,8 +1,8 @@
 -- What a reader of filters goes by: the law of the type, which alternative has a tag, and how a set is one of them.
 use Rattle.std.proofs.Common.{◌≡◌, ℕ, Bool, true, false, List, eqb, refl, rules, ap, sym, ◌∙◌, subst}
-use Rattle.asn1_choices.specs.Alternatives.{all_of, chosen, chosen_meaning, value_meaning}
-use Rattle.asn1_choices.specs.ChoiceTypes.{AgreesWithChoice, itself_agrees}
-use Rattle.asn1_codec.proofs.TellingTags.{its_tag}
+use Rattle.asn1_components.specs.Alternatives.{all_of, chosen, chosen_meaning, value_meaning}
+use Rattle.asn1_components.specs.ChoiceTypes.{AgreesWithChoice, itself_agrees}
+use Rattle.asn1_laws.proofs.TellingTags.{its_tag}
 use Rattle.asn1_model.specs.Meaning.{IsWellTagged}
 use Rattle.asn1_model.specs.TaggedTypes.{tagged}
 use Rattle.asn1_model.proofs.TagSets.{only_has}

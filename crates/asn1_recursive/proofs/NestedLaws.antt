@@ -1,8 +1,8 @@
 -- Which alternative of a `Nested` has a tag.
 use Rattle.std.proofs.Common.{◌≡◌, ℕ, Bool, true, false, eqb, refl, rules, sym, subst}
-use Rattle.asn1_choices.specs.Alternatives.{all_of, chosen}
-use Rattle.asn1_choices.specs.ChoiceTypes.{AgreesWithChoice, itself_agrees}
-use Rattle.asn1_codec.proofs.TellingTags.{its_tag}
+use Rattle.asn1_components.specs.Alternatives.{all_of, chosen}
+use Rattle.asn1_components.specs.ChoiceTypes.{AgreesWithChoice, itself_agrees}
+use Rattle.asn1_laws.proofs.TellingTags.{its_tag}
 use Rattle.asn1_model.specs.Meaning.{IsWellTagged}
 use Rattle.asn1_model.specs.Tags.{Has, tree_tags}
 use Rattle.asn1_tags.specs.declared.tags.Tag.{Tag}

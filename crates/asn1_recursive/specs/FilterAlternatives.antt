@@ -14,8 +14,8 @@ use Rattle.asn1_model.specs.RecordTables.{Line, Table}
 use Rattle.asn1_model.specs.WellFormed.{well_formed_append, well_formed_elements}
 use Rattle.asn1_model.specs.TaggedTypes.{tagged}
 use Rattle.asn1_model.specs.Tags.{CHOICE, context}
-use Rattle.asn1_choices.specs.Alternatives.{Alternatives, OneOf, SaysTheSame, ValueMeaning, all_of, alternative, chosen_meaning, extensible, none_say, says_itself, value_meaning}
-use Rattle.asn1_choices.specs.ChoiceTypes.{alternatives_with_itself, choice_holding_itself, inside_itself, itself_under, table_with_itself}
+use Rattle.asn1_components.specs.Alternatives.{Alternatives, OneOf, SaysTheSame, ValueMeaning, all_of, alternative, chosen_meaning, extensible, none_say, says_itself, value_meaning}
+use Rattle.asn1_components.specs.ChoiceTypes.{alternatives_with_itself, choice_holding_itself, inside_itself, itself_under, table_with_itself}
 use Rattle.asn1_types.specs.Kinds.{set_of_type}
 use Rattle.asn1_recursive.specs.contracts.attribute_value_assertion.AttributeValueAssertionAsnType.TheImpl.{ghosts as assertion}
 use Rattle.asn1_recursive.specs.contracts.matching_rule_assertion.MatchingRuleAssertionAsnType.TheImpl.{ghosts as matching_rule}

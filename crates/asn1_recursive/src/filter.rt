@@ -17,7 +17,7 @@
 //! ```
 ghost use Rattle.std.specs.Prelude.{Bool, List, ℕ};
 ghost use Rattle.asn1_model.specs.Meaning.{IsWellTagged};
-ghost use Rattle.asn1_choices.specs.ChoiceTypes.{itself_agrees};
+ghost use Rattle.asn1_components.specs.ChoiceTypes.{itself_agrees};
 ghost use Rattle.asn1_recursive.specs.FilterAlternatives.{filter_alternatives, filter_pick, filter_meaning, filter_agrees};
 
 use crate::attribute_value_assertion::AttributeValueAssertion;

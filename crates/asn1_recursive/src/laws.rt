@@ -1,5 +1,5 @@
 //! Laws of what no other contract names: the names in the tables, and that the parts of a filter are valid.
-ghost use Rattle.asn1_choices.specs.Alternatives.{all_of, names_of};
+ghost use Rattle.asn1_components.specs.Alternatives.{all_of, names_of};
 ghost use Rattle.asn1_recursive.specs.FilterAlternatives.{filter_names};
 ghost use Rattle.std.specs.Prelude.{◌≡◌, [], ◌∷◌, codes, List, Bool, ℕ};
 

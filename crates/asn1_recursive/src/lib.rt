@@ -14,7 +14,7 @@
 //! - A CHOICE says by recursion on a value what the chosen alternative says of it (`specs/FilterAlternatives.antt` and
 //!   `specs/NestedAlternatives.antt`). Tables and meaning are proved to say the same.
 //! - They are read by functions that call one another, and open a scope before each alternative, so the depth left of the decoder
-//!   ends the recursion, whatever the input. Their proofs go by the lemmas of `asn1_codec` for a CHOICE that holds itself
+//!   ends the recursion, whatever the input. Their proofs go by the lemmas of `asn1_laws` for a CHOICE that holds itself
 //!   (`proofs/ReadingChoices.antt`).
 //! - [`laws`] says which names the tables have, and that the parts of a filter are valid.
 //!

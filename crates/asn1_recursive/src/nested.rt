@@ -1,7 +1,7 @@
 //! `Nested ::= CHOICE { null NULL, flag BOOLEAN, inner [0] Nested }`
 ghost use Rattle.std.specs.Prelude.{Bool, List, ℕ};
 ghost use Rattle.asn1_model.specs.Meaning.{IsWellTagged};
-ghost use Rattle.asn1_choices.specs.ChoiceTypes.{itself_agrees};
+ghost use Rattle.asn1_components.specs.ChoiceTypes.{itself_agrees};
 ghost use Rattle.asn1_recursive.specs.NestedAlternatives.{nested_alternatives, nested_pick, nested_meaning, nested_agrees};
 
 use crate::nested_reader::{read_alternative, read_nested};

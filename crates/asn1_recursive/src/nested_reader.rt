@@ -1,9 +1,9 @@
 //! How a `Nested` is read: by three functions that call one another.
-ghost use Rattle.asn1_choices.specs.Alternatives.{Each, all_of};
-ghost use Rattle.asn1_choices.specs.ChosenTags.{LacksTag};
-ghost use Rattle.asn1_codec.specs.DecodeErrors.{no_valid_choice, reason};
-ghost use Rattle.asn1_codec.specs.Reading.{KeepsDepth, ReadsValue};
-ghost use Rattle.asn1_codec.specs.ReadingTypes.{ReadsAlternative};
+ghost use Rattle.asn1_components.specs.Alternatives.{Each, all_of};
+ghost use Rattle.asn1_components.specs.ChosenTags.{LacksTag};
+ghost use Rattle.asn1_laws.specs.DecodeErrors.{no_valid_choice, reason};
+ghost use Rattle.asn1_laws.specs.Reading.{KeepsDepth, ReadsValue};
+ghost use Rattle.asn1_laws.specs.ReadingTypes.{ReadsAlternative};
 ghost use Rattle.asn1_model.specs.ConstraintSets.{constraint_set};
 ghost use Rattle.asn1_model.specs.Tags.{CHOICE};
 ghost use Rattle.asn1_recursive.specs.NestedAlternatives.{nested_alternatives, nested_meaning, nested_pick};

@@ -1,3 +1,13 @@
 pub mod Rules
 pub mod Recoding
 pub mod RoundTrips
+pub mod Fronts
+pub mod ItemFronts
+pub mod Iters
+pub mod Outputs
+pub mod Pieces
+pub mod Progress
+pub mod Remaining
+pub mod StreamRoundTrips
+pub mod Sources
+pub mod States

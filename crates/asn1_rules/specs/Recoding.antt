@@ -1,6 +1,6 @@
 -- What is read by one codec and written by another.
 use Rattle.std.specs.Prelude.{◌≡◌, ◌⊎◌, ⊤, ℕ, Bool, true, ◌<◌, MatchResult, Result}
-use Rattle.asn1_codec.specs.declared.decode_error.DecodeError.TheVariants.{Memory, Depth}
+use Rattle.asn1_laws.specs.declared.decode_error.DecodeError.TheVariants.{Memory, Depth}
 use Rattle.asn1_model.specs.Meaning.{Meaning, IsWellTagged, own_records}
 use Rattle.asn1_model.specs.Records.{highest}
 use Rattle.asn1_rules.specs.Rules.{Format, IsWritten, IsNotWritten}

@@ -1,6 +1,6 @@
 -- Why a value was not written and read back.
 use Rattle.std.specs.Prelude.{◌≡◌, ◌⊎◌, ℕ, ◌≤◌, ◌<◌, List, Result, Ok, Err}
-use Rattle.asn1_codec.specs.declared.decode_error.DecodeError.TheVariants.{Memory, Depth}
+use Rattle.asn1_laws.specs.declared.decode_error.DecodeError.TheVariants.{Memory, Depth}
 use Rattle.asn1_model.specs.Records.{Record, highest}
 use Rattle.asn1_rules.specs.Rules.{Format, IsNotWritten}
 use Rattle.asn1_rules.specs.declared.round_trips.RoundTripError.{RoundTripError}

@@ -1,11 +1,11 @@
 -- What a codec as a whole says of itself, and what writing and reading a value answer.
 use Rattle.std.specs.Prelude.{◌≡◌, ◌≢◌, ◌⊎◌, ℕ, ◌≤◌, ◌<◌, Bool, true, false, List, [], ◌∷◌, ◌++◌, IsErr, MatchResult, Result}
-use Rattle.asn1_codec.specs.Writing.{IsRejection}
-use Rattle.asn1_codec.specs.declared.encode_error.EncodeError.{EncodeError}
-use Rattle.asn1_codec.specs.declared.encode_error.EncodeError.TheVariants as writing
-use Rattle.asn1_codec.specs.declared.decode_error.DecodeError.{DecodeError}
-use Rattle.asn1_codec.specs.Reading.{MayFail}
-use Rattle.asn1_codec.specs.Refusals.{Refusals}
+use Rattle.asn1_laws.specs.Writing.{IsRejection}
+use Rattle.asn1_laws.specs.declared.encode_error.EncodeError.{EncodeError}
+use Rattle.asn1_laws.specs.declared.encode_error.EncodeError.TheVariants as writing
+use Rattle.asn1_laws.specs.declared.decode_error.DecodeError.{DecodeError}
+use Rattle.asn1_laws.specs.Reading.{MayFail}
+use Rattle.asn1_laws.specs.Refusals.{Refusals}
 use Rattle.asn1_model.specs.Meaning.{Meaning, IsWellTagged, own_records}
 use Rattle.asn1_model.specs.Orders.{SameRecords}
 use Rattle.asn1_model.specs.Records.{Record, Head, highest, holding, presence_marks_alone}

@@ -6,7 +6,7 @@ use Rattle.std.specs.List.{flat_map}
 use Rattle.std.specs.Option.{option_map}
 use Rattle.std.specs.declared.alloc.Global.{Global}
 use Rattle.std.specs.declared.string.String.{String}
-use Rattle.asn1_codec.proofs.WritingSteps.{highest-append, highest-holding}
+use Rattle.asn1_laws.proofs.WritingSteps.{highest-append, highest-holding}
 use Rattle.asn1_components.specs.Components.{component_records}
 use Rattle.asn1_model.specs.Composites.{list_records, option_records}
 use Rattle.asn1_model.specs.ConstraintSets.{unconstrained}

@@ -8,7 +8,7 @@ use Rattle.std.proofs.lemmas.Bool.{and_from}
 use Rattle.asn1_components.proofs.Apart.{sequence_apart}
 use Rattle.asn1_components.specs.Components.{all_components, component_records}
 use Rattle.asn1_components.specs.Following.{EndsApart}
-use Rattle.asn1_codec.specs.Reading.{Reader, Outside}
+use Rattle.asn1_laws.specs.Reading.{Reader, Outside}
 use Rattle.asn1_model.specs.ConstraintSets.{unconstrained}
 use Rattle.asn1_model.specs.Meaning.{IsWellTagged, own_records, tags}
 use Rattle.asn1_model.specs.Records.{Record, holding, sequence, sequence_of}

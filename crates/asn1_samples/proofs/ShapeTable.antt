@@ -1,6 +1,6 @@
 -- The table in which a `Shape` looks for its alternative.
 use Rattle.std.proofs.Common.{◌<◌, ℕ, zero, suc, List, arith, refl}
-use Rattle.asn1_choices.specs.Alternatives.{all_of, trees_of}
+use Rattle.asn1_components.specs.Alternatives.{all_of, trees_of}
 use Rattle.asn1_tags.specs.TagTables.{EntryFits, TableFits}
 use Rattle.asn1_tags.specs.Trees.{leaves_of}
 use Rattle.asn1_tags.specs.declared.tags.Tag.{Tag}

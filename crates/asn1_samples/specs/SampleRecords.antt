@@ -5,7 +5,7 @@ use Rattle.std.specs.Option.{option_map}
 use Rattle.std.specs.String.{string_bytes}
 use Rattle.std.specs.declared.alloc.Global.{Global}
 use Rattle.std.specs.declared.string.String.{String}
-use Rattle.asn1_enumerations.specs.Enumerations.{number_of}
+use Rattle.asn1_components.specs.Enumerations.{number_of}
 use Rattle.asn1_model.specs.Composites.{alternative_records, default_records, explicit_tag_records, group_records, option_records, sequence_records, set_records}
 use Rattle.asn1_model.specs.Meaning.{Meaning, own_records}
 use Rattle.asn1_model.specs.RecordTables.{Line, Table}

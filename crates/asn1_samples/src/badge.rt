@@ -2,7 +2,7 @@
 ghost use Rattle.std.specs.Prelude.{◌≡◌, [], ◌∷◌, OnOk, map, codes};
 ghost use Rattle.asn1_types.specs.Words.{untagged, required, optional, set, constructed_type, constructed_agrees, IsWellTagged};
 ghost use Rattle.asn1_components.specs.Components.{all_components, root_entries, table};
-ghost use Rattle.asn1_codec.specs.SetParts.{EachFits, MakesValue};
+ghost use Rattle.asn1_laws.specs.SetParts.{EachFits, MakesValue};
 ghost use Rattle.asn1_fields.specs.CanonicalOrder.{IsCanonical};
 ghost use Rattle.asn1_fields.specs.Entries.{component_of};
 
@@ -116,7 +116,7 @@ impl EncodeFields for Badge {
 /// A badge is read by parts: each component by itself, and then all are put together.
 impl DecodeSet for Badge {
     ghost use Rattle.asn1_samples.specs.BadgeParts.{IsBadgePart, badge_index};
-    ghost use Rattle.asn1_codec.proofs.OneRecordEach.{optional_is_one};
+    ghost use Rattle.asn1_laws.proofs.OneRecordEach.{optional_is_one};
     ghost use Rattle.std.proofs.Common.{rules, lit≤};
 
     type Part = BadgePart;

@@ -5,7 +5,7 @@ ghost use Rattle.asn1_samples.specs.declared.color.Color.TheVariants.{Red, Green
 
 use asn1_dec::{Decode, DecodeError, Decoder};
 use asn1_enc::{Encode, EncodeError, Encoder};
-use asn1_enumerations::item;
+use asn1_components::item;
 use asn1_types::{
     AsnType, Constraints, Enumerated, EnumeratedItems, EnumerationItem, Identifier, Tag, TypeTable,
 };

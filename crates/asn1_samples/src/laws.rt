@@ -1,8 +1,8 @@
 //! Laws of what no other contract names: the records of each value, the names in the tables, which types have an extension
 //! marker, which values are valid, which values of a type are equal, and what a clone is.
-ghost use Rattle.asn1_choices.specs.Alternatives.{all_of, names_of, trees_of};
+ghost use Rattle.asn1_components.specs.Alternatives.{all_of, names_of, trees_of};
 ghost use Rattle.asn1_components.specs.Components.{has_marker};
-ghost use Rattle.asn1_enumerations.specs.Enumerations.{items, names};
+ghost use Rattle.asn1_components.specs.Enumerations.{items, names};
 ghost use Rattle.asn1_samples.specs.ComponentNames.{component_names};
 ghost use Rattle.std.specs.Cmp.Lexicographic.{pointwise};
 ghost use Rattle.std.specs.Hash as fed;

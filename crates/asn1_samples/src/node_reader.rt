@@ -1,6 +1,6 @@
 //! How a node is read: by three functions that call one another.
-ghost use Rattle.asn1_codec.specs.Reading.{KeepsDepth};
-ghost use Rattle.asn1_codec.specs.ReadingTypes.{ReadsComponents, ReadsElementsLeft, ReadsFields};
+ghost use Rattle.asn1_laws.specs.Reading.{KeepsDepth};
+ghost use Rattle.asn1_laws.specs.ReadingTypes.{ReadsComponents, ReadsElementsLeft, ReadsFields};
 ghost use Rattle.asn1_components.specs.Components.{is_sequence};
 ghost use Rattle.asn1_samples.specs.NodeComponents.{node_components, node_meaning};
 ghost use Rattle.std.specs.Cmp.Lexicographic.{pointwise};

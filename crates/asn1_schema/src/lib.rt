@@ -3,14 +3,14 @@
 //! | Item | What it is |
 //! |---|---|
 //! | [`Rules`], [`round_trip`], [`recode`] | a codec as a whole, and the theorem: of `asn1_rules` |
-//! | [`FrontReader`], [`Iter`], [`write_list`], [`read_pieces`] | values one after another: of `asn1_streams` |
+//! | [`FrontReader`], [`Iter`], [`write_list`], [`read_pieces`] | values one after another: of `asn1_rules` |
 //! | [`Encode`], [`Decode`], [`DecodeByPlace`] and the rest | how a type is written and read: of the crates below |
 //! | [`UniversalString`], [`UtcTime`], [`GeneralizedTime`], [`ObjectDescriptor`] | the kinds of string that are another kind under a tag |
 //! | [`laws`] | which kind of string each name is |
 //!
 //! It is the one crate that an author of types names in crates.txt; a clause that has the meaning of a CHOICE in it by its type
 //! wants `asn1_tags` there too. Each public name of the crates below is re-exported, but for the macros `tag!` of `asn1_tags` and
-//! `item!` of `asn1_enumerations`. The crates are here under the names of their subjects too (`types`, `strings`, `codec` and so
+//! `item!` of `asn1_components`. The crates are here under the names of their subjects too (`types`, `strings`, `codec` and so
 //! on), in code, and so are their definitions and their lemmas: `specs/Lib.antt` and `proofs/Lib.antt` pass them on. The words with
 //! which an author says what a type means are `Rattle.asn1_schema.specs.Words`. `asn1_user_types` has types of each kind that name
 //! this crate alone.
@@ -28,10 +28,8 @@ pub use asn1_bounds::InnerSubtypeConstraint;
 pub use asn1_bounds::InnerSubtypeConstraintError;
 pub use asn1_bounds::TooWide;
 pub use asn1_bounds::WholeNumber;
-pub use asn1_choices as choices;
-pub use asn1_codec as codec;
-pub use asn1_codec::Side;
 pub use asn1_components as components;
+pub use asn1_components::EnumeratedTable;
 pub use asn1_dec as dec;
 pub use asn1_dec::Decode;
 pub use asn1_dec::DecodeChoice;
@@ -49,9 +47,9 @@ pub use asn1_enc::EncodeError;
 pub use asn1_enc::EncodeFields;
 pub use asn1_enc::Encoder;
 pub use asn1_enc::encode_explicit_optional;
-pub use asn1_enumerations as enumerations;
-pub use asn1_enumerations::EnumeratedTable;
 pub use asn1_fields as fields;
+pub use asn1_laws as codec_laws;
+pub use asn1_laws::Side;
 pub use asn1_model as model;
 pub use asn1_open as open_values;
 pub use asn1_open::Open;
@@ -60,11 +58,19 @@ pub use asn1_open::each_open_is_valid;
 pub use asn1_open::open_is_well_tagged;
 pub use asn1_ranges as ranges;
 pub use asn1_rules as rules;
+pub use asn1_rules::FrontReader;
+pub use asn1_rules::Iter;
+pub use asn1_rules::Pieces;
 pub use asn1_rules::RecodeError;
 pub use asn1_rules::RoundTripError;
 pub use asn1_rules::Rules;
+pub use asn1_rules::iter_of;
+pub use asn1_rules::outputs_are_fronts;
+pub use asn1_rules::read_pieces;
 pub use asn1_rules::recode;
 pub use asn1_rules::round_trip;
+pub use asn1_rules::round_trip_in_pieces;
+pub use asn1_rules::write_list;
 pub use asn1_slots as slots;
 pub use asn1_slots::DecodeByPlace;
 pub use asn1_slots::DecodeChoiceByPlace;
@@ -91,15 +97,6 @@ pub use asn1_slots::or_default;
 pub use asn1_slots::or_empty;
 pub use asn1_slots::required;
 pub use asn1_slots::required_with_constraints;
-pub use asn1_streams as streams;
-pub use asn1_streams::FrontReader;
-pub use asn1_streams::Iter;
-pub use asn1_streams::Pieces;
-pub use asn1_streams::iter_of;
-pub use asn1_streams::outputs_are_fronts;
-pub use asn1_streams::read_pieces;
-pub use asn1_streams::round_trip_in_pieces;
-pub use asn1_streams::write_list;
 pub use asn1_tags as tags;
 pub use asn1_tags::Variants;
 pub use asn1_tags::VariantsError;

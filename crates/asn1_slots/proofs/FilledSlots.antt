@@ -4,8 +4,8 @@ use Rattle.std.specs.Prelude.{if◌then◌else◌, is_some, IfSome, MatchOption,
 use Rattle.std.specs.Option.{option_eq}
 use Rattle.std.specs.Result.{IsErrAnd}
 use Rattle.asn1_slots.specs.Slots.{holds_or_default}
-use Rattle.asn1_codec.specs.DecodeErrors.{missing_field, reason}
-use Rattle.asn1_codec.specs.declared.decode_error.DecodeError.{DecodeError}
+use Rattle.asn1_laws.specs.DecodeErrors.{missing_field, reason}
+use Rattle.asn1_laws.specs.declared.decode_error.DecodeError.{DecodeError}
 
 -- the answer of `filled` for a slot and a name
 abbrev Answers : {W : Type 0} → Option W → List ℕ → Result W DecodeError → Type 0

@@ -1,9 +1,9 @@
 -- Errors that a name is given.
 use Rattle.std.proofs.Common.{◌≡◌, ℕ, false, true, Bool, List, Result, Ok, Err, ap, inl, inr, ◌∙◌}
 use Rattle.std.specs.Prelude.{IfErr}
-use Rattle.asn1_codec.specs.DecodeErrors.{lacks_name, reason}
-use Rattle.asn1_codec.specs.Reading.{MayFail}
-use Rattle.asn1_codec.specs.declared.decode_error.DecodeError.{DecodeError}
+use Rattle.asn1_laws.specs.DecodeErrors.{lacks_name, reason}
+use Rattle.asn1_laws.specs.Reading.{MayFail}
+use Rattle.asn1_laws.specs.declared.decode_error.DecodeError.{DecodeError}
 use Rattle.asn1_slots.specs.Slots.{IsOfSlots, MakesValueOfSlots, RefusesMissing, Slot}
 
 -- what is given to no error of memory or of depth changes nothing before records of a value

@@ -6,9 +6,9 @@ use Rattle.asn1_components.specs.ComponentTypes.{ComponentType}
 use Rattle.asn1_components.specs.Following.{EndsApart, records_then}
 use Rattle.std.specs.Prelude.{MatchResult}
 use Rattle.asn1_model.specs.Records.{Record, highest}
-use Rattle.asn1_codec.specs.declared.decode_error.DecodeError.{DecodeError}
-use Rattle.asn1_codec.specs.Reading.{HasAdvanced, MayFail, Outside, Reader, ReadsBack, Remaining}
-use Rattle.asn1_codec.proofs.ReadingComponents.{ComponentsRead, begin, step, stops, through}
+use Rattle.asn1_laws.specs.declared.decode_error.DecodeError.{DecodeError}
+use Rattle.asn1_laws.specs.Reading.{HasAdvanced, MayFail, Outside, Reader, ReadsBack, Remaining}
+use Rattle.asn1_laws.proofs.ReadingComponents.{ComponentsRead, begin, step, stops, through}
 
 reads_as : {D V : Type 0} (A : Type 0) (R : Reader D) (c d : ComponentType V) (holds : V → Bool) (old new : D) (result : Result A DecodeError) → SameComponent c d →
     ReadsInto R d holds old new result → ReadsInto R c holds old new result

@@ -1,10 +1,10 @@
 -- How a CHOICE is read by the place of its alternative.
 use Rattle.std.proofs.Common.{◌≡◌, ℕ, zero, suc, Bool, true, List, [], ◌∷◌, Result, Ok, Err, inl, inr, ◌∙◌, subst}
 use Rattle.std.specs.Prelude.{⊤}
-use Rattle.asn1_choices.specs.Alternatives.{Alternative, CanBeChosen, Each, HaveDistinctTags, OneOf, chosen, chosen_meaning, trees_of}
-use Rattle.asn1_choices.specs.ChosenTags.{LacksTag}
-use Rattle.asn1_codec.specs.Reading.{Outside, Reader, ReadsBack}
-use Rattle.asn1_codec.specs.declared.decode_error.DecodeError.{DecodeError}
+use Rattle.asn1_components.specs.Alternatives.{Alternative, CanBeChosen, Each, HaveDistinctTags, OneOf, chosen, chosen_meaning, trees_of}
+use Rattle.asn1_components.specs.ChosenTags.{LacksTag}
+use Rattle.asn1_laws.specs.Reading.{Outside, Reader, ReadsBack}
+use Rattle.asn1_laws.specs.declared.decode_error.DecodeError.{DecodeError}
 use Rattle.asn1_model.proofs.TagSets.{has_leaf, leaf_has}
 use Rattle.asn1_model.specs.Records.{Record}
 use Rattle.asn1_model.specs.Tags.{Has, tree_tags}

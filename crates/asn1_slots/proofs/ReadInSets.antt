@@ -7,11 +7,11 @@ use Rattle.std.proofs.lemmas.List.Sums.{sum_by-append, sum_by-cons}
 use Rattle.asn1_components.specs.ComponentLists.{EachIsWellTagged, EachIsOfType, EachIsValid, all_records}
 use Rattle.asn1_components.specs.ComponentTypes.{ComponentType}
 use Rattle.asn1_components.specs.Following.{AllApart}
-use Rattle.asn1_codec.proofs.ReadingSets.{ComponentComes, PartsRead, Through, comes, comes_at, filled, further, start, through}
-use Rattle.asn1_codec.proofs.SetRecords.{at_most_one, records}
-use Rattle.asn1_codec.specs.Reading.{Advances, HasAdvanced, IsNextTag, Outside, Reader, ReadsBack, marks_passed, records_in}
-use Rattle.asn1_codec.specs.SetParts.{CanBeginWith, EachIsOneRecord, parts_at, unmarked, written_of}
-use Rattle.asn1_codec.specs.declared.decode_error.DecodeError.{DecodeError}
+use Rattle.asn1_laws.proofs.ReadingSets.{ComponentComes, PartsRead, Through, comes, comes_at, filled, further, start, through}
+use Rattle.asn1_laws.proofs.SetRecords.{at_most_one, records}
+use Rattle.asn1_laws.specs.Reading.{Advances, HasAdvanced, IsNextTag, Outside, Reader, ReadsBack, marks_passed, records_in}
+use Rattle.asn1_laws.specs.SetParts.{CanBeginWith, EachIsOneRecord, parts_at, unmarked, written_of}
+use Rattle.asn1_laws.specs.declared.decode_error.DecodeError.{DecodeError}
 use Rattle.asn1_model.specs.Records.{Record, highest}
 use Rattle.asn1_tags.specs.declared.tags.Tag.{Tag}
 use Rattle.asn1_slots.specs.Slots.{AllAreKept, AreEmpty, AreSlotsOf, HoldBefore, IsKept, OthersAreKept, ReadsOnceAt, Slot, has_no_group}

@@ -7,8 +7,8 @@ use Rattle.std.proofs.lemmas.List.{append-nil, get_or-append-add, get_or_append_
 use Rattle.std.proofs.lemmas.List.Elements.{Contains-append_left, Contains-append_right}
 use Rattle.std.proofs.lemmas.Option.{get_or_from_slice_get, slice_get-get_or, slice_get_within}
 use Rattle.std.specs.Borrow.{Bor}
-use Rattle.asn1_choices.specs.Alternatives.{Alternatives, OneOf, all_of, trees_of}
-use Rattle.asn1_choices.specs.ChoiceTypes.{AgreesWithChoice}
+use Rattle.asn1_components.specs.Alternatives.{Alternatives, OneOf, all_of, trees_of}
+use Rattle.asn1_components.specs.ChoiceTypes.{AgreesWithChoice}
 use Rattle.asn1_model.specs.Tags.{CHOICE}
 use Rattle.asn1_model.specs.TypeTables.{tree_under}
 use Rattle.asn1_model.specs.declared.type_table.TreeForm.{TreeForm}

@@ -1,9 +1,9 @@
 -- The cases of a CHOICE: its alternatives, each with the values that are made of it.
 use Rattle.std.specs.Prelude.{◌≡◌, ℕ, zero, suc, ⊤, Bool, true, List, [], ◌∷◌, drop, take, Result, Ok, Err}
 use Rattle.std.proofs.Common.{inl, inr}
-use Rattle.asn1_choices.specs.Alternatives.{Alternative, Alternatives, OneOf, alternative, all_of, closed, extensible, trees_of}
-use Rattle.asn1_codec.specs.Reading.{Reader}
-use Rattle.asn1_codec.specs.declared.decode_error.DecodeError.{DecodeError}
+use Rattle.asn1_components.specs.Alternatives.{Alternative, Alternatives, OneOf, alternative, all_of, closed, extensible, trees_of}
+use Rattle.asn1_laws.specs.Reading.{Reader}
+use Rattle.asn1_laws.specs.declared.decode_error.DecodeError.{DecodeError}
 use Rattle.asn1_model.specs.TaggedTypes.{TaggedType}
 use Rattle.asn1_tags.specs.Order.{structures_cmp}
 use Rattle.std.specs.Ordering.{is_eq}

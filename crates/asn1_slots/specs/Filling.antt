@@ -5,9 +5,9 @@ use Rattle.std.specs.Result.{IsErrAnd}
 use Rattle.asn1_components.specs.ComponentLists.{CanBeInSequence, EachIsOfType, EachIsValid, trees_of}
 use Rattle.asn1_components.specs.Components.{Components, all_components, component_records, lines}
 use Rattle.asn1_components.specs.Following.{BeginsApart}
-use Rattle.asn1_codec.specs.DecodeErrors.{duplicate_field, reason}
-use Rattle.asn1_codec.specs.Reading.{Outside, Reader, ReadsBack}
-use Rattle.asn1_codec.specs.declared.decode_error.DecodeError.{DecodeError}
+use Rattle.asn1_laws.specs.DecodeErrors.{duplicate_field, reason}
+use Rattle.asn1_laws.specs.Reading.{Outside, Reader, ReadsBack}
+use Rattle.asn1_laws.specs.declared.decode_error.DecodeError.{DecodeError}
 use Rattle.asn1_model.specs.Composites.{group_records, option_records}
 use Rattle.asn1_model.specs.Records.{Record, Side, presence_marks_alone}
 use Rattle.asn1_model.specs.TaggedTypes.{TaggedType}

@@ -2,9 +2,9 @@
 use Rattle.std.specs.Prelude.{◌≡◌, ◌≢◌, ◌≤◌, ℕ, Bool, true, false, List, [], ◌∷◌, Option, None, Some, IfSome, Result, refl, if◌then◌else◌}
 use Rattle.std.proofs.Common.{◌∙◌, ap, arith, cond, subst, sym}
 use Rattle.std.specs.Option.{option_eq, option_map}
-use Rattle.asn1_codec.specs.Reading.{Outside, Reader, ReadsBack, records_in}
-use Rattle.asn1_codec.specs.SetParts.{unmarked}
-use Rattle.asn1_codec.specs.declared.decode_error.DecodeError.{DecodeError}
+use Rattle.asn1_laws.specs.Reading.{Outside, Reader, ReadsBack, records_in}
+use Rattle.asn1_laws.specs.SetParts.{unmarked}
+use Rattle.asn1_laws.specs.declared.decode_error.DecodeError.{DecodeError}
 use Rattle.asn1_model.specs.Composites.{default_records, option_records}
 use Rattle.asn1_model.specs.Records.{Record, Side}
 use Rattle.asn1_model.specs.TaggedTypes.{TaggedType}

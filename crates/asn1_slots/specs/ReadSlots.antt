@@ -1,6 +1,6 @@
 -- What a call does that reads the components of a SEQUENCE or a group into their slots.
 use Rattle.std.specs.Prelude.{◌++◌, List, MatchResult, Result, length}
-use Rattle.asn1_codec.specs.Reading.{HasAdvanced, MayFail, Outside, Reader}
+use Rattle.asn1_laws.specs.Reading.{HasAdvanced, MayFail, Outside, Reader}
 use Rattle.asn1_components.specs.ComponentLists.{CanBeInSequence, EachIsOfType, EachIsValid}
 use Rattle.asn1_components.specs.Components.{Components, all_components, component_records}
 use Rattle.asn1_components.specs.Following.{EndsApart}

@@ -6,13 +6,13 @@ use Rattle.std.specs.Result.{IsErrAnd}
 use Rattle.asn1_components.specs.Components.{Components, all_components, extensible_sequence, extensible_set, group, sequence, set}
 use Rattle.asn1_components.specs.ComponentTypes.{ComponentType, default_in, optional_in, required}
 use Rattle.asn1_components.specs.Following.{BeginsApart, Where}
-use Rattle.asn1_codec.specs.DecodeErrors.{missing_field, reason}
-use Rattle.asn1_codec.specs.Reading.{Outside, Reader, ReadsBack, records_in}
-use Rattle.asn1_codec.specs.ReadingTypes.{ReadsSetLeft}
-use Rattle.asn1_codec.specs.SetParts.{unmarked}
-use Rattle.asn1_codec.proofs.ReadingSteps.{in_other_words}
-use Rattle.asn1_codec.specs.declared.decode_error.DecodeError.{DecodeError}
-use Rattle.asn1_codec.specs.declared.decode_error.DecodeError.TheVariants.{Memory}
+use Rattle.asn1_laws.specs.DecodeErrors.{missing_field, reason}
+use Rattle.asn1_laws.specs.Reading.{Outside, Reader, ReadsBack, records_in}
+use Rattle.asn1_laws.specs.ReadingTypes.{ReadsSetLeft}
+use Rattle.asn1_laws.specs.SetParts.{unmarked}
+use Rattle.asn1_laws.proofs.ReadingSteps.{in_other_words}
+use Rattle.asn1_laws.specs.declared.decode_error.DecodeError.{DecodeError}
+use Rattle.asn1_laws.specs.declared.decode_error.DecodeError.TheVariants.{Memory}
 use Rattle.asn1_fields.specs.Entries.{may_be_absent}
 use Rattle.asn1_model.specs.Composites.{default_records}
 use Rattle.asn1_model.specs.Records.{Record, Side, in_additions, in_root}

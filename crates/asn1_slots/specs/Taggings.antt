@@ -1,6 +1,6 @@
 -- How the type of a component is tagged (X.680, 31).
 use Rattle.std.specs.Prelude.{Option, unwrap_or}
-use Rattle.asn1_codec.specs.GivenTypes.{given}
+use Rattle.asn1_laws.specs.GivenTypes.{given}
 use Rattle.asn1_model.specs.ConstraintSets.{ConstraintSet}
 use Rattle.asn1_model.specs.Meaning.{Meaning}
 use Rattle.asn1_model.specs.TaggedTypes.{TaggedType, explicitly_tagged, tagged, untagged}

@@ -1,7 +1,7 @@
 //! Types that are read by place.
-ghost use Rattle.asn1_codec.specs.DecodeErrors.{lacks_name, reason};
-ghost use Rattle.asn1_codec.specs.Reading.{KeepsDepth, NeedsDepth, ReadsValue};
-ghost use Rattle.asn1_codec.specs.ReadingTypes.{ReadsComponents, ReadsFields};
+ghost use Rattle.asn1_laws.specs.DecodeErrors.{lacks_name, reason};
+ghost use Rattle.asn1_laws.specs.Reading.{KeepsDepth, NeedsDepth, ReadsValue};
+ghost use Rattle.asn1_laws.specs.ReadingTypes.{ReadsComponents, ReadsFields};
 ghost use Rattle.asn1_components.specs.Components.{is_sequence, table};
 ghost use Rattle.asn1_model.specs.ConstraintSets.{ConstraintSet};
 ghost use Rattle.asn1_slots.specs.ReadSlots.{ReadsSlots};
@@ -10,7 +10,7 @@ ghost use Rattle.std.specs.Prelude.{◌≡◌, ◌<◌, IfErr, List, OnOk, lengt
 
 use crate::calls::Decoded;
 use crate::errors::in_component;
-use asn1_codec::DecodeError;
+use asn1_laws::DecodeError;
 use asn1_components::{ConstructedType, FieldTable};
 use asn1_dec::Decoder;
 use asn1_tags::Tag;

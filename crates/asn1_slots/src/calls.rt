@@ -1,5 +1,5 @@
 //! The calls that read a component into its slot.
-ghost use Rattle.asn1_codec.specs.DecodeErrors.{lacks_name, reason};
+ghost use Rattle.asn1_laws.specs.DecodeErrors.{lacks_name, reason};
 ghost use Rattle.asn1_model.specs.Records.{in_additions, in_root};
 ghost use Rattle.asn1_slots.specs.Filling.{Fills, FillsGroup, FillsOnce, FillsOptional};
 ghost use Rattle.asn1_slots.specs.Taggings.{under};
@@ -7,7 +7,7 @@ ghost use Rattle.std.specs.Prelude.{◌≡◌, false, IfErr, OnOk};
 
 use crate::tagged::{read_addition, read_component, read_named, read_optional};
 use crate::tagging::Tagging;
-use asn1_codec::DecodeError;
+use asn1_laws::DecodeError;
 use asn1_dec::{Decode, DecodeFields, Decoder};
 
 /// What a call answers that reads a component into its slot.

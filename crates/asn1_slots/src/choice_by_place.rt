@@ -1,8 +1,8 @@
 //! CHOICE types that are read by place.
-ghost use Rattle.asn1_choices.specs.Alternatives.{Each, OneOf, all_of, trees_of};
-ghost use Rattle.asn1_choices.specs.ChosenTags.{LacksTag};
-ghost use Rattle.asn1_codec.specs.DecodeErrors.{no_memory, no_valid_choice, reason};
-ghost use Rattle.asn1_codec.specs.ReadingTypes.{ReadsAlternative};
+ghost use Rattle.asn1_components.specs.Alternatives.{Each, OneOf, all_of, trees_of};
+ghost use Rattle.asn1_components.specs.ChosenTags.{LacksTag};
+ghost use Rattle.asn1_laws.specs.DecodeErrors.{no_memory, no_valid_choice, reason};
+ghost use Rattle.asn1_laws.specs.ReadingTypes.{ReadsAlternative};
 ghost use Rattle.asn1_components.specs.Following.{Where};
 ghost use Rattle.asn1_slots.specs.Cases.{Case, IsMade, ReadsCaseAt, alternatives_of, are_of_cases, choice_of_cases};
 ghost use Rattle.asn1_slots.specs.TagPlaces.{IsPlaceOf};
@@ -11,8 +11,8 @@ ghost use Rattle.std.specs.Prelude.{◌≡◌, ◌≢◌, [], List, OnOk, unwrap
 ghost use Rattle.std.specs.Result.{IsErrAnd};
 
 use crate::places::{place_in_table, place_of_tag};
-use asn1_choices::ChoiceType;
-use asn1_codec::DecodeError;
+use asn1_components::ChoiceType;
+use asn1_laws::DecodeError;
 use asn1_dec::Decoder;
 use asn1_model::AsnType;
 use asn1_tags::Tag;

@@ -1,5 +1,5 @@
 //! The calls that read a component into its slot under constraints of its own.
-ghost use Rattle.asn1_codec.specs.DecodeErrors.{lacks_name, reason};
+ghost use Rattle.asn1_laws.specs.DecodeErrors.{lacks_name, reason};
 ghost use Rattle.asn1_model.specs.ConstraintSets.{constraint_set};
 ghost use Rattle.asn1_model.specs.Records.{in_additions, in_root};
 ghost use Rattle.asn1_slots.specs.Filling.{Fills, FillsOnce, FillsOptional};
@@ -8,7 +8,7 @@ ghost use Rattle.std.specs.Prelude.{◌≡◌, false, IfErr, OnOk};
 
 use crate::calls::Decoded;
 use asn1_bounds::Constraints;
-use asn1_codec::DecodeError;
+use asn1_laws::DecodeError;
 use asn1_dec::{Decode, Decoder};
 use asn1_tags::Tag;
 

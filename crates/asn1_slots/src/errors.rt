@@ -1,9 +1,9 @@
 //! The error of a component, by its name.
-ghost use Rattle.asn1_codec.specs.DecodeErrors.{field_error, lacks_name, number, reason};
+ghost use Rattle.asn1_laws.specs.DecodeErrors.{field_error, lacks_name, number, reason};
 ghost use Rattle.asn1_components.specs.Components.{table};
 ghost use Rattle.std.specs.Prelude.{◌≡◌, ◌<◌, false, IfSome, length, slice_get, true};
 
-use asn1_codec::DecodeError;
+use asn1_laws::DecodeError;
 use asn1_components::FieldTable;
 
 /// The error as that of the component at this place of the table ([`DecodeError::in_field`]).

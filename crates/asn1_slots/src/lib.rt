@@ -51,7 +51,7 @@
 //!   tag the error is `NoValidChoice` with the name of the type. So [`from_tag_by_place`] and [`from_tag_by_table`] read a CHOICE
 //!   as `from_tag` of `asn1_dec` has to, where the type's trees are those of its cases (`are_of_cases`, which the check computes).
 //!
-//! The other words are those of `asn1_codec` and of the crates below it. The calls take memory as the types of the components and
+//! The other words are those of `asn1_laws` and of the crates below it. The calls take memory as the types of the components and
 //! alternatives do, and [`from_tag_by_table`] for its table.
 #![tactic(auto)]
 

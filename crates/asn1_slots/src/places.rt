@@ -1,12 +1,12 @@
 //! The place of the alternative that can begin with a tag.
-ghost use Rattle.asn1_choices.specs.Alternatives.{all_of, trees_of};
+ghost use Rattle.asn1_components.specs.Alternatives.{all_of, trees_of};
 ghost use Rattle.asn1_slots.specs.TagPlaces.{BeginsAt, IsPlaceOf};
 ghost use Rattle.asn1_tags.specs.Trees.{leaves_of, shapes};
 ghost use Rattle.asn1_tags.specs.declared.tags.Tag.{Tag};
 ghost use Rattle.std.specs.Option.{SomeIff};
 ghost use Rattle.std.specs.Prelude.{◌≡◌, ◌<◌, ◌^◌, ◌∷◌, [], IfOk, MatchOption, Some, length, slice_get};
 
-use asn1_choices::ChoiceType;
+use asn1_components::ChoiceType;
 use asn1_model::TreeForm;
 use asn1_tags::{Tag, TagTree, Variants, VariantsError};
 use std::alloc::{AllocError, Global};

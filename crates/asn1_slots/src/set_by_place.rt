@@ -1,13 +1,13 @@
 //! SET types that are read by place.
-ghost use Rattle.asn1_codec.specs.Reading.{KeepsDepth, NeedsDepth, ReadsValue};
-ghost use Rattle.asn1_codec.specs.ReadingTypes.{ReadsComponents};
+ghost use Rattle.asn1_laws.specs.Reading.{KeepsDepth, NeedsDepth, ReadsValue};
+ghost use Rattle.asn1_laws.specs.ReadingTypes.{ReadsComponents};
 ghost use Rattle.asn1_components.specs.Components.{is_set};
 ghost use Rattle.asn1_model.specs.ConstraintSets.{ConstraintSet};
 ghost use Rattle.asn1_slots.specs.Slots.{AreEmpty, IsLayoutOf, MakesValueOfSlots, OthersAreKept, ReadsOnceAt, ReadsSlotsLeft, RefusesMissing, Slot, has_no_group};
 ghost use Rattle.std.specs.Prelude.{◌≡◌, List, OnErr, OnOk, true};
 
 use crate::calls::Decoded;
-use asn1_codec::DecodeError;
+use asn1_laws::DecodeError;
 use asn1_components::{ConstructedType, FieldTable};
 use asn1_dec::{Decoder, component_with_tag};
 use asn1_tags::Tag;

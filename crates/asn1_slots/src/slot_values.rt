@@ -1,10 +1,10 @@
 //! What is in a slot.
 ghost use Rattle.asn1_slots.specs.Slots.{holds_or_default, holds_or_passes, is_empty_list};
-ghost use Rattle.asn1_codec.specs.DecodeErrors.{missing_field, reason};
+ghost use Rattle.asn1_laws.specs.DecodeErrors.{missing_field, reason};
 ghost use Rattle.std.specs.Prelude.{◌≡◌, MatchOption, Ok, Vec, true};
 ghost use Rattle.std.specs.Result.{IsErrAnd};
 
-use asn1_codec::DecodeError;
+use asn1_laws::DecodeError;
 use std::alloc::Global;
 
 /// The component that is in a slot. Where there is none, the error is [`DecodeError::MissingField`], with the name.

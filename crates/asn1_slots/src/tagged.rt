@@ -1,6 +1,6 @@
 //! A component, read by its type.
-ghost use Rattle.asn1_codec.specs.DecodeErrors.{lacks_name, reason};
-ghost use Rattle.asn1_codec.specs.Reading.{Outside, ReadsBack};
+ghost use Rattle.asn1_laws.specs.DecodeErrors.{lacks_name, reason};
+ghost use Rattle.asn1_laws.specs.Reading.{Outside, ReadsBack};
 ghost use Rattle.asn1_model.specs.Records.{in_additions, in_root};
 ghost use Rattle.asn1_slots.specs.Filling.{ReadsComponent, ReadsOptionalComponent};
 ghost use Rattle.asn1_slots.specs.Taggings.{under};
@@ -8,7 +8,7 @@ ghost use Rattle.std.specs.Option.{option_eq};
 ghost use Rattle.std.specs.Prelude.{◌≡◌, false, IfErr, OnOk, true};
 
 use crate::tagging::Tagging;
-use asn1_codec::DecodeError;
+use asn1_laws::DecodeError;
 use asn1_dec::{Decode, Decoder};
 
 /// A component that is always there.

@@ -1,8 +1,8 @@
 -- What the tag of the next item tells: whether something is there.
 use Rattle.std.proofs.Common.{◌≡◌, Bool, true, false, List, [], ◌∷◌, ◌++◌, None, Some, Ok, Err, refl, ap, sym, subst, ◌∙◌}
 use Rattle.std.specs.Prelude.{◌↔◌, ℕ, IsTrue}
-use Rattle.asn1_codec.proofs.MarksPassed.{first_left, none_left}
-use Rattle.asn1_codec.specs.Reading.{marks_passed}
+use Rattle.asn1_laws.proofs.MarksPassed.{first_left, none_left}
+use Rattle.asn1_laws.specs.Reading.{marks_passed}
 use Rattle.asn1_items.specs.Headers.{Header, header_at}
 use Rattle.asn1_items.specs.Items.{HaveBytes, read_with}
 use Rattle.asn1_items.specs.NextTags.{IsNext}
@@ -13,8 +13,8 @@ use Rattle.asn1_model.specs.Records as model
 use Rattle.asn1_model.specs.Records.{held, presence_mark}
 use Rattle.asn1_model.specs.Tags.{Tags, Has, first_tags, record_tags}
 use Rattle.asn1_model.proofs.TagSets.{lies_has}
-use Rattle.asn1_packed.proofs.NextTags.{next_header, none_next}
-use Rattle.asn1_packed.specs.Presence.{FindsPresence}
+use Rattle.asn1_bench.proofs.NextTags.{next_header, none_next}
+use Rattle.asn1_bench.specs.Presence.{FindsPresence}
 use Rattle.asn1_tagform.specs.Next.{AreLeft, no_marks}
 use Rattle.asn1_tags.specs.declared.tags.Tag.{Tag}
 

@@ -1,7 +1,7 @@
 -- The format of the tag form, and its law.
 use Rattle.std.specs.Prelude.{ℕ, Vec}
 use Rattle.std.specs.declared.alloc.Global.{Global}
-use Rattle.asn1_packed.specs.Format.{item_format, item_format_is_lawful}
+use Rattle.asn1_bench.specs.Format.{item_format, item_format_is_lawful}
 use Rattle.asn1_rules.specs.Rules.{Format, IsLawful}
 use Rattle.asn1_tagform.specs.Next.{no_marks}
 use Rattle.asn1_tagform.specs.declared.next_item.NextItem.{NextItem}

@@ -2,7 +2,7 @@
 ghost use Rattle.asn1_bounds.specs.declared.codec.Codec.TheVariants.{Other};
 ghost use Rattle.asn1_items.specs.Headers.{is_one_item};
 ghost use Rattle.asn1_model.specs.Records.{PresenceMark, Record};
-ghost use Rattle.asn1_packed.specs.Carried.{CarriesWith};
+ghost use Rattle.asn1_bench.specs.Carried.{CarriesWith};
 ghost use Rattle.asn1_tagform.specs.Next.{no_marks};
 ghost use Rattle.asn1_tagform.specs.Outputs.{AreTooLong};
 ghost use Rattle.asn1_tags.specs.Derives.{ClonesAll};
@@ -10,10 +10,10 @@ ghost use Rattle.std.specs.Prelude.{◌≡◌, ◌↔◌, [], List, ℕ};
 
 use crate::next_item::NextItem;
 use crate::rules::TagRules;
+use asn1_bench::{ItemDecoder, ItemEncoder, Presence};
 use asn1_bounds::Codec;
 use asn1_dec::Decoder;
 use asn1_enc::Encoder;
-use asn1_packed::{ItemDecoder, ItemEncoder, Presence};
 use asn1_rules::Rules;
 
 /// A law of the tag form: presence marks have no bytes (`marks`), and its name is `Other(1)` (`codec`).

@@ -7,7 +7,7 @@
 //! | [`laws`] | what it is, and what the derives give |
 //!
 //! The items are those of the packed form (`asn1_items`), without the bytes of presence marks, and the encoder and the decoder
-//! are those of `asn1_packed`. A component that may be absent is there if and only if an item follows in the scope whose class and
+//! are those of `asn1_bench`. A component that may be absent is there if and only if an item follows in the scope whose class and
 //! number are one of its tags; a group if and only if they are one of those of its components. An open type, and a choice of
 //! nothing, can begin with any tag.
 //!
@@ -15,7 +15,7 @@
 //!
 //! - [`TagRules`] keep the laws of every codec (`Rules` of `asn1_rules`), so that what is written is read back equal. Their format
 //!   is `tag_format` of `specs/Format.antt`: bytes carry the records whose items they are, up to the order inside sets
-//!   (`CarriesWith` of `asn1_packed`, with `no_marks` of `specs/Next.antt`). Records are rejected that are too long, and no others
+//!   (`CarriesWith` of `asn1_bench`, with `no_marks` of `specs/Next.antt`). Records are rejected that are too long, and no others
 //!   ([`laws::the_tag_form_has_its_bytes`]).
 //! - Trailing records are refused, if they are not presence marks alone, which have no bytes here (`none_left` of `read_value`).
 //! - About bytes that no value gave nothing is promised; tests try such bytes. The errors are those of the packed form.

@@ -4,11 +4,12 @@ ghost use Rattle.asn1_model.specs.Records.{Record};
 ghost use Rattle.asn1_tagform.specs.Next.{AreLeft};
 ghost use Rattle.std.specs.Prelude.{List, MatchResult};
 
+use asn1_bench::Presence;
 use asn1_bounds::Codec;
+use asn1_buffers::MarkKind;
 use asn1_components::FieldTable;
 use asn1_items::{ItemError, Slices, group_can_begin_with};
 use asn1_model::can_begin_with;
-use asn1_packed::{MarkKind, Presence};
 use asn1_tags::{Tag, TagTree};
 
 /// The item that is next, by whose tag the tag form tells what is there. There are no presence marks.

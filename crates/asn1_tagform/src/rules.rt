@@ -1,8 +1,9 @@
 //! The tag form as a whole.
 use crate::next_item::NextItem;
+use asn1_bench::{ItemBuffer, ItemDecoder};
+use asn1_buffers::{read_whole, write_whole};
 use asn1_dec::{Decode, DecodeError};
 use asn1_enc::{Encode, EncodeError};
-use asn1_packed::{ItemBuffer, ItemDecoder, read_whole, write_whole};
 use asn1_rules::Rules;
 use std::alloc::Global;
 

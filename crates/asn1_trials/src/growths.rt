@@ -5,7 +5,7 @@ use asn1_dec::Decode;
 use asn1_enc::Encode;
 use asn1_rules::{Rules, round_trip};
 use asn1_sample_tests::samples::each_sample_passes;
-use asn1_streams::{Pieces, read_pieces, write_list};
+use asn1_rules::{Pieces, read_pieces, write_list};
 use std::alloc::Global;
 use std::io;
 

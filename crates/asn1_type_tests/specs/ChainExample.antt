@@ -12,9 +12,9 @@ use Rattle.asn1_model.specs.contracts.impls.integer.IntegerAsnType.TheImpl.{ghos
 use Rattle.asn1_model.specs.contracts.impls.null.UnitAsnType.TheImpl.{ghosts as null}
 use Rattle.asn1_components.specs.ComponentTypes.{required}
 use Rattle.asn1_components.specs.Components.{Components, constructed_type, set}
-use Rattle.asn1_choices.specs.Alternatives.{Alternatives, OneOf, SaysTheSame, all_of, alternative, chosen_meaning, closed, says_itself, value_meaning}
-use Rattle.asn1_choices.specs.ChoiceTypes.{table_with_itself}
-use Rattle.asn1_choices.specs.UntaggedItself.{SaidWithin, alternatives_with_untagged_itself, choice_holding_untagged_itself, trees_with_itself, untagged_inside_itself}
+use Rattle.asn1_components.specs.Alternatives.{Alternatives, OneOf, SaysTheSame, all_of, alternative, chosen_meaning, closed, says_itself, value_meaning}
+use Rattle.asn1_components.specs.ChoiceTypes.{table_with_itself}
+use Rattle.asn1_components.specs.UntaggedItself.{SaidWithin, alternatives_with_untagged_itself, choice_holding_untagged_itself, trees_with_itself, untagged_inside_itself}
 
 -- its values
 pub data Chain : Type 0 where

@@ -1,9 +1,9 @@
 //! An ENUMERATED type with a value after the extension marker.
 ghost use Rattle.std.specs.Prelude.{◌≡◌};
-ghost use Rattle.asn1_enumerations.specs.Labels.{labels_of};
+ghost use Rattle.asn1_components.specs.Labels.{labels_of};
 ghost use Rattle.asn1_type_tests.specs.EnumerationExamples.{color_labels};
 
-use asn1_enumerations::{Enumerated, EnumeratedItems};
+use asn1_components::{Enumerated, EnumeratedItems};
 use asn1_samples::Color;
 
 /// The labels beside a number: those of the root, and those after the extension marker.

@@ -1,6 +1,6 @@
 //! The texts of all errors, one by one.
 use asn1_bounds::{InnerSubtypeConstraintError, TooWide};
-use asn1_codec::{DecodeError, EncodeError, Needed};
+use asn1_laws::{DecodeError, EncodeError, Needed};
 use asn1_report::CheckError;
 use asn1_rules::{RecodeError, RoundTripError};
 use asn1_tags::{Tag, VariantsError};

@@ -1,5 +1,5 @@
 //! Tests of the public calls of the crates from `asn1_model` to `asn1_dec`, and of `asn1_samples`, `asn1_recursive`,
-//! `asn1_clash` and `asn1_streams`.
+//! `asn1_clash` and `asn1_rules`.
 //!
 //! A crate that has tests is proved twice, so those that need no private item are together here, and the crates below are
 //! proved once. They try what no contract says: values from outside (worked examples, a standard's tables), printed texts,

@@ -1,6 +1,6 @@
 //! What is written of types that are not read, of arrays of octets, and by the entry point with a tag and a name.
 ghost use Rattle.std.specs.Prelude.{◌≡◌, [], ◌∷◌, Some, codes, pos};
-ghost use Rattle.asn1_codec.specs.GivenTypes.{with_tag};
+ghost use Rattle.asn1_laws.specs.GivenTypes.{with_tag};
 ghost use Rattle.asn1_model.specs.ConstraintSets.{values_of};
 ghost use Rattle.asn1_model.specs.Records.{number, scalar};
 ghost use Rattle.asn1_model.specs.Tags.{context};
@@ -10,7 +10,7 @@ use asn1_bench::BenchRules;
 use asn1_buffers::BufferEncoder;
 use asn1_dec::DecodeError;
 use asn1_enc::Encode;
-use asn1_packed::{ItemBuffer, PresenceMarks};
+use asn1_bench::{ItemBuffer, PresenceMarks};
 use asn1_rules::Rules;
 use asn1_tags::{Identifier, Tag};
 use asn1_types::AsnType;

@@ -8,13 +8,13 @@ pub use Rattle.asn1_components.specs.ComponentTypes.{required, optional, with_de
 pub use Rattle.asn1_components.specs.Components.{lines, group, sequence, extensible_sequence, set, extensible_set, constructed_type, constructed_type_under, constructed_agrees}
 -- the alternatives of a CHOICE (29), and which of them a value is
 pub use Rattle.std.proofs.Common.{inl, inr}
-pub use Rattle.asn1_choices.specs.Alternatives.{table_of, alternative, closed as closed_choice, extensible as extensible_choice}
-pub use Rattle.asn1_choices.specs.ChoiceTypes.{choice_of, choice_agrees}
+pub use Rattle.asn1_components.specs.Alternatives.{table_of, alternative, closed as closed_choice, extensible as extensible_choice}
+pub use Rattle.asn1_components.specs.ChoiceTypes.{choice_of, choice_agrees}
 -- the items of an ENUMERATED type (20)
-pub use Rattle.asn1_enumerations.specs.EnumerationLaws.{by_test}
-pub use Rattle.asn1_enumerations.specs.Enumerations.{item, closed as closed_enumeration, extensible as extensible_enumeration}
-pub use Rattle.asn1_enumerations.specs.Labels.{labels_of}
-pub use Rattle.asn1_enumerations.specs.Meanings.{enumeration_type, enumeration_agrees}
+pub use Rattle.asn1_components.specs.EnumerationLaws.{by_test}
+pub use Rattle.asn1_components.specs.Enumerations.{item, closed as closed_enumeration, extensible as extensible_enumeration}
+pub use Rattle.asn1_components.specs.Labels.{labels_of}
+pub use Rattle.asn1_components.specs.Meanings.{enumeration_type, enumeration_agrees}
 -- what a type means: that it is well tagged, and the records of a value
 pub use Rattle.asn1_model.specs.Meaning.{IsWellTagged, IsWellTaggedUnder, own_records}
 pub use Rattle.asn1_model.specs.Records.{holding, scalar, open_type, presence_mark, null, boolean, number, discriminant, arcs, bits, units, octet, utf8, visible, general, graphic, ia5, printable, numeric, teletex, bmp}

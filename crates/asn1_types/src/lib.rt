@@ -19,8 +19,8 @@
 //! | [`Tag`], [`Class`], [`TagTree`], [`Identifier`] | tags, trees of tags and names: of `asn1_tags` | |
 //! | [`Field`], [`Fields`] | field tables: of `asn1_fields` | |
 //! | [`FieldTable`], [`ConstructedType`], [`Constructed`] | SEQUENCE and SET types: of `asn1_components` | |
-//! | [`Choice`], [`ChoiceType`] | CHOICE types: of `asn1_choices` | |
-//! | [`Enumerated`], [`EnumeratedItems`], [`EnumerationItem`] | ENUMERATED types: of `asn1_enumerations` | |
+//! | [`Choice`], [`ChoiceType`] | CHOICE types: of `asn1_components` | |
+//! | [`Enumerated`], [`EnumeratedItems`], [`EnumerationItem`] | ENUMERATED types: of `asn1_components` | |
 //!
 //! What the contracts promise, and the words that they use:
 //!
@@ -71,14 +71,14 @@ pub use array::Array;
 pub use asn1_bounds::{
     Bounded, ConstraintTable, Constraints, Extensible, PermittedAlphabet, Size, Value,
 };
-pub use asn1_choices::{
+pub use asn1_components::{
     Choice, ChoiceType, alternatives_are_as_in_records, the_chosen_tag_tells_the_alternative,
 };
 pub use asn1_components::{
     Constructed, ConstructedType, FieldTable, components_are_told_apart, field_in,
     tables_are_in_order,
 };
-pub use asn1_enumerations::{
+pub use asn1_components::{
     DiscriminantIter, Enumerated, EnumeratedItems, EnumerationItem, ItemIdentifierIter,
     VariantIter, written_number,
 };

@@ -1,8 +1,8 @@
 -- Which alternative of a `Parcel` has a tag.
 use Rattle.std.proofs.Common.{◌≡◌, ℕ, Bool, true, false, eqb, refl, rules, sym, subst}
-use Rattle.asn1_schema.specs.choices.Alternatives.{all_of, chosen}
-use Rattle.asn1_schema.specs.choices.ChoiceTypes.{AgreesWithChoice, itself_agrees}
-use Rattle.asn1_schema.proofs.codec_lemmas.TellingTags.{its_tag}
+use Rattle.asn1_schema.specs.components.Alternatives.{all_of, chosen}
+use Rattle.asn1_schema.specs.components.ChoiceTypes.{AgreesWithChoice, itself_agrees}
+use Rattle.asn1_schema.proofs.law_lemmas.TellingTags.{its_tag}
 use Rattle.asn1_schema.specs.model.Meaning.{IsWellTagged}
 use Rattle.asn1_schema.specs.model.Tags.{Has, tree_tags}
 use Rattle.asn1_schema.specs.tags.declared.tags.Tag.{Tag}

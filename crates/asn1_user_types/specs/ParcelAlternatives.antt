@@ -6,8 +6,8 @@ use Rattle.asn1_schema.specs.model.contracts.impls.null.UnitAsnType.TheImpl.{gho
 use Rattle.asn1_schema.specs.model.Meaning.{Meaning}
 use Rattle.asn1_schema.specs.model.RecordTables.{Line, Table}
 use Rattle.asn1_schema.specs.model.TaggedTypes.{tagged, untagged}
-use Rattle.asn1_schema.specs.choices.Alternatives.{Alternatives, OneOf, SaysTheSame, ValueMeaning, all_of, alternative, closed, chosen_meaning, says_itself, value_meaning}
-use Rattle.asn1_schema.specs.choices.ChoiceTypes.{alternatives_with_itself, choice_holding_itself, itself_under, table_with_itself}
+use Rattle.asn1_schema.specs.components.Alternatives.{Alternatives, OneOf, SaysTheSame, ValueMeaning, all_of, alternative, closed, chosen_meaning, says_itself, value_meaning}
+use Rattle.asn1_schema.specs.components.ChoiceTypes.{alternatives_with_itself, choice_holding_itself, itself_under, table_with_itself}
 use Rattle.asn1_user_types.specs.declared.parcel.Parcel.{Parcel, Letter, Inner'}
 
 -- the alternatives, beside what a value inside another is to them

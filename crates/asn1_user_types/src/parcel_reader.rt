@@ -1,9 +1,9 @@
 //! How a `Parcel` is read: by three functions that call one another.
-ghost use Rattle.asn1_schema.specs.choices.Alternatives.{Each, all_of};
-ghost use Rattle.asn1_schema.specs.choices.ChosenTags.{LacksTag};
-ghost use Rattle.asn1_schema.specs.codec.DecodeErrors.{no_valid_choice, reason};
-ghost use Rattle.asn1_schema.specs.codec.Reading.{KeepsDepth, ReadsValue};
-ghost use Rattle.asn1_schema.specs.codec.ReadingTypes.{ReadsAlternative};
+ghost use Rattle.asn1_schema.specs.components.Alternatives.{Each, all_of};
+ghost use Rattle.asn1_schema.specs.components.ChosenTags.{LacksTag};
+ghost use Rattle.asn1_schema.specs.codec_laws.DecodeErrors.{no_valid_choice, reason};
+ghost use Rattle.asn1_schema.specs.codec_laws.Reading.{KeepsDepth, ReadsValue};
+ghost use Rattle.asn1_schema.specs.codec_laws.ReadingTypes.{ReadsAlternative};
 ghost use Rattle.asn1_schema.specs.model.ConstraintSets.{constraint_set};
 ghost use Rattle.asn1_schema.specs.model.Tags.{CHOICE};
 ghost use Rattle.asn1_user_types.specs.ParcelAlternatives.{parcel_alternatives, parcel_meaning, parcel_pick};

@@ -1,10 +1,10 @@
 //! Reading of arrays (X.680, 26).
-ghost use Rattle.asn1_codec.specs.Refusals.{HasOtherLength};
+ghost use Rattle.asn1_laws.specs.Refusals.{HasOtherLength};
 
 use crate::decode::Decode;
 use crate::decoder::Decoder;
 use asn1_bounds::Constraints;
-use asn1_codec::DecodeError;
+use asn1_laws::DecodeError;
 use asn1_model::AsnType;
 use asn1_tags::Tag;
 use asn1_types::Array;

@@ -1,6 +1,6 @@
 //! Reading of what holds a value and means the same, and of what has no content.
-ghost use Rattle.asn1_codec.specs.Reading.{AfterReading, ReadsValue, Refuses};
-ghost use Rattle.asn1_codec.specs.Refusals.{no_refusals};
+ghost use Rattle.asn1_laws.specs.Reading.{AfterReading, ReadsValue, Refuses};
+ghost use Rattle.asn1_laws.specs.Refusals.{no_refusals};
 ghost use Rattle.asn1_model.specs.ConstraintSets.{constraint_set};
 ghost use Rattle.asn1_model.specs.Kinds.{empty_type};
 ghost use Rattle.std.specs.Prelude.{◌≡◌, IsOk};
@@ -9,7 +9,7 @@ use crate::boxes::read_boxed;
 use crate::decode::Decode;
 use crate::decoder::Decoder;
 use asn1_bounds::Constraints;
-use asn1_codec::DecodeError;
+use asn1_laws::DecodeError;
 use asn1_model::AsnType;
 use asn1_tags::Tag;
 use std::borrow::Cow;

@@ -2,7 +2,7 @@
 use crate::decode::{Decode, DecodeFields};
 use crate::decoder::Decoder;
 use asn1_bounds::Constraints;
-use asn1_codec::DecodeError;
+use asn1_laws::DecodeError;
 use asn1_tags::{Class, Tag};
 use asn1_types::InstanceOf;
 use asn1_values::ObjectIdentifier;

@@ -1,13 +1,13 @@
 //! Reading of components that may be absent (X.680, 25.1).
-ghost use Rattle.asn1_codec.specs.Reading.{KeepsDepth, AfterReading, ReadsValue, Refuses};
-ghost use Rattle.asn1_codec.specs.Refusals.{no_refusals};
+ghost use Rattle.asn1_laws.specs.Reading.{KeepsDepth, AfterReading, ReadsValue, Refuses};
+ghost use Rattle.asn1_laws.specs.Refusals.{no_refusals};
 ghost use Rattle.asn1_model.specs.ConstraintSets.{constraint_set};
 ghost use Rattle.asn1_model.specs.Kinds.{option_type};
 
 use crate::decode::Decode;
 use crate::decoder::Decoder;
 use asn1_bounds::Constraints;
-use asn1_codec::DecodeError;
+use asn1_laws::DecodeError;
 use asn1_tags::Tag;
 
 impl<T: Decode> Decode for Option<T> {

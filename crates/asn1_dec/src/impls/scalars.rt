@@ -1,10 +1,10 @@
 //! Reading of NULL, BOOLEAN and INTEGER (X.680, 18, 19 and 24).
-ghost use Rattle.asn1_codec.specs.Refusals.{IsOutside};
+ghost use Rattle.asn1_laws.specs.Refusals.{IsOutside};
 
 use crate::decode::Decode;
 use crate::decoder::Decoder;
 use asn1_bounds::Constraints;
-use asn1_codec::DecodeError;
+use asn1_laws::DecodeError;
 use asn1_tags::Tag;
 use asn1_values::{Integer, LimitedInteger, Limits};
 

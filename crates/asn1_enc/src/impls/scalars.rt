@@ -2,7 +2,7 @@
 use crate::encode::Encode;
 use crate::encoder::Encoder;
 use asn1_bounds::Constraints;
-use asn1_codec::EncodeError;
+use asn1_laws::EncodeError;
 use asn1_tags::{Identifier, Tag};
 use asn1_values::{Integer, LimitedInteger, Limits};
 

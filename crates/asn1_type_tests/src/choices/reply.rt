@@ -5,11 +5,11 @@ ghost use Rattle.std.specs.Prelude.{[], ◌∷◌, codes};
 ghost use Rattle.std.proofs.Common.{inl, inr};
 ghost use Rattle.asn1_model.specs.Tags.{context};
 ghost use Rattle.asn1_model.specs.TaggedTypes.{tagged, untagged};
-ghost use Rattle.asn1_choices.specs.Alternatives.{alternative, extensible};
-ghost use Rattle.asn1_choices.specs.ChoiceTypes.{choice_of, choice_agrees};
+ghost use Rattle.asn1_components.specs.Alternatives.{alternative, extensible};
+ghost use Rattle.asn1_components.specs.ChoiceTypes.{choice_of, choice_agrees};
 ghost use Rattle.asn1_type_tests.specs.declared.choices.reply.Reply.TheVariants.{Accepted, Refused, Later};
 
-use asn1_choices::{Choice, ChoiceType};
+use asn1_components::{Choice, ChoiceType};
 use asn1_model::{AsnType, TypeTable};
 use asn1_tags::{Class, Identifier, Tag, TagTree};
 

@@ -1,7 +1,7 @@
 use Rattle.std.proofs.Common.{[], ◌∷◌}
 use Rattle.std.proofs.lemmas.Result.{err_from_is_err_and}
-use Rattle.asn1_codec.proofs.ReadingSteps.{to_end, not_opened, fails_inside, flat_failure, within_scope}
-use Rattle.asn1_codec.specs.TaggedChoices.{chosen_records}
+use Rattle.asn1_laws.proofs.ReadingSteps.{to_end, not_opened, fails_inside, flat_failure, within_scope}
+use Rattle.asn1_laws.specs.TaggedChoices.{chosen_records}
 use Rattle.asn1_model.specs.Records.{explicit_tag}
 use Rattle.asn1_dec.proofs.choices.read_after_tag.Goals as goal
 

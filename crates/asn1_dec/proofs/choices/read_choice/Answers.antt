@@ -1,6 +1,6 @@
 use Rattle.std.proofs.Common.{sym, ◌∙◌}
 use Rattle.asn1_model.specs.ConstraintSets.{constraint_set}
-use Rattle.asn1_codec.proofs.ReadingAlternatives.{as_tagged}
+use Rattle.asn1_laws.proofs.ReadingAlternatives.{as_tagged}
 use Rattle.asn1_dec.proofs.choices.read_choice.Goals as goal
 
 pub returns-clause-read : goal.returns-clause-read

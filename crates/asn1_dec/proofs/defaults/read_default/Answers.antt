@@ -1,8 +1,8 @@
 use Rattle.std.proofs.lemmas.Result.{err_from_is_err_and}
 use Rattle.std.specs.Prelude.{unwrap_or}
-use Rattle.asn1_codec.specs.GivenTypes.{constraints_or_own, given}
-use Rattle.asn1_codec.specs.Sides.{side_of}
-use Rattle.asn1_codec.proofs.ReadingDefaults.{default_fails, default_reads}
+use Rattle.asn1_laws.specs.GivenTypes.{constraints_or_own, given}
+use Rattle.asn1_laws.specs.Sides.{side_of}
+use Rattle.asn1_laws.proofs.ReadingDefaults.{default_fails, default_reads}
 use Rattle.asn1_dec.proofs.defaults.read_default.Goals as goal
 
 pub returns-in_err-value-clause-read : goal.returns-in_err-value-clause-read

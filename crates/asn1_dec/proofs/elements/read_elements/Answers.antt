@@ -2,8 +2,8 @@ use Rattle.std.proofs.Common.{[], ◌∷◌, inl, arith, ap, length, length-appe
 use Rattle.std.specs.List.{flat_map}
 use Rattle.std.proofs.lemmas.Result.{err_from_is_err_and}
 use Rattle.asn1_model.specs.Meaning.{own_records}
-use Rattle.asn1_codec.proofs.ReadingElements.{not_told, another, through, further, no_deeper}
-use Rattle.asn1_codec.proofs.ReadingSteps.{fails_below}
+use Rattle.asn1_laws.proofs.ReadingElements.{not_told, another, through, further, no_deeper}
+use Rattle.asn1_laws.proofs.ReadingSteps.{fails_below}
 use Rattle.asn1_dec.proofs.elements.read_elements.Goals as goal
 
 pub loop-index-preserved : goal.loop-index-preserved

@@ -2,8 +2,8 @@ use Rattle.std.proofs.Common.{◌≡◌, List, ◌∷◌, length}
 use Rattle.std.specs.List.{flat_map, All}
 use Rattle.asn1_model.specs.Meaning.{IsWellTagged, own_records}
 use Rattle.asn1_model.specs.Records.{Head, Record}
-use Rattle.asn1_codec.specs.Reading.{Outside}
-use Rattle.asn1_codec.proofs.ReadingElements.{ElementsRead}
+use Rattle.asn1_laws.specs.Reading.{Outside}
+use Rattle.asn1_laws.proofs.ReadingElements.{ElementsRead}
 use Rattle.asn1_dec.proofs.elements.read_elements.Given as goal
 
 abbrev pub invariant-loop-index : goal.invariant-loop-index

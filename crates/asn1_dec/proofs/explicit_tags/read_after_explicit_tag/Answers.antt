@@ -1,8 +1,8 @@
 use Rattle.std.proofs.Common.{[], ◌∷◌, inl}
 use Rattle.std.proofs.lemmas.Result.{err_from_is_err_and}
 use Rattle.asn1_model.specs.Records.{explicit_tag}
-use Rattle.asn1_codec.specs.GivenTypes.{constraints_or_own}
-use Rattle.asn1_codec.proofs.ReadingSteps.{to_end, fails_inside, flat_failure, within_scope}
+use Rattle.asn1_laws.specs.GivenTypes.{constraints_or_own}
+use Rattle.asn1_laws.proofs.ReadingSteps.{to_end, fails_inside, flat_failure, within_scope}
 use Rattle.asn1_dec.proofs.explicit_tags.read_after_explicit_tag.Goals as goal
 
 pub returns-in-Err-clause-read : goal.returns-in-Err-clause-read

@@ -1,6 +1,6 @@
 use Rattle.std.proofs.Common.{sym}
 use Rattle.asn1_fields.specs.Entries.{entry_of}
-use Rattle.asn1_codec.proofs.ComponentTags.{found}
+use Rattle.asn1_laws.proofs.ComponentTags.{found}
 use Rattle.asn1_dec.proofs.fields.component_with_one_tag.Goals as goal
 
 pub returns-then-is_one_tag : goal.returns-then-is_one_tag

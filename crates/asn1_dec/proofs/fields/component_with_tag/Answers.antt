@@ -1,6 +1,6 @@
 use Rattle.std.proofs.Common.{arith, sym}
 use Rattle.asn1_fields.specs.Entries.{entry_of}
-use Rattle.asn1_codec.proofs.ComponentTags.{found, not_found}
+use Rattle.asn1_laws.proofs.ComponentTags.{found, not_found}
 use Rattle.asn1_dec.proofs.fields.component_with_tag.Goals as goal
 
 pub returns-then-can_begin_with : goal.returns-then-can_begin_with

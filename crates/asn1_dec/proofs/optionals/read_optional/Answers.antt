@@ -2,9 +2,9 @@ use Rattle.std.proofs.Common.{◌≡◌, ap, ◌∙◌}
 use Rattle.std.proofs.lemmas.Result.{err_from_is_err_and}
 use Rattle.asn1_model.specs.Tags.{tree_tags}
 use Rattle.std.specs.Prelude.{unwrap_or}
-use Rattle.asn1_codec.specs.GivenTypes.{constraints_or_own, given}
-use Rattle.asn1_codec.specs.Sides.{side_of}
-use Rattle.asn1_codec.proofs.ReadingOptionals.{is_absent, is_there, not_told, told_of}
+use Rattle.asn1_laws.specs.GivenTypes.{constraints_or_own, given}
+use Rattle.asn1_laws.specs.Sides.{side_of}
+use Rattle.asn1_laws.proofs.ReadingOptionals.{is_absent, is_there, not_told, told_of}
 use Rattle.asn1_dec.proofs.optionals.read_optional.Goals as goal
 
 pub returns-in_err-is_there-clause-read : goal.returns-in_err-is_there-clause-read

@@ -2,9 +2,9 @@ use Rattle.std.proofs.Common.{Err, Ok, Some, ap}
 use Rattle.std.proofs.lemmas.Result.{err_from_is_err_and}
 use Rattle.asn1_model.specs.Tags.{tree_tags}
 use Rattle.asn1_tags.proofs.Leaves.{shape-Leaf}
-use Rattle.asn1_codec.specs.GivenTypes.{constraints_or_own, given_after_tag}
-use Rattle.asn1_codec.specs.Sides.{side_of}
-use Rattle.asn1_codec.proofs.ReadingOptionals.{is_absent, is_there, not_told, told_of}
+use Rattle.asn1_laws.specs.GivenTypes.{constraints_or_own, given_after_tag}
+use Rattle.asn1_laws.specs.Sides.{side_of}
+use Rattle.asn1_laws.proofs.ReadingOptionals.{is_absent, is_there, not_told, told_of}
 use Rattle.asn1_dec.proofs.optionals.read_optional_after_tag.Goals as goal
 
 pub returns-in_err-is_there-clause-read : goal.returns-in_err-is_there-clause-read

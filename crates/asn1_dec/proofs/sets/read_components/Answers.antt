@@ -1,7 +1,7 @@
 use Rattle.std.proofs.lemmas.Result.{err_from_is_err_and}
 use Rattle.asn1_components.specs.Components.{all_components}
-use Rattle.asn1_codec.specs.SetParts.{ArePartsOf}
-use Rattle.asn1_codec.proofs.ReadingSetScopes.{inside_not_read, is_read, not_closed, not_made}
+use Rattle.asn1_laws.specs.SetParts.{ArePartsOf}
+use Rattle.asn1_laws.proofs.ReadingSetScopes.{inside_not_read, is_read, not_closed, not_made}
 use Rattle.asn1_dec.proofs.sets.read_components.Goals as goal
 
 pub returns-in_err-parts-clause-read : goal.returns-in_err-parts-clause-read

@@ -3,9 +3,9 @@ use Rattle.std.proofs.lemmas.Result.{err_from_is_err_and}
 use Rattle.asn1_components.specs.Components.{all_components, lines}
 use Rattle.asn1_components.proofs.Apart.{set_apart}
 use Rattle.asn1_model.specs.Records.{set}
-use Rattle.asn1_codec.proofs.ReadingSteps.{fails_below}
-use Rattle.asn1_codec.proofs.SetRecords.{records}
-use Rattle.asn1_codec.proofs.ReadingSets.{comes, comes_at, filled, further, not_told, start, through}
+use Rattle.asn1_laws.proofs.ReadingSteps.{fails_below}
+use Rattle.asn1_laws.proofs.SetRecords.{records}
+use Rattle.asn1_laws.proofs.ReadingSets.{comes, comes_at, filled, further, not_told, start, through}
 use Rattle.asn1_dec.proofs.sets.read_parts.Goals as goal
 
 pub loop-place-init : goal.loop-place-init

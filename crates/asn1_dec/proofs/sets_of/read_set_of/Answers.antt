@@ -1,11 +1,11 @@
 use Rattle.std.specs.List.{flat_map}
 use Rattle.std.proofs.lemmas.Result.{err_from_is_err_and}
-use Rattle.asn1_codec.proofs.ReadingSteps.{fails_inside, flat_failure, within_scope}
+use Rattle.asn1_laws.proofs.ReadingSteps.{fails_inside, flat_failure, within_scope}
 use Rattle.asn1_model.specs.ConstraintSets.{constraint_set}
 use Rattle.asn1_model.specs.Meaning.{own_records}
 use Rattle.asn1_model.specs.Records.{set_of}
 use Rattle.asn1_types.specs.MultisetLaws.{same_counts-SameElements}
-use Rattle.asn1_codec.proofs.ReadingSetsOf.{before_elements}
+use Rattle.asn1_laws.proofs.ReadingSetsOf.{before_elements}
 use Rattle.asn1_dec.proofs.sets_of.read_set_of.Goals as goal
 
 pub returns-in_err-elements-clause-read : goal.returns-in_err-elements-clause-read

@@ -1,6 +1,6 @@
-use Rattle.asn1_choices.specs.Alternatives.{all_of, chosen_meaning}
-use Rattle.asn1_codec.proofs.WritingSteps.{exits, inside_fails, open_fails, refused, writes_scope}
-use Rattle.asn1_codec.specs.TaggedChoices.{chosen_records}
+use Rattle.asn1_components.specs.Alternatives.{all_of, chosen_meaning}
+use Rattle.asn1_laws.proofs.WritingSteps.{exits, inside_fails, open_fails, refused, writes_scope}
+use Rattle.asn1_laws.specs.TaggedChoices.{chosen_records}
 use Rattle.asn1_model.specs.ConstraintSets.{table_constraints}
 use Rattle.asn1_tags.specs.Names.{name_of}
 use Rattle.asn1_enc.proofs.choices.write_after_tag.Goals as goal

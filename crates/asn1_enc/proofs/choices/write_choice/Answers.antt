@@ -1,8 +1,8 @@
 use Rattle.std.proofs.Common.{sym, ◌∙◌}
 use Rattle.asn1_model.specs.ConstraintSets.{constraint_set}
 use Rattle.asn1_tags.specs.Names.{name_of}
-use Rattle.asn1_codec.proofs.WritingAlternatives.{as_tagged, as_untagged}
-use Rattle.asn1_codec.proofs.WritingNames.{named_or}
+use Rattle.asn1_laws.proofs.WritingAlternatives.{as_tagged, as_untagged}
+use Rattle.asn1_laws.proofs.WritingNames.{named_or}
 use Rattle.asn1_enc.proofs.choices.write_choice.Goals as goal
 
 pub returns-then-is_choice-clause-writes : goal.returns-then-is_choice-clause-writes

@@ -1,4 +1,4 @@
-use Rattle.asn1_codec.proofs.WritingSteps.{exits, inside_fails, open_fails, writes_scope}
+use Rattle.asn1_laws.proofs.WritingSteps.{exits, inside_fails, open_fails, writes_scope}
 use Rattle.asn1_enc.proofs.constructed.write_components.Goals as goal
 
 pub returns-in_err-open-clause-writes : goal.returns-in_err-open-clause-writes

@@ -1,6 +1,6 @@
 use Rattle.asn1_model.specs.ConstraintSets.{unconstrained}
 use Rattle.asn1_tags.specs.Names.{name_of}
-use Rattle.asn1_codec.proofs.WritingConstructed.{as_constructed}
+use Rattle.asn1_laws.proofs.WritingConstructed.{as_constructed}
 use Rattle.asn1_enc.specs.SequencesAndSets.{kind_of}
 use Rattle.asn1_enc.proofs.constructed.write_constructed.Goals as goal
 

@@ -1,6 +1,6 @@
 use Rattle.asn1_tags.specs.Names.{name_of}
-use Rattle.asn1_codec.specs.GivenTypes.{constraints_or_own, given}
-use Rattle.asn1_codec.proofs.WritingDefaults.{default_absent, default_refused, default_there}
+use Rattle.asn1_laws.specs.GivenTypes.{constraints_or_own, given}
+use Rattle.asn1_laws.proofs.WritingDefaults.{default_absent, default_refused, default_there}
 use Rattle.asn1_enc.proofs.defaults.write_default.Goals as goal
 
 pub returns-in_err-equals_default : goal.returns-in_err-equals_default

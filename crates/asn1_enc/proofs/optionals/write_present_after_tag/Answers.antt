@@ -1,4 +1,4 @@
-use Rattle.asn1_codec.proofs.WritingSteps.{exits, fails_first, writes_then}
+use Rattle.asn1_laws.proofs.WritingSteps.{exits, fails_first, writes_then}
 use Rattle.asn1_enc.proofs.optionals.write_present_after_tag.Goals as goal
 
 pub returns-in_err-mark_present : goal.returns-in_err-mark_present

@@ -2,8 +2,8 @@ use Rattle.std.proofs.Common.{◌≡◌, [], ◌∷◌, ◌∙◌, arith, inl, r
 use Rattle.std.specs.Prelude.{Some, codes}
 use Rattle.std.proofs.lemmas.Bool.{and_from}
 use Rattle.std.proofs.lemmas.Result.{err_from_is_err_and}
-use Rattle.asn1_choices.specs.Alternatives.{all_of, chosen_meaning, value_meaning}
-use Rattle.asn1_codec.proofs.ReadingSteps.{fails_deeper, flat_failure, moved_as, to_end}
+use Rattle.asn1_components.specs.Alternatives.{all_of, chosen_meaning, value_meaning}
+use Rattle.asn1_laws.proofs.ReadingSteps.{fails_deeper, flat_failure, moved_as, to_end}
 use Rattle.asn1_model.specs.ConstraintSets.{constraint_set}
 use Rattle.asn1_model.specs.Kinds.{object_identifier}
 use Rattle.asn1_model.specs.Meaning.{own_records}
@@ -13,7 +13,7 @@ use Rattle.asn1_model.specs.Tags.{Has, only, universal}
 use Rattle.asn1_model.specs.contracts.impls.boolean.BoolAsnType.TheImpl.{ghosts as boolean}
 use Rattle.asn1_model.specs.contracts.impls.integer.IntegerAsnType.TheImpl.{ghosts as integer}
 use Rattle.asn1_model.specs.contracts.impls.null.UnitAsnType.TheImpl.{ghosts as null}
-use Rattle.asn1_codec.proofs.ReadingChoices.{alternative_not_read, choice_not_closed, choice_not_opened, choice_read, chosen_not_read, chosen_read}
+use Rattle.asn1_laws.proofs.ReadingChoices.{alternative_not_read, choice_not_closed, choice_not_opened, choice_read, chosen_not_read, chosen_read}
 use Rattle.asn1_open.proofs.OpenLaws.{instance_inside, of_number, open_can, open_law, two_higher, value_record}
 use Rattle.asn1_open.specs.OpenAlternatives.{bit_string, octet_string, open_alternatives, open_meaning, open_pick, universal_string, visible_string}
 use Rattle.asn1_open.specs.contracts.open_value.OpenPartialEq.TheImpl.{ghosts}

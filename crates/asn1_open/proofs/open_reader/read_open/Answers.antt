@@ -1,7 +1,7 @@
 use Rattle.std.proofs.Common.{sym, ◌∙◌}
 use Rattle.std.proofs.lemmas.Result.{err_from_is_err_and}
 use Rattle.asn1_model.specs.ConstraintSets.{constraint_set}
-use Rattle.asn1_codec.proofs.ReadingChoices.{as_without_tag, choice_after_tag_not_closed, choice_after_tag_not_read, choice_after_tag_read, tag_not_read}
+use Rattle.asn1_laws.proofs.ReadingChoices.{as_without_tag, choice_after_tag_not_closed, choice_after_tag_not_read, choice_after_tag_read, tag_not_read}
 use Rattle.asn1_open.proofs.OpenLaws.{open_law}
 use Rattle.asn1_open.specs.contracts.open_value.OpenPartialEq.TheImpl.{ghosts}
 use Rattle.asn1_open.proofs.open_reader.read_open.Goals as goal

@@ -2,16 +2,16 @@ use Rattle.std.proofs.Common.{◌≡◌, [], ◌∷◌, ◌∙◌, ap, arith, in
 use Rattle.std.specs.List.{flat_map}
 use Rattle.std.specs.Prelude.{Some, codes}
 use Rattle.std.proofs.lemmas.Result.{err_from_is_err_and}
-use Rattle.asn1_choices.specs.Alternatives.{all_of, chosen_meaning, value_meaning}
-use Rattle.asn1_codec.proofs.ReadingSetsOf.{before_elements}
-use Rattle.asn1_codec.proofs.ReadingElements.{another, filled, further, no_deeper, not_told, start, through}
-use Rattle.asn1_codec.proofs.ReadingSteps.{fails_below, fails_inside, flat_failure, moved_as, within_scope}
+use Rattle.asn1_components.specs.Alternatives.{all_of, chosen_meaning, value_meaning}
+use Rattle.asn1_laws.proofs.ReadingSetsOf.{before_elements}
+use Rattle.asn1_laws.proofs.ReadingElements.{another, filled, further, no_deeper, not_told, start, through}
+use Rattle.asn1_laws.proofs.ReadingSteps.{fails_below, fails_inside, flat_failure, moved_as, within_scope}
 use Rattle.asn1_model.specs.ConstraintSets.{constraint_set, unconstrained}
 use Rattle.asn1_model.specs.Meaning.{own_records}
 use Rattle.asn1_model.specs.Records.{set_of}
 use Rattle.asn1_model.specs.TaggedTypes.{tagged}
 use Rattle.asn1_model.specs.Tags.{context}
-use Rattle.asn1_codec.proofs.ReadingChoices.{alternative_not_read, as_without_tag, choice_after_tag_not_closed, choice_after_tag_not_read, choice_after_tag_read, choice_not_closed, choice_not_opened, choice_read, chosen_not_read, chosen_read, tag_not_read}
+use Rattle.asn1_laws.proofs.ReadingChoices.{alternative_not_read, as_without_tag, choice_after_tag_not_closed, choice_after_tag_not_read, choice_after_tag_read, choice_not_closed, choice_not_opened, choice_read, chosen_not_read, chosen_read, tag_not_read}
 use Rattle.asn1_types.specs.Kinds.{set_of_type}
 use Rattle.asn1_types.specs.MultisetLaws.{same_counts-SameElements}
 use Rattle.asn1_recursive.proofs.FilterLaws.{and_equal, and_says, approx_equal, equality_equal, extensible_equal, filter_can, filter_law, greater_equal, is_had, less_equal, not_equal, of_number, or_equal, or_says, present_equal, substrings_equal}

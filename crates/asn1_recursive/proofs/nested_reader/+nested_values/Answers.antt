@@ -1,13 +1,13 @@
 use Rattle.std.proofs.Common.{◌∙◌, arith, inl, refl, sym}
 use Rattle.std.specs.Prelude.{Some, codes}
 use Rattle.std.proofs.lemmas.Result.{err_from_is_err_and}
-use Rattle.asn1_choices.specs.Alternatives.{all_of, chosen_meaning, value_meaning}
+use Rattle.asn1_components.specs.Alternatives.{all_of, chosen_meaning, value_meaning}
 use Rattle.asn1_model.specs.ConstraintSets.{constraint_set}
 use Rattle.asn1_model.specs.TaggedTypes.{untagged}
 use Rattle.asn1_model.specs.contracts.impls.boolean.BoolAsnType.TheImpl.{ghosts as boolean}
 use Rattle.asn1_model.specs.contracts.impls.null.UnitAsnType.TheImpl.{ghosts as null}
-use Rattle.asn1_codec.proofs.ReadingChoices.{alternative_not_read, as_without_tag, choice_after_tag_not_closed, choice_after_tag_not_read, choice_after_tag_read, choice_not_closed, choice_not_opened, choice_read, chosen_not_read, chosen_read, tag_not_read}
-use Rattle.asn1_codec.proofs.ReadingSteps.{moved_as}
+use Rattle.asn1_laws.proofs.ReadingChoices.{alternative_not_read, as_without_tag, choice_after_tag_not_closed, choice_after_tag_not_read, choice_after_tag_read, choice_not_closed, choice_not_opened, choice_read, chosen_not_read, chosen_read, tag_not_read}
+use Rattle.asn1_laws.proofs.ReadingSteps.{moved_as}
 use Rattle.asn1_recursive.proofs.NestedLaws.{nested_can, nested_law, of_number}
 use Rattle.asn1_recursive.specs.NestedAlternatives.{nested_alternatives, nested_pick}
 use Rattle.asn1_recursive.specs.contracts.nested.NestedPartialEq.TheImpl.{ghosts}

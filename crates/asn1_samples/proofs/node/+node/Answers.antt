@@ -1,6 +1,6 @@
 use Rattle.std.specs.Prelude.{⊤}
-use Rattle.asn1_codec.proofs.WritingComponents.{appends_component, fails_at_component}
-use Rattle.asn1_codec.proofs.WritingSteps.{appends_none, exits}
+use Rattle.asn1_laws.proofs.WritingComponents.{appends_component, fails_at_component}
+use Rattle.asn1_laws.proofs.WritingSteps.{appends_none, exits}
 use Rattle.asn1_components.specs.Components.{all_components}
 use Rattle.asn1_samples.specs.NodeComponents.{node_components}
 use Rattle.asn1_samples.proofs.node.+node.Goals as goal

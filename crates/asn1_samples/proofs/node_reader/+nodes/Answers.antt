@@ -2,8 +2,8 @@ use Rattle.std.proofs.Common.{[], ◌∷◌, ap, arith, length, length-append}
 use Rattle.std.specs.Prelude.{Some, codes}
 use Rattle.std.specs.List.{flat_map}
 use Rattle.std.proofs.lemmas.Result.{err_from_is_err_and}
-use Rattle.asn1_codec.proofs.ReadingElements.{another, as_many, filled, further, no_deeper, not_told, start, through}
-use Rattle.asn1_codec.proofs.ReadingSteps.{fails_below, fails_deeper, fails_inside, flat_failure, to_end, within_scope}
+use Rattle.asn1_laws.proofs.ReadingElements.{another, as_many, filled, further, no_deeper, not_told, start, through}
+use Rattle.asn1_laws.proofs.ReadingSteps.{fails_below, fails_deeper, fails_inside, flat_failure, to_end, within_scope}
 use Rattle.asn1_components.proofs.Apart.{nothing_follows}
 use Rattle.asn1_components.specs.Components.{all_components, component_records, lines}
 use Rattle.asn1_model.specs.Meaning.{own_records}

@@ -1,7 +1,7 @@
 use Rattle.std.proofs.Common.{◌≡◌, ◌+◌, ◌*◌, List, ◌∷◌, length}
 use Rattle.std.specs.List.{flat_map, All}
-use Rattle.asn1_codec.proofs.ReadingElements.{ElementsRead}
-use Rattle.asn1_codec.specs.Reading.{Outside}
+use Rattle.asn1_laws.proofs.ReadingElements.{ElementsRead}
+use Rattle.asn1_laws.specs.Reading.{Outside}
 use Rattle.asn1_model.specs.Meaning.{own_records}
 use Rattle.asn1_model.specs.Records.{Head, Record}
 use Rattle.asn1_samples.specs.NodeComponents.{node_is_of_type, node_is_valid, node_meaning}

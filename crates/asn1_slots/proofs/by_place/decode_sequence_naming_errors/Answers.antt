@@ -1,5 +1,5 @@
 use Rattle.asn1_components.specs.Components.{is_sequence}
-use Rattle.asn1_codec.proofs.ReadingConstructed.{as_constructed}
+use Rattle.asn1_laws.proofs.ReadingConstructed.{as_constructed}
 use Rattle.asn1_slots.proofs.by_place.decode_sequence_naming_errors.Goals as goal
 
 pub returns-clause-as_meant : goal.returns-clause-as_meant

@@ -3,7 +3,7 @@ use Rattle.std.proofs.lemmas.Result.{err_from_is_err_and}
 use Rattle.asn1_components.specs.Components.{all_components, component_records, lines}
 use Rattle.asn1_model.specs.Records.{sequence}
 use Rattle.asn1_components.proofs.Apart.{nothing_follows}
-use Rattle.asn1_codec.proofs.ReadingSteps.{to_end, fails_inside, flat_failure, within_scope}
+use Rattle.asn1_laws.proofs.ReadingSteps.{to_end, fails_inside, flat_failure, within_scope}
 use Rattle.asn1_slots.proofs.by_place.read_sequence.Goals as goal
 
 pub returns-in-Err-clause-read : goal.returns-in-Err-clause-read

@@ -2,7 +2,7 @@ use Rattle.std.proofs.Common.{◌≡◌, List, ◌++◌}
 use Rattle.asn1_components.specs.ComponentLists.{CanBeInSequence, EachIsOfType, EachIsValid, all_records}
 use Rattle.asn1_components.specs.Components.{all_components}
 use Rattle.asn1_components.specs.Following.{EndsApart}
-use Rattle.asn1_codec.specs.Reading.{Outside}
+use Rattle.asn1_laws.specs.Reading.{Outside}
 use Rattle.asn1_model.specs.Records.{Record}
 use Rattle.asn1_slots.proofs.ReadByPlace.{ReadUpTo}
 use Rattle.asn1_slots.specs.Slots.{AreSlotsOf}

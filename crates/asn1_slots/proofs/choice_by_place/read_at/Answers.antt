@@ -1,5 +1,5 @@
 use Rattle.std.proofs.Common.{subst}
-use Rattle.asn1_choices.specs.Alternatives.{all_of, trees_of}
+use Rattle.asn1_components.specs.Alternatives.{all_of, trees_of}
 use Rattle.asn1_slots.proofs.ReadChoices.{its_place, lacks, reads_chosen}
 use Rattle.asn1_slots.specs.Cases.{alternatives_of}
 use Rattle.asn1_slots.specs.TagPlaces.{IsPlaceOf}

@@ -1,5 +1,5 @@
 use Rattle.asn1_components.specs.Components.{is_set}
-use Rattle.asn1_codec.proofs.ReadingConstructed.{as_constructed}
+use Rattle.asn1_laws.proofs.ReadingConstructed.{as_constructed}
 use Rattle.asn1_slots.proofs.set_by_place.decode_set_by_place.Goals as goal
 
 pub returns-clause-as_meant : goal.returns-clause-as_meant

@@ -1,7 +1,7 @@
 use Rattle.std.proofs.lemmas.Result.{err_from_is_err_and}
 use Rattle.std.specs.Prelude.{length}
 use Rattle.asn1_slots.specs.Slots.{HoldBefore}
-use Rattle.asn1_codec.proofs.ReadingSetScopes.{inside_not_read, is_read, not_closed, not_made}
+use Rattle.asn1_laws.proofs.ReadingSetScopes.{inside_not_read, is_read, not_closed, not_made}
 use Rattle.asn1_slots.proofs.set_by_place.read_components.Goals as goal
 
 pub returns-in_err-slots-clause-read : goal.returns-in_err-slots-clause-read

@@ -4,9 +4,9 @@ use Rattle.std.proofs.lemmas.Result.{err_from_is_err_and}
 use Rattle.asn1_components.specs.Components.{all_components, lines}
 use Rattle.asn1_components.proofs.Apart.{set_apart}
 use Rattle.asn1_model.specs.Records.{set}
-use Rattle.asn1_codec.proofs.ReadingSteps.{fails_below}
-use Rattle.asn1_codec.proofs.SetRecords.{records}
-use Rattle.asn1_codec.proofs.ReadingSets.{comes, not_told}
+use Rattle.asn1_laws.proofs.ReadingSteps.{fails_below}
+use Rattle.asn1_laws.proofs.SetRecords.{records}
+use Rattle.asn1_laws.proofs.ReadingSets.{comes, not_told}
 use Rattle.asn1_slots.proofs.ReadInSets.{as_many_as_can, begin, comes_next, none_is_left, one_more, reads}
 use Rattle.asn1_slots.proofs.set_by_place.read_slots.Goals as goal
 

@@ -3,9 +3,9 @@ use Rattle.std.specs.Prelude.{IsPermutation}
 use Rattle.asn1_components.specs.ComponentLists.{EachIsOfType, EachIsValid}
 use Rattle.asn1_components.specs.Components.{all_components, component_records, lines}
 use Rattle.asn1_tags.specs.declared.tags.Tag.{Tag}
-use Rattle.asn1_codec.specs.Reading.{Outside, records_in}
+use Rattle.asn1_laws.specs.Reading.{Outside, records_in}
 use Rattle.asn1_model.specs.Records.{Name, Record, highest, set}
-use Rattle.asn1_codec.specs.SetParts.{CanBeInSet}
+use Rattle.asn1_laws.specs.SetParts.{CanBeInSet}
 use Rattle.asn1_slots.proofs.ReadInSets.{SlotsRead}
 use Rattle.asn1_slots.specs.Slots.{AreSlotsOf}
 use Rattle.asn1_slots.proofs.set_by_place.read_slots.Given as goal

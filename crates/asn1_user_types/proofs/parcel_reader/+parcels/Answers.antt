@@ -1,12 +1,12 @@
 use Rattle.std.proofs.Common.{◌∙◌, arith, inl, refl, sym}
 use Rattle.std.specs.Prelude.{Some, codes}
 use Rattle.std.proofs.lemmas.Result.{err_from_is_err_and}
-use Rattle.asn1_schema.specs.choices.Alternatives.{all_of, chosen_meaning, value_meaning}
+use Rattle.asn1_schema.specs.components.Alternatives.{all_of, chosen_meaning, value_meaning}
 use Rattle.asn1_schema.specs.model.ConstraintSets.{constraint_set}
 use Rattle.asn1_schema.specs.model.TaggedTypes.{untagged}
 use Rattle.asn1_schema.specs.model.contracts.impls.null.UnitAsnType.TheImpl.{ghosts as null}
-use Rattle.asn1_schema.proofs.codec_lemmas.ReadingChoices.{alternative_not_read, as_without_tag, choice_after_tag_not_closed, choice_after_tag_not_read, choice_after_tag_read, choice_not_closed, choice_not_opened, choice_read, chosen_not_read, chosen_read, tag_not_read}
-use Rattle.asn1_schema.proofs.codec_lemmas.ReadingSteps.{moved_as}
+use Rattle.asn1_schema.proofs.law_lemmas.ReadingChoices.{alternative_not_read, as_without_tag, choice_after_tag_not_closed, choice_after_tag_not_read, choice_after_tag_read, choice_not_closed, choice_not_opened, choice_read, chosen_not_read, chosen_read, tag_not_read}
+use Rattle.asn1_schema.proofs.law_lemmas.ReadingSteps.{moved_as}
 use Rattle.asn1_user_types.proofs.ParcelLaws.{parcel_can, parcel_law, of_number}
 use Rattle.asn1_user_types.specs.ParcelAlternatives.{parcel_alternatives, parcel_pick}
 use Rattle.asn1_user_types.specs.contracts.parcel.ParcelPartialEq.TheImpl.{ghosts}

@@ -4,8 +4,8 @@ use Rattle.asn1_items.specs.Headers.{is_one_item}
 use Rattle.asn1_items.specs.Items.{packed_marks}
 use Rattle.asn1_model.specs.Meaning.{own_records}
 use Rattle.asn1_model.specs.WellFormed.{well_formed_append}
-use Rattle.asn1_packed.proofs.WholeValues.{not_at_end}
-use Rattle.asn1_packed.specs.Carried.{Carries}
+use Rattle.asn1_bench.proofs.Ends.{not_at_end}
+use Rattle.asn1_bench.specs.Carried.{Carries}
 use Rattle.asn1_bench.proofs.rules.BenchRulesRules.read_value.Goals as goal
 
 pub returns-clause-read : goal.returns-clause-read

@@ -1,7 +1,7 @@
 use Rattle.std.proofs.Common.{[], false, arith}
 use Rattle.asn1_buffers.specs.Encoder.{in_one_order}
-use Rattle.asn1_codec.proofs.WritingUpToOrder.{wrote_exactly}
-use Rattle.asn1_codec.specs.Writing.{outermost}
+use Rattle.asn1_laws.proofs.WritingUpToOrder.{wrote_exactly}
+use Rattle.asn1_laws.specs.Writing.{outermost}
 use Rattle.asn1_buffers.proofs.encoder.BufferEncoder.new.Goals as goal
 
 pub returns-clause-nothing_written : goal.returns-clause-nothing_written

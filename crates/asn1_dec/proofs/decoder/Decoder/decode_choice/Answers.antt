@@ -1,10 +1,10 @@
 use Rattle.std.proofs.Common.{[], ◌∷◌}
 use Rattle.std.proofs.lemmas.Result.{err_from_is_err_and}
-use Rattle.asn1_choices.specs.Alternatives.{all_of, chosen_meaning, table_of}
-use Rattle.asn1_choices.specs.ChosenTags.{chosen_has_own, chosen_tag, tells_chosen}
+use Rattle.asn1_components.specs.Alternatives.{all_of, chosen_meaning, table_of}
+use Rattle.asn1_components.specs.ChosenTags.{chosen_has_own, chosen_tag, tells_chosen}
 use Rattle.asn1_model.specs.ConstraintSets.{constraint_set}
 use Rattle.asn1_model.specs.Records.{alternative}
-use Rattle.asn1_codec.proofs.ReadingSteps.{to_end, fails_inside, flat_failure, within_scope}
+use Rattle.asn1_laws.proofs.ReadingSteps.{to_end, fails_inside, flat_failure, within_scope}
 use Rattle.asn1_dec.proofs.decoder.Decoder.decode_choice.Goals as goal
 
 pub returns-in-Err-clause-read : goal.returns-in-Err-clause-read

@@ -3,8 +3,8 @@ use Rattle.std.proofs.lemmas.Result.{err_from_is_err_and}
 use Rattle.asn1_components.proofs.Apart.{group_ends}
 use Rattle.asn1_components.specs.Components.{all_components, lines}
 use Rattle.asn1_model.specs.Records.{group_end, presence_mark}
-use Rattle.asn1_codec.proofs.ReadingGroups.{is_there, not_there, not_told}
-use Rattle.asn1_codec.proofs.ReadingSteps.{fails_below, flat_failure}
+use Rattle.asn1_laws.proofs.ReadingGroups.{is_there, not_there, not_told}
+use Rattle.asn1_laws.proofs.ReadingSteps.{fails_below, flat_failure}
 use Rattle.asn1_dec.proofs.decoder.Decoder.decode_extension_addition_group.Goals as goal
 
 pub returns-in_err-open_group-clause-read : goal.returns-in_err-open_group-clause-read

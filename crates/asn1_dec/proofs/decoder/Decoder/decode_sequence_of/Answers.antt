@@ -4,8 +4,8 @@ use Rattle.std.proofs.lemmas.Result.{err_from_is_err_and}
 use Rattle.asn1_model.specs.ConstraintSets.{constraint_set}
 use Rattle.asn1_model.specs.Meaning.{own_records}
 use Rattle.asn1_model.specs.Records.{sequence_of}
-use Rattle.asn1_codec.proofs.ReadingElements.{as_many}
-use Rattle.asn1_codec.proofs.ReadingSteps.{fails_inside, flat_failure, within_scope}
+use Rattle.asn1_laws.proofs.ReadingElements.{as_many}
+use Rattle.asn1_laws.proofs.ReadingSteps.{fails_inside, flat_failure, within_scope}
 use Rattle.asn1_dec.proofs.decoder.Decoder.decode_sequence_of.Goals as goal
 
 pub returns-in_err-elements-clause-read : goal.returns-in_err-elements-clause-read

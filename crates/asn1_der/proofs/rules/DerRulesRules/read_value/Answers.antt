@@ -1,8 +1,8 @@
 use Rattle.std.proofs.Common.{◌++◌}
-use Rattle.asn1_der_decoder.proofs.Remaining.{is_form}
-use Rattle.asn1_der_encoder.specs.Format.{Carries}
+use Rattle.asn1_der.proofs.Remaining.{is_form}
+use Rattle.asn1_der.specs.Format.{Carries}
 use Rattle.asn1_model.specs.Meaning.{own_records}
-use Rattle.asn1_scopes.proofs.Remaining.{records_are_not_the_end}
+use Rattle.asn1_items.proofs.Remaining.{records_are_not_the_end}
 use Rattle.asn1_der.proofs.rules.DerRulesRules.read_value.Goals as goal
 
 pub returns-clause-none_left : goal.returns-clause-none_left

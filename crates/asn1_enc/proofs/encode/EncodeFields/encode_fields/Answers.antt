@@ -2,8 +2,8 @@ use Rattle.std.proofs.Common.{◌≤◌, length, arith}
 use Rattle.std.proofs.lemmas.List.{take_all}
 use Rattle.asn1_components.specs.Components.{all_components}
 use Rattle.asn1_components.proofs.TableLengths.{length-table}
-use Rattle.asn1_codec.proofs.WritingComponents.{appends_component, fails_at_component}
-use Rattle.asn1_codec.proofs.WritingSteps.{appends_none, exits}
+use Rattle.asn1_laws.proofs.WritingComponents.{appends_component, fails_at_component}
+use Rattle.asn1_laws.proofs.WritingSteps.{appends_none, exits}
 use Rattle.asn1_enc.proofs.encode.EncodeFields.encode_fields.Goals as goal
 
 pub loop-place-init : goal.loop-place-init

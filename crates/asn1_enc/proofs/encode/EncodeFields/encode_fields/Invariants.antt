@@ -1,7 +1,7 @@
 use Rattle.std.proofs.Common.{take}
 use Rattle.asn1_components.specs.ComponentLists.{all_records, EachIsOfType}
 use Rattle.asn1_components.specs.Components.{all_components}
-use Rattle.asn1_codec.specs.Writing.{Appends}
+use Rattle.asn1_laws.specs.Writing.{Appends}
 use Rattle.asn1_enc.proofs.encode.EncodeFields.encode_fields.Given as goal
 
 abbrev pub invariant-loop-place : goal.invariant-loop-place

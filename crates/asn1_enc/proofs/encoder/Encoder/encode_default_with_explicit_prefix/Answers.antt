@@ -1,6 +1,6 @@
 use Rattle.asn1_tags.specs.Names.{name_of}
-use Rattle.asn1_codec.specs.GivenTypes.{after_tag}
-use Rattle.asn1_codec.proofs.WritingDefaults.{default_absent, default_refused, default_there}
+use Rattle.asn1_laws.specs.GivenTypes.{after_tag}
+use Rattle.asn1_laws.proofs.WritingDefaults.{default_absent, default_refused, default_there}
 use Rattle.asn1_enc.proofs.encoder.Encoder.encode_default_with_explicit_prefix.Goals as goal
 
 pub returns-in_err-equals_default : goal.returns-in_err-equals_default

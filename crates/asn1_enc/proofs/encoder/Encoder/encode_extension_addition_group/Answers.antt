@@ -1,4 +1,4 @@
-use Rattle.asn1_codec.proofs.WritingSteps.{exits, group_fails, open_group_fails, writes_group}
+use Rattle.asn1_laws.proofs.WritingSteps.{exits, group_fails, open_group_fails, writes_group}
 use Rattle.asn1_enc.proofs.encoder.Encoder.encode_extension_addition_group.Goals as goal
 
 pub returns-in_err-open_group-in-Some : goal.returns-in_err-open_group-in-Some

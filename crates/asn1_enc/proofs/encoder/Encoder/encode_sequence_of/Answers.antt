@@ -1,8 +1,8 @@
 use Rattle.std.proofs.lemmas.List.{take_all}
 use Rattle.std.proofs.lemmas.List.Elements.{All-nil}
 use Rattle.asn1_model.specs.Meaning.{own_records}
-use Rattle.asn1_codec.proofs.WritingElements.{appends_element, fails_at_element}
-use Rattle.asn1_codec.proofs.WritingSteps.{appends_none, exits, inside_fails, open_fails, writes_scope}
+use Rattle.asn1_laws.proofs.WritingElements.{appends_element, fails_at_element}
+use Rattle.asn1_laws.proofs.WritingSteps.{appends_none, exits, inside_fails, open_fails, writes_scope}
 use Rattle.asn1_enc.proofs.encoder.Encoder.encode_sequence_of.Goals as goal
 
 pub returns-in_err-open_sequence_of-clause-writes : goal.returns-in_err-open_sequence_of-clause-writes

@@ -2,7 +2,7 @@ use Rattle.std.proofs.Common.{take}
 use Rattle.std.specs.List.{flat_map}
 use Rattle.std.specs.Prelude.{All}
 use Rattle.asn1_model.specs.Meaning.{own_records}
-use Rattle.asn1_codec.specs.Writing.{Appends}
+use Rattle.asn1_laws.specs.Writing.{Appends}
 use Rattle.asn1_enc.proofs.encoder.Encoder.encode_sequence_of.Given as goal
 
 abbrev pub invariant-loop-element : goal.invariant-loop-element

@@ -2,8 +2,8 @@ use Rattle.std.proofs.Common.{ap, map, ◌∙◌}
 use Rattle.std.proofs.lemmas.List.Elements.{All-nil}
 use Rattle.std.specs.Slice.Iter.{iter_rest}
 use Rattle.asn1_model.specs.Meaning.{own_records}
-use Rattle.asn1_codec.proofs.WritingElements.{all_given, appends_given, fails_at_given, given_next}
-use Rattle.asn1_codec.proofs.WritingSteps.{appends_none, exits, inside_fails, open_fails, writes_scope}
+use Rattle.asn1_laws.proofs.WritingElements.{all_given, appends_given, fails_at_given, given_next}
+use Rattle.asn1_laws.proofs.WritingSteps.{appends_none, exits, inside_fails, open_fails, writes_scope}
 use Rattle.asn1_enc.proofs.encoder.Encoder.encode_set_of.Goals as goal
 
 pub returns-in_err-open_set_of-clause-writes : goal.returns-in_err-open_set_of-clause-writes

@@ -3,7 +3,7 @@ use Rattle.std.specs.List.{flat_map}
 use Rattle.std.specs.Prelude.{All}
 use Rattle.std.specs.Slice.Iter.{iter_rest}
 use Rattle.asn1_model.specs.Meaning.{own_records}
-use Rattle.asn1_codec.specs.Writing.{Appends}
+use Rattle.asn1_laws.specs.Writing.{Appends}
 use Rattle.asn1_enc.proofs.encoder.Encoder.encode_set_of.Given as goal
 
 abbrev pub invariant-loop-element : goal.invariant-loop-element

@@ -1,5 +1,5 @@
 use Rattle.std.proofs.Common.{[], subst}
-use Rattle.asn1_codec.specs.Writing.{in_group}
+use Rattle.asn1_laws.specs.Writing.{in_group}
 use Rattle.asn1_items.specs.Buffers.{IsWritten, inward}
 use Rattle.asn1_items.proofs.Writing.{absent_group_closed, group_closed, group_is_innermost, innermost, not_in_group, not_so}
 use Rattle.asn1_items.proofs.buffer.Buffer.close_group.Goals as goal

@@ -1,5 +1,5 @@
 use Rattle.std.proofs.Common.{[], ◌∷◌, refl, sym, subst, arith}
-use Rattle.asn1_codec.specs.Writing.{followed_by}
+use Rattle.asn1_laws.specs.Writing.{followed_by}
 use Rattle.asn1_items.specs.Buffers.{IsWritten, inward}
 use Rattle.asn1_model.specs.Records.{holding}
 use Rattle.asn1_items.proofs.Writing.{not_in_scope, not_so, scope_closed, scope_is_innermost, tells_of_record}

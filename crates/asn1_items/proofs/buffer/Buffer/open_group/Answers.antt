@@ -1,5 +1,5 @@
 use Rattle.std.proofs.Common.{◌≡◌, ◌++◌, [], length, refl, sym, ap, subst, ◌∙◌, arith}
-use Rattle.asn1_codec.specs.Writing.{in_group}
+use Rattle.asn1_laws.specs.Writing.{in_group}
 use Rattle.asn1_items.specs.Buffers.{IsWritten, inward}
 use Rattle.asn1_items.specs.declared.group.Group.{Group}
 use Rattle.asn1_items.proofs.Writing.{group_opened, innermost}

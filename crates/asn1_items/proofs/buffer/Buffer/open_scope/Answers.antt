@@ -1,5 +1,5 @@
 use Rattle.std.proofs.Common.{◌≡◌, ◌++◌, ◌∷◌, ◌<◌, ◌^◌, ◌+◌, [], sym, ap, subst, ◌∙◌, arith, length}
-use Rattle.asn1_codec.specs.Writing.{in_scope}
+use Rattle.asn1_laws.specs.Writing.{in_scope}
 use Rattle.asn1_items.specs.Buffers.{IsWritten, inward}
 use Rattle.asn1_items.specs.Headers.{kind_of, tag_bytes}
 use Rattle.asn1_items.specs.Numbers.{four_bytes}

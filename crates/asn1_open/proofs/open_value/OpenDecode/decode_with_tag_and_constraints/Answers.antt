@@ -1,5 +1,5 @@
 use Rattle.asn1_model.specs.ConstraintSets.{constraint_set}
-use Rattle.asn1_codec.proofs.ReadingChoices.{leaves_kept}
+use Rattle.asn1_laws.proofs.ReadingChoices.{leaves_kept}
 use Rattle.asn1_open.specs.OpenAlternatives.{open_meaning}
 use Rattle.asn1_open.proofs.open_value.OpenDecode.decode_with_tag_and_constraints.Goals as goal
 

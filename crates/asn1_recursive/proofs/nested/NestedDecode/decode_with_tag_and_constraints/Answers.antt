@@ -1,5 +1,5 @@
 use Rattle.asn1_model.specs.ConstraintSets.{constraint_set}
-use Rattle.asn1_codec.proofs.ReadingChoices.{leaves_kept}
+use Rattle.asn1_laws.proofs.ReadingChoices.{leaves_kept}
 use Rattle.asn1_recursive.specs.NestedAlternatives.{nested_meaning}
 use Rattle.asn1_recursive.proofs.nested.NestedDecode.decode_with_tag_and_constraints.Goals as goal
 

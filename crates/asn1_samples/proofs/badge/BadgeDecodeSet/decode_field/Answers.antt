@@ -8,7 +8,7 @@ use Rattle.asn1_samples.specs.contracts.shape.ShapeAsnType.TheImpl.{ghosts as sh
 use Rattle.asn1_samples.specs.contracts.shape.ShapePartialEq.TheImpl.{ghosts as shapes}
 use Rattle.asn1_samples.specs.declared.badge.BadgePart.TheVariants.{Label, Figure}
 use Rattle.asn1_model.specs.Records.{in_root}
-use Rattle.asn1_codec.proofs.ReadingParts.{optional_part, required_part}
+use Rattle.asn1_laws.proofs.ReadingParts.{optional_part, required_part}
 use Rattle.asn1_samples.proofs.badge.BadgeDecodeSet.decode_field.Goals as goal
 
 pub returns-in-1-clause-read : goal.returns-in-1-clause-read

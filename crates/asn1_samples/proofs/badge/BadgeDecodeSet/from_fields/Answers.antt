@@ -6,7 +6,7 @@ use Rattle.std.specs.Vec.Iter.{into_iter_items}
 use Rattle.asn1_samples.specs.BadgeParts.{badge_index, label_type}
 use Rattle.asn1_samples.specs.declared.badge.BadgePart.TheVariants.{Id, Label, Figure}
 use Rattle.asn1_model.specs.Records.{in_root}
-use Rattle.asn1_codec.proofs.ReadingOnce.{none_yet, one_on, kept, passed, not_again, once, at_most_once, at_end, is_absent, is_component, optional_slot}
+use Rattle.asn1_laws.proofs.ReadingOnce.{none_yet, one_on, kept, passed, not_again, once, at_most_once, at_end, is_absent, is_component, optional_slot}
 use Rattle.asn1_samples.proofs.badge.BadgeDecodeSet.from_fields.Goals as goal
 
 pub loop-part-init : goal.loop-part-init

@@ -2,7 +2,7 @@ use Rattle.std.proofs.Common.{◌≡◌, ◌++◌}
 use Rattle.std.specs.Vec.Iter.{into_iter_items}
 use Rattle.asn1_samples.specs.BadgeParts.{badge_index}
 use Rattle.asn1_samples.specs.declared.badge.BadgePart.TheVariants.{Id, Label, Figure}
-use Rattle.asn1_codec.proofs.ReadingOnce.{Slot}
+use Rattle.asn1_laws.proofs.ReadingOnce.{Slot}
 use Rattle.asn1_samples.proofs.badge.BadgeDecodeSet.from_fields.Given as goal
 
 abbrev pub invariant-loop-part : goal.invariant-loop-part

@@ -4,7 +4,7 @@ use Rattle.std.proofs.lemmas.Bool.{and_from}
 use Rattle.std.proofs.lemmas.Result.{err_from_is_err_and}
 use Rattle.asn1_components.specs.Components.{all_components}
 use Rattle.asn1_samples.specs.contracts.envelope.EnvelopeFieldTable.TheImpl.{ghosts as envelope}
-use Rattle.asn1_codec.proofs.ReadingComponents.{begin, step, stops, through}
+use Rattle.asn1_laws.proofs.ReadingComponents.{begin, step, stops, through}
 use Rattle.asn1_samples.proofs.envelope.EnvelopeDecodeFields.decode_fields.Goals as goal
 
 pub returns-in_err-kind-clause-read : goal.returns-in_err-kind-clause-read

@@ -2,9 +2,9 @@ use Rattle.std.proofs.Common.{◌++◌}
 use Rattle.asn1_items.specs.Headers.{is_one_item}
 use Rattle.asn1_model.specs.Meaning.{own_records}
 use Rattle.asn1_model.specs.WellFormed.{well_formed_append}
-use Rattle.asn1_packed.proofs.Remaining.{is_form}
-use Rattle.asn1_packed.specs.Carried.{CarriesWith}
-use Rattle.asn1_scopes.proofs.Remaining.{records_are_not_the_end}
+use Rattle.asn1_bench.proofs.Remaining.{is_form}
+use Rattle.asn1_bench.specs.Carried.{CarriesWith}
+use Rattle.asn1_items.proofs.Remaining.{records_are_not_the_end}
 use Rattle.asn1_tagform.specs.Next.{no_marks}
 use Rattle.asn1_tagform.proofs.rules.TagRulesRules.read_value.Goals as goal
 

@@ -1,5 +1,5 @@
 use Rattle.asn1_schema.specs.model.ConstraintSets.{constraint_set}
-use Rattle.asn1_schema.proofs.codec_lemmas.ReadingChoices.{leaves_kept}
+use Rattle.asn1_schema.proofs.law_lemmas.ReadingChoices.{leaves_kept}
 use Rattle.asn1_user_types.specs.ParcelAlternatives.{parcel_meaning}
 use Rattle.asn1_user_types.proofs.parcel.ParcelDecode.decode_with_tag_and_constraints.Goals as goal
 

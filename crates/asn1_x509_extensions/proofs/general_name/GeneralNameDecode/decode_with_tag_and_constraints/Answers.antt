@@ -1,4 +1,4 @@
-use Rattle.asn1_codec.proofs.ReadingChoices.{leaves_kept}
+use Rattle.asn1_laws.proofs.ReadingChoices.{leaves_kept}
 use Rattle.asn1_model.specs.ConstraintSets.{constraint_set}
 use Rattle.asn1_x509_extensions.proofs.general_name.GeneralNameDecode.decode_with_tag_and_constraints.Goals as goal
 

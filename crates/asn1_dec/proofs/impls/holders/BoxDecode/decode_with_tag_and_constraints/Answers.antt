@@ -1,7 +1,7 @@
 use Rattle.std.proofs.Common.{rules}
 use Rattle.asn1_model.specs.ConstraintSets.{constraint_set}
-use Rattle.asn1_codec.specs.Reading.{AfterReading, ReadsValue, Refuses}
-use Rattle.asn1_codec.proofs.ReadingBoxes.{leaves_boxed, refuses_boxed}
+use Rattle.asn1_laws.specs.Reading.{AfterReading, ReadsValue, Refuses}
+use Rattle.asn1_laws.proofs.ReadingBoxes.{leaves_boxed, refuses_boxed}
 use Rattle.asn1_dec.proofs.impls.holders.BoxDecode.decode_with_tag_and_constraints.Goals as goal
 
 pub returns-clause-after_reading : goal.returns-clause-after_reading

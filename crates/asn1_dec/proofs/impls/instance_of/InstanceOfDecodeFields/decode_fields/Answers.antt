@@ -2,12 +2,12 @@ use Rattle.std.proofs.Common.{◌++◌, inl, refl, sym, subst, arith}
 use Rattle.std.specs.Prelude.{Some, codes}
 use Rattle.std.proofs.lemmas.Bool.{and_from}
 use Rattle.std.proofs.lemmas.Result.{err_from_is_err_and}
-use Rattle.asn1_codec.proofs.ReadingSteps.{fails_below}
+use Rattle.asn1_laws.proofs.ReadingSteps.{fails_below}
 use Rattle.asn1_model.specs.Composites.{explicit_tag_records}
 use Rattle.asn1_model.specs.Kinds.{object_identifier}
 use Rattle.asn1_model.specs.Meaning.{own_records}
 use Rattle.asn1_model.specs.Tags.{context}
-use Rattle.asn1_codec.proofs.TwoComponents.{highest_of_two, one_then_other}
+use Rattle.asn1_laws.proofs.TwoComponents.{highest_of_two, one_then_other}
 use Rattle.asn1_dec.proofs.impls.instance_of.InstanceOfDecodeFields.decode_fields.Goals as goal
 
 pub returns-in_err-type_id-clause-read : goal.returns-in_err-type_id-clause-read

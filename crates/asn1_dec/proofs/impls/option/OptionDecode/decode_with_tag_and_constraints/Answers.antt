@@ -1,5 +1,5 @@
 use Rattle.asn1_model.specs.ConstraintSets.{constraint_set}
-use Rattle.asn1_codec.proofs.ReadingOptionals.{after_option}
+use Rattle.asn1_laws.proofs.ReadingOptionals.{after_option}
 use Rattle.asn1_dec.proofs.impls.option.OptionDecode.decode_with_tag_and_constraints.Goals as goal
 
 pub returns-clause-read : goal.returns-clause-read

@@ -1,5 +1,5 @@
 use Rattle.std.proofs.Common.{refl}
-use Rattle.asn1_codec.proofs.ReadingSteps.{in_other_words}
+use Rattle.asn1_laws.proofs.ReadingSteps.{in_other_words}
 use Rattle.asn1_dec.proofs.impls.scalars.UnitDecode.decode_with_tag_and_constraints.Goals as goal
 
 pub returns-clause-read : goal.returns-clause-read

@@ -1,6 +1,6 @@
 use Rattle.std.specs.Cmp.{bool_eq_equiv}
 use Rattle.std.specs.Cmp.Lexicographic.{lists_equiv}
-use Rattle.asn1_codec.proofs.ReadingSteps.{in_other_words, same_is_equal}
+use Rattle.asn1_laws.proofs.ReadingSteps.{in_other_words, same_is_equal}
 use Rattle.asn1_dec.proofs.impls.strings.BitStringDecode.decode_with_tag_and_constraints.Goals as goal
 
 pub returns-clause-read : goal.returns-clause-read

@@ -1,7 +1,7 @@
 use Rattle.std.specs.Prelude.{Some, codes}
 use Rattle.asn1_tags.specs.Names.{name_of}
-use Rattle.asn1_codec.proofs.WritingNames.{named_or}
-use Rattle.asn1_codec.proofs.WritingSteps.{in_other_words}
+use Rattle.asn1_laws.proofs.WritingNames.{named_or}
+use Rattle.asn1_laws.proofs.WritingSteps.{in_other_words}
 use Rattle.asn1_enc.proofs.impls.strings.BitStringEncode.encode_with_tag_and_constraints.Goals as goal
 
 pub returns : goal.returns

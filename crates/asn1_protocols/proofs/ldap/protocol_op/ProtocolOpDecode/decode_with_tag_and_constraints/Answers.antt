@@ -1,5 +1,5 @@
 use Rattle.asn1_model.specs.ConstraintSets.{constraint_set}
-use Rattle.asn1_codec.proofs.ReadingChoices.{leaves_kept}
+use Rattle.asn1_laws.proofs.ReadingChoices.{leaves_kept}
 use Rattle.asn1_protocols.specs.contracts.ldap.protocol_op.ProtocolOpAsnType.TheImpl.{ghosts as operation}
 use Rattle.asn1_protocols.proofs.ldap.protocol_op.ProtocolOpDecode.decode_with_tag_and_constraints.Goals as goal
 

@@ -1,0 +1,73 @@
+-- Presence marks of one byte are skipped.
+use Rattle.std.proofs.Common.{◌≡◌, ℕ, ◌≤◌, Bool, true, false, List, [], ◌∷◌, ◌++◌, refl, sym, ap, subst, ◌∙◌, arith, None}
+use Rattle.std.specs.Prelude.{if◌then◌else◌, ◌&&◌, nat_le}
+use Rattle.std.proofs.lemmas.Bool.Decides.{nat_tests}
+use Rattle.asn1_laws.specs.Reading.{marks_passed}
+use Rattle.asn1_items.specs.Headers.{from_class, is_one, is_one_item, kind_of}
+use Rattle.asn1_items.specs.Items.{HasBytes, HaveBytes, mark_byte, marks_skipped, packed_marks, read_with}
+use Rattle.asn1_model.specs.Records as model
+use Rattle.asn1_model.specs.Records.{held, is_presence_mark, sequence, set, sequence_of, set_of, explicit_tag, alternative, present, absent, group_start, group_absent, group_end}
+
+-- the bytes of a mark are skipped, and those of other records are not
+mark_skipped : (m : model.PresenceMark) (rest : List ℕ) → marks_skipped (mark_byte m ∷ rest) ≡ marks_skipped rest
+mark_skipped (present side t) rest = refl
+mark_skipped (absent side t) rest = refl
+mark_skipped (group_start table) rest = refl
+mark_skipped group_absent rest = refl
+mark_skipped group_end rest = refl
+
+no_mark_kind : (h : model.Head) → (nat_le 16 (kind_of h) && nat_le (kind_of h) 20) ≡ false
+no_mark_kind (sequence t table n) = refl
+no_mark_kind (set t table n) = refl
+no_mark_kind (sequence_of t c n) = refl
+no_mark_kind (set_of t c n) = refl
+no_mark_kind (explicit_tag t n) = refl
+no_mark_kind (alternative t c table n) = refl
+
+kept : (byte : ℕ) (rest : List ℕ) → (nat_le 16 byte && nat_le byte 20) ≡ false → marks_skipped (byte ∷ rest) ≡ byte ∷ rest
+kept byte rest e = ap (λ b. if b then marks_skipped rest else byte ∷ rest) e
+
+no_item : (byte : ℕ) (rest : List ℕ) → (nat_le 1 byte && nat_le byte 7) ≡ false → is_one_item (byte ∷ rest) ≡ true → ⊥
+no_item byte rest e one = let none = ap (λ b. is_one (if b then from_class byte rest else None)) e in cc
+
+low_is_no_mark : (byte : ℕ) → byte ≤ 7 → (nat_le 16 byte && nat_le byte 20) ≡ false
+low_is_no_mark byte low = by (nat_le 16 byte) refl
+  where
+    by : (b : Bool) → nat_le 16 byte ≡ b → (b && nat_le byte 20) ≡ false
+    by true e = absurd (grind (arith, nat_tests))
+    by false e = refl
+
+low_kind : (byte : ℕ) (rest : List ℕ) → is_one_item (byte ∷ rest) ≡ true → byte ≤ 7
+low_kind byte rest one = by (nat_le 1 byte) (nat_le byte 7) refl refl
+  where
+    by : (a b : Bool) → nat_le 1 byte ≡ a → nat_le byte 7 ≡ b → byte ≤ 7
+    by true true p q = grind (arith, nat_tests)
+    by false b p q = absurd (no_item byte rest (ap (λ a. a && nat_le byte 7) p) one)
+    by true false p q = absurd (no_item byte rest (ap (λ a. a && nat_le byte 7) p ∙ q) one)
+
+raw_kept : (own more : List ℕ) → is_one_item own ≡ true → marks_skipped (own ++ more) ≡ own ++ more
+raw_kept [] more one = cc
+raw_kept (byte ∷ own) more one = kept byte (own ++ more) (low_is_no_mark byte (low_kind byte own one))
+
+record_kept : (r : model.Record) (first more : List ℕ) → is_presence_mark r ≡ false → HasBytes (read_with packed_marks) r first → marks_skipped (first ++ more) ≡ first ++ more
+record_kept (model.scalar t c n x) first more no_mark p = subst (λ b. marks_skipped (b ++ more) ≡ b ++ more) (sym p.item.are) refl
+record_kept (model.scope h rs) first more no_mark p = subst (λ b. marks_skipped (b ++ more) ≡ b ++ more) (sym p.item.are) (kept (kind_of h) _ (no_mark_kind h))
+record_kept (model.open_type n own) first more no_mark p = subst (λ b. marks_skipped (b ++ more) ≡ b ++ more) (sym p.0) (raw_kept own more p.1)
+record_kept (model.presence_mark m) first more no_mark p = cc
+
+pub skipped : (rs : List model.Record) (bytes : List ℕ) → HaveBytes (read_with packed_marks) (held rs) bytes → HaveBytes (read_with packed_marks) (held (marks_passed rs)) (marks_skipped bytes)
+skipped [] bytes p = ap marks_skipped p
+skipped (r ∷ rs) bytes p = by r rs p (skipped rs p.others p.are_others)
+  where
+    stays : (r : model.Record) (rs : List model.Record) (p : HaveBytes (read_with packed_marks) (held (r ∷ rs)) bytes) → is_presence_mark r ≡ false → HaveBytes (read_with packed_marks) (held (r ∷ rs)) (marks_skipped bytes)
+    stays r rs p no_mark = subst (HaveBytes (read_with packed_marks) (held (r ∷ rs))) (p.are ∙ sym (record_kept r p.first p.others no_mark p.is_first) ∙ ap marks_skipped (sym p.are)) p
+
+    by : (r : model.Record) (rs : List model.Record) (p : HaveBytes (read_with packed_marks) (held (r ∷ rs)) bytes) → HaveBytes (read_with packed_marks) (held (marks_passed rs)) (marks_skipped p.others) → HaveBytes (read_with packed_marks) (held (marks_passed (r ∷ rs))) (marks_skipped bytes)
+    by (model.scalar t c n x) rs p rest = stays (model.scalar t c n x) rs p refl
+    by (model.scope h is) rs p rest = stays (model.scope h is) rs p refl
+    by (model.open_type n own) rs p rest = stays (model.open_type n own) rs p refl
+    by (model.presence_mark m) rs p rest = subst (HaveBytes (read_with packed_marks) (held (marks_passed rs))) (sym (ap marks_skipped (p.are ∙ ap (λ l. l ++ p.others) p.is_first) ∙ mark_skipped m p.others)) rest
+
+-- the byte of a mark that is next
+pub mark_at : (m : model.PresenceMark) (rest : List model.Record) (bytes : List ℕ) (have : HaveBytes (read_with packed_marks) (held (model.presence_mark m ∷ rest)) bytes) → bytes ≡ mark_byte m ∷ have.others
+mark_at m rest bytes have = have.are ∙ ap (λ l. l ++ have.others) have.is_first

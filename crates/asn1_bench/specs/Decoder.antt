@@ -1,0 +1,64 @@
+-- What remains to be read by a decoder over items, and what it opens.
+use Rattle.std.specs.Prelude.{◌≡◌, ℕ, false, List, ◌++◌, Some, Result, MatchResult, length}
+use Rattle.asn1_laws.specs.ReadingUpToOrder.{up_to_order}
+use Rattle.asn1_laws.specs.Reading.{Reader, Remaining}
+use Rattle.asn1_laws.specs.ReadingTypes.{ReadsContent}
+use Rattle.asn1_laws.specs.declared.decode_error.DecodeError.{DecodeError}
+use Rattle.asn1_items.specs.Contents.{LooksLike}
+use Rattle.asn1_items.specs.Headers.{Header, Meets, header_at, is_one_item, kind_of}
+use Rattle.asn1_items.specs.Items.{HasBytes, HaveBytes, MarkBytes, read_with}
+use Rattle.asn1_items.specs.Slices.{IsTaken, left_inside}
+use Rattle.asn1_items.specs.declared.header.Wanted.{Wanted}
+use Rattle.asn1_items.specs.declared.header.Wanted.TheVariants.{Content, Scope, Alternative, Any}
+use Rattle.asn1_items.specs.declared.slices.Item.{Item}
+use Rattle.asn1_model.specs.ConstraintSets.{ConstraintSet}
+use Rattle.asn1_model.specs.Records as model
+use Rattle.asn1_model.specs.Records.{Head, held}
+use Rattle.asn1_model.specs.Tags.{head_tag}
+use Rattle.asn1_bench.specs.declared.decoder.ItemDecoder.{ItemDecoder}
+use Rattle.asn1_items.specs.Remaining.{ReadForm, exact_reader}
+use Rattle.asn1_items.specs.declared.decode_state.Scopes.{Scopes}
+use Rattle.asn1_tags.specs.declared.tags.Tag.{Tag}
+
+-- The form in which the decoder reads records: that of items, with presence marks of these bytes. It takes what is one item as
+-- one value of an open type.
+abbrev pub item_form : MarkBytes → ReadForm
+item_form marks = record {
+  Has = λ r bytes. HasBytes (read_with marks) r bytes;
+  Have = λ rs bytes. HaveBytes (read_with marks) (held rs) bytes;
+  accepts = λ bytes. is_one_item bytes;
+}
+
+module _ {P : Type 0} (marks : MarkBytes) where
+  -- the decoder in the order in which its bytes come
+  abbrev pub in_one_order : Reader (ItemDecoder P)
+  in_one_order = exact_reader (item_form marks) (λ d. d.scopes)
+
+  -- the decoder as types see it: the order inside sets means nothing
+  abbrev pub item_reader : Reader (ItemDecoder P)
+  item_reader = up_to_order in_one_order
+
+  -- these lists remain to be read, up to the order inside sets
+  abbrev pub Remains : ItemDecoder P → Remaining → Type 0
+  Remains d remaining = item_reader.remains d remaining
+
+-- The head is what is wanted.
+abbrev pub IsWanted : Wanted → Head → Type 0
+IsWanted (Content t k) h = ⊥
+IsWanted (Scope k t) h = (kind_of h ≡ k) × (head_tag h ≡ t)
+IsWanted Alternative h = kind_of h ≡ 7
+IsWanted Any h = ⊥
+
+-- A call that takes the next item. Where no call has failed and the bytes that are left begin with the item of a header that is
+-- what is wanted, it is taken, and what follows it is left.
+abbrev pub TakesItem : Wanted → Scopes → Scopes → Result Item DecodeError → Type 0
+TakesItem wanted old new result =
+    (h : Header) (inside back : List ℕ) → old.failed ≡ false → header_at (left_inside old.slices) ≡ Some h →
+    h.body ≡ inside ++ back → h.size ≡ length inside → Meets wanted h →
+    MatchResult result (λ i. IsTaken i h.tag inside back old.slices new.slices) (λ _. ⊥)
+
+-- a call that reads each content under this tag which has the bytes and the kind of this one, with any constraints
+abbrev pub ReadsContentLike : {D X V : Type 0} → Reader D → Tag → (X → model.Content) → (X → Type 0) → (V → X → Type 0) → D → D → Result V DecodeError → Type 0
+ReadsContentLike {X = X} R t own IsOfType Is old new result =
+    (content : X → model.Content) → ((x : X) → LooksLike (content x) (own x)) → (c : ConstraintSet) →
+    ReadsContent R t c content IsOfType Is old new result

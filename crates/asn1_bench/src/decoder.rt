@@ -1,0 +1,334 @@
+//! The decoder that reads from the bytes of items.
+use crate::presence::Presence;
+use asn1_bounds::{Codec, Constraints};
+use asn1_components::{Choice, EnumeratedTable, FieldTable};
+use asn1_dec::{DecodeError, Decoder};
+use asn1_items::{BAD_ITEM, FromContent, Item, Opened, Scopes, StringOf, Wanted};
+use asn1_tags::{Tag, TagTree};
+use asn1_types::{Any, CodecString};
+use asn1_values::{Integer, IntegerType, ObjectIdentifier};
+use std::alloc::Global;
+use std::marker::PhantomData;
+
+/// A decoder that reads from the bytes of items. It borrows them, and copies none but those of the values that it answers.
+/// `P` says how what may be absent is told.
+///
+/// Where bytes are missing outside all scopes the error is [`DecodeError::Incomplete`], with the number of bytes that are missing
+/// of the part that is read; where the bytes are not those that are asked for it is [`DecodeError::Custom`], with the text
+/// `bad item`.
+#[derive(Drop)]
+pub struct ItemDecoder<'a, P> {
+    alloc: Global,
+    scopes: Scopes<'a>,
+    presence: PhantomData<P>,
+}
+
+impl<'a, P: Presence> ItemDecoder<'a, P> {
+    ghost use Rattle.asn1_laws.specs.DecodeErrors.{custom, reason};
+    ghost use Rattle.asn1_laws.specs.Reading.{OpensNothing, TakesDepth, TellsPresence};
+    ghost use Rattle.asn1_laws.specs.declared.decode_error.DecodeError.TheVariants.{Failed};
+    ghost use Rattle.asn1_items.specs.Headers.{is_one_item};
+    ghost use Rattle.asn1_items.specs.Slices.{left_outside};
+    ghost use Rattle.asn1_model.specs.Records as model;
+    ghost use Rattle.asn1_model.specs.Records.{Side, absent, present};
+    ghost use Rattle.asn1_model.specs.Tags.{tree_tags};
+    ghost use Rattle.asn1_model.specs.WellFormed.{AreWellFormed};
+    ghost use Rattle.asn1_bench.specs.Carried.{CarriesWith};
+    ghost use Rattle.asn1_bench.specs.Decoder.{IsWanted, ReadsContentLike, Remains, TakesItem, in_one_order, item_reader};
+    ghost use Rattle.asn1_items.specs.Remaining.{IsWithinBound, OpensWanted, ReadsWantedHead, ReadsWantedSet};
+    ghost use Rattle.asn1_tags.specs.Trees.{shape};
+    ghost use Rattle.asn1_tags.specs.declared.tags.Tag.{Tag as Under};
+    ghost use Rattle.std.specs.Prelude.{◌≡◌, ◌≢◌, ◌↔◌, [], ⊤, Err, IfErr, IsOk, List, OnOk, codes, false, true};
+
+    /// A decoder of these bytes, which may open this many nested scopes.
+    pub fn new(alloc: Global, bytes: &'a [u8], depth: usize) -> ItemDecoder<'a, P>
+        ensures before { (rs : List model.Record) → CarriesWith P.mark_bytes bytes.now rs →
+            AreWellFormed (λ own. is_one_item own) rs → Remains P.mark_bytes result (rs, []) }
+        ensures depth_left { (item_reader P.mark_bytes).depth_left result ≡ depth }
+        ensures no_failure { (item_reader P.mark_bytes).failed result ≡ false }
+    {
+        ItemDecoder {
+            alloc,
+            scopes: Scopes::new(alloc, bytes, depth),
+            presence: PhantomData,
+        }
+    }
+
+    /// Ends the reading, which succeeds if and only if all has been read: no call has failed, no scope is open, and no byte is
+    /// left.
+    ///
+    /// # Errors
+    /// [`DecodeError::Failed`] where a call has failed before, and else [`DecodeError::Custom`], with the text `bad item`.
+    pub fn finish(self) -> Result<(), DecodeError>
+        ensures all_read { IsOk result ↔ Remains P.mark_bytes self.entry ([], []) }
+        ensures failed { result ≡ Err Failed ↔
+            ((item_reader P.mark_bytes).failed self.entry ≡ true) }
+        ensures bad_item { IfErr result (λ e. e ≢ Failed → reason e ≡ custom (codes "bad item")) }
+    {
+        self.scopes.finish()
+    }
+
+    /// Takes the next item, which is to be what is wanted.
+    #[inline(always)]
+    fn take(&mut self, wanted: Wanted) -> Result<Item<'a>, DecodeError>
+        ensures took { TakesItem wanted self.old.scopes self.new.scopes result }
+        ensures outside { OnOk result
+            (left_outside self.new.scopes.slices ≡ left_outside self.old.scopes.slices) }
+        ensures opens_nothing { OpensNothing (item_reader P.mark_bytes) self.old self.new result }
+    {
+        let scopes = &mut self.scopes;
+        if scopes.failed {
+            return Err(DecodeError::Failed);
+        }
+        match scopes.slices.take_item(wanted) {
+            Ok(item) => Ok(item),
+            Err(error) => Err(scopes.fault(error)),
+        }
+    }
+
+    /// A content under a tag.
+    fn scalar<V: FromContent>(&mut self, tag: Tag) -> Result<V, DecodeError>
+        ensures read { ReadsContentLike (item_reader P.mark_bytes) tag V.content V.IsOfType V.Is
+            self.old self.new result }
+        ensures opens_nothing { OpensNothing (item_reader P.mark_bytes) self.old self.new result }
+    {
+        let item = self.take(Wanted::Content(tag, V::kind()))?;
+        match V::from_content(self.alloc, item.body) {
+            Ok(value) => Ok(value),
+            Err(error) => Err(self.scopes.fault(error)),
+        }
+    }
+
+    /// Whether the component is there that begins with a tag of the tree.
+    fn tell_presence(&mut self, tree: TagTree<'static>) -> Result<bool, DecodeError>
+        ensures read { (side : Side) (t : Under) → TellsPresence (item_reader P.mark_bytes)
+            self.old self.new (present side t) (absent side t) (tree_tags (shape tree.entry))
+            result }
+        ensures opens_nothing { OpensNothing (item_reader P.mark_bytes) self.old self.new result }
+    {
+        let scopes = &mut self.scopes;
+        if scopes.failed {
+            return Err(DecodeError::Failed);
+        }
+        match P::component(&mut scopes.slices, tree) {
+            Ok(is_there) => Ok(is_there),
+            Err(error) => Err(scopes.fault(error)),
+        }
+    }
+
+    /// Opens a scope.
+    #[inline(always)]
+    fn open(&mut self, wanted: Wanted) -> Result<Opened, DecodeError>
+        ensures read { OpensWanted (in_one_order P.mark_bytes) (IsWanted wanted)
+            self.old self.new result }
+        ensures takes_depth { TakesDepth (item_reader P.mark_bytes) self.old self.new result }
+    {
+        if self.scopes.failed {
+            return Err(DecodeError::Failed);
+        }
+        if self.scopes.depth_left == 0 {
+            return Err(self.scopes.fail(DecodeError::Depth));
+        }
+        let item = self.take(wanted)?;
+        self.scopes.open(item.tag, item.body)
+    }
+
+    /// Opens a scope in which the order of the records means something.
+    fn open_in_order(&mut self, wanted: Wanted) -> Result<(), DecodeError>
+        ensures read { ReadsWantedHead (item_reader P.mark_bytes) (IsWanted wanted) (λ _ _. ⊤)
+            self.old self.new result }
+        ensures takes_depth { TakesDepth (item_reader P.mark_bytes) self.old self.new result }
+    {
+        self.open(wanted)?;
+        Ok(())
+    }
+
+    /// Opens a list of elements or the components of a set, and answers how many bytes are in it.
+    fn open_list(&mut self, wanted: Wanted) -> Result<usize, DecodeError>
+        ensures read { ReadsWantedHead (item_reader P.mark_bytes) (IsWanted wanted) IsWithinBound
+            self.old self.new result }
+        ensures read_set { ReadsWantedSet (item_reader P.mark_bytes) (IsWanted wanted) IsWithinBound
+            self.old self.new result }
+        ensures takes_depth { TakesDepth (item_reader P.mark_bytes) self.old self.new result }
+    {
+        let opened = self.open(wanted)?;
+        Ok(opened.bound)
+    }
+}
+
+impl<'a, P: Presence> Decoder for ItemDecoder<'a, P> {
+    ghost use Rattle.asn1_laws.proofs.ReadingUpToOrder.{lawful};
+    ghost use Rattle.asn1_bench.specs.Decoder.{in_one_order, item_reader};
+    ghost use Rattle.std.specs.Prelude.{◌≡◌, true};
+
+    ghost reader = { item_reader P.mark_bytes };
+
+    fn codec(&self) -> Codec
+        ensures { result ≡ P.own_codec }
+    {
+        P::codec()
+    }
+
+    fn depth(&self) -> usize {
+        self.scopes.depth_left
+    }
+
+    fn global(&self) -> Global {
+        self.alloc
+    }
+
+    fn refuse(&mut self, error: DecodeError) -> DecodeError
+        ensures same { result ≡ error }
+        ensures has_failed { self.new.scopes.failed ≡ true }
+        ensures same_depth { self.new.scopes.depth_left ≡ self.old.scopes.depth_left }
+    {
+        self.scopes.fail(error)
+    }
+
+    fn decode_bool(&mut self, tag: Tag) -> Result<bool, DecodeError> {
+        self.scalar(tag)
+    }
+
+    fn decode_null(&mut self, tag: Tag) -> Result<(), DecodeError> {
+        self.scalar(tag)
+    }
+
+    fn decode_enumerated_number<E: EnumeratedTable>(
+        &mut self,
+        tag: Tag,
+    ) -> Result<isize, DecodeError> {
+        let number = self.scalar(tag)?;
+        match E::name_of_number(number) {
+            Some(_) => Ok(number),
+            None => Err(self.scopes.fail(BAD_ITEM)),
+        }
+    }
+
+    fn decode_object_identifier(&mut self, tag: Tag) -> Result<ObjectIdentifier, DecodeError> {
+        self.scalar(tag)
+    }
+
+    fn decode_integer<I: IntegerType>(
+        &mut self,
+        tag: Tag,
+        _constraints: &Constraints<'_>,
+    ) -> Result<I, DecodeError> {
+        let number: Integer = self.scalar(tag)?;
+        match I::try_from_integer(number) {
+            Some(value) => Ok(value),
+            None => Err(self.scopes.fail(BAD_ITEM)),
+        }
+    }
+
+    fn decode_string<U, K: CodecString<U>>(
+        &mut self,
+        tag: Tag,
+        _constraints: &Constraints<'_>,
+    ) -> Result<K::Owned, DecodeError> {
+        let StringOf { string } = self.scalar::<StringOf<U, K>>(tag)?;
+        Ok(string)
+    }
+
+    fn decode_any(&mut self, _tag: Tag) -> Result<Any, DecodeError> {
+        let item = self.take(Wanted::Any)?;
+        match Vec::from_slice(self.alloc, item.bytes) {
+            Ok(bytes) => Ok(Any::new(bytes)),
+            Err(_) => Err(self.scopes.fail(DecodeError::Memory)),
+        }
+    }
+
+    fn presence(&mut self, _tag: Tag, tree: TagTree<'static>) -> Result<bool, DecodeError> {
+        self.tell_presence(tree)
+    }
+
+    fn addition_presence(
+        &mut self,
+        _tag: Tag,
+        tree: TagTree<'static>,
+    ) -> Result<bool, DecodeError> {
+        self.tell_presence(tree)
+    }
+
+    fn open_group<C: FieldTable>(&mut self) -> Result<bool, DecodeError> {
+        let scopes = &mut self.scopes;
+        if scopes.failed {
+            return Err(DecodeError::Failed);
+        }
+        match P::group::<C>(&mut scopes.slices) {
+            Ok(is_there) => Ok(is_there),
+            Err(error) => Err(scopes.fault(error)),
+        }
+    }
+
+    fn close_group(&mut self) -> Result<(), DecodeError> {
+        let scopes = &mut self.scopes;
+        if scopes.failed {
+            return Err(DecodeError::Failed);
+        }
+        match P::end_of_group(&mut scopes.slices) {
+            Ok(()) => Ok(()),
+            Err(error) => Err(scopes.fault(error)),
+        }
+    }
+
+    fn open_sequence<C: FieldTable>(&mut self, tag: Tag) -> Result<(), DecodeError> {
+        self.open_in_order(Wanted::Scope(2, tag))
+    }
+
+    fn open_set<C: FieldTable>(&mut self, tag: Tag) -> Result<usize, DecodeError> {
+        self.open_list(Wanted::Scope(3, tag))
+    }
+
+    fn next_component<C: FieldTable>(&mut self) -> Result<Option<Tag>, DecodeError> {
+        let scopes = &mut self.scopes;
+        if scopes.failed {
+            return Err(DecodeError::Failed);
+        }
+        P::skip_marks(&mut scopes.slices);
+        if scopes.slices.is_at_end() {
+            return Ok(None);
+        }
+        match scopes.slices.next_header() {
+            Ok(header) => Ok(Some(header.tag)),
+            Err(error) => Err(scopes.fault(error)),
+        }
+    }
+
+    fn open_sequence_of(
+        &mut self,
+        tag: Tag,
+        _constraints: &Constraints<'_>,
+    ) -> Result<usize, DecodeError> {
+        self.open_list(Wanted::Scope(4, tag))
+    }
+
+    fn open_set_of(
+        &mut self,
+        tag: Tag,
+        _constraints: &Constraints<'_>,
+    ) -> Result<usize, DecodeError> {
+        self.open_list(Wanted::Scope(5, tag))
+    }
+
+    fn open_explicit_prefix(&mut self, tag: Tag) -> Result<(), DecodeError> {
+        self.open_in_order(Wanted::Scope(6, tag))
+    }
+
+    fn open_choice<T: Choice>(
+        &mut self,
+        _constraints: &Constraints<'_>,
+    ) -> Result<Tag, DecodeError> {
+        let opened = self.open(Wanted::Alternative)?;
+        Ok(opened.tag)
+    }
+
+    fn more(&mut self) -> Result<bool, DecodeError> {
+        self.scopes.more()
+    }
+
+    fn close(&mut self) -> Result<(), DecodeError> {
+        self.scopes.close()
+    }
+
+    ghost lawful = { lawful (in_one_order P.mark_bytes) };
+}

@@ -1,0 +1,141 @@
+//! The bytes of items, as an encoder writes them.
+ghost use Rattle.asn1_buffers.specs.declared.error.WriteError.TheVariants.{Memory};
+ghost use Rattle.asn1_buffers.specs.MarksAndScopes.{kind_of_scope};
+ghost use Rattle.asn1_items.specs.Headers.{kind_of};
+ghost use Rattle.asn1_items.specs.declared.error.BufferError.TheVariants as buffer_error;
+ghost use Rattle.asn1_model.specs.Records.{Head};
+ghost use Rattle.std.specs.Prelude.{◌≡◌, ◌↔◌};
+
+use crate::presence::Presence;
+use asn1_bounds::Codec;
+use asn1_buffers::{MarkKind, RecordBuffer, ScopeKind, WriteError};
+use asn1_items::{Buffer, BufferError, Content};
+use asn1_tags::Tag;
+use std::alloc::Global;
+use std::marker::PhantomData;
+
+/// A buffer of the bytes of items. `P` says how what may be absent is told.
+///
+/// It does not take the records that are too long, with 2^32 bytes or more inside an item: [`WriteError::Rejected`], with the text
+/// `item too long`.
+#[derive(Drop)]
+pub struct ItemBuffer<P> {
+    items: Buffer,
+    presence: PhantomData<P>,
+}
+
+impl<P: Presence> RecordBuffer for ItemBuffer<P> {
+    ghost use Rattle.asn1_buffers.specs.Buffers.{EndsScope, EndsScopeInOrder};
+    ghost use Rattle.asn1_bench.specs.Written.{rejects_by_parts, written_items};
+
+    ghost form = { written_items P.mark_bytes };
+
+    ghost own_codec = { P.own_codec };
+
+    fn codec() -> Codec {
+        P::codec()
+    }
+
+    fn new(alloc: Global) -> ItemBuffer<P> {
+        ItemBuffer {
+            items: Buffer::new(alloc),
+            presence: PhantomData,
+        }
+    }
+
+    fn finish(self) -> Vec<u8> {
+        self.items.finish()
+    }
+
+    #[inline(always)]
+    fn append_scalar(&mut self, tag: Tag, content: Content<'_>) -> Result<(), WriteError> {
+        match self.items.append_scalar(tag, content) {
+            Ok(()) => Ok(()),
+            Err(error) => Err(told(error)),
+        }
+    }
+
+    fn append_open_type(&mut self, bytes: &[u8]) -> Result<(), WriteError> {
+        match self.items.append_open_type(bytes) {
+            Ok(()) => Ok(()),
+            Err(error) => Err(told(error)),
+        }
+    }
+
+    #[inline(always)]
+    fn append_mark(&mut self, kind: MarkKind) -> Result<(), WriteError> {
+        match self.items.append_mark(P::bytes_of_mark(kind)) {
+            Ok(()) => Ok(()),
+            Err(error) => Err(told(error)),
+        }
+    }
+
+    #[inline(always)]
+    fn begin_scope(&mut self, kind: ScopeKind, tag: Tag) -> Result<(), WriteError> {
+        match self.items.open_scope(number_of(kind), tag) {
+            Ok(()) => Ok(()),
+            Err(error) => Err(told(error)),
+        }
+    }
+
+    // The items of a SET, and the elements of a SET OF, stay in the order in which they were written (`in_order`).
+    #[inline(always)]
+    fn end_scope(&mut self) -> Result<(), WriteError>
+        ensures ended { EndsScope (written_items P.mark_bytes) self.old self.new result }
+        ensures in_order { EndsScopeInOrder (written_items P.mark_bytes)
+            self.old self.new result }
+    {
+        match self.items.close_scope() {
+            Ok(()) => Ok(()),
+            Err(error) => Err(told(error)),
+        }
+    }
+
+    fn begin_group(&mut self) -> Result<(), WriteError> {
+        match self
+            .items
+            .open_group(P::bytes_of_mark(MarkKind::GroupStart))
+        {
+            Ok(()) => Ok(()),
+            Err(error) => Err(told(error)),
+        }
+    }
+
+    fn end_group(&mut self) -> Result<(), WriteError> {
+        let end = P::bytes_of_mark(MarkKind::GroupEnd);
+        let absent = P::bytes_of_mark(MarkKind::GroupAbsent);
+        match self.items.close_group(end, absent) {
+            Ok(()) => Ok(()),
+            Err(error) => Err(told(error)),
+        }
+    }
+
+    ghost by_parts = { rejects_by_parts P.mark_bytes };
+}
+
+/// The error, as an encoder is told it.
+#[cold]
+fn told(error: BufferError) -> WriteError
+    ensures { (result ≡ Memory) ↔ (error ≡ buffer_error.Memory) }
+{
+    match error {
+        BufferError::Memory => WriteError::Memory,
+        BufferError::TooLong => WriteError::Rejected("item too long"),
+        BufferError::NotOpen => WriteError::Rejected("nothing is open"),
+    }
+}
+
+/// The number of a kind of scope, by which a header tells it.
+#[inline(always)]
+fn number_of(kind: ScopeKind) -> u8
+    ensures { (h : Head) → kind_of_scope h ≡ kind → kind_of h ≡ result }
+{
+    match kind {
+        ScopeKind::Sequence => 2,
+        ScopeKind::Set => 3,
+        ScopeKind::SequenceOf => 4,
+        ScopeKind::SetOf => 5,
+        ScopeKind::ExplicitTag => 6,
+        ScopeKind::Alternative => 7,
+    }
+}

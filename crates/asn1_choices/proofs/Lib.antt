@@ -1,2 +1,0 @@
-mod TableLines
-mod Variants

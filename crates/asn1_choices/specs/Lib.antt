@@ -1,4 +1,0 @@
-pub mod Alternatives
-pub mod ChosenTags
-pub mod ChoiceTypes
-pub mod UntaggedItself

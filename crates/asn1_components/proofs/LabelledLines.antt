@@ -1,0 +1,56 @@
+-- Searches in the tables of an enumeration, by number and by name.
+use Rattle.std.proofs.Common.{◌≡◌, ℕ, ℤ, Bool, Option, Some, None, List, [], ◌∷◌, ◌++◌, map, refl, sym, ap, ◌∙◌}
+use Rattle.std.specs.List.{find, position, slice_get}
+use Rattle.std.specs.Option.{option_map}
+use Rattle.std.specs.Ordering.{int_eq}
+use Rattle.std.proofs.lemmas.Option.{slice_get-map}
+use Rattle.asn1_components.specs.Enumerations.{Enumeration, added, items}
+use Rattle.asn1_components.specs.LabelLaws.{all_labels_are}
+use Rattle.asn1_model.specs.RecordTables.{Label}
+use Rattle.asn1_components.specs.Labels.{all_labels, label_of, labels_of, numbers_in}
+use Rattle.asn1_components.specs.ItemTables.{line_item, table_items}
+use Rattle.asn1_components.specs.declared.items.EnumerationItem.{EnumerationItem}
+use Rattle.asn1_tags.proofs.PlacesInLists.{position-map}
+use Rattle.asn1_components.proofs.Lines.{line_found}
+use Rattle.asn1_components.proofs.Searches.{find-map}
+
+numbers_of_lines : {V : Type 0} (lines : List (EnumerationItem V)) → map (λ (l : EnumerationItem V). l.number) lines ≡ numbers_in (map label_of (table_items lines))
+numbers_of_lines [] = refl
+numbers_of_lines (l ∷ lines) = ap (λ ns. l.number ∷ ns) (numbers_of_lines lines)
+
+module _ {V : Type 0} (lines : List (EnumerationItem V)) (labels : List Label) (are : map label_of (table_items lines) ≡ labels) where
+  numbers_are : map (λ (l : EnumerationItem V). l.number) lines ≡ numbers_in labels
+  numbers_are = numbers_of_lines lines ∙ ap numbers_in are
+
+  -- the number of the line at a place is that of the label
+  pub number_at_place : (place : ℕ) → option_map (λ (l : EnumerationItem V). l.number) (slice_get lines place) ≡ slice_get (numbers_in labels) place
+  number_at_place place = sym (slice_get-map (λ (l : EnumerationItem V). l.number) lines place) ∙ ap (λ ns. slice_get ns place) numbers_are
+
+  -- the place of the line of a number is that of the number
+  pub place_of_number : (number : ℤ) → position (λ (l : EnumerationItem V). int_eq l.number number) lines ≡ position (λ n. int_eq n number) (numbers_in labels)
+  place_of_number number =
+      sym (position-map (λ n. int_eq n number) (λ (l : EnumerationItem V). l.number) lines) ∙ ap (position (λ n. int_eq n number)) numbers_are
+
+module _ {V : Type 0} (e : Enumeration V) (p : Label → Bool) (root additions : List (EnumerationItem V)) (root_is : table_items root ≡ e.root)
+    (additions_are : table_items additions ≡ added e) where
+  abbrev line : Option (EnumerationItem V)
+  line = find (λ (l : EnumerationItem V). p (label_of (line_item l))) (root ++ additions)
+
+  label_found : option_map (λ (l : EnumerationItem V). label_of (line_item l)) line ≡ find p (all_labels (labels_of e))
+  label_found =
+      of_line line
+      ∙ ap (option_map label_of) (line_found e (λ i. p (label_of i)) root additions root_is additions_are)
+      ∙ sym (find-map p label_of (items e))
+      ∙ ap (find p) (sym (all_labels_are e))
+    where
+      of_line : (o : Option (EnumerationItem V)) → option_map (λ (l : EnumerationItem V). label_of (line_item l)) o ≡ option_map label_of (option_map line_item o)
+      of_line None = refl
+      of_line (Some l) = refl
+
+  -- what the line that is found says, the label says
+  pub part_found : {X : Type 0} (part : Label → X) → option_map (λ (l : EnumerationItem V). part (label_of (line_item l))) line ≡ option_map part (find p (all_labels (labels_of e)))
+  part_found part = by line ∙ ap (option_map part) label_found
+    where
+      by : (o : Option (EnumerationItem V)) → option_map (λ (l : EnumerationItem V). part (label_of (line_item l))) o ≡ option_map part (option_map (λ (l : EnumerationItem V). label_of (line_item l)) o)
+      by None = refl
+      by (Some l) = refl

@@ -1,0 +1,40 @@
+-- Searches in the tables of an enumeration.
+use Rattle.std.proofs.Common.{◌≡◌, ℕ, Bool, Option, Some, None, List, ◌++◌, refl, sym, ap, ◌∙◌}
+use Rattle.std.specs.List.{find, position, slice_get}
+use Rattle.std.specs.Option.{option_map}
+use Rattle.std.proofs.lemmas.List.{map-append}
+use Rattle.std.proofs.lemmas.Option.{slice_get-map}
+use Rattle.asn1_components.specs.Enumerations.{Item, Enumeration, added, items, values}
+use Rattle.asn1_components.specs.ItemTables.{line_item, table_items}
+use Rattle.asn1_components.specs.declared.items.EnumerationItem.{EnumerationItem}
+use Rattle.asn1_components.proofs.Labels.{value_in}
+use Rattle.asn1_tags.proofs.PlacesInLists.{position-map}
+use Rattle.asn1_components.proofs.Searches.{find-map}
+
+of_item : {V : Type 0} (line : Option (EnumerationItem V)) → option_map (λ (l : EnumerationItem V). l.value) line ≡ value_in (option_map line_item line)
+of_item (Some l) = refl
+of_item None = refl
+
+-- the place of the line that a search finds is that of the item
+pub place_found : {V : Type 0} (p : Item V → Bool) (lines : List (EnumerationItem V)) (table : List (Item V)) (place : Option ℕ) →
+    place ≡ position (λ l. p (line_item l)) lines → table_items lines ≡ table → place ≡ position p table
+place_found p lines table place found is = found ∙ (sym (position-map p line_item lines) ∙ ap (position p) is)
+
+-- the value of a line is that of its item
+pub value_of_line : {V : Type 0} (lines : List (EnumerationItem V)) (place : ℕ) →
+    option_map (λ (l : EnumerationItem V). l.value) (slice_get lines place) ≡ slice_get (values (table_items lines)) place
+value_of_line {V = V} lines place =
+    of_item (slice_get lines place)
+    ∙ (ap value_in (sym (slice_get-map line_item lines place)) ∙ sym (slice_get-map (λ (i : Item V). i.value) (table_items lines) place))
+
+module _ {V : Type 0} (e : Enumeration V) (p : Item V → Bool) (root additions : List (EnumerationItem V)) (root_is : table_items root ≡ e.root)
+    (additions_are : table_items additions ≡ added e) where
+  -- the line that a search finds is that of the item
+  pub line_found : option_map line_item (find (λ l. p (line_item l)) (root ++ additions)) ≡ find p (items e)
+  line_found =
+      sym (find-map p line_item (root ++ additions))
+      ∙ ap (find p) (map-append line_item root additions ∙ (ap (λ xs. xs ++ table_items additions) root_is ∙ ap (λ xs. e.root ++ xs) additions_are))
+
+  -- and its value is the item's
+  pub value_found : option_map (λ (l : EnumerationItem V). l.value) (find (λ l. p (line_item l)) (root ++ additions)) ≡ value_in (find p (items e))
+  value_found = of_item (find (λ l. p (line_item l)) (root ++ additions)) ∙ ap value_in line_found

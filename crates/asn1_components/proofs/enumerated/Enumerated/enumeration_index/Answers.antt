@@ -1,0 +1,60 @@
+use Rattle.std.proofs.Common.{inl, inr, None, Some, sym}
+use Rattle.asn1_components.specs.Enumerations.{added}
+use Rattle.asn1_components.proofs.Labels.{value_at, value_missing, somewhere, not_in_both}
+use Rattle.asn1_components.proofs.Lines.{place_found}
+use Rattle.asn1_components.proofs.enumerated.Enumerated.enumeration_index.Goals as goal
+
+pub unreachable-requires : goal.unreachable-requires
+unreachable-requires g c =
+    let eq = g.Self.PartialEq.eq in
+    let equal = g.met.Self.Eq.laws in
+    let e = g.Self.EnumeratedItems.enumeration in
+    let laws = g.met.Self.Enumerated in
+    let v = c.args.self.now in
+    let not_root = sym (place_found (λ i. eq i.value v) c.items.result.now e.root None (c.in-None.ensures {u = tt}) c.items.ensures) in
+    let not_added = sym (place_found (λ i. eq i.value v) c.added_lines.result.now (added e) None (c.in-None-place_in.ensures {u = tt}) c.added_lines.ensures) in
+    elim (somewhere eq equal e laws.complete laws.lawful.distinct v) [
+      | inl among ↦ value_missing eq equal e laws.complete laws.lawful.distinct e.root v not_root among
+      | inr among ↦ value_missing eq equal e laws.complete laws.lawful.distinct (added e) v not_added among
+    ]
+
+pub returns-in-Some-clause-root : goal.returns-in-Some-clause-root
+returns-in-Some-clause-root g c = λ among.
+    let eq = g.Self.PartialEq.eq in
+    let equal = g.met.Self.Eq.laws in
+    let e = g.Self.EnumeratedItems.enumeration in
+    let laws = g.met.Self.Enumerated in
+    let v = c.args.self.now in
+    value_at eq equal e laws.complete laws.lawful.distinct e.root v c.in-Some.place
+    (sym (place_found (λ i. eq i.value v) c.items.result.now e.root (Some c.in-Some.place) (c.in-Some.ensures {u = tt}) c.items.ensures))
+
+pub returns-in-Some-clause-extended : goal.returns-in-Some-clause-extended
+returns-in-Some-clause-extended g c = λ among.
+    let eq = g.Self.PartialEq.eq in
+    let equal = g.met.Self.Eq.laws in
+    let e = g.Self.EnumeratedItems.enumeration in
+    let laws = g.met.Self.Enumerated in
+    let v = c.args.self.now in
+    let at = value_at eq equal e laws.complete laws.lawful.distinct e.root v c.in-Some.place
+    (sym (place_found (λ i. eq i.value v) c.items.result.now e.root (Some c.in-Some.place) (c.in-Some.ensures {u = tt}) c.items.ensures)) in
+    absurd (not_in_both eq equal e laws.complete laws.lawful.distinct v c.in-Some.place at among)
+
+pub returns-in-Some-place_in-clause-root : goal.returns-in-Some-place_in-clause-root
+returns-in-Some-place_in-clause-root g c = λ among.
+    let eq = g.Self.PartialEq.eq in
+    let equal = g.met.Self.Eq.laws in
+    let e = g.Self.EnumeratedItems.enumeration in
+    let laws = g.met.Self.Enumerated in
+    let v = c.args.self.now in
+    let not_root = sym (place_found (λ i. eq i.value v) c.items.result.now e.root None (c.in-None.ensures {u = tt}) c.items.ensures) in
+    absurd (value_missing eq equal e laws.complete laws.lawful.distinct e.root v not_root among)
+
+pub returns-in-Some-place_in-clause-extended : goal.returns-in-Some-place_in-clause-extended
+returns-in-Some-place_in-clause-extended g c = λ among.
+    let eq = g.Self.PartialEq.eq in
+    let equal = g.met.Self.Eq.laws in
+    let e = g.Self.EnumeratedItems.enumeration in
+    let laws = g.met.Self.Enumerated in
+    let v = c.args.self.now in
+    value_at eq equal e laws.complete laws.lawful.distinct (added e) v c.in-Some-place_in.place
+    (sym (place_found (λ i. eq i.value v) c.added_lines.result.now (added e) (Some c.in-Some-place_in.place) (c.in-Some-place_in.ensures {u = tt}) c.added_lines.ensures))

@@ -1,0 +1,112 @@
+-- What a CHOICE means, by its alternatives.
+use Rattle.std.specs.Prelude.{◌≡◌, ◌↔◌, ℕ, ⊤, Bool, true, List, Some, refl}
+use Rattle.std.proofs.Common.{ap, sym, subst}
+use Rattle.asn1_tags.specs.declared.tags.Tag.{Tag}
+use Rattle.asn1_tags.specs.Trees.{Trees, choice, none}
+use Rattle.asn1_model.specs.ConstraintSets.{ConstraintSet, unconstrained}
+use Rattle.asn1_model.specs.WellFormed.{well_formed_choice}
+use Rattle.asn1_model.specs.Records.{Name}
+use Rattle.asn1_model.specs.RecordTables.{Line, Table, no_table}
+use Rattle.asn1_model.specs.Tags.{CHOICE, Has, first_tag, tree_tags}
+use Rattle.asn1_model.specs.Composites.{choice_records}
+use Rattle.asn1_model.specs.Meaning.{Meaning}
+use Rattle.asn1_model.specs.Kinds.{choice_tree, choice_type}
+use Rattle.asn1_components.specs.Alternatives.{Alternatives, OneOf, Each, CanBeChosen, HaveDistinctTags, SaysTheSame, ValueMeaning, all_of, none_say, says_itself, table_of, trees_of, chosen_meaning}
+use Rattle.asn1_components.specs.ChosenTags.{chosen_tag, chosen_is_among}
+
+-- A CHOICE (X.680, 29) by its name, the table and the trees of its alternatives, whether they can be chosen, and what the
+-- chosen one says of each value.
+abbrev pub choice_by : {V : Type 0} → List ℕ → Table Line → (alternatives : Trees) →
+    (CanChoose : Type 0) → (means : V → ValueMeaning) →
+    (CanChoose → (v : V) → Has (tree_tags (choice alternatives)) (first_tag (means v).records)) → Meaning V
+choice_by name table alternatives CanChoose means is_among = choice_type (Some name) unconstrained
+    (record {
+      records = λ v. (means v).records;
+      IsWellTagged = CanChoose;
+      AreOfType = λ v. (means v).IsOfType;
+      AreValid = λ accepts v. (means v).IsValid accepts;
+      well_formed = λ accepts v. (means v).well_formed accepts;
+    })
+    (record { table = table; alternatives = alternatives; among = is_among })
+
+module _ {V : Type 0} (name : List ℕ) (alts : Alternatives) (pick : V → OneOf (all_of alts)) where
+  -- A CHOICE of these alternatives, by what is said of each value, which is what the chosen one says.
+  abbrev pub choice_saying : (means : V → ValueMeaning) →
+      ((v : V) → SaysTheSame (means v) (chosen_meaning (all_of alts) (pick v))) → Meaning V
+  choice_saying means agree = choice_by name (table_of alts) (trees_of (all_of alts))
+      (Each CanBeChosen (all_of alts)) means
+      (λ can v. subst (λ rs. Has (tree_tags (choice (trees_of (all_of alts)))) (first_tag rs)) (sym (agree v).records) (chosen_is_among (all_of alts) can (pick v)))
+
+  -- the same by which of them a value is
+  abbrev pub choice_of : Meaning V
+  choice_of = choice_saying (λ v. chosen_meaning (all_of alts) (pick v)) (λ _. says_itself)
+
+-- What a CHOICE that holds itself is to its own alternatives, where nothing is asked of it. There it has to be under a tag:
+-- without one it may begin with every tag, and so is no alternative.
+abbrev pub inside_itself : {V : Type 0} → List ℕ → Table Line → (V → ValueMeaning) → Meaning V
+inside_itself name table means = choice_by name table none ⊤ means (λ _ _. tt)
+
+-- The table of a CHOICE that holds itself, by its alternatives beside what it is to them: the table rests on nothing that it
+-- says of values.
+abbrev pub table_with_itself : {V : Type 0} → List ℕ → (Meaning V → Alternatives) → Table Line
+table_with_itself name alternatives_with =
+    table_of (alternatives_with (inside_itself name no_table (λ _. none_say)))
+
+-- The alternatives of a CHOICE that holds itself, by what its author says of each value, by recursion on it.
+abbrev pub alternatives_with_itself : {V : Type 0} → List ℕ → (Meaning V → Alternatives) →
+    (V → ValueMeaning) → Alternatives
+alternatives_with_itself name alternatives_with means =
+    alternatives_with (inside_itself name (table_with_itself name alternatives_with) means)
+
+-- And this is what it means to all others.
+abbrev pub choice_holding_itself : {V : Type 0} (name : List ℕ)
+    (alternatives_with : Meaning V → Alternatives) (means : V → ValueMeaning)
+    (pick : V → OneOf (all_of (alternatives_with_itself name alternatives_with means))) →
+    ((v : V) → SaysTheSame (means v)
+    (chosen_meaning (all_of (alternatives_with_itself name alternatives_with means)) (pick v))) → Meaning V
+choice_holding_itself name alternatives_with means pick agree =
+    choice_saying name (alternatives_with_itself name alternatives_with means) pick means agree
+
+-- what the alternative that is the CHOICE itself, under this tag, says of a value, by what the CHOICE says of it
+abbrev pub itself_under : List ℕ → Table Line → Tag → ValueMeaning → ValueMeaning
+itself_under name table t meaning = record meaning {
+  records = choice_records (first_tag meaning.records) table meaning.records unconstrained (Some name) t
+      unconstrained (Some name);
+  well_formed = λ accepts valid. well_formed_choice accepts table meaning.records unconstrained (Some name) t
+      unconstrained (Some name) (meaning.well_formed accepts valid);
+}
+
+-- The law of a CHOICE type: its meaning is that of its alternatives. Its tags are theirs, and each value is there, and is
+-- what was chosen; it is well tagged if and only if they have distinct tags and can be chosen; and what a value has, and
+-- whether it is valid, the chosen alternative says.
+pub record AgreesWithChoice {V : Type 0} (alts : Alternatives) (pick : V → OneOf (all_of alts)) (m : Meaning V) : Type 0 where
+  pub tag : m.tag ≡ CHOICE
+  pub tree : (t : Tag) → m.tree t ≡ choice_tree (choice (trees_of (all_of alts))) t
+  pub records : (v : V) (t : Tag) (c : ConstraintSet) (n : Name) →
+      m.records v t c n ≡ choice_records (chosen_tag (all_of alts) (pick v)) (table_of alts) (chosen_meaning (all_of alts) (pick v)).records m.constraints m.name t c n
+  pub single : m.IsSingleRecord
+  pub present : (v : V) → m.is_present v ≡ true
+  pub distinct_tags : (t : Tag) → m.HasDistinctTags t ↔ (HaveDistinctTags (all_of alts) × Each CanBeChosen (all_of alts))
+  pub of_type : (v : V) → m.IsOfType v ↔ (chosen_meaning (all_of alts) (pick v)).IsOfType
+  pub valid : (accepts : List ℕ → Bool) (v : V) → m.IsValid accepts v ↔ (chosen_meaning (all_of alts) (pick v)).IsValid accepts
+
+-- so for a CHOICE that holds itself
+pub itself_agrees : {V : Type 0} {name : List ℕ} {alts : Alternatives} {pick : V → OneOf (all_of alts)} {means : V → ValueMeaning} →
+    (agree : (v : V) → SaysTheSame (means v) (chosen_meaning (all_of alts) (pick v))) →
+    AgreesWithChoice alts pick (choice_saying name alts pick means agree)
+itself_agrees {name = name} {alts = alts} agree = record {
+  tag = refl;
+  tree = λ _. refl;
+  records = λ v t c n. ap
+      (λ rs. choice_records (first_tag rs) (table_of alts) rs unconstrained (Some name) t c n)
+      (agree v).records;
+  single = tt;
+  present = λ _. refl;
+  distinct_tags = λ _. (λ h. h, λ h. h);
+  of_type = λ v. (agree v).of_type;
+  valid = λ accepts v. (agree v).valid accepts;
+}
+
+-- and for every other
+pub choice_agrees : {V : Type 0} {name : List ℕ} {alts : Alternatives} {pick : V → OneOf (all_of alts)} → AgreesWithChoice alts pick (choice_of name alts pick)
+choice_agrees = itself_agrees (λ _. says_itself)

@@ -1,0 +1,26 @@
+-- The tables of an ENUMERATED type in code, and what the iterators over them have left.
+use Rattle.std.specs.Prelude.{◌++◌, ℕ, ℤ, List, map}
+use Rattle.std.specs.Slice.Iter.{iter_rest}
+use Rattle.asn1_components.specs.Enumerations.{Item, item, values, numbers, names}
+use Rattle.asn1_components.specs.declared.items.EnumerationItem.{EnumerationItem}
+use Rattle.asn1_components.specs.declared.iterators.DiscriminantIter.{DiscriminantIter}
+use Rattle.asn1_components.specs.declared.iterators.ItemIdentifierIter.{ItemIdentifierIter}
+use Rattle.asn1_components.specs.declared.iterators.VariantIter.{VariantIter}
+
+-- the item of a line
+abbrev pub line_item : {V : Type 0} → EnumerationItem V → Item V
+line_item l = item l.value l.number l.name.now
+
+-- the items of a table
+abbrev pub table_items : {V : Type 0} → List (EnumerationItem V) → List (Item V)
+table_items lines = map line_item lines
+
+-- what an iterator has left: over values, over values with their numbers, and over names
+abbrev pub variants_left : {V : Type 0} → VariantIter V → List V
+variants_left it = values (table_items (iter_rest it.left))
+
+abbrev pub discriminants_left : {V : Type 0} → DiscriminantIter V → List (V × ℤ)
+discriminants_left it = numbers (table_items (iter_rest it.left))
+
+abbrev pub identifiers_left : {V : Type 0} → ItemIdentifierIter V → List (List ℕ)
+identifiers_left it = names (table_items (iter_rest it.root) ++ table_items (iter_rest it.additions))

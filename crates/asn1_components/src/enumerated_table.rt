@@ -1,0 +1,134 @@
+//! What a codec may know of an ENUMERATED type.
+ghost use Rattle.std.specs.Prelude.{◌≡◌, ◌++◌, AllPairs, length, position, slice_get};
+ghost use Rattle.std.specs.Option.{option_map};
+ghost use Rattle.std.specs.List.{find};
+ghost use Rattle.std.specs.Ordering.{int_eq};
+ghost use Rattle.std.specs.Str.{bytes_eq};
+ghost use Rattle.asn1_components.specs.Labels.{Labels, LabelsDiffer, added_labels, all_labels, labels_of, numbers_in};
+
+use crate::enumerated::{Enumerated, added_lines};
+use crate::items::{EnumerationItem, line_with_name, line_with_number};
+
+/// The table of an ENUMERATED type without its values: the numbers and the names of its items, in their places. It tells a
+/// codec which numbers there are. Each [`Enumerated`] type has it.
+pub trait EnumeratedTable {
+    // the number and the name of each item of the root, and of each after the extension marker
+    ghost labels: { Labels };
+
+    /// How many items the root has.
+    fn root_count() -> usize
+        ensures { result ≡ length labels.root };
+
+    /// How many items there are after the extension marker; `None` where there is no marker.
+    fn added_count() -> Option<usize>
+        ensures { result ≡ option_map length labels.additions };
+
+    /// The number of the item at that place of the root; `None` where there is none.
+    fn root_number(place: usize) -> Option<isize>
+        ensures { result ≡ slice_get (numbers_in labels.root) place };
+
+    /// The number of the item at that place after the extension marker; `None` where there is none.
+    fn added_number(place: usize) -> Option<isize>
+        ensures { result ≡ slice_get (numbers_in (added_labels labels)) place };
+
+    /// The place in the root of the item of that number; `None` where there is none.
+    fn root_place(number: isize) -> Option<usize>
+        ensures { result ≡ position (λ n. int_eq n number) (numbers_in labels.root) };
+
+    /// The place after the extension marker of the item of that number; `None` where there is none.
+    fn added_place(number: isize) -> Option<usize>
+        ensures { result ≡ position (λ n. int_eq n number) (numbers_in (added_labels labels)) };
+
+    /// The name of the item of that number; `None` where there is none.
+    fn name_of_number(number: isize) -> Option<&'static str>
+        ensures { option_map (λ name. name.now) result ≡
+            option_map (λ l. l.name) (find (λ l. int_eq l.number number) (all_labels labels)) };
+
+    /// The number of the item of that name; `None` where there is none.
+    fn number_of_name(name: &str) -> Option<isize>
+        ensures { result ≡
+            option_map (λ l. l.number) (find (λ l. bytes_eq l.name name.now) (all_labels labels)) };
+
+    // no number and no name is in two items
+    ghost distinct: { AllPairs LabelsDiffer (all_labels labels) };
+}
+
+impl<E: Enumerated> EnumeratedTable for E {
+    ghost use Rattle.asn1_components.specs.LabelLaws.{labels_differ};
+
+    ghost labels = { labels_of E.enumeration };
+
+    ghost distinct = { labels_differ E.eq E.enumeration E.lawful };
+
+    fn root_count() -> usize {
+        E::variance()
+    }
+
+    fn added_count() -> Option<usize> {
+        Some(E::added_items()?.len())
+    }
+
+    fn root_number(place: usize) -> Option<isize> {
+        number_at(E::items(), place)
+    }
+
+    fn added_number(place: usize) -> Option<isize> {
+        number_at(added_lines::<E>(), place)
+    }
+
+    fn root_place(number: isize) -> Option<usize> {
+        place_of(number, E::items())
+    }
+
+    fn added_place(number: isize) -> Option<usize> {
+        place_of(number, added_lines::<E>())
+    }
+
+    fn name_of_number(number: isize) -> Option<&'static str> {
+        name_of(number, E::items(), added_lines::<E>())
+    }
+
+    fn number_of_name(name: &str) -> Option<isize> {
+        number_of(name, E::items(), added_lines::<E>())
+    }
+}
+
+// The number at a place of a table; `None` where there is none.
+fn number_at<T>(table: &[EnumerationItem<T>], place: usize) -> Option<isize>
+    ensures { result ≡ option_map (λ l. l.number) (slice_get table.now place) }
+{
+    table.get(place).map(|line| line.number)
+}
+
+// The first place of the number in a table.
+fn place_of<T>(number: isize, table: &[EnumerationItem<T>]) -> Option<usize>
+    ensures { result ≡ position (λ l. int_eq l.number number) table.now }
+{
+    table.iter().position(|line| line.number == number)
+}
+
+// The name of the first line of that number in two tables.
+fn name_of<T>(
+    number: isize,
+    root: &[EnumerationItem<T>],
+    additions: &[EnumerationItem<T>],
+) -> Option<&'static str>
+    ensures { option_map (λ name. name.now) result ≡
+        option_map (λ l. l.name.now)
+        (find (λ l. int_eq l.number number) (root.now ++ additions.now)) }
+{
+    Some(line_with_number(number, root, additions)?.name)
+}
+
+// The number of the first line of that name in two tables.
+fn number_of<T>(
+    name: &str,
+    root: &[EnumerationItem<T>],
+    additions: &[EnumerationItem<T>],
+) -> Option<isize>
+    ensures { result ≡
+        option_map (λ l. l.number) (find (λ l. bytes_eq l.name.now name.now)
+        (root.now ++ additions.now)) }
+{
+    Some(line_with_name(name, root, additions)?.number)
+}

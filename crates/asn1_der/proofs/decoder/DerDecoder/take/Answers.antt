@@ -1,0 +1,15 @@
+use Rattle.std.proofs.Common.{refl, ◌∙◌, arith}
+use Rattle.asn1_der_items.proofs.Behind.{element_at-shorter}
+use Rattle.asn1_der.proofs.Taking.{is_found, was_taken}
+use Rattle.asn1_der.proofs.decoder.DerDecoder.take.Goals as goal
+
+pub returns-in-Ok-clause-took : goal.returns-in-Ok-clause-took
+returns-in-Ok-clause-took c = λ own back e no_failure alone is.
+    was_taken _ e _ own back c.left-left.result.now _ alone (c.left-left.ensures.inside ∙ is) c.in-Ok.ensures.only refl refl refl refl c.advance_to.ensures.inside
+
+pub returns-in-Err-clause-took : goal.returns-in-Err-clause-took
+returns-in-Err-clause-took c = λ own back e no_failure alone is.
+    absurd (is_found e own back c.left-left.result.now alone (c.left-left.ensures.inside ∙ is) (λ e at. let wrong = c.in-Err.ensures.found e at in cc))
+
+pub slice_bounds-result-count : goal.slice_bounds-result-count
+slice_bounds-result-count c = omega (arith, element_at-shorter c.left-left.result.now _ c.in-Ok.ensures.only)

@@ -1,0 +1,5 @@
+use Rattle.asn1_der.proofs.Remaining.{not_at_end}
+use Rattle.asn1_der.proofs.decoder_laws.a_record_is_not_the_end.Goals as goal
+
+pub returns : goal.returns
+returns c = λ r rest no_mark. not_at_end c.args.decoder.now r rest no_mark

@@ -1,0 +1,400 @@
+//! The decoder that reads from the bytes of DER.
+ghost use Rattle.std.specs.Prelude.{◌≡◌, Decides, IfSome};
+
+use crate::from_contents::FromContents;
+use crate::taken::Taken;
+use crate::unread::bytes_left;
+use asn1_bounds::{Codec, Constraints};
+use asn1_components::{Choice, EnumeratedTable, FieldTable};
+use asn1_dec::{DecodeError, Decoder};
+use asn1_der_items::{ScopeForm, find_element};
+use asn1_items::{BAD_ITEM, Opened, Scopes, StringOf, group_can_begin_with};
+use asn1_model::can_begin_with;
+use asn1_tags::{Tag, TagTree};
+use asn1_types::{Any, CodecString};
+use asn1_values::{Integer, IntegerType, ObjectIdentifier};
+use std::alloc::Global;
+
+/// A decoder that reads from the bytes of DER. It borrows them, and copies none but those of the values that it answers.
+///
+/// A component that may be absent is there if and only if an element follows in the scope whose tag is one of its own. A CHOICE
+/// has no element of its own: to open one is to go inside the element of its alternative, as a list of one element.
+///
+/// Where bytes are missing outside all scopes the error is [`DecodeError::Incomplete`], with the number of bytes that are missing
+/// of the part that is read; where the bytes are not those that are asked for it is [`DecodeError::Custom`], with the text
+/// `bad item`. So it is where DER has another spelling: of a length, of a number, and of the order in a SET or a SET OF.
+#[derive(Drop)]
+pub struct DerDecoder<'a> {
+    alloc: Global,
+    scopes: Scopes<'a>,
+}
+
+impl<'a> DerDecoder<'a> {
+    ghost use Rattle.asn1_laws.specs.DecodeErrors.{custom, reason};
+    ghost use Rattle.asn1_laws.specs.Reading.{OpensNothing, TakesDepth, TellsPresence};
+    ghost use Rattle.asn1_laws.specs.ReadingTypes.{ReadsContent};
+    ghost use Rattle.asn1_laws.specs.declared.decode_error.DecodeError.TheVariants.{Failed};
+    ghost use Rattle.asn1_der_items.specs.Bytes.{HaveDer};
+    ghost use Rattle.asn1_der_items.specs.Series.{IsAlone};
+    ghost use Rattle.asn1_der_items.specs.declared.form.ScopeForm.TheVariants.{AsDefined};
+    ghost use Rattle.asn1_der.specs.Decoder.{AreInForm, AreLeft, IsTaken, IsWanted, Remains, der_reader, in_one_order};
+    ghost use Rattle.asn1_der.specs.Unread.{unread};
+    ghost use Rattle.asn1_items.specs.Remaining.{IsWithinBound, OpensWanted, ReadsWantedHead, ReadsWantedSet};
+    ghost use Rattle.asn1_der_items.specs.Contents.{HasOctetsOf};
+    ghost use Rattle.asn1_der_items.specs.Elements.{Element};
+    ghost use Rattle.asn1_items.specs.NextTags.{IsNext};
+    ghost use Rattle.asn1_items.specs.Slices.{left_inside, left_outside};
+    ghost use Rattle.asn1_model.specs.ConstraintSets.{ConstraintSet};
+    ghost use Rattle.asn1_model.specs.Orders.{SameRecords};
+    ghost use Rattle.asn1_model.specs.Records as model;
+    ghost use Rattle.asn1_model.specs.Records.{PresenceMark, held};
+    ghost use Rattle.asn1_model.specs.Tags.{tree_tags};
+    ghost use Rattle.asn1_tags.specs.Trees.{shape};
+    ghost use Rattle.std.specs.Prelude.{◌≡◌, ◌≢◌, ◌↔◌, ◌++◌, ◌<◌, ◌^◌, [], ⊤, Err, IfErr, IsOk, List, MatchResult, OnOk, Some, codes, false, ℕ, true};
+
+    /// A decoder that is before these bytes, and may open this many nested scopes.
+    pub fn new(alloc: Global, bytes: &'a [u8], depth: usize) -> DerDecoder<'a>
+        ensures before { (exactly rs : List model.Record) → HaveDer (held exactly) bytes.now →
+            SameRecords exactly rs → Remains result (rs, []) }
+        ensures depth_left { der_reader.depth_left result ≡ depth }
+        ensures no_failure { der_reader.failed result ≡ false }
+    {
+        DerDecoder {
+            alloc,
+            scopes: Scopes::new(alloc, bytes, depth),
+        }
+    }
+
+    /// Ends the reading, which succeeds if and only if all has been read: no call has failed, no scope is open, and no byte is
+    /// left.
+    ///
+    /// # Errors
+    /// [`DecodeError::Failed`] where a call has failed before, and else [`DecodeError::Custom`], with the text `bad item`.
+    pub fn finish(self) -> Result<(), DecodeError>
+        ensures all_read { IsOk result ↔ Remains self.entry ([], []) }
+        ensures failed { result ≡ Err Failed ↔ (der_reader.failed self.entry ≡ true) }
+        ensures bad_item { IfErr result (λ e. e ≢ Failed → reason e ≡ custom (codes "bad item")) }
+    {
+        self.scopes.finish()
+    }
+
+    /// How many bytes have not been read, in all scopes that are open. Where a call has failed, the bytes before these are those that
+    /// were read until then, with the element that was refused.
+    pub fn unread(self) -> usize
+        ensures { unread self.entry < 2 ^ 64 → result ≡ unread self.entry }
+    {
+        let mut scopes = self.scopes;
+        bytes_left(&mut scopes.slices)
+    }
+
+    /// Takes the next element.
+    #[inline(always)]
+    fn take(&mut self) -> Result<Taken<'a>, DecodeError>
+        ensures took { (own back : List ℕ) (e : Element) → self.old.scopes.failed ≡ false →
+            IsAlone e own → left_inside self.old.scopes.slices ≡ own ++ back →
+            MatchResult result (λ taken. IsTaken taken e own back self.new.scopes.slices) (λ _. ⊥) }
+        ensures outside { OnOk result
+            (left_outside self.new.scopes.slices ≡ left_outside self.old.scopes.slices) }
+        ensures opens_nothing { OpensNothing der_reader self.old self.new result }
+    {
+        let scopes = &mut self.scopes;
+        if scopes.failed {
+            return Err(DecodeError::Failed);
+        }
+        let left = scopes.slices.left();
+        match find_element(left) {
+            Ok(element) => {
+                scopes.slices.advance_to(element.rest);
+                Ok(Taken {
+                    tag: element.tag,
+                    constructed: element.constructed,
+                    contents: element.contents,
+                    bytes: &left[..left.len() - element.rest.len()],
+                })
+            }
+            Err(error) => Err(scopes.fault(error)),
+        }
+    }
+
+    /// The tag of the next element, which stays where it is, if one is left.
+    #[inline(always)]
+    fn next_tag(&mut self) -> Result<Option<Tag>, DecodeError>
+        ensures told { (rs : List model.Record) → self.old.scopes.failed ≡ false →
+            AreLeft rs self.old.scopes.slices → MatchResult result (IsNext rs) (λ _. ⊥) }
+        ensures same_bytes { OnOk result (self.new.scopes.slices ≡ self.old.scopes.slices) }
+        ensures opens_nothing { OpensNothing der_reader self.old self.new result }
+    {
+        if self.scopes.failed {
+            return Err(DecodeError::Failed);
+        }
+        if self.scopes.slices.is_at_end() {
+            return Ok(None);
+        }
+        match find_element(self.scopes.slices.left()) {
+            Ok(element) => Ok(Some(element.tag)),
+            Err(error) => Err(self.scopes.fault(error)),
+        }
+    }
+
+    /// A content under a tag.
+    fn scalar<V: FromContents>(&mut self, tag: Tag) -> Result<V, DecodeError>
+        ensures read { (content : V.Value → model.Content) →
+            ((x : V.Value) → HasOctetsOf (content x) (V.content x)) → (c : ConstraintSet) →
+            ReadsContent der_reader tag c content V.IsOfType V.Is self.old self.new result }
+        ensures opens_nothing { OpensNothing der_reader self.old self.new result }
+    {
+        let element = self.take()?;
+        let Some(octets) = element.contents_under(tag) else {
+            return Err(self.scopes.fail(BAD_ITEM));
+        };
+        match V::from_contents(self.alloc, octets) {
+            Ok(value) => Ok(value),
+            Err(error) => Err(self.scopes.fault(error)),
+        }
+    }
+
+    /// Whether the component is there that begins with a tag of the tree.
+    #[inline(always)]
+    fn tell_presence(&mut self, tree: TagTree<'static>) -> Result<bool, DecodeError>
+        ensures read { (there away : PresenceMark) → TellsPresence der_reader
+            self.old self.new there away (tree_tags (shape tree.entry)) result }
+        ensures opens_nothing { OpensNothing der_reader self.old self.new result }
+    {
+        match self.next_tag()? {
+            Some(tag) => Ok(can_begin_with(tree, tag)),
+            None => Ok(false),
+        }
+    }
+
+    /// Opens a scope of this form, under this tag, where one is asked for.
+    fn open(&mut self, form: ScopeForm, tag: Option<Tag>) -> Result<Opened, DecodeError>
+        ensures read { OpensWanted in_one_order (IsWanted form tag) self.old self.new result }
+        ensures in_form { OnOk result (AreInForm form (left_inside self.new.scopes.slices)) }
+        ensures takes_depth { TakesDepth der_reader self.old self.new result }
+    {
+        if self.scopes.failed {
+            return Err(DecodeError::Failed);
+        }
+        if self.scopes.depth_left == 0 {
+            return Err(self.scopes.fail(DecodeError::Depth));
+        }
+        let element = self.take()?;
+        if !is_under(element.tag, tag) {
+            return Err(self.scopes.fail(BAD_ITEM));
+        }
+        let Some(inside) = element.inside(form) else {
+            return Err(self.scopes.fail(BAD_ITEM));
+        };
+        self.scopes.open(element.tag, inside)
+    }
+
+    /// Opens a scope in which the order of the records means something.
+    fn open_in_order(&mut self, tag: Tag) -> Result<(), DecodeError>
+        ensures read { ReadsWantedHead der_reader (IsWanted AsDefined (Some tag)) (λ _ _. ⊤)
+            self.old self.new result }
+        ensures takes_depth { TakesDepth der_reader self.old self.new result }
+    {
+        self.open(ScopeForm::AsDefined, Some(tag))?;
+        Ok(())
+    }
+
+    /// Opens a list of elements or the components of a set, and answers how many bytes are in it.
+    fn open_list(&mut self, form: ScopeForm, tag: Tag) -> Result<usize, DecodeError>
+        ensures read { ReadsWantedHead der_reader (IsWanted form (Some tag)) IsWithinBound
+            self.old self.new result }
+        ensures read_set { ReadsWantedSet der_reader (IsWanted form (Some tag)) IsWithinBound
+            self.old self.new result }
+        ensures in_form { OnOk result (AreInForm form (left_inside self.new.scopes.slices)) }
+        ensures takes_depth { TakesDepth der_reader self.old self.new result }
+    {
+        let opened = self.open(form, Some(tag))?;
+        Ok(opened.bound)
+    }
+}
+
+/// Whether a tag is the one that is asked for, if one is.
+fn is_under(own: Tag, asked: Option<Tag>) -> bool
+    ensures { Decides result (IfSome asked (λ t. own ≡ t)) }
+{
+    match asked {
+        Some(tag) => own == tag,
+        None => true,
+    }
+}
+
+impl<'a> Decoder for DerDecoder<'a> {
+    ghost use Rattle.asn1_bounds.specs.declared.codec.Codec.TheVariants.{Der};
+    ghost use Rattle.asn1_laws.proofs.ReadingUpToOrder.{lawful};
+    ghost use Rattle.asn1_laws.specs.Reading.{ReadsHeadOfSet, TakesDepth, records_in};
+    ghost use Rattle.asn1_components.specs.Components.{lines};
+    ghost use Rattle.asn1_der.specs.Decoder.{der_reader, in_one_order};
+    ghost use Rattle.asn1_der_items.specs.Series.{AreElements, RiseByEncoding, RiseByTag};
+    ghost use Rattle.asn1_items.specs.Slices.{left_inside};
+    ghost use Rattle.asn1_model.specs.ConstraintSets.{constraint_set};
+    ghost use Rattle.asn1_model.specs.Records.{set, set_of};
+    ghost use Rattle.std.specs.Prelude.{◌≡◌, ◌≤◌, OnOk, true};
+
+    ghost reader = { der_reader };
+
+    fn codec(&self) -> Codec
+        ensures { result ≡ Der }
+    {
+        Codec::Der
+    }
+
+    fn depth(&self) -> usize {
+        self.scopes.depth_left
+    }
+
+    fn global(&self) -> Global {
+        self.alloc
+    }
+
+    fn refuse(&mut self, error: DecodeError) -> DecodeError
+        ensures same { result ≡ error }
+        ensures has_failed { self.new.scopes.failed ≡ true }
+        ensures same_depth { self.new.scopes.depth_left ≡ self.old.scopes.depth_left }
+    {
+        self.scopes.fail(error)
+    }
+
+    fn decode_bool(&mut self, tag: Tag) -> Result<bool, DecodeError> {
+        self.scalar(tag)
+    }
+
+    fn decode_null(&mut self, tag: Tag) -> Result<(), DecodeError> {
+        self.scalar(tag)
+    }
+
+    fn decode_enumerated_number<E: EnumeratedTable>(
+        &mut self,
+        tag: Tag,
+    ) -> Result<isize, DecodeError> {
+        let number = self.scalar(tag)?;
+        match E::name_of_number(number) {
+            Some(_) => Ok(number),
+            None => Err(self.scopes.fail(BAD_ITEM)),
+        }
+    }
+
+    fn decode_object_identifier(&mut self, tag: Tag) -> Result<ObjectIdentifier, DecodeError> {
+        self.scalar(tag)
+    }
+
+    fn decode_integer<I: IntegerType>(
+        &mut self,
+        tag: Tag,
+        _constraints: &Constraints<'_>,
+    ) -> Result<I, DecodeError> {
+        let number: Integer = self.scalar(tag)?;
+        match I::try_from_integer(number) {
+            Some(value) => Ok(value),
+            None => Err(self.scopes.fail(BAD_ITEM)),
+        }
+    }
+
+    fn decode_string<U, K: CodecString<U>>(
+        &mut self,
+        tag: Tag,
+        _constraints: &Constraints<'_>,
+    ) -> Result<K::Owned, DecodeError> {
+        let StringOf { string } = self.scalar::<StringOf<U, K>>(tag)?;
+        Ok(string)
+    }
+
+    fn decode_any(&mut self, _tag: Tag) -> Result<Any, DecodeError> {
+        let element = self.take()?;
+        match Vec::from_slice(self.alloc, element.bytes) {
+            Ok(bytes) => Ok(Any::new(bytes)),
+            Err(_) => Err(self.scopes.fail(DecodeError::Memory)),
+        }
+    }
+
+    #[inline(always)]
+    fn presence(&mut self, _tag: Tag, tree: TagTree<'static>) -> Result<bool, DecodeError> {
+        self.tell_presence(tree)
+    }
+
+    fn addition_presence(
+        &mut self,
+        _tag: Tag,
+        tree: TagTree<'static>,
+    ) -> Result<bool, DecodeError> {
+        self.tell_presence(tree)
+    }
+
+    fn open_group<C: FieldTable>(&mut self) -> Result<bool, DecodeError> {
+        match self.next_tag()? {
+            Some(tag) => Ok(group_can_begin_with::<C>(tag)),
+            None => Ok(false),
+        }
+    }
+
+    fn close_group(&mut self) -> Result<(), DecodeError> {
+        if self.scopes.failed {
+            return Err(DecodeError::Failed);
+        }
+        Ok(())
+    }
+
+    fn open_sequence<C: FieldTable>(&mut self, tag: Tag) -> Result<(), DecodeError> {
+        self.open_in_order(tag)
+    }
+
+    // The elements of a SET that was opened are in the order of their tags.
+    fn open_set<C: FieldTable>(&mut self, tag: Tag) -> Result<usize, DecodeError>
+        ensures read { ReadsHeadOfSet der_reader self.old self.new
+            (set tag (lines C.components)) (λ items bound. records_in items ≤ bound) result }
+        ensures takes_depth { TakesDepth der_reader self.old self.new result }
+        ensures in_order { OnOk result
+            (AreElements RiseByTag (left_inside self.new.scopes.slices)) }
+    {
+        self.open_list(ScopeForm::ByTag, tag)
+    }
+
+    fn next_component<C: FieldTable>(&mut self) -> Result<Option<Tag>, DecodeError> {
+        self.next_tag()
+    }
+
+    fn open_sequence_of(
+        &mut self,
+        tag: Tag,
+        _constraints: &Constraints<'_>,
+    ) -> Result<usize, DecodeError> {
+        self.open_list(ScopeForm::AsDefined, tag)
+    }
+
+    // The elements of a SET OF that was opened are in the order of their encodings.
+    fn open_set_of(&mut self, tag: Tag, constraints: &Constraints<'_>) -> Result<usize, DecodeError>
+        ensures read { ReadsHeadOfSet der_reader self.old self.new
+            (set_of tag (constraint_set constraints.now)) (λ items bound. records_in items ≤ bound)
+            result }
+        ensures takes_depth { TakesDepth der_reader self.old self.new result }
+        ensures in_order { OnOk result
+            (AreElements RiseByEncoding (left_inside self.new.scopes.slices)) }
+    {
+        self.open_list(ScopeForm::ByEncoding, tag)
+    }
+
+    fn open_explicit_prefix(&mut self, tag: Tag) -> Result<(), DecodeError> {
+        self.open_in_order(tag)
+    }
+
+    fn open_choice<T: Choice>(
+        &mut self,
+        _constraints: &Constraints<'_>,
+    ) -> Result<Tag, DecodeError> {
+        let opened = self.open(ScopeForm::Chosen, None)?;
+        Ok(opened.tag)
+    }
+
+    fn more(&mut self) -> Result<bool, DecodeError> {
+        self.scopes.more()
+    }
+
+    fn close(&mut self) -> Result<(), DecodeError> {
+        self.scopes.close()
+    }
+
+    ghost lawful = { lawful in_one_order };
+}

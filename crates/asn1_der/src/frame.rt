@@ -1,0 +1,14 @@
+//! The scopes that are open.
+use asn1_der_items::ScopeForm;
+use asn1_tags::Tag;
+
+/// A scope that is open.
+#[derive(Clone, Copy, Drop)]
+pub(crate) struct Frame {
+    /// Where the bytes inside begin.
+    pub(crate) start: usize,
+    /// Its tag; of a CHOICE that of the alternative.
+    pub(crate) tag: Tag,
+    /// In which form its bytes hold what is inside.
+    pub(crate) form: ScopeForm,
+}

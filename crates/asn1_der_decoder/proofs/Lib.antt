@@ -1,5 +1,0 @@
-mod InOrder
-mod Inside
-mod Taking
-mod Telling
-pub mod Remaining

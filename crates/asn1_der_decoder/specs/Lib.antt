@@ -1,3 +1,0 @@
-pub mod Decoder
-pub mod Rising
-pub mod Unread

@@ -1,5 +1,0 @@
-mod Arranging
-mod Cuts
-mod Ordering
-mod Pieces
-mod Written

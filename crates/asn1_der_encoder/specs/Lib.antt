@@ -1,4 +1,0 @@
-pub mod Format
-pub mod Holding
-pub mod Sorting
-pub mod Written

@@ -1,0 +1,5 @@
+use Rattle.asn1_der_items.proofs.Places.{not_elements}
+use Rattle.asn1_der_items.proofs.fault_laws.bytes_with_a_fault_are_no_elements.Goals as goal
+
+pub returns : goal.returns
+returns c = not_elements

@@ -1,5 +1,0 @@
-use Rattle.asn1_der_records.proofs.Marks.{with_mark, without_mark}
-use Rattle.asn1_der_records.proofs.laws.presence_marks_have_no_bytes.Goals as goal
-
-pub returns : goal.returns
-returns c = λ m rs bytes. (without_mark m rs bytes, with_mark m rs bytes)

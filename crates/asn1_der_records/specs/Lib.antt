@@ -1,4 +1,0 @@
-pub mod Bytes
-pub mod DistinctTags
-pub mod Existence
-pub mod RecordElements

@@ -1,7 +1,0 @@
-use Rattle.std.proofs.Common.{ap, map, ◌∙◌}
-use Rattle.asn1_enumerations.specs.Labels.{label_of}
-use Rattle.asn1_enumerations.proofs.LabelledLines.{number_at_place}
-use Rattle.asn1_enumerations.proofs.enumerated_table.AnyEnumeratedTable.root_number.Goals as goal
-
-pub returns : goal.returns
-returns g c = c.number_at.ensures ∙ number_at_place c.items.result.now _ (ap (map label_of) c.items.ensures) c.args.place

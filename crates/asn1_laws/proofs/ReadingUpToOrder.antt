@@ -1,0 +1,195 @@
+-- A decoder up to order: its law, and each of its calls by the exact one.
+use Rattle.std.specs.Prelude.{◌≡◌, ℕ, ◌≤◌, ⊤, Bool, true, false, List, [], ◌∷◌, IsPermutation, MatchResult, Option, Result, Ok, Err}
+use Rattle.std.proofs.Common.{ap, subst, sym, ◌∙◌, refl, arith}
+use Rattle.std.proofs.lemmas.List.Sorted.{IsPermutation-refl}
+use Rattle.asn1_components.specs.ComponentTypes.{ComponentType}
+use Rattle.asn1_laws.specs.ReadingTypes.{ReadsContent, ReadsOpenType}
+use Rattle.asn1_laws.specs.ReadingUpToOrder.{RemainsUpToOrder, up_to_order}
+use Rattle.asn1_laws.specs.Reading.{Remaining, Outside, Reader, SameRemaining, SameOutside, nothing, scope_and, records_in, IsLawful, HasAdvanced, Advances, MayFail, ReadsMark, ReadsEnd, TellsPresence, TellsMore, TellsNextTag, IsNextTag, ReadsHead, ReadsHeadOfSet, SetIsOpen, marks_passed}
+use Rattle.asn1_laws.specs.declared.decode_error.DecodeError.{DecodeError}
+use Rattle.asn1_laws.proofs.Remaining.{SameRemaining-refl, SameRemaining-trans, same_as_record, same_as_scope, same_as_end}
+use Rattle.asn1_laws.proofs.MarksPassed.{same-marks_passed, same-next_tag}
+use Rattle.asn1_laws.proofs.RecordsIn.{records_in-permutation, same-records_in}
+use Rattle.asn1_model.specs.ConstraintSets.{ConstraintSet}
+use Rattle.asn1_model.specs.Orders.{Same, SameRecords, is_unordered}
+use Rattle.asn1_model.specs.Records.{Name, Record, Head, PresenceMark, Content, scalar, open_type, presence_mark, holding, highest}
+use Rattle.asn1_model.specs.Tags.{Tags, BeginsWithin, LiesIn, ShareNone}
+use Rattle.asn1_model.proofs.SameRecords.{same-mark}
+use Rattle.asn1_model.proofs.SameUpToOrder.{same-first_tags, same-marks_alone, same_as_cons, same_as_holding, same_as_mark, same_as_none, same_as_raw, same_as_scalar}
+use Rattle.asn1_tags.specs.declared.tags.Tag.{Tag}
+
+-- What is said of some records and an answer holds of the same records in another order too.
+abbrev pub HoldsInAnyOrder : {V : Type 0} → (List Record → V → Type 0) → Type 0
+HoldsInAnyOrder {V = V} Is =
+    (rs qs ss : List Record) (w : V) → SameRecords rs qs → IsPermutation qs ss → Is rs w → Is ss w
+
+-- so does what is said of the answer alone
+pub answer_in_any_order : {V : Type 0} (Is : V → Type 0) → HoldsInAnyOrder (λ _ w. Is w)
+answer_in_any_order Is rs qs ss w same moved h = h
+
+-- and a bound on their number
+pub bound_in_any_order : HoldsInAnyOrder {V = ℕ} (λ items bound. records_in items ≤ bound)
+bound_in_any_order rs qs ss bound same moved h = omega (arith, h, same-records_in rs qs same, records_in-permutation qs ss moved)
+
+-- what a list begins with, where the records are the same
+begins_the_same : (own : Tags) (rs ss : List Record) → SameRecords rs ss → BeginsWithin own ss → BeginsWithin own rs
+begins_the_same own rs ss same begins = record {
+  some = same-marks_alone rs ss same ∙ begins.some;
+  within = subst (λ ts. LiesIn ts own) (sym (same-first_tags rs ss same)) begins.within;
+}
+
+-- nothing is outside where nothing is
+none_outside : {outer : Outside} → SameOutside outer [] → outer ≡ []
+none_outside nothing = refl
+
+-- What is next where a record that holds others is next up to order.
+record HoldingIsNext (a : Remaining) (h : Head) (items rest : List Record) (outer : Outside) : Type 0 where
+  pub inner : List Record
+  pub order : List Record
+  pub others : List Record
+  pub outside : Outside
+  pub is : a ≡ (holding h inner ∷ others, outside)
+  pub same : SameRecords inner order
+  pub rearranged : IsPermutation order items
+  pub in_place : is_unordered h ≡ false → order ≡ items
+  pub same_rest : SameRecords others rest
+  pub same_outer : SameOutside outside outer
+
+same_as_opened : (a : Remaining) (h : Head) (items rest : List Record) (outer : Outside) → SameRemaining a (holding h items ∷ rest, outer) → HoldingIsNext a h items rest outer
+same_as_opened a h items rest outer same =
+    let b = same_as_record same in
+    let s = same_as_holding b.first h items b.same in
+    record {
+      inner = s.inner;
+      order = s.order;
+      others = b.rest;
+      outside = b.others;
+      is = b.is ∙ ap (λ q. (q ∷ b.rest, b.others)) s.is;
+      same = s.same;
+      rearranged = s.moved;
+      in_place = s.unmoved;
+      same_rest = b.same_rest;
+      same_outer = b.same_outer;
+    }
+
+module _ {D : Type 0} (R : Reader D) where
+  -- what holds exactly holds up to order
+  pub remains_exactly : (d : D) (left : Remaining) → R.remains d left → RemainsUpToOrder R d left
+  remains_exactly d left at = record { exactly = left; remains = at; same = SameRemaining-refl left }
+
+  -- the decoder is exactly at the end of all where it is so up to order
+  pub at_the_end : (d : D) → RemainsUpToOrder R d ([], []) → R.remains d ([], [])
+  at_the_end d at =
+      let a = same_as_end at.same in
+      subst (λ l. R.remains d l) (a.is ∙ ap (λ o. ([], o)) (none_outside a.same)) at.remains
+
+  -- the law
+  pub lawful : IsLawful (up_to_order R)
+  lawful = record {
+    in_any_order = λ d before other same at. record { exactly = at.exactly; remains = at.remains; same = SameRemaining-trans at.same same };
+  }
+
+  -- What a call did exactly, it did up to order.
+  carried_over : {V : Type 0} (old new : D) (height : ℕ) (exactly after : Remaining) (Is As : V → Type 0) (result : Result V DecodeError) →
+      SameRemaining exactly after → ((w : V) → Is w → As w) → MatchResult result (λ w. HasAdvanced R old new height exactly (Is w)) (MayFail (R.depth_left old) height) →
+      MatchResult result (λ w. HasAdvanced (up_to_order R) old new height after (As w)) (MayFail (R.depth_left old) height)
+  carried_over old new height exactly after Is As (Ok w) same holds m = record {
+    answer = holds w m.answer;
+    at = record { exactly = exactly; remains = m.at; same = same };
+    within_depth_left = m.within_depth_left;
+  }
+  carried_over old new height exactly after Is As (Err e) same holds m = m
+
+  -- A call that goes past a record which is the same as no other: one that holds no others.
+  past_record : {V : Type 0} (old new : D) (r : Record) (rest : List Record) (outer : Outside) (height : ℕ) (Is : V → Type 0) (result : Result V DecodeError) →
+      ((q : Record) → Same q r → q ≡ r) →
+      ((others : List Record) (outside : Outside) → SameRecords others rest → Advances R old new height (r ∷ others, outside) (others, outside) Is result) →
+      Advances (up_to_order R) old new height (r ∷ rest, outer) (rest, outer) Is result
+  past_record old new r rest outer height Is result alone exact at =
+      let a = same_as_record at.same in
+      let is : at.exactly ≡ (r ∷ a.rest, a.others) = a.is ∙ ap (λ q. (q ∷ a.rest, a.others)) (alone a.first a.same) in
+      carried_over old new height (a.rest, a.others) (rest, outer) Is Is result (record { here = a.same_rest; outside = a.same_outer }) (λ w h. h)
+      (exact a.rest a.others a.same_rest (subst (λ l. R.remains old l) is at.remains))
+
+  -- each word of a decoder's own calls
+  pub reads_content : {X V : Type 0} (old new : D) (t : Tag) (c : ConstraintSet) (content : X → Content) (IsOfType : X → Type 0) (Is : V → X → Type 0) (result : Result V DecodeError) →
+      ReadsContent R t c content IsOfType Is old new result → ReadsContent (up_to_order R) t c content IsOfType Is old new result
+  reads_content old new t c content IsOfType Is result reads x n rest outer of_type =
+      past_record old new (scalar t c n (content x)) rest outer (highest (scalar t c n (content x) ∷ [])) (λ w. Is w x) result (λ q same. same_as_scalar same)
+      (λ others outside same. reads x n others outside of_type)
+
+  pub reads_open_type : {V : Type 0} (old new : D) (Is : V → List ℕ → Type 0) (result : Result V DecodeError) →
+      ReadsOpenType R Is old new result → ReadsOpenType (up_to_order R) Is old new result
+  reads_open_type old new Is result reads bytes n rest outer accepts =
+      past_record old new (open_type n bytes) rest outer (highest (open_type n bytes ∷ [])) (λ w. Is w bytes) result (λ q same. same_as_raw same)
+      (λ others outside same. reads bytes n others outside accepts)
+
+  pub reads_mark : {V : Type 0} (old new : D) (m : PresenceMark) (result : Result V DecodeError) → ReadsMark R old new m result → ReadsMark (up_to_order R) old new m result
+  reads_mark old new m result reads rest outer =
+      past_record old new (presence_mark m) rest outer 0 (λ _. ⊤) result (λ q same. same_as_mark same) (λ others outside same. reads others outside)
+
+  pub tells_presence : (old new : D) (there away : PresenceMark) (own : Tags) (result : Result Bool DecodeError) →
+      TellsPresence R old new there away own result → TellsPresence (up_to_order R) old new there away own result
+  tells_presence old new there away own result tells = record {
+    there = λ rest outer begins.
+        past_record old new (presence_mark there) rest outer 0 (λ b. b ≡ true) result (λ q same. same_as_mark same)
+        (λ others outside same. tells.there others outside (begins_the_same own others rest same begins));
+    away = λ rest outer apart.
+        past_record old new (presence_mark away) rest outer 0 (λ b. b ≡ false) result (λ q same. same_as_mark same)
+        (λ others outside same. tells.away others outside (subst (λ ts. ShareNone own ts) (sym (same-first_tags others rest same)) apart));
+  }
+
+  pub tells_more : (old new : D) (result : Result Bool DecodeError) → TellsMore R old new result → TellsMore (up_to_order R) old new result
+  tells_more old new result tells = record {
+    some = λ r items (h, rest) outer no_mark at.
+        let a = same_as_scope at.same in
+        let b = same_as_cons a.inner r items a.same in
+        let is : at.exactly ≡ (b.first ∷ b.others, (h, a.around) ∷ a.others) = a.is ∙ ap (λ l. (l, (h, a.around) ∷ a.others)) b.is in
+        carried_over old new 0 (b.first ∷ b.others, (h, a.around) ∷ a.others) (r ∷ items, (h, rest) ∷ outer) (λ b. b ≡ true) (λ b. b ≡ true) result
+        (subst (λ l. SameRemaining l (r ∷ items, (h, rest) ∷ outer)) is at.same) (λ w h. h)
+        (tells.some b.first b.others (h, a.around) a.others (same-mark b.same_first ∙ no_mark) (subst (λ l. R.remains old l) is at.remains));
+    none = λ (h, rest) outer at.
+        let a = same_as_scope at.same in
+        let is : at.exactly ≡ ([], (h, a.around) ∷ a.others) = a.is ∙ ap (λ l. (l, (h, a.around) ∷ a.others)) (same_as_none a.inner a.same) in
+        carried_over old new 0 ([], (h, a.around) ∷ a.others) ([], (h, rest) ∷ outer) (λ b. b ≡ false) (λ b. b ≡ false) result
+        (subst (λ l. SameRemaining l ([], (h, rest) ∷ outer)) is at.same) (λ w h. h)
+        (tells.none (h, a.around) a.others (subst (λ l. R.remains old l) is at.remains));
+  }
+
+  pub tells_next_tag : {V : Type 0} (old new : D) (h : Head) (cs : List (ComponentType V)) (result : Result (Option Tag) DecodeError) →
+      TellsNextTag R old new h cs result → TellsNextTag (up_to_order R) old new h cs result
+  tells_next_tag old new h cs result tells items rest outer at =
+      let a = same_as_scope at.same in
+      carried_over old new 0 (marks_passed a.inner, (h, a.around) ∷ a.others) (marks_passed items, (h, rest) ∷ outer) (IsNextTag cs a.inner) (IsNextTag cs items) result
+      (record { here = same-marks_passed a.inner items a.same; outside = scope_and h a.same_around a.same_outer }) (λ w. same-next_tag cs a.inner items w a.same)
+      (tells a.inner a.around a.others (subst (λ l. R.remains old l) a.is at.remains))
+
+  pub reads_end : {V : Type 0} (old new : D) (result : Result V DecodeError) → ReadsEnd R old new result → ReadsEnd (up_to_order R) old new result
+  reads_end old new result reads h rest outer at =
+      let a = same_as_scope at.same in
+      let is : at.exactly ≡ ([], (h, a.around) ∷ a.others) = a.is ∙ ap (λ l. (l, (h, a.around) ∷ a.others)) (same_as_none a.inner a.same) in
+      carried_over old new 0 (a.around, a.others) (rest, outer) (λ _. ⊤) (λ _. ⊤) result (record { here = a.same_around; outside = a.same_outer }) (λ w holds. holds)
+      (reads h a.around a.others (subst (λ l. R.remains old l) is at.remains))
+
+  pub opens : {V : Type 0} (old new : D) (head : Name → Head) (Is : List Record → V → Type 0) (result : Result V DecodeError) →
+      ((n : Name) → is_unordered (head n) ≡ false) → HoldsInAnyOrder Is → ReadsHead R old new head Is result → ReadsHead (up_to_order R) old new head Is result
+  opens old new head Is result ordered holds exact n items rest outer at =
+      let a = same_as_opened at.exactly (head n) items rest outer at.same in
+      let same : SameRecords a.inner items = subst (λ l. SameRecords a.inner l) (a.in_place (ordered n)) a.same in
+      carried_over old new 1 (a.inner, (head n, a.others) ∷ a.outside) (items, (head n, rest) ∷ outer) (Is a.inner) (Is items) result (record { here = same; outside = scope_and (head n) a.same_rest a.same_outer }) (λ w. holds a.inner items items w same (IsPermutation-refl items))
+      (exact n a.inner a.others a.outside (subst (λ l. R.remains old l) a.is at.remains))
+
+  in_some_order : {V : Type 0} (old new : D) (order items : List Record) (outer : Outside) (Is : V → Type 0) (result : Result V DecodeError) → IsPermutation order items →
+      MatchResult result (λ w. HasAdvanced (up_to_order R) old new 1 (order, outer) (Is w)) (MayFail (R.depth_left old) 1) →
+      MatchResult result (λ w. SetIsOpen (up_to_order R) old new items outer (Is w)) (MayFail (R.depth_left old) 1)
+  in_some_order old new order items outer Is (Ok w) rearranged m = record { order = order; rearranged = rearranged; moved = m }
+  in_some_order old new order items outer Is (Err e) rearranged m = m
+
+  -- where its records remain as they come, they remain, as those of a set, in some order
+  pub opens_set : {V : Type 0} (old new : D) (head : Name → Head) (Is : List Record → V → Type 0) (result : Result V DecodeError) →
+      HoldsInAnyOrder Is → ReadsHead R old new head Is result → ReadsHeadOfSet (up_to_order R) old new head Is result
+  opens_set old new head Is result holds exact n items rest outer at =
+      let a = same_as_opened at.exactly (head n) items rest outer at.same in
+      in_some_order old new a.order items ((head n, rest) ∷ outer) (Is items) result a.rearranged
+      (carried_over old new 1 (a.inner, (head n, a.others) ∷ a.outside) (a.order, (head n, rest) ∷ outer) (Is a.inner) (Is items) result (record { here = a.same; outside = scope_and (head n) a.same_rest a.same_outer }) (λ w. holds a.inner a.order items w a.same a.rearranged)
+      (exact n a.inner a.others a.outside (subst (λ l. R.remains old l) a.is at.remains)))

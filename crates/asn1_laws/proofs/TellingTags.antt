@@ -1,0 +1,17 @@
+-- For codecs and types that know tags: a tag tells of itself, and a tag that a type with one tag can begin with is that one.
+use Rattle.std.proofs.Common.{◌≡◌, List, [], ◌∷◌, sym}
+use Rattle.asn1_components.specs.ComponentTypes.{ComponentType}
+use Rattle.asn1_laws.specs.Reading.{TellsComponent}
+use Rattle.asn1_model.proofs.TagSets.{lies_has}
+use Rattle.asn1_model.specs.OneRecord.{alone_in}
+use Rattle.asn1_model.specs.Tags.{Has, Tags, only, tree_tags}
+use Rattle.asn1_tags.specs.declared.tags.Tag.{Tag}
+
+-- of the records with which a list begins
+pub tells_itself : {V : Type 0} (cs : List (ComponentType V)) (own : Tags) (t : Tag) → Has own t → TellsComponent cs own t
+tells_itself [] own t has = tt
+tells_itself (c ∷ cs) own t has = (λ lies. lies_has own (tree_tags c.tree) lies t has, tells_itself cs own t has)
+
+-- the tag of an alternative with one tag
+pub its_tag : {t u : Tag} → Has (only t) u → u ≡ t
+its_tag {t} {u} has = sym (alone_in t u has)

@@ -1,0 +1,36 @@
+-- What a codec says of itself where the order inside sets means nothing, by what it says of the
+-- very records that it wrote.
+use Rattle.std.specs.Prelude.{◌≡◌, true, List, [], ◌∷◌, ◌++◌}
+use Rattle.asn1_model.specs.Orders.{SameRecords}
+use Rattle.asn1_model.specs.Records.{Record, Head, holding, presence_marks_alone}
+use Rattle.asn1_laws.specs.Writing.{Writer, Written, SameWritten}
+
+module _ {E : Type 0} (W : Writer E) where
+  -- What a codec rejects, apart from order. Records are rejected where a part of them is, or what
+  -- one of them holds; presence marks alone never are.
+  pub record RejectsByParts : Type 0 where
+    pub part : (before rs after : List Record) → W.rejects rs → W.rejects (before ++ (rs ++ after))
+    pub inner : (h : Head) (rs : List Record) → W.rejects rs → W.rejects (holding h rs ∷ [])
+    pub marks : (rs : List Record) → presence_marks_alone rs ≡ true → ¬ W.rejects rs
+
+  -- Something has been written that is the same up to the order inside sets (X.680, 27 and 28).
+  pub record WroteUpToOrder (e : E) (w : Written) : Type 0 where
+    pub exactly : Written
+    pub wrote : W.wrote e exactly
+    pub same : SameWritten exactly w
+
+  -- Records are rejected that are the same up to the order inside sets.
+  pub record RejectsUpToOrder (rs : List Record) : Type 0 where
+    pub exactly : List Record
+    pub rejects : W.rejects exactly
+    pub same : SameRecords exactly rs
+
+  -- What W says, up to the order inside sets: the encoder has written, or rejects, what is the same
+  -- as something that W says.
+  abbrev pub up_to_order : Writer E
+  up_to_order = record {
+    wrote = λ e w. WroteUpToOrder e w;
+    failed = λ e. W.failed e;
+    depth_left = λ e. W.depth_left e;
+    rejects = λ rs. RejectsUpToOrder rs;
+  }

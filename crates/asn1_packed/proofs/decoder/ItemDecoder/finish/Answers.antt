@@ -1,8 +1,0 @@
-use Rattle.asn1_packed.proofs.Remaining.{is_form}
-use Rattle.asn1_scopes.proofs.Remaining.{all_is_read, nothing_is_left}
-use Rattle.asn1_packed.proofs.decoder.ItemDecoder.finish.Goals as goal
-
-pub returns-clause-all_read : goal.returns-clause-all_read
-returns-clause-all_read g c =
-    let form = is_form g.P.Presence.mark_bytes in
-    (λ e. all_is_read form (λ d. d.scopes) c.args.self (c.finish.ensures.all_read.0 e), λ at. c.finish.ensures.all_read.1 (nothing_is_left form (λ d. d.scopes) c.args.self at))

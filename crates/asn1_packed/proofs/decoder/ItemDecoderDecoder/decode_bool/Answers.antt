@@ -1,6 +1,0 @@
-use Rattle.std.proofs.Common.{refl}
-use Rattle.asn1_model.specs.ConstraintSets.{unconstrained}
-use Rattle.asn1_packed.proofs.decoder.ItemDecoderDecoder.decode_bool.Goals as goal
-
-pub returns-clause-read : goal.returns-clause-read
-returns-clause-read g c = c.scalar.ensures.read _ (λ x. record { kind = refl; bytes = λ own p. p }) unconstrained

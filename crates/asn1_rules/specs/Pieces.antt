@@ -1,0 +1,30 @@
+-- Values that are written one after another, and what is read of the pieces of their bytes.
+use Rattle.std.specs.Prelude.{◌≡◌, ℕ, ⊤, Bool, true, List, [], ◌∷◌, ◌++◌, length, Option, IfSome}
+use Rattle.std.specs.Borrow.{Bor}
+use Rattle.std.specs.List.{flat_map}
+use Rattle.asn1_laws.specs.declared.decode_error.DecodeError.{DecodeError}
+use Rattle.asn1_laws.specs.Reading.{MayFail}
+use Rattle.asn1_rules.specs.Fronts.{Fronts}
+
+-- pieces, joined
+abbrev pub joined : List (Bor (List ℕ)) → List ℕ
+joined pieces = flat_map (λ piece. piece.now) pieces
+
+-- The bytes are fronts of these values, one after another, and any rest.
+pub data AreFronts {R V : Type 0} (F : Fronts R V) (reader : R) : List V → List ℕ → Type 0 where
+  rest : {bytes : List ℕ} → AreFronts F reader [] bytes
+  front_and : {v : V} {vs : List V} {bytes : List ℕ} (front : List ℕ) → F.front reader front v (length front) →
+      AreFronts F reader vs bytes → AreFronts F reader (v ∷ vs) (front ++ bytes)
+
+-- The values that came are the same as those that were written, one by one, as far as both go.
+-- Where one is missing, and an error was the last answer, memory ran out, or the first that is
+-- missing is nested deeper than the reader's depth.
+abbrev pub ComeBack : {V : Type 0} → (V → V → Bool) → (V → ℕ) → ℕ → List V → List V → Option DecodeError → Type 0
+ComeBack same height depth [] [] last = ⊤
+ComeBack same height depth [] (v ∷ vs) last = IfSome last (MayFail depth (height v))
+ComeBack same height depth (w ∷ ws) [] last = ⊤
+ComeBack same height depth (w ∷ ws) (v ∷ vs) last = (same w v ≡ true) × ComeBack same height depth ws vs last
+
+-- The same, with the equality, height and depth of a reader of fronts.
+abbrev pub FrontsComeBack : {R V : Type 0} → Fronts R V → R → List V → List V → Option DecodeError → Type 0
+FrontsComeBack F reader ws vs last = ComeBack F.same F.height (F.depth reader) ws vs last

@@ -1,6 +1,0 @@
-use Rattle.std.proofs.Common.{◌≡◌, ◌++◌}
-use Rattle.asn1_streams.specs.Pieces.{joined}
-use Rattle.asn1_streams.proofs.round_trips.cut.Given as goal
-
-abbrev pub invariant-loop-length : goal.invariant-loop-length
-invariant-loop-length l = joined l.pieces.items ++ l.rest ≡ l.bytes
