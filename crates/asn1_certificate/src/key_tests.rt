@@ -1,5 +1,5 @@
 //! What is shown of public keys whose size is known and of others; the octets were made by hand.
-use asn1_certificate_input::{Form, output_of};
+use asn1_certificate_input::{OutputFormat, output_of};
 use asn1_der_items::{begin_element, end_element};
 use asn1_tags::Tag;
 use std::alloc::Global;
@@ -31,7 +31,7 @@ fn certificate_of(rt: &impl Abort, alloc: Global, key: &[u8]) -> Vec<u8> {
 /// Asserts what is shown of a key.
 fn assert_key(rt: &impl Abort, alloc: Global, key: &[u8], shown: &str) {
     let input = certificate_of(rt, alloc, key);
-    let Ok(lines) = output_of(alloc, Form::Report, input) else {
+    let Ok(lines) = output_of(alloc, OutputFormat::Report, input) else {
         rt.panic("not shown");
     };
     let text = String::from_utf8(lines).expect(rt, "text");

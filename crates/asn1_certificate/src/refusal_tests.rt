@@ -1,6 +1,6 @@
 //! Which values a name cannot have, which parameters an algorithm, and what is shown of a value that is not of its type.
-use asn1_certificate_input::{Form, InputError, output_of};
-use asn1_certificate_inside::{
+use asn1_certificate_input::{InputError, OutputFormat, output_of};
+use asn1_certificate_reader::{
     MAX_DEPTH, NameFault, ParameterType, ValueFault, bad_parameters, first_name_fault,
 };
 use asn1_der::DerRules;
@@ -132,7 +132,7 @@ const fn certificate(inside: u8, key: u8, beside: u8) -> [u8; 71] {
 /// Why a certificate is refused.
 fn refusal(rt: &impl Abort, alloc: Global, certificate: &[u8]) -> Option<InputError> {
     let input = Vec::from_slice(alloc, certificate).expect(rt, "memory");
-    output_of(alloc, Form::Der, input).err()
+    output_of(alloc, OutputFormat::Der, input).err()
 }
 
 /// The place of the parameters of an algorithm for which a certificate is refused, if they have to be a BOOLEAN.
@@ -214,7 +214,7 @@ fn places_are_those_of_each_path(rt: HostRuntime) {
 /// Asserts that the common name of who issued a certificate is shown as this text.
 fn assert_shown(rt: &impl Abort, alloc: Global, value: [u8; 6], expected: &str) {
     let input = Vec::from_slice(alloc, &of_names(value, UTF8)).expect(rt, "memory");
-    let bytes = output_of(alloc, Form::Report, input).expect(rt, "a certificate");
+    let bytes = output_of(alloc, OutputFormat::Report, input).expect(rt, "a certificate");
     let text = str::from_utf8(&bytes).expect(rt, "a text");
     assert!(rt; text.contains(expected));
 }
@@ -255,14 +255,14 @@ fn a_default_that_is_there_is_shown_and_not_written(rt: HostRuntime) {
     let refused = refusal(&rt, alloc, &first_version);
     assert!(rt; matches!(refused, Some(InputError::OtherDer)));
     let input = Vec::from_slice(alloc, &first_version).expect(&rt, "memory");
-    assert!(rt; output_of(alloc, Form::Report, input).is_ok());
+    assert!(rt; output_of(alloc, OutputFormat::Report, input).is_ok());
 }
 
 #[test]
 fn a_value_that_is_not_of_its_type_is_shown_as_octets(rt: HostRuntime) {
     let alloc = rt.alloc();
     let input = Vec::from_slice(alloc, &certificate(0, 0, 0)).expect(&rt, "memory");
-    let Ok(lines) = output_of(alloc, Form::Report, input) else {
+    let Ok(lines) = output_of(alloc, OutputFormat::Report, input) else {
         rt.panic("not shown");
     };
     let text = String::from_utf8(lines).expect(&rt, "text");

@@ -1,7 +1,7 @@
 -- Where the octets of a certificate have what is refused of it.
 use Rattle.std.specs.Prelude.{ℕ, ◌-◌, Bool, List, [], ◌∷◌, Option, None, Some, false, if◌then◌else◌}
 use Rattle.std.specs.Option.{unwrap_or}
-use Rattle.asn1_certificate_inside.specs.declared.name_faults.NameFault.{NameFault}
+use Rattle.asn1_certificate_reader.specs.declared.name_faults.NameFault.{NameFault}
 use Rattle.asn1_der_items.specs.Elements.{Element, element_at}
 use Rattle.asn1_der_items.specs.Paths.{place_of}
 use Rattle.asn1_model.specs.Tags.{context}

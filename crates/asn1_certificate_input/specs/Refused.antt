@@ -3,14 +3,14 @@ use Rattle.std.specs.Prelude.{◌≡◌, ◌≢◌, ◌⊎◌, ⊤, ℕ, Bool, f
 use Rattle.std.specs.Io.KnownBytes.{Consumes}
 use Rattle.asn1_certificate_input.specs.Inputs.{AreInputOctets, AreOfNoCertificate, IsCertificateOf, records_of}
 use Rattle.asn1_certificate_input.specs.Places.{issuer, place_of_key_parameters, place_of_parameters_beside, place_of_signed_parameters, place_of_value, subject}
-use Rattle.asn1_certificate_input.specs.declared.form.Form.{Form}
-use Rattle.asn1_certificate_input.specs.declared.form.Form.TheVariants.{Der}
+use Rattle.asn1_certificate_input.specs.declared.output_format.OutputFormat.{OutputFormat}
+use Rattle.asn1_certificate_input.specs.declared.output_format.OutputFormat.TheVariants.{Der}
 use Rattle.asn1_certificate_input.specs.declared.outcome.Failure.{Failure}
 use Rattle.asn1_certificate_input.specs.declared.outcome.Failure.TheVariants.{NoOutput, Reading, Writing}
 use Rattle.asn1_certificate_input.specs.declared.output.InputError.{InputError}
 use Rattle.asn1_certificate_input.specs.declared.output.InputError.TheVariants.{Text, NoElement, BadComponent, NoCertificate, BadIssuer, BadSubject, BadKeyParameters, BadSignatureParameters, NotWritten, OtherDer, Memory}
-use Rattle.asn1_certificate_inside.specs.NameFaults.{AnswersName}
-use Rattle.asn1_certificate_inside.specs.Parameters.{HasBadParameters}
+use Rattle.asn1_certificate_reader.specs.NameFaults.{AnswersName}
+use Rattle.asn1_certificate_reader.specs.Parameters.{HasBadParameters}
 use Rattle.asn1_certificate_text.specs.PemRefusals.{IsRefusal}
 use Rattle.asn1_certificate_text.specs.declared.pem.PemError.TheVariants as pem
 use Rattle.asn1_laws.specs.declared.encode_error.EncodeError.TheVariants as writing
@@ -45,20 +45,20 @@ pub record HasOtherDer (octets : List ℕ) (certificate : Certificate) : Type 0 
 -- or of one of its signature, are not what they have to be by their tag; and the place is that to which the path of that value or of
 -- these parameters leads in the octets. Or, where its DER was asked for, it has none that is nested in 64 scopes at most, or has
 -- other DER than the octets; or memory ran out.
-abbrev pub IsRefusalOfCertificate : Form → List ℕ → Certificate → InputError → Type 0
-IsRefusalOfCertificate form octets certificate (BadIssuer place fault) =
+abbrev pub IsRefusalOfCertificate : OutputFormat → List ℕ → Certificate → InputError → Type 0
+IsRefusalOfCertificate format octets certificate (BadIssuer place fault) =
     AnswersName certificate.tbs_certificate.issuer (Some fault) × (place ≡ place_of_value octets issuer fault)
-IsRefusalOfCertificate form octets certificate (BadSubject place fault) =
+IsRefusalOfCertificate format octets certificate (BadSubject place fault) =
     AnswersName certificate.tbs_certificate.subject (Some fault) × (place ≡ place_of_value octets subject fault)
-IsRefusalOfCertificate form octets certificate (BadKeyParameters place bad) =
+IsRefusalOfCertificate format octets certificate (BadKeyParameters place bad) =
     HasBadParameters der_format certificate.tbs_certificate.subject_public_key_info.algorithm bad × (place ≡ place_of_key_parameters octets)
-IsRefusalOfCertificate form octets certificate (BadSignatureParameters place bad) =
+IsRefusalOfCertificate format octets certificate (BadSignatureParameters place bad) =
     (HasBadParameters der_format certificate.tbs_certificate.signature bad × (place ≡ place_of_signed_parameters octets)) ⊎
     (HasBadParameters der_format certificate.signature_algorithm bad × (place ≡ place_of_parameters_beside octets))
-IsRefusalOfCertificate form octets certificate (NotWritten error) = (form ≡ Der) × ((error ≢ writing.Memory) × IsNotWritten der_format (records_of certificate) 64 error)
-IsRefusalOfCertificate form octets certificate OtherDer = (form ≡ Der) × HasOtherDer octets certificate
-IsRefusalOfCertificate form octets certificate Memory = ⊤
-IsRefusalOfCertificate form octets certificate other = ⊥
+IsRefusalOfCertificate format octets certificate (NotWritten error) = (format ≡ Der) × ((error ≢ writing.Memory) × IsNotWritten der_format (records_of certificate) 64 error)
+IsRefusalOfCertificate format octets certificate OtherDer = (format ≡ Der) × HasOtherDer octets certificate
+IsRefusalOfCertificate format octets certificate Memory = ⊤
+IsRefusalOfCertificate format octets certificate other = ⊥
 
 -- The octets of an input are refused.
 pub record RefusesOctets (input : List ℕ) (error : InputError) : Type 0 where
@@ -67,31 +67,31 @@ pub record RefusesOctets (input : List ℕ) (error : InputError) : Type 0 where
   pub refused : IsRefusalOfOctets octets error
 
 -- The certificate that was read of an input is refused.
-pub record RefusesCertificate (form : Form) (input : List ℕ) (error : InputError) : Type 0 where
+pub record RefusesCertificate (format : OutputFormat) (input : List ℕ) (error : InputError) : Type 0 where
   pub octets : List ℕ
   pub certificate : Certificate
   pub read : IsCertificateOf input octets certificate
-  pub refused : IsRefusalOfCertificate form octets certificate error
+  pub refused : IsRefusalOfCertificate format octets certificate error
 
 -- why an input has no certificate
 abbrev pub IsNotRead : List ℕ → InputError → Type 0
 IsNotRead input error = IsRefusalOfText input error ⊎ RefusesOctets input error
 
--- why an input is not written in a form
-abbrev pub IsRefusalOfInput : Form → List ℕ → InputError → Type 0
-IsRefusalOfInput form input error = IsNotRead input error ⊎ RefusesCertificate form input error
+-- why an input is not written in a format
+abbrev pub IsRefusalOfInput : OutputFormat → List ℕ → InputError → Type 0
+IsRefusalOfInput format input error = IsNotRead input error ⊎ RefusesCertificate format input error
 
 -- An input that was read is refused.
-pub record Refuses (form : Form) (error : InputError) (remaining_before remaining : Option (List ℕ)) : Type 0 where
+pub record Refuses (format : OutputFormat) (error : InputError) (remaining_before remaining : Option (List ℕ)) : Type 0 where
   pub input : List ℕ
   pub read : Consumes remaining_before remaining input
-  pub refused : IsRefusalOfInput form input error
+  pub refused : IsRefusalOfInput format input error
 
 -- why nothing was written: an input that was read is refused, or reading or writing failed
-abbrev pub IsFailure : Form → Option (List ℕ) → Option (List ℕ) → Failure → Type 0
-IsFailure form before after (NoOutput error) = Refuses form error before after
-IsFailure form before after Reading = ⊤
-IsFailure form before after Writing = ⊤
+abbrev pub IsFailure : OutputFormat → Option (List ℕ) → Option (List ℕ) → Failure → Type 0
+IsFailure format before after (NoOutput error) = Refuses format error before after
+IsFailure format before after Reading = ⊤
+IsFailure format before after Writing = ⊤
 
 -- whether the error is that of memory
 abbrev pub is_memory : InputError → Bool
@@ -99,10 +99,10 @@ is_memory Memory = true
 is_memory other = false
 
 -- An input that was read is refused, by an error that is not that of memory.
-pub record IsRefused (form : Form) (remaining_before remaining : Option (List ℕ)) : Type 0 where
+pub record IsRefused (format : OutputFormat) (remaining_before remaining : Option (List ℕ)) : Type 0 where
   pub error : InputError
   pub not_memory : is_memory error ≡ false
-  pub refused : Refuses form error remaining_before remaining
+  pub refused : Refuses format error remaining_before remaining
 
 -- the status of the program after a failure: 1 where the input is refused, and 2 where memory ran out, or reading or writing failed
 abbrev pub status_after : Failure → ℕ

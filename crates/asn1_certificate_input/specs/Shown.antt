@@ -2,10 +2,10 @@
 use Rattle.std.specs.Prelude.{◌≡◌, ℕ, List, None, Option}
 use Rattle.std.specs.Io.KnownBytes.{Appends, Consumes}
 use Rattle.asn1_certificate_input.specs.Inputs.{IsCertificateOf, records_of}
-use Rattle.asn1_certificate_inside.specs.NameFaults.{AnswersName}
+use Rattle.asn1_certificate_reader.specs.NameFaults.{AnswersName}
 use Rattle.asn1_certificate_reader.specs.Reports.{IsReportOf}
-use Rattle.asn1_certificate_report.specs.Reports.{report_text}
-use Rattle.asn1_certificate_report.specs.declared.report.Report.{Report}
+use Rattle.asn1_certificate_text.specs.Reports.{report_text}
+use Rattle.asn1_certificate_text.specs.declared.report.Report.{Report}
 use Rattle.asn1_der.specs.Format.{Carries, der_format}
 use Rattle.asn1_x509.specs.declared.certificate.Certificate.{Certificate}
 

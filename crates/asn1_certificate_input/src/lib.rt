@@ -4,10 +4,10 @@
 //! |---|---|
 //! | [`run`], [`Outcome`] | writes the certificate that a reader gives, and how the program then ends |
 //! | [`output_of`], [`InputError`] | what is written of an input, or why nothing is |
-//! | [`Form`], [`form_of`] | in which form a certificate is written |
+//! | [`OutputFormat`], [`format_of`] | the format in which a certificate is written |
 //!
 //! An input is the DER of a certificate, or a text with it in base64. As a report it is what a person wants to see of it
-//! (`report_of` of `asn1_certificate_reader` and `report_text` of `asn1_certificate_report`), and as DER the octets that were read.
+//! (`report_of` of `asn1_certificate_reader` and `report_text` of `asn1_certificate_text`), and as DER the octets that were read.
 //!
 //! What the contracts promise:
 //!
@@ -19,12 +19,12 @@
 //!   The status is 1 where it is refused, and 2 where memory runs out or reading or writing fails (`status_after`).
 #![tactic(auto)]
 
-mod form;
 mod open_types;
 mod outcome;
 mod output;
+mod output_format;
 mod places;
 
-pub use form::{Form, form_of};
 pub use outcome::{Outcome, run};
 pub use output::{InputError, output_of};
+pub use output_format::{OutputFormat, format_of};

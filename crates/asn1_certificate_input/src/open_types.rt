@@ -3,13 +3,13 @@ ghost use Rattle.std.specs.Prelude.{IfErr, OnOk};
 ghost use Rattle.asn1_certificate_input.specs.Refused.{IsRefusalOfCertificate};
 ghost use Rattle.asn1_certificate_input.specs.Shown.{HasGoodNames};
 
-use crate::form::Form;
 use crate::output::InputError;
+use crate::output_format::OutputFormat;
 use crate::places::{
     ISSUER, SUBJECT, place_of_key_parameters, place_of_parameters_beside,
     place_of_signed_parameters, place_of_value,
 };
-use asn1_certificate_inside::{bad_parameters, first_name_fault};
+use asn1_certificate_reader::{bad_parameters, first_name_fault};
 use asn1_der::DerRules;
 use asn1_x509::Certificate;
 use std::alloc::Global;
@@ -21,8 +21,8 @@ pub(crate) fn check_open_types(
     certificate: &Certificate,
 ) -> Result<(), InputError>
     ensures good { OnOk result (HasGoodNames certificate.now) }
-    ensures refused { (form : Form) →
-        IfErr result (IsRefusalOfCertificate form octets.now certificate.now) }
+    ensures refused { (format : OutputFormat) →
+        IfErr result (IsRefusalOfCertificate format octets.now certificate.now) }
 {
     match check_names(octets, certificate) {
         Ok(()) => check_parameters(alloc, octets, certificate),
@@ -33,8 +33,8 @@ pub(crate) fn check_open_types(
 /// Refuses a certificate with a value in a name that no name can have.
 fn check_names(octets: &[u8], certificate: &Certificate) -> Result<(), InputError>
     ensures good { OnOk result (HasGoodNames certificate.now) }
-    ensures refused { (form : Form) →
-        IfErr result (IsRefusalOfCertificate form octets.now certificate.now) }
+    ensures refused { (format : OutputFormat) →
+        IfErr result (IsRefusalOfCertificate format octets.now certificate.now) }
 {
     let signed = &certificate.tbs_certificate;
     if let Some(fault) = first_name_fault(&signed.issuer) {
@@ -54,7 +54,7 @@ fn check_parameters(
     octets: &[u8],
     certificate: &Certificate,
 ) -> Result<(), InputError>
-    ensures { (form : Form) → IfErr result (IsRefusalOfCertificate form octets.now certificate.now) }
+    ensures { (format : OutputFormat) → IfErr result (IsRefusalOfCertificate format octets.now certificate.now) }
 {
     let rules = DerRules::new(alloc);
     let signed = &certificate.tbs_certificate;

@@ -5,8 +5,8 @@ ghost use Rattle.asn1_certificate_input.specs.Refused.{IsFailure, IsRefused, sta
 ghost use Rattle.asn1_certificate_input.specs.Shown.{AreLinesOfInput, Converts, IsDerOfInput};
 ghost use Rattle.asn1_certificate_input.specs.declared.outcome.Failure.TheVariants.{Writing};
 
-use crate::form::Form;
 use crate::output::{InputError, output_of};
+use crate::output_format::OutputFormat;
 use std::alloc::Global;
 use std::fmt;
 use std::io::{Eprint, Read, Write};
@@ -89,43 +89,48 @@ impl Termination for Outcome {
     }
 }
 
-/// Writes the certificate that the reader gives in a form, and answers how the program then ends.
-pub fn run<R: Read, W: Write>(alloc: Global, form: Form, reader: &mut R, writer: &mut W) -> Outcome
+/// Writes the certificate that the reader gives in a format, and answers how the program then ends.
+pub fn run<R: Read, W: Write>(
+    alloc: Global,
+    format: OutputFormat,
+    reader: &mut R,
+    writer: &mut W,
+) -> Outcome
     ensures read { result.status ≡ 0 → IsAtEnd (R.remaining reader.new) }
-    ensures report { form ≡ Form.Report → result.status ≡ 0 → Converts AreLinesOfInput
+    ensures report { format ≡ OutputFormat.Report → result.status ≡ 0 → Converts AreLinesOfInput
         (R.remaining reader.old) (R.remaining reader.new)
         (W.contents writer.old) (W.contents writer.new) }
-    ensures der { form ≡ Form.Der → result.status ≡ 0 → Converts IsDerOfInput
+    ensures der { format ≡ OutputFormat.Der → result.status ≡ 0 → Converts IsDerOfInput
         (R.remaining reader.old) (R.remaining reader.new)
         (W.contents writer.old) (W.contents writer.new) }
     ensures refused { result.status ≡ 1 →
-        IsRefused form (R.remaining reader.old) (R.remaining reader.new) }
+        IsRefused format (R.remaining reader.old) (R.remaining reader.new) }
 {
-    Outcome::of(convert(alloc, form, reader, writer))
+    Outcome::of(convert(alloc, format, reader, writer))
 }
 
-/// Writes the certificate that the reader gives in a form.
+/// Writes the certificate that the reader gives in a format.
 fn convert<R: Read, W: Write>(
     alloc: Global,
-    form: Form,
+    format: OutputFormat,
     reader: &mut R,
     writer: &mut W,
 ) -> Result<(), Failure>
     ensures read { OnOk result (IsAtEnd (R.remaining reader.new)) }
-    ensures report { form ≡ Form.Report → OnOk result (Converts AreLinesOfInput
+    ensures report { format ≡ OutputFormat.Report → OnOk result (Converts AreLinesOfInput
         (R.remaining reader.old) (R.remaining reader.new)
         (W.contents writer.old) (W.contents writer.new)) }
-    ensures der { form ≡ Form.Der → OnOk result (Converts IsDerOfInput
+    ensures der { format ≡ OutputFormat.Der → OnOk result (Converts IsDerOfInput
         (R.remaining reader.old) (R.remaining reader.new)
         (W.contents writer.old) (W.contents writer.new)) }
     ensures failed { IfErr result
-        (IsFailure form (R.remaining reader.old) (R.remaining reader.new)) }
+        (IsFailure format (R.remaining reader.old) (R.remaining reader.new)) }
 {
     let mut input = Vec::new(alloc);
     if reader.read_to_end(&mut input).is_err() {
         return Err(Failure::Reading);
     }
-    match output_of(alloc, form, input) {
+    match output_of(alloc, format, input) {
         Ok(bytes) => write_bytes(bytes.as_slice(), writer),
         Err(error) => Err(Failure::NoOutput(error)),
     }

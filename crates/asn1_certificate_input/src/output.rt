@@ -6,18 +6,14 @@ ghost use Rattle.asn1_certificate_input.specs.Shown.{AreLinesOf, AreLinesOfInput
 ghost use Rattle.asn1_certificate_input.specs.declared.output.InputError.TheVariants.{Memory};
 ghost use Rattle.asn1_der.specs.Format.{Carries};
 
-use crate::form::Form;
 use crate::open_types::check_open_types;
-use asn1_certificate_inside::{MAX_DEPTH, NameFault, ParameterType};
-use asn1_certificate_reader::report_of;
-use asn1_certificate_report::report_text;
-use asn1_certificate_text::{PemError, certificate_octets};
+use crate::output_format::OutputFormat;
+use asn1_certificate_reader::{MAX_DEPTH, NameFault, ParameterType, report_of};
+use asn1_certificate_text::{PemError, certificate_octets, report_text};
 use asn1_dec::{Decode, DecodeError};
-use asn1_der::DerRules;
-use asn1_der::DerDecoder;
-use asn1_der_items::is_one_element;
+use asn1_der::{DerDecoder, DerRules};
+use asn1_der_items::{first_fault, is_one_element};
 use asn1_enc::EncodeError;
-use asn1_der_items::first_fault;
 use asn1_rules::Rules;
 use asn1_x509::{Certificate, certificate_is_well_tagged};
 use std::alloc::{AllocError, Global};
@@ -70,18 +66,18 @@ impl From<AllocError> for InputError {
     }
 }
 
-/// What is written of an input, which is the DER of a certificate or a text with it in base64: the certificate in a form.
-pub fn output_of(alloc: Global, form: Form, input: Vec<u8>) -> Result<Vec<u8>, InputError>
-    ensures report { form ≡ Form.Report →
+/// What is written of an input, which is the DER of a certificate or a text with it in base64: the certificate in a format.
+pub fn output_of(alloc: Global, format: OutputFormat, input: Vec<u8>) -> Result<Vec<u8>, InputError>
+    ensures report { format ≡ OutputFormat.Report →
         IfOk result (λ bytes. AreLinesOfInput input.items bytes.items) }
-    ensures der { form ≡ Form.Der → IfOk result (λ bytes. IsDerOfInput input.items bytes.items) }
-    ensures refused { IfErr result (IsRefusalOfInput form input.items) }
+    ensures der { format ≡ OutputFormat.Der → IfOk result (λ bytes. IsDerOfInput input.items bytes.items) }
+    ensures refused { IfErr result (IsRefusalOfInput format input.items) }
 {
     let (octets, certificate) = certificate_of(alloc, input)?;
     check_open_types(alloc, octets.as_slice(), &certificate)?;
-    match form {
-        Form::Report => lines_of(alloc, &certificate),
-        Form::Der => der_of(alloc, &octets, &certificate),
+    match format {
+        OutputFormat::Report => lines_of(alloc, &certificate),
+        OutputFormat::Der => der_of(alloc, &octets, &certificate),
     }
 }
 
@@ -99,7 +95,7 @@ fn der_of(alloc: Global, octets: &Vec<u8>, certificate: &Certificate) -> Result<
     ensures written { IfOk result (λ bytes. Carries bytes.items (records_of certificate.now)) }
     ensures same { IfOk result (λ bytes. bytes.items ≡ octets.now.items) }
     ensures refused { IfErr result
-        (IsRefusalOfCertificate Form.Der octets.now.items certificate.now) }
+        (IsRefusalOfCertificate OutputFormat.Der octets.now.items certificate.now) }
 {
     match DerRules::new(alloc).write_value(certificate, MAX_DEPTH) {
         Ok(bytes) => {

@@ -2,9 +2,8 @@
 ghost use Rattle.std.specs.Prelude.{◌≡◌};
 ghost use Rattle.asn1_certificate_input.specs.Places.{contents_of, number_of, place_in, place_of_key_parameters, place_of_parameters_beside, place_of_signed_parameters, place_of_value, says_its_version};
 
-use asn1_certificate_inside::NameFault;
-use asn1_der_items::find_element;
-use asn1_der_items::place_of;
+use asn1_certificate_reader::NameFault;
+use asn1_der_items::{find_element, place_of};
 use asn1_tags::Tag;
 
 /// Which component of what is signed the algorithm of the signature is, from 0, where the version is said.

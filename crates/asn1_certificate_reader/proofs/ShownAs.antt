@@ -2,8 +2,8 @@
 use Rattle.std.proofs.Common.{◌≡◌, ℕ, Bool, List, Option, Vec, subst}
 use Rattle.std.specs.declared.alloc.Global.{Global}
 use Rattle.asn1_certificate_reader.specs.ExtensionValues.{IsShownByRead, IsShownAs}
-use Rattle.asn1_certificate_inside.specs.Inside.{AreReadAs}
-use Rattle.asn1_certificate_report.specs.declared.extension.ExtensionValue.{ExtensionValue}
+use Rattle.asn1_certificate_reader.specs.Inside.{AreReadAs}
+use Rattle.asn1_certificate_text.specs.declared.extension.ExtensionValue.{ExtensionValue}
 use Rattle.asn1_model.specs.Meaning.{Meaning}
 use Rattle.asn1_rules.specs.Rules.{Format}
 

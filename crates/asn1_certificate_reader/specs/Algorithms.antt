@@ -1,7 +1,7 @@
 -- What is shown of the algorithm of a signature.
 use Rattle.std.specs.Prelude.{◌≡◌, MatchOption, false, true}
 use Rattle.asn1_certificate_reader.specs.ObjectsShown.{IsObjectOf}
-use Rattle.asn1_certificate_report.specs.declared.key.Signature.{Signature}
+use Rattle.asn1_certificate_text.specs.declared.key.Signature.{Signature}
 use Rattle.asn1_x509.specs.contracts.algorithm_identifier.AlgorithmIdentifierPartialEq.TheImpl.{ghosts as equality}
 use Rattle.asn1_x509.specs.declared.algorithm_identifier.AlgorithmIdentifier.{AlgorithmIdentifier}
 

@@ -5,17 +5,17 @@ use Rattle.std.specs.List.{AllZip}
 use Rattle.std.specs.Prelude.{◌≡◌, ℕ, ℤ, Bool, ◌==◌, List, [], ◌∷◌, None, Option, Some, Vec, if◌then◌else◌, nat_eq}
 use Rattle.std.specs.declared.alloc.Global.{Global}
 use Rattle.asn1_certificate_reader.specs.GeneralNamesShown.{AreGeneralNamesOf}
-use Rattle.asn1_certificate_inside.specs.Inside.{AreReadAs}
+use Rattle.asn1_certificate_reader.specs.Inside.{AreReadAs}
 use Rattle.asn1_certificate_reader.specs.ObjectsShown.{IsObjectOf}
 use Rattle.asn1_certificate_reader.specs.Options.{AreBothOrNone}
 use Rattle.asn1_certificate_reader.specs.Simple.{IsOctetNumberOf}
-use Rattle.asn1_certificate_inside.specs.Strings.{bit_string, octet_string}
+use Rattle.asn1_certificate_reader.specs.Strings.{bit_string, octet_string}
 use Rattle.asn1_certificate_reader.specs.declared.extensions.ValueKind.{ValueKind}
 use Rattle.asn1_certificate_reader.specs.declared.extensions.ValueKind.TheVariants as kind
-use Rattle.asn1_certificate_report.specs.declared.extension.AuthorityKey.{AuthorityKey}
-use Rattle.asn1_certificate_report.specs.declared.extension.ExtensionValue.{ExtensionValue}
-use Rattle.asn1_certificate_report.specs.declared.extension.ExtensionValue.TheVariants as own
-use Rattle.asn1_certificate_report.specs.declared.general_name.ShownGeneralName.{ShownGeneralName}
+use Rattle.asn1_certificate_text.specs.declared.extension.AuthorityKey.{AuthorityKey}
+use Rattle.asn1_certificate_text.specs.declared.extension.ExtensionValue.{ExtensionValue}
+use Rattle.asn1_certificate_text.specs.declared.extension.ExtensionValue.TheVariants as own
+use Rattle.asn1_certificate_text.specs.declared.general_name.ShownGeneralName.{ShownGeneralName}
 use Rattle.asn1_model.specs.ConstraintSets.{unconstrained}
 use Rattle.asn1_model.specs.Kinds.{list_type, object_identifier}
 use Rattle.asn1_model.specs.Meaning.{Meaning}

@@ -7,8 +7,8 @@ use Rattle.asn1_certificate_reader.specs.Characters.{directory_characters}
 use Rattle.asn1_certificate_reader.specs.NamesShown.{IsNameOf}
 use Rattle.asn1_certificate_reader.specs.ObjectsShown.{IsObjectOf}
 use Rattle.asn1_certificate_reader.specs.Options.{AreBothOrNone}
-use Rattle.asn1_certificate_report.specs.declared.general_name.ShownGeneralName.{ShownGeneralName}
-use Rattle.asn1_certificate_report.specs.declared.general_name.ShownGeneralName.TheVariants as own
+use Rattle.asn1_certificate_text.specs.declared.general_name.ShownGeneralName.{ShownGeneralName}
+use Rattle.asn1_certificate_text.specs.declared.general_name.ShownGeneralName.TheVariants as own
 use Rattle.asn1_rules.specs.Rules.{Format}
 use Rattle.asn1_x509.specs.declared.directory_string.DirectoryString.{DirectoryString}
 use Rattle.asn1_x509_extensions.specs.declared.general_name.GeneralName.{GeneralName}

@@ -2,13 +2,13 @@
 use Rattle.std.specs.Cmp.Lexicographic.{pointwise}
 use Rattle.std.specs.Prelude.{◌≡◌, ◌≢◌, ◌⊎◌, ◌<◌, ℕ, ◌%◌, All, Bool, Contains, List, [], ◌∷◌, MatchOption, None, Option, Some, Vec, length, nat_eq, unsigned_abs}
 use Rattle.std.specs.declared.alloc.Global.{Global}
-use Rattle.asn1_certificate_inside.specs.Inside.{AreReadAs}
+use Rattle.asn1_certificate_reader.specs.Inside.{AreReadAs}
 use Rattle.asn1_certificate_reader.specs.ObjectsShown.{IsObjectOf}
-use Rattle.asn1_certificate_report.specs.declared.key.KeySize.{KeySize}
-use Rattle.asn1_certificate_report.specs.declared.key.KeySize.TheVariants.{Modulus, Curve, Fixed, UnnamedCurve, Kept}
-use Rattle.asn1_certificate_report.specs.declared.key.ShownKey.{ShownKey}
+use Rattle.asn1_certificate_text.specs.declared.key.KeySize.{KeySize}
+use Rattle.asn1_certificate_text.specs.declared.key.KeySize.TheVariants.{Modulus, Curve, Fixed, UnnamedCurve, Kept}
+use Rattle.asn1_certificate_text.specs.declared.key.ShownKey.{ShownKey}
 use Rattle.asn1_certificate_text.specs.Bits.{IsBitLength}
-use Rattle.asn1_certificate_text.specs.Objects.{NamesCurve, curve_sizes, known_curves}
+use Rattle.asn1_certificate_text.specs.Registry.{NamesCurve, curve_sizes, known_curves}
 use Rattle.asn1_items.specs.Bits.{bits_of_octets}
 use Rattle.asn1_model.specs.Kinds.{object_identifier}
 use Rattle.asn1_rules.specs.Rules.{Format}

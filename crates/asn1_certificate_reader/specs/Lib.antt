@@ -2,9 +2,14 @@ pub mod Algorithms
 pub mod Characters
 pub mod ExtensionValues
 pub mod GeneralNamesShown
+pub mod Inside
 pub mod Keys
+pub mod NameFaults
 pub mod NamesShown
 pub mod ObjectsShown
 pub mod Options
+pub mod Parameters
 pub mod Reports
 pub mod Simple
+pub mod Strings
+pub mod Units

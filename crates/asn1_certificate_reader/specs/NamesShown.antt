@@ -6,15 +6,15 @@ use Rattle.std.specs.Prelude.{◌≡◌, ℕ, Bool, List, MatchOption, Option, S
 use Rattle.std.specs.Str.{chars}
 use Rattle.std.specs.declared.alloc.Global.{Global}
 use Rattle.asn1_certificate_reader.specs.Characters.{directory_characters}
-use Rattle.asn1_certificate_inside.specs.Inside.{AreReadAs}
+use Rattle.asn1_certificate_reader.specs.Inside.{AreReadAs}
 use Rattle.asn1_certificate_reader.specs.ObjectsShown.{IsObjectOf}
-use Rattle.asn1_certificate_inside.specs.Strings.{ia5_string, numeric_string, same_octets, universal_octets}
-use Rattle.asn1_certificate_inside.specs.Units.{universal_characters}
-use Rattle.asn1_certificate_report.specs.declared.name.Attribute.{Attribute}
-use Rattle.asn1_certificate_report.specs.declared.name.AttributeValue.{AttributeValue}
-use Rattle.asn1_certificate_report.specs.declared.name.AttributeValue.TheVariants.{Text, Octets}
-use Rattle.asn1_certificate_report.specs.declared.name.NamePart.{NamePart}
-use Rattle.asn1_certificate_report.specs.declared.name.ShownName.{ShownName}
+use Rattle.asn1_certificate_reader.specs.Strings.{ia5_string, numeric_string, same_octets, universal_octets}
+use Rattle.asn1_certificate_reader.specs.Units.{universal_characters}
+use Rattle.asn1_certificate_text.specs.declared.name.Attribute.{Attribute}
+use Rattle.asn1_certificate_text.specs.declared.name.AttributeValue.{AttributeValue}
+use Rattle.asn1_certificate_text.specs.declared.name.AttributeValue.TheVariants.{Text, Octets}
+use Rattle.asn1_certificate_text.specs.declared.name.NamePart.{NamePart}
+use Rattle.asn1_certificate_text.specs.declared.name.ShownName.{ShownName}
 use Rattle.asn1_model.specs.Meaning.{Meaning}
 use Rattle.asn1_rules.specs.Rules.{Format}
 use Rattle.asn1_x509.specs.contracts.directory_string.DirectoryStringAsnType.TheImpl.{ghosts as directory_strings}

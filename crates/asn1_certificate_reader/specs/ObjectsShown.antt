@@ -1,7 +1,7 @@
 -- What is shown of objects.
 use Rattle.std.specs.Prelude.{◌≡◌, ℕ, Contains, List, MatchOption}
-use Rattle.asn1_certificate_report.specs.declared.object.Object.{Object}
-use Rattle.asn1_certificate_text.specs.Objects.{NamesObject, known_objects, object_names}
+use Rattle.asn1_certificate_text.specs.declared.object.Object.{Object}
+use Rattle.asn1_certificate_text.specs.Registry.{NamesObject, known_objects, object_names}
 
 -- The object of these arcs: its identifier, and the name that a row of the table has for it, or none where no row has its arcs.
 pub record IsObjectOf (arcs : List ℕ) (shown : Object) : Type 0 where

@@ -2,8 +2,8 @@
 use Rattle.std.specs.List.{AllZip}
 use Rattle.std.specs.Prelude.{◌≡◌, ℕ, List, [], Option, None, Some, Vec}
 use Rattle.std.specs.declared.alloc.Global.{Global}
-use Rattle.asn1_certificate_report.specs.declared.extension.ShownExtension.{ShownExtension}
-use Rattle.asn1_certificate_report.specs.declared.report.Report.{Report}
+use Rattle.asn1_certificate_text.specs.declared.extension.ShownExtension.{ShownExtension}
+use Rattle.asn1_certificate_text.specs.declared.report.Report.{Report}
 use Rattle.asn1_certificate_reader.specs.Algorithms.{IsSignatureOf}
 use Rattle.asn1_certificate_reader.specs.ExtensionValues.{IsValueOfKind, kind_of}
 use Rattle.asn1_certificate_reader.specs.Keys.{IsKeyOf}

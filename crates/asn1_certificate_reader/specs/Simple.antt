@@ -3,11 +3,11 @@ use Rattle.std.specs.Prelude.{◌≡◌, ◌≢◌, ◌↔◌, ℕ, ℤ, ◌<ℤ
 use Rattle.std.specs.Str.{chars}
 use Rattle.asn1_certificate_text.specs.MomentTexts.{IsInCalendar, IsOfUtcTime, generalized_time, utc_time}
 use Rattle.asn1_certificate_text.specs.declared.moment.Moment.{Moment as SomeMoment}
-use Rattle.asn1_certificate_report.specs.declared.number.OctetNumber.{OctetNumber}
-use Rattle.asn1_certificate_report.specs.declared.number.Version.{Version}
-use Rattle.asn1_certificate_report.specs.declared.number.Version.TheVariants.{First, Second, Third, Unknown}
-use Rattle.asn1_certificate_report.specs.declared.time.ShownTime.{ShownTime}
-use Rattle.asn1_certificate_report.specs.declared.time.ShownTime.TheVariants.{Moment, Text}
+use Rattle.asn1_certificate_text.specs.declared.number.OctetNumber.{OctetNumber}
+use Rattle.asn1_certificate_text.specs.declared.number.Version.{Version}
+use Rattle.asn1_certificate_text.specs.declared.number.Version.TheVariants.{First, Second, Third, Unknown}
+use Rattle.asn1_certificate_text.specs.declared.time.ShownTime.{ShownTime}
+use Rattle.asn1_certificate_text.specs.declared.time.ShownTime.TheVariants.{Moment, Text}
 use Rattle.asn1_values.specs.Numbers.{IsShortest, magnitude, signed}
 use Rattle.asn1_x509.specs.declared.time.Time.{Time}
 use Rattle.asn1_x509.specs.declared.time.Time.TheVariants.{Utc, General}

@@ -5,7 +5,7 @@ ghost use Rattle.asn1_certificate_reader.specs.NamesShown.{IsAttributeOf, IsName
 
 use crate::name_strings::{UniversalOctets, characters_of};
 use crate::objects::named;
-use asn1_certificate_report::{Attribute, AttributeValue, NamePart, ShownName};
+use asn1_certificate_text::{Attribute, AttributeValue, NamePart, ShownName};
 use asn1_rules::Rules;
 use asn1_values::{Ia5String, NumericString};
 use asn1_x509::{AttributeTypeAndValue, DirectoryString, Name, RelativeDistinguishedName};

@@ -6,7 +6,7 @@ ghost use Rattle.asn1_certificate_reader.specs.Reports.{IsExtensionOf};
 
 use crate::objects::named;
 use crate::shown_value::shown_as;
-use asn1_certificate_report::{ExtensionValue, ShownExtension};
+use asn1_certificate_text::{ExtensionValue, ShownExtension};
 use asn1_rules::Rules;
 use asn1_x509::Extension;
 use asn1_x509_extensions::{

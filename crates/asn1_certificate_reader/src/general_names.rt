@@ -6,7 +6,7 @@ ghost use Rattle.asn1_certificate_reader.specs.Options.{AreBothOrNone};
 use crate::attributes::name_of;
 use crate::characters::{ascii_characters, directory_characters};
 use crate::objects::named;
-use asn1_certificate_report::ShownGeneralName;
+use asn1_certificate_text::ShownGeneralName;
 use asn1_rules::Rules;
 use asn1_x509::DirectoryString;
 use asn1_x509_extensions::GeneralName;

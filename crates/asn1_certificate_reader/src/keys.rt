@@ -4,11 +4,10 @@ ghost use Rattle.asn1_certificate_reader.specs.Algorithms.{IsSignatureOf};
 ghost use Rattle.asn1_certificate_reader.specs.Keys.{AreBitsReadAs, IsCurveIn, IsKeyOf, IsModulusOf, IsSizeByAlgorithm, IsSizeByParameters, IsSizeOf, IsSizeOfRsa, IsSizeOnCurve};
 ghost use Rattle.asn1_items.specs.Bits.{bits_of_octets};
 
+use crate::inside::read_inside;
 use crate::objects::named;
 use crate::simple::copy_of;
-use asn1_certificate_inside::read_inside;
-use asn1_certificate_report::{KeySize, ShownKey, Signature};
-use asn1_certificate_text::{bit_length, curve_of};
+use asn1_certificate_text::{KeySize, ShownKey, Signature, bit_length, curve_of};
 use asn1_items::Content;
 use asn1_rules::Rules;
 use asn1_types::{Any, AnyStr};

@@ -1,41 +1,54 @@
-//! What is shown of a certificate, read by any codec that has its octets.
+//! The report of a certificate, read by any codec that has its octets, and the values that its open types cannot hold.
 //!
 //! | Item | What it is |
 //! |---|---|
-//! | [`report_of`] | what is shown of a certificate |
+//! | [`report_of`] | the report of a certificate |
+//! | [`read_inside`], [`MAX_DEPTH`] | the value that octets are read as, and how deep certificates may be nested |
+//! | [`first_name_fault`], [`NameFault`], [`ValueFault`] | the first value in a name that no name can have, and why |
+//! | [`bad_parameters`], [`ParameterType`] | parameters of an algorithm that are no value of the type of their tag |
 //!
-//! What a certificate has inside open types and octets is read by the same codec: the values of attributes, keys and their
-//! parameters, and the values of extensions. Where such a value is not of the type that it is asked for, its octets are shown; of a
-//! key, how many bits it is kept in.
+//! The contents of open types and octets are read by the same codec: the values of attributes, keys and their parameters, and the
+//! values of extensions. If such a value is not of the type that is expected there, the report has its octets, or the number of bits
+//! of a key. [`first_name_fault`] and [`bad_parameters`] look at octets in DER.
 //!
-//! What the contracts promise:
+//! The contracts promise:
 //!
 //! - A report has the version, the serial number, the two names, the times, the key and the algorithms of its certificate, and an
 //!   extension for each of its own, in their order, with its kind and whether it is critical (`report_of`: `IsReportOf` of
-//!   `specs/Reports.antt`). An object is shown by the name of a row of the table that has its arcs, and by no name where none has
+//!   `specs/Reports.antt`). An object has the name of a row of the table with its arcs, or no name if no row has them
 //!   (`IsObjectOf` of `specs/ObjectsShown.antt`).
-//! - A key is shown by the size of its modulus and its exponent, by its curve, by the one size that its algorithm has, or by how many
-//!   bits it is kept in (`IsKeyOf` of `specs/Keys.antt`).
-//! - The value of an extension is shown by the type that RFC 5280 has for its kind, where this is one of six (`IsValueOfKind` of
-//!   `specs/ExtensionValues.antt`, and for further names `specs/GeneralNamesShown.antt`), and by its octets where it is none of these
-//!   or the value is not of it.
-//! - A name is shown by its parts, from the last to the first, and these by their attributes, each with its kind and its value
-//!   (`IsNameOf` of `specs/NamesShown.antt`): the characters of the UniversalString of four octets each, the
-//!   DirectoryString, the IA5String or the NumericString that the value is read as, in this order (`IsValueOf`), or else
-//!   its octets.
-//!
-//! What octets are read as is said by `AreReadAs` of `asn1_certificate_inside`.
+//! - A key has the size of its modulus and its exponent, or its curve, or the one size of its algorithm, or the number of its bits
+//!   (`IsKeyOf` of `specs/Keys.antt`).
+//! - The value of an extension is read by the type that RFC 5280 has for its kind, for six types (`IsValueOfKind` of
+//!   `specs/ExtensionValues.antt`, and for further names `specs/GeneralNamesShown.antt`). Values of other kinds, and values that are
+//!   not of their type, are shown as octets.
+//! - A name is shown by its parts, from the last to the first, and each part by its attributes, each with its kind and its value
+//!   (`IsNameOf` of `specs/NamesShown.antt`). A value is read as a UniversalString of four octets for each character, a
+//!   DirectoryString, an IA5String or a NumericString, in this order (`IsValueOf`), and otherwise shown as octets.
+//! - Octets of a value of a type are read as a value that is equal to it (`AreReadAs` of `specs/Inside.antt`).
+//! - `first_name_fault` answers none if and only if a name can have each of the values, and otherwise the first value that no name
+//!   can have (`AnswersName` of `specs/NameFaults.antt`).
+//! - Parameters that `bad_parameters` refuses begin with an element, and are not what its tag asks for: they are of no valid
+//!   value of the type of the tag, nested in 64 scopes at most; they are no units of four octets under the tag of a UniversalString;
+//!   or they are not in the form that DER gives the tag (`HasBadParameters` of `specs/Parameters.antt`).
 #![tactic(auto)]
 
 mod attributes;
 mod characters;
 mod extensions;
 mod general_names;
+mod inside;
 mod keys;
+mod name_faults;
 mod name_strings;
 mod objects;
+mod parameters;
 mod report;
 mod shown_value;
 mod simple;
+mod units;
 
+pub use inside::{MAX_DEPTH, read_inside};
+pub use name_faults::{NameFault, ValueFault, first_name_fault};
+pub use parameters::{ParameterType, bad_parameters};
 pub use report::report_of;

@@ -4,10 +4,11 @@ ghost use Rattle.std.specs.Prelude.{◌≡◌, IfOk, Some};
 ghost use Rattle.std.specs.Str.{chars};
 ghost use Rattle.asn1_certificate_reader.specs.Characters.{directory_characters};
 ghost use Rattle.asn1_certificate_reader.specs.NamesShown.{AreCharactersRead};
-ghost use Rattle.asn1_certificate_inside.specs.Units.{universal_characters};
+ghost use Rattle.asn1_certificate_reader.specs.Units.{universal_characters};
 
 use crate::characters::{ascii_characters, directory_characters, text_characters};
-use asn1_certificate_inside::{read_inside, universal_characters};
+use crate::inside::read_inside;
+use crate::units::universal_characters;
 use asn1_dec::Decode;
 use asn1_model::tag::UNIVERSAL_STRING;
 use asn1_rules::Rules;

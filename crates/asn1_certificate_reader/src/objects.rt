@@ -2,10 +2,9 @@
 ghost use Rattle.std.specs.List.{AllZip};
 ghost use Rattle.std.specs.Prelude.{Contains, IfOk, MatchOption};
 ghost use Rattle.asn1_certificate_reader.specs.ObjectsShown.{IsObjectOf};
-ghost use Rattle.asn1_certificate_text.specs.Objects.{NamesObject, known_objects, object_names};
+ghost use Rattle.asn1_certificate_text.specs.Registry.{NamesObject, known_objects, object_names};
 
-use asn1_certificate_report::Object;
-use asn1_certificate_text::object_named;
+use asn1_certificate_text::{Object, object_named};
 use asn1_values::ObjectIdentifier;
 use std::alloc::{AllocError, Global};
 

@@ -6,7 +6,7 @@ use crate::attributes::name_of;
 use crate::extensions::extensions_of;
 use crate::keys::{key_of, signature_of};
 use crate::simple::{octet_number, time_of, version_of};
-use asn1_certificate_report::{Report, ShownExtension};
+use asn1_certificate_text::{Report, ShownExtension};
 use asn1_rules::Rules;
 use asn1_x509::{Certificate, Extension};
 use std::alloc::{AllocError, Global};

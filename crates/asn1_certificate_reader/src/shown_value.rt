@@ -5,10 +5,10 @@ ghost use Rattle.asn1_certificate_reader.specs.Options.{AreBothOrNone};
 ghost use Rattle.asn1_certificate_reader.specs.Simple.{IsOctetNumberOf};
 
 use crate::general_names::general_names_of;
+use crate::inside::read_inside;
 use crate::objects::all_named;
 use crate::simple::{copy_of, octet_number};
-use asn1_certificate_inside::read_inside;
-use asn1_certificate_report::{
+use asn1_certificate_text::{
     Authority, AuthorityKey, ExtensionValue, OctetNumber, ShownGeneralName,
 };
 use asn1_dec::Decode;
@@ -26,7 +26,7 @@ use std::alloc::{AllocError, Global};
 pub(crate) trait ShownValue: Decode {
     ghost use Rattle.std.specs.Prelude.{ℕ, Vec};
     ghost use Rattle.std.specs.declared.alloc.Global.{Global};
-    ghost use Rattle.asn1_certificate_report.specs.declared.extension.ExtensionValue.{ExtensionValue};
+    ghost use Rattle.asn1_certificate_text.specs.declared.extension.ExtensionValue.{ExtensionValue};
     ghost use Rattle.asn1_model.specs.Meaning.{IsWellTagged};
     ghost use Rattle.asn1_rules.specs.Rules.{Format};
 

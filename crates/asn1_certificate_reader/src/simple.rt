@@ -2,8 +2,7 @@
 ghost use Rattle.std.specs.Prelude.{◌≡◌, IfOk};
 ghost use Rattle.asn1_certificate_reader.specs.Simple.{IsOctetNumberOf, IsTextOfTime, IsTimeOf, IsVersionOf, SaysInGeneral, SaysInUtc};
 
-use asn1_certificate_report::{OctetNumber, ShownTime, Version};
-use asn1_certificate_text::Moment;
+use asn1_certificate_text::{Moment, OctetNumber, ShownTime, Version};
 use asn1_values::{Integer, VisibleString};
 use asn1_x509::Time;
 use std::alloc::{AllocError, Global};

@@ -2,13 +2,13 @@
 ghost use Rattle.std.specs.Prelude.{◌≡◌, ◌↔◌, ℕ, IsTrue, List};
 ghost use Rattle.asn1_certificate_text.specs.Pem.{HoldsCertificate};
 ghost use Rattle.asn1_certificate_text.specs.declared.moment.Moment.{Moment};
-ghost use Rattle.asn1_certificate_text.specs.declared.objects.Curve.{Curve};
-ghost use Rattle.asn1_certificate_text.specs.declared.objects.NamedObject.{NamedObject};
+ghost use Rattle.asn1_certificate_text.specs.declared.registry.Curve.{Curve};
+ghost use Rattle.asn1_certificate_text.specs.declared.registry.NamedObject.{NamedObject};
 ghost use Rattle.asn1_certificate_text.specs.declared.pem.PemError.{PemError};
 
 use crate::moment::Moment;
-use crate::objects::{Curve, NamedObject};
 use crate::pem::PemError;
+use crate::registry::{Curve, NamedObject};
 
 /// The octets of the first certificate in a text are determined by the text.
 pub fn texts_tell_their_first_certificate()

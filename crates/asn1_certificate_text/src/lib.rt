@@ -1,49 +1,75 @@
-//! The texts of which a certificate is shown, and the text in which one is kept.
+//! A certificate as text: the report that a person reads, and the text in which a certificate is kept.
 //!
 //! | Item | What it is |
 //! |---|---|
-//! | [`is_pem`], [`pem_octets`], [`certificate_octets`], [`PemError`] | a certificate between two lines, in base64 (RFC 7468) |
+//! | [`Report`], [`report_text`] | the parts of a certificate that are shown, and their lines |
+//! | [`AppendText`] | anything with a text |
+//! | [`Version`], [`OctetNumber`], [`ShownTime`] | the version, the serial number and the validity |
+//! | [`ShownName`], [`NamePart`], [`Attribute`], [`AttributeValue`] | the subject and the issuer |
+//! | [`ShownKey`], [`KeySize`], [`Signature`] | the public key, and the algorithm of the signature |
+//! | [`ShownExtension`], [`ExtensionValue`], [`ShownGeneralName`], [`Authority`], [`AuthorityKey`] | the extensions |
+//! | [`Object`] | an object identifier with its name |
+//! | [`object_named`], [`NamedObject`], [`curve_of`], [`Curve`] | the objects and curves with names |
+//! | [`Moment`] | a moment, read from the two kinds of time in a certificate (RFC 5280, 4.1.2.5) |
 //! | [`push_escaped`], [`push_shown`] | the value of an attribute of a name (RFC 4514), and other texts |
 //! | [`push_octets`], [`push_digits`] | octets in hexadecimal, with colons and without |
-//! | [`Moment`] | a moment, of the two kinds of time that a certificate has (RFC 5280, 4.1.2.5) |
 //! | [`push_address`] | an IP address |
-//! | [`object_named`], [`NamedObject`], [`curve_of`], [`Curve`] | object identifiers by name, and curves with their sizes |
-//! | [`bit_length`], [`push_usages`] | the size of a number, and what a key may be used for |
+//! | [`bit_length`], [`push_usages`] | the size of a number, and the usages of a key |
+//! | [`is_pem`], [`pem_octets`], [`certificate_octets`], [`PemError`] | a certificate between two lines, in base64 (RFC 7468) |
 //!
-//! What the contracts promise, and the words that they use:
+//! The contracts promise:
 //!
-//! - The octets of a text with a certificate are those that the base64 between the first line before a certificate and
-//!   the next line after one says, white space left out (`HoldsCertificate` of `specs/Pem.antt`). They are
-//!   determined by the text (`texts_tell_their_first_certificate` of [`laws`]).
-//! - An error says which byte of the text it is about: where the first line before a certificate ends, if there is none
-//!   after it; where the symbol is that base64 refuses; or where the base64 ends that is not whole (`IsRefusal` of
-//!   `specs/PemRefusals.antt`).
-//! - What is appended is said character by character: `escaped_text` of `specs/Escapes.antt`, `octets_text` of
-//!   `specs/Octets.antt`, `usages_text` of `specs/Bits.antt`. No control character is written as it is, and none that changes
-//!   the direction of others or ends a line.
+//! - The text of a report is one definition, `report_text` of `specs/Reports.antt`, over the definitions of its parts (`text_of` of
+//!   [`AppendText`]).
+//! - Each function that appends has a definition of the characters that it appends: `escaped_text` of `specs/Escapes.antt`,
+//!   `octets_text` of `specs/Octets.antt`, `usages_text` of `specs/Bits.antt`. Control characters are escaped, and so are characters
+//!   that change the direction of others or end a line.
 //! - A time is read as a moment if and only if it is written as RFC 5280 asks, and the moment is in the calendar
 //!   (`read` and `only` of [`Moment`], with the words of `specs/MomentTexts.antt`).
 //! - An object is found by its arcs if and only if a row of the table has these (`found`, `missing`), and has the name of
-//!   such a row (`listed`, over `object_names` and `curve_sizes` of `specs/Objects.antt`). That the rows say what the standards
-//!   say is data, and no clause.
-//! - Moments and errors are compared by what they are (`derives_keep_what_a_value_is` of [`laws`]).
+//!   such a row (`listed`, over `object_names` and `curve_sizes` of `specs/Registry.antt`). The rows themselves are data: no clause
+//!   compares them with the standards.
+//! - The octets of a text with a certificate are those that its base64 encodes, between the first line before a certificate and
+//!   the next line after one, white space left out (`HoldsCertificate` of `specs/Pem.antt`). The text determines them
+//!   (`texts_tell_their_first_certificate` of [`laws`]).
+//! - An error names a byte of the text: the end of the first line before a certificate, if no line follows that ends one; the symbol
+//!   that base64 refuses; or the end of base64 that is not whole (`IsRefusal` of `specs/PemRefusals.antt`).
+//! - Equality of moments and errors compares their contents (`derives_keep_what_a_value_is` of [`laws`]).
 //!
-//! The calls that append to a text fail only if memory runs out, and then have appended a part.
+//! The functions that append fail only if memory runs out, and may then have appended a part.
 #![tactic(auto)]
 
 mod address;
+mod append_text;
 mod bits;
 mod escapes;
+mod extension;
+mod general_name;
+mod key;
 pub mod laws;
 mod moment;
-mod objects;
+mod name;
+mod number;
+mod object;
 mod octets;
 mod pem;
+mod registry;
+mod report;
+mod time;
 
 pub use address::push_address;
+pub use append_text::AppendText;
 pub use bits::{bit_length, push_usages};
 pub use escapes::{push_escaped, push_shown};
+pub use extension::{Authority, AuthorityKey, ExtensionValue, ShownExtension};
+pub use general_name::ShownGeneralName;
+pub use key::{KeySize, ShownKey, Signature};
 pub use moment::Moment;
-pub use objects::{Curve, NamedObject, curve_of, object_named};
+pub use name::{Attribute, AttributeValue, NamePart, ShownName};
+pub use number::{OctetNumber, Version};
+pub use object::Object;
 pub use octets::{push_digits, push_octets};
 pub use pem::{PemError, certificate_octets, is_pem, pem_octets};
+pub use registry::{Curve, NamedObject, curve_of, object_named};
+pub use report::{Report, report_text};
+pub use time::ShownTime;

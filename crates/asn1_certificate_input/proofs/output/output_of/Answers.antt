@@ -41,8 +41,8 @@ returns-in_err-check_open_types-clause-refused c =
       certificate = c.in_ok-octets.certificate;
       read = c.in_ok-octets.ensures.read;
       refused =
-          subst (λ octets. IsRefusalOfCertificate c.args.form octets c.in_ok-octets.certificate c.in_err-check_open_types.field-0.0) c.as_slice.ensures.value
-          (c.in_err-check_open_types.ensures.refused c.args.form);
+          subst (λ octets. IsRefusalOfCertificate c.args.format octets c.in_ok-octets.certificate c.in_err-check_open_types.field-0.0) c.as_slice.ensures.value
+          (c.in_err-check_open_types.ensures.refused c.args.format);
     }))
 
 pub returns-in-Report-clause-refused : goal.returns-in-Report-clause-refused
@@ -52,7 +52,7 @@ returns-in-Report-clause-refused c =
       octets = c.in_ok-octets.octets.items;
       certificate = c.in_ok-octets.certificate;
       read = c.in_ok-octets.ensures.read;
-      refused = subst (IsRefusalOfCertificate c.args.form c.in_ok-octets.octets.items c.in_ok-octets.certificate) (sym is) tt;
+      refused = subst (IsRefusalOfCertificate c.args.format c.in_ok-octets.octets.items c.in_ok-octets.certificate) (sym is) tt;
     }))
     c.lines_of.ensures.memory
 
@@ -63,6 +63,6 @@ returns-clause-refused c =
       octets = c.in_ok-octets.octets.items;
       certificate = c.in_ok-octets.certificate;
       read = c.in_ok-octets.ensures.read;
-      refused = subst (λ form. IsRefusalOfCertificate form c.in_ok-octets.octets.items c.in_ok-octets.certificate e) (sym c.in-Der.is) is;
+      refused = subst (λ format. IsRefusalOfCertificate format c.in_ok-octets.octets.items c.in_ok-octets.certificate e) (sym c.in-Der.is) is;
     }))
     c.der_of.ensures.refused

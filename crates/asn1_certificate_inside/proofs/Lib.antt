@@ -1,3 +1,0 @@
-mod NameFaults
-mod ReadInside
-mod UnitByUnit

@@ -1,7 +1,0 @@
-use Rattle.std.proofs.Common.{take}
-use Rattle.std.specs.List.{All}
-use Rattle.asn1_certificate_inside.specs.NameFaults.{HasNoFault}
-use Rattle.asn1_certificate_inside.proofs.name_faults.first_in_part.Given as goal
-
-abbrev pub invariant-loop-place : goal.invariant-loop-place
-invariant-loop-place l = All HasNoFault (take l.place l.attributes)

@@ -1,0 +1,155 @@
+//! Values of attributes that no name can have.
+ghost use Rattle.std.specs.Prelude.{◌≡◌};
+ghost use Rattle.std.specs.Str.{is_utf8};
+ghost use Rattle.asn1_certificate_reader.specs.NameFaults.{AnswersName, AnswersPart, AnswersParts, counts_unused_bits, element_fault, has_contents_of_tag, has_tag_of_name, value_fault};
+ghost use Rattle.asn1_der_items.specs.Elements.{element_of};
+
+use crate::units::{are_bmp_characters, are_universal_characters};
+use asn1_der_items::{Element, find_element};
+use asn1_tags::Tag;
+use asn1_x509::{AttributeTypeAndValue, Name, RelativeDistinguishedName};
+use std::str;
+use thiserror::Error;
+
+/// Why a value is none that a name can have.
+#[derive(Clone, Copy, Debug, Drop, PartialEq, Eq, Error)]
+pub enum ValueFault {
+    /// Its tag is that of no kind of string, of no bits and of no SEQUENCE.
+    #[error("is no string")]
+    NoString,
+    /// Its octets are none of the type of its tag: no bits, no UTF-8, or no characters of a UniversalString or a BMPString.
+    #[error("has octets that its kind of string cannot have")]
+    BadString,
+}
+
+/// Which value of a name it cannot have, and why.
+#[derive(Clone, Copy, Debug, Drop, PartialEq, Eq, Error)]
+#[error("the value of attribute {attribute} in part {part} {fault}")]
+pub struct NameFault {
+    /// The part, from 0, in the name's own order.
+    pub part: usize,
+    /// The attribute of the part, from 0.
+    pub attribute: usize,
+    /// Why it is none.
+    pub fault: ValueFault,
+}
+
+/// The tags of the primitive values that a name can have.
+const PRIMITIVE_TAGS: [Tag; 8] = [
+    Tag::BIT_STRING,
+    Tag::UTF8_STRING,
+    Tag::NUMERIC_STRING,
+    Tag::PRINTABLE_STRING,
+    Tag::TELETEX_STRING,
+    Tag::IA5_STRING,
+    Tag::UNIVERSAL_STRING,
+    Tag::BMP_STRING,
+];
+
+/// The first value in a name in DER that it cannot have, if there is one. A name has values of seven kinds of string: those of a
+/// DirectoryString (RFC 5280, 4.1.2.4), an IA5String and a NumericString; and bits and SEQUENCEs, which a unique identifier and a
+/// postal address are. Which characters a kind of string may have is not asked, since certificates are in use that do not keep to it;
+/// but those of a UTF8String, a UniversalString and a BMPString have to be characters.
+pub fn first_name_fault(name: &Name) -> Option<NameFault>
+    ensures { AnswersName name.now result }
+{
+    match name {
+        Name::Rdns(parts) => first_in_parts(parts.as_slice()),
+    }
+}
+
+/// The same in the parts of a name.
+fn first_in_parts(parts: &[RelativeDistinguishedName]) -> Option<NameFault>
+    ensures { AnswersParts parts.now result }
+{
+    for (part, attributes) in parts.iter().enumerate() {
+        if let Some((attribute, fault)) = first_in_part(attributes.iter().as_slice()) {
+            return Some(NameFault {
+                part,
+                attribute,
+                fault,
+            });
+        }
+    }
+    None
+}
+
+/// The same in the attributes of a part, with the place of the attribute.
+fn first_in_part(attributes: &[AttributeTypeAndValue]) -> Option<(usize, ValueFault)>
+    ensures { AnswersPart attributes.now result }
+{
+    for (place, attribute) in attributes.iter().enumerate() {
+        if let Some(fault) = value_fault(attribute.value.as_bytes()) {
+            return Some((place, fault));
+        }
+    }
+    None
+}
+
+/// Why the octets of a value are none of a name, if they are none.
+#[tactic(auto, using(crate::proofs::NameFaults::no_element))]
+fn value_fault(octets: &[u8]) -> Option<ValueFault>
+    ensures { result ≡ value_fault octets.now }
+{
+    match find_element(octets) {
+        Ok(element) => element_fault(element),
+        Err(_) => Some(ValueFault::NoString),
+    }
+}
+
+/// The same of an element.
+fn element_fault(element: Element<'_>) -> Option<ValueFault>
+    ensures { result ≡ element_fault (element_of element.entry) }
+{
+    if !has_tag_of_name(element) {
+        return Some(ValueFault::NoString);
+    }
+    if !has_contents_of_tag(element) {
+        return Some(ValueFault::BadString);
+    }
+    None
+}
+
+/// Whether a name can have an element with this tag.
+fn has_tag_of_name(element: Element<'_>) -> bool
+    ensures { result ≡ has_tag_of_name (element_of element.entry) }
+{
+    if element.constructed {
+        return element.tag == Tag::SEQUENCE;
+    }
+    PRIMITIVE_TAGS.contains(&element.tag)
+}
+
+/// Whether the contents are such as the tag wants them, where it is that of a BIT STRING, a UTF8String, a UniversalString or a
+/// BMPString.
+fn has_contents_of_tag(element: Element<'_>) -> bool
+    ensures { result ≡ has_contents_of_tag (element_of element.entry) }
+{
+    if element.tag == Tag::BIT_STRING {
+        return counts_unused_bits(element.contents);
+    }
+    if element.tag == Tag::UTF8_STRING {
+        return is_utf8(element.contents);
+    }
+    if element.tag == Tag::UNIVERSAL_STRING {
+        return are_universal_characters(element.contents);
+    }
+    element.tag != Tag::BMP_STRING || are_bmp_characters(element.contents)
+}
+
+/// Whether the contents of a BIT STRING count no more than seven unused bits.
+fn counts_unused_bits(contents: &[u8]) -> bool
+    ensures { result ≡ counts_unused_bits contents.now }
+{
+    match contents {
+        [unused, ..] => *unused < 8,
+        [] => false,
+    }
+}
+
+/// Whether octets are UTF-8.
+fn is_utf8(octets: &[u8]) -> bool
+    ensures { result ≡ is_utf8 octets.now }
+{
+    str::from_utf8(octets).is_ok()
+}

@@ -1,5 +1,0 @@
-use Rattle.asn1_certificate_report.proofs.Appending.{further}
-use Rattle.asn1_certificate_report.proofs.key.push_modulus.Goals as goal
-
-pub returns : goal.returns
-returns c = further _ _ _ _ _ _ c.in_ok-write.ensures.bytes c.write-2.ensures.bytes

@@ -1,9 +1,0 @@
-pub mod Extensions
-pub mod GeneralNames
-pub mod Keys
-pub mod Lines
-pub mod ShownNames
-pub mod Numbers
-pub mod Objects
-pub mod Reports
-pub mod Times

@@ -1,0 +1,35 @@
+-- Public keys, and the algorithms of signatures.
+use Rattle.std.specs.Prelude.{ℕ, ℤ, List, [], ◌++◌, None, Option, Some, codes}
+use Rattle.std.specs.Fmt.{decimal}
+use Rattle.asn1_values.specs.Text.{integer_text}
+use Rattle.asn1_certificate_text.specs.declared.key.KeySize.{KeySize}
+use Rattle.asn1_certificate_text.specs.declared.key.KeySize.TheVariants.{Modulus, Curve, Fixed, UnnamedCurve, Kept}
+use Rattle.asn1_certificate_text.specs.declared.key.ShownKey.{ShownKey}
+use Rattle.asn1_certificate_text.specs.declared.key.Signature.{Signature}
+use Rattle.asn1_certificate_text.specs.declared.object.Object.{Object}
+use Rattle.asn1_certificate_text.specs.Objects.{object_text}
+
+-- a key of RSA
+abbrev pub modulus_text : ℕ → ℤ → List ℕ
+modulus_text bits exponent = (decimal bits ++ codes " bits, exponent ") ++ integer_text exponent
+
+-- the size of a key
+abbrev pub size_text : KeySize → List ℕ
+size_text (Modulus bits exponent) = modulus_text bits exponent
+size_text (Curve name bits) = name.now ++ (codes ", " ++ (decimal bits ++ codes " bits"))
+size_text (Fixed bits) = decimal bits ++ codes " bits"
+size_text (UnnamedCurve curve) = codes "curve " ++ object_text curve
+size_text (Kept bits) = codes "kept in " ++ (decimal bits ++ codes " bits")
+
+-- a key
+abbrev pub key_text : ShownKey → List ℕ
+key_text k = object_text k.algorithm ++ (codes ", " ++ size_text k.size)
+
+-- what is said inside, where that is not the same
+abbrev pub inside_text : Option Object → List ℕ
+inside_text (Some inside) = codes ", but inside " ++ object_text inside
+inside_text None = []
+
+-- the algorithm of a signature
+abbrev pub signature_text : Signature → List ℕ
+signature_text s = object_text s.algorithm ++ inside_text s.inside

@@ -1,0 +1,97 @@
+//! Public keys, and the algorithms of signatures.
+ghost use Rattle.std.specs.Prelude.{◌≡◌, ◌++◌, OnOk};
+ghost use Rattle.std.specs.String.{string_bytes};
+ghost use Rattle.asn1_certificate_text.specs.Keys.{inside_text, key_text, modulus_text, signature_text, size_text};
+
+use crate::append_text::{AppendText, push_after};
+use crate::object::Object;
+use asn1_values::Integer;
+use std::alloc::AllocError;
+use std::fmt::Write;
+
+/// A public key.
+#[derive(Drop)]
+pub struct ShownKey {
+    /// Its algorithm.
+    pub algorithm: Object,
+    /// Its size.
+    pub size: KeySize,
+}
+
+/// Its algorithm, and its size after a comma.
+impl AppendText for ShownKey {
+    ghost text_of = { key_text };
+
+    fn append_to(&self, text: &mut String) -> Result<(), AllocError> {
+        self.algorithm.append_to(text)?;
+        text.push_str(", ")?;
+        self.size.append_to(text)
+    }
+}
+
+/// The size of a public key.
+#[derive(Drop)]
+pub enum KeySize {
+    /// A key of RSA, by how many bits its modulus has, and its exponent.
+    Modulus(u128, Integer),
+    /// A key on a curve, by the curve's name and how many bits a key has on it.
+    Curve(&'static str, u32),
+    /// A key of an algorithm that has keys of this many bits alone.
+    Fixed(u32),
+    /// A key on a curve that has no name here.
+    UnnamedCurve(Object),
+    /// A key that is not looked into, by how many bits it is kept in.
+    Kept(usize),
+}
+
+impl AppendText for KeySize {
+    ghost text_of = { size_text };
+
+    fn append_to(&self, text: &mut String) -> Result<(), AllocError> {
+        match self {
+            KeySize::Modulus(bits, exponent) => push_modulus(text, *bits, exponent),
+            KeySize::Curve(name, bits) => write!(text, "{name}, {bits} bits"),
+            KeySize::Fixed(bits) => write!(text, "{bits} bits"),
+            KeySize::UnnamedCurve(curve) => push_after(text, "curve ", curve),
+            KeySize::Kept(bits) => write!(text, "kept in {bits} bits"),
+        }
+    }
+}
+
+/// Appends how many bits a modulus has, and the exponent.
+fn push_modulus(text: &mut String, bits: u128, exponent: &Integer) -> Result<(), AllocError>
+    ensures { OnOk result (string_bytes text.new ≡
+        string_bytes text.old ++ modulus_text bits exponent.now) }
+{
+    write!(text, "{bits} bits, exponent ")?;
+    write!(text, "{exponent}")
+}
+
+/// The algorithm of a signature, which a certificate says twice, and is not to say otherwise the second time (RFC 5280, 4.1.1.2).
+#[derive(Drop)]
+pub struct Signature {
+    /// What is said beside the signature.
+    pub algorithm: Object,
+    /// What is said in the part that is signed, where that is not the same.
+    pub inside: Option<Object>,
+}
+
+impl AppendText for Signature {
+    ghost text_of = { signature_text };
+
+    fn append_to(&self, text: &mut String) -> Result<(), AllocError> {
+        self.algorithm.append_to(text)?;
+        push_inside(text, &self.inside)
+    }
+}
+
+/// Appends what is said inside, where that is not the same.
+fn push_inside(text: &mut String, inside: &Option<Object>) -> Result<(), AllocError>
+    ensures { OnOk result
+        (string_bytes text.new ≡ string_bytes text.old ++ inside_text inside.now) }
+{
+    match inside {
+        Some(inside) => push_after(text, ", but inside ", inside),
+        None => Ok(()),
+    }
+}
