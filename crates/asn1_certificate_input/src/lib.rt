@@ -15,7 +15,7 @@
 //!   that is one element is its own octets, and the octets are read as the valid certificate whose DER they are, where there is one
 //!   (`IsCertificateOf` of `specs/Inputs.antt`).
 //! - Why an input is refused is so (`IsRefusalOfInput` of `specs/Refused.antt`). Where what is refused is a value in a name, or are
-//!   parameters, the place is that to which their path leads in the octets (`specs/Places.antt`).
+//!   parameters, the place is that to which their path leads in the octets (`specs/IndexedComponents.antt`).
 //!   The status is 1 where it is refused, and 2 where memory runs out or reading or writing fails (`status_after`).
 #![tactic(auto)]
 

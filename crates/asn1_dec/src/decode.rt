@@ -11,9 +11,8 @@ ghost use Rattle.std.specs.Result.{IsErrAnd};
 
 use crate::decoder::Decoder;
 use asn1_bounds::Constraints;
-use asn1_components::Choice;
+use asn1_components::{Choice, FieldTable};
 use asn1_laws::DecodeError;
-use asn1_components::FieldTable;
 use asn1_model::AsnType;
 use asn1_tags::Tag;
 

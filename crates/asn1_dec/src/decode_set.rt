@@ -7,8 +7,8 @@ ghost use Rattle.asn1_laws.specs.SetParts.{EachFits, EachIsOneRecord, MakesValue
 ghost use Rattle.std.specs.Prelude.{◌≡◌, ◌≤◌, Err, IfErr, IsSome, None, OnErr, OnOk, Some, length, ℕ};
 
 use crate::decoder::Decoder;
-use asn1_laws::DecodeError;
 use asn1_components::FieldTable;
+use asn1_laws::DecodeError;
 use asn1_tags::Tag;
 use std::alloc::Global;
 

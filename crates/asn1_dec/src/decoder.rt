@@ -30,10 +30,10 @@ use crate::sequences::read_sequence;
 use crate::sets::read_set;
 use crate::sets_of::read_set_of;
 use asn1_bounds::{Codec, Constraints};
-use asn1_components::{Choice, ChoiceType};
+use asn1_components::{
+    Choice, ChoiceType, ConstructedType, Enumerated, EnumeratedTable, FieldTable,
+};
 use asn1_laws::{DecodeError, Side};
-use asn1_components::{ConstructedType, FieldTable};
-use asn1_components::{Enumerated, EnumeratedTable};
 use asn1_tags::{Tag, TagTree};
 use asn1_types::{Any, CodecString, SetOf, Utf8};
 use asn1_values::kind::{
@@ -747,7 +747,7 @@ pub trait Decoder: Sized {
     }
 
     /// A SET, by its components, in whatever order they come. Of a type that is one it reads a value of the type, under whatever
-    /// constraints. A record whose tag no component has is refused with [`DecodeError::UnknownField`], by its place.
+    /// constraints. A record whose tag no component has is refused with [`DecodeError::UnknownField`], by its index.
     #[inline(always)]
     final fn decode_set<S: DecodeSet + ConstructedType>(
         &mut self,

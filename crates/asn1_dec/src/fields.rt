@@ -20,8 +20,8 @@ pub fn component_with_tag<C: FieldTable>(tag: Tag) -> Option<usize>
     if let Some(index) = component_with_one_tag::<C>(tag) {
         return Some(index);
     }
-    for place in 0..C::field_count() {
-        if let Some(field) = C::field_at(place) {
+    for index in 0..C::field_count() {
+        if let Some(field) = C::field_at(index) {
             if can_begin_with(field.tag_tree, tag) {
                 return Some(field.index);
             }
@@ -35,8 +35,8 @@ pub fn component_with_tag<C: FieldTable>(tag: Tag) -> Option<usize>
 fn component_with_one_tag<C: FieldTable>(tag: Tag) -> Option<usize>
     ensures { IfSome result (λ k. CanBeginWith (all_components C.components) k tag) }
 {
-    for place in 0..C::field_count() {
-        if let Some(field) = C::field_at(place) {
+    for index in 0..C::field_count() {
+        if let Some(field) = C::field_at(index) {
             if is_one_tag(field.tag_tree, tag) {
                 return Some(field.index);
             }

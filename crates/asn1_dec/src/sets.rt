@@ -8,8 +8,8 @@ ghost use Rattle.std.specs.Prelude.{◌≡◌, OnErr, OnOk, true};
 use crate::decode_set::DecodeSet;
 use crate::decoder::Decoder;
 use crate::fields::component_with_tag;
-use asn1_laws::DecodeError;
 use asn1_components::ConstructedType;
+use asn1_laws::DecodeError;
 use asn1_tags::Tag;
 
 /// The components that are left in a SET, of which there are at most this many records.
@@ -25,14 +25,14 @@ fn read_parts<S: DecodeSet, D: Decoder>(
     ensures has_failed { OnErr result (D.reader.failed decoder.new ≡ true) }
 {
     let mut parts = Vec::new(decoder.global());
-    for place in 0..bound {
+    for count in 0..bound {
         let tag = match decoder.next_component::<S>()? {
             Some(tag) => tag,
             None => return Ok(parts),
         };
         let index = match component_with_tag::<S>(tag) {
             Some(index) => index,
-            None => return Err(decoder.refuse(DecodeError::UnknownField { index: place, tag })),
+            None => return Err(decoder.refuse(DecodeError::UnknownField { index: count, tag })),
         };
         let part = match S::decode_field(decoder, index, tag) {
             Ok(part) => part,

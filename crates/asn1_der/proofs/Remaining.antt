@@ -1,6 +1,6 @@
 -- What remains of a decoder of DER: presence marks have no bytes, and a record is not the end.
 use Rattle.std.proofs.Common.{◌≡◌, ◌∙◌, false, List, [], ◌∷◌, refl, sym, subst}
-use Rattle.asn1_laws.proofs.Remaining.{same_as_record}
+use Rattle.asn1_laws.proofs.RemainingRecords.{same_as_record}
 use Rattle.asn1_laws.specs.Reading.{Outside}
 use Rattle.asn1_der.specs.Decoder.{Remains, der_form}
 use Rattle.asn1_der.specs.declared.decoder.DerDecoder.{DerDecoder}

@@ -10,8 +10,8 @@ ghost use Rattle.std.specs.Prelude.{◌≡◌};
 
 use crate::encode::EncodeFields;
 use crate::encoder::Encoder;
-use asn1_laws::EncodeError;
 use asn1_components::{ConstructedType, FieldTable};
+use asn1_laws::EncodeError;
 use asn1_tags::{Identifier, Tag};
 
 /// Whether a type of components is a SEQUENCE (X.680, 25) or a SET (27).

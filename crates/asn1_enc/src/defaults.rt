@@ -22,7 +22,7 @@ pub(crate) fn equals_default<
     F: FnOnce(Global) -> Result<T, AllocError>,
 >(encoder: &mut E, value: &T, default: F) -> Result<bool, EncodeError>
     requires { F.IsAlwaysCallable default }
-    ensures told { IfOk result (λ equal. (default_value : T) ×
+    ensures compared { IfOk result (λ equal. (default_value : T) ×
         MayAnswer F.FnOnce default default_value × (T.eq value.now default_value ≡ equal)) }
     ensures same { OnOk result (encoder.new ≡ encoder.old) }
     ensures refused { IfErr result (IsOutOfMemory E.writer encoder.old encoder.new) }

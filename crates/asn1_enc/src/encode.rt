@@ -2,7 +2,7 @@
 ghost use Rattle.asn1_components.specs.Alternatives.{all_of};
 ghost use Rattle.asn1_components.specs.ChosenTags.{chosen_tag as tag_of_chosen};
 ghost use Rattle.asn1_components.specs.Components.{all_components};
-ghost use Rattle.asn1_laws.specs.Places.{IsOfTypeAt, records_at};
+ghost use Rattle.asn1_laws.specs.IndexedComponents.{IsOfTypeAt, records_at};
 ghost use Rattle.asn1_laws.specs.Writing.{Writes};
 ghost use Rattle.asn1_laws.specs.GivenTypes.{as_it_is, given, with_constraints, with_tag};
 ghost use Rattle.asn1_laws.specs.WritingTypes.{WritesAlternative, WritesFields, WritesValue};
@@ -14,9 +14,8 @@ ghost use Rattle.std.specs.Prelude.{◌≡◌};
 use crate::encoder::Encoder;
 use crate::own_constraints::make_constraints;
 use asn1_bounds::Constraints;
-use asn1_components::Choice;
+use asn1_components::{Choice, FieldTable};
 use asn1_laws::EncodeError;
-use asn1_components::FieldTable;
 use asn1_model::AsnType;
 use asn1_tags::{Identifier, Tag};
 
@@ -125,21 +124,21 @@ pub trait Encode: AsnType {
     }
 }
 
-/// A type whose components are written one by one, each by its place: a SEQUENCE, a SET or a group of additions.
+/// A type whose components are written one by one, each by its index: a SEQUENCE, a SET or a group of additions.
 pub trait EncodeFields: FieldTable {
-    /// Writes the component at a place of the definition, and nothing at a place after the last.
-    fn encode_field<E: Encoder>(&self, place: usize, encoder: &mut E) -> Result<(), EncodeError>
+    /// Writes the component at an index of the definition, and nothing at an index after the last.
+    fn encode_field<E: Encoder>(&self, index: usize, encoder: &mut E) -> Result<(), EncodeError>
         ensures { Writes E.writer encoder.old
-            (records_at (all_components Self.components) place self.now)
-            (IsOfTypeAt (all_components Self.components) place self.now) encoder.new result };
+            (records_at (all_components Self.components) index self.now)
+            (IsOfTypeAt (all_components Self.components) index self.now) encoder.new result };
 
-    /// Writes all components, in the order of their definition: if a type has no other body, by a loop over the places.
+    /// Writes all components, in the order of their definition: if a type has no other body, by a loop over the indices.
     #[inline(always)]
     fn encode_fields<E: Encoder>(&self, encoder: &mut E) -> Result<(), EncodeError>
         ensures { WritesFields E.writer Self.components self.now encoder.old encoder.new result }
     {
-        for place in 0..Self::field_count() {
-            self.encode_field(place, encoder)?;
+        for index in 0..Self::field_count() {
+            self.encode_field(index, encoder)?;
         }
         Ok(())
     }

@@ -22,10 +22,10 @@ use crate::defaults::{equals_default, write_default};
 use crate::encode::{Encode, EncodeChoice, EncodeFields};
 use crate::optionals::{write_present, write_present_after_tag};
 use asn1_bounds::{Codec, Constraints};
-use asn1_components::{Choice, ChoiceType};
+use asn1_components::{
+    Choice, ChoiceType, ConstructedType, Enumerated, EnumeratedTable, FieldTable,
+};
 use asn1_laws::{EncodeError, Side};
-use asn1_components::{ConstructedType, FieldTable};
-use asn1_components::{Enumerated, EnumeratedTable};
 use asn1_model::AsnType;
 use asn1_tags::{Identifier, Tag};
 use asn1_types::{Any, CodecString, SetOf, Utf8};
@@ -77,7 +77,7 @@ pub trait Encoder: Sized {
             self.new result };
 
     /// The number of a value of an ENUMERATED type, whose items are those of the table of `E`: some codecs write the number,
-    /// some the item's name, and some its place.
+    /// some the item's name, and some its index.
     fn encode_enumerated_number<E: EnumeratedTable>(
         &mut self,
         tag: Tag,

@@ -7,7 +7,7 @@
 //! |---|---|
 //! | [`Encoder`] | a codec: the calls of its own, and on these the calls for whole types |
 //! | [`Encode`] | a type whose values are written, by seven entry points; one of them is the type's own |
-//! | [`EncodeFields`] | a type whose components are written, each by its place: a SEQUENCE, a SET or a group of additions |
+//! | [`EncodeFields`] | a type whose components are written, each by its index: a SEQUENCE, a SET or a group of additions |
 //! | [`EncodeChoice`] | a CHOICE whose chosen alternative is written |
 //! | [`encode_explicit_optional`] | writes a field that is an option, after an explicit tag |
 //! | [`EncodeError`] | why a value was not written |
@@ -32,8 +32,8 @@
 //!   record of it holds, presence marks alone never are, and the order inside sets means nothing.
 //! - The calls for whole types that open a scope at once answer `Depth` before any other error but `Failed` too
 //!   (`NeedsDepth`).
-//! - A type states a line for each component (`encode_field`, `specs/Places.antt` of `asn1_laws`), and no proof:
-//!   `EncodeFields::encode_fields` is a loop over the places of the field table, proved once, unless a type has its own.
+//! - A type states a line for each component (`encode_field`, `specs/IndexedComponents.antt` of `asn1_laws`), and no proof:
+//!   `EncodeFields::encode_fields` is a loop over the indices of the field table, proved once, unless a type has its own.
 //! - `encode_sequence` and `encode_set` (`as_meant`) and `encode_choice_with_tag` write the records of the type, by the law that
 //!   ties its meaning to its components or alternatives. So the writer of such a type is one call, without a proof, also of a
 //!   type that holds itself; such a type, its tables and its writer have to be in one crate.

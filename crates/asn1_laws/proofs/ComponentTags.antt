@@ -16,17 +16,17 @@ use Rattle.asn1_laws.specs.SetParts.{CanBeginWith}
 
 -- the component of a line, whose index is given from this on
 record LineOf {V : Type 0} (cs : List (ComponentType V)) (from : ℕ) (e : Entry) (t : Tag) : Type 0 where
-  place : ℕ
-  index : e.index ≡ from + place
-  begins : CanBeginWith cs place t
+  position : ℕ
+  index : e.index ≡ from + position
+  begins : CanBeginWith cs position t
 
 of_line : {V : Type 0} (cs : List (ComponentType V)) (from : ℕ) (e : Entry) (t : Tag) → Contains (entries_from from cs) e → Has (tree_tags e.tree) t → LineOf cs from e t
 of_line [] from e t (k, below, same) has = absurd (omega (arith, below))
 of_line (c ∷ cs) from e t (zero, below, same) has =
-    record { place = 0; index = omega (arith, ap (λ d. d.index) same); begins = subst (λ d. Has (tree_tags d.tree) t) (sym same) has }
+    record { position = 0; index = omega (arith, ap (λ d. d.index) same); begins = subst (λ d. Has (tree_tags d.tree) t) (sym same) has }
 of_line (c ∷ cs) from e t (suc k, below, same) has =
     let l = of_line cs (from + 1) e t (k, omega (arith, below), same) has in
-    record { place = suc l.place; index = omega (arith, l.index); begins = l.begins }
+    record { position = suc l.position; index = omega (arith, l.index); begins = l.begins }
 
 -- and the line of a component
 record HasLine {V : Type 0} (cs : List (ComponentType V)) (from : ℕ) (t : Tag) : Type 0 where
@@ -44,14 +44,14 @@ line_of (c ∷ cs) from (suc k) t begins =
 
 module _ {V : Type 0} (components : Components V) (t : Tag) where
   -- a line of the table that has the tag is of a component that has it
-  pub found : (place : ℕ) (e : Entry) → slice_get (table components) place ≡ Some e → Has (tree_tags e.tree) t → CanBeginWith (all_components components) e.index t
-  found place e at has =
+  pub found : (position : ℕ) (e : Entry) → slice_get (table components) position ≡ Some e → Has (tree_tags e.tree) t → CanBeginWith (all_components components) e.index t
+  found position e at has =
       let l = of_line (all_components components) 0 e t
-      (Contains-permutation (table components) (entries_from 0 (all_components components)) e (IsPermutation-sym _ _ (table_rearranges components)) (Contains-from_slice_get (table components) place e at)) has in
+      (Contains-permutation (table components) (entries_from 0 (all_components components)) e (IsPermutation-sym _ _ (table_rearranges components)) (Contains-from_slice_get (table components) position e at)) has in
       subst (λ k. CanBeginWith (all_components components) k t) (omega (arith, l.index)) l.begins
 
   -- where no line has the tag, no component has it
-  pub not_found : ((place : ℕ) (e : Entry) → place < length (table components) → slice_get (table components) place ≡ Some e → Has (tree_tags e.tree) t → ⊥) →
+  pub not_found : ((position : ℕ) (e : Entry) → position < length (table components) → slice_get (table components) position ≡ Some e → Has (tree_tags e.tree) t → ⊥) →
       (k : ℕ) → CanBeginWith (all_components components) k t → ⊥
   not_found none k begins =
       let l = line_of (all_components components) 0 k t begins in

@@ -20,7 +20,7 @@ pub mod ReadingSteps
 pub mod ReadingUpToOrder
 pub mod Rearrangements
 pub mod RecordsIn
-pub mod Remaining
+pub mod RemainingRecords
 pub mod SetRecords
 pub mod TellingTags
 pub mod TwoComponents

@@ -73,35 +73,35 @@ parts_at-push index_of k parts p =
 
 module _ {D V P : Type 0} (R : Reader D) (cs : List (ComponentType V)) (v : V) (index_of : P → ℕ) (IsPart : P → Type 0) where
   -- These parts were read, and others are left. The height is that of the records of all.
-  pub record PartsRead (d : D) (parts : List P) (height : ℕ) (outer : Outside) (place bound : ℕ) : Type 0 where
+  pub record PartsRead (d : D) (parts : List P) (height : ℕ) (outer : Outside) (count bound : ℕ) : Type 0 where
     pub todo : List Item
     pub one_each : EachIsOneRecord cs v
     pub are : All (IsAll cs v) todo
     pub each : All IsPart parts
     pub counted : (k : ℕ) → parts_at index_of k parts + items_at k todo ≡ length (written_of cs v k)
-    pub few : records_in (records todo) + place ≤ bound
+    pub few : records_in (records todo) + count ≤ bound
     pub low : height ≤ max (R.depth_left d) (highest (records todo))
     pub no_deeper : highest (records todo) ≤ height
     pub at : R.remains d (records todo, outer)
 
   -- The same, where the component of this index comes.
-  pub record ComponentComes (d : D) (parts : List P) (height : ℕ) (outer : Outside) (place bound index : ℕ) : Type 0 where
+  pub record ComponentComes (d : D) (parts : List P) (height : ℕ) (outer : Outside) (count bound index : ℕ) : Type 0 where
     pub todo : List Item
     pub one_each : EachIsOneRecord cs v
     pub is_there : written_of cs v index ≢ []
     pub are : All (IsAll cs v) todo
     pub each : All IsPart parts
     pub counted : (k : ℕ) → parts_at index_of k parts + (cond (index == k) 1 0 + items_at k todo) ≡ length (written_of cs v k)
-    pub few : suc (records_in (records todo)) + place ≤ bound
+    pub few : suc (records_in (records todo)) + count ≤ bound
     pub low : height ≤ max (R.depth_left d) (max (highest (written_of cs v index)) (highest (records todo)))
     pub no_deeper : max (highest (written_of cs v index)) (highest (records todo)) ≤ height
     pub at : R.remains d (written_of cs v index ++ records todo, outer)
 
   -- The same, where the component comes that can begin with the tag.
-  pub record AnotherComes (d : D) (parts : List P) (height : ℕ) (outer : Outside) (place bound : ℕ) (t : Tag) : Type 0 where
+  pub record AnotherComes (d : D) (parts : List P) (height : ℕ) (outer : Outside) (count bound : ℕ) (t : Tag) : Type 0 where
     pub index : ℕ
     pub begins : CanBeginWith cs index t
-    pub comes : ComponentComes d parts height outer place bound index
+    pub comes : ComponentComes d parts height outer count bound index
 
   -- The same, where none is left.
   pub record Through (d : D) (parts : List P) (height : ℕ) (outer : Outside) : Type 0 where
@@ -127,13 +127,13 @@ module _ {D V P : Type 0} (R : Reader D) (cs : List (ComponentType V)) (v : V) (
       }
 
   -- where the next tag could not be told
-  pub not_told : (e : D) {d : D} {parts : List P} {height : ℕ} {outer : Outside} {place bound : ℕ} {error : DecodeError} (b h : ℕ) (m : PartsRead d parts height outer place bound) →
+  pub not_told : (e : D) {d : D} {parts : List P} {height : ℕ} {outer : Outside} {count bound : ℕ} {error : DecodeError} (b h : ℕ) (m : PartsRead d parts height outer count bound) →
       Advances R d e 0 (records m.todo, outer) (marks_passed (records m.todo), outer) (IsNextTag cs (records m.todo)) (Err error) → MayFail b h error
   not_told e {error = error} b h m moves = flat_failure b h error (moves m.at)
 
   -- past the marks in front
-  past_marks : {d : D} {parts : List P} {height : ℕ} {outer : Outside} {place bound : ℕ} (e : D) (m : PartsRead d parts height outer place bound) →
-      R.remains e (marks_passed (records m.todo), outer) → R.depth_left e ≡ R.depth_left d → PartsRead e parts height outer place bound
+  past_marks : {d : D} {parts : List P} {height : ℕ} {outer : Outside} {count bound : ℕ} (e : D) (m : PartsRead d parts height outer count bound) →
+      R.remains e (marks_passed (records m.todo), outer) → R.depth_left e ≡ R.depth_left d → PartsRead e parts height outer count bound
   past_marks {outer = outer} e m at kept =
       let f = is_front m.todo in
       record {
@@ -156,11 +156,11 @@ module _ {D V P : Type 0} (R : Reader D) (cs : List (ComponentType V)) (v : V) (
   none_has t (k, below, same) = omega (arith, below)
 
   -- where a component comes
-  comes_first : {d : D} {parts : List P} {height : ℕ} {outer : Outside} {place bound : ℕ} (t : Tag) → EachIsWellTagged cs → (m : PartsRead d parts height outer place bound) →
-      BeginsWithRecord m.todo → (u : Tag) → Has (first_tags (records m.todo)) u → TellsComponent cs (first_tags (records m.todo)) t → AnotherComes d parts height outer place bound t
-  comes_first {d} {parts} {height} {outer} {place} {bound} t can m begins u has tells =
+  comes_first : {d : D} {parts : List P} {height : ℕ} {outer : Outside} {count bound : ℕ} (t : Tag) → EachIsWellTagged cs → (m : PartsRead d parts height outer count bound) →
+      BeginsWithRecord m.todo → (u : Tag) → Has (first_tags (records m.todo)) u → TellsComponent cs (first_tags (records m.todo)) t → AnotherComes d parts height outer count bound t
+  comes_first {d} {parts} {height} {outer} {count} {bound} t can m begins u has tells =
       elim m.todo as (λ todo. BeginsWithRecord todo → Has (first_tags (records todo)) u → TellsComponent cs (first_tags (records todo)) t → All (IsAll cs v) todo → ((k : ℕ) → parts_at index_of k parts + items_at k todo ≡ length (written_of cs v k)) →
-      records_in (records todo) + place ≤ bound → height ≤ max (R.depth_left d) (highest (records todo)) → highest (records todo) ≤ height → R.remains d (records todo, outer) → AnotherComes d parts height outer place bound t) [
+      records_in (records todo) + count ≤ bound → height ≤ max (R.depth_left d) (highest (records todo)) → highest (records todo) ≤ height → R.remains d (records todo, outer) → AnotherComes d parts height outer count bound t) [
         | [] ↦ λ begins has tells are counted few low no_deeper at. absurd (none_has u has)
         | j ∷ js ↦ λ no_mark has tells are counted few low no_deeper at.
             let is : written_of cs v j.0 ≡ j.1 ∷ [] = All-head (IsAll cs v) j js are no_mark in
@@ -183,8 +183,8 @@ module _ {D V P : Type 0} (R : Reader D) (cs : List (ComponentType V)) (v : V) (
       ]
       begins has tells m.are m.counted m.few m.low m.no_deeper m.at
 
-  pub comes : {d : D} {parts : List P} {height : ℕ} {outer : Outside} {place bound : ℕ} (e : D) (t : Tag) → EachIsWellTagged cs → (m : PartsRead d parts height outer place bound) →
-      Advances R d e 0 (records m.todo, outer) (marks_passed (records m.todo), outer) (IsNextTag cs (records m.todo)) (Ok (Some t)) → R.depth_left e ≡ R.depth_left d → AnotherComes e parts height outer place bound t
+  pub comes : {d : D} {parts : List P} {height : ℕ} {outer : Outside} {count bound : ℕ} (e : D) (t : Tag) → EachIsWellTagged cs → (m : PartsRead d parts height outer count bound) →
+      Advances R d e 0 (records m.todo, outer) (marks_passed (records m.todo), outer) (IsNextTag cs (records m.todo)) (Ok (Some t)) → R.depth_left e ≡ R.depth_left d → AnotherComes e parts height outer count bound t
   unfolding past_marks
   comes e t can m moves kept =
       let moved = moves m.at in
@@ -193,13 +193,13 @@ module _ {D V P : Type 0} (R : Reader D) (cs : List (ComponentType V)) (v : V) (
       comes_first t can (past_marks e m moved.at kept) f.begins told.0 (subst (λ a. Has a told.0) f.tags told.1.0) (subst (λ a. TellsComponent cs a t) f.tags told.1.1)
 
   -- which no other can
-  pub comes_at : {d : D} {parts : List P} {height : ℕ} {outer : Outside} {place bound : ℕ} {t : Tag} (index : ℕ) → AllApart cs → CanBeginWith cs index t →
-      AnotherComes d parts height outer place bound t → ComponentComes d parts height outer place bound index
-  comes_at {d} {parts} {height} {outer} {place} {bound} {t} index apart begins a =
-      subst (λ k. ComponentComes d parts height outer place bound k) (same_component cs a.index index t apart a.begins begins) a.comes
+  pub comes_at : {d : D} {parts : List P} {height : ℕ} {outer : Outside} {count bound : ℕ} {t : Tag} (index : ℕ) → AllApart cs → CanBeginWith cs index t →
+      AnotherComes d parts height outer count bound t → ComponentComes d parts height outer count bound index
+  comes_at {d} {parts} {height} {outer} {count} {bound} {t} index apart begins a =
+      subst (λ k. ComponentComes d parts height outer count bound k) (same_component cs a.index index t apart a.begins begins) a.comes
 
   -- where none is left
-  none_left : {d : D} {parts : List P} {height : ℕ} {outer : Outside} {place bound : ℕ} (m : PartsRead d parts height outer place bound) → m.todo ≡ [] → Through d parts height outer
+  none_left : {d : D} {parts : List P} {height : ℕ} {outer : Outside} {count bound : ℕ} (m : PartsRead d parts height outer count bound) → m.todo ≡ [] → Through d parts height outer
   none_left {d = d} {outer = outer} m none = record {
     parts_are = record {
       each = m.each;
@@ -216,7 +216,7 @@ module _ {D V P : Type 0} (R : Reader D) (cs : List (ComponentType V)) (v : V) (
       let one : records_in (records (i ∷ items)) ≡ suc (records_in (records items)) = ap (λ b. if b then records_in (records items) else suc (records_in (records items))) no_mark in
       absurd (omega (arith, few, one))
 
-  pub through : {d : D} {parts : List P} {height : ℕ} {outer : Outside} {place bound : ℕ} (e : D) → (m : PartsRead d parts height outer place bound) →
+  pub through : {d : D} {parts : List P} {height : ℕ} {outer : Outside} {count bound : ℕ} (e : D) → (m : PartsRead d parts height outer count bound) →
       Advances R d e 0 (records m.todo, outer) (marks_passed (records m.todo), outer) (IsNextTag cs (records m.todo)) (Ok None) → R.depth_left e ≡ R.depth_left d → Through e parts height outer
   unfolding past_marks
   through e m moves kept =
@@ -225,7 +225,7 @@ module _ {D V P : Type 0} (R : Reader D) (cs : List (ComponentType V)) (v : V) (
       none_left (past_marks e m moved.at kept) (few_none (front m.todo) f.begins (sym f.as_many ∙ no_records (records m.todo) (moved.answer.none refl)))
 
   -- where as many were read as there can be
-  pub filled : {d : D} {parts : List P} {height : ℕ} {outer : Outside} {place bound : ℕ} (e : D) (answer : Option Tag) → (m : PartsRead d parts height outer place bound) → bound ≤ place →
+  pub filled : {d : D} {parts : List P} {height : ℕ} {outer : Outside} {count bound : ℕ} (e : D) (answer : Option Tag) → (m : PartsRead d parts height outer count bound) → bound ≤ count →
       Advances R d e 0 (records m.todo, outer) (marks_passed (records m.todo), outer) (IsNextTag cs (records m.todo)) (Ok answer) → R.depth_left e ≡ R.depth_left d → Through e parts height outer
   unfolding past_marks
   filled e answer m full moves kept =
@@ -234,9 +234,9 @@ module _ {D V P : Type 0} (R : Reader D) (cs : List (ComponentType V)) (v : V) (
       none_left (past_marks e m moved.at kept) (few_none (front m.todo) f.begins (omega (arith, m.few, full, f.as_many)))
 
   -- after a component was read
-  pub further : {d : D} {parts : List P} {height : ℕ} {outer : Outside} {place bound index : ℕ} (e : D) (p : P) (a : ComponentComes d parts height outer place bound index) →
+  pub further : {d : D} {parts : List P} {height : ℕ} {outer : Outside} {count bound index : ℕ} (e : D) (p : P) (a : ComponentComes d parts height outer count bound index) →
       index_of p ≡ index → IsPart p → highest (written_of cs v index) ≤ R.depth_left d → R.remains e (records a.todo, outer) → R.depth_left e ≡ R.depth_left d →
-      PartsRead e (parts ++ p ∷ []) height outer (place + 1) bound
+      PartsRead e (parts ++ p ∷ []) height outer (count + 1) bound
   further {parts = parts} e p a own is_part low at kept = record {
     todo = a.todo;
     one_each = a.one_each;

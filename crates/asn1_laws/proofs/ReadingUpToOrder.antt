@@ -7,7 +7,7 @@ use Rattle.asn1_laws.specs.ReadingTypes.{ReadsContent, ReadsOpenType}
 use Rattle.asn1_laws.specs.ReadingUpToOrder.{RemainsUpToOrder, up_to_order}
 use Rattle.asn1_laws.specs.Reading.{Remaining, Outside, Reader, SameRemaining, SameOutside, nothing, scope_and, records_in, IsLawful, HasAdvanced, Advances, MayFail, ReadsMark, ReadsEnd, TellsPresence, TellsMore, TellsNextTag, IsNextTag, ReadsHead, ReadsHeadOfSet, SetIsOpen, marks_passed}
 use Rattle.asn1_laws.specs.declared.decode_error.DecodeError.{DecodeError}
-use Rattle.asn1_laws.proofs.Remaining.{SameRemaining-refl, SameRemaining-trans, same_as_record, same_as_scope, same_as_end}
+use Rattle.asn1_laws.proofs.RemainingRecords.{SameRemaining-refl, SameRemaining-trans, same_as_record, same_as_scope, same_as_end}
 use Rattle.asn1_laws.proofs.MarksPassed.{same-marks_passed, same-next_tag}
 use Rattle.asn1_laws.proofs.RecordsIn.{records_in-permutation, same-records_in}
 use Rattle.asn1_model.specs.ConstraintSets.{ConstraintSet}

@@ -4,7 +4,7 @@ use Rattle.asn1_components.specs.ComponentLists.{all_records, EachIsOfType}
 use Rattle.asn1_components.specs.ComponentTypes.{ComponentType}
 use Rattle.asn1_laws.proofs.WritingSteps.{append_both, fails_around}
 use Rattle.asn1_laws.specs.declared.encode_error.EncodeError.{EncodeError}
-use Rattle.asn1_laws.specs.Places.{records_at, IsOfTypeAt}
+use Rattle.asn1_laws.specs.IndexedComponents.{records_at, IsOfTypeAt}
 use Rattle.asn1_laws.specs.Writing.{Writer, IsLawful, Appends, Fails}
 
 records_next : {V : Type 0} (cs : List (ComponentType V)) (k : ℕ) (v : V) → all_records (take k cs) v ++ records_at cs k v ≡ all_records (take (suc k) cs) v

@@ -13,7 +13,7 @@ use Rattle.asn1_laws.specs.WritingTypes.{WritesDefault}
 module _ {E V : Type 0} (W : Writer E) (type : TaggedType V) (IsDefault : V → Type 0) (eq : V → V → Bool) (v : V) (a b : E) {A : Type 0} (result : Result A EncodeError) where
   -- memory ran out before it was known
   pub default_refused : {e : EncodeError} → IsErrAnd result (λ y. y ≡ e) → IsOutOfMemory W a b e → WritesDefault W type IsDefault eq v a b result
-  default_refused is out equal told = exits W _ _ _ _ result is (refused W _ out)
+  default_refused is out equal agree = exits W _ _ _ _ result is (refused W _ out)
 
   -- what is written where it equals the default, or does not
   default_is : (found equal : Bool) → found ≡ equal → Writes W a (default_records in_root found type.tag (type.records v)) (found ≡ false → type.IsOfType v) b result →
@@ -24,11 +24,11 @@ module _ {E V : Type 0} (W : Writer E) (type : TaggedType V) (IsDefault : V → 
   -- it equals the default
   pub default_absent : (found : Bool) → (default_value : V) × IsDefault default_value × (eq v default_value ≡ found) → found ≡ true →
       Writes W a (option_records in_root type.tag None) ⊤ b result → WritesDefault W type IsDefault eq v a b result
-  default_absent found known is wrote equal told =
-      default_is true equal (sym is ∙ sym known.2 ∙ told known.0 known.1) (in_other_words W a b _ result (λ _ wrong. cc) wrote)
+  default_absent found known is wrote equal agree =
+      default_is true equal (sym is ∙ sym known.2 ∙ agree known.0 known.1) (in_other_words W a b _ result (λ _ wrong. cc) wrote)
 
   -- it does not
   pub default_there : (found : Bool) → (default_value : V) × IsDefault default_value × (eq v default_value ≡ found) → found ≡ false →
       Writes W a (option_records in_root type.tag (Some (type.records v))) (type.IsOfType v) b result → WritesDefault W type IsDefault eq v a b result
-  default_there found known is wrote equal told =
-      default_is false equal (sym is ∙ sym known.2 ∙ told known.0 known.1) (in_other_words W a b _ result (λ of_type _. of_type) wrote)
+  default_there found known is wrote equal agree =
+      default_is false equal (sym is ∙ sym known.2 ∙ agree known.0 known.1) (in_other_words W a b _ result (λ of_type _. of_type) wrote)

@@ -37,7 +37,7 @@ reason Depth = too_deep
 reason Failed = has_failed
 reason OutOfRange = out_of_range
 
--- The number of what is said: its place above, from 1.
+-- The number of what is said: its index above, from 1.
 abbrev pub number : Reason → ℕ
 number (custom message) = 1
 number (incomplete needed) = 2

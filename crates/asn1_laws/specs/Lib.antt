@@ -2,7 +2,7 @@ pub mod DecodeErrors
 pub mod Defaults
 pub mod EncodeErrors
 pub mod GivenTypes
-pub mod Places
+pub mod IndexedComponents
 pub mod Reading
 pub mod ReadingTypes
 pub mod ReadingUpToOrder

@@ -41,7 +41,7 @@ module _ {D : Type 0} (R : Reader D) where
   abbrev pub ReadsHeadOfChoice : ConstraintSet → Alternatives → D → D → Result Tag DecodeError → Type 0
   ReadsHeadOfChoice c alternatives old new result =
       (tag : Tag) → HaveDistinctTags (all_of alternatives) → Each CanBeChosen (all_of alternatives) →
-      ReadsHead R old new (alternative tag c (table_of alternatives)) (λ _ told. TellsAlternative tag told (all_of alternatives)) result
+      ReadsHead R old new (alternative tag c (table_of alternatives)) (λ _ answered. TellsAlternative tag answered (all_of alternatives)) result
 
 module _ {D : Type 0} (R : Reader D) {V : Type 0} where
   -- A call that reads a value of a well-tagged type, under any name: of each that is of the type

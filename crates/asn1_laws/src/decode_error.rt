@@ -46,7 +46,7 @@ pub enum DecodeError {
     /// A SET has no component of this tag.
     #[error("unknown field {index}, {tag}")]
     UnknownField {
-        /// The place among the records of the SET.
+        /// The index among the records of the SET.
         index: usize,
         /// The tag.
         tag: Tag,
@@ -74,7 +74,7 @@ pub enum DecodeError {
 }
 
 impl DecodeError {
-    /// The number of the error: the place of its case in the definition, from 1.
+    /// The number of the error: the index of its case in the definition, from 1.
     pub fn number(self) -> u8
         ensures { result ≡ number (reason self) }
     {

@@ -20,7 +20,7 @@
 //! | `SetParts.antt` | the components of a SET, as they are read: one by one, in whatever order |
 //! | `GivenTypes.antt`, `Defaults.antt` | a type under what a call is given, and a default that a closure makes |
 //! | `WritingTypes.antt`, `ReadingTypes.antt` | what a call writes of the values of a type, and what a call reads |
-//! | `Places.antt`, `Sides.antt` | the component at a place, and the side of an extension marker on which it is |
+//! | `IndexedComponents.antt`, `Sides.antt` | the component at an index, and the side of an extension marker on which it is |
 //! | `EncodeErrors.antt`, `DecodeErrors.antt` | what an error says |
 //!
 //! For authors of types whose components are read in their order `proofs/ReadingComponents.antt` has lemmas, and for those of a

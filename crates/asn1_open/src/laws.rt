@@ -42,7 +42,7 @@ pub fn places_are_from_0_to_8()
 
 /// A law of equality: two values are equal if and only if they are of one alternative (`one_alternative`), and what they hold is
 /// equal: the same bits, octets, arcs, number or text; and of an INSTANCE OF the same name of a type, and an equal value.
-pub fn values_are_equal_by_what_they_hold()
+pub fn values_are_equal_by_their_contents()
     ensures one_alternative { (v w : Open) → ⟦<Open as PartialEq>⟧.eq v w ≡ true →
         (chosen (all_of ⟦<Open as Choice>⟧.alternatives) (⟦<Open as Choice>⟧.pick v)).name ≡
         (chosen (all_of ⟦<Open as Choice>⟧.alternatives) (⟦<Open as Choice>⟧.pick w)).name }

@@ -7,7 +7,7 @@ ghost use Rattle.asn1_types.specs.Words.{IsWellTagged, constructed_agrees, const
 use asn1_dec::{Decode, DecodeError, Decoder};
 use asn1_enc::{Encode, EncodeError, EncodeFields, Encoder};
 use asn1_slots::{
-    DecodeByPlace, Decoded, Tagging, decode_sequence_naming_errors, filled, required,
+    DecodeByIndex, Decoded, Tagging, decode_sequence_naming_errors, filled, required,
 };
 use asn1_types::{
     AsnType, Constraints, ConstructedType, Field, FieldTable, Identifier, Tag, TypeTable,
@@ -24,7 +24,7 @@ pub struct AttributeValueAssertion {
     pub value: OctetString,
 }
 
-impl DecodeByPlace for AttributeValueAssertion {
+impl DecodeByIndex for AttributeValueAssertion {
     type Slots = (Option<OctetString>, Option<OctetString>);
 
     ghost layout = { required_slot (codes "attributeDesc") (λ v. v.attribute) (λ s. s.0)
@@ -42,8 +42,8 @@ impl DecodeByPlace for AttributeValueAssertion {
         })
     }
 
-    fn decode_field<D: Decoder>(place: usize, slots: &mut Self::Slots, decoder: &mut D) -> Decoded {
-        match place {
+    fn decode_field<D: Decoder>(index: usize, slots: &mut Self::Slots, decoder: &mut D) -> Decoded {
+        match index {
             0 => required(&mut slots.0, decoder, Tagging::Untagged),
             1 => required(&mut slots.1, decoder, Tagging::Untagged),
             _ => Ok(()),
@@ -52,14 +52,14 @@ impl DecodeByPlace for AttributeValueAssertion {
 }
 
 impl FieldTable for AttributeValueAssertion {
-    ghost components = { sequence_of_slots ⟦<AttributeValueAssertion as DecodeByPlace>⟧.layout };
+    ghost components = { sequence_of_slots ⟦<AttributeValueAssertion as DecodeByIndex>⟧.layout };
 
     fn field_count() -> usize {
         2
     }
 
-    fn field_at(place: usize) -> Option<Field<'static>> {
-        match place {
+    fn field_at(index: usize) -> Option<Field<'static>> {
+        match index {
             0 => Some(Field::new_required_type::<OctetString>(0, "attributeDesc")),
             1 => Some(Field::new_required_type::<OctetString>(1, "assertionValue")),
             _ => None,
@@ -105,8 +105,8 @@ impl Encode for AttributeValueAssertion {
 }
 
 impl EncodeFields for AttributeValueAssertion {
-    fn encode_field<E: Encoder>(&self, place: usize, encoder: &mut E) -> Result<(), EncodeError> {
-        match place {
+    fn encode_field<E: Encoder>(&self, index: usize, encoder: &mut E) -> Result<(), EncodeError> {
+        match index {
             0 => self.attribute.encode(encoder),
             1 => self.value.encode(encoder),
             _ => Ok(()),

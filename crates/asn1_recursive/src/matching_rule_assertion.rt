@@ -15,7 +15,7 @@ ghost use Rattle.asn1_types.specs.Words.{IsWellTagged, constructed_agrees, const
 use asn1_dec::{Decode, DecodeError, Decoder};
 use asn1_enc::{Encode, EncodeError, EncodeFields, Encoder};
 use asn1_slots::{
-    DecodeByPlace, Decoded, Tagging, decode_sequence_naming_errors, filled, optional, or_default,
+    DecodeByIndex, Decoded, Tagging, decode_sequence_naming_errors, filled, optional, or_default,
     required,
 };
 use asn1_types::{
@@ -57,7 +57,7 @@ const DN_ATTRIBUTES: Tag = Tag {
     value: 4,
 };
 
-impl DecodeByPlace for MatchingRuleAssertion {
+impl DecodeByIndex for MatchingRuleAssertion {
     type Slots = (
         Option<OctetString>,
         Option<OctetString>,
@@ -86,8 +86,8 @@ impl DecodeByPlace for MatchingRuleAssertion {
         })
     }
 
-    fn decode_field<D: Decoder>(place: usize, slots: &mut Self::Slots, decoder: &mut D) -> Decoded {
-        match place {
+    fn decode_field<D: Decoder>(index: usize, slots: &mut Self::Slots, decoder: &mut D) -> Decoded {
+        match index {
             0 => optional(&mut slots.0, decoder, Tagging::Tagged(MATCHING_RULE)),
             1 => optional(&mut slots.1, decoder, Tagging::Tagged(ATTRIBUTE)),
             2 => required(&mut slots.2, decoder, Tagging::Tagged(VALUE)),
@@ -98,14 +98,14 @@ impl DecodeByPlace for MatchingRuleAssertion {
 }
 
 impl FieldTable for MatchingRuleAssertion {
-    ghost components = { sequence_of_slots ⟦<MatchingRuleAssertion as DecodeByPlace>⟧.layout };
+    ghost components = { sequence_of_slots ⟦<MatchingRuleAssertion as DecodeByIndex>⟧.layout };
 
     fn field_count() -> usize {
         4
     }
 
-    fn field_at(place: usize) -> Option<Field<'static>> {
-        match place {
+    fn field_at(index: usize) -> Option<Field<'static>> {
+        match index {
             0 => Some(Field::new_optional_type_with_tag::<OctetString>(
                 0,
                 MATCHING_RULE,
@@ -157,8 +157,8 @@ impl Encode for MatchingRuleAssertion {
 }
 
 impl EncodeFields for MatchingRuleAssertion {
-    fn encode_field<E: Encoder>(&self, place: usize, encoder: &mut E) -> Result<(), EncodeError> {
-        match place {
+    fn encode_field<E: Encoder>(&self, index: usize, encoder: &mut E) -> Result<(), EncodeError> {
+        match index {
             0 => self.matching_rule.encode_with_tag(encoder, MATCHING_RULE),
             1 => self.attribute.encode_with_tag(encoder, ATTRIBUTE),
             2 => self.value.encode_with_tag(encoder, VALUE),

@@ -6,7 +6,7 @@ ghost use Rattle.asn1_recursive.specs.declared.substring.Substring.TheVariants.{
 
 use asn1_dec::{Decode, DecodeChoice, DecodeError, Decoder};
 use asn1_enc::{Encode, EncodeChoice, EncodeError, Encoder};
-use asn1_slots::{DecodeChoiceByPlace, Tagging, alternative, from_tag_by_place};
+use asn1_slots::{DecodeChoiceByIndex, Tagging, alternative, from_tag_by_index};
 use asn1_types::{
     AsnType, Choice, ChoiceType, Class, Constraints, Identifier, Tag, TagTree, TypeTable,
 };
@@ -45,15 +45,15 @@ const SUBSTRING: &[TagTree<'static>] = &[
     TagTree::Leaf(FINAL),
 ];
 
-impl DecodeChoiceByPlace for Substring {
+impl DecodeChoiceByIndex for Substring {
     ghost cases = { variant (codes "initial") Initial (tagged (context 0) ⟦<OctetString as AsnType>⟧.meaning) ⟦<OctetString as PartialEq>⟧.eq ∷
         variant (codes "any") Any (tagged (context 1) ⟦<OctetString as AsnType>⟧.meaning) ⟦<OctetString as PartialEq>⟧.eq ∷
         variant (codes "final") Final (tagged (context 2) ⟦<OctetString as AsnType>⟧.meaning) ⟦<OctetString as PartialEq>⟧.eq ∷ [] };
 
     ghost case_of = { elim [ Initial part ↦ inl part | Any part ↦ inr (inl part) | Final part ↦ inr (inr (inl part)) ] };
 
-    fn decode_alternative<D: Decoder>(place: usize, decoder: &mut D) -> Result<Self, DecodeError> {
-        match place {
+    fn decode_alternative<D: Decoder>(index: usize, decoder: &mut D) -> Result<Self, DecodeError> {
+        match index {
             0 => Ok(Substring::Initial(alternative(decoder, Tagging::Tagged(INITIAL))?)),
             1 => Ok(Substring::Any(alternative(decoder, Tagging::Tagged(ANY))?)),
             2 => Ok(Substring::Final(alternative(decoder, Tagging::Tagged(FINAL))?)),
@@ -65,9 +65,9 @@ impl DecodeChoiceByPlace for Substring {
 }
 
 impl Choice for Substring {
-    ghost alternatives = { choice_of_cases ⟦<Substring as DecodeChoiceByPlace>⟧.cases };
+    ghost alternatives = { choice_of_cases ⟦<Substring as DecodeChoiceByIndex>⟧.cases };
 
-    ghost pick = { ⟦<Substring as DecodeChoiceByPlace>⟧.case_of };
+    ghost pick = { ⟦<Substring as DecodeChoiceByIndex>⟧.case_of };
 
     fn variants() -> &'static [TagTree<'static>] {
         SUBSTRING
@@ -145,6 +145,6 @@ impl Decode for Substring {
 
 impl DecodeChoice for Substring {
     fn from_tag<D: Decoder>(decoder: &mut D, tag: Tag) -> Result<Substring, DecodeError> {
-        from_tag_by_place(decoder, tag)
+        from_tag_by_index(decoder, tag)
     }
 }

@@ -8,7 +8,7 @@ use crate::substring::Substring;
 use asn1_dec::{Decode, DecodeError, Decoder};
 use asn1_enc::{Encode, EncodeError, EncodeFields, Encoder};
 use asn1_slots::{
-    DecodeByPlace, Decoded, Tagging, decode_sequence_naming_errors, filled, required,
+    DecodeByIndex, Decoded, Tagging, decode_sequence_naming_errors, filled, required,
 };
 use asn1_types::{
     AsnType, Constraints, ConstructedType, Field, FieldTable, Identifier, Tag, TypeTable,
@@ -28,7 +28,7 @@ pub struct SubstringFilter {
     pub substrings: Substrings,
 }
 
-impl DecodeByPlace for SubstringFilter {
+impl DecodeByIndex for SubstringFilter {
     type Slots = (Option<OctetString>, Option<Substrings>);
 
     ghost layout = { required_slot (codes "type") (λ v. v.attribute) (λ s. s.0)
@@ -43,8 +43,8 @@ impl DecodeByPlace for SubstringFilter {
         })
     }
 
-    fn decode_field<D: Decoder>(place: usize, slots: &mut Self::Slots, decoder: &mut D) -> Decoded {
-        match place {
+    fn decode_field<D: Decoder>(index: usize, slots: &mut Self::Slots, decoder: &mut D) -> Decoded {
+        match index {
             0 => required(&mut slots.0, decoder, Tagging::Untagged),
             1 => required(&mut slots.1, decoder, Tagging::Untagged),
             _ => Ok(()),
@@ -53,14 +53,14 @@ impl DecodeByPlace for SubstringFilter {
 }
 
 impl FieldTable for SubstringFilter {
-    ghost components = { sequence_of_slots ⟦<SubstringFilter as DecodeByPlace>⟧.layout };
+    ghost components = { sequence_of_slots ⟦<SubstringFilter as DecodeByIndex>⟧.layout };
 
     fn field_count() -> usize {
         2
     }
 
-    fn field_at(place: usize) -> Option<Field<'static>> {
-        match place {
+    fn field_at(index: usize) -> Option<Field<'static>> {
+        match index {
             0 => Some(Field::new_required_type::<OctetString>(0, "type")),
             1 => Some(Field::new_required_type::<Substrings>(1, "substrings")),
             _ => None,
@@ -106,8 +106,8 @@ impl Encode for SubstringFilter {
 }
 
 impl EncodeFields for SubstringFilter {
-    fn encode_field<E: Encoder>(&self, place: usize, encoder: &mut E) -> Result<(), EncodeError> {
-        match place {
+    fn encode_field<E: Encoder>(&self, index: usize, encoder: &mut E) -> Result<(), EncodeError> {
+        match index {
             0 => self.attribute.encode(encoder),
             1 => self.substrings.encode(encoder),
             _ => Ok(()),

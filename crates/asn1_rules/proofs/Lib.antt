@@ -1,6 +1,6 @@
 pub mod ItemFronts
 pub mod Outputs
 pub mod PiecesRead
-pub mod Remaining
+pub mod UnreadBytes
 pub mod Steps
 pub mod Streams

@@ -8,9 +8,9 @@ use Rattle.std.proofs.lemmas.List.Concat.{flat_map-cons}
 use Rattle.asn1_laws.specs.declared.decode_error.DecodeError.{DecodeError}
 use Rattle.asn1_rules.specs.Fronts.{Fronts, IsNoFront, IsSteady}
 use Rattle.asn1_rules.specs.Pieces.{ComeBack, joined}
-use Rattle.asn1_rules.specs.Remaining.{Remains}
+use Rattle.asn1_rules.specs.UnreadBytes.{Remains}
 use Rattle.asn1_rules.specs.States.{State, appended}
-use Rattle.asn1_rules.proofs.Remaining.{all_came, one_failed}
+use Rattle.asn1_rules.proofs.UnreadBytes.{all_came, one_failed}
 
 -- The next piece is put behind what is unread.
 next_piece : (pieces : List (Bor (List ℕ))) (i : ℕ) (d : Bor (List ℕ)) (unread : List ℕ) → i < length pieces →
@@ -28,8 +28,8 @@ no_piece_left pieces i unread all = ap (λ l. unread ++ joined l) (drop_all i pi
 
 -- What the test of an answer tells.
 pub none_if : {T : Type 0} (o : Option T) (b : Bool) → is_some o ≡ not b → b ≡ true → o ≡ None
-none_if None b told yes_none = refl
-none_if (Some x) b told yes_none = let f : true ≡ not true = subst (λ v. true ≡ not v) yes_none told in cc
+none_if None b known yes_none = refl
+none_if (Some x) b known yes_none = let f : true ≡ not true = subst (λ v. true ≡ not v) yes_none known in cc
 
 pub at_most_of : (last : Option DecodeError) (k n : ℕ) (P : DecodeError → Type 0) → MatchOption last (k ≡ n) (λ e. (k < n) × P e) → k ≤ n
 at_most_of None k n P ended = omega arith
@@ -52,8 +52,8 @@ module _ {R V : Type 0} (F : Fronts R V) (reader : R) where
   -- An error was the last answer.
   pub still_failing : (last : Option DecodeError) (b : Bool) (A Z : Type 0) (first : R) (unread : List ℕ) (i k n : ℕ) → is_some last ≡ not b → b ≡ false → first ≡ reader →
       MatchOption last A (λ e. (k < n) × IsNoFront F first unread e) → MatchOption last Z (λ e. (0 < i + 1) × (k < n) × IsNoFront F reader unread e)
-  still_failing None b A Z first unread i k n told some same ended = let f : false ≡ not false = subst (λ v. false ≡ not v) some told in cc
-  still_failing (Some e) b A Z first unread i k n told some same ended =
+  still_failing None b A Z first unread i k n known some same ended = let f : false ≡ not false = subst (λ v. false ≡ not v) some known in cc
+  still_failing (Some e) b A Z first unread i k n known some same ended =
       let above : 0 < i + 1 = omega arith in (above, ended.0, subst (λ r. IsNoFront F r unread e) same ended.1)
 
   -- After the last piece.

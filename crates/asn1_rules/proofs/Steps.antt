@@ -4,9 +4,9 @@ use Rattle.std.specs.Prelude.{Option, None, Some, Result, Ok, Err}
 use Rattle.asn1_laws.specs.declared.decode_error.DecodeError.{DecodeError}
 use Rattle.asn1_rules.specs.Fronts.{Fronts, IsFront, IsLawful, IsSteady}
 use Rattle.asn1_rules.specs.Progress.{Kept, Steps, Took}
-use Rattle.asn1_rules.specs.Remaining.{Remains}
+use Rattle.asn1_rules.specs.UnreadBytes.{Remains}
 use Rattle.asn1_rules.specs.States.{State}
-use Rattle.asn1_rules.proofs.Remaining.{one_came}
+use Rattle.asn1_rules.proofs.UnreadBytes.{one_came}
 
 module _ {R V : Type 0} (F : Fronts R V) (old new : State R) where
   pub took : (item : Option (Result V DecodeError)) (v : V) → item ≡ Some (Ok v) → Steps F old item new → Took F old new v

@@ -7,7 +7,7 @@ pub mod Iters
 pub mod Outputs
 pub mod Pieces
 pub mod Progress
-pub mod Remaining
+pub mod UnreadBytes
 pub mod StreamRoundTrips
 pub mod Sources
 pub mod States

@@ -3,7 +3,7 @@ ghost use Rattle.asn1_laws.specs.declared.decode_error.DecodeError.TheVariants.{
 ghost use Rattle.asn1_rules.specs.Fronts.{IsNoFront, IsSteady};
 ghost use Rattle.asn1_rules.specs.Iters.{state};
 ghost use Rattle.asn1_rules.specs.Pieces.{AreFronts, FrontsComeBack, joined};
-ghost use Rattle.asn1_rules.specs.Remaining.{KeepsRemaining};
+ghost use Rattle.asn1_rules.specs.UnreadBytes.{KeepsRemaining};
 ghost use Rattle.std.specs.Prelude.{◌≡◌, ◌≤◌, ◌<◌, ◌↔◌, ◌⊎◌, [], IfErr, IfOk, List, MatchOption, None, length};
 
 use crate::front_reader::FrontReader;

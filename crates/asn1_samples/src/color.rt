@@ -3,9 +3,9 @@ ghost use Rattle.std.specs.Prelude.{[], ◌∷◌, pos, codes, refl};
 ghost use Rattle.asn1_types.specs.Words.{item, by_test, extensible_enumeration, enumeration_type, enumeration_agrees, IsWellTagged};
 ghost use Rattle.asn1_samples.specs.declared.color.Color.TheVariants.{Red, Green, Blue};
 
+use asn1_components::item;
 use asn1_dec::{Decode, DecodeError, Decoder};
 use asn1_enc::{Encode, EncodeError, Encoder};
-use asn1_components::item;
 use asn1_types::{
     AsnType, Constraints, Enumerated, EnumeratedItems, EnumerationItem, Identifier, Tag, TypeTable,
 };

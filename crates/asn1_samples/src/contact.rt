@@ -5,7 +5,7 @@ ghost use Rattle.asn1_types.specs.Words.{context, tagged};
 
 use asn1_dec::{DecodeError, DecodeFields, Decoder};
 use asn1_enc::{Encode, EncodeError, EncodeFields, Encoder};
-use asn1_slots::{DecodeByPlace, Decoded, Tagging, decode_fields_by_place, optional};
+use asn1_slots::{DecodeByIndex, Decoded, Tagging, decode_fields_by_index, optional};
 use asn1_tags::tag;
 use asn1_types::{AsnType, Field, FieldTable, Tag, TagTree};
 use asn1_values::{Ia5String, NumericString};
@@ -26,7 +26,7 @@ pub(crate) const CONTACT: &[TagTree<'static>] = &[
     TagTree::Leaf(tag!(context 4)),
 ];
 
-impl DecodeByPlace for Contact {
+impl DecodeByIndex for Contact {
     type Slots = (Option<NumericString>, Option<Ia5String>);
 
     ghost layout = { optional_slot (codes "phone") (λ c. c.phone) (λ s. s.0) (tagged (context 3) ⟦<NumericString as AsnType>⟧.meaning) ⟦<NumericString as PartialEq>⟧.eq ∷
@@ -39,8 +39,8 @@ impl DecodeByPlace for Contact {
         })
     }
 
-    fn decode_field<D: Decoder>(place: usize, slots: &mut Self::Slots, decoder: &mut D) -> Decoded {
-        match place {
+    fn decode_field<D: Decoder>(index: usize, slots: &mut Self::Slots, decoder: &mut D) -> Decoded {
+        match index {
             0 => optional(&mut slots.0, decoder, Tagging::Tagged(tag!(context 3))),
             1 => optional(&mut slots.1, decoder, Tagging::Tagged(tag!(context 4))),
             _ => Ok(()),
@@ -49,14 +49,14 @@ impl DecodeByPlace for Contact {
 }
 
 impl FieldTable for Contact {
-    ghost components = { sequence_of_slots ⟦<Contact as DecodeByPlace>⟧.layout };
+    ghost components = { sequence_of_slots ⟦<Contact as DecodeByIndex>⟧.layout };
 
     fn field_count() -> usize {
         2
     }
 
-    fn field_at(place: usize) -> Option<Field<'static>> {
-        match place {
+    fn field_at(index: usize) -> Option<Field<'static>> {
+        match index {
             0 => Some(Field::new_optional_type_with_tag::<NumericString>(
                 0,
                 tag!(context 3),
@@ -73,8 +73,8 @@ impl FieldTable for Contact {
 }
 
 impl EncodeFields for Contact {
-    fn encode_field<E: Encoder>(&self, place: usize, encoder: &mut E) -> Result<(), EncodeError> {
-        match place {
+    fn encode_field<E: Encoder>(&self, index: usize, encoder: &mut E) -> Result<(), EncodeError> {
+        match index {
             0 => self.phone.encode_with_tag(encoder, tag!(context 3)),
             1 => self.mail.encode_with_tag(encoder, tag!(context 4)),
             _ => Ok(()),
@@ -84,6 +84,6 @@ impl EncodeFields for Contact {
 
 impl DecodeFields for Contact {
     fn decode_fields<D: Decoder>(decoder: &mut D) -> Result<Contact, DecodeError> {
-        decode_fields_by_place(decoder)
+        decode_fields_by_index(decoder)
     }
 }

@@ -6,7 +6,7 @@ ghost use Rattle.asn1_samples.specs.declared.corner.Corner.TheVariants.{Left, Ri
 
 use asn1_dec::{Decode, DecodeChoice, DecodeError, Decoder};
 use asn1_enc::{Encode, EncodeChoice, EncodeError, Encoder};
-use asn1_slots::{DecodeChoiceByPlace, Tagging, alternative, from_tag_by_place};
+use asn1_slots::{DecodeChoiceByIndex, Tagging, alternative, from_tag_by_index};
 use asn1_types::{AsnType, Choice, ChoiceType, Constraints, Identifier, Tag, TagTree, TypeTable};
 use asn1_values::OctetString;
 
@@ -25,14 +25,14 @@ pub(crate) const CORNER: &[TagTree<'static>] = &[
     TagTree::Leaf(Tag::OCTET_STRING),
 ];
 
-impl DecodeChoiceByPlace for Corner {
+impl DecodeChoiceByIndex for Corner {
     ghost cases = { variant (codes "left") Left (untagged ⟦<bool as AsnType>⟧.meaning) ⟦<bool as PartialEq>⟧.eq ∷
         variant (codes "right") Right (untagged ⟦<OctetString as AsnType>⟧.meaning) ⟦<OctetString as PartialEq>⟧.eq ∷ [] };
 
     ghost case_of = { elim [ Left flag ↦ inl flag | Right octets ↦ inr (inl octets) ] };
 
-    fn decode_alternative<D: Decoder>(place: usize, decoder: &mut D) -> Result<Self, DecodeError> {
-        match place {
+    fn decode_alternative<D: Decoder>(index: usize, decoder: &mut D) -> Result<Self, DecodeError> {
+        match index {
             0 => Ok(Corner::Left(alternative(decoder, Tagging::Untagged)?)),
             1 => Ok(Corner::Right(alternative(decoder, Tagging::Untagged)?)),
             _ => Err(DecodeError::NoValidChoice("Corner")),
@@ -43,9 +43,9 @@ impl DecodeChoiceByPlace for Corner {
 }
 
 impl Choice for Corner {
-    ghost alternatives = { choice_of_cases ⟦<Corner as DecodeChoiceByPlace>⟧.cases };
+    ghost alternatives = { choice_of_cases ⟦<Corner as DecodeChoiceByIndex>⟧.cases };
 
-    ghost pick = { ⟦<Corner as DecodeChoiceByPlace>⟧.case_of };
+    ghost pick = { ⟦<Corner as DecodeChoiceByIndex>⟧.case_of };
 
     fn variants() -> &'static [TagTree<'static>] {
         CORNER
@@ -121,6 +121,6 @@ impl Decode for Corner {
 
 impl DecodeChoice for Corner {
     fn from_tag<D: Decoder>(decoder: &mut D, tag: Tag) -> Result<Corner, DecodeError> {
-        from_tag_by_place(decoder, tag)
+        from_tag_by_index(decoder, tag)
     }
 }

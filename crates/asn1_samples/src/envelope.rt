@@ -26,8 +26,8 @@ impl FieldTable for Envelope {
         2
     }
 
-    fn field_at(place: usize) -> Option<Field<'static>> {
-        match place {
+    fn field_at(index: usize) -> Option<Field<'static>> {
+        match index {
             0 => Some(Field::new_required_type::<u8>(0, "kind")),
             1 => Some(Field::new_required_type::<Any>(1, "body")),
             _ => None,
@@ -73,8 +73,8 @@ impl Encode for Envelope {
 }
 
 impl EncodeFields for Envelope {
-    fn encode_field<E: Encoder>(&self, place: usize, encoder: &mut E) -> Result<(), EncodeError> {
-        match place {
+    fn encode_field<E: Encoder>(&self, index: usize, encoder: &mut E) -> Result<(), EncodeError> {
+        match index {
             0 => self.kind.encode(encoder),
             1 => self.body.encode(encoder),
             _ => Ok(()),

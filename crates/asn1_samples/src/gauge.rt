@@ -7,7 +7,8 @@ ghost use Rattle.asn1_types.specs.Words.{context, tagged, constructed_type, cons
 use asn1_dec::{Decode, DecodeError, Decoder};
 use asn1_enc::{Encode, EncodeError, EncodeFields, Encoder};
 use asn1_slots::{
-    DecodeSetByPlace, Decoded, Tagging, decode_set_by_place, filled, once, once_with_constraints,
+    DecodeSetByIndex, Decoded, Tagging, decode_set_by_index, decode_unique,
+    decode_unique_with_constraints, filled,
 };
 use asn1_tags::tag;
 use asn1_types::{
@@ -32,7 +33,7 @@ const LIMIT: Tag = tag!(context 0);
 
 const UNIT: Tag = tag!(context 1);
 
-impl DecodeSetByPlace for Gauge {
+impl DecodeSetByIndex for Gauge {
     type Slots = (Option<u16>, Option<u16>, Option<Utf8String>);
 
     ghost layout = { required_slot (codes "level") (λ g. g.level) (λ s. s.0) (under_constraints None unconstrained ⟦<u16 as AsnType>⟧.meaning) ⟦<u16 as PartialEq>⟧.eq ∷
@@ -47,12 +48,12 @@ impl DecodeSetByPlace for Gauge {
         })
     }
 
-    fn decode_field<D: Decoder>(place: usize, slots: &mut Self::Slots, decoder: &mut D) -> Decoded {
+    fn decode_field<D: Decoder>(index: usize, slots: &mut Self::Slots, decoder: &mut D) -> Decoded {
         let any = &Constraints::NONE;
-        match place {
-            0 => once_with_constraints(&mut slots.0, decoder, None, any, "level"),
-            1 => once_with_constraints(&mut slots.1, decoder, Some(LIMIT), any, "limit"),
-            2 => once(&mut slots.2, decoder, Tagging::Tagged(UNIT), "unit"),
+        match index {
+            0 => decode_unique_with_constraints(&mut slots.0, decoder, None, any, "level"),
+            1 => decode_unique_with_constraints(&mut slots.1, decoder, Some(LIMIT), any, "limit"),
+            2 => decode_unique(&mut slots.2, decoder, Tagging::Tagged(UNIT), "unit"),
             _ => Ok(()),
         }
     }
@@ -63,14 +64,14 @@ impl DecodeSetByPlace for Gauge {
 }
 
 impl FieldTable for Gauge {
-    ghost components = { set_of_slots ⟦<Gauge as DecodeSetByPlace>⟧.layout };
+    ghost components = { set_of_slots ⟦<Gauge as DecodeSetByIndex>⟧.layout };
 
     fn field_count() -> usize {
         3
     }
 
-    fn field_at(place: usize) -> Option<Field<'static>> {
-        match place {
+    fn field_at(index: usize) -> Option<Field<'static>> {
+        match index {
             0 => Some(Field::new_required_type::<u16>(0, "level")),
             1 => Some(Field::new_optional_type_with_tag::<u16>(1, LIMIT, "limit")),
             2 => Some(Field::new_required_type_with_tag::<Utf8String>(2, UNIT, "unit")),
@@ -117,9 +118,9 @@ impl Encode for Gauge {
 }
 
 impl EncodeFields for Gauge {
-    fn encode_field<E: Encoder>(&self, place: usize, encoder: &mut E) -> Result<(), EncodeError> {
+    fn encode_field<E: Encoder>(&self, index: usize, encoder: &mut E) -> Result<(), EncodeError> {
         let any = &Constraints::NONE;
-        match place {
+        match index {
             0 => self.level.encode_with_constraints(encoder, any),
             1 => self
                 .limit
@@ -136,6 +137,6 @@ impl Decode for Gauge {
         tag: Tag,
         _constraints: &Constraints<'_>,
     ) -> Result<Gauge, DecodeError> {
-        decode_set_by_place(decoder, tag)
+        decode_set_by_index(decoder, tag)
     }
 }

@@ -9,7 +9,7 @@ ghost use Rattle.asn1_types.specs.Words.{context, tagged, constructed_type, cons
 
 use asn1_dec::{Decode, DecodeError, DecodeFields, Decoder};
 use asn1_enc::{Encode, EncodeError, EncodeFields, Encoder};
-use asn1_slots::{DecodeByPlace, Decoded, Tagging, decode_fields_by_place, filled, required};
+use asn1_slots::{DecodeByIndex, Decoded, Tagging, decode_fields_by_index, filled, required};
 use asn1_tags::tag;
 use asn1_types::{
     AsnType, Constraints, ConstructedType, Field, FieldTable, Identifier, Tag, TypeTable,
@@ -50,7 +50,7 @@ impl Hash for Labelled {
     }
 }
 
-impl DecodeByPlace for Labelled {
+impl DecodeByIndex for Labelled {
     type Slots = (Option<u8>, Option<u8>);
 
     ghost layout = { required_slot (codes "key") (λ l. l.key) (λ s. s.0) (tagged (context 0) ⟦<u8 as AsnType>⟧.meaning) ⟦<u8 as PartialEq>⟧.eq ∷
@@ -63,8 +63,8 @@ impl DecodeByPlace for Labelled {
         })
     }
 
-    fn decode_field<D: Decoder>(place: usize, slots: &mut Self::Slots, decoder: &mut D) -> Decoded {
-        match place {
+    fn decode_field<D: Decoder>(index: usize, slots: &mut Self::Slots, decoder: &mut D) -> Decoded {
+        match index {
             0 => required(&mut slots.0, decoder, Tagging::Tagged(tag!(context 0))),
             1 => required(&mut slots.1, decoder, Tagging::Tagged(tag!(context 1))),
             _ => Ok(()),
@@ -73,14 +73,14 @@ impl DecodeByPlace for Labelled {
 }
 
 impl FieldTable for Labelled {
-    ghost components = { sequence_of_slots ⟦<Labelled as DecodeByPlace>⟧.layout };
+    ghost components = { sequence_of_slots ⟦<Labelled as DecodeByIndex>⟧.layout };
 
     fn field_count() -> usize {
         2
     }
 
-    fn field_at(place: usize) -> Option<Field<'static>> {
-        match place {
+    fn field_at(index: usize) -> Option<Field<'static>> {
+        match index {
             0 => Some(Field::new_required_type_with_tag::<u8>(0, tag!(context 0), "key")),
             1 => Some(Field::new_required_type_with_tag::<u8>(1, tag!(context 1), "note")),
             _ => None,
@@ -126,8 +126,8 @@ impl Encode for Labelled {
 }
 
 impl EncodeFields for Labelled {
-    fn encode_field<E: Encoder>(&self, place: usize, encoder: &mut E) -> Result<(), EncodeError> {
-        match place {
+    fn encode_field<E: Encoder>(&self, index: usize, encoder: &mut E) -> Result<(), EncodeError> {
+        match index {
             0 => self.key.encode_with_tag(encoder, tag!(context 0)),
             1 => self.note.encode_with_tag(encoder, tag!(context 1)),
             _ => Ok(()),
@@ -147,6 +147,6 @@ impl Decode for Labelled {
 
 impl DecodeFields for Labelled {
     fn decode_fields<D: Decoder>(decoder: &mut D) -> Result<Labelled, DecodeError> {
-        decode_fields_by_place(decoder)
+        decode_fields_by_index(decoder)
     }
 }

@@ -23,7 +23,7 @@
 //! - Each type states its components, alternatives or items once, and its tables, meaning and writer are proved to say the
 //!   same. The writer has a line for each component (`encode_field`) or alternative (`encode_alternative`), and no proof.
 //! - Each is read: from its records a codec gives an equal value (`Decode`), whatever the codec. The reader has a line
-//!   for each component (`decode_field`) or alternative (`decode_alternative`). Components and alternatives are read by place
+//!   for each component (`decode_field`) or alternative (`decode_alternative`). Components and alternatives are read by index
 //!   (`asn1_slots`), with no proof; a `Shape` looks for its alternative in a table of the leaves of its tree, which fits
 //!   (`the_table_of_a_shape_fits`). Three types show the other forms, which have proofs: an `Envelope` reads its components one
 //!   after another (`decode_fields`), a `Badge` is read as parts (`DecodeSet`), and a `Node` by functions that call one another;

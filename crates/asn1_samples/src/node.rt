@@ -30,8 +30,8 @@ impl FieldTable for Node {
         2
     }
 
-    fn field_at(place: usize) -> Option<Field<'static>> {
-        match place {
+    fn field_at(index: usize) -> Option<Field<'static>> {
+        match index {
             0 => Some(Field::new_optional_type::<Utf8String>(0, "label")),
             1 => Some(Field::new_required_type::<Vec<Node>>(1, "children")),
             _ => None,
@@ -86,8 +86,8 @@ impl Encode for Node {
 impl EncodeFields for Node {
     #[cycle(node)]
     #[inline(always)]
-    fn encode_field<E: Encoder>(&self, place: usize, encoder: &mut E) -> Result<(), EncodeError> {
-        match place {
+    fn encode_field<E: Encoder>(&self, index: usize, encoder: &mut E) -> Result<(), EncodeError> {
+        match index {
             0 => self.label.encode(encoder),
             1 => self.children.encode(encoder),
             _ => Ok(()),

@@ -6,7 +6,7 @@ ghost use Rattle.asn1_types.specs.Words.{context, tagged, explicitly_tagged, con
 use asn1_dec::{Decode, DecodeError, Decoder};
 use asn1_enc::{Encode, EncodeError, EncodeFields, Encoder, encode_explicit_optional};
 use asn1_slots::{
-    DecodeByPlace, Decoded, Tagging, decode_sequence_naming_errors, filled, optional, required,
+    DecodeByIndex, Decoded, Tagging, decode_sequence_naming_errors, filled, optional, required,
 };
 use asn1_tags::tag;
 use asn1_types::{
@@ -26,7 +26,7 @@ pub struct Notice {
     pub text: Utf8String,
 }
 
-impl DecodeByPlace for Notice {
+impl DecodeByIndex for Notice {
     type Slots = (Option<u8>, Option<bool>, Option<Utf8String>);
 
     ghost layout = { required_slot (codes "id") (λ n. n.id) (λ s. s.0) (tagged (context 0) ⟦<u8 as AsnType>⟧.meaning) ⟦<u8 as PartialEq>⟧.eq ∷
@@ -41,8 +41,8 @@ impl DecodeByPlace for Notice {
         })
     }
 
-    fn decode_field<D: Decoder>(place: usize, slots: &mut Self::Slots, decoder: &mut D) -> Decoded {
-        match place {
+    fn decode_field<D: Decoder>(index: usize, slots: &mut Self::Slots, decoder: &mut D) -> Decoded {
+        match index {
             0 => required(&mut slots.0, decoder, Tagging::Tagged(tag!(context 0))),
             1 => optional(&mut slots.1, decoder, Tagging::Explicit(tag!(context 1))),
             2 => required(&mut slots.2, decoder, Tagging::Tagged(tag!(context 2))),
@@ -52,14 +52,14 @@ impl DecodeByPlace for Notice {
 }
 
 impl FieldTable for Notice {
-    ghost components = { sequence_of_slots ⟦<Notice as DecodeByPlace>⟧.layout };
+    ghost components = { sequence_of_slots ⟦<Notice as DecodeByIndex>⟧.layout };
 
     fn field_count() -> usize {
         3
     }
 
-    fn field_at(place: usize) -> Option<Field<'static>> {
-        match place {
+    fn field_at(index: usize) -> Option<Field<'static>> {
+        match index {
             0 => Some(Field::new_required_type_with_tag::<u8>(0, tag!(context 0), "id")),
             1 => Some(Field::new_optional_explicit(1, tag!(context 1), "urgent")),
             2 => Some(Field::new_required_type_with_tag::<Utf8String>(2, tag!(context 2), "text")),
@@ -106,8 +106,8 @@ impl Encode for Notice {
 }
 
 impl EncodeFields for Notice {
-    fn encode_field<E: Encoder>(&self, place: usize, encoder: &mut E) -> Result<(), EncodeError> {
-        match place {
+    fn encode_field<E: Encoder>(&self, index: usize, encoder: &mut E) -> Result<(), EncodeError> {
+        match index {
             0 => self.id.encode_with_tag(encoder, tag!(context 0)),
             1 => encode_explicit_optional(encoder, tag!(context 1), &self.urgent),
             2 => self.text.encode_with_tag(encoder, tag!(context 2)),

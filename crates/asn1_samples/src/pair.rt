@@ -6,7 +6,7 @@ ghost use Rattle.asn1_types.specs.Words.{context, tagged, untagged, required, op
 use asn1_dec::{Decode, DecodeError, Decoder};
 use asn1_enc::{Encode, EncodeError, EncodeFields, Encoder};
 use asn1_slots::{
-    DecodeByPlace, Decoded, Tagging, decode_sequence_naming_errors, filled, optional, required,
+    DecodeByIndex, Decoded, Tagging, decode_sequence_naming_errors, filled, optional, required,
 };
 use asn1_tags::tag;
 use asn1_types::{
@@ -23,7 +23,7 @@ pub struct Pair<T, U> {
     pub second: Option<U>,
 }
 
-impl<T: Decode, U: Decode> DecodeByPlace for Pair<T, U> {
+impl<T: Decode, U: Decode> DecodeByIndex for Pair<T, U> {
     type Slots = (Option<T>, Option<U>);
 
     ghost layout = { required_slot (codes "first") (λ p. p.first) (λ s. s.0) (untagged T.meaning) T.eq ∷
@@ -36,8 +36,8 @@ impl<T: Decode, U: Decode> DecodeByPlace for Pair<T, U> {
         })
     }
 
-    fn decode_field<D: Decoder>(place: usize, slots: &mut Self::Slots, decoder: &mut D) -> Decoded {
-        match place {
+    fn decode_field<D: Decoder>(index: usize, slots: &mut Self::Slots, decoder: &mut D) -> Decoded {
+        match index {
             0 => required(&mut slots.0, decoder, Tagging::Untagged),
             1 => optional(&mut slots.1, decoder, Tagging::Tagged(tag!(context 0))),
             _ => Ok(()),
@@ -54,8 +54,8 @@ impl<T: AsnType, U: AsnType> FieldTable for Pair<T, U> {
         2
     }
 
-    fn field_at(place: usize) -> Option<Field<'static>> {
-        match place {
+    fn field_at(index: usize) -> Option<Field<'static>> {
+        match index {
             0 => Some(Field::new_required_type::<T>(0, "first")),
             1 => Some(Field::new_optional_type_with_tag::<U>(1, tag!(context 0), "second")),
             _ => None,
@@ -109,8 +109,8 @@ impl<T: Encode, U: Encode> Encode for Pair<T, U> {
 }
 
 impl<T: Encode, U: Encode> EncodeFields for Pair<T, U> {
-    fn encode_field<E: Encoder>(&self, place: usize, encoder: &mut E) -> Result<(), EncodeError> {
-        match place {
+    fn encode_field<E: Encoder>(&self, index: usize, encoder: &mut E) -> Result<(), EncodeError> {
+        match index {
             0 => self.first.encode(encoder),
             1 => self.second.encode_with_tag(encoder, tag!(context 0)),
             _ => Ok(()),

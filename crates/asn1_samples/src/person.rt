@@ -5,7 +5,7 @@ ghost use Rattle.asn1_types.specs.Words.{untagged, constructed_type, constructed
 
 use asn1_dec::{Decode, DecodeError, DecodeFields, Decoder};
 use asn1_enc::{Encode, EncodeError, EncodeFields, Encoder};
-use asn1_slots::{DecodeByPlace, Decoded, Tagging, decode_fields_by_place, filled, required};
+use asn1_slots::{DecodeByIndex, Decoded, Tagging, decode_fields_by_index, filled, required};
 use asn1_types::{
     AsnType, Constraints, ConstructedType, Field, FieldTable, Identifier, Tag, TypeTable,
 };
@@ -21,7 +21,7 @@ pub struct Person {
     pub name: Utf8String,
 }
 
-impl DecodeByPlace for Person {
+impl DecodeByIndex for Person {
     type Slots = (Option<Integer>, Option<Utf8String>);
 
     ghost layout = { required_slot (codes "age") (λ p. p.age) (λ s. s.0) (untagged ⟦<Integer as AsnType>⟧.meaning) ⟦<Integer as PartialEq>⟧.eq ∷
@@ -34,8 +34,8 @@ impl DecodeByPlace for Person {
         })
     }
 
-    fn decode_field<D: Decoder>(place: usize, slots: &mut Self::Slots, decoder: &mut D) -> Decoded {
-        match place {
+    fn decode_field<D: Decoder>(index: usize, slots: &mut Self::Slots, decoder: &mut D) -> Decoded {
+        match index {
             0 => required(&mut slots.0, decoder, Tagging::Untagged),
             1 => required(&mut slots.1, decoder, Tagging::Untagged),
             _ => Ok(()),
@@ -44,14 +44,14 @@ impl DecodeByPlace for Person {
 }
 
 impl FieldTable for Person {
-    ghost components = { sequence_of_slots ⟦<Person as DecodeByPlace>⟧.layout };
+    ghost components = { sequence_of_slots ⟦<Person as DecodeByIndex>⟧.layout };
 
     fn field_count() -> usize {
         2
     }
 
-    fn field_at(place: usize) -> Option<Field<'static>> {
-        match place {
+    fn field_at(index: usize) -> Option<Field<'static>> {
+        match index {
             0 => Some(Field::new_required_type::<Integer>(0, "age")),
             1 => Some(Field::new_required_type::<Utf8String>(1, "name")),
             _ => None,
@@ -97,8 +97,8 @@ impl Encode for Person {
 }
 
 impl EncodeFields for Person {
-    fn encode_field<E: Encoder>(&self, place: usize, encoder: &mut E) -> Result<(), EncodeError> {
-        match place {
+    fn encode_field<E: Encoder>(&self, index: usize, encoder: &mut E) -> Result<(), EncodeError> {
+        match index {
             0 => self.age.encode(encoder),
             1 => self.name.encode(encoder),
             _ => Ok(()),
@@ -118,6 +118,6 @@ impl Decode for Person {
 
 impl DecodeFields for Person {
     fn decode_fields<D: Decoder>(decoder: &mut D) -> Result<Person, DecodeError> {
-        decode_fields_by_place(decoder)
+        decode_fields_by_index(decoder)
     }
 }

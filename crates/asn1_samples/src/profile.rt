@@ -19,7 +19,7 @@ use crate::contact::{CONTACT, Contact};
 use asn1_dec::{Decode, DecodeError, DecodeFields, Decoder};
 use asn1_enc::{Encode, EncodeError, EncodeFields, Encoder};
 use asn1_slots::{
-    DecodeByPlace, Decoded, Tagging, decode_fields_by_place, filled, group, optional, or_default,
+    DecodeByIndex, Decoded, Tagging, decode_fields_by_index, filled, group, optional, or_default,
     required,
 };
 use asn1_tags::tag;
@@ -42,7 +42,7 @@ pub struct Profile {
     pub contact: Option<Contact>,
 }
 
-impl DecodeByPlace for Profile {
+impl DecodeByIndex for Profile {
     type Slots = (
         Option<Utf8String>,
         Option<u8>,
@@ -64,8 +64,8 @@ impl DecodeByPlace for Profile {
         })
     }
 
-    fn decode_field<D: Decoder>(place: usize, slots: &mut Self::Slots, decoder: &mut D) -> Decoded {
-        match place {
+    fn decode_field<D: Decoder>(index: usize, slots: &mut Self::Slots, decoder: &mut D) -> Decoded {
+        match index {
             0 => optional(&mut slots.0, decoder, Tagging::Tagged(tag!(context 0))),
             1 => required(&mut slots.1, decoder, Tagging::Tagged(tag!(context 1))),
             2 => optional(&mut slots.2, decoder, Tagging::Tagged(tag!(context 2))),
@@ -76,14 +76,14 @@ impl DecodeByPlace for Profile {
 }
 
 impl FieldTable for Profile {
-    ghost components = { extensible_sequence_after 3 ⟦<Profile as DecodeByPlace>⟧.layout };
+    ghost components = { extensible_sequence_after 3 ⟦<Profile as DecodeByIndex>⟧.layout };
 
     fn field_count() -> usize {
         4
     }
 
-    fn field_at(place: usize) -> Option<Field<'static>> {
-        match place {
+    fn field_at(index: usize) -> Option<Field<'static>> {
+        match index {
             0 => Some(Field::new_optional_type_with_tag::<Utf8String>(0, tag!(context 0), "nick")),
             1 => Some(Field::new_required_type_with_tag::<u8>(1, tag!(context 1), "level")),
             2 => Some(Field::new_default_type_with_tag::<Color>(2, tag!(context 2), "color")),
@@ -131,8 +131,8 @@ impl Encode for Profile {
 }
 
 impl EncodeFields for Profile {
-    fn encode_field<E: Encoder>(&self, place: usize, encoder: &mut E) -> Result<(), EncodeError> {
-        match place {
+    fn encode_field<E: Encoder>(&self, index: usize, encoder: &mut E) -> Result<(), EncodeError> {
+        match index {
             0 => self.nick.encode_with_tag(encoder, tag!(context 0)),
             1 => self.level.encode_with_tag(encoder, tag!(context 1)),
             2 => encoder.encode_default_with_tag(
@@ -159,6 +159,6 @@ impl Decode for Profile {
 
 impl DecodeFields for Profile {
     fn decode_fields<D: Decoder>(decoder: &mut D) -> Result<Profile, DecodeError> {
-        decode_fields_by_place(decoder)
+        decode_fields_by_index(decoder)
     }
 }

@@ -6,7 +6,7 @@ ghost use Rattle.asn1_types.specs.Words.{context, tagged, constructed_type, cons
 use crate::labelled::Labelled;
 use asn1_dec::{Decode, DecodeError, DecodeFields, Decoder};
 use asn1_enc::{Encode, EncodeError, EncodeFields, Encoder};
-use asn1_slots::{DecodeByPlace, Decoded, Tagging, decode_fields_by_place, optional, or_default};
+use asn1_slots::{DecodeByIndex, Decoded, Tagging, decode_fields_by_index, optional, or_default};
 use asn1_tags::tag;
 use asn1_types::{
     AsnType, Constraints, ConstructedType, Field, FieldTable, Identifier, Tag, TypeTable,
@@ -20,7 +20,7 @@ pub struct Settings {
     pub entry: Labelled,
 }
 
-impl DecodeByPlace for Settings {
+impl DecodeByIndex for Settings {
     type Slots = (Option<Labelled>,);
 
     ghost layout = { default_slot (codes "entry") (λ s. s.entry) (record { key = 1; note = 0 }) (λ s. s.0) (tagged (context 0) ⟦<Labelled as AsnType>⟧.meaning) ⟦<Labelled as PartialEq>⟧.eq ∷ [] };
@@ -31,8 +31,8 @@ impl DecodeByPlace for Settings {
         })
     }
 
-    fn decode_field<D: Decoder>(place: usize, slots: &mut Self::Slots, decoder: &mut D) -> Decoded {
-        match place {
+    fn decode_field<D: Decoder>(index: usize, slots: &mut Self::Slots, decoder: &mut D) -> Decoded {
+        match index {
             0 => optional(&mut slots.0, decoder, Tagging::Tagged(tag!(context 0))),
             _ => Ok(()),
         }
@@ -40,14 +40,14 @@ impl DecodeByPlace for Settings {
 }
 
 impl FieldTable for Settings {
-    ghost components = { sequence_of_slots ⟦<Settings as DecodeByPlace>⟧.layout };
+    ghost components = { sequence_of_slots ⟦<Settings as DecodeByIndex>⟧.layout };
 
     fn field_count() -> usize {
         1
     }
 
-    fn field_at(place: usize) -> Option<Field<'static>> {
-        match place {
+    fn field_at(index: usize) -> Option<Field<'static>> {
+        match index {
             0 => Some(Field::new_default_type_with_tag::<Labelled>(0, tag!(context 0), "entry")),
             _ => None,
         }
@@ -92,8 +92,8 @@ impl Encode for Settings {
 }
 
 impl EncodeFields for Settings {
-    fn encode_field<E: Encoder>(&self, place: usize, encoder: &mut E) -> Result<(), EncodeError> {
-        match place {
+    fn encode_field<E: Encoder>(&self, index: usize, encoder: &mut E) -> Result<(), EncodeError> {
+        match index {
             0 => encoder.encode_default_with_tag(
                 tag!(context 0),
                 &self.entry,
@@ -117,6 +117,6 @@ impl Decode for Settings {
 
 impl DecodeFields for Settings {
     fn decode_fields<D: Decoder>(decoder: &mut D) -> Result<Settings, DecodeError> {
-        decode_fields_by_place(decoder)
+        decode_fields_by_index(decoder)
     }
 }

@@ -8,7 +8,7 @@ ghost use Rattle.asn1_samples.specs.declared.shape.Shape.TheVariants.{Dot, Ring,
 use crate::corner::{CORNER, Corner};
 use asn1_dec::{Decode, DecodeChoice, DecodeError, Decoder};
 use asn1_enc::{Encode, EncodeChoice, EncodeError, Encoder};
-use asn1_slots::{DecodeChoiceByPlace, Tagging, alternative, from_tag_by_table};
+use asn1_slots::{DecodeChoiceByIndex, Tagging, alternative, from_tag_by_table};
 use asn1_tags::tag;
 use asn1_types::{AsnType, Choice, ChoiceType, Constraints, Identifier, Tag, TagTree, TypeTable};
 
@@ -31,15 +31,15 @@ const SHAPE: &[TagTree<'static>] = &[
     TagTree::Choice(CORNER),
 ];
 
-impl DecodeChoiceByPlace for Shape {
+impl DecodeChoiceByIndex for Shape {
     ghost cases = { variant (codes "dot") Dot (untagged ⟦<() as AsnType>⟧.meaning) ⟦<() as PartialEq>⟧.eq ∷
         variant (codes "ring") Ring (tagged (context 0) ⟦<u16 as AsnType>⟧.meaning) ⟦<u16 as PartialEq>⟧.eq ∷
         variant (codes "inner") Inner (untagged ⟦<Corner as AsnType>⟧.meaning) ⟦<Corner as PartialEq>⟧.eq ∷ [] };
 
     ghost case_of = { elim [ Dot u ↦ inl u | Ring n ↦ inr (inl n) | Inner c ↦ inr (inr (inl c)) ] };
 
-    fn decode_alternative<D: Decoder>(place: usize, decoder: &mut D) -> Result<Shape, DecodeError> {
-        match place {
+    fn decode_alternative<D: Decoder>(index: usize, decoder: &mut D) -> Result<Shape, DecodeError> {
+        match index {
             0 => Ok(Shape::Dot(alternative(decoder, Tagging::Untagged)?)),
             1 => Ok(Shape::Ring(alternative(decoder, Tagging::Tagged(RING))?)),
             2 => Ok(Shape::Inner(alternative(decoder, Tagging::Untagged)?)),
@@ -51,9 +51,9 @@ impl DecodeChoiceByPlace for Shape {
 }
 
 impl Choice for Shape {
-    ghost alternatives = { choice_of_cases ⟦<Shape as DecodeChoiceByPlace>⟧.cases };
+    ghost alternatives = { choice_of_cases ⟦<Shape as DecodeChoiceByIndex>⟧.cases };
 
-    ghost pick = { ⟦<Shape as DecodeChoiceByPlace>⟧.case_of };
+    ghost pick = { ⟦<Shape as DecodeChoiceByIndex>⟧.case_of };
 
     fn variants() -> &'static [TagTree<'static>] {
         SHAPE

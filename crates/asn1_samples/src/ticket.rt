@@ -6,7 +6,7 @@ ghost use Rattle.asn1_types.specs.Words.{context, tagged, constructed_type, cons
 use asn1_dec::{Decode, DecodeError, Decoder};
 use asn1_enc::{Encode, EncodeError, EncodeFields, Encoder};
 use asn1_slots::{
-    DecodeSetByPlace, Decoded, Tagging, decode_set_by_place, filled, once, or_default,
+    DecodeSetByIndex, Decoded, Tagging, decode_set_by_index, decode_unique, filled, or_default,
 };
 use asn1_tags::tag;
 use asn1_types::{
@@ -32,7 +32,7 @@ const NAME: Tag = tag!(context 1);
 
 const PAID: Tag = tag!(context 2);
 
-impl DecodeSetByPlace for Ticket {
+impl DecodeSetByIndex for Ticket {
     type Slots = (Option<u16>, Option<Utf8String>, Option<bool>);
 
     ghost layout = { required_slot (codes "seat") (λ t. t.seat) (λ s. s.0) (tagged (context 0) ⟦<u16 as AsnType>⟧.meaning) ⟦<u16 as PartialEq>⟧.eq ∷
@@ -47,11 +47,11 @@ impl DecodeSetByPlace for Ticket {
         })
     }
 
-    fn decode_field<D: Decoder>(place: usize, slots: &mut Self::Slots, decoder: &mut D) -> Decoded {
-        match place {
-            0 => once(&mut slots.0, decoder, Tagging::Tagged(SEAT), "seat"),
-            1 => once(&mut slots.1, decoder, Tagging::Tagged(NAME), "name"),
-            2 => once(&mut slots.2, decoder, Tagging::Tagged(PAID), "paid"),
+    fn decode_field<D: Decoder>(index: usize, slots: &mut Self::Slots, decoder: &mut D) -> Decoded {
+        match index {
+            0 => decode_unique(&mut slots.0, decoder, Tagging::Tagged(SEAT), "seat"),
+            1 => decode_unique(&mut slots.1, decoder, Tagging::Tagged(NAME), "name"),
+            2 => decode_unique(&mut slots.2, decoder, Tagging::Tagged(PAID), "paid"),
             _ => Ok(()),
         }
     }
@@ -62,14 +62,14 @@ impl DecodeSetByPlace for Ticket {
 }
 
 impl FieldTable for Ticket {
-    ghost components = { set_of_slots ⟦<Ticket as DecodeSetByPlace>⟧.layout };
+    ghost components = { set_of_slots ⟦<Ticket as DecodeSetByIndex>⟧.layout };
 
     fn field_count() -> usize {
         3
     }
 
-    fn field_at(place: usize) -> Option<Field<'static>> {
-        match place {
+    fn field_at(index: usize) -> Option<Field<'static>> {
+        match index {
             0 => Some(Field::new_required_type_with_tag::<u16>(0, SEAT, "seat")),
             1 => Some(Field::new_optional_type_with_tag::<Utf8String>(1, NAME, "name")),
             2 => Some(Field::new_default_type_with_tag::<bool>(2, PAID, "paid")),
@@ -116,8 +116,8 @@ impl Encode for Ticket {
 }
 
 impl EncodeFields for Ticket {
-    fn encode_field<E: Encoder>(&self, place: usize, encoder: &mut E) -> Result<(), EncodeError> {
-        match place {
+    fn encode_field<E: Encoder>(&self, index: usize, encoder: &mut E) -> Result<(), EncodeError> {
+        match index {
             0 => self.seat.encode_with_tag(encoder, SEAT),
             1 => self.name.encode_with_tag(encoder, NAME),
             2 => encoder.encode_default_with_tag(
@@ -137,6 +137,6 @@ impl Decode for Ticket {
         tag: Tag,
         _constraints: &Constraints<'_>,
     ) -> Result<Ticket, DecodeError> {
-        decode_set_by_place(decoder, tag)
+        decode_set_by_index(decoder, tag)
     }
 }

@@ -16,7 +16,7 @@ use crate::contact::{CONTACT, Contact};
 use asn1_dec::{Decode, DecodeError, Decoder};
 use asn1_enc::{Encode, EncodeError, EncodeFields, Encoder};
 use asn1_slots::{
-    DecodeByPlace, Decoded, Tagging, addition, decode_sequence_naming_errors, filled, group,
+    DecodeByIndex, Decoded, Tagging, addition, decode_sequence_naming_errors, filled, group,
     required,
 };
 use asn1_tags::tag;
@@ -37,7 +37,7 @@ pub struct Visit {
     pub note: Option<Utf8String>,
 }
 
-impl DecodeByPlace for Visit {
+impl DecodeByIndex for Visit {
     type Slots = (Option<u16>, Option<Contact>, Option<Utf8String>);
 
     ghost layout = { required_slot (codes "day") (λ v. v.day) (λ s. s.0) (tagged (context 0) ⟦<u16 as AsnType>⟧.meaning) ⟦<u16 as PartialEq>⟧.eq ∷
@@ -52,8 +52,8 @@ impl DecodeByPlace for Visit {
         })
     }
 
-    fn decode_field<D: Decoder>(place: usize, slots: &mut Self::Slots, decoder: &mut D) -> Decoded {
-        match place {
+    fn decode_field<D: Decoder>(index: usize, slots: &mut Self::Slots, decoder: &mut D) -> Decoded {
+        match index {
             0 => required(&mut slots.0, decoder, Tagging::Tagged(tag!(context 0))),
             1 => group(&mut slots.1, decoder),
             2 => addition(&mut slots.2, decoder, Tagging::Tagged(tag!(context 5))),
@@ -63,14 +63,14 @@ impl DecodeByPlace for Visit {
 }
 
 impl FieldTable for Visit {
-    ghost components = { extensible_sequence_after 1 ⟦<Visit as DecodeByPlace>⟧.layout };
+    ghost components = { extensible_sequence_after 1 ⟦<Visit as DecodeByIndex>⟧.layout };
 
     fn field_count() -> usize {
         3
     }
 
-    fn field_at(place: usize) -> Option<Field<'static>> {
-        match place {
+    fn field_at(index: usize) -> Option<Field<'static>> {
+        match index {
             0 => Some(Field::new_required_type_with_tag::<u16>(0, tag!(context 0), "day")),
             1 => Some(Field::new_group(1, CONTACT, "contact")),
             2 => Some(Field::new_optional_type_with_tag::<Utf8String>(2, tag!(context 5), "note")),
@@ -117,8 +117,8 @@ impl Encode for Visit {
 }
 
 impl EncodeFields for Visit {
-    fn encode_field<E: Encoder>(&self, place: usize, encoder: &mut E) -> Result<(), EncodeError> {
-        match place {
+    fn encode_field<E: Encoder>(&self, index: usize, encoder: &mut E) -> Result<(), EncodeError> {
+        match index {
             0 => self.day.encode_with_tag(encoder, tag!(context 0)),
             1 => encoder.encode_extension_addition_group(self.contact.as_ref(), Identifier::EMPTY),
             2 => encoder.encode_extension_addition_with_tag(

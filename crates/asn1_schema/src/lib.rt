@@ -4,7 +4,7 @@
 //! |---|---|
 //! | [`Rules`], [`round_trip`], [`recode`] | a codec as a whole, and the theorem: of `asn1_rules` |
 //! | [`FrontReader`], [`Iter`], [`write_list`], [`read_pieces`] | values one after another: of `asn1_rules` |
-//! | [`Encode`], [`Decode`], [`DecodeByPlace`] and the rest | how a type is written and read: of the crates below |
+//! | [`Encode`], [`Decode`], [`DecodeByIndex`] and the rest | how a type is written and read: of the crates below |
 //! | [`UniversalString`], [`UtcTime`], [`GeneralizedTime`], [`ObjectDescriptor`] | the kinds of string that are another kind under a tag |
 //! | [`laws`] | which kind of string each name is |
 //!
@@ -72,25 +72,25 @@ pub use asn1_rules::round_trip;
 pub use asn1_rules::round_trip_in_pieces;
 pub use asn1_rules::write_list;
 pub use asn1_slots as slots;
-pub use asn1_slots::DecodeByPlace;
-pub use asn1_slots::DecodeChoiceByPlace;
-pub use asn1_slots::DecodeSetByPlace;
+pub use asn1_slots::DecodeByIndex;
+pub use asn1_slots::DecodeChoiceByIndex;
+pub use asn1_slots::DecodeSetByIndex;
 pub use asn1_slots::Decoded;
 pub use asn1_slots::Tagging;
 pub use asn1_slots::addition;
 pub use asn1_slots::addition_with_constraints;
 pub use asn1_slots::alternative;
 pub use asn1_slots::alternative_with_constraints;
-pub use asn1_slots::decode_fields_by_place;
+pub use asn1_slots::decode_fields_by_index;
 pub use asn1_slots::decode_fields_naming_errors;
 pub use asn1_slots::decode_sequence_naming_errors;
-pub use asn1_slots::decode_set_by_place;
+pub use asn1_slots::decode_set_by_index;
+pub use asn1_slots::decode_unique;
+pub use asn1_slots::decode_unique_with_constraints;
 pub use asn1_slots::filled;
-pub use asn1_slots::from_tag_by_place;
+pub use asn1_slots::from_tag_by_index;
 pub use asn1_slots::from_tag_by_table;
 pub use asn1_slots::group;
-pub use asn1_slots::once;
-pub use asn1_slots::once_with_constraints;
 pub use asn1_slots::optional;
 pub use asn1_slots::optional_with_constraints;
 pub use asn1_slots::or_default;

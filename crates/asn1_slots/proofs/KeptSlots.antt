@@ -6,7 +6,7 @@ all_as_they_were : {S V : Type 0} (hs : List (Slot S V)) (s : S) (v : V) → All
 all_as_they_were [] s v = tt
 all_as_they_were (h ∷ hs) s v = ((λ x. x, λ x. x), all_as_they_were hs s v)
 
-pub as_they_were : {S V : Type 0} (hs : List (Slot S V)) (place : ℕ) (s : S) (v : V) → OthersAreKept hs place s s v
-as_they_were [] place s v = tt
+pub as_they_were : {S V : Type 0} (hs : List (Slot S V)) (index : ℕ) (s : S) (v : V) → OthersAreKept hs index s s v
+as_they_were [] index s v = tt
 as_they_were (h ∷ hs) zero s v = all_as_they_were hs s v
-as_they_were (h ∷ hs) (suc place) s v = ((λ x. x, λ x. x), as_they_were hs place s v)
+as_they_were (h ∷ hs) (suc index) s v = ((λ x. x, λ x. x), as_they_were hs index s v)

@@ -1,7 +1,7 @@
 pub mod FilledSlots
 pub mod KeptSlots
 mod NamedErrors
-mod ReadByPlace
+mod ReadByIndex
 mod ReadChoices
 mod ReadInSets
 mod TreesWithTags

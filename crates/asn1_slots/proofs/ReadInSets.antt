@@ -139,15 +139,15 @@ module _ {S V : Type 0} where
 
 module _ {D S V : Type 0} (R : Reader D) (cs : List (ComponentType V)) (hs : List (Slot S V)) (v : V) where
   -- Some components were read into their slots, and others are left. The records of all are so high.
-  pub record SlotsRead (d : D) (s : S) (height : ℕ) (outer : Outside) (place bound : ℕ) : Type 0 where
+  pub record SlotsRead (d : D) (s : S) (height : ℕ) (outer : Outside) (count bound : ℕ) : Type 0 where
     pub came : List ℕ
-    pub so_far : PartsRead R cs v (λ i. i) (λ _. ⊤) d came height outer place bound
+    pub so_far : PartsRead R cs v (λ i. i) (λ _. ⊤) d came height outer count bound
     pub in_step : AreInStep hs 0 came s v
 
   -- The same, where the component of this index comes.
-  pub record SlotComes (d : D) (s : S) (height : ℕ) (outer : Outside) (place bound index : ℕ) : Type 0 where
+  pub record SlotComes (d : D) (s : S) (height : ℕ) (outer : Outside) (count bound index : ℕ) : Type 0 where
     pub came : List ℕ
-    pub next : ComponentComes R cs v (λ i. i) (λ _. ⊤) d came height outer place bound index
+    pub next : ComponentComes R cs v (λ i. i) (λ _. ⊤) d came height outer count bound index
     pub in_step : AreInStep hs 0 came s v
 
   module _ (all : AreSlotsOf cs hs) (single : has_no_group hs ≡ true) (can : EachIsWellTagged cs) where
@@ -160,10 +160,10 @@ module _ {D S V : Type 0} (R : Reader D) (cs : List (ComponentType V)) (hs : Lis
     }
 
     -- the slot of what comes is empty
-    not_yet : {d : D} {height : ℕ} {outer : Outside} {place bound index : ℕ} (came : List ℕ) (comes : ComponentComes R cs v (λ i. i) (λ _. ⊤) d came height outer place bound index) → times index came ≡ 0
+    not_yet : {d : D} {height : ℕ} {outer : Outside} {count bound index : ℕ} (came : List ℕ) (comes : ComponentComes R cs v (λ i. i) (λ _. ⊤) d came height outer count bound index) → times index came ≡ 0
     not_yet {index = index} came comes = omega (arith, comes.counted index, at_most_one cs v index comes.one_each, ap {B = ℕ} (λ b. cond b 1 0) (is_same index index refl))
 
-    pub reads : {A : Type 0} {d : D} {s : S} {height : ℕ} {outer : Outside} {place bound index : ℕ} (e : D) (after : S) (result : Result A DecodeError) (comes : SlotComes d s height outer place bound index) →
+    pub reads : {A : Type 0} {d : D} {s : S} {height : ℕ} {outer : Outside} {count bound index : ℕ} (e : D) (after : S) (result : Result A DecodeError) (comes : SlotComes d s height outer count bound index) →
         EachIsOfType cs v → EachIsValid cs R.accepts v → ReadsOnceAt R hs index d e s after result →
         ReadsBack R d e (written_of cs v index) (records comes.next.todo) outer (λ _. HoldsAt hs index after v) result
     reads {d = d} {s = s} {index = index} e after result comes of_type valid once =
@@ -172,9 +172,9 @@ module _ {D S V : Type 0} (R : Reader D) (cs : List (ComponentType V)) (hs : Lis
         v (records comes.next.todo) _ can of_type valid comes.next.is_there
 
     -- after it was read
-    pub one_more : {d : D} {s : S} {height : ℕ} {outer : Outside} {place bound index : ℕ} (e : D) (after : S) (comes : SlotComes d s height outer place bound index) →
+    pub one_more : {d : D} {s : S} {height : ℕ} {outer : Outside} {count bound index : ℕ} (e : D) (after : S) (comes : SlotComes d s height outer count bound index) →
         HasAdvanced R d e (highest (written_of cs v index)) (records comes.next.todo, outer) (HoldsAt hs index after v) → OthersAreKept hs index s after v → R.depth_left e ≡ R.depth_left d →
-        SlotsRead e after height outer (place + 1) bound
+        SlotsRead e after height outer (count + 1) bound
     one_more {s = s} {index = index} e after comes moved kept same = record {
       came = comes.came ++ index ∷ [];
       so_far = further R cs v (λ i. i) (λ _. ⊤) e index comes.next refl tt moved.within_depth_left moved.at same;
@@ -182,8 +182,8 @@ module _ {D S V : Type 0} (R : Reader D) (cs : List (ComponentType V)) (hs : Lis
     }
 
     -- where a component comes, which begins with the tag
-    pub comes_next : {d : D} {s : S} {height : ℕ} {outer : Outside} {place bound : ℕ} (e : D) (t : Tag) (index : ℕ) (m : SlotsRead d s height outer place bound) → AllApart cs → CanBeginWith cs index t →
-        Advances R d e 0 (records m.so_far.todo, outer) (marks_passed (records m.so_far.todo), outer) (IsNextTag cs (records m.so_far.todo)) (Ok (Some t)) → R.depth_left e ≡ R.depth_left d → SlotComes e s height outer place bound index
+    pub comes_next : {d : D} {s : S} {height : ℕ} {outer : Outside} {count bound : ℕ} (e : D) (t : Tag) (index : ℕ) (m : SlotsRead d s height outer count bound) → AllApart cs → CanBeginWith cs index t →
+        Advances R d e 0 (records m.so_far.todo, outer) (marks_passed (records m.so_far.todo), outer) (IsNextTag cs (records m.so_far.todo)) (Ok (Some t)) → R.depth_left e ≡ R.depth_left d → SlotComes e s height outer count bound index
     comes_next e t index m apart begins moves same = record {
       came = m.came;
       next = comes_at R cs v (λ i. i) (λ _. ⊤) index apart begins (comes R cs v (λ i. i) (λ _. ⊤) e t can m.so_far moves same);
@@ -200,13 +200,13 @@ module _ {D S V : Type 0} (R : Reader D) (cs : List (ComponentType V)) (hs : Lis
     }
 
     -- where none is left
-    pub none_is_left : {d : D} {s : S} {height : ℕ} {outer : Outside} {place bound : ℕ} (e : D) (m : SlotsRead d s height outer place bound) →
+    pub none_is_left : {d : D} {s : S} {height : ℕ} {outer : Outside} {count bound : ℕ} (e : D) (m : SlotsRead d s height outer count bound) →
         Advances R d e 0 (records m.so_far.todo, outer) (marks_passed (records m.so_far.todo), outer) (IsNextTag cs (records m.so_far.todo)) (Ok None) → R.depth_left e ≡ R.depth_left d →
         HasAdvanced R e e height ([], outer) (HoldBefore hs (length hs) s v)
     none_is_left {s = s} e m moves same = all_hold s m.came (through R cs v (λ i. i) (λ _. ⊤) e m.so_far moves same) m.in_step
 
     -- where as many were read as there can be
-    pub as_many_as_can : {d : D} {s : S} {height : ℕ} {outer : Outside} {place bound : ℕ} (e : D) (answer : Option Tag) (m : SlotsRead d s height outer place bound) → bound ≤ place →
+    pub as_many_as_can : {d : D} {s : S} {height : ℕ} {outer : Outside} {count bound : ℕ} (e : D) (answer : Option Tag) (m : SlotsRead d s height outer count bound) → bound ≤ count →
         Advances R d e 0 (records m.so_far.todo, outer) (marks_passed (records m.so_far.todo), outer) (IsNextTag cs (records m.so_far.todo)) (Ok answer) → R.depth_left e ≡ R.depth_left d →
         HasAdvanced R e e height ([], outer) (HoldBefore hs (length hs) s v)
     as_many_as_can {s = s} e answer m full moves same = all_hold s m.came (filled R cs v (λ i. i) (λ _. ⊤) e answer m.so_far full moves same) m.in_step

@@ -44,26 +44,26 @@ module _ {V : Type 0} where
   extensible_choice_after k cases =
       extensible (alternatives_of (take k cases)) (alternatives_of (drop k cases))
 
-  -- the call has read the alternative at this place, which this value is
+  -- the call has read the alternative at this index, which this value is
   abbrev pub HasReadAt : {D : Type 0} → Reader D → (cases : List (Case V)) → ℕ → D → D →
       OneOf (alternatives_of cases) → Type 0
-  HasReadAt R [] place old new x = absurd x
+  HasReadAt R [] index old new x = absurd x
   HasReadAt R (h ∷ hs) zero old new (inl w) = ReadsValueOf R h.type h.eq old new (Ok w)
   HasReadAt R (h ∷ hs) zero old new (inr x) = ⊥
-  HasReadAt R (h ∷ hs) (suc place) old new (inl w) = ⊥
-  HasReadAt R (h ∷ hs) (suc place) old new (inr x) = HasReadAt R hs place old new x
+  HasReadAt R (h ∷ hs) (suc index) old new (inl w) = ⊥
+  HasReadAt R (h ∷ hs) (suc index) old new (inr x) = HasReadAt R hs index old new x
 
   -- it has failed to, by this error
   abbrev pub FailsAt : {D : Type 0} → Reader D → List (Case V) → ℕ → D → D → DecodeError → Type 0
-  FailsAt R [] place old new e = ⊤
+  FailsAt R [] index old new e = ⊤
   FailsAt R (h ∷ hs) zero old new e = ReadsValueOf R h.type h.eq old new (Err e)
-  FailsAt R (h ∷ hs) (suc place) old new e = FailsAt R hs place old new e
+  FailsAt R (h ∷ hs) (suc index) old new e = FailsAt R hs index old new e
 
-  -- the call reads the alternative at this place
+  -- the call reads the alternative at this index
   abbrev pub ReadsCaseAt : {D : Type 0} → Reader D → (cases : List (Case V)) →
       (V → OneOf (alternatives_of cases)) → ℕ → D → D → Result V DecodeError → Type 0
-  ReadsCaseAt R cases case_of place old new (Ok v) = HasReadAt R cases place old new (case_of v)
-  ReadsCaseAt R cases case_of place old new (Err e) = FailsAt R cases place old new e
+  ReadsCaseAt R cases case_of index old new (Ok v) = HasReadAt R cases index old new (case_of v)
+  ReadsCaseAt R cases case_of index old new (Err e) = FailsAt R cases index old new e
 
   -- The value is made of the chosen alternative, and is equal to what is made of an equal one.
   abbrev pub IsMade : (V → V → Bool) → (cases : List (Case V)) → OneOf (alternatives_of cases) →

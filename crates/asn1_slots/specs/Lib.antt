@@ -3,5 +3,5 @@ pub mod Filling
 pub mod InSets
 pub mod ReadSlots
 pub mod Slots
-pub mod TagPlaces
+pub mod TagIndices
 pub mod Taggings

@@ -6,7 +6,7 @@ use Rattle.asn1_components.specs.Components.{Components, all_components, compone
 use Rattle.asn1_components.specs.Following.{EndsApart}
 use Rattle.asn1_model.specs.Records.{Record, highest}
 use Rattle.asn1_slots.specs.Slots.{HoldBefore, Slot}
-use Rattle.asn1_slots.specs.declared.by_place.NotRead.{NotRead}
+use Rattle.asn1_slots.specs.declared.by_index.NotRead.{NotRead}
 
 -- A call that reads the components of a SEQUENCE or a group into these slots: of each value that is
 -- of the type and valid, each slot holds what the value has. What follows the components begins with

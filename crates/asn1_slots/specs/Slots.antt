@@ -243,11 +243,11 @@ module _ {S V : Type 0} where
   extensible_set_after k slots =
       extensible_set (components_of (take k slots)) (components_of (drop k slots))
 
-  -- each slot before this place has what the value has
+  -- each slot before this index has what the value has
   abbrev pub HoldBefore : List (Slot S V) → ℕ → S → V → Type 0
-  HoldBefore [] place s v = ⊤
+  HoldBefore [] index s v = ⊤
   HoldBefore (h ∷ hs) zero s v = ⊤
-  HoldBefore (h ∷ hs) (suc place) s v = (h.holds s v ≡ true) × HoldBefore hs place s v
+  HoldBefore (h ∷ hs) (suc index) s v = (h.holds s v ≡ true) × HoldBefore hs index s v
 
   -- all slots are empty
   abbrev pub AreEmpty : List (Slot S V) → S → Type 0
@@ -285,12 +285,12 @@ module _ {S V : Type 0} where
   ReadsOnceAt R (h ∷ hs) (suc index) old new before after result =
       ReadsOnceAt R hs index old new before after result
 
-  -- the call reads the component at this place into its slot
+  -- the call reads the component at this index into its slot
   abbrev pub ReadsAt : {D A : Type 0} → Reader D → List (Slot S V) → ℕ → D → D → S →
       Result A DecodeError → Type 0
-  ReadsAt R [] place old new s result = ⊤
+  ReadsAt R [] index old new s result = ⊤
   ReadsAt R (h ∷ hs) zero old new s result = h.Reads R old new s result
-  ReadsAt R (h ∷ hs) (suc place) old new s result = ReadsAt R hs place old new s result
+  ReadsAt R (h ∷ hs) (suc index) old new s result = ReadsAt R hs index old new s result
 
   -- the name of the first component that is always there and whose slot is empty
   abbrev pub first_missing : List (Slot S V) → S → Option (List ℕ)

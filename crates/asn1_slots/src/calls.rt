@@ -7,8 +7,8 @@ ghost use Rattle.std.specs.Prelude.{◌≡◌, false, IfErr, OnOk};
 
 use crate::tagged::{read_addition, read_component, read_named, read_optional};
 use crate::tagging::Tagging;
-use asn1_laws::DecodeError;
 use asn1_dec::{Decode, DecodeFields, Decoder};
+use asn1_laws::DecodeError;
 
 /// What a call answers that reads a component into its slot.
 pub type Decoded = Result<(), DecodeError>;
@@ -75,7 +75,7 @@ pub fn group<C: DecodeFields, D: Decoder>(slot: &mut Option<C>, decoder: &mut D)
 /// Reads a component of a SET. Where it was read before, the error is [`DecodeError::DuplicateField`], with the name; an error of
 /// the component is answered with its name ([`DecodeError::in_field`]).
 #[inline(always)]
-pub fn once<T: Decode, D: Decoder>(
+pub fn decode_unique<T: Decode, D: Decoder>(
     slot: &mut Option<T>,
     decoder: &mut D,
     tagging: Tagging,

@@ -7,8 +7,8 @@ ghost use Rattle.std.specs.Prelude.{◌≡◌, OnOk};
 use crate::tagged::read_component;
 use crate::tagging::Tagging;
 use asn1_bounds::Constraints;
-use asn1_laws::DecodeError;
 use asn1_dec::{Decode, Decoder};
+use asn1_laws::DecodeError;
 use asn1_tags::Tag;
 
 /// Reads the value of an alternative.

@@ -8,8 +8,8 @@ ghost use Rattle.std.specs.Prelude.{◌≡◌, false, IfErr, OnOk};
 
 use crate::calls::Decoded;
 use asn1_bounds::Constraints;
-use asn1_laws::DecodeError;
 use asn1_dec::{Decode, Decoder};
+use asn1_laws::DecodeError;
 use asn1_tags::Tag;
 
 /// Reads a component that is always there under these constraints, and a tag, or the type's own where none is given.
@@ -71,7 +71,7 @@ pub fn addition_with_constraints<T: Decode, D: Decoder>(
 /// The same of a component of a SET, which is always there, may be absent or has a default. Where it was read before, the error is
 /// [`DecodeError::DuplicateField`], with the name; an error of the component is answered with its name.
 #[inline(always)]
-pub fn once_with_constraints<T: Decode, D: Decoder>(
+pub fn decode_unique_with_constraints<T: Decode, D: Decoder>(
     slot: &mut Option<T>,
     decoder: &mut D,
     tag: Option<Tag>,

@@ -8,8 +8,8 @@ ghost use Rattle.std.specs.Option.{option_eq};
 ghost use Rattle.std.specs.Prelude.{◌≡◌, false, IfErr, OnOk, true};
 
 use crate::tagging::Tagging;
-use asn1_laws::DecodeError;
 use asn1_dec::{Decode, Decoder};
+use asn1_laws::DecodeError;
 
 /// A component that is always there.
 #[inline(always)]

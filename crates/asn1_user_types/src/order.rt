@@ -4,9 +4,9 @@ ghost use Rattle.asn1_schema.specs.Words.{IsWellTagged, constructed_agrees, cons
 
 use crate::price::Price;
 use asn1_schema::{
-    AsnType, Constraints, ConstructedType, Decode, DecodeError, DecodeSetByPlace, Decoded, Decoder,
+    AsnType, Constraints, ConstructedType, Decode, DecodeError, DecodeSetByIndex, Decoded, Decoder,
     Encode, EncodeError, EncodeFields, Encoder, Field, FieldTable, Identifier, SetOf, Tag, Tagging,
-    TypeTable, Utf8String, decode_set_by_place, filled, once,
+    TypeTable, Utf8String, decode_set_by_index, decode_unique, filled,
 };
 use std::alloc::Global;
 
@@ -22,7 +22,7 @@ pub struct Order {
     pub goods: Goods,
 }
 
-impl DecodeSetByPlace for Order {
+impl DecodeSetByIndex for Order {
     type Slots = (Option<Price>, Option<Goods>);
 
     ghost layout = { required_slot (codes "price") (λ o. o.price) (λ s. s.0) (untagged ⟦<Price as AsnType>⟧.meaning) ⟦<Price as PartialEq>⟧.eq ∷
@@ -35,10 +35,10 @@ impl DecodeSetByPlace for Order {
         })
     }
 
-    fn decode_field<D: Decoder>(place: usize, slots: &mut Self::Slots, decoder: &mut D) -> Decoded {
-        match place {
-            0 => once(&mut slots.0, decoder, Tagging::Untagged, "price"),
-            1 => once(&mut slots.1, decoder, Tagging::Untagged, "goods"),
+    fn decode_field<D: Decoder>(index: usize, slots: &mut Self::Slots, decoder: &mut D) -> Decoded {
+        match index {
+            0 => decode_unique(&mut slots.0, decoder, Tagging::Untagged, "price"),
+            1 => decode_unique(&mut slots.1, decoder, Tagging::Untagged, "goods"),
             _ => Ok(()),
         }
     }
@@ -49,14 +49,14 @@ impl DecodeSetByPlace for Order {
 }
 
 impl FieldTable for Order {
-    ghost components = { set_of_slots ⟦<Order as DecodeSetByPlace>⟧.layout };
+    ghost components = { set_of_slots ⟦<Order as DecodeSetByIndex>⟧.layout };
 
     fn field_count() -> usize {
         2
     }
 
-    fn field_at(place: usize) -> Option<Field<'static>> {
-        match place {
+    fn field_at(index: usize) -> Option<Field<'static>> {
+        match index {
             0 => Some(Field::new_required_type::<Price>(0, "price")),
             1 => Some(Field::new_required_type::<Goods>(1, "goods")),
             _ => None,
@@ -102,8 +102,8 @@ impl Encode for Order {
 }
 
 impl EncodeFields for Order {
-    fn encode_field<E: Encoder>(&self, place: usize, encoder: &mut E) -> Result<(), EncodeError> {
-        match place {
+    fn encode_field<E: Encoder>(&self, index: usize, encoder: &mut E) -> Result<(), EncodeError> {
+        match index {
             0 => self.price.encode(encoder),
             1 => self.goods.encode(encoder),
             _ => Ok(()),
@@ -117,6 +117,6 @@ impl Decode for Order {
         tag: Tag,
         _constraints: &Constraints<'_>,
     ) -> Result<Order, DecodeError> {
-        decode_set_by_place(decoder, tag)
+        decode_set_by_index(decoder, tag)
     }
 }

@@ -4,9 +4,9 @@ ghost use Rattle.asn1_schema.specs.Words.{choice_agrees, choice_of, choice_of_ca
 ghost use Rattle.asn1_user_types.specs.declared.payment.Payment.TheVariants.{Card, Cash};
 
 use asn1_schema::{
-    AsnType, Choice, ChoiceType, Class, Constraints, Decode, DecodeChoice, DecodeChoiceByPlace,
+    AsnType, Choice, ChoiceType, Class, Constraints, Decode, DecodeChoice, DecodeChoiceByIndex,
     DecodeError, Decoder, Encode, EncodeChoice, EncodeError, Encoder, Identifier, OctetString, Tag,
-    TagTree, Tagging, TypeTable, alternative, from_tag_by_place,
+    TagTree, Tagging, TypeTable, alternative, from_tag_by_index,
 };
 
 /// How something is paid.
@@ -25,14 +25,14 @@ const CARD: Tag = Tag {
 
 const PAYMENT: &[TagTree<'static>] = &[TagTree::Leaf(Tag::NULL), TagTree::Leaf(CARD)];
 
-impl DecodeChoiceByPlace for Payment {
+impl DecodeChoiceByIndex for Payment {
     ghost cases = { variant (codes "cash") Cash (untagged ⟦<() as AsnType>⟧.meaning) ⟦<() as PartialEq>⟧.eq ∷
         variant (codes "card") Card (tagged (context 0) ⟦<OctetString as AsnType>⟧.meaning) ⟦<OctetString as PartialEq>⟧.eq ∷ [] };
 
     ghost case_of = { elim [ Cash nothing ↦ inl nothing | Card number ↦ inr (inl number) ] };
 
-    fn decode_alternative<D: Decoder>(place: usize, decoder: &mut D) -> Result<Self, DecodeError> {
-        match place {
+    fn decode_alternative<D: Decoder>(index: usize, decoder: &mut D) -> Result<Self, DecodeError> {
+        match index {
             0 => Ok(Payment::Cash(alternative(decoder, Tagging::Untagged)?)),
             1 => Ok(Payment::Card(alternative(decoder, Tagging::Tagged(CARD))?)),
             _ => Err(DecodeError::NoValidChoice("Payment")),
@@ -43,9 +43,9 @@ impl DecodeChoiceByPlace for Payment {
 }
 
 impl Choice for Payment {
-    ghost alternatives = { choice_of_cases ⟦<Payment as DecodeChoiceByPlace>⟧.cases };
+    ghost alternatives = { choice_of_cases ⟦<Payment as DecodeChoiceByIndex>⟧.cases };
 
-    ghost pick = { ⟦<Payment as DecodeChoiceByPlace>⟧.case_of };
+    ghost pick = { ⟦<Payment as DecodeChoiceByIndex>⟧.case_of };
 
     fn variants() -> &'static [TagTree<'static>] {
         PAYMENT
@@ -116,6 +116,6 @@ impl Decode for Payment {
 
 impl DecodeChoice for Payment {
     fn from_tag<D: Decoder>(decoder: &mut D, tag: Tag) -> Result<Payment, DecodeError> {
-        from_tag_by_place(decoder, tag)
+        from_tag_by_index(decoder, tag)
     }
 }

@@ -4,7 +4,7 @@ ghost use Rattle.asn1_schema.specs.Words.{IsWellTagged, constructed_agrees, cons
 
 use crate::currency::Currency;
 use asn1_schema::{
-    AsnType, Constraints, ConstructedType, Decode, DecodeByPlace, DecodeError, Decoded, Decoder,
+    AsnType, Constraints, ConstructedType, Decode, DecodeByIndex, DecodeError, Decoded, Decoder,
     Encode, EncodeError, EncodeFields, Encoder, Field, FieldTable, Identifier, Tag, Tagging,
     TypeTable, decode_sequence_naming_errors, filled, required,
 };
@@ -19,7 +19,7 @@ pub struct Price {
     pub currency: Currency,
 }
 
-impl DecodeByPlace for Price {
+impl DecodeByIndex for Price {
     type Slots = (Option<u32>, Option<Currency>);
 
     ghost layout = { required_slot (codes "amount") (λ p. p.amount) (λ s. s.0) (untagged ⟦<u32 as AsnType>⟧.meaning) ⟦<u32 as PartialEq>⟧.eq ∷
@@ -32,8 +32,8 @@ impl DecodeByPlace for Price {
         })
     }
 
-    fn decode_field<D: Decoder>(place: usize, slots: &mut Self::Slots, decoder: &mut D) -> Decoded {
-        match place {
+    fn decode_field<D: Decoder>(index: usize, slots: &mut Self::Slots, decoder: &mut D) -> Decoded {
+        match index {
             0 => required(&mut slots.0, decoder, Tagging::Untagged),
             1 => required(&mut slots.1, decoder, Tagging::Untagged),
             _ => Ok(()),
@@ -42,14 +42,14 @@ impl DecodeByPlace for Price {
 }
 
 impl FieldTable for Price {
-    ghost components = { sequence_of_slots ⟦<Price as DecodeByPlace>⟧.layout };
+    ghost components = { sequence_of_slots ⟦<Price as DecodeByIndex>⟧.layout };
 
     fn field_count() -> usize {
         2
     }
 
-    fn field_at(place: usize) -> Option<Field<'static>> {
-        match place {
+    fn field_at(index: usize) -> Option<Field<'static>> {
+        match index {
             0 => Some(Field::new_required_type::<u32>(0, "amount")),
             1 => Some(Field::new_required_type::<Currency>(1, "currency")),
             _ => None,
@@ -95,8 +95,8 @@ impl Encode for Price {
 }
 
 impl EncodeFields for Price {
-    fn encode_field<E: Encoder>(&self, place: usize, encoder: &mut E) -> Result<(), EncodeError> {
-        match place {
+    fn encode_field<E: Encoder>(&self, index: usize, encoder: &mut E) -> Result<(), EncodeError> {
+        match index {
             0 => self.amount.encode(encoder),
             1 => self.currency.encode(encoder),
             _ => Ok(()),

@@ -5,7 +5,7 @@ ghost use Rattle.asn1_schema.specs.Words.{IsWellTagged, constructed_agrees, cons
 use crate::order::Order;
 use crate::payment::Payment;
 use asn1_schema::{
-    AsnType, Constraints, ConstructedType, Decode, DecodeByPlace, DecodeError, Decoded, Decoder,
+    AsnType, Constraints, ConstructedType, Decode, DecodeByIndex, DecodeError, Decoded, Decoder,
     Encode, EncodeError, EncodeFields, Encoder, Field, FieldTable, Identifier, OctetString,
     RoundTripError, Rules, Tag, Tagging, TypeTable, decode_sequence_naming_errors, filled,
     required, round_trip,
@@ -21,7 +21,7 @@ pub struct Signed<T> {
     pub signature: OctetString,
 }
 
-impl<T: Decode> DecodeByPlace for Signed<T> {
+impl<T: Decode> DecodeByIndex for Signed<T> {
     type Slots = (Option<T>, Option<OctetString>);
 
     ghost layout = { required_slot (codes "content") (λ v. v.content) (λ s. s.0) (untagged T.meaning) T.eq ∷
@@ -34,8 +34,8 @@ impl<T: Decode> DecodeByPlace for Signed<T> {
         })
     }
 
-    fn decode_field<D: Decoder>(place: usize, slots: &mut Self::Slots, decoder: &mut D) -> Decoded {
-        match place {
+    fn decode_field<D: Decoder>(index: usize, slots: &mut Self::Slots, decoder: &mut D) -> Decoded {
+        match index {
             0 => required(&mut slots.0, decoder, Tagging::Untagged),
             1 => required(&mut slots.1, decoder, Tagging::Untagged),
             _ => Ok(()),
@@ -52,8 +52,8 @@ impl<T: AsnType> FieldTable for Signed<T> {
         2
     }
 
-    fn field_at(place: usize) -> Option<Field<'static>> {
-        match place {
+    fn field_at(index: usize) -> Option<Field<'static>> {
+        match index {
             0 => Some(Field::new_required_type::<T>(0, "content")),
             1 => Some(Field::new_required_type::<OctetString>(1, "signature")),
             _ => None,
@@ -99,8 +99,8 @@ impl<T: Encode> Encode for Signed<T> {
 }
 
 impl<T: Encode> EncodeFields for Signed<T> {
-    fn encode_field<E: Encoder>(&self, place: usize, encoder: &mut E) -> Result<(), EncodeError> {
-        match place {
+    fn encode_field<E: Encoder>(&self, index: usize, encoder: &mut E) -> Result<(), EncodeError> {
+        match index {
             0 => self.content.encode(encoder),
             1 => self.signature.encode(encoder),
             _ => Ok(()),

@@ -7,7 +7,7 @@ ghost use Rattle.asn1_x509.specs.OpenValues.{ParametersAreAccepted};
 use asn1_dec::{Decode, DecodeError, Decoder};
 use asn1_enc::{Encode, EncodeError, EncodeFields, Encoder};
 use asn1_slots::{
-    DecodeByPlace, Decoded, Tagging, decode_sequence_naming_errors, filled, optional, required,
+    DecodeByIndex, Decoded, Tagging, decode_sequence_naming_errors, filled, optional, required,
 };
 use asn1_types::{
     Any, AsnType, Constraints, ConstructedType, Field, FieldTable, Identifier, Tag, TypeTable,
@@ -24,7 +24,7 @@ pub struct AlgorithmIdentifier {
     pub parameters: Option<Any>,
 }
 
-impl DecodeByPlace for AlgorithmIdentifier {
+impl DecodeByIndex for AlgorithmIdentifier {
     type Slots = (Option<ObjectIdentifier>, Option<Any>);
 
     ghost layout = { required_slot (codes "algorithm") (λ v. v.algorithm) (λ s. s.0)
@@ -39,8 +39,8 @@ impl DecodeByPlace for AlgorithmIdentifier {
         })
     }
 
-    fn decode_field<D: Decoder>(place: usize, slots: &mut Self::Slots, decoder: &mut D) -> Decoded {
-        match place {
+    fn decode_field<D: Decoder>(index: usize, slots: &mut Self::Slots, decoder: &mut D) -> Decoded {
+        match index {
             0 => required(&mut slots.0, decoder, Tagging::Untagged),
             1 => optional(&mut slots.1, decoder, Tagging::Untagged),
             _ => Ok(()),
@@ -49,14 +49,14 @@ impl DecodeByPlace for AlgorithmIdentifier {
 }
 
 impl FieldTable for AlgorithmIdentifier {
-    ghost components = { sequence_of_slots ⟦<AlgorithmIdentifier as DecodeByPlace>⟧.layout };
+    ghost components = { sequence_of_slots ⟦<AlgorithmIdentifier as DecodeByIndex>⟧.layout };
 
     fn field_count() -> usize {
         2
     }
 
-    fn field_at(place: usize) -> Option<Field<'static>> {
-        match place {
+    fn field_at(index: usize) -> Option<Field<'static>> {
+        match index {
             0 => Some(Field::new_required_type::<ObjectIdentifier>(0, "algorithm")),
             1 => Some(Field::new_optional_type::<Any>(1, "parameters")),
             _ => None,
@@ -109,8 +109,8 @@ impl Encode for AlgorithmIdentifier {
 }
 
 impl EncodeFields for AlgorithmIdentifier {
-    fn encode_field<E: Encoder>(&self, place: usize, encoder: &mut E) -> Result<(), EncodeError> {
-        match place {
+    fn encode_field<E: Encoder>(&self, index: usize, encoder: &mut E) -> Result<(), EncodeError> {
+        match index {
             0 => self.algorithm.encode(encoder),
             1 => self.parameters.encode(encoder),
             _ => Ok(()),

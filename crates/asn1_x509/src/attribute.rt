@@ -6,7 +6,7 @@ ghost use Rattle.asn1_types.specs.Words.{IsWellTagged, constructed_agrees, const
 use asn1_dec::{Decode, DecodeError, Decoder};
 use asn1_enc::{Encode, EncodeError, EncodeFields, Encoder};
 use asn1_slots::{
-    DecodeByPlace, Decoded, Tagging, decode_sequence_naming_errors, filled, required,
+    DecodeByIndex, Decoded, Tagging, decode_sequence_naming_errors, filled, required,
 };
 use asn1_types::{
     Any, AsnType, Constraints, ConstructedType, Field, FieldTable, Identifier, Tag, TypeTable,
@@ -23,7 +23,7 @@ pub struct AttributeTypeAndValue {
     pub value: Any,
 }
 
-impl DecodeByPlace for AttributeTypeAndValue {
+impl DecodeByIndex for AttributeTypeAndValue {
     type Slots = (Option<ObjectIdentifier>, Option<Any>);
 
     ghost layout = { required_slot (codes "type") (λ v. v.attribute) (λ s. s.0)
@@ -41,8 +41,8 @@ impl DecodeByPlace for AttributeTypeAndValue {
         })
     }
 
-    fn decode_field<D: Decoder>(place: usize, slots: &mut Self::Slots, decoder: &mut D) -> Decoded {
-        match place {
+    fn decode_field<D: Decoder>(index: usize, slots: &mut Self::Slots, decoder: &mut D) -> Decoded {
+        match index {
             0 => required(&mut slots.0, decoder, Tagging::Untagged),
             1 => required(&mut slots.1, decoder, Tagging::Untagged),
             _ => Ok(()),
@@ -51,14 +51,14 @@ impl DecodeByPlace for AttributeTypeAndValue {
 }
 
 impl FieldTable for AttributeTypeAndValue {
-    ghost components = { sequence_of_slots ⟦<AttributeTypeAndValue as DecodeByPlace>⟧.layout };
+    ghost components = { sequence_of_slots ⟦<AttributeTypeAndValue as DecodeByIndex>⟧.layout };
 
     fn field_count() -> usize {
         2
     }
 
-    fn field_at(place: usize) -> Option<Field<'static>> {
-        match place {
+    fn field_at(index: usize) -> Option<Field<'static>> {
+        match index {
             0 => Some(Field::new_required_type::<ObjectIdentifier>(0, "type")),
             1 => Some(Field::new_required_type::<Any>(1, "value")),
             _ => None,
@@ -111,8 +111,8 @@ impl Encode for AttributeTypeAndValue {
 }
 
 impl EncodeFields for AttributeTypeAndValue {
-    fn encode_field<E: Encoder>(&self, place: usize, encoder: &mut E) -> Result<(), EncodeError> {
-        match place {
+    fn encode_field<E: Encoder>(&self, index: usize, encoder: &mut E) -> Result<(), EncodeError> {
+        match index {
             0 => self.attribute.encode(encoder),
             1 => self.value.encode(encoder),
             _ => Ok(()),

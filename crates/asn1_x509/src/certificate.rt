@@ -11,7 +11,7 @@ use crate::tbs_certificate::TbsCertificate;
 use asn1_dec::{Decode, DecodeError, Decoder};
 use asn1_enc::{Encode, EncodeError, EncodeFields, Encoder};
 use asn1_slots::{
-    DecodeByPlace, Decoded, Tagging, decode_sequence_naming_errors, filled, required,
+    DecodeByIndex, Decoded, Tagging, decode_sequence_naming_errors, filled, required,
 };
 use asn1_types::{
     AsnType, Constraints, ConstructedType, Field, FieldTable, Identifier, Tag, TypeTable,
@@ -30,7 +30,7 @@ pub struct Certificate {
     pub signature_value: BitString,
 }
 
-impl DecodeByPlace for Certificate {
+impl DecodeByIndex for Certificate {
     type Slots = (
         Option<TbsCertificate>,
         Option<AlgorithmIdentifier>,
@@ -52,8 +52,8 @@ impl DecodeByPlace for Certificate {
         })
     }
 
-    fn decode_field<D: Decoder>(place: usize, slots: &mut Self::Slots, decoder: &mut D) -> Decoded {
-        match place {
+    fn decode_field<D: Decoder>(index: usize, slots: &mut Self::Slots, decoder: &mut D) -> Decoded {
+        match index {
             0 => required(&mut slots.0, decoder, Tagging::Untagged),
             1 => required(&mut slots.1, decoder, Tagging::Untagged),
             2 => required(&mut slots.2, decoder, Tagging::Untagged),
@@ -63,14 +63,14 @@ impl DecodeByPlace for Certificate {
 }
 
 impl FieldTable for Certificate {
-    ghost components = { sequence_of_slots ⟦<Certificate as DecodeByPlace>⟧.layout };
+    ghost components = { sequence_of_slots ⟦<Certificate as DecodeByIndex>⟧.layout };
 
     fn field_count() -> usize {
         3
     }
 
-    fn field_at(place: usize) -> Option<Field<'static>> {
-        match place {
+    fn field_at(index: usize) -> Option<Field<'static>> {
+        match index {
             0 => Some(Field::new_required_type::<TbsCertificate>(0, "tbsCertificate")),
             1 => Some(Field::new_required_type::<AlgorithmIdentifier>(1, "signatureAlgorithm")),
             2 => Some(Field::new_required_type::<BitString>(2, "signatureValue")),
@@ -131,8 +131,8 @@ impl Encode for Certificate {
 }
 
 impl EncodeFields for Certificate {
-    fn encode_field<E: Encoder>(&self, place: usize, encoder: &mut E) -> Result<(), EncodeError> {
-        match place {
+    fn encode_field<E: Encoder>(&self, index: usize, encoder: &mut E) -> Result<(), EncodeError> {
+        match index {
             0 => self.tbs_certificate.encode(encoder),
             1 => self.signature_algorithm.encode(encoder),
             2 => self.signature_value.encode(encoder),

@@ -16,7 +16,7 @@ ghost use Rattle.asn1_x509.specs.declared.directory_string.DirectoryString.TheVa
 
 use asn1_dec::{Decode, DecodeChoice, DecodeError, Decoder};
 use asn1_enc::{Encode, EncodeChoice, EncodeError, Encoder};
-use asn1_slots::{DecodeChoiceByPlace, Tagging, alternative, from_tag_by_place};
+use asn1_slots::{DecodeChoiceByIndex, Tagging, alternative, from_tag_by_index};
 use asn1_types::{
     AsnType, Choice, ChoiceType, Constraints, Identifier, Implicit, Tag, TagTree, TypeTable, tag,
 };
@@ -46,7 +46,7 @@ const DIRECTORY_STRING: &[TagTree<'static>] = &[
     TagTree::Leaf(Tag::BMP_STRING),
 ];
 
-impl DecodeChoiceByPlace for DirectoryString {
+impl DecodeChoiceByIndex for DirectoryString {
     ghost cases = { variant (codes "teletexString") Teletex (untagged ⟦<TeletexString as AsnType>⟧.meaning)
         ⟦<TeletexString as PartialEq>⟧.eq ∷
         variant (codes "printableString") Printable (untagged ⟦<PrintableString as AsnType>⟧.meaning)
@@ -60,8 +60,8 @@ impl DecodeChoiceByPlace for DirectoryString {
 
     ghost case_of = { elim [ Teletex teletex ↦ inl teletex | Printable printable ↦ inr (inl printable) | Universal universal ↦ inr (inr (inl universal)) | Utf8 utf8 ↦ inr (inr (inr (inl utf8))) | Bmp bmp ↦ inr (inr (inr (inr (inl bmp)))) ] };
 
-    fn decode_alternative<D: Decoder>(place: usize, decoder: &mut D) -> Result<Self, DecodeError> {
-        match place {
+    fn decode_alternative<D: Decoder>(index: usize, decoder: &mut D) -> Result<Self, DecodeError> {
+        match index {
             0 => Ok(DirectoryString::Teletex(alternative(decoder, Tagging::Untagged)?)),
             1 => Ok(DirectoryString::Printable(alternative(decoder, Tagging::Untagged)?)),
             2 => Ok(DirectoryString::Universal(alternative(decoder, Tagging::Untagged)?)),
@@ -75,9 +75,9 @@ impl DecodeChoiceByPlace for DirectoryString {
 }
 
 impl Choice for DirectoryString {
-    ghost alternatives = { choice_of_cases ⟦<DirectoryString as DecodeChoiceByPlace>⟧.cases };
+    ghost alternatives = { choice_of_cases ⟦<DirectoryString as DecodeChoiceByIndex>⟧.cases };
 
-    ghost pick = { ⟦<DirectoryString as DecodeChoiceByPlace>⟧.case_of };
+    ghost pick = { ⟦<DirectoryString as DecodeChoiceByIndex>⟧.case_of };
 
     fn variants() -> &'static [TagTree<'static>] {
         DIRECTORY_STRING
@@ -171,6 +171,6 @@ impl Decode for DirectoryString {
 
 impl DecodeChoice for DirectoryString {
     fn from_tag<D: Decoder>(decoder: &mut D, tag: Tag) -> Result<DirectoryString, DecodeError> {
-        from_tag_by_place(decoder, tag)
+        from_tag_by_index(decoder, tag)
     }
 }

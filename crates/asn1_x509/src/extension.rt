@@ -6,7 +6,7 @@ ghost use Rattle.asn1_types.specs.Words.{IsWellTagged, constructed_agrees, const
 use asn1_dec::{Decode, DecodeError, Decoder};
 use asn1_enc::{Encode, EncodeError, EncodeFields, Encoder};
 use asn1_slots::{
-    DecodeByPlace, Decoded, Tagging, decode_sequence_naming_errors, filled, optional, or_default,
+    DecodeByIndex, Decoded, Tagging, decode_sequence_naming_errors, filled, optional, or_default,
     required,
 };
 use asn1_types::{
@@ -29,7 +29,7 @@ pub struct Extension {
     pub value: OctetString,
 }
 
-impl DecodeByPlace for Extension {
+impl DecodeByIndex for Extension {
     type Slots = (Option<ObjectIdentifier>, Option<bool>, Option<OctetString>);
 
     ghost layout = { required_slot (codes "extnID") (λ v. v.extension_id) (λ s. s.0)
@@ -47,8 +47,8 @@ impl DecodeByPlace for Extension {
         })
     }
 
-    fn decode_field<D: Decoder>(place: usize, slots: &mut Self::Slots, decoder: &mut D) -> Decoded {
-        match place {
+    fn decode_field<D: Decoder>(index: usize, slots: &mut Self::Slots, decoder: &mut D) -> Decoded {
+        match index {
             0 => required(&mut slots.0, decoder, Tagging::Untagged),
             1 => optional(&mut slots.1, decoder, Tagging::Untagged),
             2 => required(&mut slots.2, decoder, Tagging::Untagged),
@@ -58,14 +58,14 @@ impl DecodeByPlace for Extension {
 }
 
 impl FieldTable for Extension {
-    ghost components = { sequence_of_slots ⟦<Extension as DecodeByPlace>⟧.layout };
+    ghost components = { sequence_of_slots ⟦<Extension as DecodeByIndex>⟧.layout };
 
     fn field_count() -> usize {
         3
     }
 
-    fn field_at(place: usize) -> Option<Field<'static>> {
-        match place {
+    fn field_at(index: usize) -> Option<Field<'static>> {
+        match index {
             0 => Some(Field::new_required_type::<ObjectIdentifier>(0, "extnID")),
             1 => Some(Field::new_default_type::<bool>(1, "critical")),
             2 => Some(Field::new_required_type::<OctetString>(2, "extnValue")),
@@ -118,8 +118,8 @@ impl Encode for Extension {
 }
 
 impl EncodeFields for Extension {
-    fn encode_field<E: Encoder>(&self, place: usize, encoder: &mut E) -> Result<(), EncodeError> {
-        match place {
+    fn encode_field<E: Encoder>(&self, index: usize, encoder: &mut E) -> Result<(), EncodeError> {
+        match index {
             0 => self.extension_id.encode(encoder),
             1 => encoder.encode_default(&self.critical, |_| Ok(false), bool::identifier()),
             2 => self.value.encode(encoder),

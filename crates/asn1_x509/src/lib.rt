@@ -13,7 +13,7 @@
 //! What the contracts promise:
 //!
 //! - Each type states its components or its alternatives once, and its tables, meaning, writer and reader are proved to say
-//!   the same. Components are read by place, each into a slot of its own. So a valid value comes back equal (`round_trip` of
+//!   the same. Components are read by index, each into a slot of its own. So a valid value comes back equal (`round_trip` of
 //!   `asn1_schema`).
 //! - Each type can be inside other types (`certificate_is_well_tagged` and the like): no tag is where another is expected.
 //! - A version that is the first is its default, and is written as absent: `first_version_is_absent` says it of a certificate

@@ -8,7 +8,7 @@ ghost use Rattle.asn1_x509.specs.declared.name.Name.TheVariants.{Rdns};
 use crate::attribute::AttributeTypeAndValue;
 use asn1_dec::{Decode, DecodeChoice, DecodeError, Decoder};
 use asn1_enc::{Encode, EncodeChoice, EncodeError, Encoder};
-use asn1_slots::{DecodeChoiceByPlace, Tagging, alternative, from_tag_by_place};
+use asn1_slots::{DecodeChoiceByIndex, Tagging, alternative, from_tag_by_index};
 use asn1_types::{
     AsnType, Choice, ChoiceType, Constraints, Identifier, SetOf, Tag, TagTree, TypeTable,
 };
@@ -29,14 +29,14 @@ pub enum Name {
 /// The trees of the alternatives.
 const NAME: &[TagTree<'static>] = &[TagTree::Leaf(Tag::SEQUENCE)];
 
-impl DecodeChoiceByPlace for Name {
+impl DecodeChoiceByIndex for Name {
     ghost cases = { variant (codes "rdnSequence") Rdns (untagged ⟦<RdnSequence as AsnType>⟧.meaning)
         ⟦<RdnSequence as PartialEq>⟧.eq ∷ [] };
 
     ghost case_of = { elim [ Rdns rdns ↦ inl rdns ] };
 
-    fn decode_alternative<D: Decoder>(place: usize, decoder: &mut D) -> Result<Self, DecodeError> {
-        match place {
+    fn decode_alternative<D: Decoder>(index: usize, decoder: &mut D) -> Result<Self, DecodeError> {
+        match index {
             0 => match alternative(decoder, Tagging::Untagged) {
                 Ok(rdns) => Ok(Name::Rdns(rdns)),
                 Err(error) => Err(error),
@@ -49,9 +49,9 @@ impl DecodeChoiceByPlace for Name {
 }
 
 impl Choice for Name {
-    ghost alternatives = { choice_of_cases ⟦<Name as DecodeChoiceByPlace>⟧.cases };
+    ghost alternatives = { choice_of_cases ⟦<Name as DecodeChoiceByIndex>⟧.cases };
 
-    ghost pick = { ⟦<Name as DecodeChoiceByPlace>⟧.case_of };
+    ghost pick = { ⟦<Name as DecodeChoiceByIndex>⟧.case_of };
 
     fn variants() -> &'static [TagTree<'static>] {
         NAME
@@ -132,6 +132,6 @@ impl Decode for Name {
 
 impl DecodeChoice for Name {
     fn from_tag<D: Decoder>(decoder: &mut D, tag: Tag) -> Result<Name, DecodeError> {
-        from_tag_by_place(decoder, tag)
+        from_tag_by_index(decoder, tag)
     }
 }

@@ -6,7 +6,7 @@ ghost use Rattle.asn1_types.specs.Words.{IsWellTagged, constructed_agrees, const
 use asn1_dec::{Decode, DecodeError, Decoder};
 use asn1_enc::{Encode, EncodeError, EncodeFields, Encoder};
 use asn1_slots::{
-    DecodeByPlace, Decoded, Tagging, decode_sequence_naming_errors, filled, required,
+    DecodeByIndex, Decoded, Tagging, decode_sequence_naming_errors, filled, required,
 };
 use asn1_types::{
     AsnType, Constraints, ConstructedType, Field, FieldTable, Identifier, Tag, TypeTable,
@@ -23,7 +23,7 @@ pub struct RsaPublicKey {
     pub public_exponent: Integer,
 }
 
-impl DecodeByPlace for RsaPublicKey {
+impl DecodeByIndex for RsaPublicKey {
     type Slots = (Option<Integer>, Option<Integer>);
 
     ghost layout = { required_slot (codes "modulus") (λ v. v.modulus) (λ s. s.0)
@@ -38,8 +38,8 @@ impl DecodeByPlace for RsaPublicKey {
         })
     }
 
-    fn decode_field<D: Decoder>(place: usize, slots: &mut Self::Slots, decoder: &mut D) -> Decoded {
-        match place {
+    fn decode_field<D: Decoder>(index: usize, slots: &mut Self::Slots, decoder: &mut D) -> Decoded {
+        match index {
             0 => required(&mut slots.0, decoder, Tagging::Untagged),
             1 => required(&mut slots.1, decoder, Tagging::Untagged),
             _ => Ok(()),
@@ -48,14 +48,14 @@ impl DecodeByPlace for RsaPublicKey {
 }
 
 impl FieldTable for RsaPublicKey {
-    ghost components = { sequence_of_slots ⟦<RsaPublicKey as DecodeByPlace>⟧.layout };
+    ghost components = { sequence_of_slots ⟦<RsaPublicKey as DecodeByIndex>⟧.layout };
 
     fn field_count() -> usize {
         2
     }
 
-    fn field_at(place: usize) -> Option<Field<'static>> {
-        match place {
+    fn field_at(index: usize) -> Option<Field<'static>> {
+        match index {
             0 => Some(Field::new_required_type::<Integer>(0, "modulus")),
             1 => Some(Field::new_required_type::<Integer>(1, "publicExponent")),
             _ => None,
@@ -107,8 +107,8 @@ impl Encode for RsaPublicKey {
 }
 
 impl EncodeFields for RsaPublicKey {
-    fn encode_field<E: Encoder>(&self, place: usize, encoder: &mut E) -> Result<(), EncodeError> {
-        match place {
+    fn encode_field<E: Encoder>(&self, index: usize, encoder: &mut E) -> Result<(), EncodeError> {
+        match index {
             0 => self.modulus.encode(encoder),
             1 => self.public_exponent.encode(encoder),
             _ => Ok(()),

@@ -9,7 +9,7 @@ use crate::algorithm_identifier::AlgorithmIdentifier;
 use asn1_dec::{Decode, DecodeError, Decoder};
 use asn1_enc::{Encode, EncodeError, EncodeFields, Encoder};
 use asn1_slots::{
-    DecodeByPlace, Decoded, Tagging, decode_sequence_naming_errors, filled, required,
+    DecodeByIndex, Decoded, Tagging, decode_sequence_naming_errors, filled, required,
 };
 use asn1_types::{
     AsnType, Constraints, ConstructedType, Field, FieldTable, Identifier, Tag, TypeTable,
@@ -28,7 +28,7 @@ pub struct Signed<T> {
     pub encrypted: BitString,
 }
 
-impl<T: Decode> DecodeByPlace for Signed<T> {
+impl<T: Decode> DecodeByIndex for Signed<T> {
     type Slots = (Option<T>, Option<AlgorithmIdentifier>, Option<BitString>);
 
     ghost layout = { required_slot (codes "toBeSigned") (λ v. v.to_be_signed) (λ s. s.0)
@@ -47,8 +47,8 @@ impl<T: Decode> DecodeByPlace for Signed<T> {
         })
     }
 
-    fn decode_field<D: Decoder>(place: usize, slots: &mut Self::Slots, decoder: &mut D) -> Decoded {
-        match place {
+    fn decode_field<D: Decoder>(index: usize, slots: &mut Self::Slots, decoder: &mut D) -> Decoded {
+        match index {
             0 => required(&mut slots.0, decoder, Tagging::Untagged),
             1 => required(&mut slots.1, decoder, Tagging::Untagged),
             2 => required(&mut slots.2, decoder, Tagging::Untagged),
@@ -69,8 +69,8 @@ impl<T: AsnType> FieldTable for Signed<T> {
         3
     }
 
-    fn field_at(place: usize) -> Option<Field<'static>> {
-        match place {
+    fn field_at(index: usize) -> Option<Field<'static>> {
+        match index {
             0 => Some(Field::new_required_type::<T>(0, "toBeSigned")),
             1 => Some(Field::new_required_type::<AlgorithmIdentifier>(1, "algorithmIdentifier")),
             2 => Some(Field::new_required_type::<BitString>(2, "encrypted")),
@@ -124,8 +124,8 @@ impl<T: Encode> Encode for Signed<T> {
 }
 
 impl<T: Encode> EncodeFields for Signed<T> {
-    fn encode_field<E: Encoder>(&self, place: usize, encoder: &mut E) -> Result<(), EncodeError> {
-        match place {
+    fn encode_field<E: Encoder>(&self, index: usize, encoder: &mut E) -> Result<(), EncodeError> {
+        match index {
             0 => self.to_be_signed.encode(encoder),
             1 => self.algorithm_identifier.encode(encoder),
             2 => self.encrypted.encode(encoder),

@@ -8,7 +8,7 @@ use crate::algorithm_identifier::AlgorithmIdentifier;
 use asn1_dec::{Decode, DecodeError, Decoder};
 use asn1_enc::{Encode, EncodeError, EncodeFields, Encoder};
 use asn1_slots::{
-    DecodeByPlace, Decoded, Tagging, decode_sequence_naming_errors, filled, required,
+    DecodeByIndex, Decoded, Tagging, decode_sequence_naming_errors, filled, required,
 };
 use asn1_types::{
     AsnType, Constraints, ConstructedType, Field, FieldTable, Identifier, Tag, TypeTable,
@@ -25,7 +25,7 @@ pub struct SubjectPublicKeyInfo {
     pub subject_public_key: BitString,
 }
 
-impl DecodeByPlace for SubjectPublicKeyInfo {
+impl DecodeByIndex for SubjectPublicKeyInfo {
     type Slots = (Option<AlgorithmIdentifier>, Option<BitString>);
 
     ghost layout = { required_slot (codes "algorithm") (λ v. v.algorithm) (λ s. s.0)
@@ -40,8 +40,8 @@ impl DecodeByPlace for SubjectPublicKeyInfo {
         })
     }
 
-    fn decode_field<D: Decoder>(place: usize, slots: &mut Self::Slots, decoder: &mut D) -> Decoded {
-        match place {
+    fn decode_field<D: Decoder>(index: usize, slots: &mut Self::Slots, decoder: &mut D) -> Decoded {
+        match index {
             0 => required(&mut slots.0, decoder, Tagging::Untagged),
             1 => required(&mut slots.1, decoder, Tagging::Untagged),
             _ => Ok(()),
@@ -50,14 +50,14 @@ impl DecodeByPlace for SubjectPublicKeyInfo {
 }
 
 impl FieldTable for SubjectPublicKeyInfo {
-    ghost components = { sequence_of_slots ⟦<SubjectPublicKeyInfo as DecodeByPlace>⟧.layout };
+    ghost components = { sequence_of_slots ⟦<SubjectPublicKeyInfo as DecodeByIndex>⟧.layout };
 
     fn field_count() -> usize {
         2
     }
 
-    fn field_at(place: usize) -> Option<Field<'static>> {
-        match place {
+    fn field_at(index: usize) -> Option<Field<'static>> {
+        match index {
             0 => Some(Field::new_required_type::<AlgorithmIdentifier>(0, "algorithm")),
             1 => Some(Field::new_required_type::<BitString>(1, "subjectPublicKey")),
             _ => None,
@@ -110,8 +110,8 @@ impl Encode for SubjectPublicKeyInfo {
 }
 
 impl EncodeFields for SubjectPublicKeyInfo {
-    fn encode_field<E: Encoder>(&self, place: usize, encoder: &mut E) -> Result<(), EncodeError> {
-        match place {
+    fn encode_field<E: Encoder>(&self, index: usize, encoder: &mut E) -> Result<(), EncodeError> {
+        match index {
             0 => self.algorithm.encode(encoder),
             1 => self.subject_public_key.encode(encoder),
             _ => Ok(()),

@@ -30,7 +30,7 @@ use crate::validity::Validity;
 use asn1_dec::{Decode, DecodeError, Decoder};
 use asn1_enc::{Encode, EncodeError, EncodeFields, Encoder, encode_explicit_optional};
 use asn1_slots::{
-    DecodeByPlace, Decoded, Tagging, decode_sequence_naming_errors, filled, optional, or_default,
+    DecodeByIndex, Decoded, Tagging, decode_sequence_naming_errors, filled, optional, or_default,
     required,
 };
 use asn1_tags::tag;
@@ -82,7 +82,7 @@ const SUBJECT_UNIQUE_ID: Tag = tag!(context 2);
 
 const EXTENSIONS: Tag = tag!(context 3);
 
-impl DecodeByPlace for TbsCertificate {
+impl DecodeByIndex for TbsCertificate {
     type Slots = (
         Option<Version>,
         Option<CertificateSerialNumber>,
@@ -132,8 +132,8 @@ impl DecodeByPlace for TbsCertificate {
         })
     }
 
-    fn decode_field<D: Decoder>(place: usize, slots: &mut Self::Slots, decoder: &mut D) -> Decoded {
-        match place {
+    fn decode_field<D: Decoder>(index: usize, slots: &mut Self::Slots, decoder: &mut D) -> Decoded {
+        match index {
             0 => optional(&mut slots.0, decoder, Tagging::Explicit(VERSION)),
             1 => required(&mut slots.1, decoder, Tagging::Untagged),
             2 => required(&mut slots.2, decoder, Tagging::Untagged),
@@ -150,14 +150,14 @@ impl DecodeByPlace for TbsCertificate {
 }
 
 impl FieldTable for TbsCertificate {
-    ghost components = { sequence_of_slots ⟦<TbsCertificate as DecodeByPlace>⟧.layout };
+    ghost components = { sequence_of_slots ⟦<TbsCertificate as DecodeByIndex>⟧.layout };
 
     fn field_count() -> usize {
         10
     }
 
-    fn field_at(place: usize) -> Option<Field<'static>> {
-        match place {
+    fn field_at(index: usize) -> Option<Field<'static>> {
+        match index {
             0 => Some(Field::new_default_explicit(0, VERSION, "version")),
             1 => Some(Field::new_required_type::<CertificateSerialNumber>(1, "serialNumber")),
             2 => Some(Field::new_required_type::<AlgorithmIdentifier>(2, "signature")),
@@ -226,8 +226,8 @@ impl Encode for TbsCertificate {
 }
 
 impl EncodeFields for TbsCertificate {
-    fn encode_field<E: Encoder>(&self, place: usize, encoder: &mut E) -> Result<(), EncodeError> {
-        match place {
+    fn encode_field<E: Encoder>(&self, index: usize, encoder: &mut E) -> Result<(), EncodeError> {
+        match index {
             0 => encoder.encode_default_with_explicit_prefix(
                 VERSION,
                 &self.version,

@@ -6,7 +6,7 @@ ghost use Rattle.asn1_x509.specs.declared.time.Time.TheVariants.{Utc, General};
 
 use asn1_dec::{Decode, DecodeChoice, DecodeError, Decoder};
 use asn1_enc::{Encode, EncodeChoice, EncodeError, Encoder};
-use asn1_slots::{DecodeChoiceByPlace, Tagging, alternative, from_tag_by_place};
+use asn1_slots::{DecodeChoiceByIndex, Tagging, alternative, from_tag_by_index};
 use asn1_types::{
     AsnType, Choice, ChoiceType, Constraints, Identifier, Implicit, Tag, TagTree, TypeTable, tag,
 };
@@ -27,7 +27,7 @@ const TIME: &[TagTree<'static>] = &[
     TagTree::Leaf(Tag::GENERALIZED_TIME),
 ];
 
-impl DecodeChoiceByPlace for Time {
+impl DecodeChoiceByIndex for Time {
     ghost cases = { variant (codes "utcTime") Utc (untagged ⟦<Implicit<tag::UTC_TIME, VisibleString> as AsnType>⟧.meaning)
         ⟦<Implicit<tag::UTC_TIME, VisibleString> as PartialEq>⟧.eq ∷
         variant (codes "generalTime") General (untagged ⟦<Implicit<tag::GENERALIZED_TIME, VisibleString> as AsnType>⟧.meaning)
@@ -35,8 +35,8 @@ impl DecodeChoiceByPlace for Time {
 
     ghost case_of = { elim [ Utc utc ↦ inl utc | General general ↦ inr (inl general) ] };
 
-    fn decode_alternative<D: Decoder>(place: usize, decoder: &mut D) -> Result<Self, DecodeError> {
-        match place {
+    fn decode_alternative<D: Decoder>(index: usize, decoder: &mut D) -> Result<Self, DecodeError> {
+        match index {
             0 => Ok(Time::Utc(alternative(decoder, Tagging::Untagged)?)),
             1 => Ok(Time::General(alternative(decoder, Tagging::Untagged)?)),
             _ => Err(DecodeError::NoValidChoice("Time")),
@@ -47,9 +47,9 @@ impl DecodeChoiceByPlace for Time {
 }
 
 impl Choice for Time {
-    ghost alternatives = { choice_of_cases ⟦<Time as DecodeChoiceByPlace>⟧.cases };
+    ghost alternatives = { choice_of_cases ⟦<Time as DecodeChoiceByIndex>⟧.cases };
 
-    ghost pick = { ⟦<Time as DecodeChoiceByPlace>⟧.case_of };
+    ghost pick = { ⟦<Time as DecodeChoiceByIndex>⟧.case_of };
 
     fn variants() -> &'static [TagTree<'static>] {
         TIME
@@ -131,6 +131,6 @@ impl Decode for Time {
 
 impl DecodeChoice for Time {
     fn from_tag<D: Decoder>(decoder: &mut D, tag: Tag) -> Result<Time, DecodeError> {
-        from_tag_by_place(decoder, tag)
+        from_tag_by_index(decoder, tag)
     }
 }

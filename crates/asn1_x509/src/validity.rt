@@ -7,7 +7,7 @@ use crate::time::Time;
 use asn1_dec::{Decode, DecodeError, Decoder};
 use asn1_enc::{Encode, EncodeError, EncodeFields, Encoder};
 use asn1_slots::{
-    DecodeByPlace, Decoded, Tagging, decode_sequence_naming_errors, filled, required,
+    DecodeByIndex, Decoded, Tagging, decode_sequence_naming_errors, filled, required,
 };
 use asn1_types::{
     AsnType, Constraints, ConstructedType, Field, FieldTable, Identifier, Tag, TypeTable,
@@ -23,7 +23,7 @@ pub struct Validity {
     pub not_after: Time,
 }
 
-impl DecodeByPlace for Validity {
+impl DecodeByIndex for Validity {
     type Slots = (Option<Time>, Option<Time>);
 
     ghost layout = { required_slot (codes "notBefore") (λ v. v.not_before) (λ s. s.0)
@@ -38,8 +38,8 @@ impl DecodeByPlace for Validity {
         })
     }
 
-    fn decode_field<D: Decoder>(place: usize, slots: &mut Self::Slots, decoder: &mut D) -> Decoded {
-        match place {
+    fn decode_field<D: Decoder>(index: usize, slots: &mut Self::Slots, decoder: &mut D) -> Decoded {
+        match index {
             0 => required(&mut slots.0, decoder, Tagging::Untagged),
             1 => required(&mut slots.1, decoder, Tagging::Untagged),
             _ => Ok(()),
@@ -48,14 +48,14 @@ impl DecodeByPlace for Validity {
 }
 
 impl FieldTable for Validity {
-    ghost components = { sequence_of_slots ⟦<Validity as DecodeByPlace>⟧.layout };
+    ghost components = { sequence_of_slots ⟦<Validity as DecodeByIndex>⟧.layout };
 
     fn field_count() -> usize {
         2
     }
 
-    fn field_at(place: usize) -> Option<Field<'static>> {
-        match place {
+    fn field_at(index: usize) -> Option<Field<'static>> {
+        match index {
             0 => Some(Field::new_required_type::<Time>(0, "notBefore")),
             1 => Some(Field::new_required_type::<Time>(1, "notAfter")),
             _ => None,
@@ -107,8 +107,8 @@ impl Encode for Validity {
 }
 
 impl EncodeFields for Validity {
-    fn encode_field<E: Encoder>(&self, place: usize, encoder: &mut E) -> Result<(), EncodeError> {
-        match place {
+    fn encode_field<E: Encoder>(&self, index: usize, encoder: &mut E) -> Result<(), EncodeError> {
+        match index {
             0 => self.not_before.encode(encoder),
             1 => self.not_after.encode(encoder),
             _ => Ok(()),

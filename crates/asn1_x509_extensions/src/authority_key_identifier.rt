@@ -16,7 +16,7 @@ use crate::general_name::GeneralNames;
 use crate::key_identifier::KeyIdentifier;
 use asn1_dec::{Decode, DecodeError, Decoder};
 use asn1_enc::{Encode, EncodeError, EncodeFields, Encoder};
-use asn1_slots::{DecodeByPlace, Decoded, Tagging, decode_sequence_naming_errors, optional};
+use asn1_slots::{DecodeByIndex, Decoded, Tagging, decode_sequence_naming_errors, optional};
 use asn1_tags::tag;
 use asn1_types::{
     AsnType, Constraints, ConstructedType, Field, FieldTable, Identifier, Tag, TypeTable,
@@ -41,7 +41,7 @@ const AUTHORITY_CERT_ISSUER: Tag = tag!(context 1);
 
 const AUTHORITY_CERT_SERIAL_NUMBER: Tag = tag!(context 2);
 
-impl DecodeByPlace for AuthorityKeyIdentifier {
+impl DecodeByIndex for AuthorityKeyIdentifier {
     type Slots = (
         Option<KeyIdentifier>,
         Option<GeneralNames>,
@@ -66,8 +66,8 @@ impl DecodeByPlace for AuthorityKeyIdentifier {
         })
     }
 
-    fn decode_field<D: Decoder>(place: usize, slots: &mut Self::Slots, decoder: &mut D) -> Decoded {
-        match place {
+    fn decode_field<D: Decoder>(index: usize, slots: &mut Self::Slots, decoder: &mut D) -> Decoded {
+        match index {
             0 => optional(&mut slots.0, decoder, Tagging::Tagged(KEY_IDENTIFIER)),
             1 => optional(
                 &mut slots.1,
@@ -85,14 +85,14 @@ impl DecodeByPlace for AuthorityKeyIdentifier {
 }
 
 impl FieldTable for AuthorityKeyIdentifier {
-    ghost components = { sequence_of_slots ⟦<AuthorityKeyIdentifier as DecodeByPlace>⟧.layout };
+    ghost components = { sequence_of_slots ⟦<AuthorityKeyIdentifier as DecodeByIndex>⟧.layout };
 
     fn field_count() -> usize {
         3
     }
 
-    fn field_at(place: usize) -> Option<Field<'static>> {
-        match place {
+    fn field_at(index: usize) -> Option<Field<'static>> {
+        match index {
             0 => Some(Field::new_optional_type_with_tag::<KeyIdentifier>(
                 0,
                 KEY_IDENTIFIER,
@@ -158,8 +158,8 @@ impl Encode for AuthorityKeyIdentifier {
 }
 
 impl EncodeFields for AuthorityKeyIdentifier {
-    fn encode_field<E: Encoder>(&self, place: usize, encoder: &mut E) -> Result<(), EncodeError> {
-        match place {
+    fn encode_field<E: Encoder>(&self, index: usize, encoder: &mut E) -> Result<(), EncodeError> {
+        match index {
             0 => self.key_identifier.encode_with_tag(encoder, KEY_IDENTIFIER),
             1 => self
                 .authority_cert_issuer

@@ -7,7 +7,7 @@ use crate::path_length::PathLength;
 use asn1_dec::{Decode, DecodeError, Decoder};
 use asn1_enc::{Encode, EncodeError, EncodeFields, Encoder};
 use asn1_slots::{
-    DecodeByPlace, Decoded, Tagging, decode_sequence_naming_errors, optional, or_default,
+    DecodeByIndex, Decoded, Tagging, decode_sequence_naming_errors, optional, or_default,
 };
 use asn1_types::{
     AsnType, Constraints, ConstructedType, Field, FieldTable, Identifier, Tag, TypeTable,
@@ -23,7 +23,7 @@ pub struct BasicConstraints {
     pub path_length: Option<PathLength>,
 }
 
-impl DecodeByPlace for BasicConstraints {
+impl DecodeByIndex for BasicConstraints {
     type Slots = (Option<bool>, Option<PathLength>);
 
     ghost layout = { default_slot (codes "cA") (λ v. v.is_authority) false (λ s. s.0)
@@ -38,8 +38,8 @@ impl DecodeByPlace for BasicConstraints {
         })
     }
 
-    fn decode_field<D: Decoder>(place: usize, slots: &mut Self::Slots, decoder: &mut D) -> Decoded {
-        match place {
+    fn decode_field<D: Decoder>(index: usize, slots: &mut Self::Slots, decoder: &mut D) -> Decoded {
+        match index {
             0 => optional(&mut slots.0, decoder, Tagging::Untagged),
             1 => optional(&mut slots.1, decoder, Tagging::Untagged),
             _ => Ok(()),
@@ -48,14 +48,14 @@ impl DecodeByPlace for BasicConstraints {
 }
 
 impl FieldTable for BasicConstraints {
-    ghost components = { sequence_of_slots ⟦<BasicConstraints as DecodeByPlace>⟧.layout };
+    ghost components = { sequence_of_slots ⟦<BasicConstraints as DecodeByIndex>⟧.layout };
 
     fn field_count() -> usize {
         2
     }
 
-    fn field_at(place: usize) -> Option<Field<'static>> {
-        match place {
+    fn field_at(index: usize) -> Option<Field<'static>> {
+        match index {
             0 => Some(Field::new_default_type::<bool>(0, "cA")),
             1 => Some(Field::new_optional_type::<PathLength>(1, "pathLenConstraint")),
             _ => None,
@@ -107,8 +107,8 @@ impl Encode for BasicConstraints {
 }
 
 impl EncodeFields for BasicConstraints {
-    fn encode_field<E: Encoder>(&self, place: usize, encoder: &mut E) -> Result<(), EncodeError> {
-        match place {
+    fn encode_field<E: Encoder>(&self, index: usize, encoder: &mut E) -> Result<(), EncodeError> {
+        match index {
             0 => encoder.encode_default(&self.is_authority, |_| Ok(false), bool::identifier()),
             1 => self.path_length.encode(encoder),
             _ => Ok(()),

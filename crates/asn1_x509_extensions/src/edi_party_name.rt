@@ -6,7 +6,7 @@ ghost use Rattle.asn1_types.specs.Words.{IsWellTagged, constructed_agrees, const
 use asn1_dec::{Decode, DecodeError, Decoder};
 use asn1_enc::{Encode, EncodeError, EncodeFields, Encoder};
 use asn1_slots::{
-    DecodeByPlace, Decoded, Tagging, decode_sequence_naming_errors, filled, optional, required,
+    DecodeByIndex, Decoded, Tagging, decode_sequence_naming_errors, filled, optional, required,
 };
 use asn1_tags::tag;
 use asn1_types::{
@@ -28,7 +28,7 @@ const NAME_ASSIGNER: Tag = tag!(context 0);
 
 const PARTY_NAME: Tag = tag!(context 1);
 
-impl DecodeByPlace for EdiPartyName {
+impl DecodeByIndex for EdiPartyName {
     type Slots = (Option<DirectoryString>, Option<DirectoryString>);
 
     ghost layout = { optional_slot (codes "nameAssigner") (λ v. v.name_assigner) (λ s. s.0)
@@ -43,8 +43,8 @@ impl DecodeByPlace for EdiPartyName {
         })
     }
 
-    fn decode_field<D: Decoder>(place: usize, slots: &mut Self::Slots, decoder: &mut D) -> Decoded {
-        match place {
+    fn decode_field<D: Decoder>(index: usize, slots: &mut Self::Slots, decoder: &mut D) -> Decoded {
+        match index {
             0 => optional(&mut slots.0, decoder, Tagging::Tagged(NAME_ASSIGNER)),
             1 => required(&mut slots.1, decoder, Tagging::Tagged(PARTY_NAME)),
             _ => Ok(()),
@@ -53,14 +53,14 @@ impl DecodeByPlace for EdiPartyName {
 }
 
 impl FieldTable for EdiPartyName {
-    ghost components = { sequence_of_slots ⟦<EdiPartyName as DecodeByPlace>⟧.layout };
+    ghost components = { sequence_of_slots ⟦<EdiPartyName as DecodeByIndex>⟧.layout };
 
     fn field_count() -> usize {
         2
     }
 
-    fn field_at(place: usize) -> Option<Field<'static>> {
-        match place {
+    fn field_at(index: usize) -> Option<Field<'static>> {
+        match index {
             0 => Some(Field::new_optional_type_with_tag::<DirectoryString>(
                 0,
                 NAME_ASSIGNER,
@@ -120,8 +120,8 @@ impl Encode for EdiPartyName {
 }
 
 impl EncodeFields for EdiPartyName {
-    fn encode_field<E: Encoder>(&self, place: usize, encoder: &mut E) -> Result<(), EncodeError> {
-        match place {
+    fn encode_field<E: Encoder>(&self, index: usize, encoder: &mut E) -> Result<(), EncodeError> {
+        match index {
             0 => self.name_assigner.encode_with_tag(encoder, NAME_ASSIGNER),
             1 => self.party_name.encode_with_tag(encoder, PARTY_NAME),
             _ => Ok(()),

@@ -23,7 +23,7 @@ use crate::another_name::AnotherName;
 use crate::edi_party_name::EdiPartyName;
 use asn1_dec::{Decode, DecodeChoice, DecodeError, Decoder};
 use asn1_enc::{Encode, EncodeChoice, EncodeError, Encoder};
-use asn1_slots::{DecodeChoiceByPlace, Tagging, alternative, from_tag_by_place};
+use asn1_slots::{DecodeChoiceByIndex, Tagging, alternative, from_tag_by_index};
 use asn1_tags::tag;
 use asn1_types::{
     Any, AsnType, Choice, ChoiceType, Constraints, Identifier, Tag, TagTree, TypeTable,
@@ -94,7 +94,7 @@ const GENERAL_NAME: &[TagTree<'static>] = &[
     TagTree::Leaf(REGISTERED_ID),
 ];
 
-impl DecodeChoiceByPlace for GeneralName {
+impl DecodeChoiceByIndex for GeneralName {
     ghost cases = { variant (codes "otherName") Other (tagged (context 0) ⟦<AnotherName as AsnType>⟧.meaning)
         ⟦<AnotherName as PartialEq>⟧.eq ∷
         variant (codes "rfc822Name") Rfc822 (tagged (context 1) ⟦<Ia5String as AsnType>⟧.meaning)
@@ -116,8 +116,8 @@ impl DecodeChoiceByPlace for GeneralName {
 
     ghost case_of = { elim [ Other other ↦ inl other | Rfc822 mailbox ↦ inr (inl mailbox) | Dns host ↦ inr (inr (inl host)) | X400 address ↦ inr (inr (inr (inl address))) | Directory name ↦ inr (inr (inr (inr (inl name)))) | EdiParty party ↦ inr (inr (inr (inr (inr (inl party))))) | Uri uri ↦ inr (inr (inr (inr (inr (inr (inl uri)))))) | IpAddress octets ↦ inr (inr (inr (inr (inr (inr (inr (inl octets))))))) | RegisteredId identifier ↦ inr (inr (inr (inr (inr (inr (inr (inr (inl identifier)))))))) ] };
 
-    fn decode_alternative<D: Decoder>(place: usize, decoder: &mut D) -> Result<Self, DecodeError> {
-        match place {
+    fn decode_alternative<D: Decoder>(index: usize, decoder: &mut D) -> Result<Self, DecodeError> {
+        match index {
             0 => Ok(GeneralName::Other(alternative(decoder, Tagging::Tagged(OTHER_NAME))?)),
             1 => Ok(GeneralName::Rfc822(alternative(decoder, Tagging::Tagged(RFC822_NAME))?)),
             2 => Ok(GeneralName::Dns(alternative(decoder, Tagging::Tagged(DNS_NAME))?)),
@@ -141,9 +141,9 @@ impl DecodeChoiceByPlace for GeneralName {
 }
 
 impl Choice for GeneralName {
-    ghost alternatives = { choice_of_cases ⟦<GeneralName as DecodeChoiceByPlace>⟧.cases };
+    ghost alternatives = { choice_of_cases ⟦<GeneralName as DecodeChoiceByIndex>⟧.cases };
 
-    ghost pick = { ⟦<GeneralName as DecodeChoiceByPlace>⟧.case_of };
+    ghost pick = { ⟦<GeneralName as DecodeChoiceByIndex>⟧.case_of };
 
     fn variants() -> &'static [TagTree<'static>] {
         GENERAL_NAME
@@ -253,6 +253,6 @@ impl Decode for GeneralName {
 
 impl DecodeChoice for GeneralName {
     fn from_tag<D: Decoder>(decoder: &mut D, tag: Tag) -> Result<GeneralName, DecodeError> {
-        from_tag_by_place(decoder, tag)
+        from_tag_by_index(decoder, tag)
     }
 }

@@ -3,8 +3,7 @@ use asn1_bench::{BenchReader, BenchRules};
 use asn1_dec::{Decode, DecodeError};
 use asn1_der::{DerReader, DerRules};
 use asn1_enc::{Encode, EncodeError};
-use asn1_rules::Rules;
-use asn1_rules::FrontReader;
+use asn1_rules::{FrontReader, Rules};
 use asn1_tagform::TagRules;
 use std::alloc::Global;
 

@@ -5,7 +5,7 @@ ghost use Rattle.std.specs.Prelude.{[], ◌∷◌, codes, refl};
 
 use asn1_dec::{Decode, DecodeError, Decoder};
 use asn1_enc::{Encode, EncodeError, EncodeFields, Encoder};
-use asn1_slots::{DecodeSetByPlace, Decoded, Tagging, decode_set_by_place, filled, once};
+use asn1_slots::{DecodeSetByIndex, Decoded, Tagging, decode_set_by_index, decode_unique, filled};
 use asn1_types::{
     AsnType, Constraints, ConstructedType, Field, FieldTable, Identifier, Tag, TypeTable,
 };
@@ -18,7 +18,7 @@ pub(crate) struct Hollow {
     nothing: PhantomData<u8>,
 }
 
-impl DecodeSetByPlace for Hollow {
+impl DecodeSetByIndex for Hollow {
     type Slots = (Option<PhantomData<u8>>,);
 
     ghost layout = { required_slot (codes "nothing") (λ h. h.nothing) (λ s. s.0) (untagged ⟦<PhantomData<u8> as AsnType>⟧.meaning) ⟦<PhantomData<u8> as PartialEq>⟧.eq ∷ [] };
@@ -29,9 +29,9 @@ impl DecodeSetByPlace for Hollow {
         })
     }
 
-    fn decode_field<D: Decoder>(place: usize, slots: &mut Self::Slots, decoder: &mut D) -> Decoded {
-        match place {
-            0 => once(&mut slots.0, decoder, Tagging::Untagged, "nothing"),
+    fn decode_field<D: Decoder>(index: usize, slots: &mut Self::Slots, decoder: &mut D) -> Decoded {
+        match index {
+            0 => decode_unique(&mut slots.0, decoder, Tagging::Untagged, "nothing"),
             _ => Ok(()),
         }
     }
@@ -42,14 +42,14 @@ impl DecodeSetByPlace for Hollow {
 }
 
 impl FieldTable for Hollow {
-    ghost components = { set_of_slots ⟦<Hollow as DecodeSetByPlace>⟧.layout };
+    ghost components = { set_of_slots ⟦<Hollow as DecodeSetByIndex>⟧.layout };
 
     fn field_count() -> usize {
         1
     }
 
-    fn field_at(place: usize) -> Option<Field<'static>> {
-        match place {
+    fn field_at(index: usize) -> Option<Field<'static>> {
+        match index {
             0 => Some(Field::new_required_type::<PhantomData<u8>>(0, "nothing")),
             _ => None,
         }
@@ -89,8 +89,8 @@ impl Encode for Hollow {
 }
 
 impl EncodeFields for Hollow {
-    fn encode_field<E: Encoder>(&self, place: usize, encoder: &mut E) -> Result<(), EncodeError> {
-        match place {
+    fn encode_field<E: Encoder>(&self, index: usize, encoder: &mut E) -> Result<(), EncodeError> {
+        match index {
             0 => self.nothing.encode(encoder),
             _ => Ok(()),
         }
@@ -103,6 +103,6 @@ impl Decode for Hollow {
         tag: Tag,
         _constraints: &Constraints<'_>,
     ) -> Result<Hollow, DecodeError> {
-        decode_set_by_place(decoder, tag)
+        decode_set_by_index(decoder, tag)
     }
 }

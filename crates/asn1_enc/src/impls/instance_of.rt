@@ -26,8 +26,8 @@ impl<T: Encode> Encode for InstanceOf<T> {
 
 impl<T: Encode> EncodeFields for InstanceOf<T> {
     #[inline(always)]
-    fn encode_field<E: Encoder>(&self, place: usize, encoder: &mut E) -> Result<(), EncodeError> {
-        match place {
+    fn encode_field<E: Encoder>(&self, index: usize, encoder: &mut E) -> Result<(), EncodeError> {
+        match index {
             0 => self.type_id.encode(encoder),
             1 => encoder.encode_explicit_prefix(VALUE, &self.value, Identifier::INSTANCE_OF),
             _ => Ok(()),

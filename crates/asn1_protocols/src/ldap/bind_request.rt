@@ -8,7 +8,7 @@ ghost use Rattle.asn1_types.specs.Words.{IsWellTagged, Range, application, const
 use asn1_dec::{Decode, DecodeError, Decoder};
 use asn1_enc::{Encode, EncodeError, EncodeFields, Encoder};
 use asn1_slots::{
-    DecodeByPlace, Decoded, Tagging, decode_sequence_naming_errors, filled, required,
+    DecodeByIndex, Decoded, Tagging, decode_sequence_naming_errors, filled, required,
 };
 use asn1_types::{
     AsnType, Class, Constraints, ConstructedType, Field, FieldTable, Identifier, Tag, TypeTable,
@@ -41,7 +41,7 @@ const SIMPLE: Tag = Tag {
     value: 0,
 };
 
-impl DecodeByPlace for BindRequest {
+impl DecodeByIndex for BindRequest {
     type Slots = (Option<Version>, Option<OctetString>, Option<OctetString>);
 
     ghost layout = { required_slot (codes "version") (λ v. v.version) (λ s. s.0)
@@ -59,8 +59,8 @@ impl DecodeByPlace for BindRequest {
         })
     }
 
-    fn decode_field<D: Decoder>(place: usize, slots: &mut Self::Slots, decoder: &mut D) -> Decoded {
-        match place {
+    fn decode_field<D: Decoder>(index: usize, slots: &mut Self::Slots, decoder: &mut D) -> Decoded {
+        match index {
             0 => required(&mut slots.0, decoder, Tagging::Untagged),
             1 => required(&mut slots.1, decoder, Tagging::Untagged),
             2 => required(&mut slots.2, decoder, Tagging::Tagged(SIMPLE)),
@@ -70,14 +70,14 @@ impl DecodeByPlace for BindRequest {
 }
 
 impl FieldTable for BindRequest {
-    ghost components = { sequence_of_slots ⟦<BindRequest as DecodeByPlace>⟧.layout };
+    ghost components = { sequence_of_slots ⟦<BindRequest as DecodeByIndex>⟧.layout };
 
     fn field_count() -> usize {
         3
     }
 
-    fn field_at(place: usize) -> Option<Field<'static>> {
-        match place {
+    fn field_at(index: usize) -> Option<Field<'static>> {
+        match index {
             0 => Some(Field::new_required_type::<Version>(0, "version")),
             1 => Some(Field::new_required_type::<OctetString>(1, "name")),
             2 => Some(Field::new_required_type_with_tag::<OctetString>(2, SIMPLE, "simple")),
@@ -131,8 +131,8 @@ impl Encode for BindRequest {
 }
 
 impl EncodeFields for BindRequest {
-    fn encode_field<E: Encoder>(&self, place: usize, encoder: &mut E) -> Result<(), EncodeError> {
-        match place {
+    fn encode_field<E: Encoder>(&self, index: usize, encoder: &mut E) -> Result<(), EncodeError> {
+        match index {
             0 => self.version.encode(encoder),
             1 => self.name.encode(encoder),
             2 => self.simple.encode_with_tag(encoder, SIMPLE),

@@ -17,7 +17,7 @@ use crate::ldap::BindRequest;
 use crate::ldap::bind_request::BIND_REQUEST;
 use asn1_dec::{Decode, DecodeChoice, DecodeError, Decoder};
 use asn1_enc::{Encode, EncodeChoice, EncodeError, Encoder};
-use asn1_slots::{DecodeChoiceByPlace, Tagging, alternative, from_tag_by_place};
+use asn1_slots::{DecodeChoiceByIndex, Tagging, alternative, from_tag_by_index};
 use asn1_types::{
     AsnType, Choice, ChoiceType, Class, Constraints, Identifier, Tag, TagTree, TypeTable,
 };
@@ -51,15 +51,15 @@ const PROTOCOL_OP: &[TagTree<'static>] = &[
     TagTree::Leaf(DELETE_REQUEST),
 ];
 
-impl DecodeChoiceByPlace for ProtocolOp {
+impl DecodeChoiceByIndex for ProtocolOp {
     ghost cases = { variant (codes "bindRequest") Bind (untagged ⟦<BindRequest as AsnType>⟧.meaning) ⟦<BindRequest as PartialEq>⟧.eq ∷
         variant (codes "unbindRequest") Unbind (tagged (application 2) ⟦<() as AsnType>⟧.meaning) ⟦<() as PartialEq>⟧.eq ∷
         variant (codes "delRequest") Delete (tagged (application 10) ⟦<OctetString as AsnType>⟧.meaning) ⟦<OctetString as PartialEq>⟧.eq ∷ [] };
 
     ghost case_of = { elim [ Bind request ↦ inl request | Unbind nothing ↦ inr (inl nothing) | Delete entry ↦ inr (inr (inl entry)) ] };
 
-    fn decode_alternative<D: Decoder>(place: usize, decoder: &mut D) -> Result<Self, DecodeError> {
-        match place {
+    fn decode_alternative<D: Decoder>(index: usize, decoder: &mut D) -> Result<Self, DecodeError> {
+        match index {
             0 => Ok(ProtocolOp::Bind(alternative(decoder, Tagging::Untagged)?)),
             1 => Ok(ProtocolOp::Unbind(alternative(decoder, Tagging::Tagged(UNBIND_REQUEST))?)),
             2 => Ok(ProtocolOp::Delete(alternative(decoder, Tagging::Tagged(DELETE_REQUEST))?)),
@@ -71,9 +71,9 @@ impl DecodeChoiceByPlace for ProtocolOp {
 }
 
 impl Choice for ProtocolOp {
-    ghost alternatives = { choice_of_cases ⟦<ProtocolOp as DecodeChoiceByPlace>⟧.cases };
+    ghost alternatives = { choice_of_cases ⟦<ProtocolOp as DecodeChoiceByIndex>⟧.cases };
 
-    ghost pick = { ⟦<ProtocolOp as DecodeChoiceByPlace>⟧.case_of };
+    ghost pick = { ⟦<ProtocolOp as DecodeChoiceByIndex>⟧.case_of };
 
     fn variants() -> &'static [TagTree<'static>] {
         PROTOCOL_OP
@@ -162,6 +162,6 @@ impl Decode for ProtocolOp {
 
 impl DecodeChoice for ProtocolOp {
     fn from_tag<D: Decoder>(decoder: &mut D, tag: Tag) -> Result<ProtocolOp, DecodeError> {
-        from_tag_by_place(decoder, tag)
+        from_tag_by_index(decoder, tag)
     }
 }

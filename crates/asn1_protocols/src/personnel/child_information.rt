@@ -6,7 +6,7 @@ ghost use Rattle.asn1_types.specs.Words.{IsWellTagged, constructed_agrees, const
 use crate::personnel::{Date, Name};
 use asn1_dec::{Decode, DecodeError, Decoder};
 use asn1_enc::{Encode, EncodeError, EncodeFields, Encoder};
-use asn1_slots::{DecodeSetByPlace, Decoded, Tagging, decode_set_by_place, filled, once};
+use asn1_slots::{DecodeSetByIndex, Decoded, Tagging, decode_set_by_index, decode_unique, filled};
 use asn1_types::{
     AsnType, Class, Constraints, ConstructedType, Field, FieldTable, Identifier, Tag, TypeTable,
 };
@@ -26,7 +26,7 @@ const DATE_OF_BIRTH: Tag = Tag {
     value: 0,
 };
 
-impl DecodeSetByPlace for ChildInformation {
+impl DecodeSetByIndex for ChildInformation {
     type Slots = (Option<Name>, Option<Date>);
 
     ghost layout = { required_slot (codes "name") (λ v. v.name) (λ s. s.0)
@@ -41,10 +41,10 @@ impl DecodeSetByPlace for ChildInformation {
         })
     }
 
-    fn decode_field<D: Decoder>(place: usize, slots: &mut Self::Slots, decoder: &mut D) -> Decoded {
-        match place {
-            0 => once(&mut slots.0, decoder, Tagging::Untagged, "name"),
-            1 => once(
+    fn decode_field<D: Decoder>(index: usize, slots: &mut Self::Slots, decoder: &mut D) -> Decoded {
+        match index {
+            0 => decode_unique(&mut slots.0, decoder, Tagging::Untagged, "name"),
+            1 => decode_unique(
                 &mut slots.1,
                 decoder,
                 Tagging::Explicit(DATE_OF_BIRTH),
@@ -60,14 +60,14 @@ impl DecodeSetByPlace for ChildInformation {
 }
 
 impl FieldTable for ChildInformation {
-    ghost components = { set_of_slots ⟦<ChildInformation as DecodeSetByPlace>⟧.layout };
+    ghost components = { set_of_slots ⟦<ChildInformation as DecodeSetByIndex>⟧.layout };
 
     fn field_count() -> usize {
         2
     }
 
-    fn field_at(place: usize) -> Option<Field<'static>> {
-        match place {
+    fn field_at(index: usize) -> Option<Field<'static>> {
+        match index {
             0 => Some(Field::new_required_type::<Name>(0, "name")),
             1 => Some(Field::new_required_explicit(1, DATE_OF_BIRTH, "dateOfBirth")),
             _ => None,
@@ -119,8 +119,8 @@ impl Encode for ChildInformation {
 }
 
 impl EncodeFields for ChildInformation {
-    fn encode_field<E: Encoder>(&self, place: usize, encoder: &mut E) -> Result<(), EncodeError> {
-        match place {
+    fn encode_field<E: Encoder>(&self, index: usize, encoder: &mut E) -> Result<(), EncodeError> {
+        match index {
             0 => self.name.encode(encoder),
             1 => encoder.encode_explicit_prefix(
                 DATE_OF_BIRTH,
@@ -138,6 +138,6 @@ impl Decode for ChildInformation {
         tag: Tag,
         _constraints: &Constraints<'_>,
     ) -> Result<ChildInformation, DecodeError> {
-        decode_set_by_place(decoder, tag)
+        decode_set_by_index(decoder, tag)
     }
 }

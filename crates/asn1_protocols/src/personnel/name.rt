@@ -6,7 +6,7 @@ ghost use Rattle.asn1_types.specs.Words.{IsWellTagged, application, constructed_
 use asn1_dec::{Decode, DecodeError, Decoder};
 use asn1_enc::{Encode, EncodeError, EncodeFields, Encoder};
 use asn1_slots::{
-    DecodeByPlace, Decoded, Tagging, decode_sequence_naming_errors, filled, required,
+    DecodeByIndex, Decoded, Tagging, decode_sequence_naming_errors, filled, required,
 };
 use asn1_types::{
     AsnType, Class, Constraints, ConstructedType, Field, FieldTable, Identifier, Tag, TypeTable,
@@ -31,7 +31,7 @@ const NAME: Tag = Tag {
     value: 1,
 };
 
-impl DecodeByPlace for Name {
+impl DecodeByIndex for Name {
     type Slots = (
         Option<VisibleString>,
         Option<VisibleString>,
@@ -53,8 +53,8 @@ impl DecodeByPlace for Name {
         })
     }
 
-    fn decode_field<D: Decoder>(place: usize, slots: &mut Self::Slots, decoder: &mut D) -> Decoded {
-        match place {
+    fn decode_field<D: Decoder>(index: usize, slots: &mut Self::Slots, decoder: &mut D) -> Decoded {
+        match index {
             0 => required(&mut slots.0, decoder, Tagging::Untagged),
             1 => required(&mut slots.1, decoder, Tagging::Untagged),
             2 => required(&mut slots.2, decoder, Tagging::Untagged),
@@ -64,14 +64,14 @@ impl DecodeByPlace for Name {
 }
 
 impl FieldTable for Name {
-    ghost components = { sequence_of_slots ⟦<Name as DecodeByPlace>⟧.layout };
+    ghost components = { sequence_of_slots ⟦<Name as DecodeByIndex>⟧.layout };
 
     fn field_count() -> usize {
         3
     }
 
-    fn field_at(place: usize) -> Option<Field<'static>> {
-        match place {
+    fn field_at(index: usize) -> Option<Field<'static>> {
+        match index {
             0 => Some(Field::new_required_type::<VisibleString>(0, "givenName")),
             1 => Some(Field::new_required_type::<VisibleString>(1, "initial")),
             2 => Some(Field::new_required_type::<VisibleString>(2, "familyName")),
@@ -124,8 +124,8 @@ impl Encode for Name {
 }
 
 impl EncodeFields for Name {
-    fn encode_field<E: Encoder>(&self, place: usize, encoder: &mut E) -> Result<(), EncodeError> {
-        match place {
+    fn encode_field<E: Encoder>(&self, index: usize, encoder: &mut E) -> Result<(), EncodeError> {
+        match index {
             0 => self.given_name.encode(encoder),
             1 => self.initial.encode(encoder),
             2 => self.family_name.encode(encoder),

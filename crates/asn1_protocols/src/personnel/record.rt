@@ -18,7 +18,9 @@ ghost use Rattle.asn1_types.specs.Words.{IsWellTagged, application, constructed_
 use crate::personnel::{ChildInformation, Date, Name};
 use asn1_dec::{Decode, DecodeError, Decoder};
 use asn1_enc::{Encode, EncodeError, EncodeFields, Encoder};
-use asn1_slots::{DecodeSetByPlace, Decoded, Tagging, decode_set_by_place, filled, once, or_empty};
+use asn1_slots::{
+    DecodeSetByIndex, Decoded, Tagging, decode_set_by_index, decode_unique, filled, or_empty,
+};
 use asn1_types::{
     AsnType, Class, Constraints, ConstructedType, Field, FieldTable, Identifier, Tag, TypeTable,
 };
@@ -75,7 +77,7 @@ const CHILDREN: Tag = Tag {
     value: 3,
 };
 
-impl DecodeSetByPlace for PersonnelRecord {
+impl DecodeSetByIndex for PersonnelRecord {
     type Slots = (
         Option<Name>,
         Option<VisibleString>,
@@ -110,29 +112,29 @@ impl DecodeSetByPlace for PersonnelRecord {
         })
     }
 
-    fn decode_field<D: Decoder>(place: usize, slots: &mut Self::Slots, decoder: &mut D) -> Decoded {
-        match place {
-            0 => once(&mut slots.0, decoder, Tagging::Untagged, "name"),
-            1 => once(&mut slots.1, decoder, Tagging::Explicit(TITLE), "title"),
-            2 => once(
+    fn decode_field<D: Decoder>(index: usize, slots: &mut Self::Slots, decoder: &mut D) -> Decoded {
+        match index {
+            0 => decode_unique(&mut slots.0, decoder, Tagging::Untagged, "name"),
+            1 => decode_unique(&mut slots.1, decoder, Tagging::Explicit(TITLE), "title"),
+            2 => decode_unique(
                 &mut slots.2,
                 decoder,
                 Tagging::Tagged(EMPLOYEE_NUMBER),
                 "number",
             ),
-            3 => once(
+            3 => decode_unique(
                 &mut slots.3,
                 decoder,
                 Tagging::Explicit(DATE_OF_HIRE),
                 "dateOfHire",
             ),
-            4 => once(
+            4 => decode_unique(
                 &mut slots.4,
                 decoder,
                 Tagging::Explicit(NAME_OF_SPOUSE),
                 "nameOfSpouse",
             ),
-            5 => once(&mut slots.5, decoder, Tagging::Tagged(CHILDREN), "children"),
+            5 => decode_unique(&mut slots.5, decoder, Tagging::Tagged(CHILDREN), "children"),
             _ => Ok(()),
         }
     }
@@ -143,14 +145,14 @@ impl DecodeSetByPlace for PersonnelRecord {
 }
 
 impl FieldTable for PersonnelRecord {
-    ghost components = { set_of_slots ⟦<PersonnelRecord as DecodeSetByPlace>⟧.layout };
+    ghost components = { set_of_slots ⟦<PersonnelRecord as DecodeSetByIndex>⟧.layout };
 
     fn field_count() -> usize {
         6
     }
 
-    fn field_at(place: usize) -> Option<Field<'static>> {
-        match place {
+    fn field_at(index: usize) -> Option<Field<'static>> {
+        match index {
             0 => Some(Field::new_required_type::<Name>(0, "name")),
             1 => Some(Field::new_required_type_with_tag::<Integer>(2, EMPLOYEE_NUMBER, "number")),
             2 => Some(Field::new_required_explicit(1, TITLE, "title")),
@@ -206,8 +208,8 @@ impl Encode for PersonnelRecord {
 }
 
 impl EncodeFields for PersonnelRecord {
-    fn encode_field<E: Encoder>(&self, place: usize, encoder: &mut E) -> Result<(), EncodeError> {
-        match place {
+    fn encode_field<E: Encoder>(&self, index: usize, encoder: &mut E) -> Result<(), EncodeError> {
+        match index {
             0 => self.name.encode(encoder),
             1 => encoder.encode_explicit_prefix(TITLE, &self.title, VisibleString::identifier()),
             2 => self.number.encode_with_tag(encoder, EMPLOYEE_NUMBER),
@@ -238,6 +240,6 @@ impl Decode for PersonnelRecord {
         tag: Tag,
         _constraints: &Constraints<'_>,
     ) -> Result<PersonnelRecord, DecodeError> {
-        decode_set_by_place(decoder, tag)
+        decode_set_by_index(decoder, tag)
     }
 }

@@ -5,4 +5,4 @@ use Rattle.asn1_dec.proofs.fields.component_with_one_tag.Goals as goal
 
 pub returns-then-is_one_tag : goal.returns-then-is_one_tag
 returns-then-is_one_tag g c =
-    found g.C.FieldTable.components c.args.tag c.loop-place.place (entry_of c.in-Some.field) (sym c.in-Some.ensures) (c.is_one_tag.ensures c.if-is_one_tag.true)
+    found g.C.FieldTable.components c.args.tag c.loop-index.index (entry_of c.in-Some.field) (sym c.in-Some.ensures) (c.is_one_tag.ensures c.if-is_one_tag.true)

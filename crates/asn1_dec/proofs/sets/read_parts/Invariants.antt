@@ -9,13 +9,13 @@ use Rattle.asn1_laws.specs.SetParts.{CanBeInSet}
 use Rattle.asn1_laws.proofs.ReadingSets.{PartsRead}
 use Rattle.asn1_dec.proofs.sets.read_parts.Given as goal
 
-abbrev pub invariant-loop-place : goal.invariant-loop-place
-invariant-loop-place g l =
+abbrev pub invariant-loop-count : goal.invariant-loop-count
+invariant-loop-count g l =
     let cs = all_components g.S.FieldTable.components in
     record {
       kept : g.D.Decoder.reader.depth_left l.decoder ≡ g.D.Decoder.reader.depth_left l.fn.decoder;
       so_far : (v : _) (tag : Tag) (n : Name) (items rest : List Record) (outer : Outside) → CanBeInSet cs → EachIsOfType cs v → EachIsValid cs g.D.Decoder.reader.accepts v →
           IsPermutation items (component_records g.S.FieldTable.components v) → records_in items ≤ l.bound → g.D.Decoder.reader.remains l.fn.decoder (items, (set tag (lines g.S.FieldTable.components) n, rest) ∷ outer) →
           PartsRead g.D.Decoder.reader cs v g.S.DecodeSet.index_of (g.S.DecodeSet.is_part_of v) l.decoder l.parts.items (highest items)
-          ((set tag (lines g.S.FieldTable.components) n, rest) ∷ outer) l.place l.bound;
+          ((set tag (lines g.S.FieldTable.components) n, rest) ∷ outer) l.count l.bound;
     }

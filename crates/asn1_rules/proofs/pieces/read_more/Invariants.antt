@@ -1,7 +1,7 @@
 use Rattle.std.proofs.Common.{◌≡◌, ℕ, ◌≤◌, ◌-◌, ◌++◌, List, length}
 use Rattle.asn1_rules.specs.Fronts.{IsSteady}
 use Rattle.asn1_rules.specs.Iters.{state}
-use Rattle.asn1_rules.specs.Remaining.{Remains}
+use Rattle.asn1_rules.specs.UnreadBytes.{Remains}
 use Rattle.asn1_rules.proofs.pieces.read_more.Given as goal
 
 abbrev pub invariant-loop-iter : goal.invariant-loop-iter

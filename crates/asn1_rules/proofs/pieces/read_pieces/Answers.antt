@@ -3,7 +3,7 @@ use Rattle.std.specs.Borrow.{Bor}
 use Rattle.asn1_rules.specs.Iters.{state}
 use Rattle.asn1_rules.specs.Pieces.{ComeBack}
 use Rattle.asn1_rules.proofs.PiecesRead.{at_most_of, come_back_at_end, none_if, piece_read, still_failing}
-use Rattle.asn1_rules.proofs.Remaining.{all_came}
+use Rattle.asn1_rules.proofs.UnreadBytes.{all_came}
 use Rattle.asn1_rules.proofs.pieces.read_pieces.Goals as goal
 
 pub returns-then-is_none-clause-come_back : goal.returns-then-is_none-clause-come_back

@@ -3,7 +3,7 @@ use Rattle.std.specs.Prelude.{MatchOption}
 use Rattle.asn1_rules.specs.Fronts.{IsNoFront, IsSteady}
 use Rattle.asn1_rules.specs.Iters.{state}
 use Rattle.asn1_rules.specs.Pieces.{AreFronts, joined}
-use Rattle.asn1_rules.specs.Remaining.{Remains}
+use Rattle.asn1_rules.specs.UnreadBytes.{Remains}
 use Rattle.asn1_rules.proofs.pieces.read_pieces.Given as goal
 
 abbrev pub invariant-loop-piece : goal.invariant-loop-piece

@@ -6,4 +6,4 @@ use Rattle.asn1_protocols.proofs.personnel.record.PersonnelRecordDecode.decode_w
 
 pub returns-clause-read : goal.returns-clause-read
 returns-clause-read g c =
-    c.decode_set_by_place.ensures.as_meant (slots_agree fields.components) refl (constraint_set c.args._constraints.now)
+    c.decode_set_by_index.ensures.as_meant (slots_agree fields.components) refl (constraint_set c.args._constraints.now)
