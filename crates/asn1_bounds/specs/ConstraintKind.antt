@@ -16,7 +16,7 @@ kind_of (constraint.Size part) = kind.Size
 kind_of (constraint.PermittedAlphabet part) = kind.PermittedAlphabet
 kind_of constraint.Extensible = kind.Extensible
 
--- the place of the kind among the kinds
+-- the index of the kind among the kinds
 abbrev pub index_of : Constraint → ℕ
 index_of (constraint.Value part) = 0
 index_of (constraint.Size part) = 1

@@ -1,7 +1,7 @@
 pub mod InnerSubtype
 pub mod ConstraintKind
 pub mod Admitted
-pub mod Lending
+pub mod BorrowedBounds
 pub mod Sets
 pub mod ConstraintTables
 -- of the crate below: what is said of a bound

@@ -60,7 +60,7 @@ impl<'a> Constraint<'a> {
         }
     }
 
-    /// The place of the kind among the kinds, from 0 to 3.
+    /// The index of the kind among the kinds, from 0 to 3.
     pub fn variant_as_isize(&self) -> isize
         ensures { result ≡ pos (index_of self.now) }
     {

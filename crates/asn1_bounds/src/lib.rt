@@ -34,7 +34,7 @@
 //!
 //! The words of the clauses are defined in `specs`: `Admitted` for what a constraint admits, `ConstraintKind` for the
 //! kind of one and its part, `Sets` for sets of them, `ConstraintTables` for the set of a table, `InnerSubtype` for the answers of
-//! a constraint of components, and `Lending` for the bound that `Size::bounded_mut` lends. The words on bounds, and on
+//! a constraint of components, and `BorrowedBounds` for the bound that `Size::bounded_mut` lends. The words on bounds, and on
 //! derived comparisons, are those of `asn1_ranges`, which `specs/Lib` re-exports.
 #![tactic(auto)]
 

@@ -14,7 +14,7 @@ pub struct Size {
 }
 
 impl Size {
-    ghost use Rattle.asn1_bounds.specs.Lending.{LendsBound};
+    ghost use Rattle.asn1_bounds.specs.BorrowedBounds.{LendsBound};
 
     /// The constraint to the members of the bound.
     pub fn new(bound: Bounded<usize>) -> Self

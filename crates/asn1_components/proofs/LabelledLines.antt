@@ -10,7 +10,7 @@ use Rattle.asn1_model.specs.RecordTables.{Label}
 use Rattle.asn1_components.specs.Labels.{all_labels, label_of, labels_of, numbers_in}
 use Rattle.asn1_components.specs.ItemTables.{line_item, table_items}
 use Rattle.asn1_components.specs.declared.items.EnumerationItem.{EnumerationItem}
-use Rattle.asn1_tags.proofs.PlacesInLists.{position-map}
+use Rattle.asn1_tags.proofs.ListPositions.{position-map}
 use Rattle.asn1_components.proofs.Lines.{line_found}
 use Rattle.asn1_components.proofs.Searches.{find-map}
 
@@ -22,13 +22,13 @@ module _ {V : Type 0} (lines : List (EnumerationItem V)) (labels : List Label) (
   numbers_are : map (λ (l : EnumerationItem V). l.number) lines ≡ numbers_in labels
   numbers_are = numbers_of_lines lines ∙ ap numbers_in are
 
-  -- the number of the line at a place is that of the label
-  pub number_at_place : (place : ℕ) → option_map (λ (l : EnumerationItem V). l.number) (slice_get lines place) ≡ slice_get (numbers_in labels) place
-  number_at_place place = sym (slice_get-map (λ (l : EnumerationItem V). l.number) lines place) ∙ ap (λ ns. slice_get ns place) numbers_are
+  -- the number of the line at an index is that of the label
+  pub number_at_index : (index : ℕ) → option_map (λ (l : EnumerationItem V). l.number) (slice_get lines index) ≡ slice_get (numbers_in labels) index
+  number_at_index index = sym (slice_get-map (λ (l : EnumerationItem V). l.number) lines index) ∙ ap (λ ns. slice_get ns index) numbers_are
 
-  -- the place of the line of a number is that of the number
-  pub place_of_number : (number : ℤ) → position (λ (l : EnumerationItem V). int_eq l.number number) lines ≡ position (λ n. int_eq n number) (numbers_in labels)
-  place_of_number number =
+  -- the index of the line of a number is that of the number
+  pub index_of_number : (number : ℤ) → position (λ (l : EnumerationItem V). int_eq l.number number) lines ≡ position (λ n. int_eq n number) (numbers_in labels)
+  index_of_number number =
       sym (position-map (λ n. int_eq n number) (λ (l : EnumerationItem V). l.number) lines) ∙ ap (position (λ n. int_eq n number)) numbers_are
 
 module _ {V : Type 0} (e : Enumeration V) (p : Label → Bool) (root additions : List (EnumerationItem V)) (root_is : table_items root ≡ e.root)

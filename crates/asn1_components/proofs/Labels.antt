@@ -8,7 +8,7 @@ use Rattle.std.proofs.lemmas.Bool.{false≢true}
 use Rattle.std.proofs.lemmas.List.Elements.{Contains-append_cases}
 use Rattle.std.proofs.lemmas.Option.{none-some, same_Some, slice_get-get_or, slice_get-map}
 use Rattle.asn1_components.specs.Enumerations.{Item, Enumeration, Differ, added, items, item_of, values}
-use Rattle.asn1_tags.proofs.PlacesInLists.{Contains-from_slice_get, position-found, position-missing}
+use Rattle.asn1_tags.proofs.ListPositions.{Contains-from_slice_get, position-found, position-missing}
 use Rattle.asn1_components.proofs.Searches.{across, found, find_only}
 
 abbrev pub value_in : {V : Type 0} → Option (Item V) → Option V
@@ -50,7 +50,7 @@ module _ {V : Type 0} (eq : V → V → Bool) (laws : IsEquivalence eq) (e : Enu
       by (Some i) is same = (i, is, same_Some i.value v same)
       by None is same = absurd (none-some v same)
 
-  -- the place that is found in a table is that of the value
+  -- the index that is found in a table is that of the value
   pub value_at : (table : List (Item V)) (v : V) (k : ℕ) → position (λ (i : Item V). eq i.value v) table ≡ Some k → slice_get (values table) k ≡ Some v
   value_at table v k is =
       let f = position-found (λ (i : Item V). eq i.value v) table k (its_item v).0 is in
@@ -62,9 +62,9 @@ module _ {V : Type 0} (eq : V → V → Bool) (laws : IsEquivalence eq) (e : Enu
       let i = at_item table k v (slice_get-get_or (values table) k v within ∙ ap Some is) in
       false≢true (sym (position-missing (λ (j : Item V). eq j.value v) table k i.0 none i.1) ∙ (ap (λ u. eq u v) i.2 ∙ laws.refl v))
 
-  -- so a place is found if and only if the value is in the table
-  pub is_found : (table : List (Item V)) (v : V) (place : Option ℕ) → place ≡ position (λ (i : Item V). eq i.value v) table →
-      IsTrue (is_some place) ↔ Contains (values table) v
+  -- so an index is found if and only if the value is in the table
+  pub is_found : (table : List (Item V)) (v : V) (index : Option ℕ) → index ≡ position (λ (i : Item V). eq i.value v) table →
+      IsTrue (is_some index) ↔ Contains (values table) v
   is_found table v (Some k) is = (λ _. Contains-from_slice_get (values table) k v (value_at table v k (sym is)), λ _. refl)
   is_found table v None is = (λ h. absurd (false≢true h), λ among. absurd (value_missing table v (sym is) among))
 

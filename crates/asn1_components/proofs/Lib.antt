@@ -1,4 +1,4 @@
-pub mod Apart
+pub mod DistinctFollowers
 pub mod TableOrder
 pub mod HeldInside
 pub mod TableLengths

@@ -4,7 +4,7 @@ use Rattle.std.specs.List.{find, slice_get}
 use Rattle.std.specs.Option.{option_map}
 use Rattle.std.proofs.lemmas.Bool.{false≢true}
 use Rattle.std.proofs.lemmas.Option.{get_or_from_slice_get, none-some, same_Some, slice_get_within}
-use Rattle.asn1_tags.proofs.PlacesInLists.{slice_get-append_left, slice_get-append_right}
+use Rattle.asn1_tags.proofs.ListPositions.{slice_get-append_left, slice_get-append_right}
 
 -- a search in a list that is mapped
 pub find-map : {X Y : Type 0} (p : Y → Bool) (f : X → Y) (xs : List X) → find p (map f xs) ≡ option_map f (find (λ x. p (f x)) xs)

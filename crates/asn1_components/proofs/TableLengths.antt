@@ -3,7 +3,7 @@ use Rattle.std.proofs.Common.{◌≡◌, ℕ, suc, ◌+◌, Bool, true, false, c
 use Rattle.std.proofs.lemmas.List.{length-map, map-append}
 use Rattle.std.proofs.Math.Seq.{drop-append_seam, take-append_seam}
 use Rattle.asn1_components.specs.ComponentLists.{entries_from}
-use Rattle.asn1_components.specs.Components.{Components, Extension, Kind, is_sequence, is_set, added, all_components, lines, marker, marker_place, no_marker, parted, in_canonical_order, put_in_order, table, table_in}
+use Rattle.asn1_components.specs.Components.{Components, Extension, Kind, is_sequence, is_set, added, all_components, lines, marker, extension_index, no_marker, parted, in_canonical_order, put_in_order, table, table_in}
 use Rattle.asn1_components.specs.ComponentTypes.{ComponentType}
 use Rattle.asn1_fields.specs.CanonicalOrder.{in_order}
 use Rattle.asn1_fields.specs.Entries.{Entry, component_of, line_of}
@@ -42,7 +42,7 @@ length-table components =
     )
 
 -- What records have of a table is its lines.
-pub lines_of_table : {V : Type 0} (components : Components V) → lines components ≡ parted (map line_of (table components)) (marker_place components)
+pub lines_of_table : {V : Type 0} (components : Components V) → lines components ≡ parted (map line_of (table components)) (extension_index components)
 lines_of_table components = by_extension components.extension
   where
     rs : List Entry
@@ -52,7 +52,7 @@ lines_of_table components = by_extension components.extension
     as_long = length-map rs line_of ∙ length-table_in components.kind (entries_from 0 components.root) ∙ length-entries 0 components.root
 
     by_extension : (x : Extension _) →
-        lines (record components { extension = x }) ≡ parted (map line_of (table (record components { extension = x }))) (marker_place (record components { extension = x }))
+        lines (record components { extension = x }) ≡ parted (map line_of (table (record components { extension = x }))) (extension_index (record components { extension = x }))
     by_extension no_marker = ap (λ es. record { root = map line_of es; additions = None }) (sym (append-nil rs))
     by_extension (marker additions) =
         let n = length components.root in

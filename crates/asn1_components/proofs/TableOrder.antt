@@ -75,13 +75,13 @@ order_sorts [] = refl
 order_sorts (e ∷ es) = put_sorts e (in_canonical_order es) (order_sorts es)
 
 -- The entries of components are numbered from the first one's index on.
-pub numbered_from : {V : Type 0} (k : ℕ) (cs : List (ComponentType V)) (place : ℕ) (e : Entry) → slice_get (entries_from k cs) place ≡ Some e → e.index ≡ k + place
-numbered_from k [] place e at = absurd (none-some e at)
+pub numbered_from : {V : Type 0} (k : ℕ) (cs : List (ComponentType V)) (index : ℕ) (e : Entry) → slice_get (entries_from k cs) index ≡ Some e → e.index ≡ k + index
+numbered_from k [] index e at = absurd (none-some e at)
 numbered_from k (c ∷ cs) zero e at =
     let same : k ≡ e.index = ap (λ d. d.index) (same_Some (entry_at k c) e at) in
     omega (arith, same)
-numbered_from k (c ∷ cs) (suc place) e at =
-    let later = numbered_from (k + 1) cs place e at in
+numbered_from k (c ∷ cs) (suc index) e at =
+    let later = numbered_from (k + 1) cs index e at in
     omega (arith, later)
 
 entries_from-append : {V : Type 0} (k : ℕ) (cs ds : List (ComponentType V)) → entries_from k (cs ++ ds) ≡ entries_from k cs ++ entries_from (k + length cs) ds
@@ -121,14 +121,14 @@ module _ {V : Type 0} (components : Components V) where
       let same : 0 + length components.root ≡ length components.root = omega arith in
       entries_from-append 0 components.root (added components) ∙ ap (λ n. entries_from 0 components.root ++ entries_from n (added components)) same
 
-  pub numbered : (place : ℕ) (e : Entry) → slice_get (entries_from 0 (all_components components)) place ≡ Some e → e.index ≡ place
-  numbered place e at = let index = numbered_from 0 (all_components components) place e at in omega (arith, index)
+  pub numbered : (index : ℕ) (e : Entry) → slice_get (entries_from 0 (all_components components)) index ≡ Some e → e.index ≡ index
+  numbered index e at = let found = numbered_from 0 (all_components components) index e at in omega (arith, found)
 
-  pub sequence_numbered : components.kind ≡ is_sequence → (place : ℕ) (e : Entry) → slice_get (table components) place ≡ Some e → e.index ≡ place
-  sequence_numbered kind place e at =
+  pub sequence_numbered : components.kind ≡ is_sequence → (index : ℕ) (e : Entry) → slice_get (table components) index ≡ Some e → e.index ≡ index
+  sequence_numbered kind index e at =
       let in_definition_order : entries_from 0 (all_components components) ≡ table components =
       root_then_added ∙ ap (λ k. table_in k (entries_from 0 components.root) ++ added_entries components) (sym kind) in
-      numbered place e (ap (λ es. slice_get es place) in_definition_order ∙ at)
+      numbered index e (ap (λ es. slice_get es index) in_definition_order ∙ at)
 
   pub table_rearranges : IsPermutation (entries_from 0 (all_components components)) (table components)
   table_rearranges =

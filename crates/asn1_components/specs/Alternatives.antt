@@ -67,7 +67,7 @@ abbrev pub trees_in : List Line → Trees
 trees_in [] = none
 trees_in (l ∷ ls) = more l.tree (trees_in ls)
 
--- The constraint of the alternative's place: from 0 to one less than there are alternatives in the root, and extensible
+-- The constraint of the index of an alternative: from 0 to one less than there are alternatives in the root, and extensible
 -- if and only if there is an extension marker.
 abbrev pub variance_of : Alternatives → ConstraintSet
 variance_of alts = record unconstrained {

@@ -90,16 +90,16 @@ additions_of no_marker = []
 additions_of (marker additions) = additions
 
 -- how many components come before the extension marker, where there is one
-abbrev pub place_of_marker : {V : Type 0} → Extension V → ℕ → Option ℕ
-place_of_marker no_marker k = None
-place_of_marker (marker additions) k = Some k
+abbrev pub index_of_marker : {V : Type 0} → Extension V → ℕ → Option ℕ
+index_of_marker no_marker k = None
+index_of_marker (marker additions) k = Some k
 
 -- these lines after the extension marker, where there is one
 abbrev pub after_marker : {V : Type 0} → Extension V → List Line → Option (List Line)
 after_marker no_marker lines = None
 after_marker (marker additions) lines = Some lines
 
--- lines of a table, those after the extension marker apart, by the place of the marker
+-- lines of a table, those after the extension marker apart, by the index of the marker
 abbrev pub parted : List Line → Option ℕ → Table Line
 parted ls None = record { root = ls; additions = None }
 parted ls (Some k) = record { root = take k ls; additions = Some (drop k ls) }
@@ -117,7 +117,7 @@ module _ {V : Type 0} (components : Components V) where
   abbrev pub component_records : V → List Record
   component_records = all_records all_components
 
-  -- The lines of the field table: those of the root, and then the additions. The index of each is its place in the
+  -- The lines of the field table: those of the root, and then the additions. The index of each is its index in the
   -- definition.
   abbrev pub root_entries : List Entry
   root_entries = table_in components.kind (entries_from 0 components.root)
@@ -133,8 +133,8 @@ module _ {V : Type 0} (components : Components V) where
   lines = record { root = map line_of root_entries; additions = after_marker components.extension (map line_of added_entries) }
 
   -- how many components come before the extension marker, where there is one
-  abbrev pub marker_place : Option ℕ
-  marker_place = place_of_marker components.extension (length components.root)
+  abbrev pub extension_index : Option ℕ
+  extension_index = index_of_marker components.extension (length components.root)
 
   -- each component is written where it is defined, in the root or among the additions, which may be absent at will
   abbrev pub AreInPlace : Type 0

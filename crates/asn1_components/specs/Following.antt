@@ -11,9 +11,9 @@ abbrev pub BeginsApart : Tree → List Record → Type 0
 BeginsApart tree rs = ShareNone (tree_tags tree) (first_tags rs)
 
 -- asked only where the answer is yes
-abbrev pub Where : Bool → Type 0 → Type 0
-Where true P = P
-Where false P = ⊤
+abbrev pub When : Bool → Type 0 → Type 0
+When true P = P
+When false P = ⊤
 
 -- the records of the components, and then what follows these
 abbrev pub records_then : {V : Type 0} → List (ComponentType V) → V → List Record → List Record
@@ -28,12 +28,12 @@ all_may_be_absent (c ∷ cs) = may_be_absent c.presence && all_may_be_absent cs
 -- What follows the components does not begin with a tag of one of those after the last that is always there.
 abbrev pub EndsApart : {V : Type 0} → List (ComponentType V) → List Record → Type 0
 EndsApart [] rest = ⊤
-EndsApart (c ∷ cs) rest = Where (may_be_absent c.presence && all_may_be_absent cs) (BeginsApart c.tree rest) × EndsApart cs rest
+EndsApart (c ∷ cs) rest = When (may_be_absent c.presence && all_may_be_absent cs) (BeginsApart c.tree rest) × EndsApart cs rest
 
 -- What follows a component that may be absent, whether it is there or not, does not begin with one of its tags.
 abbrev pub EachApart : {V : Type 0} → List (ComponentType V) → V → List Record → Type 0
 EachApart [] v rest = ⊤
-EachApart (c ∷ cs) v rest = Where (may_be_absent c.presence) (BeginsApart c.tree (records_then cs v rest)) × EachApart cs v rest
+EachApart (c ∷ cs) v rest = When (may_be_absent c.presence) (BeginsApart c.tree (records_then cs v rest)) × EachApart cs v rest
 
 -- the tree shares no tag with one of the components
 abbrev pub ApartFromEach : {V : Type 0} → Tree → List (ComponentType V) → Type 0

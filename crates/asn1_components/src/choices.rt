@@ -48,16 +48,16 @@ pub trait Choice {
         Self::identifiers().len()
     }
 
-    /// The constraint of the alternative's place: from 0 to one less than the root has alternatives, and extensible where
+    /// The constraint of the index of an alternative: from 0 to one less than the root has alternatives, and extensible where
     /// there is an extension marker. It has no permitted alphabet, so it takes no memory and is not refused.
     final fn variance_constraint(alloc: Global) -> Result<Constraints<'static>, AllocError>
         ensures set { IfOk result (λ set. constraint_set set ≡ variance_of alternatives) }
         ensures succeeds { IsOk result }
     {
-        let places = Value::new(Bounded::const_new(0, Self::variance() as i128 - 1));
+        let indices = Value::new(Bounded::const_new(0, Self::variance() as i128 - 1));
         let is_extensible = Self::extended_variants().is_some();
         ConstraintTable::NONE
-            .with_value(Extensible::new(places).set_extensible(is_extensible))
+            .with_value(Extensible::new(indices).set_extensible(is_extensible))
             .to_constraints(alloc)
     }
 }

@@ -23,7 +23,7 @@ pub trait Constructed<const RL: usize, const EL: usize>: FieldTable {
     final fn is_extensible() -> bool
         ensures { result ≡ has_marker Self.components.extension }
     {
-        Self::marker_place().is_some()
+        Self::extension_index().is_some()
     }
 
     /// The fields of the root, as a table.
@@ -52,17 +52,17 @@ pub trait Constructed<const RL: usize, const EL: usize>: FieldTable {
     ghost additions_length: { length (added_entries Self.components) ≡ EL };
 }
 
-/// The field at a place of two tables, the root's and that of the additions; `None` where there is none. For the
+/// The field at an index of two tables, the root's and that of the additions; `None` where there is none. For the
 /// `field_at` of a type that has them.
 pub fn field_in(
     root: &[Field<'static>],
     added: &[Field<'static>],
-    place: usize,
+    index: usize,
 ) -> Option<Field<'static>>
-    ensures { option_map entry_of result ≡ slice_get (entries root.now ++ entries added.now) place }
+    ensures { option_map entry_of result ≡ slice_get (entries root.now ++ entries added.now) index }
 {
-    match place.checked_sub(root.len()) {
-        Some(place) => added.get(place).copied(),
-        None => root.get(place).copied(),
+    match index.checked_sub(root.len()) {
+        Some(later) => added.get(later).copied(),
+        None => root.get(index).copied(),
     }
 }

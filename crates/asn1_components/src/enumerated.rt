@@ -80,7 +80,7 @@ pub trait Enumerated: AsnType + EnumeratedItems {
     final fn is_extended_variant(&self) -> bool
         ensures { IsTrue result ↔ Contains (values (added Self.enumeration)) self.now }
     {
-        place_in(self, added_lines::<Self>()).is_some()
+        index_in(self, added_lines::<Self>()).is_some()
     }
 
     /// The number of this value.
@@ -97,17 +97,17 @@ pub trait Enumerated: AsnType + EnumeratedItems {
         line_of(self).name
     }
 
-    /// The place of this value in its own table.
+    /// The index of this value in its own table.
     final fn enumeration_index(&self) -> usize
         ensures root { Contains (values Self.enumeration.root) self.now →
             slice_get (values Self.enumeration.root) result ≡ Some self.now }
         ensures extended { Contains (values (added Self.enumeration)) self.now →
             slice_get (values (added Self.enumeration)) result ≡ Some self.now }
     {
-        match place_in(self, Self::items()) {
-            Some(place) => place,
-            None => match place_in(self, added_lines::<Self>()) {
-                Some(place) => place,
+        match index_in(self, Self::items()) {
+            Some(index) => index,
+            None => match index_in(self, added_lines::<Self>()) {
+                Some(index) => index,
                 None => unreachable!(),
             },
         }
@@ -122,14 +122,14 @@ pub trait Enumerated: AsnType + EnumeratedItems {
         with_number(discriminant, Self::items(), added_lines::<Self>())
     }
 
-    /// The value at that place of the root; `None` where there is none.
+    /// The value at that index of the root; `None` where there is none.
     final fn from_enumeration_index(index: usize) -> Option<Self>
         ensures { result ≡ slice_get (values Self.enumeration.root) index }
     {
         value_at(Self::items(), index)
     }
 
-    /// The value at that place after the extension marker; `None` where there is none.
+    /// The value at that index after the extension marker; `None` where there is none.
     final fn from_extended_enumeration_index(index: usize) -> Option<Self>
         ensures { result ≡ slice_get (values (added Self.enumeration)) index }
     {
@@ -223,16 +223,16 @@ fn with_name<T: Copy>(
     Some(line_with_name(name, root, additions)?.value)
 }
 
-// The first place of the value in a table.
-fn place_in<T: Eq>(value: &T, table: &[EnumerationItem<T>]) -> Option<usize>
+// The first index of the value in a table.
+fn index_in<T: Eq>(value: &T, table: &[EnumerationItem<T>]) -> Option<usize>
     ensures { result ≡ position (λ l. T.eq l.value value.now) table.now }
 {
     table.iter().position(|line| line.value == *value)
 }
 
-// The value at a place of a table; `None` where there is none.
-fn value_at<T: Copy>(table: &[EnumerationItem<T>], place: usize) -> Option<T>
-    ensures { result ≡ option_map (λ l. l.value) (slice_get table.now place) }
+// The value at an index of a table; `None` where there is none.
+fn value_at<T: Copy>(table: &[EnumerationItem<T>], index: usize) -> Option<T>
+    ensures { result ≡ option_map (λ l. l.value) (slice_get table.now index) }
 {
-    table.get(place).map(|line| line.value)
+    table.get(index).map(|line| line.value)
 }

@@ -9,7 +9,7 @@ ghost use Rattle.asn1_components.specs.Labels.{Labels, LabelsDiffer, added_label
 use crate::enumerated::{Enumerated, added_lines};
 use crate::items::{EnumerationItem, line_with_name, line_with_number};
 
-/// The table of an ENUMERATED type without its values: the numbers and the names of its items, in their places. It tells a
+/// The table of an ENUMERATED type without its values: the numbers and the names of its items, in their indices. It tells a
 /// codec which numbers there are. Each [`Enumerated`] type has it.
 pub trait EnumeratedTable {
     // the number and the name of each item of the root, and of each after the extension marker
@@ -23,20 +23,20 @@ pub trait EnumeratedTable {
     fn added_count() -> Option<usize>
         ensures { result ≡ option_map length labels.additions };
 
-    /// The number of the item at that place of the root; `None` where there is none.
-    fn root_number(place: usize) -> Option<isize>
-        ensures { result ≡ slice_get (numbers_in labels.root) place };
+    /// The number of the item at that index of the root; `None` where there is none.
+    fn root_number(index: usize) -> Option<isize>
+        ensures { result ≡ slice_get (numbers_in labels.root) index };
 
-    /// The number of the item at that place after the extension marker; `None` where there is none.
-    fn added_number(place: usize) -> Option<isize>
-        ensures { result ≡ slice_get (numbers_in (added_labels labels)) place };
+    /// The number of the item at that index after the extension marker; `None` where there is none.
+    fn added_number(index: usize) -> Option<isize>
+        ensures { result ≡ slice_get (numbers_in (added_labels labels)) index };
 
-    /// The place in the root of the item of that number; `None` where there is none.
-    fn root_place(number: isize) -> Option<usize>
+    /// The index in the root of the item of that number; `None` where there is none.
+    fn root_index(number: isize) -> Option<usize>
         ensures { result ≡ position (λ n. int_eq n number) (numbers_in labels.root) };
 
-    /// The place after the extension marker of the item of that number; `None` where there is none.
-    fn added_place(number: isize) -> Option<usize>
+    /// The index after the extension marker of the item of that number; `None` where there is none.
+    fn added_index(number: isize) -> Option<usize>
         ensures { result ≡ position (λ n. int_eq n number) (numbers_in (added_labels labels)) };
 
     /// The name of the item of that number; `None` where there is none.
@@ -68,20 +68,20 @@ impl<E: Enumerated> EnumeratedTable for E {
         Some(E::added_items()?.len())
     }
 
-    fn root_number(place: usize) -> Option<isize> {
-        number_at(E::items(), place)
+    fn root_number(index: usize) -> Option<isize> {
+        number_at(E::items(), index)
     }
 
-    fn added_number(place: usize) -> Option<isize> {
-        number_at(added_lines::<E>(), place)
+    fn added_number(index: usize) -> Option<isize> {
+        number_at(added_lines::<E>(), index)
     }
 
-    fn root_place(number: isize) -> Option<usize> {
-        place_of(number, E::items())
+    fn root_index(number: isize) -> Option<usize> {
+        index_of(number, E::items())
     }
 
-    fn added_place(number: isize) -> Option<usize> {
-        place_of(number, added_lines::<E>())
+    fn added_index(number: isize) -> Option<usize> {
+        index_of(number, added_lines::<E>())
     }
 
     fn name_of_number(number: isize) -> Option<&'static str> {
@@ -93,15 +93,15 @@ impl<E: Enumerated> EnumeratedTable for E {
     }
 }
 
-// The number at a place of a table; `None` where there is none.
-fn number_at<T>(table: &[EnumerationItem<T>], place: usize) -> Option<isize>
-    ensures { result ≡ option_map (λ l. l.number) (slice_get table.now place) }
+// The number at an index of a table; `None` where there is none.
+fn number_at<T>(table: &[EnumerationItem<T>], index: usize) -> Option<isize>
+    ensures { result ≡ option_map (λ l. l.number) (slice_get table.now index) }
 {
-    table.get(place).map(|line| line.number)
+    table.get(index).map(|line| line.number)
 }
 
-// The first place of the number in a table.
-fn place_of<T>(number: isize, table: &[EnumerationItem<T>]) -> Option<usize>
+// The first index of the number in a table.
+fn index_of<T>(number: isize, table: &[EnumerationItem<T>]) -> Option<usize>
     ensures { result ≡ position (λ l. int_eq l.number number) table.now }
 {
     table.iter().position(|line| line.number == number)

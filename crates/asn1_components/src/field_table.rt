@@ -2,7 +2,7 @@
 ghost use Rattle.std.specs.Prelude.{◌≡◌, length, slice_get};
 ghost use Rattle.std.specs.Option.{option_map};
 ghost use Rattle.asn1_fields.specs.Entries.{entry_of};
-ghost use Rattle.asn1_components.specs.Components.{AgreesWithComponents, Components, marker_place, table};
+ghost use Rattle.asn1_components.specs.Components.{AgreesWithComponents, Components, extension_index, table};
 
 use asn1_fields::Field;
 use asn1_model::AsnType;
@@ -19,13 +19,13 @@ pub trait FieldTable {
     fn field_count() -> usize
         ensures { result ≡ length (table components) };
 
-    /// The field at a place of the table; `None` where there is none.
-    fn field_at(place: usize) -> Option<Field<'static>>
-        ensures { option_map entry_of result ≡ slice_get (table components) place };
+    /// The field at an index of the table; `None` where there is none.
+    fn field_at(index: usize) -> Option<Field<'static>>
+        ensures { option_map entry_of result ≡ slice_get (table components) index };
 
     /// How many fields come before the extension marker, which are those of the root; `None` where there is no marker.
-    fn marker_place() -> Option<usize>
-        ensures { result ≡ marker_place components };
+    fn extension_index() -> Option<usize>
+        ensures { result ≡ extension_index components };
 }
 
 /// A SEQUENCE or a SET: the law that the type means what its components mean.

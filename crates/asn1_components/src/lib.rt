@@ -34,7 +34,7 @@
 //! - `specs/Following.antt` has the words for the records after a component. `components_are_told_apart` says that these begin
 //!   with none of the component's tags, where the component may be absent, even past the end of a group.
 //!   `tables_are_in_order` says that a SET's table is canonical, and that no index occurs twice.
-//! - The table is in records too (`lines`), with the lines after the extension marker apart (`marker_place`). A clause of
+//! - The table is in records too (`lines`), with the lines after the extension marker apart (`extension_index`). A clause of
 //!   `tables_are_in_order` (`as_in_records`) says that `FieldTable` answers these lines.
 //! - A type that holds itself defines its values by recursion. To its own components it is `inside_itself`, where nothing is
 //!   asked of it, and to all others `holding_itself`.

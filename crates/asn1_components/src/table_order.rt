@@ -3,7 +3,7 @@ ghost use Rattle.std.specs.Prelude.{◌≡◌, ◌≢◌, ℕ, AllPairs, IsPermu
 ghost use Rattle.asn1_fields.specs.CanonicalOrder.{IsCanonical};
 ghost use Rattle.asn1_fields.specs.Entries.{Entry, component_of, line_of};
 ghost use Rattle.asn1_components.specs.ComponentLists.{entries_from};
-ghost use Rattle.asn1_components.specs.Components.{all_components, is_sequence, is_set, lines, marker_place, parted, root_entries, table};
+ghost use Rattle.asn1_components.specs.Components.{all_components, is_sequence, is_set, lines, extension_index, parted, root_entries, table};
 
 use crate::field_table::FieldTable;
 
@@ -11,21 +11,21 @@ use crate::field_table::FieldTable;
 ///
 /// The entries of all components are numbered in the order of the definition (`numbered`). The table has these and no others
 /// (`rearranged`), as many as there are components (`counted`), so no index is in it twice (`indices_differ`). In the table
-/// of a SEQUENCE, and of a group, each entry's index is its place (`definition_order`; X.680, 25). In that of a SET the root
+/// of a SEQUENCE, and of a group, each entry's index is its index (`definition_order`; X.680, 25). In that of a SET the root
 /// is in canonical order (`canonical`; X.680, 8.6). What records have of the table is its lines, with those of the additions
 /// after the extension marker (`as_in_records`).
 pub fn tables_are_in_order<T: FieldTable>()
-    ensures numbered { (place : ℕ) (entry : Entry) →
-        slice_get (entries_from 0 (all_components T.components)) place ≡ Some entry →
-        entry.index ≡ place }
+    ensures numbered { (index : ℕ) (entry : Entry) →
+        slice_get (entries_from 0 (all_components T.components)) index ≡ Some entry →
+        entry.index ≡ index }
     ensures rearranged { IsPermutation (entries_from 0 (all_components T.components))
         (table T.components) }
     ensures counted { length (table T.components) ≡ length (all_components T.components) }
     ensures indices_differ { AllPairs (λ d e. d.index ≢ e.index) (table T.components) }
-    ensures definition_order { T.components.kind ≡ is_sequence → (place : ℕ) (entry : Entry) →
-        slice_get (table T.components) place ≡ Some entry → entry.index ≡ place }
+    ensures definition_order { T.components.kind ≡ is_sequence → (index : ℕ) (entry : Entry) →
+        slice_get (table T.components) index ≡ Some entry → entry.index ≡ index }
     ensures as_in_records { lines T.components ≡
-        parted (map line_of (table T.components)) (marker_place T.components) }
+        parted (map line_of (table T.components)) (extension_index T.components) }
     ensures canonical { T.components.kind ≡ is_set →
         IsCanonical (map component_of (root_entries T.components)) }
 {}

@@ -11,7 +11,7 @@ use Rattle.asn1_fields.specs.CanonicalOrder.{canonical}
 use Rattle.asn1_fields.specs.DistinctTags.{first_clash, rivals, sequence_clash, set_clash, share_tag, up_to_required}
 use Rattle.asn1_fields.specs.Entries.{Component, may_be_absent}
 use Rattle.asn1_fields.specs.declared.presence.FieldPresence.{FieldPresence}
-use Rattle.asn1_tags.proofs.PlacesInLists.{position-map}
+use Rattle.asn1_tags.proofs.ListPositions.{position-map}
 
 -- its presence, the leaves of its tree, and whether a choice of nothing is in the tree
 pub record Look : Type 0 where

@@ -6,10 +6,10 @@ use Rattle.std.proofs.lemmas.Bool.{cases_lt, false≢true}
 use Rattle.std.proofs.lemmas.Option.{none-some, same_Some}
 use Rattle.asn1_fields.specs.DistinctTags.{IsLeast, IsSequenceClash, IsSetClash, IsUpTo, ShareTag, first_clash, rivals, sequence_clash, set_clash, share_tag, up_to_required}
 use Rattle.asn1_fields.specs.Entries.{Component, may_be_absent}
-use Rattle.asn1_tags.proofs.PlacesInLists.{position-found, position-missing}
+use Rattle.asn1_tags.proofs.ListPositions.{position-found, position-missing}
 use Rattle.asn1_fields.proofs.SharedTags.{ShareTag-from_test, test-from_ShareTag}
 
--- A relation between places of components by which a component clashes with some of those after it, `others`.
+-- A relation between indices of components by which a component clashes with some of those after it, `others`.
 record IsFoundBy (others : Component → List Component → List Component) (IsClash : List Component → ℕ → ℕ → Type 0) : Type 0 where
   nothing : (i j : ℕ) → IsClash [] i j → ⊥
   before : (cs : List Component) (i j : ℕ) → IsClash cs i j → i < j
@@ -22,7 +22,7 @@ module _ (others : Component → List Component → List Component) (IsClash : L
   test : Component → Component → Bool
   test c d = share_tag c.tree d.tree
 
-  -- a clash at the first place
+  -- a clash at the first index
   first_is : (c : Component) (cs : List Component) (j : ℕ) → position (λ d. share_tag c.tree d.tree) (others c cs) ≡ Some j →
       IsLeast (IsClash (c ∷ cs)) (Some (0, j + 1))
   first_is c cs j e =
@@ -43,7 +43,7 @@ module _ (others : Component → List Component → List Component) (IsClash : L
               let other = by.from_here c cs k clash in
               absurd (false≢true (sym (none k other.0 lt other.1) ∙ test-from_ShareTag c.tree other.0.tree other.2))
 
-  -- no clash at the first place
+  -- no clash at the first index
   later_is : (c : Component) (cs : List Component) (o : Option (ℕ × ℕ)) → position (λ d. share_tag c.tree d.tree) (others c cs) ≡ None →
       IsLeast (IsClash cs) o → IsLeast (IsClash (c ∷ cs)) (option_map (λ p. (p.0 + 1, p.1 + 1)) o)
   later_is c cs o e least = by_cases o least
@@ -79,12 +79,12 @@ module _ (others : Component → List Component → List Component) (IsClash : L
 
   first_clash-is : (cs : List Component) → IsLeast (IsClash cs) (first_clash others cs)
   first_clash-is [] = λ i j. by.nothing i j
-  first_clash-is (c ∷ cs) = by_place (first_clash-is cs) (position (λ d. share_tag c.tree d.tree) (others c cs)) refl
+  first_clash-is (c ∷ cs) = by_index (first_clash-is cs) (position (λ d. share_tag c.tree d.tree) (others c cs)) refl
     where
-      by_place : IsLeast (IsClash cs) (first_clash others cs) → (o : Option ℕ) → position (λ d. share_tag c.tree d.tree) (others c cs) ≡ o →
+      by_index : IsLeast (IsClash cs) (first_clash others cs) → (o : Option ℕ) → position (λ d. share_tag c.tree d.tree) (others c cs) ≡ o →
           IsLeast (IsClash (c ∷ cs)) (option_or (option_map (λ j. (0, j + 1)) o) (option_map (λ p. (p.0 + 1, p.1 + 1)) (first_clash others cs)))
-      by_place rest (Some j) e = first_is c cs j e
-      by_place rest None e = later_is c cs (first_clash others cs) e rest
+      by_index rest (Some j) e = first_is c cs j e
+      by_index rest None e = later_is c cs (first_clash others cs) e rest
 
 -- in a SET each component clashes with any after it
 set_clashes : IsFoundBy (λ c cs. cs) IsSetClash
@@ -115,7 +115,7 @@ set_clashes = record {
   };
 }
 
--- all components before a place may be absent
+-- all components before an index may be absent
 abbrev MayBeAbsentBelow : List Component → ℕ → Type 0
 MayBeAbsentBelow cs j = (k : ℕ) → k < j → IfSome (slice_get cs k) (λ c. IsTrue (may_be_absent c.presence))
 

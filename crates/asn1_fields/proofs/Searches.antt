@@ -6,7 +6,7 @@ use Rattle.std.proofs.lemmas.List.{drop_more, drop_all, take_all, take_rest}
 use Rattle.std.proofs.lemmas.Bool.Decides.{nat_tests}
 use Rattle.std.proofs.lemmas.Grind.{common_steps}
 use Rattle.asn1_tags.specs.Trees.{shape}
-use Rattle.asn1_tags.proofs.PlacesInLists.{position-map}
+use Rattle.asn1_tags.proofs.ListPositions.{position-map}
 use Rattle.asn1_fields.specs.DistinctTags.{first_clash, rivals, share_tag, up_to_required}
 use Rattle.asn1_fields.specs.Entries.{Component, component_of, components, entries, entry_of, may_be_absent}
 use Rattle.asn1_fields.specs.declared.field.Field.{Field}
@@ -47,7 +47,7 @@ rivals-none f fs absent e =
     ap components (sym (take_all (position_or_len is_required fs + 1) fs (omega arith)))
     ∙ (sym (up_to_required-take fs) ∙ ap (λ b. cond b (up_to_required (components fs)) []) (sym absent))
 
--- a pair, that many places further on
+-- a pair, that many indices further on
 abbrev pub shifted : ℕ → Option (ℕ × ℕ) → Option (ℕ × ℕ)
 shifted n o = option_map (λ p. (p.0 + n, p.1 + n)) o
 
@@ -65,7 +65,7 @@ shifted-shifted m n (Some p) =
     let second : p.1 + n + m ≡ p.1 + (m + n) = omega arith in
     λ i. Some (first i, second i)
 
--- what is found among all fields is what is found from a place on
+-- what is found among all fields is what is found from an index on
 abbrev pub IsLeft : (Component → List Component → List Component) → List Field → ℕ → Type 0
 IsLeft others fs i = first_clash others (components fs) ≡ shifted i (first_clash others (components (drop i fs)))
 
@@ -76,21 +76,21 @@ module _ (others : Component → List Component → List Component) (fs : List F
   pub search_ends : (i : ℕ) → length fs ≤ i → IsLeft others fs i → first_clash others (components fs) ≡ None
   search_ends i past left = left ∙ ap (λ gs. shifted i (first_clash others (components gs))) (drop_all i fs past)
 
-  -- what is found at a place, or after it
-  at_place : ℕ → Option ℕ → Option (ℕ × ℕ)
-  at_place i o = option_or (option_map (λ j. (0, j + 1)) o) (shifted 1 (first_clash others (components (drop (i + 1) fs))))
+  -- what is found at an index, or after it
+  at_index : ℕ → Option ℕ → Option (ℕ × ℕ)
+  at_index i o = option_or (option_map (λ j. (0, j + 1)) o) (shifted 1 (first_clash others (components (drop (i + 1) fs))))
 
   -- the step at the field f, whose rivals are rs
   step : (i : ℕ) (d : Field) (rs : List Field) (o : Option ℕ) → i < length fs →
       components rs ≡ others (component_of (entry_of (get_or fs i d))) (components (take (length fs - (i + 1)) (drop (i + 1) fs))) →
       position (λ r. share_tag (shape (get_or fs i d).tag_tree) (shape r.tag_tree)) rs ≡ o →
-      first_clash others (components (drop i fs)) ≡ at_place i o
-  unfolding at_place
+      first_clash others (components (drop i fs)) ≡ at_index i o
+  unfolding at_index
   step i d rs o lt rest e =
       let c = component_of (entry_of (get_or fs i d)) in
       let test : Component → Bool = λ r. share_tag c.tree r.tree in
       ap (λ gs. first_clash others (components gs)) (drop_more fs i d lt)
-      ∙ ap (at_place i)
+      ∙ ap (at_index i)
       (ap (λ gs. position test (others c (components gs))) (sym (take_rest fs (i + 1)))
       ∙ (ap (position test) (sym rest)
       ∙ (position-map test component_of (entries rs) ∙ (position-map (λ r. test (component_of r)) entry_of rs ∙ e))))
@@ -99,7 +99,7 @@ module _ (others : Component → List Component → List Component) (fs : List F
       components rs ≡ others (component_of (entry_of (get_or fs i d))) (components (take (length fs - (i + 1)) (drop (i + 1) fs))) →
       position (λ r. share_tag (shape (get_or fs i d).tag_tree) (shape r.tag_tree)) rs ≡ Some b →
       first_clash others (components fs) ≡ Some (i, i + 1 + b)
-  unfolding at_place
+  unfolding at_index
   search_stops i b d rs lt left rest e =
       let first : 0 + i ≡ i = omega arith in
       let second : b + 1 + i ≡ i + 1 + b = omega arith in
@@ -109,6 +109,6 @@ module _ (others : Component → List Component → List Component) (fs : List F
       components rs ≡ others (component_of (entry_of (get_or fs i d))) (components (take (length fs - (i + 1)) (drop (i + 1) fs))) →
       position (λ r. share_tag (shape (get_or fs i d).tag_tree) (shape r.tag_tree)) rs ≡ None →
       IsLeft others fs (i + 1)
-  unfolding at_place
+  unfolding at_index
   search_goes_on i d rs lt left rest e =
       left ∙ (ap (shifted i) (step i d rs None lt rest e) ∙ shifted-shifted i 1 (first_clash others (components (drop (i + 1) fs))))

@@ -33,7 +33,7 @@ pub record IsSequenceClash (cs : List Component) (i j : ℕ) : Type 0 where
   pub pair : IsSetClash cs i j
   pub run : (k : ℕ) → i ≤ k → k < j → IfSome (slice_get cs k) (λ c. IsTrue (may_be_absent c.presence))
 
--- The pairs go by their first places, and where these are the same, by their second ones.
+-- The pairs go by their first indices, and where these are the same, by their second ones.
 abbrev pub IsUpTo : ℕ × ℕ → ℕ × ℕ → Type 0
 IsUpTo p q = (p.0 < q.0) ⊎ ((p.0 ≡ q.0) × (p.1 ≤ q.1))
 
@@ -61,10 +61,10 @@ first_clash others (c ∷ cs) =
     (option_map (λ j. (0, j + 1)) (position (λ d. share_tag c.tree d.tree) (others c cs)))
     (option_map (λ p. (p.0 + 1, p.1 + 1)) (first_clash others cs))
 
--- the least pair of places that clash in a SEQUENCE of these components
+-- the least pair of indices that clash in a SEQUENCE of these components
 abbrev pub sequence_clash : List Component → Option (ℕ × ℕ)
 sequence_clash cs = first_clash rivals cs
 
--- the least pair of places that clash in a SET of these components
+-- the least pair of indices that clash in a SET of these components
 abbrev pub set_clash : List Component → Option (ℕ × ℕ)
 set_clash cs = first_clash (λ c following. following) cs

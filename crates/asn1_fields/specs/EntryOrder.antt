@@ -9,7 +9,7 @@ use Rattle.asn1_fields.specs.Entries.{Entry}
 use Rattle.asn1_fields.specs.declared.presence.FieldPresence.{FieldPresence}
 use Rattle.asn1_fields.specs.declared.presence.FieldPresence.TheVariants.{Required, Optional, Default}
 
--- the place of a presence in the order of presences
+-- the index of a presence in the order of presences
 abbrev pub presence_number : FieldPresence → ℕ
 presence_number Required = 0
 presence_number Optional = 1
@@ -19,7 +19,7 @@ presence_number Default = 2
 abbrev pub presence_cmp : FieldPresence → FieldPresence → Ordering
 presence_cmp = on presence_number nat_cmp
 
--- Lines go by their places, then by their tags, their trees, their presences, and the bytes of their names.
+-- Lines go by their indices, then by their tags, their trees, their presences, and the bytes of their names.
 abbrev pub entry_cmp : Entry → Entry → Ordering
 entry_cmp =
     then_cmp (on (λ e. e.index) nat_cmp) (

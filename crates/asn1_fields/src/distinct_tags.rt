@@ -6,7 +6,7 @@ ghost use Rattle.asn1_fields.specs.Entries.{component_of, components, entry_of, 
 
 use crate::field::Field;
 
-/// The least pair of places whose fields share a tag although a SEQUENCE forbids it; `None` where there is
+/// The least pair of indices whose fields share a tag although a SEQUENCE forbids it; `None` where there is
 /// no such pair (X.680, 25.6 and 25.6.1).
 ///
 /// The first of the two may be absent. The second is after it, up to and including the next field that is always
@@ -17,21 +17,21 @@ pub fn first_sequence_clash(fields: &[Field<'_>]) -> Option<(usize, usize)>
 {
     for i in 0..fields.len() {
         let rivals = sequence_rivals(&fields[i], &fields[i + 1..]);
-        if let Some(between) = place_of_clash(&fields[i], rivals) {
+        if let Some(between) = index_of_clash(&fields[i], rivals) {
             return Some((i, i + 1 + between));
         }
     }
     None
 }
 
-/// The least pair of places whose fields have a tag in common, which no two components of a SET may have; `None`
+/// The least pair of indices whose fields have a tag in common, which no two components of a SET may have; `None`
 /// where there is no such pair (X.680, 27.3).
 pub fn first_set_clash(fields: &[Field<'_>]) -> Option<(usize, usize)>
     ensures least { IsLeast (IsSetClash (components fields.now)) result }
     ensures report { result ≡ set_clash (components fields.now) }
 {
     for i in 0..fields.len() {
-        if let Some(between) = place_of_clash(&fields[i], &fields[i + 1..]) {
+        if let Some(between) = index_of_clash(&fields[i], &fields[i + 1..]) {
             return Some((i, i + 1 + between));
         }
     }
@@ -46,14 +46,14 @@ fn sequence_rivals<'a>(field: &Field<'_>, following: &'a [Field<'a>]) -> &'a [Fi
     if field.is_not_optional_or_default() {
         return &[];
     }
-    match place_of_required(following) {
+    match index_of_required(following) {
         Some(required) => &following[..required + 1],
         None => following,
     }
 }
 
 // How many of the fields come before the first that is always there.
-fn place_of_required(fields: &[Field<'_>]) -> Option<usize>
+fn index_of_required(fields: &[Field<'_>]) -> Option<usize>
     ensures { result ≡ position (λ field. not (may_be_absent field.presence)) fields.now }
 {
     fields
@@ -62,7 +62,7 @@ fn place_of_required(fields: &[Field<'_>]) -> Option<usize>
 }
 
 // How many of the others come before the first that has a tag in common with the field.
-fn place_of_clash(field: &Field<'_>, others: &[Field<'_>]) -> Option<usize>
+fn index_of_clash(field: &Field<'_>, others: &[Field<'_>]) -> Option<usize>
     ensures { result ≡
         position (λ other. share_tag (shape field.now.tag_tree) (shape other.tag_tree)) others.now }
 {

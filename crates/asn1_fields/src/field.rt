@@ -13,7 +13,7 @@ use asn1_tags::{Tag, TagTree};
 /// Fields are ordered by their parts, in the order of this list.
 #[derive(Clone, Copy, PartialEq, Eq, PartialOrd, Ord, Debug)]
 pub struct Field<'a> {
-    /// The place of the component in the definition of its type.
+    /// The index of the component in the definition of its type.
     pub index: usize,
     /// The tag under which the component is written.
     pub tag: Tag,

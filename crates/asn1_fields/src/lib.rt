@@ -6,7 +6,7 @@
 //!
 //! | Item | What it is | In `src/` | In `specs/` |
 //! |---|---|---|---|
-//! | [`Field`] | a line of a table: place, tag, tree of tags, presence and name | `field.rt` | `Entries` |
+//! | [`Field`] | a line of a table: index, tag, tree of tags, presence and name | `field.rt` | `Entries` |
 //! | [`FieldPresence`] | whether a component is always there, OPTIONAL or has a DEFAULT | `presence.rt` | `Entries` |
 //! | [`Fields`] | a table of a known number of fields | `fields.rt` | `FieldLists` |
 //! | [`TableField`] | an element of an array of which a table is made: a `Field` | `table_field.rt` | |
@@ -19,9 +19,9 @@
 //!
 //! - A field is seen as its `Entry`, the same apart from where its tree and its name lie in memory, and the rules on
 //!   tags look at its `Component`, a presence and a tree.
-//! - `first_sequence_clash` and `first_set_clash` answer the least pair of places that breaks X.680's rule, and `None`
+//! - `first_sequence_clash` and `first_set_clash` answer the least pair of indices that breaks X.680's rule, and `None`
 //!   if and only if there is none (`least`). `specs/DistinctTags.antt` says what the rules are: that two trees share a
-//!   tag (`ShareTag`), and which two places must not (`IsSequenceClash`, `IsSetClash`); which tags a tree has is said
+//!   tag (`ShareTag`), and which two indices must not (`IsSequenceClash`, `IsSetClash`); which tags a tree has is said
 //!   by `asn1_model` (`tree_tags`). It also has the answers as functions of the components (`report`).
 //! - `is_canonical` is true if and only if no field's smallest tag is above the next one's (`ordered`, and `report` as
 //!   a function). Of all rearrangements of a table whose smallest tags differ, at most one is canonical

@@ -10,7 +10,7 @@ use Rattle.asn1_components.specs.ComponentTypes.{ComponentType}
 use Rattle.asn1_components.proofs.TableOrder.{table_rearranges}
 use Rattle.asn1_fields.specs.Entries.{Entry}
 use Rattle.asn1_model.specs.Tags.{Has, tree_tags}
-use Rattle.asn1_tags.proofs.PlacesInLists.{Contains-from_slice_get}
+use Rattle.asn1_tags.proofs.ListPositions.{Contains-from_slice_get}
 use Rattle.asn1_tags.specs.declared.tags.Tag.{Tag}
 use Rattle.asn1_laws.specs.SetParts.{CanBeginWith}
 

@@ -1,10 +1,10 @@
 -- How the components of a SEQUENCE or of a group are read, one after another. For who proves a `decode_fields`: `begin` before the
 -- first, a `step` after each that was read, `stops` where one was not, and `through` after the last.
 use Rattle.std.proofs.Common.{◌≡◌, ℕ, max, ◌≤◌, List, [], ◌∷◌, ◌++◌, refl, arith, subst, ◌∙◌}
-use Rattle.asn1_components.proofs.Apart.{all_then, sequence_apart}
+use Rattle.asn1_components.proofs.DistinctFollowers.{all_then, sequence_apart}
 use Rattle.asn1_components.specs.ComponentLists.{CanBeInSequence, EachIsWellTagged, EachIsOfType, EachIsValid, all_records}
 use Rattle.asn1_components.specs.ComponentTypes.{ComponentType}
-use Rattle.asn1_components.specs.Following.{BeginsApart, EachApart, EndsApart, Where, records_then}
+use Rattle.asn1_components.specs.Following.{BeginsApart, EachApart, EndsApart, When, records_then}
 use Rattle.asn1_fields.specs.Entries.{may_be_absent}
 use Rattle.asn1_model.specs.Records.{Record, highest}
 use Rattle.asn1_laws.specs.declared.decode_error.DecodeError.{DecodeError}
@@ -51,7 +51,7 @@ module _ {D V : Type 0} (R : Reader D) where
 module _ {D V : Type 0} {R : Reader D} {began now : D} {c : ComponentType V} {cs : List (ComponentType V)} {v : V} {height : ℕ} {rest : List Record} {outer : Outside} where
   -- where the call that reads it succeeded
   pub step : {then : D} {Answer : Type 0} → ComponentsRead R began now (c ∷ cs) v height rest outer → R.depth_left then ≡ R.depth_left now →
-      (c.IsWellTagged → c.IsOfType v → c.IsValid R.accepts v → Where (may_be_absent c.presence) (BeginsApart c.tree (records_then cs v rest)) →
+      (c.IsWellTagged → c.IsOfType v → c.IsValid R.accepts v → When (may_be_absent c.presence) (BeginsApart c.tree (records_then cs v rest)) →
       R.remains now (c.records v ++ records_then cs v rest, outer) → HasAdvanced R now then (highest (c.records v)) (records_then cs v rest, outer) Answer) →
       Stepped R began then cs v height rest outer Answer
   step part same reads =
@@ -73,7 +73,7 @@ module _ {D V : Type 0} {R : Reader D} {began now : D} {c : ComponentType V} {cs
 
   -- where it failed
   pub stops : {e : DecodeError} → ComponentsRead R began now (c ∷ cs) v height rest outer →
-      (c.IsWellTagged → c.IsOfType v → c.IsValid R.accepts v → Where (may_be_absent c.presence) (BeginsApart c.tree (records_then cs v rest)) →
+      (c.IsWellTagged → c.IsOfType v → c.IsValid R.accepts v → When (may_be_absent c.presence) (BeginsApart c.tree (records_then cs v rest)) →
       R.remains now (c.records v ++ records_then cs v rest, outer) → MayFail (R.depth_left now) (highest (c.records v)) e) →
       MayFail (R.depth_left began) height e
   stops part reads =

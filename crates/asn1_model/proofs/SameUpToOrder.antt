@@ -40,7 +40,7 @@ SameAll-append [] (s ∷ ss) us vs all after = elim all [ ]
 SameAll-append (r ∷ rs) [] us vs all after = elim all [ ]
 SameAll-append (r ∷ rs) (s ∷ ss) us vs all after = let both = SameAll-cons all in next both.0 (SameAll-append rs ss us vs both.1 after)
 
--- The record at a place, and a list with another record there.
+-- The record at an index, and a list with another record there.
 same_at : (rs ss : List Record) (i : ℕ) {d e : Record} → Same d e → SameAll (held rs) (held ss) → Same (get_or rs i d) (get_or ss i e)
 same_at [] [] i past all = past
 same_at [] (s ∷ ss) i past all = elim all [ ]
@@ -55,7 +55,7 @@ same_set (r ∷ rs) [] i put all = elim all [ ]
 same_set (r ∷ rs) (s ∷ ss) zero put all = next put ((SameAll-cons all).1)
 same_set (r ∷ rs) (s ∷ ss) (suc i) put all = next ((SameAll-cons all).0) (same_set rs ss i put ((SameAll-cons all).1))
 
--- after an exchange of two places in both
+-- after an exchange of two indices in both
 same_swap : (rs ss : List Record) (i j : ℕ) → SameAll (held rs) (held ss) → SameAll (held (swap rs i j)) (held (swap ss i j))
 same_swap [] [] i j all = at_end
 same_swap [] (s ∷ ss) i j all = elim all [ ]

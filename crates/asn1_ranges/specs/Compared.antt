@@ -35,7 +35,7 @@ module _ {T : Type 0} where
   bound_cmp cmp (Range start end) (Range other_start other_end) = ordering_then (option_cmp cmp start other_start) (option_cmp cmp end other_end)
   bound_cmp cmp (Range start end) b = Greater
 
-  -- what a bound feeds a hasher: the place of its kind, and then its values
+  -- what a bound feeds a hasher: the index of its kind, and then its values
   abbrev pub bound_hash : (T → List (List ℕ)) → Bounded T → List (List ℕ)
   bound_hash hash None = fed.isize (pos 0)
   bound_hash hash (Single a) = fed.isize (pos 1) ++ hash a

@@ -66,7 +66,7 @@ impl FieldTable for AttributeValueAssertion {
         }
     }
 
-    fn marker_place() -> Option<usize> {
+    fn extension_index() -> Option<usize> {
         None
     }
 }

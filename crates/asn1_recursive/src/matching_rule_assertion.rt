@@ -118,7 +118,7 @@ impl FieldTable for MatchingRuleAssertion {
         }
     }
 
-    fn marker_place() -> Option<usize> {
+    fn extension_index() -> Option<usize> {
         None
     }
 }

@@ -5,7 +5,7 @@ use Rattle.std.specs.Option.{option_eq}
 use Rattle.std.specs.Prelude.{Some, codes}
 use Rattle.std.specs.String.{string_eq}
 use Rattle.std.proofs.lemmas.Bool.{and_from}
-use Rattle.asn1_components.proofs.Apart.{sequence_apart}
+use Rattle.asn1_components.proofs.DistinctFollowers.{sequence_apart}
 use Rattle.asn1_components.specs.Components.{all_components, component_records}
 use Rattle.asn1_components.specs.Following.{EndsApart}
 use Rattle.asn1_laws.specs.Reading.{Reader, Outside}

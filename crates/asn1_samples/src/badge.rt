@@ -56,7 +56,7 @@ impl FieldTable for Badge {
         }
     }
 
-    fn marker_place() -> Option<usize> {
+    fn extension_index() -> Option<usize> {
         None
     }
 }

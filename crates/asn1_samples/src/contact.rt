@@ -67,7 +67,7 @@ impl FieldTable for Contact {
         }
     }
 
-    fn marker_place() -> Option<usize> {
+    fn extension_index() -> Option<usize> {
         None
     }
 }

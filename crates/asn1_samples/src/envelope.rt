@@ -34,7 +34,7 @@ impl FieldTable for Envelope {
         }
     }
 
-    fn marker_place() -> Option<usize> {
+    fn extension_index() -> Option<usize> {
         None
     }
 }

@@ -79,7 +79,7 @@ impl FieldTable for Gauge {
         }
     }
 
-    fn marker_place() -> Option<usize> {
+    fn extension_index() -> Option<usize> {
         None
     }
 }

@@ -87,7 +87,7 @@ impl FieldTable for Labelled {
         }
     }
 
-    fn marker_place() -> Option<usize> {
+    fn extension_index() -> Option<usize> {
         None
     }
 }

@@ -38,7 +38,7 @@ impl FieldTable for Node {
         }
     }
 
-    fn marker_place() -> Option<usize> {
+    fn extension_index() -> Option<usize> {
         None
     }
 }

@@ -62,7 +62,7 @@ impl<T: AsnType, U: AsnType> FieldTable for Pair<T, U> {
         }
     }
 
-    fn marker_place() -> Option<usize> {
+    fn extension_index() -> Option<usize> {
         None
     }
 }

@@ -58,7 +58,7 @@ impl FieldTable for Person {
         }
     }
 
-    fn marker_place() -> Option<usize> {
+    fn extension_index() -> Option<usize> {
         None
     }
 }

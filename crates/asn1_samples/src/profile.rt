@@ -92,7 +92,7 @@ impl FieldTable for Profile {
         }
     }
 
-    fn marker_place() -> Option<usize> {
+    fn extension_index() -> Option<usize> {
         Some(3)
     }
 }

@@ -53,7 +53,7 @@ impl FieldTable for Settings {
         }
     }
 
-    fn marker_place() -> Option<usize> {
+    fn extension_index() -> Option<usize> {
         None
     }
 }

@@ -77,7 +77,7 @@ impl FieldTable for Ticket {
         }
     }
 
-    fn marker_place() -> Option<usize> {
+    fn extension_index() -> Option<usize> {
         None
     }
 }

@@ -78,7 +78,7 @@ impl FieldTable for Visit {
         }
     }
 
-    fn marker_place() -> Option<usize> {
+    fn extension_index() -> Option<usize> {
         Some(1)
     }
 }

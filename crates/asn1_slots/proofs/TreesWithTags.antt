@@ -16,13 +16,13 @@ use Rattle.asn1_model.specs.declared.type_table.TreeForm.TheVariants.{Choice, Le
 use Rattle.asn1_model.specs.Meaning.{Meaning}
 use Rattle.asn1_tags.proofs.Distinct.{has-from_Contains, tag_eq-true}
 use Rattle.asn1_tags.proofs.Leaves.{count_more}
-use Rattle.asn1_tags.proofs.PlacesInLists.{position-found}
+use Rattle.asn1_tags.proofs.ListPositions.{position-found}
 use Rattle.asn1_tags.proofs.Positions.{position_of-some}
 use Rattle.asn1_tags.specs.Tags.{has, position_of, tag_eq}
 use Rattle.asn1_tags.specs.Trees.{Trees, none, more, choice, leaf, leaves, leaves_of, shape, shapes}
 use Rattle.asn1_tags.specs.declared.tags.Tag.{Tag}
 use Rattle.asn1_tags.specs.declared.trees.TagTree.{TagTree}
-use Rattle.asn1_components.specs.Following.{Where}
+use Rattle.asn1_components.specs.Following.{When}
 use Rattle.asn1_tags.specs.Order.{structures_cmp}
 use Rattle.asn1_tags.specs.OrderLaws.{structure_cmp-Equal}
 use Rattle.std.specs.Ordering.{is_eq}
@@ -193,14 +193,14 @@ not_found trees tags t all missing k at =
 
 -- what is said where the alternatives are those of the cases
 pub where_they_are : {V : Type 0} (P : Type 0) (alternatives : Alternatives) (cases : List (Case V)) →
-    (trees_of (all_of alternatives) ≡ trees_of (alternatives_of cases) → P) → Where (are_of_cases alternatives cases) P
+    (trees_of (all_of alternatives) ≡ trees_of (alternatives_of cases) → P) → When (are_of_cases alternatives cases) P
 where_they_are P alternatives cases holds =
     by_order (structures_cmp (trees_of (all_of alternatives)) (trees_of (alternatives_of cases))) (λ same.
     let equal = structure_cmp-Equal (choice (trees_of (all_of alternatives))) (choice (trees_of (alternatives_of cases))) same in
     let trees : trees_of (all_of alternatives) ≡ trees_of (alternatives_of cases) = cc in
     holds trees)
   where
-    by_order : (o : Ordering) → (o ≡ Equal → P) → Where (is_eq o) P
+    by_order : (o : Ordering) → (o ≡ Equal → P) → When (is_eq o) P
     by_order Less f = tt
     by_order Equal f = f refl
     by_order Greater f = tt

@@ -5,7 +5,7 @@ use Rattle.std.specs.Option.{option_eq}
 use Rattle.std.specs.Result.{IsErrAnd}
 use Rattle.asn1_components.specs.Components.{Components, all_components, extensible_sequence, extensible_set, group, sequence, set}
 use Rattle.asn1_components.specs.ComponentTypes.{ComponentType, default_in, optional_in, required}
-use Rattle.asn1_components.specs.Following.{BeginsApart, Where}
+use Rattle.asn1_components.specs.Following.{BeginsApart, When}
 use Rattle.asn1_laws.specs.DecodeErrors.{missing_field, reason}
 use Rattle.asn1_laws.specs.Reading.{Outside, Reader, ReadsBack, records_in}
 use Rattle.asn1_laws.specs.ReadingTypes.{ReadsSetLeft}
@@ -25,7 +25,7 @@ abbrev pub ReadsInto : {D V A : Type 0} → Reader D → ComponentType V → (V 
     Result A DecodeError → Type 0
 ReadsInto {V = V} R c holds old new result =
     (v : V) (rest : List Record) (outer : Outside) → c.IsWellTagged → c.IsOfType v →
-    c.IsValid R.accepts v → Where (may_be_absent c.presence) (BeginsApart c.tree rest) →
+    c.IsValid R.accepts v → When (may_be_absent c.presence) (BeginsApart c.tree rest) →
     ReadsBack R old new (c.records v) rest outer (λ _. holds v ≡ true) result
 
 -- A component of the values V, and its slot among the slots S.
@@ -318,8 +318,8 @@ abbrev pub SameComponent : {V : Type 0} → ComponentType V → ComponentType V 
 SameComponent {V = V} c d = (v : V) →
     (c.IsWellTagged → d.IsWellTagged) × (c.IsOfType v → d.IsOfType v)
     × ((accepts : List ℕ → Bool) → c.IsValid accepts v → d.IsValid accepts v)
-    × ((rest : List Record) → Where (may_be_absent c.presence) (BeginsApart c.tree rest) →
-    Where (may_be_absent d.presence) (BeginsApart d.tree rest))
+    × ((rest : List Record) → When (may_be_absent c.presence) (BeginsApart c.tree rest) →
+    When (may_be_absent d.presence) (BeginsApart d.tree rest))
     × (c.records v ≡ d.records v)
 
 -- The slots are those of these components.

@@ -3,7 +3,7 @@ ghost use Rattle.asn1_components.specs.Alternatives.{Each, OneOf, all_of, trees_
 ghost use Rattle.asn1_components.specs.ChosenTags.{LacksTag};
 ghost use Rattle.asn1_laws.specs.DecodeErrors.{no_memory, no_valid_choice, reason};
 ghost use Rattle.asn1_laws.specs.ReadingTypes.{ReadsAlternative};
-ghost use Rattle.asn1_components.specs.Following.{Where};
+ghost use Rattle.asn1_components.specs.Following.{When};
 ghost use Rattle.asn1_slots.specs.Cases.{Case, IsMade, ReadsCaseAt, alternatives_of, are_of_cases, choice_of_cases};
 ghost use Rattle.asn1_slots.specs.TagIndices.{IsIndexOf};
 ghost use Rattle.asn1_tags.specs.declared.tags.Tag.{Tag};
@@ -76,7 +76,7 @@ pub fn from_tag_by_index<T: DecodeChoiceByIndex + ChoiceType, D: Decoder>(
     decoder: &mut D,
     tag: Tag,
 ) -> Result<T, DecodeError>
-    ensures read { Where (are_of_cases T.alternatives T.cases) (ReadsAlternative D.reader tag
+    ensures read { When (are_of_cases T.alternatives T.cases) (ReadsAlternative D.reader tag
         (choice_of_cases T.cases) T.case_of T.eq decoder.old decoder.new result) }
     ensures unknown { Each (LacksTag tag) (all_of T.alternatives) →
         IsErrAnd result (λ e. reason e ≡ no_valid_choice (unwrap_or T.meaning.name [])) }
@@ -94,7 +94,7 @@ pub fn from_tag_by_table<T: DecodeChoiceByIndex + ChoiceType, D: Decoder>(
     tag: Tag,
     table: &[(Tag, usize)],
 ) -> Result<T, DecodeError>
-    ensures read { Where (are_of_cases T.alternatives T.cases) (ReadsAlternative D.reader tag
+    ensures read { When (are_of_cases T.alternatives T.cases) (ReadsAlternative D.reader tag
         (choice_of_cases T.cases) T.case_of T.eq decoder.old decoder.new result) }
     ensures unknown { Each (LacksTag tag) (all_of T.alternatives) →
         IsErrAnd result (λ e. reason e ≢ no_memory →

@@ -29,7 +29,7 @@ Contains-from_has t ts h =
 pub has-from_Contains : (t : Tag) (ts : List Tag) → Contains ts t → has t ts ≡ true
 has-from_Contains t ts c = list_any_at (λ s. tag_eq s t) ts c.0 t c.1 (subst (λ s. tag_eq s t ≡ true) (sym c.2) (tag_eq-refl t))
 
--- where the test finds no tag twice, any two places have two tags
+-- where the test finds no tag twice, any two indices have two tags
 pub AllPairs-from_distinct : (ts : List Tag) → distinct ts ≡ true → AllPairs (λ s t. s ≢ t) ts
 AllPairs-from_distinct [] h i j d lt within = absurd (omega arith)
 AllPairs-from_distinct (t ∷ ts) h zero zero d lt within = absurd (omega arith)

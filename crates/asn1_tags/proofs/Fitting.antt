@@ -147,22 +147,22 @@ position_within tags table fits q d some =
     let placed = tag_from_fit tags table entry.0 d entry.1 (fits.each_fits entry.0 entry.1) in
     subst (λ n. n < length tags) entry.2 (slice_get_within tags (get_or table entry.0 d).1 (get_or table entry.0 d).0 placed)
 
--- so each place of the list is the position of an entry
-pub entry_of_place : (tags : List Tag) (table : List Entry) → TableFits tags table → (place : ℕ) (d : Entry) → place < length tags →
-    (i : ℕ) × (i < length table) × ((get_or table i d).1 ≡ place)
-entry_of_place tags table fits place d within = by_test (list_any (eqb place) (positions_of table)) refl
+-- so each index of the list is the position of an entry
+pub entry_of_index : (tags : List Tag) (table : List Entry) → TableFits tags table → (index : ℕ) (d : Entry) → index < length tags →
+    (i : ℕ) × (i < length table) × ((get_or table i d).1 ≡ index)
+entry_of_index tags table fits index d within = by_test (list_any (eqb index) (positions_of table)) refl
   where
-    below : list_any (eqb place) (positions_of table) ≡ false → (q : ℕ) → (b : Bool) → eqb q place ≡ b →
+    below : list_any (eqb index) (positions_of table) ≡ false → (q : ℕ) → (b : Bool) → eqb q index ≡ b →
         (b || list_any (eqb q) (positions_of table)) ≡ true → q < length tags
-    below none q true same some = subst (λ n. n < length tags) (sym (eqb-true q place same)) within
+    below none q true same some = subst (λ n. n < length tags) (sym (eqb-true q index same)) within
     below none q false other some = position_within tags table fits q d some
 
-    by_test : (b : Bool) → list_any (eqb place) (positions_of table) ≡ b → (i : ℕ) × (i < length table) × ((get_or table i d).1 ≡ place)
-    by_test true some = entry_of table place d some
+    by_test : (b : Bool) → list_any (eqb index) (positions_of table) ≡ b → (i : ℕ) × (i < length table) × ((get_or table i d).1 ≡ index)
+    by_test true some = entry_of table index d some
     by_test false none =
-        let distinct = IsDistinct-cons eqb place (positions_of table) (passes_nowhere place (positions_of table) none) (positions_apart tags table fits d) in
-        let few = length-le_from_distinct_below (place ∷ positions_of table) (length tags) distinct
-        (λ q some. below none q (eqb q place) refl some) in
+        let distinct = IsDistinct-cons eqb index (positions_of table) (passes_nowhere index (positions_of table) none) (positions_apart tags table fits d) in
+        let few = length-le_from_distinct_below (index ∷ positions_of table) (length tags) distinct
+        (λ q some. below none q (eqb q index) refl some) in
         absurd (omega (arith, few, as_many_positions table, fits.same_length))
 
 -- the tag of an entry that fits is the one at its position

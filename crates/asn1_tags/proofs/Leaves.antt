@@ -58,7 +58,7 @@ pub leaves_of-drop : (ts : List TagTree) (i : ℕ) (d : TagTree) → i < length 
     leaves_of (shapes (drop i ts)) ≡ leaves (shape (get_or ts i d)) ++ leaves_of (shapes (drop (i + 1) ts))
 leaves_of-drop ts i d lt = ap (λ us. leaves_of (shapes us)) (drop_more ts i d lt)
 
--- the leaves before a place and from it on
+-- the leaves before an index and from it on
 pub leaves_of-split : (ts : List TagTree) (i : ℕ) → leaves_of (shapes ts) ≡ leaves_of (shapes (take i ts)) ++ leaves_of (shapes (drop i ts))
 leaves_of-split ts i = ap (λ us. leaves_of (shapes us)) (sym (take-append-drop i ts)) ∙ leaves_of-append (take i ts) (drop i ts)
 

@@ -4,6 +4,6 @@ pub mod Distinct
 pub mod Smallest
 pub mod Positions
 pub mod Structures
-pub mod PlacesInLists
+pub mod ListPositions
 pub mod Fitting
 pub mod Searching

@@ -1,4 +1,4 @@
--- The places of tags among the leaves of trees.
+-- The indices of tags among the leaves of trees.
 use Rattle.std.proofs.Common.{◌≡◌, ◌≢◌, ℕ, Bool, true, false, cond, Option, Some, None, IfSome, zero-add, ◌||◌, not, List, [], ◌∷◌, ◌++◌, ◌+◌, ◌<◌, ◌≤◌, ◌^◌, ◌-◌, min, Result, Ok, Err, AllPairs, length, get_or, take, drop, refl, sym, ap, ◌∙◌, subst, arith}
 use Rattle.std.specs.List.{slice_get, position_or_len, list_any}
 use Rattle.std.specs.Result.{result_ok}
@@ -25,7 +25,7 @@ first_in_front q (y ∷ ys) zs here = by_test (q y) (first_in_front q ys zs) her
     by_test true f h = refl
     by_test false f h = ap (λ n. 1 + n) (f h)
 
--- the first place after a list that has none
+-- the first index after a list that has none
 first_after : (q : Tag → Bool) (xs ys : List Tag) → list_any q xs ≡ false → length xs + position_or_len q ys ≡ position_or_len q (xs ++ ys)
 first_after q [] ys none = zero-add (position_or_len q ys)
 first_after q (x ∷ xs) ys none =
@@ -34,16 +34,16 @@ first_after q (x ∷ xs) ys none =
     let ih = first_after q xs ys rest in
     rw off (omega arith)
 
--- a place is within the list, or just past it
-place_within : (q : Tag → Bool) (ts : List Tag) → position_or_len q ts ≤ length ts
-place_within q ts = prefix_len-le-length (λ x. not (q x)) ts
+-- an index is within the list, or just past it
+index_within : (q : Tag → Bool) (ts : List Tag) → position_or_len q ts ≤ length ts
+index_within q ts = prefix_len-le-length (λ x. not (q x)) ts
 
--- the place of the tag, where it is first met in the tree at i
-pub place_at : (t : Tag) (ts : List TagTree) (i p : ℕ) (d : TagTree) → i < length ts →
+-- the index of the tag, where it is first met in the tree at i
+pub index_at : (t : Tag) (ts : List TagTree) (i p : ℕ) (d : TagTree) → i < length ts →
     has t (leaves_of (shapes (take i ts))) ≡ false → has t (leaves (shape (get_or ts i d))) ≡ true →
     p ≡ position_or_len (λ s. tag_eq s t) (leaves (shape (get_or ts i d))) →
     length (leaves_of (shapes (take i ts))) + p ≡ position_or_len (λ s. tag_eq s t) (leaves_of (shapes ts))
-place_at t ts i p d lt none here e =
+index_at t ts i p d lt none here e =
     let q : Tag → Bool = λ s. tag_eq s t in
     let xs = leaves_of (shapes (take i ts)) in
     let ys = leaves (shape (get_or ts i d)) in
@@ -58,8 +58,8 @@ pub found_at : (t : Tag) (ts : List TagTree) (i n p : ℕ) (d : TagTree) → i <
     length (leaves_of (shapes ts)) < 2 ^ 64 →
     (has t (leaves_of (shapes ts)) ≡ true) × (min (n + p) (2 ^ 64 - 1) ≡ position_or_len (λ s. tag_eq s t) (leaves_of (shapes ts)))
 found_at t ts i n p d lt passed found fits =
-    let place = place_at t ts i p d lt passed.1 found.0 found.1 in
-    let within = place_within (λ s. tag_eq s t) (leaves_of (shapes ts)) in
+    let index = index_at t ts i p d lt passed.1 found.0 found.1 in
+    let within = index_within (λ s. tag_eq s t) (leaves_of (shapes ts)) in
     (has_at t ts i d lt found.0, omega arith)
 
 -- a tree that does not have the tag, after n leaves that are others
@@ -101,7 +101,7 @@ some_there q (t ∷ ts) h = by_test (q t) (some_there q ts) h
     by_test true f h = omega arith
     by_test false f h = let k = f h in omega arith
 
--- a tag that is not there has no place
+-- a tag that is not there has no index
 pub position_of-none : (t : Tag) (ts : List Tag) → has t ts ≡ false → position_of t ts ≡ None
 position_of-none t ts h =
     let e = none_there (λ s. tag_eq s t) ts h in
@@ -120,7 +120,7 @@ slice_get-position t ts h =
     let within = some_there q ts h in
     slice_get-get_or ts (position_or_len q ts) t within ∙ ap Some (tag_eq-true (get_or ts (position_or_len q ts) t) t (passes_at_first q ts t within))
 
--- where each tag occurs once, a place is the first place of its tag
+-- where each tag occurs once, an index is the first index of its tag
 pub position_of-unique : (t : Tag) (ts : List Tag) (k : ℕ) → AllPairs (λ s u. s ≢ u) ts → slice_get ts k ≡ Some t → position_of t ts ≡ Some k
 position_of-unique t ts k apart e =
     let q : Tag → Bool = λ s. tag_eq s t in
@@ -141,7 +141,7 @@ pub IsTagAfter-is : (ts : List Tag) (k : ℕ) (r : Result Tag ℕ) → IsTagAfte
 IsTagAfter-is ts k (Ok t) h = sym (slice_get-get_or ts k t h.0 ∙ ap Some (sym h.1))
 IsTagAfter-is ts k (Err left) h = sym (slice_get_past ts k (omega arith))
 
--- what is at a place has that first place, where each tag occurs once
+-- what is at an index has that first index, where each tag occurs once
 pub position_of-slice_get : (ts : List Tag) (k : ℕ) (r : Option Tag) → r ≡ slice_get ts k → AllPairs (λ s u. s ≢ u) ts →
     IfSome r (λ t. position_of t ts ≡ Some k)
 position_of-slice_get ts k None e apart = tt
@@ -150,5 +150,5 @@ position_of-slice_get ts k (Some t) e apart = position_of-unique t ts k apart (s
 -- the steps of the walks that number leaves
 pub ruleset steps = (count_more, count_upto, leaf_after_at)
 
--- how a place and a tag answer each other
-pub ruleset places = (position_of-none, position_of-some, slice_get-position, IsTagAfter-is)
+-- how an index and a tag answer each other
+pub ruleset leaf_positions = (position_of-none, position_of-some, slice_get-position, IsTagAfter-is)

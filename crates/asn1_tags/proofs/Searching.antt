@@ -1,4 +1,4 @@
--- The first place of a tag, and halving searches of tables.
+-- The first index of a tag, and halving searches of tables.
 use Rattle.std.proofs.Common.{◌≡◌, inl, inr, ℕ, zero, suc, ◌+◌, ◌-◌, ◌/◌, ◌^◌, ◌<◌, ◌≤◌, Bool, true, false, cond, nat_lt, Option, Some, None, MatchOption, List, length, find, position, get_or, option_map, refl, sym, ap, ◌∙◌, subst, arith}
 use Rattle.std.specs.Cmp.{tied_itself}
 use Rattle.std.specs.List.{position_or_len, slice_get}
@@ -15,14 +15,14 @@ use Rattle.std.proofs.lemmas.List.Sums.{fails_before_first, passes_at_first, pos
 use Rattle.std.proofs.lemmas.Map.Keys.{Less-from_sorted}
 use Rattle.std.proofs.lemmas.Option.{get_or_from_slice_get, slice_get-get_or, slice_get_past, slice_get_within}
 use Rattle.asn1_tags.proofs.Distinct.{tag_eq-true, tag_eq-refl}
-use Rattle.asn1_tags.proofs.Fitting.{entry_of_place, sorted_fits, sorted_from_fits, tag_at_position, tag_from_fit}
+use Rattle.asn1_tags.proofs.Fitting.{entry_of_index, sorted_fits, sorted_from_fits, tag_at_position, tag_from_fit}
 use Rattle.asn1_tags.specs.OrderLaws.{structure_cmp-Equal, tag_total}
 use Rattle.asn1_tags.specs.TagTables.{Entry, TableFits, binary_digits, entry_cmp, first_position}
 use Rattle.asn1_tags.specs.Tags.{position_of, smallest, tag_cmp, tag_eq}
 use Rattle.asn1_tags.specs.Trees.{leaf, leaves}
 use Rattle.asn1_tags.specs.declared.tags.Tag.{Tag}
 
--- ---- the first place that passes a test
+-- ---- the first index that passes a test
 
 pub position_is : {X : Type 0} (p : X → Bool) (xs : List X) (i : ℕ) (d : X) → i < length xs →
     ((k : ℕ) → k < i → p (get_or xs k d) ≡ false) → p (get_or xs i d) ≡ true → Some i ≡ position p xs
@@ -281,31 +281,31 @@ some_compared t table start end found (suc count) so_far done some = omega arith
 
 -- ---- what the first entry says of the list
 
--- a place of the tag is the position of an entry of the tag
-entry_of_tag : (tags : List Tag) (table : List Entry) (t : Tag) → TableFits tags table → (place : ℕ) (d : Entry) → place < length tags →
-    tag_eq (get_or tags place t) t ≡ true → (i : ℕ) × (i < length table) × ((get_or table i d).1 ≡ place) × ((get_or table i d).0 ≡ t)
-entry_of_tag tags table t fits place d within here =
-    let entry = entry_of_place tags table fits place d within in
+-- an index of the tag is the position of an entry of the tag
+entry_of_tag : (tags : List Tag) (table : List Entry) (t : Tag) → TableFits tags table → (index : ℕ) (d : Entry) → index < length tags →
+    tag_eq (get_or tags index t) t ≡ true → (i : ℕ) × (i < length table) × ((get_or table i d).1 ≡ index) × ((get_or table i d).0 ≡ t)
+entry_of_tag tags table t fits index d within here =
+    let entry = entry_of_index tags table fits index d within in
     let read = tag_at_position tags table fits entry.0 d t entry.1 in
-    let tag : (get_or table entry.0 d).0 ≡ get_or tags place t = sym read ∙ ap (λ p. get_or tags p t) entry.2 in
-    (entry.0, entry.1, entry.2, tag ∙ tag_eq-true (get_or tags place t) t here)
+    let tag : (get_or table entry.0 d).0 ≡ get_or tags index t = sym read ∙ ap (λ p. get_or tags p t) entry.2 in
+    (entry.0, entry.1, entry.2, tag ∙ tag_eq-true (get_or tags index t) t here)
 
--- no place before the position in the first entry of the tag has the tag
+-- no index before the position in the first entry of the tag has the tag
 none_earlier : (tags : List Tag) (table : List Entry) (t : Tag) → TableFits tags table → (first : ℕ) (d : Entry) → first < length table →
     (get_or table first d).0 ≡ t → ((k : ℕ) → k < first → tag_eq (get_or table k d).0 t ≡ false) →
-    (place : ℕ) → place < (get_or table first d).1 → (get_or table first d).1 < length tags → tag_eq (get_or tags place t) t ≡ false
-none_earlier tags table t fits first d inside here before place earlier within = by_test (tag_eq (get_or tags place t) t) refl
+    (index : ℕ) → index < (get_or table first d).1 → (get_or table first d).1 < length tags → tag_eq (get_or tags index t) t ≡ false
+none_earlier tags table t fits first d inside here before index earlier within = by_test (tag_eq (get_or tags index t) t) refl
   where
-    by_test : (b : Bool) → tag_eq (get_or tags place t) t ≡ b → tag_eq (get_or tags place t) t ≡ false
+    by_test : (b : Bool) → tag_eq (get_or tags index t) t ≡ b → tag_eq (get_or tags index t) t ≡ false
     by_test false e = e
     by_test true e =
-        let entry = entry_of_tag tags table t fits place d (omega arith) e in
+        let entry = entry_of_tag tags table t fits index d (omega arith) e in
         let passes : tag_eq (get_or table entry.0 d).0 t ≡ true = subst (λ s. tag_eq s t ≡ true) (sym entry.3) (tag_eq-refl t) in
         elim (cases_lt entry.0 first) [
           | inl lt ↦ absurd (false≢true (sym (before entry.0 lt) ∙ passes))
           | inr ge ↦ elim (cases_eq first entry.0) [
             | inl same ↦
-                let e : (get_or table first d).1 ≡ place = subst (λ i. (get_or table i d).1 ≡ place) (sym same) entry.2 in
+                let e : (get_or table first d).1 ≡ index = subst (λ i. (get_or table i d).1 ≡ index) (sym same) entry.2 in
                 absurd (omega (arith, e))
             | inr differ ↦
                 let less = Less-from_sorted entry_cmp table first entry.0 d (sorted_from_fits tags table d fits) (omega (arith, differ)) entry.1 in
@@ -318,7 +318,7 @@ none_earlier tags table t fits first d inside here before place earlier within =
           ]
         ]
 
--- In a table that fits, the position in the first entry of the tag is the first place of the tag.
+-- In a table that fits, the position in the first entry of the tag is the first index of the tag.
 pub position_from_fits : (tags : List Tag) (table : List Entry) (t : Tag) → TableFits tags table → first_position t table ≡ position_of t tags
 position_from_fits tags table t fits = elim (cases_lt (position_or_len (λ e. tag_eq e.0 t) table) (length table)) [
   | inl within ↦ some within
@@ -332,13 +332,13 @@ position_from_fits tags table t fits = elim (cases_lt (position_or_len (λ e. ta
         let passes = passes_at_first (λ e. tag_eq e.0 t) table (t, 0) within in
         let here : entry.0 ≡ t = tag_eq-true entry.0 t passes in
         let before : (k : ℕ) → k < first → tag_eq (get_or table k (t, 0)).0 t ≡ false = λ k lt. fails_before_first (λ e. tag_eq e.0 t) table k (t, 0) lt in
-        let place : ℕ = entry.1 in
+        let index : ℕ = entry.1 in
         let placed = tag_from_fit tags table first (t, 0) within (fits.each_fits first within) in
-        let inside : place < length tags = slice_get_within tags place entry.0 placed in
-        let read : get_or tags place t ≡ t = tag_at_position tags table fits first (t, 0) t within ∙ here in
-        let at_place : tag_eq (get_or tags place t) t ≡ true = subst (λ s. tag_eq s t ≡ true) (sym read) (tag_eq-refl t) in
-        sym (first_position_is t table first place (t, 0) before within (λ i. (here i, place)))
-        ∙ position_is (λ s. tag_eq s t) tags place t inside (λ k lt. none_earlier tags table t fits first (t, 0) within here before k lt inside) at_place
+        let inside : index < length tags = slice_get_within tags index entry.0 placed in
+        let read : get_or tags index t ≡ t = tag_at_position tags table fits first (t, 0) t within ∙ here in
+        let at_index : tag_eq (get_or tags index t) t ≡ true = subst (λ s. tag_eq s t ≡ true) (sym read) (tag_eq-refl t) in
+        sym (first_position_is t table first index (t, 0) before within (λ i. (here i, index)))
+        ∙ position_is (λ s. tag_eq s t) tags index t inside (λ k lt. none_earlier tags table t fits first (t, 0) within here before k lt inside) at_index
 
     none : length table ≤ position_or_len (λ e. tag_eq e.0 t) table → first_position t table ≡ position_of t tags
     none past =

@@ -31,7 +31,7 @@ tag_eq s t = (class_number s.class == class_number t.class) && (s.value == t.val
 abbrev pub has : Tag → List Tag → Bool
 has t ts = list_any (λ s. tag_eq s t) ts
 
--- the first place of the tag among these
+-- the first index of the tag among these
 abbrev pub position_of : Tag → List Tag → Option ℕ
 position_of t ts = position (λ s. tag_eq s t) ts
 

@@ -16,12 +16,12 @@ begins_with t tree = is_open tree || has t (leaves tree)
 abbrev pub any_begins_with : Tag → Trees → Bool
 any_begins_with t trees = is_any_open trees || has t (leaves_of trees)
 
--- the first place of the tag among these, or how many tags there are
-abbrev pub IsFirstPlaceOf : Tag → List Tag → Result ℕ ℕ → Type 0
-IsFirstPlaceOf t ts r =
+-- the first index of the tag among these, or how many tags there are
+abbrev pub IsFirstIndexOf : Tag → List Tag → Result ℕ ℕ → Type 0
+IsFirstIndexOf t ts r =
     MatchResult
     r
-    (λ place. (has t ts ≡ true) × (place ≡ position_or_len (λ s. tag_eq s t) ts))
+    (λ index. (has t ts ≡ true) × (index ≡ position_or_len (λ s. tag_eq s t) ts))
     (λ count. (has t ts ≡ false) × (count ≡ length ts))
 
 -- the tag after this many others, or how many more there would have to be

@@ -16,7 +16,7 @@ use std::marker::Model;
 /// The leaves of trees in one list, from left to right, and beside it a table for quick look-ups, or none.
 ///
 /// A table has an entry for each tag of the list: the tag and its position. The entries ascend by
-/// tag, and by position where a tag is at several places. A constructor walks the trees once.
+/// tag, and by position where a tag is at several indices. A constructor walks the trees once.
 #[derive(Debug, Drop)]
 pub struct Variants {
     tags: Vec<Tag>,
@@ -118,20 +118,20 @@ impl Variants {
         &self.tags
     }
 
-    /// The first place of the tag in the list, and `None` where it is not in it.
+    /// The first index of the tag in the list, and `None` where it is not in it.
     pub fn position_of(&self, tag: &Tag) -> Option<usize>
         ensures { result ≡ position_of tag.now self.now.tags }
     {
         self.find_counted(tag).0
     }
 
-    /// The first place of the tag in the list, and how often two tags were compared to find it.
+    /// The first index of the tag in the list, and how often two tags were compared to find it.
     ///
     /// Where there is a table, each comparison halves the entries that are left, and else the list is
     /// searched from the left.
     #[tactic(auto, using(crate::proofs::Searching::searches))]
     pub fn find_counted(&self, tag: &Tag) -> (Option<usize>, usize)
-        ensures place { result.0 ≡ position_of tag.now self.now.tags }
+        ensures index { result.0 ≡ position_of tag.now self.now.tags }
         ensures few { IsSome self.now.table → result.1 ≤ binary_digits (length self.now.tags) }
         ensures at_most_all { result.1 ≤ length self.now.tags }
         ensures some { self.now.tags ≢ [] → 1 ≤ result.1 }

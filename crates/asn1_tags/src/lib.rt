@@ -17,7 +17,7 @@
 //!
 //! - `Tag::const_cmp` and `Ord` are the canonical order, `tag_cmp` (clauses `canonical` and `as_ord`);
 //!   `Tag::const_eq` is true exactly for the same tag. `specs/Tags.antt` defines the order, what the
-//!   smallest of some tags is (`IsSmallest`), the first place of a tag (`position_of`), and the texts
+//!   smallest of some tags is (`IsSmallest`), the first index of a tag (`position_of`), and the texts
 //!   of `Class` and `Tag` (`class_text`, `tag_text`).
 //! - A tree is seen as its `shape`, a tree of tags apart from where it lies in memory, and is asked
 //!   about its `leaves`, the tags from left to right; `specs/Trees.antt` defines both.
@@ -26,15 +26,15 @@
 //!   `leaf_count` is the number of leaves wherever it fits. `has_empty_choice` says whether a choice of
 //!   nothing is anywhere (`is_open`), `shares_leaf` whether two trees have a leaf in common, and
 //!   `can_begin_with` is true if and only if the tag is a leaf or a choice of nothing is anywhere.
-//! - `TagTree::leaf_position` is the first place of a tag among the leaves, and `leaf_at` the leaf at
-//!   a place. Each gives back what the other was asked (the clauses `back`), `leaf_at` where no tag
+//! - `TagTree::leaf_position` is the first index of a tag among the leaves, and `leaf_at` the leaf at
+//!   an index. Each gives back what the other was asked (the clauses `back`), `leaf_at` where no tag
 //!   is at two leaves. Both require that the number of leaves fits, which `leaf_count` tests.
 //! - `Ord` of trees is `tree_cmp` of `specs/Order.antt`, a total order by smallest tag and then by
 //!   structure, which answers `Equal` for trees of one shape alone (the clauses `same` and `equal`).
 //! - A `Variants` is seen as the list of the leaves (`tags`) and a `table` or none. `with_table`
 //!   succeeds, unless memory runs out, if and only if the table fits (`TableFits`), and else says where it fails
 //!   first (`FailsFirstAt`, the clause `mismatch`). `position_of` and `find_counted` give the first
-//!   place of a tag. `find_counted` also counts its comparisons of tags: with a table at most as many
+//!   index of a tag. `find_counted` also counts its comparisons of tags: with a table at most as many
 //!   as the length of the list has binary digits (the clause `few`), at most one for each tag in any
 //!   case, and at least one where the list is not empty. `specs/TagTables.antt` defines these words.
 //! - An `Identifier` is its text, `name_of` in `specs/Names.antt`: `or` keeps a name and takes the
@@ -49,16 +49,16 @@
 //!
 //! For proofs in other crates, `proofs/` has the leaves of trees that follow one another
 //! (`Leaves`), the laws of the order of tags (`Smallest`), the tests of lists of tags (`Distinct`),
-//! places among leaves (`Positions`), and tables that fit (`Fitting`, `Searching`).
+//! indices among leaves (`Positions`), and tables that fit (`Fitting`, `Searching`).
 #![tactic(auto)]
 
 mod classes;
 mod error;
 mod flattened;
 pub mod laws;
+mod leaf_positions;
 mod names;
 mod order;
-mod places;
 mod searches;
 mod tables;
 mod tags;

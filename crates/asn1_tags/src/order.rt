@@ -43,7 +43,7 @@ fn cmp_structures(nodes: &[TagTree<'_>], others: &[TagTree<'_>]) -> Ordering
     nodes.len().cmp(&others.len())
 }
 
-/// Two trees are equal if they have the same structure and the same tags in the same places.
+/// Two trees are equal if they have the same structure and the same tags in the same indices.
 impl PartialEq for TagTree<'_> {
     ghost eq = { eq_by_cmp (on shape structure_cmp) };
 

@@ -33,16 +33,16 @@ impl Meter {
     }
 }
 
-/// The first place of the tag in the list, and the number of comparisons that it took to find it.
+/// The first index of the tag in the list, and the number of comparisons that it took to find it.
 pub(crate) fn find_in_list(tags: &[Tag], tag: &Tag) -> (Option<usize>, usize)
-    ensures place { result.0 ≡ position_of tag.now tags.now }
+    ensures index { result.0 ≡ position_of tag.now tags.now }
     ensures few { result.1 ≤ length tags.now }
     ensures some { 0 < length tags.now → 0 < result.1 }
 {
     let mut meter = Meter::new();
-    for (place, other) in tags.iter().enumerate() {
+    for (index, other) in tags.iter().enumerate() {
         if meter.compare(other, tag).is_eq() {
-            return (Some(place), meter.comparisons);
+            return (Some(index), meter.comparisons);
         }
     }
     (None, meter.comparisons)
@@ -53,7 +53,7 @@ pub(crate) fn find_in_list(tags: &[Tag], tag: &Tag) -> (Option<usize>, usize)
 /// The entries that are left to be searched are halved by each comparison.
 pub(crate) fn find_in_table(table: &[(Tag, usize)], tag: &Tag) -> (Option<usize>, usize)
     requires { IsStrictlySortedBy entry_cmp table.now }
-    ensures place { result.0 ≡ first_position tag.now table.now }
+    ensures index { result.0 ≡ first_position tag.now table.now }
     ensures few { result.1 ≤ binary_digits (length table.now) }
     ensures some { 0 < length table.now → 0 < result.1 }
 {

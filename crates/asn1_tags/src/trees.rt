@@ -6,7 +6,7 @@ ghost use Rattle.asn1_tags.specs.Trees.{choice, is_open, leaves, leaves_of, none
 
 use crate::classes::Class;
 use crate::tags::Tag;
-use crate::{places, walks};
+use crate::{leaf_positions, walks};
 use std::{fmt, slice};
 
 /// The tags with which an encoding of a type can begin.
@@ -94,28 +94,28 @@ impl TagTree<'_> {
         walks::leaf_count(nodes)
     }
 
-    /// The place of the first leaf that is the tag, counted from the left, and `None` where none is.
-    #[tactic(auto, using(crate::proofs::Positions::places))]
+    /// The index of the first leaf that is the tag, counted from the left, and `None` where none is.
+    #[tactic(auto, using(crate::proofs::Positions::leaf_positions))]
     pub fn leaf_position(tag: &Tag, nodes: &[TagTree<'_>]) -> Option<usize>
         requires { length (leaves_of (shapes nodes.now)) < 2 ^ 64 }
         ensures first { result ≡ position_of tag.now (leaves_of (shapes nodes.now)) }
-        ensures back { IfSome result (λ place. slice_get (leaves_of (shapes nodes.now)) place ≡
+        ensures back { IfSome result (λ index. slice_get (leaves_of (shapes nodes.now)) index ≡
             Some tag.now) }
     {
-        places::first_place(nodes, tag).ok()
+        leaf_positions::first_index(nodes, tag).ok()
     }
 
-    /// The leaf at a place, counted from the left, and `None` past the last leaf.
-    #[tactic(auto, using(crate::proofs::Positions::places))]
-    pub fn leaf_at(nodes: &[TagTree<'_>], place: usize) -> Option<Tag>
+    /// The leaf at an index, counted from the left, and `None` past the last leaf.
+    #[tactic(auto, using(crate::proofs::Positions::leaf_positions))]
+    pub fn leaf_at(nodes: &[TagTree<'_>], index: usize) -> Option<Tag>
         requires { length (leaves_of (shapes nodes.now)) < 2 ^ 64 }
-        ensures leaf { result ≡ slice_get (leaves_of (shapes nodes.now)) place }
+        ensures leaf { result ≡ slice_get (leaves_of (shapes nodes.now)) index }
 
-        // Where each tag occurs once, the place of the leaf is the place that was asked for.
+        // Where each tag occurs once, the index of the leaf is the index that was asked for.
         ensures back { let tags = leaves_of (shapes nodes.now) in AllPairs (λ s t. s ≢ t) tags →
-            IfSome result (λ tag. position_of tag tags ≡ Some place) }
+            IfSome result (λ tag. position_of tag tags ≡ Some index) }
     {
-        places::leaf_after(nodes, place).ok()
+        leaf_positions::leaf_after(nodes, index).ok()
     }
 }
 

@@ -1,4 +1,4 @@
--- The place of the first element that passes a test.
+-- The index of the first element that passes a test.
 use Rattle.std.proofs.Common.{◌≡◌, ℕ, ◌+◌, suc, Bool, true, false, ◌||◌, not, cond, nat_lt, List, [], ◌∷◌, length, Some, None, refl, sym, ◌∙◌, arith}
 use Rattle.std.proofs.lemmas.Bool.Decides.{nat_tests}
 use Rattle.std.specs.List.{list_any, position, position_or_len}
@@ -17,7 +17,7 @@ some_where : (b : Bool) (n : ℕ) → is_some (cond b (Some n) None) ≡ b
 some_where true n = refl
 some_where false n = refl
 
--- an element passes the test exactly where there is a first place of one
+-- an element passes the test exactly where there is a first index of one
 pub list_any_by_position : {T : Type 0} (p : T → Bool) (xs : List T) → list_any p xs ≡ is_some (position p xs)
 list_any_by_position p xs =
     before_the_end p xs ∙ sym (some_where (nat_lt (position_or_len p xs) (length xs)) (position_or_len p xs))

@@ -123,7 +123,7 @@ pub fn arrays_are_ordered_as_slices<T: Ord + Hash, const N: usize>()
         fed.slice T.hash_input array.elements }
 {}
 
-/// A law of INSTANCE OF: its fields are the name of the type and then the value, at the places 0 and 1, and both are
+/// A law of INSTANCE OF: its fields are the name of the type and then the value, at the indices 0 and 1, and both are
 /// always there; and it has no extension marker.
 pub fn instance_of_has_two_fields<T: AsnType>()
     ensures fields { table ⟦<InstanceOf<T> as FieldTable>⟧.components ≡ instance_of_fields }

@@ -72,15 +72,10 @@ pub use asn1_bounds::{
     Bounded, ConstraintTable, Constraints, Extensible, PermittedAlphabet, Size, Value,
 };
 pub use asn1_components::{
-    Choice, ChoiceType, alternatives_are_as_in_records, the_chosen_tag_tells_the_alternative,
-};
-pub use asn1_components::{
-    Constructed, ConstructedType, FieldTable, components_are_told_apart, field_in,
-    tables_are_in_order,
-};
-pub use asn1_components::{
-    DiscriminantIter, Enumerated, EnumeratedItems, EnumerationItem, ItemIdentifierIter,
-    VariantIter, written_number,
+    Choice, ChoiceType, Constructed, ConstructedType, DiscriminantIter, Enumerated,
+    EnumeratedItems, EnumerationItem, FieldTable, ItemIdentifierIter, VariantIter,
+    alternatives_are_as_in_records, components_are_told_apart, field_in, tables_are_in_order,
+    the_chosen_tag_tells_the_alternative, written_number,
 };
 pub use asn1_fields::{
     Field, FieldIter, FieldPresence, Fields, IdentifierIter, OptionalFieldIter, TableField,

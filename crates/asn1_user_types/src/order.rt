@@ -63,7 +63,7 @@ impl FieldTable for Order {
         }
     }
 
-    fn marker_place() -> Option<usize> {
+    fn extension_index() -> Option<usize> {
         None
     }
 }

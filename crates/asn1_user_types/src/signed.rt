@@ -60,7 +60,7 @@ impl<T: AsnType> FieldTable for Signed<T> {
         }
     }
 
-    fn marker_place() -> Option<usize> {
+    fn extension_index() -> Option<usize> {
         None
     }
 }

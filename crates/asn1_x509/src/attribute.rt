@@ -65,7 +65,7 @@ impl FieldTable for AttributeTypeAndValue {
         }
     }
 
-    fn marker_place() -> Option<usize> {
+    fn extension_index() -> Option<usize> {
         None
     }
 }

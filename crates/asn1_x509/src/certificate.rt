@@ -78,7 +78,7 @@ impl FieldTable for Certificate {
         }
     }
 
-    fn marker_place() -> Option<usize> {
+    fn extension_index() -> Option<usize> {
         None
     }
 }

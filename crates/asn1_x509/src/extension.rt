@@ -73,7 +73,7 @@ impl FieldTable for Extension {
         }
     }
 
-    fn marker_place() -> Option<usize> {
+    fn extension_index() -> Option<usize> {
         None
     }
 }

@@ -64,7 +64,7 @@ impl FieldTable for SubjectPublicKeyInfo {
         }
     }
 
-    fn marker_place() -> Option<usize> {
+    fn extension_index() -> Option<usize> {
         None
     }
 }

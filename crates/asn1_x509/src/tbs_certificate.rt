@@ -180,7 +180,7 @@ impl FieldTable for TbsCertificate {
         }
     }
 
-    fn marker_place() -> Option<usize> {
+    fn extension_index() -> Option<usize> {
         None
     }
 }

@@ -65,7 +65,7 @@ impl FieldTable for AnotherName {
         }
     }
 
-    fn marker_place() -> Option<usize> {
+    fn extension_index() -> Option<usize> {
         None
     }
 }

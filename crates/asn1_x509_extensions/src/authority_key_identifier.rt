@@ -112,7 +112,7 @@ impl FieldTable for AuthorityKeyIdentifier {
         }
     }
 
-    fn marker_place() -> Option<usize> {
+    fn extension_index() -> Option<usize> {
         None
     }
 }

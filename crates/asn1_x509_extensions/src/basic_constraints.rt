@@ -62,7 +62,7 @@ impl FieldTable for BasicConstraints {
         }
     }
 
-    fn marker_place() -> Option<usize> {
+    fn extension_index() -> Option<usize> {
         None
     }
 }

@@ -75,7 +75,7 @@ impl FieldTable for EdiPartyName {
         }
     }
 
-    fn marker_place() -> Option<usize> {
+    fn extension_index() -> Option<usize> {
         None
     }
 }

@@ -55,7 +55,7 @@ impl FieldTable for Hollow {
         }
     }
 
-    fn marker_place() -> Option<usize> {
+    fn extension_index() -> Option<usize> {
         None
     }
 }

@@ -85,7 +85,7 @@ impl FieldTable for BindRequest {
         }
     }
 
-    fn marker_place() -> Option<usize> {
+    fn extension_index() -> Option<usize> {
         None
     }
 }

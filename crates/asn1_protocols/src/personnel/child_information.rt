@@ -74,7 +74,7 @@ impl FieldTable for ChildInformation {
         }
     }
 
-    fn marker_place() -> Option<usize> {
+    fn extension_index() -> Option<usize> {
         None
     }
 }

@@ -163,7 +163,7 @@ impl FieldTable for PersonnelRecord {
         }
     }
 
-    fn marker_place() -> Option<usize> {
+    fn extension_index() -> Option<usize> {
         None
     }
 }

@@ -51,7 +51,7 @@ impl FieldTable for Person {
         field_in(ROOT, ADDED, place)
     }
 
-    fn marker_place() -> Option<usize> {
+    fn extension_index() -> Option<usize> {
         Some(1)
     }
 }

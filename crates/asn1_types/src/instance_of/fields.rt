@@ -37,11 +37,11 @@ impl<T: AsnType> FieldTable for InstanceOf<T> {
         2
     }
 
-    fn field_at(place: usize) -> Option<Field<'static>> {
-        FIELDS.get(place).copied()
+    fn field_at(index: usize) -> Option<Field<'static>> {
+        FIELDS.get(index).copied()
     }
 
-    fn marker_place() -> Option<usize> {
+    fn extension_index() -> Option<usize> {
         None
     }
 }

@@ -9,7 +9,7 @@ ghost use Rattle.asn1_types.specs.MultisetLaws.{same_length, same_counts-equiv, 
 use super::SetOf;
 use std::hash::{Hash, Hasher};
 
-/// The place of the first of the others that is equal to the element.
+/// The index of the first of the others that is equal to the element.
 pub(super) fn first_equal<T: Eq>(element: &T, others: &[T]) -> Option<usize>
     ensures { result ≡ position (λ other. T.eq other element.now) others.now }
 {

@@ -6,7 +6,7 @@ use Rattle.asn1_fields.specs.Entries.{Component}
 use Rattle.asn1_fields.specs.declared.presence.FieldPresence.TheVariants.{Required}
 use Rattle.asn1_clash.specs.Seen.{component_seen, components_seen}
 use Rattle.asn1_clash.specs.Occurrences.{HasOpen}
-use Rattle.asn1_tags.proofs.PlacesInLists.{position-map}
+use Rattle.asn1_tags.proofs.ListPositions.{position-map}
 use Rattle.asn1_clash.proofs.Occurrences.{none_open, first_open, one_alone}
 use Rattle.asn1_clash.proofs.search.pair_with_open.Goals as goal
 

@@ -2,7 +2,7 @@ use Rattle.std.proofs.Common.{[], ◌∷◌}
 use Rattle.std.proofs.lemmas.Result.{err_from_is_err_and}
 use Rattle.asn1_components.specs.Components.{all_components, component_records, lines}
 use Rattle.asn1_model.specs.Records.{sequence}
-use Rattle.asn1_components.proofs.Apart.{nothing_follows}
+use Rattle.asn1_components.proofs.DistinctFollowers.{nothing_follows}
 use Rattle.asn1_laws.proofs.ReadingSteps.{to_end, fails_inside, flat_failure, within_scope}
 use Rattle.asn1_dec.proofs.sequences.read_sequence.Goals as goal
 

@@ -1,7 +1,7 @@
 use Rattle.std.proofs.Common.{◌∷◌, refl, arith}
 use Rattle.std.proofs.lemmas.Result.{err_from_is_err_and}
 use Rattle.asn1_components.specs.Components.{all_components, lines}
-use Rattle.asn1_components.proofs.Apart.{set_apart}
+use Rattle.asn1_components.proofs.DistinctFollowers.{set_apart}
 use Rattle.asn1_model.specs.Records.{set}
 use Rattle.asn1_laws.proofs.ReadingSteps.{fails_below}
 use Rattle.asn1_laws.proofs.SetRecords.{records}

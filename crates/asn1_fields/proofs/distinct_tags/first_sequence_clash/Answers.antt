@@ -10,13 +10,13 @@ returns-in-Some c =
     let cs = components c.args.fields.now in
     let found =
     search_stops rivals c.args.fields.now c.loop-i.i c.in-Some.between _ c.sequence_rivals-rivals.result.now c.loop-i-test.true c.loop-i.invariant
-    c.sequence_rivals-rivals.ensures (sym c.place_of_clash.ensures ∙ c.in-Some.is) in
+    c.sequence_rivals-rivals.ensures (sym c.index_of_clash.ensures ∙ c.in-Some.is) in
     record { least = subst (IsLeast (IsSequenceClash cs)) found (sequence_clash-is cs); report = sym found }
 
 pub loop-i-preserved : goal.loop-i-preserved
 loop-i-preserved c =
     search_goes_on rivals c.args.fields.now c.loop-i.i _ c.sequence_rivals-rivals.result.now c.loop-i-test.true c.loop-i.invariant
-    c.sequence_rivals-rivals.ensures (sym c.place_of_clash.ensures ∙ c.in_default.is)
+    c.sequence_rivals-rivals.ensures (sym c.index_of_clash.ensures ∙ c.in_default.is)
 
 pub returns : goal.returns
 returns c =

@@ -11,7 +11,7 @@ returns-in-Some c =
     let following = take (length fs - (c.loop-i.i + 1)) (drop (c.loop-i.i + 1) fs) in
     let found =
     search_stops (λ _ others. others) fs c.loop-i.i c.in-Some.between _ following c.loop-i-test.true c.loop-i.invariant
-    refl (sym c.place_of_clash.ensures ∙ c.in-Some.is) in
+    refl (sym c.index_of_clash.ensures ∙ c.in-Some.is) in
     record { least = subst (IsLeast (IsSetClash (components fs))) found (set_clash-is (components fs)); report = sym found }
 
 pub loop-i-preserved : goal.loop-i-preserved
@@ -19,7 +19,7 @@ loop-i-preserved c =
     let fs = c.args.fields.now in
     let following = take (length fs - (c.loop-i.i + 1)) (drop (c.loop-i.i + 1) fs) in
     search_goes_on (λ _ others. others) fs c.loop-i.i _ following c.loop-i-test.true c.loop-i.invariant
-    refl (sym c.place_of_clash.ensures ∙ c.in_default.is)
+    refl (sym c.index_of_clash.ensures ∙ c.in_default.is)
 
 pub returns : goal.returns
 returns c =

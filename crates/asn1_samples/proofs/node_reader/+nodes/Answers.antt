@@ -4,7 +4,7 @@ use Rattle.std.specs.List.{flat_map}
 use Rattle.std.proofs.lemmas.Result.{err_from_is_err_and}
 use Rattle.asn1_laws.proofs.ReadingElements.{another, as_many, filled, further, no_deeper, not_told, start, through}
 use Rattle.asn1_laws.proofs.ReadingSteps.{fails_below, fails_deeper, fails_inside, flat_failure, to_end, within_scope}
-use Rattle.asn1_components.proofs.Apart.{nothing_follows}
+use Rattle.asn1_components.proofs.DistinctFollowers.{nothing_follows}
 use Rattle.asn1_components.specs.Components.{all_components, component_records, lines}
 use Rattle.asn1_model.specs.Meaning.{own_records}
 use Rattle.asn1_model.specs.Records.{highest, sequence}

@@ -21,7 +21,7 @@ loop-start-preserved c =
     subst (Searched c.args.tag.now c.args.table.now c.loop-start.start _ c.loop-start.found) (sym c.compare.ensures.counted)
     (search_greater c.args.tag.now c.args.table.now c.loop-start.start c.loop-start.end c.loop-start.found c.loop-start.meter.comparisons _ c.requires c.loop-start.invariant c.loop-start-test.true (sym c.compare.ensures.order ∙ c.in-Greater.is))
 
-pub returns-clause-place : goal.returns-clause-place
-returns-clause-place c =
+pub returns-clause-index : goal.returns-clause-index
+returns-clause-index c =
     search_ends c.args.tag.now c.args.table.now c.loop-start.start c.loop-start.end c.loop-start.found c.loop-start.meter.comparisons c.loop-start.invariant
     (omega (arith, c.loop-start-test.false)) (c.args.tag.now, 0)

@@ -1,7 +1,7 @@
 use Rattle.std.proofs.Common.{◌↔◌, IsTrue, Contains, sym, subst}
 use Rattle.asn1_components.specs.Enumerations.{added, values}
 use Rattle.asn1_components.proofs.Labels.{is_found}
-use Rattle.asn1_components.proofs.Lines.{place_found}
+use Rattle.asn1_components.proofs.Lines.{index_found}
 use Rattle.asn1_components.proofs.enumerated.Enumerated.is_extended_variant.Goals as goal
 
 pub returns : goal.returns
@@ -10,6 +10,6 @@ returns g c =
     let e = g.Self.EnumeratedItems.enumeration in
     let laws = g.met.Self.Enumerated in
     let v = c.args.self.now in
-    let found = place_found (λ i. eq i.value v) c.added_lines.result.now (added e) c.place_in.result c.place_in.ensures c.added_lines.ensures in
+    let found = index_found (λ i. eq i.value v) c.added_lines.result.now (added e) c.index_in.result c.index_in.ensures c.added_lines.ensures in
     subst (λ b. IsTrue b ↔ Contains (values (added e)) v) (sym c.is_some.ensures)
-    (is_found eq g.met.Self.Eq.laws e laws.complete laws.lawful.distinct (added e) v c.place_in.result found)
+    (is_found eq g.met.Self.Eq.laws e laws.complete laws.lawful.distinct (added e) v c.index_in.result found)

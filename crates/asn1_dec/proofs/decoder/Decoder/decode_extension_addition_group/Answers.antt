@@ -1,6 +1,6 @@
 use Rattle.std.proofs.Common.{◌∷◌, arith, refl, sym}
 use Rattle.std.proofs.lemmas.Result.{err_from_is_err_and}
-use Rattle.asn1_components.proofs.Apart.{group_ends}
+use Rattle.asn1_components.proofs.DistinctFollowers.{group_ends}
 use Rattle.asn1_components.specs.Components.{all_components, lines}
 use Rattle.asn1_model.specs.Records.{group_end, presence_mark}
 use Rattle.asn1_laws.proofs.ReadingGroups.{is_there, not_there, not_told}

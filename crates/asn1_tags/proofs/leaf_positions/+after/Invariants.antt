@@ -1,6 +1,6 @@
 use Rattle.std.proofs.Common.{◌≡◌, ◌+◌, take, length}
 use Rattle.asn1_tags.specs.Trees.{leaves_of, shapes}
-use Rattle.asn1_tags.proofs.places.+after.Given as goal
+use Rattle.asn1_tags.proofs.leaf_positions.+after.Given as goal
 
 -- the leaves so far are skipped
 abbrev pub invariant-leaf_after-loop-node : goal.invariant-leaf_after-loop-node

@@ -10,13 +10,13 @@ use Rattle.asn1_model.specs.Records.{Record}
 use Rattle.asn1_model.specs.Tags.{Has, ShareNone, among, tree_tags, first_tags}
 use Rattle.asn1_fields.specs.DistinctTags.{share_tag, rivals, up_to_required, first_clash, sequence_clash, set_clash}
 use Rattle.asn1_fields.specs.Entries.{Component, may_be_absent}
-use Rattle.asn1_tags.proofs.PlacesInLists.{position-missing}
+use Rattle.asn1_tags.proofs.ListPositions.{position-missing}
 use Rattle.asn1_fields.proofs.SharedTags.{test-from_ShareTag}
 use Rattle.asn1_model.proofs.FirstTags.{first_passes, first_stays}
 use Rattle.asn1_model.proofs.TagSets.{apart_within, lies_has, lies_itself, in_first_tree, in_later_trees}
 use Rattle.asn1_components.specs.ComponentLists.{all_records, seen_by_tags, trees_of, CanBeInSequence, EachIsWellTagged}
 use Rattle.asn1_components.specs.ComponentTypes.{ComponentType, Fits}
-use Rattle.asn1_components.specs.Following.{BeginsApart, Where, records_then, all_may_be_absent, EndsApart, EachApart, ApartFromEach, AllApart}
+use Rattle.asn1_components.specs.Following.{BeginsApart, When, records_then, all_may_be_absent, EndsApart, EachApart, ApartFromEach, AllApart}
 
 -- trees of which the test says that they share no tag
 apart_by_test : (s t : Tree) → share_tag s t ≡ false → ShareNone (tree_tags s) (tree_tags t)
@@ -25,18 +25,18 @@ apart_by_test s t differ tag of_first of_second = false≢true (sym differ ∙ t
 -- the tree shares no tag with the components, up to and including the next that is always there
 abbrev ApartFrom : {V : Type 0} → Tree → List (ComponentType V) → Type 0
 ApartFrom tree [] = ⊤
-ApartFrom tree (c ∷ cs) = ShareNone (tree_tags tree) (tree_tags c.tree) × Where (may_be_absent c.presence) (ApartFrom tree cs)
+ApartFrom tree (c ∷ cs) = ShareNone (tree_tags tree) (tree_tags c.tree) × When (may_be_absent c.presence) (ApartFrom tree cs)
 
-where_then : (b : Bool) (P : Type 0) → (b ≡ true → P) → Where b P
-where_then true P f = f refl
-where_then false P f = tt
+when_then : (b : Bool) (P : Type 0) → (b ≡ true → P) → When b P
+when_then true P f = f refl
+when_then false P f = tt
 
 apart_from : {V : Type 0} (tree : Tree) (cs : List (ComponentType V)) →
     ((k : ℕ) (d : Component) → slice_get (up_to_required (seen_by_tags cs)) k ≡ Some d → share_tag tree d.tree ≡ false) → ApartFrom tree cs
 apart_from tree [] unshared = tt
 apart_from tree (c ∷ cs) unshared = (
   apart_by_test tree c.tree (unshared 0 (record { presence = c.presence; tree = c.tree }) refl),
-  where_then (may_be_absent c.presence) (ApartFrom tree cs) (λ absent. apart_from tree cs (λ k d at.
+  when_then (may_be_absent c.presence) (ApartFrom tree cs) (λ absent. apart_from tree cs (λ k d at.
       unshared (suc k) d (ap (λ b. slice_get (cond b (up_to_required (seen_by_tags cs)) []) k) absent ∙ at))),
 )
 
@@ -56,7 +56,7 @@ map_none : {X Y : Type 0} (f : X → Y) (o : Option X) → option_map f o ≡ No
 map_none f None e = refl
 map_none f (Some x) e = cc
 
--- no clash at the first place, and none after it
+-- no clash at the first index, and none after it
 no_clash_parts : (others : Component → List Component → List Component) (c : Component) (cs : List Component) → first_clash others (c ∷ cs) ≡ None →
     ((k : ℕ) (d : Component) → slice_get (others c cs) k ≡ Some d → share_tag c.tree d.tree ≡ false) × (first_clash others cs ≡ None)
 no_clash_parts others c cs e =
@@ -67,13 +67,13 @@ no_clash_parts others c cs e =
 
 abbrev Distinct : {V : Type 0} → List (ComponentType V) → Type 0
 Distinct [] = ⊤
-Distinct (c ∷ cs) = Where (may_be_absent c.presence) (ApartFrom c.tree cs) × Distinct cs
+Distinct (c ∷ cs) = When (may_be_absent c.presence) (ApartFrom c.tree cs) × Distinct cs
 
 distinct_by_test : {V : Type 0} (cs : List (ComponentType V)) → sequence_clash (seen_by_tags cs) ≡ None → Distinct cs
 distinct_by_test [] e = tt
 distinct_by_test (c ∷ cs) e =
     let parts = no_clash_parts rivals (record { presence = c.presence; tree = c.tree }) (seen_by_tags cs) e in (
-      where_then (may_be_absent c.presence) (ApartFrom c.tree cs) (λ absent. apart_from c.tree cs (λ k d at.
+      when_then (may_be_absent c.presence) (ApartFrom c.tree cs) (λ absent. apart_from c.tree cs (λ k d at.
           parts.0 k d (ap (λ b. slice_get (cond b (up_to_required (seen_by_tags cs)) []) k) absent ∙ at))),
       distinct_by_test cs parts.1,
     )
@@ -86,34 +86,34 @@ set_apart (c ∷ cs) e =
     (apart_from_each c.tree cs parts.0, set_apart cs parts.1)
 
 passes_or_stays : (tree : Tree) {V : Type 0} (c : ComponentType V) (v : V) (rest : List Record) → ShareNone (tree_tags tree) (tree_tags c.tree) → Fits c.presence c.tree (c.records v) →
-    Where (may_be_absent c.presence) (BeginsApart tree rest) → BeginsApart tree (c.records v ++ rest)
+    When (may_be_absent c.presence) (BeginsApart tree rest) → BeginsApart tree (c.records v ++ rest)
 passes_or_stays tree c v rest apart (inl b) later =
     subst (λ a. ShareNone (tree_tags tree) a) (sym (first_stays (c.records v) rest b.some)) (apart_within (tree_tags tree) (first_tags (c.records v)) (tree_tags c.tree) apart b.within)
 passes_or_stays tree c v rest apart (inr m) later =
-    subst (λ a. ShareNone (tree_tags tree) a) (sym (first_passes (c.records v) rest m.1)) (subst (λ b. Where b (BeginsApart tree rest)) m.0 later)
+    subst (λ a. ShareNone (tree_tags tree) a) (sym (first_passes (c.records v) rest m.1)) (subst (λ b. When b (BeginsApart tree rest)) m.0 later)
 
-where_and : (a b : Bool) (P : Type 0) → Where (a && b) P → Where a (Where b P)
-where_and true b P h = h
-where_and false b P h = tt
+when_and : (a b : Bool) (P : Type 0) → When (a && b) P → When a (When b P)
+when_and true b P h = h
+when_and false b P h = tt
 
-where_both : (b : Bool) (P Q R : Type 0) → (P → Q → R) → Where b P → Where b Q → Where b R
-where_both true P Q R f p q = f p q
-where_both false P Q R f p q = tt
+when_both : (b : Bool) (P Q R : Type 0) → (P → Q → R) → When b P → When b Q → When b R
+when_both true P Q R f p q = f p q
+when_both false P Q R f p q = tt
 
 -- over the components after one that may be absent
 over_all : {V : Type 0} (tree : Tree) (cs : List (ComponentType V)) (v : V) (rest : List Record) → ApartFrom tree cs → EachIsWellTagged cs →
-    Where (all_may_be_absent cs) (BeginsApart tree rest) → BeginsApart tree (records_then cs v rest)
+    When (all_may_be_absent cs) (BeginsApart tree rest) → BeginsApart tree (records_then cs v rest)
 over_all tree [] v rest apart can later = later
 over_all tree (c ∷ cs) v rest apart can later =
     passes_or_stays tree c v (records_then cs v rest) apart.0 (c.fits can.0 v)
-    (where_both (may_be_absent c.presence) (ApartFrom tree cs) (Where (all_may_be_absent cs) (BeginsApart tree rest)) (BeginsApart tree (records_then cs v rest))
-    (λ a l. over_all tree cs v rest a can.1 l) apart.1 (where_and (may_be_absent c.presence) (all_may_be_absent cs) (BeginsApart tree rest) later))
+    (when_both (may_be_absent c.presence) (ApartFrom tree cs) (When (all_may_be_absent cs) (BeginsApart tree rest)) (BeginsApart tree (records_then cs v rest))
+    (λ a l. over_all tree cs v rest a can.1 l) apart.1 (when_and (may_be_absent c.presence) (all_may_be_absent cs) (BeginsApart tree rest) later))
 
 each_apart : {V : Type 0} (cs : List (ComponentType V)) (v : V) (rest : List Record) → Distinct cs → EachIsWellTagged cs → EndsApart cs rest → EachApart cs v rest
 each_apart [] v rest distinct can ends = tt
 each_apart (c ∷ cs) v rest distinct can ends = (
-  where_both (may_be_absent c.presence) (ApartFrom c.tree cs) (Where (all_may_be_absent cs) (BeginsApart c.tree rest)) (BeginsApart c.tree (records_then cs v rest))
-      (λ a l. over_all c.tree cs v rest a can.1 l) distinct.0 (where_and (may_be_absent c.presence) (all_may_be_absent cs) (BeginsApart c.tree rest) ends.0),
+  when_both (may_be_absent c.presence) (ApartFrom c.tree cs) (When (all_may_be_absent cs) (BeginsApart c.tree rest)) (BeginsApart c.tree (records_then cs v rest))
+      (λ a l. over_all c.tree cs v rest a can.1 l) distinct.0 (when_and (may_be_absent c.presence) (all_may_be_absent cs) (BeginsApart c.tree rest) ends.0),
   each_apart cs v rest distinct.1 can.1 ends.1,
 )
 
@@ -122,9 +122,9 @@ pub sequence_apart : {V : Type 0} (cs : List (ComponentType V)) → CanBeInSeque
 sequence_apart cs sequence v rest ends = each_apart cs v rest (distinct_by_test cs sequence.1) sequence.0 ends
 
 -- What does not begin with a tag of a group does not begin with one of its last components.
-where_const : (b : Bool) (P : Type 0) → P → Where b P
-where_const true P h = h
-where_const false P h = tt
+when_const : (b : Bool) (P : Type 0) → P → When b P
+when_const true P h = h
+when_const false P h = tt
 
 -- of what comes after the first component of a group, the same holds
 after_first : {V : Type 0} (c : ComponentType V) (cs : List (ComponentType V)) (rest : List Record) → BeginsApart (choice (trees_of (c ∷ cs))) rest →
@@ -137,7 +137,7 @@ after_first c (d ∷ ds) rest apart later = later (λ t h.
 pub group_ends : {V : Type 0} (cs : List (ComponentType V)) (rest : List Record) → BeginsApart (choice (trees_of cs)) rest → EndsApart cs rest
 group_ends [] rest apart = tt
 group_ends (c ∷ cs) rest apart = (
-  where_const (may_be_absent c.presence && all_may_be_absent cs) (BeginsApart c.tree rest) (λ t h.
+  when_const (may_be_absent c.presence && all_may_be_absent cs) (BeginsApart c.tree rest) (λ t h.
       apart t (lies_has (tree_tags c.tree) (tree_tags (choice (trees_of (c ∷ cs)))) (in_first_tree (tree_tags c.tree) c.tree (trees_of cs) (lies_itself (tree_tags c.tree))) t h)),
   after_first c cs rest apart (group_ends cs rest),
 )
@@ -149,7 +149,7 @@ none_in t (k, below, same) = omega (arith, below)
 pub nothing_follows : {V : Type 0} (cs : List (ComponentType V)) → EndsApart cs []
 nothing_follows [] = tt
 nothing_follows (c ∷ cs) = (
-  where_const (may_be_absent c.presence && all_may_be_absent cs) (BeginsApart c.tree []) (λ t of_tree of_none. none_in t of_none),
+  when_const (may_be_absent c.presence && all_may_be_absent cs) (BeginsApart c.tree []) (λ t of_tree of_none. none_in t of_none),
   nothing_follows cs,
 )
 

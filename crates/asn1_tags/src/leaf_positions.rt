@@ -2,34 +2,34 @@
 #![tactic(auto, using(crate::proofs::Leaves::tree_shapes, crate::proofs::Positions::steps))]
 
 ghost use Rattle.std.specs.Prelude.{◌<◌, ◌^◌, length};
-ghost use Rattle.asn1_tags.specs.Walks.{IsFirstPlaceOf, IsTagAfter};
+ghost use Rattle.asn1_tags.specs.Walks.{IsFirstIndexOf, IsTagAfter};
 ghost use Rattle.asn1_tags.specs.Trees.{leaves, leaves_of, shape, shapes};
 
 use crate::tags::Tag;
 use crate::trees::TagTree;
 
-// The place of the first leaf of the tree that is the tag, or how many leaves there are.
+// The index of the first leaf of the tree that is the tag, or how many leaves there are.
 #[cycle(find)]
 fn first_in(tree: &TagTree<'_>, tag: &Tag) -> Result<usize, usize>
     ensures { length (leaves (shape tree.now)) < 2 ^ 64 →
-        IsFirstPlaceOf tag.now (leaves (shape tree.now)) result }
+        IsFirstIndexOf tag.now (leaves (shape tree.now)) result }
 {
     match tree {
         TagTree::Leaf(leaf) => { if leaf.const_eq(tag) { Ok(0) } else { Err(1) } }
-        TagTree::Choice(nodes) => first_place(nodes, tag),
+        TagTree::Choice(nodes) => first_index(nodes, tag),
     }
 }
 
-// The place of the first leaf of the trees that is the tag, or how many leaves there are.
+// The index of the first leaf of the trees that is the tag, or how many leaves there are.
 #[cycle(find)]
-pub(crate) fn first_place(nodes: &[TagTree<'_>], tag: &Tag) -> Result<usize, usize>
+pub(crate) fn first_index(nodes: &[TagTree<'_>], tag: &Tag) -> Result<usize, usize>
     ensures { length (leaves_of (shapes nodes.now)) < 2 ^ 64 →
-        IsFirstPlaceOf tag.now (leaves_of (shapes nodes.now)) result }
+        IsFirstIndexOf tag.now (leaves_of (shapes nodes.now)) result }
 {
     let mut passed: usize = 0;
     for node in nodes {
         match first_in(node, tag) {
-            Ok(place) => return Ok(passed.saturating_add(place)),
+            Ok(index) => return Ok(passed.saturating_add(index)),
             Err(count) => passed = passed.saturating_add(count),
         }
     }

@@ -1,4 +1,4 @@
--- Places in lists.
+-- Positions in lists.
 use Rattle.std.proofs.Common.{◌≡◌, ℕ, ◌+◌, ◌<◌, ◌≤◌, Bool, true, false, cond, not, nat_lt, Option, Some, None, List, [], ◌∷◌, ◌++◌, Contains, length, length-append, get_or, map, refl, ap, ◌∙◌, subst, arith}
 use Rattle.std.specs.List.{position, position_or_len, prefix_len, slice_get}
 use Rattle.std.proofs.lemmas.Bool.Decides.{nat_tests}
@@ -8,7 +8,7 @@ use Rattle.std.proofs.lemmas.List.Quantifiers.{position-Some}
 use Rattle.std.proofs.lemmas.List.Sums.{fails_before_first}
 use Rattle.std.proofs.lemmas.Option.{get_or_from_slice_get, slice_get-get_or, slice_get_within}
 
--- places in a list that is mapped
+-- indices in a list that is mapped
 prefix_len-map : {X Y : Type 0} (p : Y → Bool) (f : X → Y) (xs : List X) → prefix_len p (map f xs) ≡ prefix_len (λ x. p (f x)) xs
 prefix_len-map p f [] = refl
 prefix_len-map p f (x ∷ xs) = ap (λ n. cond (p (f x)) (1 + n) 0) (prefix_len-map p f xs)
@@ -16,10 +16,10 @@ prefix_len-map p f (x ∷ xs) = ap (λ n. cond (p (f x)) (1 + n) 0) (prefix_len-
 pub position-map : {X Y : Type 0} (p : Y → Bool) (f : X → Y) (xs : List X) → position p (map f xs) ≡ position (λ x. p (f x)) xs
 position-map p f xs =
     let at : ℕ = prefix_len (λ x. not (p (f x))) xs in
-    let place : ℕ → ℕ → Option ℕ = λ m n. cond (nat_lt m n) (Some m) None in
-    ap (λ m. place m (length (map f xs))) (prefix_len-map (λ y. not (p y)) f xs) ∙ ap (place at) (length-map xs f)
+    let index : ℕ → ℕ → Option ℕ = λ m n. cond (nat_lt m n) (Some m) None in
+    ap (λ m. index m (length (map f xs))) (prefix_len-map (λ y. not (p y)) f xs) ∙ ap (index at) (length-map xs f)
 
--- what a place that is found says
+-- what an index that is found says
 pub position-found : {X : Type 0} (p : X → Bool) (xs : List X) (i : ℕ) (d : X) → position p xs ≡ Some i →
     (x : X) × (slice_get xs i ≡ Some x) × (p x ≡ true) × ((k : ℕ) (y : X) → k < i → slice_get xs k ≡ Some y → p y ≡ false)
 position-found p xs i d e =
@@ -37,11 +37,11 @@ position-missing p xs k y e at =
     let within = slice_get_within xs k y at in
     subst (λ x. p x ≡ false) (get_or_from_slice_get xs k y y at) (fails_before_first p xs k y (omega arith))
 
--- what is at a place is in the list
+-- what is at an index is in the list
 pub Contains-from_slice_get : {X : Type 0} (xs : List X) (i : ℕ) (x : X) → slice_get xs i ≡ Some x → Contains xs x
 Contains-from_slice_get xs i x at = (i, slice_get_within xs i x at, get_or_from_slice_get xs i x x at)
 
--- the places in two lists, one after the other
+-- the indices in two lists, one after the other
 pub slice_get-append_left : {X : Type 0} (xs ys : List X) (i : ℕ) (x : X) → slice_get xs i ≡ Some x → slice_get (xs ++ ys) i ≡ Some x
 slice_get-append_left xs ys i x at =
     let lt = slice_get_within xs i x at in
