@@ -3,7 +3,7 @@
 
     python3 bench/append.py
 
-proves and builds the program asn1_append first, which appends the bytes and takes blocks of 1000 of them: after each piece, or when
+proves and builds the program measure_codecs first, which appends the bytes and takes blocks of 1000 of them: after each piece, or when
 all is appended. It prints the seconds of processor time for each, the best of five, without what making the bytes costs, and how
 they compare with those of one piece.
 """
@@ -12,30 +12,30 @@ import resource
 import subprocess
 
 ROOT = os.path.dirname(os.path.dirname(os.path.abspath(__file__)))
-CRATE = os.path.join(ROOT, "crates", "asn1_append")
-PROGRAM = os.path.join(CRATE, "out", "asn1_append")
+CRATE = os.path.join(ROOT, "crates", "measure_codecs")
+PROGRAM = os.path.join(CRATE, "out", "measure_codecs")
 TOTAL = 100 * 10**6
 
 
-def seconds(size, *late):
+def seconds(size, when="early"):
     """The least processor time in seconds of five runs with pieces of this size; 0 appends nothing."""
     least = float("inf")
     for _ in range(5):
         before = resource.getrusage(resource.RUSAGE_CHILDREN)
-        subprocess.run([PROGRAM, str(TOTAL), str(size), *late], stdout=subprocess.DEVNULL, check=True)
+        subprocess.run([PROGRAM, "append", str(TOTAL), str(size), when], stdout=subprocess.DEVNULL, check=True)
         after = resource.getrusage(resource.RUSAGE_CHILDREN)
         least = min(least, after.ru_utime + after.ru_stime - before.ru_utime - before.ru_stime)
     return least
 
 
 def main():
-    subprocess.run(["rt", "run", "--", "10000", "1024"], cwd=CRATE, stdin=subprocess.DEVNULL, check=True)
+    subprocess.run(["rt", "run", "--", "append", "10000", "1024", "early"], cwd=CRATE, stdin=subprocess.DEVNULL, check=True)
     nothing = seconds(0)
     at_once = seconds(TOTAL) - nothing
     print(f"100 MB in one piece: {at_once:.3f} s")
-    for when, late in ("taken as they come", []), ("taken at the end", ["late"]):
-        in_pieces = seconds(1024, *late) - nothing
-        print(f"100 MB in pieces of 1 KB, {when}: {in_pieces:.3f} s; ratio {in_pieces / at_once:.2f}")
+    for text, when in ("taken as they come", "early"), ("taken at the end", "late"):
+        in_pieces = seconds(1024, when) - nothing
+        print(f"100 MB in pieces of 1 KB, {text}: {in_pieces:.3f} s; ratio {in_pieces / at_once:.2f}")
 
 
 main()

@@ -4,7 +4,7 @@
     python3 bench/certificates.py
     python3 bench/certificates.py PROGRAM
 
-proves and builds the program asn1_certificate_bench, which reads a certificate and writes it again as often as it is told; or takes
+proves and builds the program measure_certificates, which reads a certificate and writes it again as often as it is told; or takes
 this PROGRAM in its place. It builds bench/plain_certificates.rs, a program in plain Rust that does the same job, by `rustc -O` for the
 processor for which `rt` builds, in two forms: one makes the same values as the layer, with a `bool` for each bit of a BIT STRING, and
 one keeps the bits in bytes. It checks that all write as many bytes, with the same checksum, for each certificate of
@@ -24,8 +24,8 @@ import sys
 import tempfile
 
 ROOT = os.path.dirname(os.path.dirname(os.path.abspath(__file__)))
-CRATE = os.path.join(ROOT, "crates", "asn1_certificate_bench")
-PROGRAM = os.path.join(CRATE, "out", "asn1_certificate_bench")
+CRATE = os.path.join(ROOT, "crates", "measure_certificates")
+PROGRAM = os.path.join(CRATE, "out", "measure_certificates")
 PLAIN = os.path.join(ROOT, "bench", "plain_certificates.rs")
 LIBRARY = os.path.join(ROOT, "bench", "library_certificates.rs")
 REGISTRY = "/usr/share/cargo/registry"

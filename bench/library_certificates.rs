@@ -1,4 +1,4 @@
-//! What `asn1_certificate_bench` does with a certificate, by the library x509-cert, which stands on der, for comparing times.
+//! What `measure_certificates` does with a certificate, by the library x509-cert, which stands on der, for comparing times.
 //! `bench/certificates.py` builds it where Debian's package of the library is there.
 
 use std::env;

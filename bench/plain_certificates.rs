@@ -1,4 +1,4 @@
-//! What `asn1_certificate_bench` does with a certificate, in plain Rust, for comparing times: the same fields, each an owned value, the
+//! What `measure_certificates` does with a certificate, in plain Rust, for comparing times: the same fields, each an owned value, the
 //! same refusals, and no proof. It knows DER and these types alone.
 //!
 //!     rustc -O --edition 2024 bench/plain_certificates.rs -o plain_certificates

@@ -1,4 +1,4 @@
-//! What `asn1_speed` does with lists and chains, in plain Rust, for comparing times: the same values and bytes, the same refusals,
+//! What `measure_codecs` does with lists and chains, in plain Rust, for comparing times: the same values and bytes, the same refusals,
 //! of memory too, and no proof. Its arguments are as there: `packed write person 100000 10`. There are more forms: with `-aborting`
 //! after the name of one the program aborts if memory runs out, and `packed-with-table` makes a table of tags.
 //!

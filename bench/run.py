@@ -1,6 +1,6 @@
 #!/usr/bin/env python3
 """Times asn1_check on inputs of 1, 10 and 100 MB, and measures its peak memory; or compares it with plain Rust; or does the same
-with the codecs over bytes, of which asn1_speed is the program, or with certificates; or tries the codecs, by asn1_trials.
+with the codecs over bytes, of which measure_codecs is the program, or with certificates; or tries the codecs, by try_codecs.
 
     python3 bench/run.py
     python3 bench/run.py --plain
@@ -38,12 +38,12 @@ import time
 ROOT = os.path.dirname(os.path.dirname(os.path.abspath(__file__)))
 CRATE = os.path.join(ROOT, "crates", "asn1_check")
 PROGRAM = os.path.join(CRATE, "out", "asn1_check")
-SPEED = os.path.join(ROOT, "crates", "asn1_speed")
-SPEED_PROGRAM = os.path.join(SPEED, "out", "asn1_speed")
-TRIALS = os.path.join(ROOT, "crates", "asn1_trials")
-TRIALS_PROGRAM = os.path.join(TRIALS, "out", "asn1_trials")
+SPEED = os.path.join(ROOT, "crates", "measure_codecs")
+SPEED_PROGRAM = os.path.join(SPEED, "out", "measure_codecs")
+TRIALS = os.path.join(ROOT, "crates", "try_codecs")
+TRIALS_PROGRAM = os.path.join(TRIALS, "out", "try_codecs")
 CERTIFICATES = os.path.join(ROOT, "bench", "certificates.py")
-CERTIFICATES_PROGRAM = os.path.join(ROOT, "crates", "asn1_certificate_bench", "out", "asn1_certificate_bench")
+CERTIFICATES_PROGRAM = os.path.join(ROOT, "crates", "measure_certificates", "out", "measure_certificates")
 
 
 def wide_tree(step):

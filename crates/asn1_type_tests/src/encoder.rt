@@ -1,4 +1,0 @@
-//! What a codec is told beside the records. The records of each type and of each call are tested
-//! over a codec that keeps them, in `asn1_bench_tests`.
-mod listener;
-mod told;
