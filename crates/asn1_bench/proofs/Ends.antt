@@ -7,7 +7,7 @@ use Rattle.asn1_laws.specs.declared.decode_error.DecodeError.{DecodeError}
 use Rattle.asn1_items.specs.Items.{HaveBytes, MarkBytes, read_with}
 use Rattle.asn1_model.proofs.SameRecords.{same-mark}
 use Rattle.asn1_model.proofs.SameUpToOrder.{same_as_mark}
-use Rattle.asn1_model.specs.Orders.{Same}
+use Rattle.asn1_model.specs.Orders.{SameRecord}
 use Rattle.asn1_model.specs.Records.{Record, held, is_presence_mark, scalar, scope, open_type, presence_mark}
 use Rattle.asn1_bench.proofs.Remaining.{is_form}
 use Rattle.asn1_bench.specs.Carried.{TakesBytes}
@@ -22,7 +22,7 @@ no_mark_takes marks (scope h rs) e = tt
 no_mark_takes marks (open_type n own) e = tt
 no_mark_takes marks (presence_mark m) e = cc
 
-same_takes : (marks : MarkBytes) (q r : Record) → Same q r → TakesBytes marks r → TakesBytes marks q
+same_takes : (marks : MarkBytes) (q r : Record) → SameRecord q r → TakesBytes marks r → TakesBytes marks q
 same_takes marks q (scalar t c n x) same accepts = no_mark_takes marks q (same-mark same)
 same_takes marks q (scope h rs) same accepts = no_mark_takes marks q (same-mark same)
 same_takes marks q (open_type n own) same accepts = no_mark_takes marks q (same-mark same)

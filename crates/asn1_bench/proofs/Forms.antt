@@ -4,7 +4,7 @@ use Rattle.std.proofs.lemmas.List.Elements.{All-nil, All-cons, All-head, All-tai
 use Rattle.std.proofs.lemmas.List.Sorted.{All-permutation, IsPermutation-sym}
 use Rattle.asn1_items.specs.Headers.{is_one_item}
 use Rattle.asn1_items.specs.Items.{HasBytes, HaveBytes, MarkBytes, read_with, written_with}
-use Rattle.asn1_model.specs.Orders.{Same, SameAll, equal, in_place, in_any_order, at_end, next}
+use Rattle.asn1_model.specs.Orders.{SameRecord, SameAll, equal, one_by_one, in_any_order, at_end, next}
 use Rattle.asn1_model.specs.Records.{Record, Records, scalar, scope, open_type, presence_mark, none, more, held, listed}
 use Rattle.asn1_model.specs.WellFormed.{AreWellFormed, IsWellFormed, EachIsWellFormed}
 use Rattle.asn1_bench.specs.Carried.{CarriesWith}
@@ -48,9 +48,9 @@ each_readable none t = tt
 each_readable (more r rs) t = (All-head (λ r. IsReadable r) r (listed rs) t, each_readable rs (All-tail (λ r. IsReadable r) r (listed rs) t))
 
 mutual
-  same_readable : {r s : Record} → Same r s → IsReadable s → IsReadable r
+  same_readable : {r s : Record} → SameRecord r s → IsReadable s → IsReadable r
   same_readable (equal r) t = t
-  same_readable (in_place h all) t = all_same_readable all t
+  same_readable (one_by_one h all) t = all_same_readable all t
   same_readable (in_any_order h {qs = qs} {ss = ss} unordered all moved) t =
       all_same_readable all (each_readable qs (All-permutation (λ r. IsReadable r) (listed ss) (listed qs) (IsPermutation-sym (listed qs) (listed ss) moved) (readable_each ss t)))
 

@@ -9,7 +9,7 @@ use Rattle.asn1_items.specs.Items.{HasBytes, HaveBytes, packed_marks, written_wi
 use Rattle.asn1_model.proofs.SameRecords.{same-mark}
 use Rattle.asn1_model.proofs.SameUpToOrder.{same_as_cons, same_as_none}
 use Rattle.asn1_model.specs.Meaning.{Meaning, IsWellTagged}
-use Rattle.asn1_model.specs.Orders.{Same, SameRecords, equal}
+use Rattle.asn1_model.specs.Orders.{SameRecord, SameRecords, equal}
 use Rattle.asn1_model.specs.Records.{Name, Record, held, is_presence_mark, presence_mark, more, none, open_type, scalar, scope}
 use Rattle.asn1_model.specs.Tags.{IsOneRecord, Tags, head_tag}
 use Rattle.asn1_model.specs.WellFormed.{AreWellFormed, IsWellFormed}
@@ -43,11 +43,11 @@ cuts_items = record {
 }
 
 -- the bytes of an open type in a well-formed record are one item
-taken : (n : Name) (own : List ℕ) (s : Record) → Same (open_type n own) s → IsWellFormed (λ own. is_one_item own) s → is_one_item own ≡ true
+taken : (n : Name) (own : List ℕ) (s : Record) → SameRecord (open_type n own) s → IsWellFormed (λ own. is_one_item own) s → is_one_item own ≡ true
 taken n own _ (equal _) well_formed = well_formed
 
 -- a record that is no presence mark is one item
-item_of : (r s : Record) (bytes : List ℕ) → Same r s → is_presence_mark s ≡ false → IsWellFormed (λ own. is_one_item own) s → HasBytes (written_with packed_marks) r bytes → IsOneItem bytes []
+item_of : (r s : Record) (bytes : List ℕ) → SameRecord r s → is_presence_mark s ≡ false → IsWellFormed (λ own. is_one_item own) s → HasBytes (written_with packed_marks) r bytes → IsOneItem bytes []
 item_of (scalar t c n x) s bytes same no_mark well_formed p = record {
   header = record { kind = 1; tag = t; content = content_kind x; size = length p.inside; body = p.inside ++ [] };
   at = content_item t (content_kind x) p.inside bytes [] p.item;
@@ -76,7 +76,7 @@ cut_of_item bytes item =
       long = omega (arith, long);
     }
 
-cut_alone : (r s : Record) (bytes : List ℕ) → Same r s → is_presence_mark s ≡ false → IsWellFormed (λ own. is_one_item own) s → HaveBytes (written_with packed_marks) (more r none) bytes → IsCut bytes (length bytes)
+cut_alone : (r s : Record) (bytes : List ℕ) → SameRecord r s → is_presence_mark s ≡ false → IsWellFormed (λ own. is_one_item own) s → HaveBytes (written_with packed_marks) (more r none) bytes → IsCut bytes (length bytes)
 cut_alone r s bytes same no_mark well_formed p =
     let is : bytes ≡ p.first = p.are ∙ ap (λ l. p.first ++ l) p.are_others ∙ append-nil p.first in
     subst (λ l. IsCut l (length l)) (sym is) (cut_of_item p.first (item_of r s p.first same no_mark well_formed p.is_first))

@@ -17,7 +17,7 @@ use Rattle.asn1_items.specs.Contents.{AreUnits, IsContent}
 use Rattle.asn1_items.specs.Items.{HasBytes, HaveBytes, IsItem, IsTooLong, MarkBytes, SomeTooLong, written_with}
 use Rattle.asn1_items.specs.Numbers.{AreFours, AreTwos, IsInteger, four_bytes, two_bytes}
 use Rattle.asn1_items.specs.Headers.{kind_of, tag_bytes}
-use Rattle.asn1_model.specs.Orders.{Same, SameAll, equal, in_place, in_any_order, at_end, next}
+use Rattle.asn1_model.specs.Orders.{SameRecord, SameAll, equal, one_by_one, in_any_order, at_end, next}
 use Rattle.asn1_model.specs.Tags.{head_tag}
 use Rattle.asn1_bench.specs.Carried.{CarriesWith}
 use Rattle.asn1_bench.specs.Written.{item_writer}
@@ -246,9 +246,9 @@ module _ (marks : MarkBytes) where
   moved_fits qs ss moved f = each_fits ss (All-permutation (λ r. Fits marks r) (listed qs) (listed ss) moved (fit_each qs f))
 
   mutual
-    same_size : {r s : Record} → Same r s → size marks r ≡ size marks s
+    same_size : {r s : Record} → SameRecord r s → size marks r ≡ size marks s
     same_size (equal r) = refl
-    same_size (in_place h all) = ap (λ n. 10 + n) (same_sizes all)
+    same_size (one_by_one h all) = ap (λ n. 10 + n) (same_sizes all)
     same_size (in_any_order h {qs = qs} {ss = ss} unordered all moved) = ap (λ n. 10 + n) (same_sizes all ∙ moved_size qs ss moved)
 
     same_sizes : {rs ss : Records} → SameAll rs ss → sizes marks rs ≡ sizes marks ss
@@ -256,9 +256,9 @@ module _ (marks : MarkBytes) where
     same_sizes (next same all) = omega (arith, same_size same, same_sizes all)
 
   mutual
-    fits_there : {r s : Record} → Same r s → Fits marks r → Fits marks s
+    fits_there : {r s : Record} → SameRecord r s → Fits marks r → Fits marks s
     fits_there (equal r) f = f
-    fits_there (in_place h all) f = (all_there all f.0, omega (arith, same_sizes all, f.1))
+    fits_there (one_by_one h all) f = (all_there all f.0, omega (arith, same_sizes all, f.1))
     fits_there (in_any_order h {qs = qs} {ss = ss} unordered all moved) f =
         (moved_fits qs ss moved (all_there all f.0), omega (arith, same_sizes all, moved_size qs ss moved, f.1))
 
@@ -267,9 +267,9 @@ module _ (marks : MarkBytes) where
     all_there (next same all) f = (fits_there same f.0, all_there all f.1)
 
   mutual
-    fits_back : {r s : Record} → Same r s → Fits marks s → Fits marks r
+    fits_back : {r s : Record} → SameRecord r s → Fits marks s → Fits marks r
     fits_back (equal r) f = f
-    fits_back (in_place h all) f = (all_back all f.0, omega (arith, same_sizes all, f.1))
+    fits_back (one_by_one h all) f = (all_back all f.0, omega (arith, same_sizes all, f.1))
     fits_back (in_any_order h {qs = qs} {ss = ss} unordered all moved) f =
         (all_back all (moved_fits ss qs (IsPermutation-sym (listed qs) (listed ss) moved) f.0), omega (arith, same_sizes all, moved_size qs ss moved, f.1))
 

@@ -6,7 +6,7 @@ use Rattle.std.proofs.lemmas.List.{take_more}
 use Rattle.std.proofs.lemmas.List.Elements.{All-nil, All-cons, All-head, All-tail, All-take}
 use Rattle.asn1_bounds.specs.Admitted.{HasValue, HasLength, IsPermitted, common_characters}
 use Rattle.asn1_bounds.specs.ConstraintKind.{alphabet_of}
-use Rattle.asn1_bounds.specs.Sets.{both_values, both_sizes, part_intersection, parts_intersection, set_intersection, no_constraints, set_of, set_of_all, AdmitsValue, AdmitsLength, AdmitsCharacter}
+use Rattle.asn1_bounds.specs.Sets.{common_values, common_sizes, part_intersection, parts_intersection, set_intersection, no_constraints, set_of_one, set_of_all, AdmitsValue, AdmitsLength, AdmitsCharacter}
 use Rattle.asn1_bounds.specs.declared.alphabet.PermittedAlphabet.{PermittedAlphabet}
 use Rattle.asn1_bounds.specs.declared.constraint.Constraint.{Constraint}
 use Rattle.asn1_bounds.specs.declared.constraint.Constraint.TheVariants as constraint
@@ -37,51 +37,51 @@ module _ {T : Type 0} (both : T → T → T) where
     parts_intersection-assoc (Some a) (Some b) None = refl
     parts_intersection-assoc (Some a) (Some b) (Some c) = ap Some (part_intersection-assoc a b c)
 
-both_values-assoc : (a b c : Value) → both_values (both_values a b) c ≡ both_values a (both_values b c)
-both_values-assoc a b c = rw (value_intersection-assoc a.bound b.bound c.bound) refl
+common_values-assoc : (a b c : Value) → common_values (common_values a b) c ≡ common_values a (common_values b c)
+common_values-assoc a b c = rw (value_intersection-assoc a.bound b.bound c.bound) refl
 
-both_sizes-assoc : (a b c : Size) → both_sizes (both_sizes a b) c ≡ both_sizes a (both_sizes b c)
-both_sizes-assoc a b c = rw (size_intersection-assoc a.bound b.bound c.bound) refl
+common_sizes-assoc : (a b c : Size) → common_sizes (common_sizes a b) c ≡ common_sizes a (common_sizes b c)
+common_sizes-assoc a b c = rw (size_intersection-assoc a.bound b.bound c.bound) refl
 
 pub set_intersection-assoc : (a b c : Constraints) → set_intersection (set_intersection a b) c ≡ set_intersection a (set_intersection b c)
 set_intersection-assoc a b c =
     rw (
-      parts_intersection-assoc both_values both_values-assoc a.value b.value c.value,
-      parts_intersection-assoc both_sizes both_sizes-assoc a.size b.size c.size,
+      parts_intersection-assoc common_values common_values-assoc a.value b.value c.value,
+      parts_intersection-assoc common_sizes common_sizes-assoc a.size b.size c.size,
       parts_intersection-assoc common_characters common_characters-assoc a.permitted_alphabet b.permitted_alphabet c.permitted_alphabet,
       or_assoc a.extensible b.extensible c.extensible,
     ) refl
 
 pub set_intersection-none : (a : Constraints) → set_intersection a no_constraints ≡ a
 set_intersection-none a =
-    rw (parts_intersection-none both_values a.value, parts_intersection-none both_sizes a.size, parts_intersection-none common_characters a.permitted_alphabet, or-false a.extensible) refl
+    rw (parts_intersection-none common_values a.value, parts_intersection-none common_sizes a.size, parts_intersection-none common_characters a.permitted_alphabet, or-false a.extensible) refl
 
 -- the set of one list followed by another
 pub set_of_all-append : (xs ys : List Constraint) → set_of_all (xs ++ ys) ≡ set_intersection (set_of_all xs) (set_of_all ys)
 set_of_all-append [] ys = refl
 set_of_all-append (x ∷ xs) ys =
-    ap (set_intersection (set_of x)) (set_of_all-append xs ys) ∙ sym (set_intersection-assoc (set_of x) (set_of_all xs) (set_of_all ys))
+    ap (set_intersection (set_of_one x)) (set_of_all-append xs ys) ∙ sym (set_intersection-assoc (set_of_one x) (set_of_all xs) (set_of_all ys))
 
 -- one more constraint of a list
 set_of_all-take : (xs : List Constraint) (i : ℕ) (d : Constraint) → i < length xs →
-    set_intersection (set_of_all (take i xs)) (set_of (get_or xs i d)) ≡ set_of_all (take (i + 1) xs)
+    set_intersection (set_of_all (take i xs)) (set_of_one (get_or xs i d)) ≡ set_of_all (take (i + 1) xs)
 set_of_all-take xs i d h =
     rw (take_more xs i d h)
-    (sym (set_of_all-append (take i xs) (get_or xs i d ∷ []) ∙ ap (set_intersection (set_of_all (take i xs))) (set_intersection-none (set_of (get_or xs i d)))))
+    (sym (set_of_all-append (take i xs) (get_or xs i d ∷ []) ∙ ap (set_intersection (set_of_all (take i xs))) (set_intersection-none (set_of_one (get_or xs i d)))))
 
 -- the step of a loop over the list
 pub set_of_all-step : (xs : List Constraint) (i : ℕ) (d : Constraint) (set one new : Constraints) → i < length xs →
-    one ≡ set_of (get_or xs i d) → new ≡ set_intersection set one → set ≡ set_of_all (take i xs) → new ≡ set_of_all (take (i + 1) xs)
+    one ≡ set_of_one (get_or xs i d) → new ≡ set_intersection set one → set ≡ set_of_all (take i xs) → new ≡ set_of_all (take (i + 1) xs)
 set_of_all-step xs i d set one new h p q r = rw (q, p, r) (set_of_all-take xs i d h)
 
 -- the parts of one kind of two sets
-parts-values : (a b : Option (Extensible Value)) (n : ℤ) → MatchOption (parts_intersection both_values a b) ⊤ (λ part. HasValue part.constraint.bound n)
+parts-values : (a b : Option (Extensible Value)) (n : ℤ) → MatchOption (parts_intersection common_values a b) ⊤ (λ part. HasValue part.constraint.bound n)
     ↔ (MatchOption a ⊤ (λ part. HasValue part.constraint.bound n) × MatchOption b ⊤ (λ part. HasValue part.constraint.bound n))
 parts-values None b n = (λ h. (tt, h), λ h. h.1)
 parts-values (Some a) None n = (λ h. (h, tt), λ h. h.0)
 parts-values (Some a) (Some b) n = value_intersection-members a.constraint.bound b.constraint.bound n
 
-parts-lengths : (a b : Option (Extensible Size)) (n : ℕ) → MatchOption (parts_intersection both_sizes a b) ⊤ (λ part. HasLength part.constraint.bound n)
+parts-lengths : (a b : Option (Extensible Size)) (n : ℕ) → MatchOption (parts_intersection common_sizes a b) ⊤ (λ part. HasLength part.constraint.bound n)
     ↔ (MatchOption a ⊤ (λ part. HasLength part.constraint.bound n) × MatchOption b ⊤ (λ part. HasLength part.constraint.bound n))
 parts-lengths None b n = (λ h. (tt, h), λ h. h.1)
 parts-lengths (Some a) None n = (λ h. (h, tt), λ h. h.0)
@@ -104,30 +104,30 @@ set_intersection-characters a b n = parts-characters a.permitted_alphabet b.perm
 
 -- what a set of a list admits each of its constraints does
 module _ (Admits : Constraints → Type 0) (none : Admits no_constraints) (both : (a b : Constraints) → Admits (set_intersection a b) ↔ (Admits a × Admits b)) where
-  all-admit : (cs : List Constraint) → Admits (set_of_all cs) ↔ All (λ c. Admits (set_of c)) cs
-  all-admit [] = (λ _. All-nil (λ c. Admits (set_of c)), λ _. none)
+  all-admit : (cs : List Constraint) → Admits (set_of_all cs) ↔ All (λ c. Admits (set_of_one c)) cs
+  all-admit [] = (λ _. All-nil (λ c. Admits (set_of_one c)), λ _. none)
   all-admit (c ∷ cs) =
-      let first = both (set_of c) (set_of_all cs) in
+      let first = both (set_of_one c) (set_of_all cs) in
       let others = all-admit cs in (
-        λ h. All-cons (λ c. Admits (set_of c)) c cs (first.0 h).0 (others.0 (first.0 h).1),
-        λ h. first.1 (All-head (λ c. Admits (set_of c)) c cs h, others.1 (All-tail (λ c. Admits (set_of c)) c cs h)),
+        λ h. All-cons (λ c. Admits (set_of_one c)) c cs (first.0 h).0 (others.0 (first.0 h).1),
+        λ h. first.1 (All-head (λ c. Admits (set_of_one c)) c cs h, others.1 (All-tail (λ c. Admits (set_of_one c)) c cs h)),
       )
 
-pub set_of_all-values : (cs : List Constraint) (n : ℤ) → AdmitsValue (set_of_all cs) n ↔ All (λ c. AdmitsValue (set_of c) n) cs
+pub set_of_all-values : (cs : List Constraint) (n : ℤ) → AdmitsValue (set_of_all cs) n ↔ All (λ c. AdmitsValue (set_of_one c) n) cs
 set_of_all-values cs n = all-admit (λ set. AdmitsValue set n) tt (λ a b. set_intersection-values a b n) cs
 
-pub set_of_all-lengths : (cs : List Constraint) (n : ℕ) → AdmitsLength (set_of_all cs) n ↔ All (λ c. AdmitsLength (set_of c) n) cs
+pub set_of_all-lengths : (cs : List Constraint) (n : ℕ) → AdmitsLength (set_of_all cs) n ↔ All (λ c. AdmitsLength (set_of_one c) n) cs
 set_of_all-lengths cs n = all-admit (λ set. AdmitsLength set n) tt (λ a b. set_intersection-lengths a b n) cs
 
-pub set_of_all-characters : (cs : List Constraint) (n : ℕ) → AdmitsCharacter (set_of_all cs) n ↔ All (λ c. AdmitsCharacter (set_of c) n) cs
+pub set_of_all-characters : (cs : List Constraint) (n : ℕ) → AdmitsCharacter (set_of_all cs) n ↔ All (λ c. AdmitsCharacter (set_of_one c) n) cs
 set_of_all-characters cs n = all-admit (λ set. AdmitsCharacter set n) tt (λ a b. set_intersection-characters a b n) cs
 
 -- constraints without a permitted alphabet come to a set without one
-pub set_of-without_alphabet : (c : Constraint) → IsNone (alphabet_of c) → IsNone (set_of c).permitted_alphabet
-set_of-without_alphabet (constraint.Value part) h = refl
-set_of-without_alphabet (constraint.Size part) h = refl
-set_of-without_alphabet (constraint.PermittedAlphabet part) h = h
-set_of-without_alphabet constraint.Extensible h = refl
+pub set_of_one-without_alphabet : (c : Constraint) → IsNone (alphabet_of c) → IsNone (set_of_one c).permitted_alphabet
+set_of_one-without_alphabet (constraint.Value part) h = refl
+set_of_one-without_alphabet (constraint.Size part) h = refl
+set_of_one-without_alphabet (constraint.PermittedAlphabet part) h = h
+set_of_one-without_alphabet constraint.Extensible h = refl
 
 parts-without_alphabet : (a b : Option (Extensible PermittedAlphabet)) → IsNone a → IsNone b → IsNone (parts_intersection common_characters a b)
 parts-without_alphabet None b p q = q
@@ -137,8 +137,8 @@ parts-without_alphabet (Some a) (Some b) p q = p
 set_of_all-without_alphabet : (cs : List Constraint) → All (λ c. IsNone (alphabet_of c)) cs → IsNone (set_of_all cs).permitted_alphabet
 set_of_all-without_alphabet [] h = refl
 set_of_all-without_alphabet (c ∷ cs) h =
-    parts-without_alphabet (set_of c).permitted_alphabet (set_of_all cs).permitted_alphabet
-    (set_of-without_alphabet c (All-head (λ c. IsNone (alphabet_of c)) c cs h))
+    parts-without_alphabet (set_of_one c).permitted_alphabet (set_of_all cs).permitted_alphabet
+    (set_of_one-without_alphabet c (All-head (λ c. IsNone (alphabet_of c)) c cs h))
     (set_of_all-without_alphabet cs (All-tail (λ c. IsNone (alphabet_of c)) c cs h))
 
 pub set_of_some-without_alphabet : (cs : List Constraint) (i : ℕ) → All (λ c. IsNone (alphabet_of c)) cs → IsNone (set_of_all (take i cs)).permitted_alphabet

@@ -10,15 +10,15 @@ use Rattle.asn1_bounds.specs.declared.constraints.Constraints.{Constraints}
 use Rattle.asn1_bounds.specs.Admitted.{HasValue, HasLength, IsPermitted, value_intersection, size_intersection, common_characters}
 
 -- of two value constraints, and of two size constraints: the members of both bounds
-abbrev pub both_values : Value → Value → Value
-both_values a b = record { bound = value_intersection a.bound b.bound }
+abbrev pub common_values : Value → Value → Value
+common_values a b = record { bound = value_intersection a.bound b.bound }
 
-abbrev pub both_sizes : Size → Size → Size
-both_sizes a b = record { bound = size_intersection a.bound b.bound }
+abbrev pub common_sizes : Size → Size → Size
+common_sizes a b = record { bound = size_intersection a.bound b.bound }
 
 -- the constraint, not extensible
-abbrev pub fixed : {T : Type 0} → T → Extensible T
-fixed kind = record { constraint = kind; extensible = None }
+abbrev pub not_extensible : {T : Type 0} → T → Extensible T
+not_extensible kind = record { constraint = kind; extensible = None }
 
 -- of two parts: the additions of the first, where both are extensible
 abbrev pub common_additions : {A : Type 0} → Option A → Option A → Option A
@@ -41,8 +41,8 @@ module _ {T : Type 0} (both : T → T → T) where
 -- two sets: part by part, extensible where either is
 abbrev pub set_intersection : Constraints → Constraints → Constraints
 set_intersection a b = record {
-  value = parts_intersection both_values a.value b.value;
-  size = parts_intersection both_sizes a.size b.size;
+  value = parts_intersection common_values a.value b.value;
+  size = parts_intersection common_sizes a.size b.size;
   permitted_alphabet = parts_intersection common_characters a.permitted_alphabet b.permitted_alphabet;
   extensible = a.extensible || b.extensible;
 }
@@ -57,16 +57,16 @@ abbrev pub no_constraints : Constraints
 no_constraints = record { value = None; size = None; permitted_alphabet = None; extensible = false }
 
 -- the set of one constraint
-abbrev pub set_of : Constraint → Constraints
-set_of (constraint.Value part) = record no_constraints { value = Some part }
-set_of (constraint.Size part) = record no_constraints { size = Some part }
-set_of (constraint.PermittedAlphabet part) = record no_constraints { permitted_alphabet = Some part }
-set_of constraint.Extensible = record no_constraints { extensible = true }
+abbrev pub set_of_one : Constraint → Constraints
+set_of_one (constraint.Value part) = record no_constraints { value = Some part }
+set_of_one (constraint.Size part) = record no_constraints { size = Some part }
+set_of_one (constraint.PermittedAlphabet part) = record no_constraints { permitted_alphabet = Some part }
+set_of_one constraint.Extensible = record no_constraints { extensible = true }
 
 -- the set of a list of constraints: the intersection of them all
 abbrev pub set_of_all : List Constraint → Constraints
 set_of_all [] = no_constraints
-set_of_all (c ∷ cs) = set_intersection (set_of c) (set_of_all cs)
+set_of_all (c ∷ cs) = set_intersection (set_of_one c) (set_of_all cs)
 
 -- the root of the set admits the value: its value part has it as a member, if there is one
 abbrev pub AdmitsValue : Constraints → ℤ → Type 0

@@ -2,7 +2,7 @@
 ghost use Rattle.std.specs.Prelude.{◌≡◌, ◌↔◌, ◌++◌, ℕ, ℤ, All, List, IsOk, IfOk, IsNone};
 ghost use Rattle.std.specs.Option.{option_copied};
 ghost use Rattle.asn1_bounds.specs.Admitted.{common_characters};
-ghost use Rattle.asn1_bounds.specs.Sets.{parts_intersection, both_values, both_sizes, is_part_extensible, set_of_parts};
+ghost use Rattle.asn1_bounds.specs.Sets.{parts_intersection, common_values, common_sizes, is_part_extensible, set_of_parts};
 
 use crate::alphabet::PermittedAlphabet;
 use crate::constraint::Constraint;
@@ -30,7 +30,7 @@ pub struct Constraints<'a> {
 impl<'a> Constraints<'a> {
     ghost use Rattle.asn1_bounds.specs.declared.constraint.Constraint.{Constraint};
     ghost use Rattle.asn1_bounds.specs.ConstraintKind.{alphabet_of};
-    ghost use Rattle.asn1_bounds.specs.Sets.{set_intersection, no_constraints, set_of, set_of_all, AdmitsValue, AdmitsLength, AdmitsCharacter, is_per_visibly_extensible, is_extensible};
+    ghost use Rattle.asn1_bounds.specs.Sets.{set_intersection, no_constraints, set_of_one, set_of_all, AdmitsValue, AdmitsLength, AdmitsCharacter, is_per_visibly_extensible, is_extensible};
 
     /// No constraints: every value is admitted.
     pub const NONE: Constraints<'static> = Constraints {
@@ -47,11 +47,11 @@ impl<'a> Constraints<'a> {
 
         // The root admits what the root of every constraint admits.
         ensures values { IfOk result (λ set. (n : ℤ) → AdmitsValue set n ↔
-            All (λ c. AdmitsValue (set_of c) n) constraints.now) }
+            All (λ c. AdmitsValue (set_of_one c) n) constraints.now) }
         ensures lengths { IfOk result (λ set. (n : ℕ) → AdmitsLength set n ↔
-            All (λ c. AdmitsLength (set_of c) n) constraints.now) }
+            All (λ c. AdmitsLength (set_of_one c) n) constraints.now) }
         ensures characters { IfOk result (λ set. (n : ℕ) → AdmitsCharacter set n ↔
-            All (λ c. AdmitsCharacter (set_of c) n) constraints.now) }
+            All (λ c. AdmitsCharacter (set_of_one c) n) constraints.now) }
 
         // Memory is for alphabets alone.
         ensures without_alphabet { All (λ c. IsNone (alphabet_of c)) constraints.now → IsOk result }
@@ -66,7 +66,7 @@ impl<'a> Constraints<'a> {
 
     // The set of the one constraint.
     fn of(constraint: Constraint<'a>) -> Self
-        ensures { result ≡ set_of constraint.entry }
+        ensures { result ≡ set_of_one constraint.entry }
     {
         match constraint {
             Constraint::Value(part) => Constraints {
@@ -201,7 +201,7 @@ fn intersect_values<'a>(
     a: Option<Extensible<'a, Value>>,
     b: Option<Extensible<'a, Value>>,
 ) -> Option<Extensible<'a, Value>>
-    ensures { result ≡ parts_intersection both_values a.entry b.entry }
+    ensures { result ≡ parts_intersection common_values a.entry b.entry }
 {
     match (a, b) {
         (Some(a), Some(b)) => Some(a.intersect(&b)),
@@ -214,7 +214,7 @@ fn intersect_sizes<'a>(
     a: Option<Extensible<'a, Size>>,
     b: Option<Extensible<'a, Size>>,
 ) -> Option<Extensible<'a, Size>>
-    ensures { result ≡ parts_intersection both_sizes a.entry b.entry }
+    ensures { result ≡ parts_intersection common_sizes a.entry b.entry }
 {
     match (a, b) {
         (Some(a), Some(b)) => Some(a.intersect(&b)),

@@ -71,11 +71,11 @@ impl<'a, T> Extensible<'a, T> {
 }
 
 impl Extensible<'_, Value> {
-    ghost use Rattle.asn1_bounds.specs.Sets.{part_intersection, both_values};
+    ghost use Rattle.asn1_bounds.specs.Sets.{part_intersection, common_values};
 
     /// What both constraints leave: extensible only where both are, with the additions of this one.
     pub fn intersect(&self, other: &Self) -> Self
-        ensures { result ≡ part_intersection both_values self.now other.now }
+        ensures { result ≡ part_intersection common_values self.now other.now }
     {
         Extensible {
             constraint: self.constraint.intersect(&other.constraint),
@@ -85,11 +85,11 @@ impl Extensible<'_, Value> {
 }
 
 impl Extensible<'_, Size> {
-    ghost use Rattle.asn1_bounds.specs.Sets.{part_intersection, both_sizes};
+    ghost use Rattle.asn1_bounds.specs.Sets.{part_intersection, common_sizes};
 
     /// What both constraints leave: extensible only where both are, with the additions of this one.
     pub fn intersect(&self, other: &Self) -> Self
-        ensures { result ≡ part_intersection both_sizes self.now other.now }
+        ensures { result ≡ part_intersection common_sizes self.now other.now }
     {
         Extensible {
             constraint: self.constraint.intersect(&other.constraint),

@@ -7,11 +7,11 @@ ghost use Rattle.std.specs.Hash as fed;
 ghost use Rattle.std.specs.Option.{option_copied, option_eq};
 ghost use Rattle.std.specs.Ordering.{nat_cmp};
 ghost use Rattle.asn1_ranges.specs.declared.bounded.Bounded.{Bounded};
-ghost use Rattle.asn1_ranges.specs.Compared.{TellsApart, ClonesExactly};
+ghost use Rattle.asn1_ranges.specs.Compared.{IsExactEquality, ClonesExactly};
 ghost use Rattle.asn1_bounds.specs.Admitted.{numbers, HasNarrowEnds};
 ghost use Rattle.asn1_bounds.specs.ConstraintKind.{kind_of};
 ghost use Rattle.asn1_bounds.specs.InnerSubtype.{refusal_of, no_memory};
-ghost use Rattle.asn1_bounds.specs.Sets.{fixed, set_of, no_constraints};
+ghost use Rattle.asn1_bounds.specs.Sets.{not_extensible, set_of_one, no_constraints};
 ghost use Rattle.asn1_bounds.specs.ConstraintTables.{owned};
 ghost use Rattle.asn1_bounds.specs.declared.alphabet.PermittedAlphabet.{PermittedAlphabet};
 ghost use Rattle.asn1_bounds.specs.declared.constraint.Constraint.{Constraint};
@@ -40,7 +40,7 @@ use std::hash::Hash;
 /// Constraints of values are equal if and only if they have the same bound; they go in the order of their bounds, and
 /// are hashed as these. The default has no bound, and a clone is its source.
 pub fn values_are_compared_by_bound()
-    ensures equality { TellsApart ⟦<Value as PartialEq>⟧.eq }
+    ensures equality { IsExactEquality ⟦<Value as PartialEq>⟧.eq }
     ensures order { (a b : Value) → ⟦<Value as Ord>⟧.cmp a b ≡
         ⟦<Bounded<i128> as Ord>⟧.cmp a.bound b.bound }
     ensures partial_order { (a b : Value) →
@@ -54,7 +54,7 @@ pub fn values_are_compared_by_bound()
 /// Constraints of length are equal if and only if they have the same bound; they go in the order of their bounds, and
 /// are hashed as these. The default has no bound, and a clone is its source.
 pub fn sizes_are_compared_by_bound()
-    ensures equality { TellsApart ⟦<Size as PartialEq>⟧.eq }
+    ensures equality { IsExactEquality ⟦<Size as PartialEq>⟧.eq }
     ensures order { (a b : Size) → ⟦<Size as Ord>⟧.cmp a b ≡
         ⟦<Bounded<usize> as Ord>⟧.cmp a.bound b.bound }
     ensures partial_order { (a b : Size) →
@@ -68,7 +68,7 @@ pub fn sizes_are_compared_by_bound()
 /// Permitted alphabets are equal if and only if they are the same list of characters, go lexicographically, and are
 /// hashed as slices.
 pub fn alphabets_are_compared_by_characters()
-    ensures equality { TellsApart ⟦<PermittedAlphabet as PartialEq>⟧.eq }
+    ensures equality { IsExactEquality ⟦<PermittedAlphabet as PartialEq>⟧.eq }
     ensures order { (a b : PermittedAlphabet) → ⟦<PermittedAlphabet as Ord>⟧.cmp a b ≡
         slice_cmp nat_cmp a b }
     ensures partial_order { (a b : PermittedAlphabet) →
@@ -113,9 +113,9 @@ pub fn constraints_are_compared_by_parts<'a>()
 /// Kinds of constraint, codecs and errors are equal if and only if they are the same case, of the same number or name.
 /// A clone of these, or of a table of constraints, is its source.
 pub fn names_are_compared_by_case()
-    ensures discriminants { TellsApart ⟦<ConstraintDiscriminant as PartialEq>⟧.eq }
-    ensures codecs { TellsApart ⟦<Codec as PartialEq>⟧.eq }
-    ensures widths { TellsApart ⟦<TooWide as PartialEq>⟧.eq }
+    ensures discriminants { IsExactEquality ⟦<ConstraintDiscriminant as PartialEq>⟧.eq }
+    ensures codecs { IsExactEquality ⟦<Codec as PartialEq>⟧.eq }
+    ensures widths { IsExactEquality ⟦<TooWide as PartialEq>⟧.eq }
     ensures errors { (a b : InnerSubtypeConstraintError) →
         IsTrue (⟦<InnerSubtypeConstraintError as PartialEq>⟧.eq a b) ↔
         (refusal_of a ≡ refusal_of b) }
@@ -141,30 +141,30 @@ pub fn conversions_keep_the_constraint<'a, T: FitsI128, U: 'a>()
         ⟦<Value as TryFrom<Bounded<usize>>>⟧.try_from_gives bound answer →
         OkIff answer (HasNarrowEnds bound) (record { bound = numbers pos bound }) }
     ensures parts { (kind : U) (part : Extensible U) →
-        ⟦<Extensible<'a, U> as From<U>>⟧.from_gives kind part → part ≡ fixed kind }
+        ⟦<Extensible<'a, U> as From<U>>⟧.from_gives kind part → part ≡ not_extensible kind }
     ensures value_parts { (part : Extensible Value) (one : Constraint) →
         ⟦<Constraint<'a> as From<Extensible<'a, Value>>>⟧.from_gives part one →
         one ≡ constraint.Value part }
     ensures values { (kind : Value) (one : Constraint) →
         ⟦<Constraint<'a> as From<Value>>⟧.from_gives kind one →
-        one ≡ constraint.Value (fixed kind) }
+        one ≡ constraint.Value (not_extensible kind) }
     ensures size_parts { (part : Extensible Size) (one : Constraint) →
         ⟦<Constraint<'a> as From<Extensible<'a, Size>>>⟧.from_gives part one →
         one ≡ constraint.Size part }
     ensures sizes { (kind : Size) (one : Constraint) →
-        ⟦<Constraint<'a> as From<Size>>⟧.from_gives kind one → one ≡ constraint.Size (fixed kind) }
+        ⟦<Constraint<'a> as From<Size>>⟧.from_gives kind one → one ≡ constraint.Size (not_extensible kind) }
     ensures alphabet_parts { (part : Extensible PermittedAlphabet) (one : Constraint) →
         ⟦<Constraint<'a> as From<Extensible<'a, PermittedAlphabet>>>⟧.from_gives part one →
         one ≡ constraint.PermittedAlphabet part }
     ensures alphabets { (kind : PermittedAlphabet) (one : Constraint) →
         ⟦<Constraint<'a> as From<PermittedAlphabet>>⟧.from_gives kind one →
-        one ≡ constraint.PermittedAlphabet (fixed kind) }
+        one ≡ constraint.PermittedAlphabet (not_extensible kind) }
     ensures value_tables { (kind : Value) (table : ConstraintTable) →
         ⟦<ConstraintTable<'a> as From<Value>>⟧.from_gives kind table →
-        owned table ≡ set_of (constraint.Value (fixed kind)) }
+        owned table ≡ set_of_one (constraint.Value (not_extensible kind)) }
     ensures size_tables { (kind : Size) (table : ConstraintTable) →
         ⟦<ConstraintTable<'a> as From<Size>>⟧.from_gives kind table →
-        owned table ≡ set_of (constraint.Size (fixed kind)) }
+        owned table ≡ set_of_one (constraint.Size (not_extensible kind)) }
     ensures memory { (refused : AllocError) (error : InnerSubtypeConstraintError) →
         ⟦<InnerSubtypeConstraintError as From<AllocError>>⟧.from_gives refused error →
         refusal_of error ≡ no_memory }

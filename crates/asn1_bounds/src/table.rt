@@ -33,7 +33,7 @@ struct AlphabetTable<'a> {
 
 impl<'a> ConstraintTable<'a> {
     ghost use Rattle.asn1_bounds.specs.ConstraintTables.{owned, with_alphabet};
-    ghost use Rattle.asn1_bounds.specs.Sets.{fixed};
+    ghost use Rattle.asn1_bounds.specs.Sets.{not_extensible};
 
     /// No constraints: every value is admitted.
     pub const NONE: ConstraintTable<'static> = ConstraintTable {
@@ -68,7 +68,7 @@ impl<'a> ConstraintTable<'a> {
     /// The table with these characters as its permitted alphabet, not extensible.
     #[inline(always)]
     pub fn with_permitted_alphabet(self, characters: &'a [u32]) -> Self
-        ensures { owned result ≡ with_alphabet (owned self.entry) (fixed characters.now) }
+        ensures { owned result ≡ with_alphabet (owned self.entry) (not_extensible characters.now) }
     {
         ConstraintTable {
             permitted_alphabet: Some(AlphabetTable {
@@ -87,7 +87,7 @@ impl<'a> ConstraintTable<'a> {
         additions: &'a [PermittedAlphabet],
     ) -> Self
         ensures { owned result ≡ with_alphabet (owned self.entry)
-            (record (fixed characters.now) { extensible = Some additions.entry }) }
+            (record (not_extensible characters.now) { extensible = Some additions.entry }) }
     {
         ConstraintTable {
             permitted_alphabet: Some(AlphabetTable {

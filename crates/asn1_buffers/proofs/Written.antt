@@ -12,9 +12,9 @@ use Rattle.asn1_laws.specs.WritingUpToOrder.{WroteUpToOrder}
 use Rattle.asn1_laws.specs.Writing.{Written, outermost, in_scope, in_group, followed_by, SameWritten, same_outermost, same_scope, same_group, Appends, Fails, IsRejection, IsError, ScopeIsOpen, ScopeIsNotOpen, ScopeIsClosed, ScopeIsNotClosed, GroupIsOpen, GroupIsNotOpen, GroupIsClosed, GroupIsNotClosed, Writes}
 use Rattle.asn1_laws.specs.declared.encode_error.EncodeError.{EncodeError}
 use Rattle.asn1_laws.specs.declared.encode_error.EncodeError.TheVariants.{Depth, Failed}
-use Rattle.asn1_model.proofs.SameUpToOrder.{Same-trans}
+use Rattle.asn1_model.proofs.SameUpToOrder.{SameRecord-trans}
 use Rattle.asn1_model.specs.Composites.{group_records}
-use Rattle.asn1_model.specs.Orders.{at_end, in_place, next}
+use Rattle.asn1_model.specs.Orders.{at_end, one_by_one, next}
 use Rattle.asn1_model.specs.Records.{Content, Head, Record, height, holding}
 use Rattle.asn1_model.specs.RecordTables.{Line, Table}
 use Rattle.asn1_rules.specs.Rules.{IsNotWritten}
@@ -106,7 +106,7 @@ module _ {B : Type 0} (F : BufferForm B) where
         record {
           exactly = followed_by s.outer (last.closed ∷ []);
           wrote = (last.wrote, omega (arith, exact.1, limit, more, scopes_in-followed s.outer (last.closed ∷ [])));
-          same = same_followed_by (last.closed ∷ []) (holding h rs ∷ []) s.same_outer (next (Same-trans last.same (in_place h s.same)) at_end);
+          same = same_followed_by (last.closed ∷ []) (holding h rs ∷ []) s.same_outer (next (SameRecord-trans last.same (one_by_one h s.same)) at_end);
         };
     no_failure_before = was;
     no_failure = now;

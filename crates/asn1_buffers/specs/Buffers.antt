@@ -4,7 +4,7 @@ use Rattle.asn1_buffers.specs.declared.error.WriteError.{WriteError}
 use Rattle.asn1_buffers.specs.declared.error.WriteError.TheVariants.{Memory}
 use Rattle.asn1_laws.specs.Writing.{Written, followed_by, in_group, in_scope}
 use Rattle.asn1_model.specs.Composites.{group_records}
-use Rattle.asn1_model.specs.Orders.{Same}
+use Rattle.asn1_model.specs.Orders.{SameRecord}
 use Rattle.asn1_model.specs.Records.{Head, Record, holding}
 use Rattle.asn1_model.specs.RecordTables.{Line, Table}
 
@@ -28,7 +28,7 @@ module _ {B : Type 0} (F : BufferForm B) where
   -- The innermost scope is a record now, which holds what was written in it, in some order where the order means nothing.
   pub record ScopeIsHeld (h : Head) (rs : List Record) (w : Written) (new : B) : Type 0 where
     pub closed : Record
-    pub same : Same closed (holding h rs)
+    pub same : SameRecord closed (holding h rs)
     pub wrote : F.wrote new (followed_by w (closed ∷ []))
 
   -- a call that ends the innermost scope

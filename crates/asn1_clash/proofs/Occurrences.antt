@@ -22,7 +22,7 @@ use Rattle.asn1_tags.specs.declared.tags.Tag.{Tag}
 use Rattle.asn1_tags.specs.OrderLaws.{tag_total}
 use Rattle.asn1_tags.specs.Tags.{IsAtMost, tag_cmp, tag_eq}
 use Rattle.asn1_tags.specs.Trees.{is_open, leaves}
-use Rattle.asn1_tags.specs.Walks.{meet}
+use Rattle.asn1_tags.specs.Walks.{have_common_tag}
 use Rattle.asn1_tags.proofs.Smallest.{IsAtMost-from_not_less, IsAtMost-antisym}
 use Rattle.asn1_tags.proofs.Distinct.{tag_eq-true, tag_eq-refl}
 use Rattle.asn1_fields.specs.Entries.{Component}
@@ -392,7 +392,7 @@ clash_from_open cs i j h = record {
   first_at = h.first_at;
   second_at = h.second_at;
   before = h.before;
-  shared = ShareTag-from_test h.first.tree h.second.tree (or_left (is_open h.first.tree || is_open h.second.tree) (meet (leaves h.first.tree) (leaves h.second.tree)) h.open_one);
+  shared = ShareTag-from_test h.first.tree h.second.tree (or_left (is_open h.first.tree || is_open h.second.tree) (have_common_tag (leaves h.first.tree) (leaves h.second.tree)) h.open_one);
 }
 
 clash_from_twice : (cs : List Component) (all : List Occurrence) → IsPermutation (occurrences 0 cs) all → (i j : ℕ) → OccursTwice all i j → IsSetClash cs i j

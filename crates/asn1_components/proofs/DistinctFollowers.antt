@@ -14,7 +14,7 @@ use Rattle.asn1_tags.proofs.ListPositions.{position-missing}
 use Rattle.asn1_fields.proofs.SharedTags.{test-from_ShareTag}
 use Rattle.asn1_model.proofs.FirstTags.{first_passes, first_stays}
 use Rattle.asn1_model.proofs.TagSets.{apart_within, lies_has, lies_itself, in_first_tree, in_later_trees}
-use Rattle.asn1_components.specs.ComponentLists.{all_records, seen_by_tags, trees_of, CanBeInSequence, EachIsWellTagged}
+use Rattle.asn1_components.specs.ComponentLists.{all_records, tagged_components, trees_of, CanBeInSequence, EachIsWellTagged}
 use Rattle.asn1_components.specs.ComponentTypes.{ComponentType, Fits}
 use Rattle.asn1_components.specs.Following.{BeginsApart, When, records_then, all_may_be_absent, EndsApart, EachApart, ApartFromEach, AllApart}
 
@@ -32,16 +32,16 @@ when_then true P f = f refl
 when_then false P f = tt
 
 apart_from : {V : Type 0} (tree : Tree) (cs : List (ComponentType V)) →
-    ((k : ℕ) (d : Component) → slice_get (up_to_required (seen_by_tags cs)) k ≡ Some d → share_tag tree d.tree ≡ false) → ApartFrom tree cs
+    ((k : ℕ) (d : Component) → slice_get (up_to_required (tagged_components cs)) k ≡ Some d → share_tag tree d.tree ≡ false) → ApartFrom tree cs
 apart_from tree [] unshared = tt
 apart_from tree (c ∷ cs) unshared = (
   apart_by_test tree c.tree (unshared 0 (record { presence = c.presence; tree = c.tree }) refl),
   when_then (may_be_absent c.presence) (ApartFrom tree cs) (λ absent. apart_from tree cs (λ k d at.
-      unshared (suc k) d (ap (λ b. slice_get (cond b (up_to_required (seen_by_tags cs)) []) k) absent ∙ at))),
+      unshared (suc k) d (ap (λ b. slice_get (cond b (up_to_required (tagged_components cs)) []) k) absent ∙ at))),
 )
 
 apart_from_each : {V : Type 0} (tree : Tree) (cs : List (ComponentType V)) →
-    ((k : ℕ) (d : Component) → slice_get (seen_by_tags cs) k ≡ Some d → share_tag tree d.tree ≡ false) → ApartFromEach tree cs
+    ((k : ℕ) (d : Component) → slice_get (tagged_components cs) k ≡ Some d → share_tag tree d.tree ≡ false) → ApartFromEach tree cs
 apart_from_each tree [] unshared = tt
 apart_from_each tree (c ∷ cs) unshared = (
   apart_by_test tree c.tree (unshared 0 (record { presence = c.presence; tree = c.tree }) refl),
@@ -69,20 +69,20 @@ abbrev Distinct : {V : Type 0} → List (ComponentType V) → Type 0
 Distinct [] = ⊤
 Distinct (c ∷ cs) = When (may_be_absent c.presence) (ApartFrom c.tree cs) × Distinct cs
 
-distinct_by_test : {V : Type 0} (cs : List (ComponentType V)) → sequence_clash (seen_by_tags cs) ≡ None → Distinct cs
+distinct_by_test : {V : Type 0} (cs : List (ComponentType V)) → sequence_clash (tagged_components cs) ≡ None → Distinct cs
 distinct_by_test [] e = tt
 distinct_by_test (c ∷ cs) e =
-    let parts = no_clash_parts rivals (record { presence = c.presence; tree = c.tree }) (seen_by_tags cs) e in (
+    let parts = no_clash_parts rivals (record { presence = c.presence; tree = c.tree }) (tagged_components cs) e in (
       when_then (may_be_absent c.presence) (ApartFrom c.tree cs) (λ absent. apart_from c.tree cs (λ k d at.
-          parts.0 k d (ap (λ b. slice_get (cond b (up_to_required (seen_by_tags cs)) []) k) absent ∙ at))),
+          parts.0 k d (ap (λ b. slice_get (cond b (up_to_required (tagged_components cs)) []) k) absent ∙ at))),
       distinct_by_test cs parts.1,
     )
 
 -- The law of a SET.
-pub set_apart : {V : Type 0} (cs : List (ComponentType V)) → set_clash (seen_by_tags cs) ≡ None → AllApart cs
+pub set_apart : {V : Type 0} (cs : List (ComponentType V)) → set_clash (tagged_components cs) ≡ None → AllApart cs
 set_apart [] e = tt
 set_apart (c ∷ cs) e =
-    let parts = no_clash_parts (λ d after. after) (record { presence = c.presence; tree = c.tree }) (seen_by_tags cs) e in
+    let parts = no_clash_parts (λ d after. after) (record { presence = c.presence; tree = c.tree }) (tagged_components cs) e in
     (apart_from_each c.tree cs parts.0, set_apart cs parts.1)
 
 passes_or_stays : (tree : Tree) {V : Type 0} (c : ComponentType V) (v : V) (rest : List Record) → ShareNone (tree_tags tree) (tree_tags c.tree) → Fits c.presence c.tree (c.records v) →

@@ -3,7 +3,7 @@ use Rattle.std.proofs.Common.{◌≡◌, ℕ, suc, ◌+◌, Bool, true, false, c
 use Rattle.std.proofs.lemmas.List.{length-map, map-append}
 use Rattle.std.proofs.Math.Seq.{drop-append_seam, take-append_seam}
 use Rattle.asn1_components.specs.ComponentLists.{entries_from}
-use Rattle.asn1_components.specs.Components.{Components, Extension, Kind, is_sequence, is_set, added, all_components, lines, marker, extension_index, no_marker, parted, in_canonical_order, put_in_order, table, table_in}
+use Rattle.asn1_components.specs.Components.{Components, Extension, Kind, is_sequence, is_set, added, all_components, lines, marker, extension_index, no_marker, split_at_marker, in_canonical_order, insert_in_order, table, table_of_kind}
 use Rattle.asn1_components.specs.ComponentTypes.{ComponentType}
 use Rattle.asn1_fields.specs.CanonicalOrder.{in_order}
 use Rattle.asn1_fields.specs.Entries.{Entry, component_of, line_of}
@@ -12,9 +12,9 @@ one_entry_more : (b : Bool) (e f : Entry) (put es : List Entry) → length put �
 one_entry_more true e f put es h = refl
 one_entry_more false e f put es h = ap suc h
 
-length-put : (e : Entry) (es : List Entry) → length (put_in_order e es) ≡ suc (length es)
+length-put : (e : Entry) (es : List Entry) → length (insert_in_order e es) ≡ suc (length es)
 length-put e [] = refl
-length-put e (f ∷ fs) = one_entry_more (in_order (component_of e) (component_of f)) e f (put_in_order e fs) fs (length-put e fs)
+length-put e (f ∷ fs) = one_entry_more (in_order (component_of e) (component_of f)) e f (insert_in_order e fs) fs (length-put e fs)
 
 length-ordered : (es : List Entry) → length (in_canonical_order es) ≡ length es
 length-ordered [] = refl
@@ -24,9 +24,9 @@ length-entries : {V : Type 0} (k : ℕ) (cs : List (ComponentType V)) → length
 length-entries k [] = refl
 length-entries k (c ∷ cs) = ap suc (length-entries (k + 1) cs)
 
-length-table_in : (kind : Kind) (es : List Entry) → length (table_in kind es) ≡ length es
-length-table_in is_sequence es = refl
-length-table_in is_set es = length-ordered es
+length-table_of_kind : (kind : Kind) (es : List Entry) → length (table_of_kind kind es) ≡ length es
+length-table_of_kind is_sequence es = refl
+length-table_of_kind is_set es = length-ordered es
 
 pub length-table : {V : Type 0} (components : Components V) → length (table components) ≡ length (all_components components)
 length-table components =
@@ -34,25 +34,25 @@ length-table components =
     let rest = entries_from (length components.root) (added components) in
     omega (
       arith,
-      length-append (table_in components.kind root) rest,
+      length-append (table_of_kind components.kind root) rest,
       length-append components.root (added components),
-      length-table_in components.kind root,
+      length-table_of_kind components.kind root,
       length-entries 0 components.root,
       length-entries (length components.root) (added components),
     )
 
 -- What records have of a table is its lines.
-pub lines_of_table : {V : Type 0} (components : Components V) → lines components ≡ parted (map line_of (table components)) (extension_index components)
+pub lines_of_table : {V : Type 0} (components : Components V) → lines components ≡ split_at_marker (map line_of (table components)) (extension_index components)
 lines_of_table components = by_extension components.extension
   where
     rs : List Entry
-    rs = table_in components.kind (entries_from 0 components.root)
+    rs = table_of_kind components.kind (entries_from 0 components.root)
 
     as_long : length (map line_of rs) ≡ length components.root
-    as_long = length-map rs line_of ∙ length-table_in components.kind (entries_from 0 components.root) ∙ length-entries 0 components.root
+    as_long = length-map rs line_of ∙ length-table_of_kind components.kind (entries_from 0 components.root) ∙ length-entries 0 components.root
 
     by_extension : (x : Extension _) →
-        lines (record components { extension = x }) ≡ parted (map line_of (table (record components { extension = x }))) (extension_index (record components { extension = x }))
+        lines (record components { extension = x }) ≡ split_at_marker (map line_of (table (record components { extension = x }))) (extension_index (record components { extension = x }))
     by_extension no_marker = ap (λ es. record { root = map line_of es; additions = None }) (sym (append-nil rs))
     by_extension (marker additions) =
         let n = length components.root in

@@ -15,7 +15,7 @@ use Rattle.asn1_fields.proofs.Orders.{IsCanonical-from_test}
 use Rattle.asn1_fields.specs.CanonicalOrder.{IsCanonical, canonical, in_order, smallest_tag}
 use Rattle.asn1_fields.specs.Entries.{Entry, component_of}
 use Rattle.asn1_components.specs.ComponentLists.{entries_from, entry_at}
-use Rattle.asn1_components.specs.Components.{Components, Kind, is_sequence, is_set, added, added_entries, all_components, in_canonical_order, put_in_order, root_entries, table, table_in}
+use Rattle.asn1_components.specs.Components.{Components, Kind, is_sequence, is_set, added, added_entries, all_components, in_canonical_order, insert_in_order, root_entries, table, table_of_kind}
 use Rattle.asn1_components.specs.ComponentTypes.{ComponentType}
 
 -- of two tags one is at most the other
@@ -27,22 +27,22 @@ in_order-exchanged : (e f : Entry) → in_order (component_of e) (component_of f
 in_order-exchanged e f h = le_or_ge (smallest_tag (component_of e)) (smallest_tag (component_of f)) h
 
 -- an entry that is put among others is the first, or comes after the first
-put_in_order-cases : (P : List Entry → Type 0) (e f : Entry) (fs : List Entry) →
-    (in_order (component_of e) (component_of f) ≡ true → P (e ∷ f ∷ fs)) → (in_order (component_of e) (component_of f) ≡ false → P (f ∷ put_in_order e fs)) →
-    P (put_in_order e (f ∷ fs))
-put_in_order-cases P e f fs first later = by_test (in_order (component_of e) (component_of f)) first later
+insert_in_order-cases : (P : List Entry → Type 0) (e f : Entry) (fs : List Entry) →
+    (in_order (component_of e) (component_of f) ≡ true → P (e ∷ f ∷ fs)) → (in_order (component_of e) (component_of f) ≡ false → P (f ∷ insert_in_order e fs)) →
+    P (insert_in_order e (f ∷ fs))
+insert_in_order-cases P e f fs first later = by_test (in_order (component_of e) (component_of f)) first later
   where
-    by_test : (b : Bool) → (b ≡ true → P (e ∷ f ∷ fs)) → (b ≡ false → P (f ∷ put_in_order e fs)) → P (cond b (e ∷ f ∷ fs) (f ∷ put_in_order e fs))
+    by_test : (b : Bool) → (b ≡ true → P (e ∷ f ∷ fs)) → (b ≡ false → P (f ∷ insert_in_order e fs)) → P (cond b (e ∷ f ∷ fs) (f ∷ insert_in_order e fs))
     by_test true here there = here refl
     by_test false here there = there refl
 
 -- The entries are the same, rearranged.
-put_rearranges : (e : Entry) (fs : List Entry) → IsPermutation (e ∷ fs) (put_in_order e fs)
+put_rearranges : (e : Entry) (fs : List Entry) → IsPermutation (e ∷ fs) (insert_in_order e fs)
 put_rearranges e [] = IsPermutation-refl (e ∷ [])
 put_rearranges e (f ∷ fs) =
-    put_in_order-cases (IsPermutation (e ∷ f ∷ fs)) e f fs (λ first. IsPermutation-refl (e ∷ f ∷ fs)) (λ later.
-    IsPermutation-trans (e ∷ f ∷ fs) (f ∷ e ∷ fs) (f ∷ put_in_order e fs) (IsPermutation-middle (e ∷ []) f fs)
-    (IsPermutation-cons f (e ∷ fs) (put_in_order e fs) (put_rearranges e fs)))
+    insert_in_order-cases (IsPermutation (e ∷ f ∷ fs)) e f fs (λ first. IsPermutation-refl (e ∷ f ∷ fs)) (λ later.
+    IsPermutation-trans (e ∷ f ∷ fs) (f ∷ e ∷ fs) (f ∷ insert_in_order e fs) (IsPermutation-middle (e ∷ []) f fs)
+    (IsPermutation-cons f (e ∷ fs) (insert_in_order e fs) (put_rearranges e fs)))
 
 order_rearranges : (es : List Entry) → IsPermutation es (in_canonical_order es)
 order_rearranges [] = IsPermutation-refl []
@@ -57,17 +57,17 @@ sorted es = canonical (map component_of es)
 sorted-cons : (d e : Entry) (es : List Entry) → in_order (component_of d) (component_of e) ≡ true → sorted (e ∷ es) ≡ true → sorted (d ∷ e ∷ es) ≡ true
 sorted-cons d e es before rest = and_from (in_order (component_of d) (component_of e)) (sorted (e ∷ es)) before rest
 
-put_after : (d e : Entry) (fs : List Entry) → in_order (component_of d) (component_of e) ≡ true → sorted (d ∷ fs) ≡ true → sorted (d ∷ put_in_order e fs) ≡ true
+put_after : (d e : Entry) (fs : List Entry) → in_order (component_of d) (component_of e) ≡ true → sorted (d ∷ fs) ≡ true → sorted (d ∷ insert_in_order e fs) ≡ true
 put_after d e [] before up = sorted-cons d e [] before refl
 put_after d e (f ∷ fs) before up =
     let parts = and_parts (in_order (component_of d) (component_of f)) (sorted (f ∷ fs)) up in
-    put_in_order-cases (λ es. sorted (d ∷ es) ≡ true) e f fs (λ first. sorted-cons d e (f ∷ fs) before (sorted-cons e f fs first parts.1)) (λ later.
-    sorted-cons d f (put_in_order e fs) parts.0 (put_after f e fs (in_order-exchanged e f later) parts.1))
+    insert_in_order-cases (λ es. sorted (d ∷ es) ≡ true) e f fs (λ first. sorted-cons d e (f ∷ fs) before (sorted-cons e f fs first parts.1)) (λ later.
+    sorted-cons d f (insert_in_order e fs) parts.0 (put_after f e fs (in_order-exchanged e f later) parts.1))
 
-put_sorts : (e : Entry) (fs : List Entry) → sorted fs ≡ true → sorted (put_in_order e fs) ≡ true
+put_sorts : (e : Entry) (fs : List Entry) → sorted fs ≡ true → sorted (insert_in_order e fs) ≡ true
 put_sorts e [] up = refl
 put_sorts e (f ∷ fs) up =
-    put_in_order-cases (λ es. sorted es ≡ true) e f fs (λ first. sorted-cons e f fs first up) (λ later.
+    insert_in_order-cases (λ es. sorted es ≡ true) e f fs (λ first. sorted-cons e f fs first up) (λ later.
     put_after f e fs (in_order-exchanged e f later) up)
 
 order_sorts : (es : List Entry) → sorted (in_canonical_order es) ≡ true
@@ -110,9 +110,9 @@ entries_from-distinct k cs =
     let second = numbered_from k cs j (get_or es j d) (slice_get-get_or es j d within) in
     grind (arith, nat_tests, first, second, before))
 
-table_in_rearranges : (kind : Kind) (es : List Entry) → IsPermutation es (table_in kind es)
-table_in_rearranges is_sequence es = IsPermutation-refl es
-table_in_rearranges is_set es = order_rearranges es
+table_of_kind-rearranges : (kind : Kind) (es : List Entry) → IsPermutation es (table_of_kind kind es)
+table_of_kind-rearranges is_sequence es = IsPermutation-refl es
+table_of_kind-rearranges is_set es = order_rearranges es
 
 -- The laws, of all components.
 module _ {V : Type 0} (components : Components V) where
@@ -127,17 +127,17 @@ module _ {V : Type 0} (components : Components V) where
   pub sequence_numbered : components.kind ≡ is_sequence → (index : ℕ) (e : Entry) → slice_get (table components) index ≡ Some e → e.index ≡ index
   sequence_numbered kind index e at =
       let in_definition_order : entries_from 0 (all_components components) ≡ table components =
-      root_then_added ∙ ap (λ k. table_in k (entries_from 0 components.root) ++ added_entries components) (sym kind) in
+      root_then_added ∙ ap (λ k. table_of_kind k (entries_from 0 components.root) ++ added_entries components) (sym kind) in
       numbered index e (ap (λ es. slice_get es index) in_definition_order ∙ at)
 
   pub table_rearranges : IsPermutation (entries_from 0 (all_components components)) (table components)
   table_rearranges =
       subst (λ es. IsPermutation es (table components)) (sym root_then_added)
-      (IsPermutation-append_left (added_entries components) (entries_from 0 components.root) (root_entries components) (table_in_rearranges components.kind (entries_from 0 components.root)))
+      (IsPermutation-append_left (added_entries components) (entries_from 0 components.root) (root_entries components) (table_of_kind-rearranges components.kind (entries_from 0 components.root)))
 
   pub root_is_canonical : components.kind ≡ is_set → IsCanonical (map component_of (root_entries components))
   root_is_canonical kind =
-      subst (λ k. IsCanonical (map component_of (table_in k (entries_from 0 components.root)))) (sym kind)
+      subst (λ k. IsCanonical (map component_of (table_of_kind k (entries_from 0 components.root)))) (sym kind)
       (IsCanonical-from_test (map component_of (in_canonical_order (entries_from 0 components.root))) (order_sorts (entries_from 0 components.root)))
 
   pub table_indices_differ : AllPairs (λ d e. d.index ≢ e.index) (table components)

@@ -107,17 +107,17 @@ value_meaning type w = record {
 }
 
 -- what nothing says
-abbrev pub none_say : ValueMeaning
-none_say = record { records = []; IsOfType = ⊤; IsValid = λ _. ⊤; well_formed = λ _ _. tt }
+abbrev pub no_meaning : ValueMeaning
+no_meaning = record { records = []; IsOfType = ⊤; IsValid = λ _. ⊤; well_formed = λ _ _. tt }
 
 -- Two that say the same of a value.
-pub record SaysTheSame (one other : ValueMeaning) : Type 0 where
+pub record MeansTheSame (one other : ValueMeaning) : Type 0 where
   pub records : one.records ≡ other.records
   pub of_type : one.IsOfType ↔ other.IsOfType
   pub valid : (accepts : List ℕ → Bool) → one.IsValid accepts ↔ other.IsValid accepts
 
-pub says_itself : {meaning : ValueMeaning} → SaysTheSame meaning meaning
-says_itself = record { records = refl; of_type = (λ h. h, λ h. h); valid = λ _. (λ h. h, λ h. h) }
+pub means_itself : {meaning : ValueMeaning} → MeansTheSame meaning meaning
+means_itself = record { records = refl; of_type = (λ h. h, λ h. h); valid = λ _. (λ h. h, λ h. h) }
 
 -- a value of one of these types
 abbrev pub OneOf : List Alternative → Type 0

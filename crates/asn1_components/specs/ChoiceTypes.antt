@@ -11,7 +11,7 @@ use Rattle.asn1_model.specs.Tags.{CHOICE, Has, first_tag, tree_tags}
 use Rattle.asn1_model.specs.Composites.{choice_records}
 use Rattle.asn1_model.specs.Meaning.{Meaning}
 use Rattle.asn1_model.specs.Kinds.{choice_tree, choice_type}
-use Rattle.asn1_components.specs.Alternatives.{Alternatives, OneOf, Each, CanBeChosen, HaveDistinctTags, SaysTheSame, ValueMeaning, all_of, none_say, says_itself, table_of, trees_of, chosen_meaning}
+use Rattle.asn1_components.specs.Alternatives.{Alternatives, OneOf, Each, CanBeChosen, HaveDistinctTags, MeansTheSame, ValueMeaning, all_of, no_meaning, means_itself, table_of, trees_of, chosen_meaning}
 use Rattle.asn1_components.specs.ChosenTags.{chosen_tag, chosen_is_among}
 
 -- A CHOICE (X.680, 29) by its name, the table and the trees of its alternatives, whether they can be chosen, and what the
@@ -31,15 +31,15 @@ choice_by name table alternatives CanChoose means is_among = choice_type (Some n
 
 module _ {V : Type 0} (name : List ℕ) (alts : Alternatives) (pick : V → OneOf (all_of alts)) where
   -- A CHOICE of these alternatives, by what is said of each value, which is what the chosen one says.
-  abbrev pub choice_saying : (means : V → ValueMeaning) →
-      ((v : V) → SaysTheSame (means v) (chosen_meaning (all_of alts) (pick v))) → Meaning V
-  choice_saying means agree = choice_by name (table_of alts) (trees_of (all_of alts))
+  abbrev pub choice_by_meanings : (means : V → ValueMeaning) →
+      ((v : V) → MeansTheSame (means v) (chosen_meaning (all_of alts) (pick v))) → Meaning V
+  choice_by_meanings means agree = choice_by name (table_of alts) (trees_of (all_of alts))
       (Each CanBeChosen (all_of alts)) means
       (λ can v. subst (λ rs. Has (tree_tags (choice (trees_of (all_of alts)))) (first_tag rs)) (sym (agree v).records) (chosen_is_among (all_of alts) can (pick v)))
 
   -- the same by which of them a value is
   abbrev pub choice_of : Meaning V
-  choice_of = choice_saying (λ v. chosen_meaning (all_of alts) (pick v)) (λ _. says_itself)
+  choice_of = choice_by_meanings (λ v. chosen_meaning (all_of alts) (pick v)) (λ _. means_itself)
 
 -- What a CHOICE that holds itself is to its own alternatives, where nothing is asked of it. There it has to be under a tag:
 -- without one it may begin with every tag, and so is no alternative.
@@ -50,7 +50,7 @@ inside_itself name table means = choice_by name table none ⊤ means (λ _ _. tt
 -- says of values.
 abbrev pub table_with_itself : {V : Type 0} → List ℕ → (Meaning V → Alternatives) → Table Line
 table_with_itself name alternatives_with =
-    table_of (alternatives_with (inside_itself name no_table (λ _. none_say)))
+    table_of (alternatives_with (inside_itself name no_table (λ _. no_meaning)))
 
 -- The alternatives of a CHOICE that holds itself, by what its author says of each value, by recursion on it.
 abbrev pub alternatives_with_itself : {V : Type 0} → List ℕ → (Meaning V → Alternatives) →
@@ -62,10 +62,10 @@ alternatives_with_itself name alternatives_with means =
 abbrev pub choice_holding_itself : {V : Type 0} (name : List ℕ)
     (alternatives_with : Meaning V → Alternatives) (means : V → ValueMeaning)
     (pick : V → OneOf (all_of (alternatives_with_itself name alternatives_with means))) →
-    ((v : V) → SaysTheSame (means v)
+    ((v : V) → MeansTheSame (means v)
     (chosen_meaning (all_of (alternatives_with_itself name alternatives_with means)) (pick v))) → Meaning V
 choice_holding_itself name alternatives_with means pick agree =
-    choice_saying name (alternatives_with_itself name alternatives_with means) pick means agree
+    choice_by_meanings name (alternatives_with_itself name alternatives_with means) pick means agree
 
 -- what the alternative that is the CHOICE itself, under this tag, says of a value, by what the CHOICE says of it
 abbrev pub itself_under : List ℕ → Table Line → Tag → ValueMeaning → ValueMeaning
@@ -92,8 +92,8 @@ pub record AgreesWithChoice {V : Type 0} (alts : Alternatives) (pick : V → One
 
 -- so for a CHOICE that holds itself
 pub itself_agrees : {V : Type 0} {name : List ℕ} {alts : Alternatives} {pick : V → OneOf (all_of alts)} {means : V → ValueMeaning} →
-    (agree : (v : V) → SaysTheSame (means v) (chosen_meaning (all_of alts) (pick v))) →
-    AgreesWithChoice alts pick (choice_saying name alts pick means agree)
+    (agree : (v : V) → MeansTheSame (means v) (chosen_meaning (all_of alts) (pick v))) →
+    AgreesWithChoice alts pick (choice_by_meanings name alts pick means agree)
 itself_agrees {name = name} {alts = alts} agree = record {
   tag = refl;
   tree = λ _. refl;
@@ -109,4 +109,4 @@ itself_agrees {name = name} {alts = alts} agree = record {
 
 -- and for every other
 pub choice_agrees : {V : Type 0} {name : List ℕ} {alts : Alternatives} {pick : V → OneOf (all_of alts)} → AgreesWithChoice alts pick (choice_of name alts pick)
-choice_agrees = itself_agrees (λ _. says_itself)
+choice_agrees = itself_agrees (λ _. means_itself)

@@ -63,33 +63,33 @@ others_lack (a ∷ alts) apart can (inr x) =
     )
 
 -- The chosen alternative is one record, which begins with one of its own tags, and no other alternative has that tag.
-pub record TagTellsAlternative (alts : List Alternative) (x : OneOf alts) : Type 0 where
+pub record TagIdentifiesAlternative (alts : List Alternative) (x : OneOf alts) : Type 0 where
   pub one_record : IsOneRecord (tree_tags (chosen alts x).type.tree) (chosen_meaning alts x).records
   pub its_own : Has (tree_tags (chosen alts x).type.tree) (chosen_tag alts x)
   pub no_other : Each (LacksTag (chosen_tag alts x)) (others alts x)
 
 -- so it is where the alternatives have distinct tags and can be chosen
-pub tag_tells : (alts : List Alternative) → HaveDistinctTags alts → Each CanBeChosen alts → (x : OneOf alts) → TagTellsAlternative alts x
-tag_tells alts apart can x = record {
+pub tag_identifies : (alts : List Alternative) → HaveDistinctTags alts → Each CanBeChosen alts → (x : OneOf alts) → TagIdentifiesAlternative alts x
+tag_identifies alts apart can x = record {
   one_record = chosen_is_one alts can x;
   its_own = chosen_has_own alts can x;
   no_other = others_lack alts apart can x;
 }
 
 -- Each alternative that can begin with the first tag can begin with the second.
-abbrev pub TellsAlternative : Tag → Tag → List Alternative → Type 0
-TellsAlternative u t alts = Each
+abbrev pub SelectsSameAlternative : Tag → Tag → List Alternative → Type 0
+SelectsSameAlternative u t alts = Each
     (λ a. Has (tree_tags a.type.tree) u → Has (tree_tags a.type.tree) t) alts
 
 -- so the chosen one can, where the first is its own
-pub tells_chosen : (alts : List Alternative) (x : OneOf alts) (u t : Tag) →
-    TellsAlternative u t alts → Has (tree_tags (chosen alts x).type.tree) u →
+pub selects_chosen : (alts : List Alternative) (x : OneOf alts) (u t : Tag) →
+    SelectsSameAlternative u t alts → Has (tree_tags (chosen alts x).type.tree) u →
     Has (tree_tags (chosen alts x).type.tree) t
-tells_chosen [] x u t tells has = absurd x
-tells_chosen (a ∷ alts) (inl w) u t tells has = tells.0 has
-tells_chosen (a ∷ alts) (inr x) u t tells has = tells_chosen alts x u t tells.1 has
+selects_chosen [] x u t tells has = absurd x
+selects_chosen (a ∷ alts) (inl w) u t tells has = tells.0 has
+selects_chosen (a ∷ alts) (inr x) u t tells has = selects_chosen alts x u t tells.1 has
 
 -- a tag tells of itself
-pub tells_itself : (alts : List Alternative) (t : Tag) → TellsAlternative t t alts
-tells_itself [] t = tt
-tells_itself (a ∷ alts) t = (λ has. has, tells_itself alts t)
+pub selects_itself : (alts : List Alternative) (t : Tag) → SelectsSameAlternative t t alts
+selects_itself [] t = tt
+selects_itself (a ∷ alts) t = (λ has. has, selects_itself alts t)

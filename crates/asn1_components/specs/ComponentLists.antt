@@ -22,9 +22,9 @@ all_records [] v = []
 all_records (c ∷ cs) v = c.records v ++ all_records cs v
 
 -- what the rules on tags look at
-abbrev pub seen_by_tags : {V : Type 0} → List (ComponentType V) → List Component
-seen_by_tags [] = []
-seen_by_tags (c ∷ cs) = record { presence = c.presence; tree = c.tree } ∷ seen_by_tags cs
+abbrev pub tagged_components : {V : Type 0} → List (ComponentType V) → List Component
+tagged_components [] = []
+tagged_components (c ∷ cs) = record { presence = c.presence; tree = c.tree } ∷ tagged_components cs
 
 -- a component's line in a table, with its index
 abbrev pub entry_at : {V : Type 0} → ℕ → ComponentType V → Entry
@@ -96,7 +96,7 @@ group_well_formed table cs accepts (Some w) valid = well_formed_between table ac
 -- In a SEQUENCE and in a group a component that may be absent shares no tag with those after it, up to and including the
 -- next that is always there (X.680, 25.6).
 abbrev pub AreDistinctInSequence : {V : Type 0} → List (ComponentType V) → Type 0
-AreDistinctInSequence cs = sequence_clash (seen_by_tags cs) ≡ None
+AreDistinctInSequence cs = sequence_clash (tagged_components cs) ≡ None
 
 -- the components can be those of a SEQUENCE or a group
 abbrev pub CanBeInSequence : {V : Type 0} → List (ComponentType V) → Type 0
@@ -104,7 +104,7 @@ CanBeInSequence cs = EachIsWellTagged cs × AreDistinctInSequence cs
 
 -- In a SET no two components share a tag (X.680, 27.3), those of a group among them.
 abbrev pub AreDistinctInSet : {V : Type 0} → List (ComponentType V) → Type 0
-AreDistinctInSet cs = (set_clash (seen_by_tags cs) ≡ None) × EachTreeIsDistinct cs
+AreDistinctInSet cs = (set_clash (tagged_components cs) ≡ None) × EachTreeIsDistinct cs
 
 -- What is written of components that are not all absent begins with a tag of one of them.
 first_or_later : {V : Type 0} (c : ComponentType V) (cs : List (ComponentType V)) (v : V) → presence_marks_alone (all_records (c ∷ cs) v) ≡ false →

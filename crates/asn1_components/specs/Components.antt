@@ -45,19 +45,19 @@ abbrev pub extensible_set : {V : Type 0} → List (ComponentType V) → List (Co
 extensible_set root additions = record { kind = is_set; root = root; extension = marker additions }
 
 -- the entry, at its place among entries in canonical order
-abbrev pub put_in_order : Entry → List Entry → List Entry
-put_in_order e [] = e ∷ []
-put_in_order e (f ∷ fs) = if in_order (component_of e) (component_of f) then e ∷ f ∷ fs else f ∷ put_in_order e fs
+abbrev pub insert_in_order : Entry → List Entry → List Entry
+insert_in_order e [] = e ∷ []
+insert_in_order e (f ∷ fs) = if in_order (component_of e) (component_of f) then e ∷ f ∷ fs else f ∷ insert_in_order e fs
 
 -- the entries in canonical order: by the smallest tag of each (X.680, 8.6)
 abbrev pub in_canonical_order : List Entry → List Entry
 in_canonical_order [] = []
-in_canonical_order (e ∷ es) = put_in_order e (in_canonical_order es)
+in_canonical_order (e ∷ es) = insert_in_order e (in_canonical_order es)
 
 -- the table of the root: of a SEQUENCE in the order of the definition, of a SET in canonical order
-abbrev pub table_in : Kind → List Entry → List Entry
-table_in is_sequence es = es
-table_in is_set es = in_canonical_order es
+abbrev pub table_of_kind : Kind → List Entry → List Entry
+table_of_kind is_sequence es = es
+table_of_kind is_set es = in_canonical_order es
 
 -- all tags that must be distinct are: as in a SEQUENCE, or as in a SET
 abbrev pub AreDistinctIn : {V : Type 0} → Kind → List (ComponentType V) → Type 0
@@ -65,12 +65,12 @@ AreDistinctIn is_sequence cs = AreDistinctInSequence cs
 AreDistinctIn is_set cs = AreDistinctInSet cs
 
 -- what a value's record is, apart from what is inside
-abbrev pub head_in : Kind → Tag → Table Line → Name → Head
-head_in is_sequence t table n = sequence_head t table n
-head_in is_set t table n = set_head t table n
+abbrev pub head_of_kind : Kind → Tag → Table Line → Name → Head
+head_of_kind is_sequence t table n = sequence_head t table n
+head_of_kind is_set t table n = set_head t table n
 
 pub head_has_tag : (kind : Kind) (t : Tag) (table : Table Line) (n : Name) →
-    HasOwnTag t (head_in kind t table n)
+    HasOwnTag t (head_of_kind kind t table n)
 head_has_tag is_sequence t table n = refl
 head_has_tag is_set t table n = refl
 
@@ -100,9 +100,9 @@ after_marker no_marker lines = None
 after_marker (marker additions) lines = Some lines
 
 -- lines of a table, those after the extension marker apart, by the index of the marker
-abbrev pub parted : List Line → Option ℕ → Table Line
-parted ls None = record { root = ls; additions = None }
-parted ls (Some k) = record { root = take k ls; additions = Some (drop k ls) }
+abbrev pub split_at_marker : List Line → Option ℕ → Table Line
+split_at_marker ls None = record { root = ls; additions = None }
+split_at_marker ls (Some k) = record { root = take k ls; additions = Some (drop k ls) }
 
 module _ {V : Type 0} (components : Components V) where
   -- the additions, none where there is no extension marker
@@ -120,7 +120,7 @@ module _ {V : Type 0} (components : Components V) where
   -- The lines of the field table: those of the root, and then the additions. The index of each is its index in the
   -- definition.
   abbrev pub root_entries : List Entry
-  root_entries = table_in components.kind (entries_from 0 components.root)
+  root_entries = table_of_kind components.kind (entries_from 0 components.root)
 
   abbrev pub added_entries : List Entry
   added_entries = entries_from (length components.root) added
@@ -137,13 +137,13 @@ module _ {V : Type 0} (components : Components V) where
   extension_index = index_of_marker components.extension (length components.root)
 
   -- each component is written where it is defined, in the root or among the additions, which may be absent at will
-  abbrev pub AreInPlace : Type 0
-  AreInPlace = EachCanBeOn in_root components.root × EachCanBeOn in_additions added ×
+  abbrev pub AreOnTheirSides : Type 0
+  AreOnTheirSides = EachCanBeOn in_root components.root × EachCanBeOn in_additions added ×
       EachMayBeAbsent added
 
   -- The type of each component is well tagged, each is in its place, and tags are distinct.
   abbrev pub AreWellTagged : Type 0
-  AreWellTagged = EachIsWellTagged all_components × AreInPlace ×
+  AreWellTagged = EachIsWellTagged all_components × AreOnTheirSides ×
       AreDistinctIn components.kind all_components
 
   -- what a value has inside
@@ -159,7 +159,7 @@ module _ {V : Type 0} (components : Components V) where
   -- The type of these components, under a tag of its own, and with a name.
   abbrev pub constructed_type_under : Tag → List ℕ → Meaning V
   constructed_type_under tag name =
-      scope_type (λ t c n. head_in components.kind t lines n) (λ t c n. head_has_tag components.kind t lines n) tag unconstrained (Some name) inside
+      scope_type (λ t c n. head_of_kind components.kind t lines n) (λ t c n. head_has_tag components.kind t lines n) tag unconstrained (Some name) inside
 
 -- The type of these components, under the tag of its kind.
 abbrev pub constructed_type : {V : Type 0} → List ℕ → Components V → Meaning V
@@ -179,7 +179,7 @@ group name get components = record (group_of name get (lines components) (all_co
 pub record AgreesWithComponents {V : Type 0} (components : Components V) (m : Meaning V) : Type 0 where
   pub tree : (t : Tag) → m.tree t ≡ leaf t
   pub records : (v : V) (t : Tag) (c : ConstraintSet) (n : Name) →
-      m.records v t c n ≡ holding (head_in components.kind t (lines components) n) (component_records components v) ∷ []
+      m.records v t c n ≡ holding (head_of_kind components.kind t (lines components) n) (component_records components v) ∷ []
   pub single : m.IsSingleRecord
   pub present : (v : V) → m.is_present v ≡ true
   pub distinct_tags : (t : Tag) → m.HasDistinctTags t ↔ (IsATag t × AreWellTagged components)
@@ -202,7 +202,7 @@ constructed_agrees = record {
 -- A type of this name and kind whose values are one record each, by its table and what is inside.
 abbrev pub holding_type : {V : Type 0} → List ℕ → Kind → Table Line → Inside V → Meaning V
 holding_type name kind table inside =
-    scope_type (λ t c n. head_in kind t table n) (λ t c n. head_has_tag kind t table n) (tag_of kind)
+    scope_type (λ t c n. head_of_kind kind t table n) (λ t c n. head_has_tag kind t table n) (tag_of kind)
     unconstrained (Some name) inside
 
 -- A type that holds itself. Its components speak of it, so what is inside its values is said first, by recursion over

@@ -10,5 +10,5 @@ pub mod EnumerationLaws
 pub mod Enumerations
 pub mod LabelLaws
 pub mod Labels
-pub mod Meanings
+pub mod EnumerationTypes
 pub mod ItemTables

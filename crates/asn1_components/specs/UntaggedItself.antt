@@ -5,29 +5,29 @@ use Rattle.asn1_tags.specs.Trees.{Trees, choice}
 use Rattle.asn1_model.specs.Meaning.{Meaning}
 use Rattle.asn1_model.specs.RecordTables.{Line, Table, no_table}
 use Rattle.asn1_model.specs.Tags.{Has, first_tag, tree_tags}
-use Rattle.asn1_components.specs.Alternatives.{Alternatives, OneOf, SaysTheSame, ValueMeaning, all_of, chosen_meaning, none_say, trees_of}
-use Rattle.asn1_components.specs.ChoiceTypes.{choice_by, choice_saying, inside_itself, table_with_itself}
+use Rattle.asn1_components.specs.Alternatives.{Alternatives, OneOf, MeansTheSame, ValueMeaning, all_of, chosen_meaning, no_meaning, trees_of}
+use Rattle.asn1_components.specs.ChoiceTypes.{choice_by, choice_by_meanings, inside_itself, table_with_itself}
 
 -- the trees of its alternatives, which rest on nothing that it says of values
 abbrev pub trees_with_itself : {V : Type 0} → List ℕ → (Meaning V → Alternatives) → Trees
 trees_with_itself name alternatives_with =
-    trees_of (all_of (alternatives_with (inside_itself name no_table (λ _. none_say))))
+    trees_of (all_of (alternatives_with (inside_itself name no_table (λ _. no_meaning))))
 
 -- What is said of a value, which begins with a tag of one of these trees.
-pub record SaidWithin (trees : Trees) : Type 1 where
-  pub said : ValueMeaning
-  pub within : Has (tree_tags (choice trees)) (first_tag said.records)
+pub record MeaningWithin (trees : Trees) : Type 1 where
+  pub meaning : ValueMeaning
+  pub within : Has (tree_tags (choice trees)) (first_tag meaning.records)
 
 -- What the CHOICE is to its own alternatives, by what its author says of each value.
 abbrev pub untagged_inside_itself : {V : Type 0} → List ℕ → Table Line → (trees : Trees) →
-    (V → SaidWithin trees) → Meaning V
+    (V → MeaningWithin trees) → Meaning V
 untagged_inside_itself name table trees means =
-    choice_by name table trees ⊤ (λ v. (means v).said) (λ _ v. (means v).within)
+    choice_by name table trees ⊤ (λ v. (means v).meaning) (λ _ v. (means v).within)
 
 -- Its alternatives, which speak of it so.
 abbrev pub alternatives_with_untagged_itself : {V : Type 0} (name : List ℕ)
     (alternatives_with : Meaning V → Alternatives) →
-    (V → SaidWithin (trees_with_itself name alternatives_with)) → Alternatives
+    (V → MeaningWithin (trees_with_itself name alternatives_with)) → Alternatives
 alternatives_with_untagged_itself name alternatives_with means = alternatives_with
     (untagged_inside_itself name (table_with_itself name alternatives_with)
     (trees_with_itself name alternatives_with) means)
@@ -35,9 +35,9 @@ alternatives_with_untagged_itself name alternatives_with means = alternatives_wi
 -- And this is what it means to all others.
 abbrev pub choice_holding_untagged_itself : {V : Type 0} (name : List ℕ)
     (alternatives_with : Meaning V → Alternatives)
-    (means : V → SaidWithin (trees_with_itself name alternatives_with))
+    (means : V → MeaningWithin (trees_with_itself name alternatives_with))
     (pick : V → OneOf (all_of (alternatives_with_untagged_itself name alternatives_with means))) →
-    ((v : V) → SaysTheSame (means v).said
+    ((v : V) → MeansTheSame (means v).meaning
     (chosen_meaning (all_of (alternatives_with_untagged_itself name alternatives_with means)) (pick v))) → Meaning V
-choice_holding_untagged_itself name alternatives_with means pick agree = choice_saying name
-    (alternatives_with_untagged_itself name alternatives_with means) pick (λ v. (means v).said) agree
+choice_holding_untagged_itself name alternatives_with means pick agree = choice_by_meanings name
+    (alternatives_with_untagged_itself name alternatives_with means) pick (λ v. (means v).meaning) agree

@@ -5,7 +5,7 @@ ghost use Rattle.asn1_model.specs.ConstraintSets.{constraint_set};
 ghost use Rattle.asn1_tags.specs.Trees.{shapes};
 ghost use Rattle.asn1_tags.specs.declared.tags.Tag.{Tag};
 ghost use Rattle.asn1_components.specs.Alternatives.{Alternatives, OneOf, root_of, all_of, all_lines, names_of, table_of, trees_in, trees_of, added_trees_of, variance_of};
-ghost use Rattle.asn1_components.specs.ChosenTags.{TagTellsAlternative};
+ghost use Rattle.asn1_components.specs.ChosenTags.{TagIdentifiesAlternative};
 ghost use Rattle.asn1_components.specs.ChoiceTypes.{AgreesWithChoice};
 
 use asn1_bounds::{Bounded, ConstraintTable, Constraints, Extensible, Value};
@@ -70,9 +70,9 @@ pub trait ChoiceType: AsnType + Choice {
 
 /// Of a value of a well tagged CHOICE, the chosen alternative is one record, which begins with one of the alternative's own
 /// tags, and no other alternative has that tag (X.680, 29.3). So a decoder knows the alternative by the next tag.
-pub fn the_chosen_tag_tells_the_alternative<T: ChoiceType>()
+pub fn the_chosen_tag_identifies_the_alternative<T: ChoiceType>()
     ensures { (t : Tag) (v : T) → T.meaning.HasDistinctTags t →
-        TagTellsAlternative (all_of T.alternatives) (T.pick v) }
+        TagIdentifiesAlternative (all_of T.alternatives) (T.pick v) }
 {}
 
 /// The table that records have of a CHOICE is what the calls of the type answer: the trees of the root are those of `variants`

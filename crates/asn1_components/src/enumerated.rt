@@ -6,7 +6,7 @@ ghost use Rattle.std.specs.Ordering.{int_eq};
 ghost use Rattle.std.specs.Str.{bytes_eq};
 ghost use Rattle.asn1_components.specs.Enumerations.{IsEnumeration, added, items as items_of, values, numbers, names, item_of, number_of, name_of};
 ghost use Rattle.asn1_components.specs.Labels.{labels_of};
-ghost use Rattle.asn1_components.specs.Meanings.{AgreesWithEnumeration};
+ghost use Rattle.asn1_components.specs.EnumerationTypes.{AgreesWithEnumeration};
 ghost use Rattle.asn1_model.specs.ConstraintSets.{ConstraintSet, unconstrained};
 ghost use Rattle.asn1_model.specs.Records.{Name, discriminant, scalar};
 ghost use Rattle.asn1_tags.specs.declared.tags.Tag.{Tag};

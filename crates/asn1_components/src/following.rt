@@ -14,7 +14,7 @@ use crate::field_table::FieldTable;
 /// of its tags. Where a run of such components goes on past the end, this rests on what follows (`past_the_end`): nothing
 /// does in a SEQUENCE (`sequence`), and what follows a group has to begin with none of the group's tags (`group`). In a
 /// SET no two components share a tag (`set`).
-pub fn components_are_told_apart<T: FieldTable>(_value: &T)
+pub fn components_are_identified_by_tags<T: FieldTable>(_value: &T)
     ensures sequence { T.components.kind ≡ is_sequence → AreWellTagged T.components →
         EachApart (all_components T.components) _value.now [] }
     ensures group { (rest : List Record) → CanBeInSequence (all_components T.components) →

@@ -9,11 +9,11 @@
 //! | [`FieldTable`] | the components of a type, and their table, line by line |
 //! | [`ConstructedType`] | a type of ASN.1 whose meaning is that of its components |
 //! | [`Constructed`], [`field_in`] | a type whose table is in static memory, as slices |
-//! | [`components_are_told_apart`] | the law on which a reader of components rests |
+//! | [`components_are_identified_by_tags`] | the law on which a reader of components rests |
 //! | [`tables_are_in_order`] | the law of the tables |
 //! | [`Choice`] | the alternatives of a type: their trees, their names, how many there are, and the constraint of their indices |
 //! | [`ChoiceType`] | a type of ASN.1 whose meaning is that of its alternatives |
-//! | [`the_chosen_tag_tells_the_alternative`] | the law on which a decoder of a CHOICE rests |
+//! | [`the_chosen_tag_identifies_the_alternative`] | the law on which a decoder of a CHOICE rests |
 //! | [`alternatives_are_as_in_records`] | the law that the table in records is the one that the calls of a type answer |
 //! | [`EnumerationItem`], `item!` | a value with its number and its name: a line of a type's table; a macro that writes one |
 //! | [`EnumeratedItems`] | the two tables of a type: the items of its root, and those after the extension marker |
@@ -31,7 +31,7 @@
 //!   table (`table`), and its meaning (`constructed_type`). A type that means the same keeps the law of `ConstructedType`
 //!   (`AgreesWithComponents`), which `constructed_agrees` proves for each such meaning. An author who gives a type another
 //!   meaning breaks that law.
-//! - `specs/Following.antt` has the words for the records after a component. `components_are_told_apart` says that these begin
+//! - `specs/Following.antt` has the words for the records after a component. `components_are_identified_by_tags` says that these begin
 //!   with none of the component's tags, where the component may be absent, even past the end of a group.
 //!   `tables_are_in_order` says that a SET's table is canonical, and that no index occurs twice.
 //! - The table is in records too (`lines`), with the lines after the extension marker apart (`extension_index`). A clause of
@@ -48,7 +48,7 @@
 //! - `specs/ChoiceTypes.antt` defines the meaning of a CHOICE (`choice_of`), and the law of `ChoiceType`
 //!   (`AgreesWithChoice`): a value has the records of the chosen alternative, and the type is well tagged if and only if all
 //!   alternatives can be chosen and have distinct tags. `choice_agrees` proves the law of each `choice_of`.
-//! - `specs/ChosenTags.antt` says that the tag of the chosen alternative tells it from the others (`TagTellsAlternative`): the
+//! - `specs/ChosenTags.antt` says that the tag of the chosen alternative tells it from the others (`TagIdentifiesAlternative`): the
 //!   alternative is one record, which begins with one of its own tags, and no other alternative has that tag (X.680, 29.3).
 //! - A CHOICE that holds itself defines its values by recursion (`ValueMeaning`). To its own alternatives it is
 //!   `inside_itself`, where nothing is asked of it, and to all others `choice_holding_itself`, whose law is `itself_agrees`. The
@@ -67,7 +67,7 @@
 //!   `from_extended_enumeration_index` answer the value at an index.
 //! - A codec sees the items without their values, as `Labels` (`specs/Labels.antt`): `EnumeratedTable` answers by them, and each
 //!   `Enumerated` type has it.
-//! - `specs/Meanings.antt` defines the meaning of an ENUMERATED type (`enumeration_type`), and the law `agrees` of
+//! - `specs/EnumerationTypes.antt` defines the meaning of an ENUMERATED type (`enumeration_type`), and the law `agrees` of
 //!   `Enumerated` (`AgreesWithEnumeration`), which `enumeration_agrees` proves for each `enumeration_type`. `written_number`
 //!   ensures that the records of a value have the number that `discriminant` answers.
 //!
@@ -87,14 +87,14 @@ pub mod laws;
 mod table_order;
 
 pub use choices::{
-    Choice, ChoiceType, alternatives_are_as_in_records, the_chosen_tag_tells_the_alternative,
+    Choice, ChoiceType, alternatives_are_as_in_records, the_chosen_tag_identifies_the_alternative,
 };
 pub use constructed::{Constructed, field_in};
 pub use enumerated::{Enumerated, written_number};
 pub use enumerated_items::EnumeratedItems;
 pub use enumerated_table::EnumeratedTable;
 pub use field_table::{ConstructedType, FieldTable};
-pub use following::components_are_told_apart;
+pub use following::components_are_identified_by_tags;
 pub use items::EnumerationItem;
 pub use iterators::{DiscriminantIter, ItemIdentifierIter, VariantIter};
 pub use table_order::tables_are_in_order;

@@ -3,7 +3,7 @@ ghost use Rattle.std.specs.Prelude.{◌≡◌, ◌≢◌, ℕ, AllPairs, IsPermu
 ghost use Rattle.asn1_fields.specs.CanonicalOrder.{IsCanonical};
 ghost use Rattle.asn1_fields.specs.Entries.{Entry, component_of, line_of};
 ghost use Rattle.asn1_components.specs.ComponentLists.{entries_from};
-ghost use Rattle.asn1_components.specs.Components.{all_components, is_sequence, is_set, lines, extension_index, parted, root_entries, table};
+ghost use Rattle.asn1_components.specs.Components.{all_components, is_sequence, is_set, lines, extension_index, split_at_marker, root_entries, table};
 
 use crate::field_table::FieldTable;
 
@@ -25,7 +25,7 @@ pub fn tables_are_in_order<T: FieldTable>()
     ensures definition_order { T.components.kind ≡ is_sequence → (index : ℕ) (entry : Entry) →
         slice_get (table T.components) index ≡ Some entry → entry.index ≡ index }
     ensures as_in_records { lines T.components ≡
-        parted (map line_of (table T.components)) (extension_index T.components) }
+        split_at_marker (map line_of (table T.components)) (extension_index T.components) }
     ensures canonical { T.components.kind ≡ is_set →
         IsCanonical (map component_of (root_entries T.components)) }
 {}

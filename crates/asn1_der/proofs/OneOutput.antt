@@ -7,7 +7,7 @@ use Rattle.asn1_der.specs.OneOutput.{HasNoSet, HaveNoSet, HaveOneOutput, IsNoSet
 use Rattle.asn1_der_items.proofs.Canonical.{same_ders}
 use Rattle.asn1_der_items.specs.DistinctTags.{AreDistinctIn, HasDistinctSets, HaveDistinctSets}
 use Rattle.asn1_model.proofs.SameUpToOrder.{SameAll-sym, SameAll-trans}
-use Rattle.asn1_model.specs.Orders.{Same, SameAll, SameRecords, at_end, equal, in_any_order, in_place, next}
+use Rattle.asn1_model.specs.Orders.{SameRecord, SameAll, SameRecords, at_end, equal, in_any_order, one_by_one, next}
 use Rattle.asn1_model.specs.Records.{Head, Record, Records, alternative, explicit_tag, held, listed, more, none, open_type, presence_mark, scalar, scope, sequence, sequence_of, set, set_of}
 
 distinct_in : (h : Head) (rs : Records) → IsNoSet h → AreDistinctIn h rs
@@ -39,9 +39,9 @@ all_have_none (more r rs) free = (All-head HasNoSet r (listed rs) free, all_have
 
 -- the order inside sets means nothing for it
 mutual
-  same_has_none : {r s : Record} → Same r s → HasNoSet r → HasNoSet s
+  same_has_none : {r s : Record} → SameRecord r s → HasNoSet r → HasNoSet s
   same_has_none (equal _) free = free
-  same_has_none (in_place h all) free = (free.0, same_have_none all free.1)
+  same_has_none (one_by_one h all) free = (free.0, same_have_none all free.1)
   same_has_none (in_any_order h {qs = qs} {ss = ss} unordered all moved) free =
       (free.0, all_have_none ss (All-permutation HasNoSet (listed qs) (listed ss) moved (each_has_none qs (same_have_none all free.1))))
 

@@ -2,7 +2,7 @@
 use Rattle.std.proofs.Common.{◌≡◌, ℕ, Bool, true, false, List, [], ◌∷◌, Option, None, Some, Ok, Err, refl, ap, sym, subst, ◌∙◌, arith}
 use Rattle.std.specs.Prelude.{◌↔◌, IsTrue, MatchResult, OnOk, Result}
 use Rattle.asn1_laws.proofs.MarksPassed.{first_left, none_left}
-use Rattle.asn1_laws.proofs.TellingTags.{tells_itself}
+use Rattle.asn1_laws.proofs.TellingTags.{selects_itself}
 use Rattle.asn1_laws.specs.Reading.{Advances, HasAdvanced, IsNextTag, Outside, TellsPresence, marks_passed}
 use Rattle.asn1_laws.specs.declared.decode_error.DecodeError.{DecodeError}
 use Rattle.asn1_components.specs.ComponentTypes.{ComponentType}
@@ -133,7 +133,7 @@ module _ (d e : DerDecoder) (there away : model.PresenceMark) (own : Tags) where
 pub next_told : {V : Type 0} (cs : List (ComponentType V)) (d e : DerDecoder) (items : List model.Record) (outer : Outside) (next : Option Tag) → e.scopes.failed ≡ false → e.scopes.slices ≡ d.scopes.slices → IsNext items next →
     RemainsExactly der_form d.scopes (items, outer) → HasAdvanced in_one_order d e 0 (marks_passed items, outer) (IsNextTag cs items next)
 next_told cs d e items outer next no_failure same is at = record {
-  answer = record { none = is.none; some = λ t found. (t, (is.some t found, tells_itself cs (first_tags items) t (is.some t found))) };
+  answer = record { none = is.none; some = λ t found. (t, (is.some t found, selects_itself cs (first_tags items) t (is.some t found))) };
   at = record {
     no_failure = no_failure;
     inside = subst (λ s. HaveDer (held (marks_passed items)) (left_inside s)) (sym same) (passed items (left_inside d.scopes.slices) at.inside);

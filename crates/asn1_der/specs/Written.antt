@@ -13,7 +13,7 @@ use Rattle.asn1_der_items.specs.Elements.{IsBegun}
 use Rattle.asn1_der_items.specs.declared.form.ScopeForm.{ScopeForm}
 use Rattle.asn1_der_items.specs.declared.form.ScopeForm.TheVariants.{AsDefined, ByTag, ByEncoding, Chosen}
 use Rattle.asn1_items.specs.Items.{IsJoined}
-use Rattle.asn1_model.specs.Orders.{Same}
+use Rattle.asn1_model.specs.Orders.{SameRecord}
 use Rattle.asn1_model.specs.Records as model
 use Rattle.asn1_model.specs.Records.{Head, Record, held, holding, is_presence_mark, presence_marks_alone}
 use Rattle.asn1_model.specs.Tags.{head_tag}
@@ -51,7 +51,7 @@ IsWritten (in_group table rs w) fs bytes = IsJoined (λ before. IsWritten w fs b
 -- The bytes are the DER of a record of this head, which holds these records, in some order where the order means nothing.
 pub record IsHeld (h : Head) (rs : List Record) (bytes : List ℕ) : Type 0 where
   pub closed : Record
-  pub same : Same closed (holding h rs)
+  pub same : SameRecord closed (holding h rs)
   pub has_der : HasDer closed bytes
 
 -- Records have no DER where a part of them has none, or what one of them holds; presence marks always have.

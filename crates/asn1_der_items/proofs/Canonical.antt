@@ -11,7 +11,7 @@ use Rattle.std.specs.Ordering.{is_lt, nat_cmp}
 use Rattle.std.specs.Prelude.{⊤, ◌⊎◌, All, IsPermutation, IsSortedBy, IsTrue, map, nat_eq}
 use Rattle.asn1_laws.proofs.Rearrangements.{made_of}
 use Rattle.asn1_model.proofs.Lists.{held-listed}
-use Rattle.asn1_model.specs.Orders.{Same, SameAll, at_end, equal, in_any_order, in_place, is_unordered, next}
+use Rattle.asn1_model.specs.Orders.{SameRecord, SameAll, at_end, equal, in_any_order, one_by_one, is_unordered, next}
 use Rattle.asn1_model.specs.Records.{Head, Record, Records, none, more, scope, held, listed, listed-held, is_presence_mark, sequence, set, sequence_of, set_of, explicit_tag, alternative}
 use Rattle.asn1_model.specs.Tags.{Has, head_tag, record_tags}
 use Rattle.asn1_tags.specs.Tags.{tag_cmp}
@@ -231,9 +231,9 @@ joined_one r s rs ss one later own other below above a b =
     ∙ sym b.are
 
 mutual
-  pub same_der : (r s : Record) → Same r s → HasDistinctSets r → AreOne (HasDer r) (HasDer s)
+  pub same_der : (r s : Record) → SameRecord r s → HasDistinctSets r → AreOne (HasDer r) (HasDer s)
   same_der r s (equal _) distinct = one_der r
-  same_der r s (in_place h {rs = rs} {ss = ss} all) distinct = form_one (form_of h) (head_tag h) (HaveDer rs) (HaveDer ss) (same_ders rs ss all distinct.1)
+  same_der r s (one_by_one h {rs = rs} {ss = ss} all) distinct = form_one (form_of h) (head_tag h) (HaveDer rs) (HaveDer ss) (same_ders rs ss all distinct.1)
   same_der r s (in_any_order h {rs = rs} {qs = qs} {ss = ss} unordered all moved) distinct = in_any_order_one h rs qs ss unordered moved distinct.0 (same_ders rs qs all distinct.1)
 
   pub same_ders : (rs ss : Records) → SameAll rs ss → HaveDistinctSets rs → AreOne (HaveDer rs) (HaveDer ss)

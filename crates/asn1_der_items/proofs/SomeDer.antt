@@ -6,7 +6,7 @@ use Rattle.std.specs.Int.Digits.{AllBelowBase}
 use Rattle.std.specs.Ordering.{is_lt, nat_cmp}
 use Rattle.std.specs.Prelude.{◌⊎◌, ◌&&◌, IsPermutation}
 use Rattle.asn1_model.proofs.Lists.{held-listed}
-use Rattle.asn1_model.specs.Orders.{SameAll, at_end, equal, in_any_order, in_place, is_unordered, next}
+use Rattle.asn1_model.specs.Orders.{SameAll, at_end, equal, in_any_order, one_by_one, is_unordered, next}
 use Rattle.asn1_model.specs.ConstraintSets.{ConstraintSet}
 use Rattle.asn1_model.specs.Records.{Content, Head, Name, Record, Records, scalar, scope, open_type, presence_mark, none, more, held, listed, listed-held, sequence, set, sequence_of, set_of, explicit_tag, alternative}
 use Rattle.asn1_model.specs.Tags.{head_tag}
@@ -46,7 +46,7 @@ record HaveDerOrNone (rs : Records) : Type 0 where
 -- what is inside in its order
 defined : (h : Head) (rs ordered : Records) (inside : List ℕ) → (head_tag h).value < 2 ^ 32 → SameAll rs ordered → HaveDer ordered inside → AllBelowBase 256 inside →
     ((bytes : List ℕ) → HoldsContents (HaveDer ordered) (head_tag h) true bytes → HasDer (scope h ordered) bytes) → (IsTooLong (HaveDer ordered) → HasNoDer (scope h ordered)) → HasDerOrNone (scope h rs)
-defined h rs ordered inside fits same are below der too_long = record { ordered = scope h ordered; same = in_place h same; either = by (element_or_none (head_tag h) true (HaveDer ordered) inside fits are below) }
+defined h rs ordered inside fits same are below der too_long = record { ordered = scope h ordered; same = one_by_one h same; either = by (element_or_none (head_tag h) true (HaveDer ordered) inside fits are below) }
   where
     by : HasOctets (HoldsContents (HaveDer ordered) (head_tag h) true) ⊎ (2 ^ 64 ≤ length inside) → HasOctets (HasDer (scope h ordered)) ⊎ HasNoDer (scope h ordered)
     by (inl e) = inl (record { octets = e.octets; are = der e.octets e.are; are_octets = e.are_octets })
@@ -78,7 +78,7 @@ scope_or_none (set t table n) rs ordered inside fits same are below =
 scope_or_none (set_of t c n) rs ordered inside fits same are below =
     let r = reordered (λ x y. is_lt (slice_cmp nat_cmp x y)) by_encoding (listed ordered) inside below (subst (λ l. HaveDer l inside) (sym (held-listed ordered)) are) in
     in_a_set (set_of t c n) RiseByEncoding rs ordered fits refl same r (λ ss bytes d. d) (λ ss long. inr long)
-scope_or_none (alternative t c table n) rs ordered inside fits same are below = record { ordered = scope (alternative t c table n) ordered; same = in_place (alternative t c table n) same; either = by (is_one_element inside && tag_eq (tag_of inside) t) refl }
+scope_or_none (alternative t c table n) rs ordered inside fits same are below = record { ordered = scope (alternative t c table n) ordered; same = one_by_one (alternative t c table n) same; either = by (is_one_element inside && tag_eq (tag_of inside) t) refl }
   where
     by : (b : Bool) → (is_one_element inside && tag_eq (tag_of inside) t) ≡ b → HasOctets (HasDer (scope (alternative t c table n) ordered)) ⊎ HasNoDer (scope (alternative t c table n) ordered)
     by true e = inl (record { octets = inside; are = (are, e); are_octets = below })
@@ -97,7 +97,7 @@ scope_from h rs fits i = by i.either
   where
     by : HasOctets (HaveDer i.ordered) ⊎ SomeHasNoDer i.ordered → HasDerOrNone (scope h rs)
     by (inl b) = scope_or_none h rs i.ordered b.octets fits i.same b.are b.are_octets
-    by (inr some) = record { ordered = scope h i.ordered; same = in_place h i.same; either = inr (inl some) }
+    by (inr some) = record { ordered = scope h i.ordered; same = one_by_one h i.same; either = inr (inl some) }
 
 open_type_or_none : (n : Name) (own : List ℕ) → AllBelowBase 256 own → HasDerOrNone (open_type n own)
 open_type_or_none n own below = record { ordered = open_type n own; same = equal (open_type n own); either = by (is_one_element own) refl }

@@ -4,7 +4,7 @@ use Rattle.std.specs.Int.Digits.{AllBelowBase}
 use Rattle.asn1_der_items.specs.Bytes.{HasDer, HasNoDer}
 use Rattle.asn1_der_items.specs.Contents.{IsContentInRange}
 use Rattle.asn1_der_items.specs.Series.{HasOctets}
-use Rattle.asn1_model.specs.Orders.{Same}
+use Rattle.asn1_model.specs.Orders.{SameRecord}
 use Rattle.asn1_model.specs.Records.{Record, Records, scalar, scope, open_type, presence_mark, none, more}
 use Rattle.asn1_model.specs.Tags.{head_tag}
 
@@ -24,5 +24,5 @@ abbrev mutual
 -- The record has DER, or it has none, in some order inside sets.
 pub record HasDerOrNone (r : Record) : Type 0 where
   pub ordered : Record
-  pub same : Same r ordered
+  pub same : SameRecord r ordered
   pub either : HasOctets (HasDer ordered) ⊎ HasNoDer ordered

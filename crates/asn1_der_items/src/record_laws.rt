@@ -5,7 +5,7 @@ ghost use Rattle.asn1_der_items.specs.Existence.{HasDerOrNone, IsInRange};
 ghost use Rattle.asn1_der_items.specs.RecordElements.{IsElementOfRecord};
 ghost use Rattle.asn1_der_items.specs.Series.{IsElementOf};
 ghost use Rattle.asn1_model.specs.ConstraintSets.{ConstraintSet};
-ghost use Rattle.asn1_model.specs.Orders.{Same};
+ghost use Rattle.asn1_model.specs.Orders.{SameRecord};
 ghost use Rattle.asn1_model.specs.Records.{Name, PresenceMark, Record, alternative, held, holding, is_presence_mark, presence_mark};
 ghost use Rattle.asn1_model.specs.RecordTables.{Line, Table};
 ghost use Rattle.asn1_tags.specs.Derives.{ClonesAll, ComparesAll};
@@ -55,7 +55,7 @@ pub fn der_is_unique()
 /// A law of encodings: records that are the same up to the order inside sets have one, where the components of each SET
 /// have distinct tags.
 pub fn der_is_canonical()
-    ensures { (r s : Record) → Same r s → HasDistinctSets r → (own other : List ℕ) →
+    ensures { (r s : Record) → SameRecord r s → HasDistinctSets r → (own other : List ℕ) →
         AllBelowBase 256 own → AllBelowBase 256 other → HasDer r own → HasDer s other →
         own ≡ other }
 {}

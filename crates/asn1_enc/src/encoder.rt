@@ -7,7 +7,7 @@ ghost use Rattle.asn1_laws.specs.Writing.{ClosesGroup, IsLawful, IsOutOfMemory, 
 ghost use Rattle.asn1_laws.specs.WritingTypes.{WritesChoice, WritesComponents, WritesContent, WritesDefault, WritesElements, WritesGroup, WritesOptional, WritesValue};
 ghost use Rattle.asn1_components.specs.Enumerations.{number_of};
 ghost use Rattle.asn1_components.specs.Labels.{labels_of};
-ghost use Rattle.asn1_model.specs.Composites.{option_records, open_type_records, marked};
+ghost use Rattle.asn1_model.specs.Composites.{option_records, open_type_records, mark_records};
 ghost use Rattle.asn1_model.specs.ConstraintSets.{constraint_set, unconstrained};
 ghost use Rattle.asn1_model.specs.Records.{absent, alternative, arcs, bits, bmp, discriminant, general, graphic, group_absent, ia5, in_additions, in_root, null, number, numeric, octet, explicit_tag, present, printable, sequence, sequence_of, set, set_of, teletex, boolean, units, utf8, visible};
 ghost use Rattle.asn1_tags.specs.Names.{name_of};
@@ -128,23 +128,23 @@ pub trait Encoder: Sized {
 
     /// The mark of a component of the root that is there.
     fn mark_present(&mut self, tag: Tag) -> Result<(), EncodeError>
-        ensures { Writes writer self.old (marked (present in_root tag)) ⊤ self.new result };
+        ensures { Writes writer self.old (mark_records (present in_root tag)) ⊤ self.new result };
 
     /// The mark of a component of the root that is absent.
     fn mark_absent(&mut self, tag: Tag) -> Result<(), EncodeError>
-        ensures { Writes writer self.old (marked (absent in_root tag)) ⊤ self.new result };
+        ensures { Writes writer self.old (mark_records (absent in_root tag)) ⊤ self.new result };
 
     /// The mark of an addition that is there.
     fn mark_addition_present(&mut self, tag: Tag) -> Result<(), EncodeError>
-        ensures { Writes writer self.old (marked (present in_additions tag)) ⊤ self.new result };
+        ensures { Writes writer self.old (mark_records (present in_additions tag)) ⊤ self.new result };
 
     /// The mark of an addition that is absent.
     fn mark_addition_absent(&mut self, tag: Tag) -> Result<(), EncodeError>
-        ensures { Writes writer self.old (marked (absent in_additions tag)) ⊤ self.new result };
+        ensures { Writes writer self.old (mark_records (absent in_additions tag)) ⊤ self.new result };
 
     /// The mark of a group of additions that is absent.
     fn mark_group_absent(&mut self) -> Result<(), EncodeError>
-        ensures { Writes writer self.old (marked group_absent) ⊤ self.new result };
+        ensures { Writes writer self.old (mark_records group_absent) ⊤ self.new result };
 
     /// Opens a SEQUENCE, whose components are those of the table of `C`.
     fn open_sequence<C: FieldTable>(

@@ -3,7 +3,7 @@ ghost use Rattle.asn1_laws.specs.GivenTypes.{after_tag, constraints_or_own, give
 ghost use Rattle.asn1_laws.specs.Sides.{side_of};
 ghost use Rattle.asn1_laws.specs.Writing.{Writes};
 ghost use Rattle.asn1_laws.specs.WritingTypes.{WritesOptional};
-ghost use Rattle.asn1_model.specs.Composites.{marked};
+ghost use Rattle.asn1_model.specs.Composites.{mark_records};
 ghost use Rattle.asn1_model.specs.Records.{in_root, present};
 ghost use Rattle.asn1_tags.specs.Names.{name_of};
 ghost use Rattle.std.specs.Prelude.{⊤, Some};
@@ -18,7 +18,7 @@ use asn1_tags::{Identifier, Tag};
 /// The mark of a component that is there.
 #[inline(always)]
 fn mark_present<E: Encoder>(encoder: &mut E, side: Side, tag: Tag) -> Result<(), EncodeError>
-    ensures { Writes E.writer encoder.old (marked (present (side_of side) tag)) ⊤ encoder.new
+    ensures { Writes E.writer encoder.old (mark_records (present (side_of side) tag)) ⊤ encoder.new
         result }
 {
     match side {

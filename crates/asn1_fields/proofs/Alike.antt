@@ -5,7 +5,7 @@ use Rattle.std.specs.Option.{option_map, option_or}
 use Rattle.std.specs.Ordering.{is_le}
 use Rattle.asn1_tags.specs.Tags.{smallest, tag_cmp}
 use Rattle.asn1_tags.specs.Trees.{is_open, leaves}
-use Rattle.asn1_tags.specs.Walks.{meet}
+use Rattle.asn1_tags.specs.Walks.{have_common_tag}
 use Rattle.asn1_tags.specs.declared.tags.Tag.{Tag}
 use Rattle.asn1_fields.specs.CanonicalOrder.{canonical}
 use Rattle.asn1_fields.specs.DistinctTags.{first_clash, rivals, sequence_clash, set_clash, share_tag, up_to_required}
@@ -23,7 +23,7 @@ abbrev pub look_at : Component → Look
 look_at c = record { presence = c.presence; leaves = leaves c.tree; is_open = is_open c.tree }
 
 abbrev shares : Look → Look → Bool
-shares l m = l.is_open || m.is_open || meet l.leaves m.leaves
+shares l m = l.is_open || m.is_open || have_common_tag l.leaves m.leaves
 
 abbrev up_to_required_look : List Look → List Look
 up_to_required_look [] = []

@@ -2,7 +2,7 @@
 use Rattle.std.specs.Prelude.{◌≡◌, ◌⊎◌, ◌<◌, ◌≤◌, ℕ, ◌+◌, Bool, ◌||◌, if◌then◌else◌, IsTrue, List, [], ◌∷◌, Option, None, Some, MatchOption, IfSome, option_map, position, slice_get}
 use Rattle.std.specs.Option.{option_or}
 use Rattle.asn1_tags.specs.Trees.{Tree, is_open, leaves}
-use Rattle.asn1_tags.specs.Walks.{meet}
+use Rattle.asn1_tags.specs.Walks.{have_common_tag}
 use Rattle.asn1_tags.specs.declared.tags.Tag.{Tag}
 use Rattle.asn1_model.specs.Tags.{Has, tree_tags}
 use Rattle.asn1_fields.specs.Entries.{Component, may_be_absent}
@@ -16,7 +16,7 @@ pub record ShareTag (s t : Tree) : Type 0 where
 
 -- The same as a test: a choice of nothing is anywhere in either tree, or they have a leaf in common.
 abbrev pub share_tag : Tree → Tree → Bool
-share_tag s t = is_open s || is_open t || meet (leaves s) (leaves t)
+share_tag s t = is_open s || is_open t || have_common_tag (leaves s) (leaves t)
 
 -- All components of a SET must have distinct tags (X.680, 27.3). Two of them, the first before the second, share one.
 pub record IsSetClash (cs : List Component) (i j : ℕ) : Type 0 where

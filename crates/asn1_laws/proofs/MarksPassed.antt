@@ -3,7 +3,7 @@ use Rattle.std.specs.Prelude.{◌≡◌, Bool, true, false, List, [], ◌∷◌,
 use Rattle.std.proofs.Common.{ap, sym, subst, ◌∙◌}
 use Rattle.asn1_components.specs.ComponentTypes.{ComponentType}
 use Rattle.asn1_laws.specs.Reading.{IsNextTag, TellsComponent, marks_passed}
-use Rattle.asn1_laws.proofs.TellingTags.{tells_itself}
+use Rattle.asn1_laws.proofs.TellingTags.{selects_itself}
 use Rattle.asn1_model.specs.Orders.{SameRecords}
 use Rattle.asn1_model.specs.Records.{Record, scalar, scope, open_type, presence_mark, is_presence_mark, presence_marks_alone}
 use Rattle.asn1_model.specs.Tags.{Has, first_tags, record_tags}
@@ -64,7 +64,7 @@ next_tag cs items first others t is has = record {
   some = λ u e.
       let same : t ≡ u = cc in
       let begins = subst (λ v. Has (first_tags items) v) same (subst (λ ts. Has ts t) (sym (first_left items first others is).tags) has) in
-      (u, (begins, tells_itself cs (first_tags items) u begins));
+      (u, (begins, selects_itself cs (first_tags items) u begins));
 }
 
 -- and what is next is so where the records are the same

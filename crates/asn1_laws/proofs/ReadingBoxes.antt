@@ -3,7 +3,7 @@ use Rattle.std.proofs.Common.{◌≡◌, ◌⊎◌, Bool, true, false, Result, O
 use Rattle.std.specs.Result.{MatchResult}
 use Rattle.asn1_tags.specs.declared.tags.Tag.{Tag}
 use Rattle.asn1_model.specs.ConstraintSets.{ConstraintSet}
-use Rattle.asn1_model.specs.Kinds.{through, under_own_name}
+use Rattle.asn1_model.specs.Kinds.{wrapper_type, under_own_name}
 use Rattle.asn1_model.specs.Meaning.{Meaning}
 use Rattle.asn1_model.specs.Records.{name_or}
 use Rattle.asn1_laws.specs.declared.decode_error.DecodeError.{DecodeError}
@@ -16,7 +16,7 @@ module _ {D V W : Type 0} (R : Reader D) (m : Meaning V) (value : W → V) (t : 
   pub leaves_boxed : (eq : V → V → Bool) (answer : Result V DecodeError) (result : Result W DecodeError) →
       ReadsValue R m eq t c old new answer → AfterReading R m t c old new answer →
       MatchResult answer (λ v. MatchResult result (λ w. value w ≡ v) (λ e. e ≡ Memory)) (λ e. result ≡ Err e) →
-      AfterReading R (under_own_name (through value m)) t c old new result
+      AfterReading R (under_own_name (wrapper_type value m)) t c old new result
   leaves_boxed eq (Ok v) (Ok w) read leaves boxed = record {
     same_depth = leaves.same_depth;
     failed_as_before = leaves.failed_as_before;
@@ -26,7 +26,7 @@ module _ {D V W : Type 0} (R : Reader D) (m : Meaning V) (value : W → V) (t : 
   leaves_boxed eq (Ok v) (Err e) read leaves boxed = record {
     same_depth = tt;
     failed_as_before = tt;
-    after_error = elim (R.failed new) as (λ b. R.failed new ≡ b → (R.failed new ≡ true) ⊎ HasReadPast R (under_own_name (through value m)) t c old new (Err e)) [
+    after_error = elim (R.failed new) as (λ b. R.failed new ≡ b → (R.failed new ≡ true) ⊎ HasReadPast R (under_own_name (wrapper_type value m)) t c old new (Err e)) [
       | true ↦ λ failed. inl failed
       | false ↦ λ not_failed. inr (record {
         same_depth = leaves.same_depth;

@@ -4,7 +4,7 @@ use Rattle.std.proofs.Common.{◌≡◌, ◌≤◌, ◌+◌, ◌++◌, ℕ, Bool
 use Rattle.std.specs.Prelude.{None, Some, ⊤, true}
 use Rattle.asn1_components.specs.Alternatives.{Alternatives, OneOf, CanBeChosen, Each, HaveDistinctTags, ValueMeaning, all_of, chosen, chosen_meaning, table_of}
 use Rattle.asn1_components.specs.ChoiceTypes.{AgreesWithChoice}
-use Rattle.asn1_components.specs.ChosenTags.{TellsAlternative, chosen_has_own, chosen_tag, tells_chosen}
+use Rattle.asn1_components.specs.ChosenTags.{SelectsSameAlternative, chosen_has_own, chosen_tag, selects_chosen}
 use Rattle.asn1_laws.proofs.ReadingAlternatives.{as_tagged, as_untagged}
 use Rattle.asn1_laws.proofs.ReadingSteps.{fails_inside, flat_failure, not_opened, to_end, within_scope}
 use Rattle.asn1_laws.specs.Reading.{Remaining, KeepsDepth, AfterReading, MayFail, HasAdvanced, Outside, Reader, ReadsBack, ReadsValue}
@@ -36,8 +36,8 @@ module _ {D V : Type 0} (R : Reader D) {m : Meaning V} {alts : Alternatives} {pi
   head c n v = alternative (first v) c (table_of alts) n
 
   -- the tag that was answered is one with which the chosen alternative can begin
-  its_tag : (v : V) → Each CanBeChosen (all_of alts) → (tag : Tag) → TellsAlternative (first v) tag (all_of alts) → Has (tree_tags (chosen (all_of alts) (pick v)).type.tree) tag
-  its_tag v can tag tells = tells_chosen (all_of alts) (pick v) (first v) tag tells (chosen_has_own (all_of alts) can (pick v))
+  its_tag : (v : V) → Each CanBeChosen (all_of alts) → (tag : Tag) → SelectsSameAlternative (first v) tag (all_of alts) → Has (tree_tags (chosen (all_of alts) (pick v)).type.tree) tag
+  its_tag v can tag tells = selects_chosen (all_of alts) (pick v) (first v) tag tells (chosen_has_own (all_of alts) can (pick v))
 
   -- the CHOICE was not opened
   pub choice_not_opened : (c : ConstraintSet) (old new : D) {e : DecodeError} → ReadsHeadOfChoice R c alts old new (Err e) → ReadsValue R m eq CHOICE c old new (Err e)

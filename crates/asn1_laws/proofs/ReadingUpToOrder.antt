@@ -11,7 +11,7 @@ use Rattle.asn1_laws.proofs.RemainingRecords.{SameRemaining-refl, SameRemaining-
 use Rattle.asn1_laws.proofs.MarksPassed.{same-marks_passed, same-next_tag}
 use Rattle.asn1_laws.proofs.RecordsIn.{records_in-permutation, same-records_in}
 use Rattle.asn1_model.specs.ConstraintSets.{ConstraintSet}
-use Rattle.asn1_model.specs.Orders.{Same, SameRecords, is_unordered}
+use Rattle.asn1_model.specs.Orders.{SameRecord, SameRecords, is_unordered}
 use Rattle.asn1_model.specs.Records.{Name, Record, Head, PresenceMark, Content, scalar, open_type, presence_mark, holding, highest}
 use Rattle.asn1_model.specs.Tags.{Tags, BeginsWithin, LiesIn, ShareNone}
 use Rattle.asn1_model.proofs.SameRecords.{same-mark}
@@ -102,7 +102,7 @@ module _ {D : Type 0} (R : Reader D) where
 
   -- A call that goes past a record which is the same as no other: one that holds no others.
   past_record : {V : Type 0} (old new : D) (r : Record) (rest : List Record) (outer : Outside) (height : ℕ) (Is : V → Type 0) (result : Result V DecodeError) →
-      ((q : Record) → Same q r → q ≡ r) →
+      ((q : Record) → SameRecord q r → q ≡ r) →
       ((others : List Record) (outside : Outside) → SameRecords others rest → Advances R old new height (r ∷ others, outside) (others, outside) Is result) →
       Advances (up_to_order R) old new height (r ∷ rest, outer) (rest, outer) Is result
   past_record old new r rest outer height Is result alone exact at =

@@ -1,7 +1,7 @@
 -- What remains to be read, up to the order inside sets.
 use Rattle.std.specs.Prelude.{◌≡◌, List, [], ◌∷◌, refl}
 use Rattle.std.proofs.Common.{ap}
-use Rattle.asn1_model.specs.Orders.{Same, SameRecords}
+use Rattle.asn1_model.specs.Orders.{SameRecord, SameRecords}
 use Rattle.asn1_model.specs.Records.{Head, Record}
 use Rattle.asn1_model.proofs.SameUpToOrder.{SameRecords-refl, SameAll-sym, SameAll-trans, same_as_cons, same_as_none}
 use Rattle.asn1_laws.specs.Reading.{Remaining, Outside, SameRemaining, SameOutside, nothing, scope_and}
@@ -37,7 +37,7 @@ pub record RecordIsNext (a : Remaining) (r : Record) (rs : List Record) (outer :
   pub rest : List Record
   pub others : Outside
   pub is : a ≡ (first ∷ rest, others)
-  pub same : Same first r
+  pub same : SameRecord first r
   pub same_rest : SameRecords rest rs
   pub same_outer : SameOutside others outer
 

@@ -8,9 +8,9 @@ use Rattle.asn1_model.specs.Tags.{Has, Tags, only, tree_tags}
 use Rattle.asn1_tags.specs.declared.tags.Tag.{Tag}
 
 -- of the records with which a list begins
-pub tells_itself : {V : Type 0} (cs : List (ComponentType V)) (own : Tags) (t : Tag) → Has own t → TellsComponent cs own t
-tells_itself [] own t has = tt
-tells_itself (c ∷ cs) own t has = (λ lies. lies_has own (tree_tags c.tree) lies t has, tells_itself cs own t has)
+pub selects_itself : {V : Type 0} (cs : List (ComponentType V)) (own : Tags) (t : Tag) → Has own t → TellsComponent cs own t
+selects_itself [] own t has = tt
+selects_itself (c ∷ cs) own t has = (λ lies. lies_has own (tree_tags c.tree) lies t has, selects_itself cs own t has)
 
 -- the tag of an alternative with one tag
 pub its_tag : {t u : Tag} → Has (only t) u → u ≡ t

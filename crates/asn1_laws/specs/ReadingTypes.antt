@@ -5,9 +5,9 @@ use Rattle.std.specs.Option.{option_eq, option_map}
 use Rattle.asn1_tags.specs.Trees.{choice}
 use Rattle.asn1_tags.specs.declared.tags.Tag.{Tag}
 use Rattle.asn1_components.specs.Alternatives.{Alternatives, CanBeChosen, Each, HaveDistinctTags, OneOf, all_of, chosen, chosen_meaning, table_of}
-use Rattle.asn1_components.specs.ChosenTags.{TellsAlternative, chosen_tag}
+use Rattle.asn1_components.specs.ChosenTags.{SelectsSameAlternative, chosen_tag}
 use Rattle.asn1_components.specs.ComponentLists.{CanBeInSequence, EachIsWellTagged, EachIsOfType, EachIsValid, trees_of}
-use Rattle.asn1_components.specs.Components.{AreDistinctIn, Components, Kind, all_components, component_records, head_in, lines}
+use Rattle.asn1_components.specs.Components.{AreDistinctIn, Components, Kind, all_components, component_records, head_of_kind, lines}
 use Rattle.asn1_components.specs.Following.{EndsApart}
 use Rattle.asn1_model.specs.Composites.{alternative_records, default_records, group_records, option_records}
 use Rattle.asn1_model.specs.ConstraintSets.{ConstraintSet}
@@ -41,7 +41,7 @@ module _ {D : Type 0} (R : Reader D) where
   abbrev pub ReadsHeadOfChoice : ConstraintSet → Alternatives → D → D → Result Tag DecodeError → Type 0
   ReadsHeadOfChoice c alternatives old new result =
       (tag : Tag) → HaveDistinctTags (all_of alternatives) → Each CanBeChosen (all_of alternatives) →
-      ReadsHead R old new (alternative tag c (table_of alternatives)) (λ _ answered. TellsAlternative tag answered (all_of alternatives)) result
+      ReadsHead R old new (alternative tag c (table_of alternatives)) (λ _ answered. SelectsSameAlternative tag answered (all_of alternatives)) result
 
 module _ {D : Type 0} (R : Reader D) {V : Type 0} where
   -- A call that reads a value of a well-tagged type, under any name: of each that is of the type
@@ -85,7 +85,7 @@ module _ {D : Type 0} (R : Reader D) {V : Type 0} where
       (v : V) (n : Name) (rest : List Record) (outer : Outside) →
       EachIsWellTagged (all_components components) × AreDistinctIn kind (all_components components) →
       EachIsOfType (all_components components) v → EachIsValid (all_components components) R.accepts v →
-      ReadsBack R old new (holding (head_in kind t (lines components) n) (component_records components v) ∷ []) rest outer (λ w. eq w v ≡ true) result
+      ReadsBack R old new (holding (head_of_kind kind t (lines components) n) (component_records components v) ∷ []) rest outer (λ w. eq w v ≡ true) result
 
   -- A call that reads what a SEQUENCE or a group holds: its components, in the order of their
   -- definition. What follows them begins with no tag of those after the last that is always there.

@@ -6,7 +6,7 @@ use Rattle.asn1_tags.specs.declared.tags.Tag.{Tag}
 use Rattle.asn1_components.specs.Alternatives.{Alternatives, OneOf, all_of, chosen_meaning, table_of}
 use Rattle.asn1_components.specs.ChosenTags.{chosen_tag}
 use Rattle.asn1_components.specs.ComponentLists.{EachIsOfType}
-use Rattle.asn1_components.specs.Components.{Components, Kind, all_components, component_records, head_in, lines}
+use Rattle.asn1_components.specs.Components.{Components, Kind, all_components, component_records, head_of_kind, lines}
 use Rattle.asn1_model.specs.Composites.{alternative_records, default_records, group_records, option_records}
 use Rattle.asn1_model.specs.ConstraintSets.{ConstraintSet}
 use Rattle.asn1_model.specs.Meaning.{Meaning, own_records}
@@ -42,7 +42,7 @@ module _ {E : Type 0} (W : Writer E) {V : Type 0} where
   -- name.
   abbrev pub WritesComponents : {A : Type 0} → Kind → Tag → Name → Components V → V → E → E → Result A EncodeError → Type 0
   WritesComponents kind t n components v old new result =
-      Writes W old (holding (head_in kind t (lines components) n) (component_records components v) ∷ [])
+      Writes W old (holding (head_of_kind kind t (lines components) n) (component_records components v) ∷ [])
       (EachIsOfType (all_components components) v) new result
 
   -- A call that writes what a SEQUENCE, a SET or a group holds: its components, in the order of

@@ -5,19 +5,19 @@ use Rattle.std.proofs.Math.Nat.{le_antisymm, le_refl, le_trans, le-max_left, le-
 use Rattle.std.proofs.lemmas.List.Elements.{All-nil, All-cons, All-head, All-tail}
 use Rattle.std.proofs.lemmas.List.Sorted.{All-permutation, IsPermutation-sym}
 use Rattle.asn1_model.specs.Records.{Record, Records, none, more, listed, height, inner_height, highest, is_presence_mark}
-use Rattle.asn1_model.specs.Orders.{Same, SameAll, equal, in_place, in_any_order, at_end, next}
+use Rattle.asn1_model.specs.Orders.{SameRecord, SameAll, equal, one_by_one, in_any_order, at_end, next}
 use Rattle.asn1_model.specs.Tags.{record_tags}
 
 -- they begin with the same tags
-pub same-tags : {r s : Record} → Same r s → record_tags r ≡ record_tags s
+pub same-tags : {r s : Record} → SameRecord r s → record_tags r ≡ record_tags s
 same-tags (equal r) = refl
-same-tags (in_place h all) = refl
+same-tags (one_by_one h all) = refl
 same-tags (in_any_order h unordered all moved) = refl
 
 -- one is a mark where the other is
-pub same-mark : {r s : Record} → Same r s → is_presence_mark r ≡ is_presence_mark s
+pub same-mark : {r s : Record} → SameRecord r s → is_presence_mark r ≡ is_presence_mark s
 same-mark (equal r) = refl
-same-mark (in_place h all) = refl
+same-mark (one_by_one h all) = refl
 same-mark (in_any_order h unordered all moved) = refl
 
 inner_height-listed : (rs : Records) → inner_height rs ≡ highest (listed rs)
@@ -48,9 +48,9 @@ highest-permutation rs ss moved = le_antisymm (no_deeper ss rs (IsPermutation-sy
 
 -- they are nested as deep
 mutual
-  pub same-height : {r s : Record} → Same r s → height r ≡ height s
+  pub same-height : {r s : Record} → SameRecord r s → height r ≡ height s
   same-height (equal r) = refl
-  same-height (in_place h all) = ap suc (same-inner_height all)
+  same-height (one_by_one h all) = ap suc (same-inner_height all)
   same-height (in_any_order h {qs = qs} {ss = ss} unordered all moved) =
       ap suc (same-inner_height all ∙ (inner_height-listed qs ∙ (highest-permutation (listed qs) (listed ss) moved ∙ sym (inner_height-listed ss))))
 

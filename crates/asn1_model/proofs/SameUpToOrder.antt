@@ -7,7 +7,7 @@ use Rattle.std.proofs.lemmas.List.Sorted.{IsPermutation-refl, IsPermutation-sym,
 use Rattle.asn1_tags.specs.declared.tags.Tag.{Tag}
 use Rattle.asn1_model.specs.Composites.{group_records}
 use Rattle.asn1_model.specs.ConstraintSets.{ConstraintSet}
-use Rattle.asn1_model.specs.Orders.{is_unordered, Same, SameAll, SameRecords, equal, in_place, in_any_order, at_end, next}
+use Rattle.asn1_model.specs.Orders.{is_unordered, SameRecord, SameAll, SameRecords, equal, one_by_one, in_any_order, at_end, next}
 use Rattle.asn1_model.specs.Records.{Name, Content, PresenceMark, Head, Record, Records, scalar, scope, open_type, presence_mark, none, more, held, listed, holding, highest, presence_marks_alone, is_presence_mark, group_start, group_absent, group_end, listed-held}
 use Rattle.asn1_model.specs.RecordTables.{Line, Table}
 use Rattle.asn1_model.specs.Tags.{first_tags, record_tags}
@@ -23,7 +23,7 @@ pub SameRecords-refl : (rs : List Record) → SameRecords rs rs
 SameRecords-refl rs = SameAll-refl (held rs)
 
 -- two lists that are the same are so element by element
-pub SameAll-cons : {r s : Record} {rs ss : Records} → SameAll (more r rs) (more s ss) → Same r s × SameAll rs ss
+pub SameAll-cons : {r s : Record} {rs ss : Records} → SameAll (more r rs) (more s ss) → SameRecord r s × SameAll rs ss
 SameAll-cons (next same all) = (same, all)
 
 -- and as long
@@ -41,14 +41,14 @@ SameAll-append (r ∷ rs) [] us vs all after = elim all [ ]
 SameAll-append (r ∷ rs) (s ∷ ss) us vs all after = let both = SameAll-cons all in next both.0 (SameAll-append rs ss us vs both.1 after)
 
 -- The record at an index, and a list with another record there.
-same_at : (rs ss : List Record) (i : ℕ) {d e : Record} → Same d e → SameAll (held rs) (held ss) → Same (get_or rs i d) (get_or ss i e)
+same_at : (rs ss : List Record) (i : ℕ) {d e : Record} → SameRecord d e → SameAll (held rs) (held ss) → SameRecord (get_or rs i d) (get_or ss i e)
 same_at [] [] i past all = past
 same_at [] (s ∷ ss) i past all = elim all [ ]
 same_at (r ∷ rs) [] i past all = elim all [ ]
 same_at (r ∷ rs) (s ∷ ss) zero past all = (SameAll-cons all).0
 same_at (r ∷ rs) (s ∷ ss) (suc i) past all = same_at rs ss i past ((SameAll-cons all).1)
 
-same_set : (rs ss : List Record) (i : ℕ) {d e : Record} → Same d e → SameAll (held rs) (held ss) → SameAll (held (set rs i d)) (held (set ss i e))
+same_set : (rs ss : List Record) (i : ℕ) {d e : Record} → SameRecord d e → SameAll (held rs) (held ss) → SameAll (held (set rs i d)) (held (set ss i e))
 same_set [] [] i put all = at_end
 same_set [] (s ∷ ss) i put all = elim all [ ]
 same_set (r ∷ rs) [] i put all = elim all [ ]
@@ -109,35 +109,35 @@ held_carried rs qs ss moved all =
 
 -- what is the same as the same
 mutual
-  pub Same-trans : {r s t : Record} → Same r s → Same s t → Same r t
-  Same-trans (equal r) q = q
-  Same-trans (in_place h a) (equal _) = in_place h a
-  Same-trans (in_place h a) (in_place _ b) = in_place h (SameAll-trans a b)
-  Same-trans (in_place h a) (in_any_order _ unordered b m) = in_any_order h unordered (SameAll-trans a b) m
-  Same-trans (in_any_order h unordered a m) (equal _) = in_any_order h unordered a m
-  Same-trans (in_any_order h {qs = qs} {ss = ss} unordered a m) (in_place _ {ss = ts} b) =
+  pub SameRecord-trans : {r s t : Record} → SameRecord r s → SameRecord s t → SameRecord r t
+  SameRecord-trans (equal r) q = q
+  SameRecord-trans (one_by_one h a) (equal _) = one_by_one h a
+  SameRecord-trans (one_by_one h a) (one_by_one _ b) = one_by_one h (SameAll-trans a b)
+  SameRecord-trans (one_by_one h a) (in_any_order _ unordered b m) = in_any_order h unordered (SameAll-trans a b) m
+  SameRecord-trans (in_any_order h unordered a m) (equal _) = in_any_order h unordered a m
+  SameRecord-trans (in_any_order h {qs = qs} {ss = ss} unordered a m) (one_by_one _ {ss = ts} b) =
       let w = held_carried qs ss ts m b in
       in_any_order h unordered (SameAll-trans a w.same) w.moved
-  Same-trans (in_any_order h {qs = qs} {ss = ss} unordered a m) (in_any_order _ {qs = ps} {ss = ts} _ b k) =
+  SameRecord-trans (in_any_order h {qs = qs} {ss = ss} unordered a m) (in_any_order _ {qs = ps} {ss = ts} _ b k) =
       let w = held_carried qs ss ps m b in
       in_any_order h unordered (SameAll-trans a w.same) (IsPermutation-trans (listed w.between) (listed ps) (listed ts) w.moved k)
 
   pub SameAll-trans : {rs ss ts : Records} → SameAll rs ss → SameAll ss ts → SameAll rs ts
   SameAll-trans at_end q = q
-  SameAll-trans (next same all) (next same' all') = next (Same-trans same same') (SameAll-trans all all')
+  SameAll-trans (next same all) (next same' all') = next (SameRecord-trans same same') (SameAll-trans all all')
 
 -- and the other way round
 mutual
-  pub Same-sym : {r s : Record} → Same r s → Same s r
-  Same-sym (equal r) = equal r
-  Same-sym (in_place h a) = in_place h (SameAll-sym a)
-  Same-sym (in_any_order h {rs = rs} {qs = qs} {ss = ss} unordered a m) =
+  pub SameRecord-sym : {r s : Record} → SameRecord r s → SameRecord s r
+  SameRecord-sym (equal r) = equal r
+  SameRecord-sym (one_by_one h a) = one_by_one h (SameAll-sym a)
+  SameRecord-sym (in_any_order h {rs = rs} {qs = qs} {ss = ss} unordered a m) =
       let w = held_carried ss qs rs (IsPermutation-sym (listed qs) (listed ss) m) (SameAll-sym a) in
       in_any_order h unordered w.same w.moved
 
   pub SameAll-sym : {rs ss : Records} → SameAll rs ss → SameAll ss rs
   SameAll-sym at_end = at_end
-  SameAll-sym (next same all) = next (Same-sym same) (SameAll-sym all)
+  SameAll-sym (next same all) = next (SameRecord-sym same) (SameAll-sym all)
 
 -- they are marks alone alike, and nested as deep
 pub same-marks_alone : (rs ss : List Record) → SameAll (held rs) (held ss) → presence_marks_alone rs ≡ presence_marks_alone ss
@@ -164,10 +164,10 @@ same-first_tags (r ∷ rs) (s ∷ ss) all =
 
 -- records of one head that hold the same are the same
 pub same_holding : (h : Head) (rs ss : List Record) → SameAll (held rs) (held ss) → SameAll (held (holding h rs ∷ [])) (held (holding h ss ∷ []))
-same_holding h rs ss all = next (in_place h all) at_end
+same_holding h rs ss all = next (one_by_one h all) at_end
 
 -- and also those that hold the same after a rearrangement, where the order means nothing
-pub same_rearranged : (h : Head) (rs qs ss : List Record) → is_unordered h ≡ true → SameAll (held rs) (held qs) → IsPermutation qs ss → Same (holding h rs) (holding h ss)
+pub same_rearranged : (h : Head) (rs qs ss : List Record) → is_unordered h ≡ true → SameAll (held rs) (held qs) → IsPermutation qs ss → SameRecord (holding h rs) (holding h ss)
 same_rearranged h rs qs ss unordered all moved =
     in_any_order h unordered all (subst (λ l. IsPermutation l (listed (held ss))) (sym (listed-held qs)) (subst (λ l. IsPermutation qs l) (sym (listed-held ss)) moved))
 
@@ -184,13 +184,13 @@ same_group_records table rs ss all = by_marks (presence_marks_alone rs) (presenc
         next (equal (presence_mark (group_start table))) (SameAll-append rs ss (presence_mark group_end ∷ []) (presence_mark group_end ∷ []) all (SameAll-refl (held (presence_mark group_end ∷ []))))
 
 -- What holds no other records is the same as itself alone.
-pub same_as_scalar : {q : Record} {t : Tag} {c : ConstraintSet} {n : Name} {x : Content} → Same q (scalar t c n x) → q ≡ scalar t c n x
+pub same_as_scalar : {q : Record} {t : Tag} {c : ConstraintSet} {n : Name} {x : Content} → SameRecord q (scalar t c n x) → q ≡ scalar t c n x
 same_as_scalar (equal r) = refl
 
-pub same_as_raw : {q : Record} {n : Name} {bytes : List ℕ} → Same q (open_type n bytes) → q ≡ open_type n bytes
+pub same_as_raw : {q : Record} {n : Name} {bytes : List ℕ} → SameRecord q (open_type n bytes) → q ≡ open_type n bytes
 same_as_raw (equal r) = refl
 
-pub same_as_mark : {q : Record} {m : PresenceMark} → Same q (presence_mark m) → q ≡ presence_mark m
+pub same_as_mark : {q : Record} {m : PresenceMark} → SameRecord q (presence_mark m) → q ≡ presence_mark m
 same_as_mark (equal r) = refl
 
 -- What is the same as a record that holds others: it has the same head, and holds lists that are the same after a
@@ -213,9 +213,9 @@ holds_as_it_is h rs ss all = record {
   unmoved = λ _. refl;
 }
 
-pub same_as_holding : (q : Record) (h : Head) (ss : List Record) → Same q (holding h ss) → HoldsTheSame q h ss
+pub same_as_holding : (q : Record) (h : Head) (ss : List Record) → SameRecord q (holding h ss) → HoldsTheSame q h ss
 same_as_holding q h ss (equal r) = holds_as_it_is h (held ss) ss (SameAll-refl (held ss))
-same_as_holding q h ss (in_place _ {rs = rs} all) = holds_as_it_is h rs ss all
+same_as_holding q h ss (one_by_one _ {rs = rs} all) = holds_as_it_is h rs ss all
 same_as_holding q h ss (in_any_order _ {rs = rs} {qs = qs} unordered all moved) = record {
   inner = listed rs;
   is = ap (scope h) (sym (held-listed rs));
@@ -230,7 +230,7 @@ pub record BeginsTheSame (qs : List Record) (r : Record) (rs : List Record) : Ty
   pub first : Record
   pub others : List Record
   pub is : qs ≡ first ∷ others
-  pub same_first : Same first r
+  pub same_first : SameRecord first r
   pub same_others : SameAll (held others) (held rs)
 
 pub same_as_cons : (qs : List Record) (r : Record) (rs : List Record) → SameAll (held qs) (held (r ∷ rs)) → BeginsTheSame qs r rs
@@ -242,4 +242,4 @@ same_as_none [] all = refl
 same_as_none (q ∷ qs) all = elim all [ ]
 
 -- what a law of sameness is proved with
-pub ruleset sameness = (equal, Same-sym, Same-trans, SameAll-refl, SameAll-sym, SameAll-trans)
+pub ruleset sameness = (equal, SameRecord-sym, SameRecord-trans, SameAll-refl, SameAll-sym, SameAll-trans)

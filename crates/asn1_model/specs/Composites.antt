@@ -53,8 +53,8 @@ abbrev pub open_type_records : Name → List ℕ → List Record
 open_type_records n bytes = open_type n bytes ∷ []
 
 -- a presence mark alone
-abbrev pub marked : PresenceMark → List Record
-marked m = presence_mark m ∷ []
+abbrev pub mark_records : PresenceMark → List Record
+mark_records m = presence_mark m ∷ []
 
 -- A component that may be absent (X.680, 25.1) is a presence mark that says so, or one that says that it is there, and its
 -- records.

@@ -85,8 +85,8 @@ abbrev pub unbounded_integer_type : Meaning ℤ
 unbounded_integer_type = scalar_type (universal 2) unconstrained (Some (codes "INTEGER")) number
 
 -- A type that holds a value of another and means the same.
-abbrev pub through : {V W : Type 0} → (W → V) → Meaning V → Meaning W
-through target m = record {
+abbrev pub wrapper_type : {V W : Type 0} → (W → V) → Meaning V → Meaning W
+wrapper_type target m = record {
   tag = m.tag;
   name = m.name;
   constraints = m.constraints;

@@ -14,14 +14,14 @@ is_unordered (alternative t c table n) = false
 -- Two records are the same up to order if they are equal, or if they have one head and hold lists whose elements are the
 -- same up to order one by one, where the order means nothing after some rearrangement of the second.
 mutual
-  pub data Same : Record → Record → Type 0 where
-    equal : (r : Record) → Same r r
-    in_place : (h : Head) {rs ss : Records} → SameAll rs ss → Same (scope h rs) (scope h ss)
-    in_any_order : (h : Head) {rs qs ss : Records} → is_unordered h ≡ true → SameAll rs qs → IsPermutation (listed qs) (listed ss) → Same (scope h rs) (scope h ss)
+  pub data SameRecord : Record → Record → Type 0 where
+    equal : (r : Record) → SameRecord r r
+    one_by_one : (h : Head) {rs ss : Records} → SameAll rs ss → SameRecord (scope h rs) (scope h ss)
+    in_any_order : (h : Head) {rs qs ss : Records} → is_unordered h ≡ true → SameAll rs qs → IsPermutation (listed qs) (listed ss) → SameRecord (scope h rs) (scope h ss)
 
   pub data SameAll : Records → Records → Type 0 where
     at_end : SameAll none none
-    next : {r s : Record} {rs ss : Records} → Same r s → SameAll rs ss → SameAll (more r rs) (more s ss)
+    next : {r s : Record} {rs ss : Records} → SameRecord r s → SameAll rs ss → SameAll (more r rs) (more s ss)
 
 -- Lists of records that are the same up to the order inside sets.
 abbrev pub SameRecords : List Record → List Record → Type 0

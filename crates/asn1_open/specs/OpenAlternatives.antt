@@ -2,7 +2,7 @@
 use Rattle.std.specs.Prelude.{◌≡◌, ℕ, Bool as Truth, true, List, [], ◌∷◌, IsTrue, Result, codes, refl}
 use Rattle.std.specs.String.{string_bytes}
 use Rattle.std.proofs.Common.{inl, inr}
-use Rattle.asn1_components.specs.Alternatives.{Alternatives, OneOf, SaysTheSame, ValueMeaning, all_of, alternative, chosen_meaning, closed, says_itself, value_meaning}
+use Rattle.asn1_components.specs.Alternatives.{Alternatives, OneOf, MeansTheSame, ValueMeaning, all_of, alternative, chosen_meaning, closed, means_itself, value_meaning}
 use Rattle.asn1_components.specs.ChoiceTypes.{alternatives_with_itself, choice_holding_itself, inside_itself, table_with_itself}
 use Rattle.asn1_laws.specs.Reading.{Outside, Reader, ReadsBack}
 use Rattle.asn1_laws.specs.declared.decode_error.DecodeError.{DecodeError}
@@ -100,15 +100,15 @@ open_pick (UniversalString string) = inr (inr (inr (inr (inr (inr (inl string)))
 open_pick (VisibleString string) = inr (inr (inr (inr (inr (inr (inr (inl string)))))))
 open_pick (InstanceOf' place type_id value) = inr (inr (inr (inr (inr (inr (inr (inr (inl (record { type_id = type_id; value = value })))))))))
 
-pub open_agrees : (v : Open) → SaysTheSame (open_means v) (chosen_meaning (all_of open_alternatives) (open_pick v))
-open_agrees (BitString string) = says_itself
-open_agrees (Bool flag) = says_itself
-open_agrees (Integer number) = says_itself
-open_agrees Null = says_itself
-open_agrees (ObjectIdentifier arcs) = says_itself
-open_agrees (OctetString string) = says_itself
-open_agrees (UniversalString string) = says_itself
-open_agrees (VisibleString string) = says_itself
+pub open_agrees : (v : Open) → MeansTheSame (open_means v) (chosen_meaning (all_of open_alternatives) (open_pick v))
+open_agrees (BitString string) = means_itself
+open_agrees (Bool flag) = means_itself
+open_agrees (Integer number) = means_itself
+open_agrees Null = means_itself
+open_agrees (ObjectIdentifier arcs) = means_itself
+open_agrees (OctetString string) = means_itself
+open_agrees (UniversalString string) = means_itself
+open_agrees (VisibleString string) = means_itself
 open_agrees (InstanceOf' place type_id value) = record { records = refl; of_type = (λ h. h, λ h. h); valid = λ _. (λ h. h, λ h. h) }
 
 -- What an `Open` means.

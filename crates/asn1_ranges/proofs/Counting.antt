@@ -1,17 +1,17 @@
 -- The numbers from a first to a last one are as many as `numbers_between` says.
 use Rattle.std.proofs.Common.{◌≡◌, ℕ, ◌+◌, ◌<◌, ℤ, pos, negsuc, ◌+ℤ◌, ◌-ℤ◌, ◌≤ℤ◌, Some, refl, arith}
 use Rattle.std.proofs.lemmas.Int.{ints}
-use Rattle.asn1_ranges.specs.Count.{or_zero, numbers_between, HasCount}
+use Rattle.asn1_ranges.specs.Count.{at_least_zero, numbers_between, HasCount}
 use Rattle.asn1_ranges.specs.Members.{IsMember}
 use Rattle.asn1_ranges.specs.Ends.{start_of, end_of}
 use Rattle.asn1_ranges.specs.declared.bounded.Bounded.{Bounded}
 use Rattle.asn1_ranges.specs.declared.bounded.Bounded.TheVariants as bounded
 
-below : (z : ℤ) (i : ℕ) → i < or_zero z → pos (i + 1) ≤ℤ z
+below : (z : ℤ) (i : ℕ) → i < at_least_zero z → pos (i + 1) ≤ℤ z
 below (pos n) i h = grind (arith, ints)
 below (negsuc n) i h = grind (arith, ints)
 
-within : (z : ℤ) (i : ℕ) → pos (i + 1) ≤ℤ z → i < or_zero z
+within : (z : ℤ) (i : ℕ) → pos (i + 1) ≤ℤ z → i < at_least_zero z
 within (pos n) i h = grind (arith, ints)
 within (negsuc n) i h = grind (arith, ints)
 

@@ -10,8 +10,8 @@ use Rattle.asn1_ranges.specs.declared.bounded.Bounded.TheVariants.{None, Single,
 
 module _ {T : Type 0} where
   -- the test is true of two values if and only if they are the same
-  abbrev pub TellsApart : (T → T → Bool) → Type 0
-  TellsApart eq = (a b : T) → IsTrue (eq a b) ↔ (a ≡ b)
+  abbrev pub IsExactEquality : (T → T → Bool) → Type 0
+  IsExactEquality eq = (a b : T) → IsTrue (eq a b) ↔ (a ≡ b)
 
   -- a clone is its source, and none fails
   abbrev pub ClonesExactly : (T → T → Type 0) → (T → Type 0) → Type 0

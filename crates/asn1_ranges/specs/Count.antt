@@ -2,13 +2,13 @@
 use Rattle.std.specs.Prelude.{◌≡◌, ℕ, ◌<◌, ℤ, pos, negsuc, ◌+ℤ◌, ◌-ℤ◌}
 
 -- the number, and 0 in place of one below it
-abbrev pub or_zero : ℤ → ℕ
-or_zero (pos n) = n
-or_zero (negsuc n) = 0
+abbrev pub at_least_zero : ℤ → ℕ
+at_least_zero (pos n) = n
+at_least_zero (negsuc n) = 0
 
 -- how many whole numbers there are from the first to the last: none where the first is above the last
 abbrev pub numbers_between : ℤ → ℤ → ℕ
-numbers_between first last = or_zero (last -ℤ first +ℤ pos 1)
+numbers_between first last = at_least_zero (last -ℤ first +ℤ pos 1)
 
 -- how far the value is above the start
 abbrev pub distance : {T : Type 0} → (T → ℤ) → T → T → ℤ

@@ -1,7 +1,7 @@
 //! What the derives of bounds answer, and the ghost members that an impl states for itself.
 ghost use Rattle.std.specs.Prelude.{◌≡◌, ◌-◌, ◌^◌, Some, ℕ, ℤ, pos};
 ghost use Rattle.asn1_ranges.specs.declared.bounded.Bounded.{Bounded};
-ghost use Rattle.asn1_ranges.specs.Compared.{TellsApart, ClonesExactly, bound_eq, bound_cmp, bound_hash};
+ghost use Rattle.asn1_ranges.specs.Compared.{IsExactEquality, ClonesExactly, bound_eq, bound_cmp, bound_hash};
 ghost use Rattle.asn1_ranges.specs.Text.{bound_text};
 
 use crate::bounded::Bounded;
@@ -23,9 +23,9 @@ pub fn bounds_are_compared_by_ends<T: Ord + Hash>()
 {}
 
 /// Two bounds of values, or of lengths, are equal if and only if they are the same bound, and a clone is its source.
-pub fn bounds_of_numbers_are_told_apart()
-    ensures values { TellsApart ⟦<Bounded<i128> as PartialEq>⟧.eq }
-    ensures lengths { TellsApart ⟦<Bounded<usize> as PartialEq>⟧.eq }
+pub fn bounds_of_numbers_are_equal_only_to_themselves()
+    ensures values { IsExactEquality ⟦<Bounded<i128> as PartialEq>⟧.eq }
+    ensures lengths { IsExactEquality ⟦<Bounded<usize> as PartialEq>⟧.eq }
     ensures clone { ClonesExactly ⟦<Bounded<i128> as Clone>⟧.is_clone
         ⟦<Bounded<i128> as Clone>⟧.is_infallible }
 {}

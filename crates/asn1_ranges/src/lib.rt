@@ -17,7 +17,7 @@
 //! - `Bounded::range` counts the members (`counted`), `Bounded::effective_value` gives offsets (`offset`), and
 //!   `Bounded::range_in_bytes` a sign and a width (`signed`, `octets`): each at every bound, and no sum wraps.
 //! - What the derived comparisons, hash, copy and default of a bound answer is said by `bounds_are_compared_by_ends` and
-//!   `bounds_of_numbers_are_told_apart`; which number a value is by `whole_numbers_are_their_values`, and the greatest one of each
+//!   `bounds_of_numbers_are_equal_only_to_themselves`; which number a value is by `whole_numbers_are_their_values`, and the greatest one of each
 //!   type by `whole_numbers_end_where_their_widths_do`. These do nothing.
 //! - The text of a bound is said byte for byte, by the `output` of its `Display`.
 //!

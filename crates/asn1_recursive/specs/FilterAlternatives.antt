@@ -14,7 +14,7 @@ use Rattle.asn1_model.specs.RecordTables.{Line, Table}
 use Rattle.asn1_model.specs.WellFormed.{well_formed_append, well_formed_elements}
 use Rattle.asn1_model.specs.TaggedTypes.{tagged}
 use Rattle.asn1_model.specs.Tags.{CHOICE, context}
-use Rattle.asn1_components.specs.Alternatives.{Alternatives, OneOf, SaysTheSame, ValueMeaning, all_of, alternative, chosen_meaning, extensible, none_say, says_itself, value_meaning}
+use Rattle.asn1_components.specs.Alternatives.{Alternatives, OneOf, MeansTheSame, ValueMeaning, all_of, alternative, chosen_meaning, extensible, no_meaning, means_itself, value_meaning}
 use Rattle.asn1_components.specs.ChoiceTypes.{alternatives_with_itself, choice_holding_itself, inside_itself, itself_under, table_with_itself}
 use Rattle.asn1_types.specs.Kinds.{set_of_type}
 use Rattle.asn1_recursive.specs.contracts.attribute_value_assertion.AttributeValueAssertionAsnType.TheImpl.{ghosts as assertion}
@@ -81,7 +81,7 @@ abbrev mutual
   filter_means (ExtensibleMatch said) = value_meaning (tagged (context 9) matching_rule.meaning) said
 
   pub filters_mean : {m : _} → Row_of-Filter m → ValueMeaning
-  filters_mean end_of-Filter = none_say
+  filters_mean end_of-Filter = no_meaning
   filters_mean (more_of-Filter filter rest) = both_say
       (itself_under (codes "Filter") filter_table CHOICE (filter_means filter))
       (filters_mean rest)
@@ -118,7 +118,7 @@ together filters = record {
 each_of : {X : Type 0} (P : X → Type 0) (x : X) (xs : List X) {Rest : Type 0} → Rest ↔ All P xs → (P x × Rest) ↔ All P (x ∷ xs)
 each_of P x xs rest = (λ h. All-cons P x xs h.0 (rest.0 h.1), λ h. (All-head P x xs h, rest.1 (All-tail P x xs h)))
 
-filters_agree : {m : _} (filters : Row_of-Filter m) → SaysTheSame (filters_mean filters) (together (items-the_row-Filter m filters))
+filters_agree : {m : _} (filters : Row_of-Filter m) → MeansTheSame (filters_mean filters) (together (items-the_row-Filter m filters))
 filters_agree end_of-Filter = record {
   records = refl;
   of_type = (λ _. All-nil inner_filter.IsOfType, λ _. tt);
@@ -132,26 +132,26 @@ filters_agree (more_of-Filter {n = n} filter rest) =
     }
 
 set_agrees : (t : Tag) {m : _} (filters : Row_of-Filter m) →
-    SaysTheSame (set_says t (filters_mean filters)) (set_says t (together (items-the_row-Filter m filters)))
+    MeansTheSame (set_says t (filters_mean filters)) (set_says t (together (items-the_row-Filter m filters)))
 set_agrees t filters =
     let same = filters_agree filters in
     record { records = ap (set_of_records t unconstrained (Some (codes "SET_OF"))) same.records; of_type = same.of_type; valid = same.valid }
 
-pub filter_agrees : (v : Filter) → SaysTheSame (filter_means v) (chosen_meaning (all_of filter_alternatives) (filter_pick v))
+pub filter_agrees : (v : Filter) → MeansTheSame (filter_means v) (chosen_meaning (all_of filter_alternatives) (filter_pick v))
 filter_agrees (And' shape filters) =
     let same = set_agrees (context 0) filters in
     record { records = same.records; of_type = same.of_type; valid = same.valid }
 filter_agrees (Or' shape filters) =
     let same = set_agrees (context 1) filters in
     record { records = same.records; of_type = same.of_type; valid = same.valid }
-filter_agrees (Not' place inner) = says_itself
-filter_agrees (EqualityMatch said) = says_itself
-filter_agrees (Substrings said) = says_itself
-filter_agrees (GreaterOrEqual said) = says_itself
-filter_agrees (LessOrEqual said) = says_itself
-filter_agrees (Present name) = says_itself
-filter_agrees (ApproxMatch said) = says_itself
-filter_agrees (ExtensibleMatch said) = says_itself
+filter_agrees (Not' place inner) = means_itself
+filter_agrees (EqualityMatch said) = means_itself
+filter_agrees (Substrings said) = means_itself
+filter_agrees (GreaterOrEqual said) = means_itself
+filter_agrees (LessOrEqual said) = means_itself
+filter_agrees (Present name) = means_itself
+filter_agrees (ApproxMatch said) = means_itself
+filter_agrees (ExtensibleMatch said) = means_itself
 
 -- What a filter means.
 abbrev pub filter_meaning : Meaning Filter

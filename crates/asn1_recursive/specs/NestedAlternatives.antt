@@ -7,7 +7,7 @@ use Rattle.asn1_model.specs.contracts.impls.boolean.BoolAsnType.TheImpl.{ghosts 
 use Rattle.asn1_model.specs.Meaning.{Meaning}
 use Rattle.asn1_model.specs.RecordTables.{Line, Table}
 use Rattle.asn1_model.specs.TaggedTypes.{tagged, untagged}
-use Rattle.asn1_components.specs.Alternatives.{Alternatives, OneOf, SaysTheSame, ValueMeaning, all_of, alternative, closed, chosen_meaning, says_itself, value_meaning}
+use Rattle.asn1_components.specs.Alternatives.{Alternatives, OneOf, MeansTheSame, ValueMeaning, all_of, alternative, closed, chosen_meaning, means_itself, value_meaning}
 use Rattle.asn1_components.specs.ChoiceTypes.{alternatives_with_itself, choice_holding_itself, itself_under, table_with_itself}
 use Rattle.asn1_recursive.specs.declared.nested.Nested.{Nested, Null, Flag, Inner'}
 
@@ -36,10 +36,10 @@ nested_pick Null = inl tt
 nested_pick (Flag b) = inr (inl b)
 nested_pick (Inner' p inner) = inr (inr (inl inner))
 
-pub nested_agrees : (v : Nested) → SaysTheSame (nested_means v) (chosen_meaning (all_of nested_alternatives) (nested_pick v))
-nested_agrees Null = says_itself
-nested_agrees (Flag b) = says_itself
-nested_agrees (Inner' p inner) = says_itself
+pub nested_agrees : (v : Nested) → MeansTheSame (nested_means v) (chosen_meaning (all_of nested_alternatives) (nested_pick v))
+nested_agrees Null = means_itself
+nested_agrees (Flag b) = means_itself
+nested_agrees (Inner' p inner) = means_itself
 
 -- What a value means.
 abbrev pub nested_meaning : Meaning Nested

@@ -10,7 +10,7 @@ use Rattle.std.specs.declared.alloc.Global.{Global}
 use Rattle.std.specs.declared.string.String.{String}
 use Rattle.asn1_components.proofs.HeldInside.{all_own_and_inside}
 use Rattle.asn1_components.specs.ComponentLists.{all_well_formed}
-use Rattle.asn1_components.specs.Components.{AgreesWithComponents, Components, all_components, component_records, components_with_itself, head_in, holding_itself, inside_itself, is_sequence, sequence, table_with_itself}
+use Rattle.asn1_components.specs.Components.{AgreesWithComponents, Components, all_components, component_records, components_with_itself, head_of_kind, holding_itself, inside_itself, is_sequence, sequence, table_with_itself}
 use Rattle.asn1_components.specs.ComponentTypes.{optional, required}
 use Rattle.asn1_samples.specs.declared.node.Node.{Node, Node-F, out-Node, fold-Node, fold_out-Node}
 use Rattle.asn1_model.specs.Composites.{list_records, option_records, sequence_records}
@@ -135,7 +135,7 @@ node_agrees = record {
   single = tt;
   present = λ _. refl;
   records = λ v t c n. ap
-      (λ components. holding (head_in is_sequence t node_table n) components ∷ [])
+      (λ components. holding (head_of_kind is_sequence t node_table n) components ∷ [])
       (node_records_are v);
   distinct_tags = λ t. (λ h. h, λ h. h);
   of_type = each_label (λ label. IfSome label text.IsOfType);

@@ -26,9 +26,9 @@ pub use Rattle.asn1_types.specs.Words.{in_root, in_additions, present, absent, g
 -- the constraints in records
 pub use Rattle.asn1_types.specs.Words.{unconstrained, values_of, size_of, characters_of, Range}
 -- a CHOICE that holds itself
-pub use Rattle.asn1_components.specs.Alternatives.{Alternatives, OneOf, SaysTheSame, ValueMeaning, all_of, chosen_meaning, says_itself, value_meaning}
+pub use Rattle.asn1_components.specs.Alternatives.{Alternatives, OneOf, MeansTheSame, ValueMeaning, all_of, chosen_meaning, means_itself, value_meaning}
 pub use Rattle.asn1_components.specs.ChoiceTypes.{alternatives_with_itself, choice_holding_itself, inside_itself, itself_agrees, itself_under, table_with_itself}
-pub use Rattle.asn1_components.specs.UntaggedItself.{SaidWithin, alternatives_with_untagged_itself, choice_holding_untagged_itself, trees_with_itself, untagged_inside_itself}
+pub use Rattle.asn1_components.specs.UntaggedItself.{MeaningWithin, alternatives_with_untagged_itself, choice_holding_untagged_itself, trees_with_itself, untagged_inside_itself}
 -- the proof of a reader: the components that are read in their order, and the parts of a SET
 pub use Rattle.asn1_components.specs.Components.{all_components}
 pub use Rattle.asn1_laws.proofs.ReadingComponents.{begin, step, stops, through}

@@ -5,7 +5,7 @@ use Rattle.std.proofs.lemmas.Grind.{common_steps}
 use Rattle.std.proofs.lemmas.List.Elements.{Contains-append_right}
 use Rattle.std.proofs.lemmas.List.Folds.{list_any_at, Any-from_list_any}
 use Rattle.asn1_tags.specs.Tags.{HaveCommonTag, class_number, tag_eq, has, distinct}
-use Rattle.asn1_tags.specs.Walks.{meet}
+use Rattle.asn1_tags.specs.Walks.{have_common_tag}
 use Rattle.asn1_tags.specs.OrderLaws.{same_tag}
 use Rattle.asn1_tags.specs.declared.tags.Tag.{Tag}
 
@@ -59,14 +59,14 @@ distinct-from_AllPairs (t ∷ ts) h = by_test (distinct-from_AllPairs ts rest) (
         absurd (h zero (suc found.0) t (omega arith) (omega arith) (sym found.2))
 
 -- a tag that the test finds in both lists is in both
-pub HaveCommonTag-from_meet : (ts us : List Tag) → meet ts us ≡ true → HaveCommonTag ts us
-HaveCommonTag-from_meet ts us h =
+pub HaveCommonTag-from_test : (ts us : List Tag) → have_common_tag ts us ≡ true → HaveCommonTag ts us
+HaveCommonTag-from_test ts us h =
     let found = Any-from_list_any (λ t. has t us) ts h in
     record { tag = found.1; in_first = (found.0, found.2, found.3); in_second = Contains-from_has found.1 us found.4 }
 
 -- and it finds each that does
-pub meet-from_HaveCommonTag : (ts us : List Tag) → HaveCommonTag ts us → meet ts us ≡ true
-meet-from_HaveCommonTag ts us c =
+pub have_common_tag-from_HaveCommonTag : (ts us : List Tag) → HaveCommonTag ts us → have_common_tag ts us ≡ true
+have_common_tag-from_HaveCommonTag ts us c =
     let in_first = c.in_first in
     list_any_at (λ t. has t us) ts in_first.0 c.tag in_first.1
     (subst (λ t. has t us ≡ true) (sym in_first.2) (has-from_Contains c.tag us c.in_second))
@@ -87,7 +87,7 @@ apart-from_distinct (s ∷ ts) us h t (suc k, below, same) of_us =
     apart-from_distinct ts us (and_parts (not (has s (ts ++ us))) (distinct (ts ++ us)) h).1 t (k, omega arith, same) of_us
 
 -- the tags that two lists have in common
-pub ruleset common_tags = (HaveCommonTag-from_meet, meet-from_HaveCommonTag)
+pub ruleset common_tags = (HaveCommonTag-from_test, have_common_tag-from_HaveCommonTag)
 
 -- the tests of lists of tags, by what they decide
 pub ruleset tag_tests = (Contains-from_has, has-from_Contains, AllPairs-from_distinct, distinct-from_AllPairs)

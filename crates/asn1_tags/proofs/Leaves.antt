@@ -9,7 +9,7 @@ use Rattle.std.proofs.lemmas.List.Elements.{Contains-append_left}
 use Rattle.std.proofs.lemmas.Bool.Decides.{nat_tests}
 use Rattle.std.proofs.lemmas.Grind.{common_steps}
 use Rattle.asn1_tags.specs.Tags.{has, tag_eq, distinct}
-use Rattle.asn1_tags.specs.Walks.{any_begins_with, begins_with, meet}
+use Rattle.asn1_tags.specs.Walks.{any_begins_with, begins_with, have_common_tag}
 use Rattle.asn1_tags.specs.declared.tags.Tag.{Tag}
 use Rattle.asn1_tags.specs.declared.trees.TagTree.{TagTree, Leaf, Choice, Choice', Row_of-TagTree, end_of-TagTree, more_of-TagTree, items-the_row-TagTree, items_hidden-the_row-TagTree-0}
 use Rattle.asn1_tags.specs.Trees.{Tree, Trees, leaf, choice, none, more, shape, row_shapes, shapes, leaves, leaves_of, is_open, is_any_open, is_nothing}
@@ -93,22 +93,22 @@ count_upto ts i d lt =
     let e3 = count_more ts i d lt in
     omega arith
 
-meet-append : (us xs ys : List Tag) → meet (xs ++ ys) us ≡ (meet xs us || meet ys us)
-meet-append us xs ys = list_any-append (λ t. has t us) xs ys
+have_common_tag-append : (us xs ys : List Tag) → have_common_tag (xs ++ ys) us ≡ (have_common_tag xs us || have_common_tag ys us)
+have_common_tag-append us xs ys = list_any-append (λ t. has t us) xs ys
 
 -- a walk that looks for a tag of another list
 pub meet_more : (us : List Tag) (ts : List TagTree) (i : ℕ) (d : TagTree) → i < length ts →
-    meet (leaves_of (shapes (take (i + 1) ts))) us ≡ (meet (leaves_of (shapes (take i ts))) us || meet (leaves (shape (get_or ts i d))) us)
+    have_common_tag (leaves_of (shapes (take (i + 1) ts))) us ≡ (have_common_tag (leaves_of (shapes (take i ts))) us || have_common_tag (leaves (shape (get_or ts i d))) us)
 meet_more us ts i d lt =
-    ap (λ ls. meet ls us) (leaves_of-take ts i d lt) ∙ meet-append us (leaves_of (shapes (take i ts))) (leaves (shape (get_or ts i d)))
+    ap (λ ls. have_common_tag ls us) (leaves_of-take ts i d lt) ∙ have_common_tag-append us (leaves_of (shapes (take i ts))) (leaves (shape (get_or ts i d)))
 
 pub meet_at : (us : List Tag) (ts : List TagTree) (i : ℕ) (d : TagTree) → i < length ts →
-    meet (leaves (shape (get_or ts i d))) us ≡ true → meet (leaves_of (shapes ts)) us ≡ true
+    have_common_tag (leaves (shape (get_or ts i d))) us ≡ true → have_common_tag (leaves_of (shapes ts)) us ≡ true
 meet_at us ts i d lt h =
-    let e1 = ap (λ ls. meet ls us) (leaves_of-split ts i) in
-    let e2 = meet-append us (leaves_of (shapes (take i ts))) (leaves_of (shapes (drop i ts))) in
-    let e3 = ap (λ ls. meet ls us) (leaves_of-drop ts i d lt) in
-    let e4 = meet-append us (leaves (shape (get_or ts i d))) (leaves_of (shapes (drop (i + 1) ts))) in
+    let e1 = ap (λ ls. have_common_tag ls us) (leaves_of-split ts i) in
+    let e2 = have_common_tag-append us (leaves_of (shapes (take i ts))) (leaves_of (shapes (drop i ts))) in
+    let e3 = ap (λ ls. have_common_tag ls us) (leaves_of-drop ts i d lt) in
+    let e4 = have_common_tag-append us (leaves (shape (get_or ts i d))) (leaves_of (shapes (drop (i + 1) ts))) in
     grind (arith, common_steps)
 
 shuffle : (a b d y s : Bool) → (not (a || b) && (d && (y && not s))) ≡ ((not a && d) && (y && not (b || s)))
@@ -122,18 +122,18 @@ and_true : (b : Bool) → b ≡ (b && true)
 and_true true = refl
 and_true false = refl
 
-distinct-append : (xs ys : List Tag) → distinct (xs ++ ys) ≡ (distinct xs && (distinct ys && not (meet xs ys)))
+distinct-append : (xs ys : List Tag) → distinct (xs ++ ys) ≡ (distinct xs && (distinct ys && not (have_common_tag xs ys)))
 distinct-append [] ys = and_true (distinct ys)
 distinct-append (x ∷ xs) ys =
     ap (λ b. not b && distinct (xs ++ ys)) (has-append x xs ys)
     ∙ ap (λ b. not (has x xs || has x ys) && b) (distinct-append xs ys)
-    ∙ shuffle (has x xs) (has x ys) (distinct xs) (distinct ys) (meet xs ys)
+    ∙ shuffle (has x xs) (has x ys) (distinct xs) (distinct ys) (have_common_tag xs ys)
 
 -- a walk that looks for a tag that occurs twice: the tree at i, and those after it
 distinct_rest : (ts : List TagTree) (i : ℕ) (d : TagTree) → i < length ts →
     distinct (leaves_of (shapes (drop i ts)))
     ≡ (distinct (leaves (shape (get_or ts i d)))
-    && (distinct (leaves_of (shapes (drop (i + 1) ts))) && not (meet (leaves (shape (get_or ts i d))) (leaves_of (shapes (drop (i + 1) ts))))))
+    && (distinct (leaves_of (shapes (drop (i + 1) ts))) && not (have_common_tag (leaves (shape (get_or ts i d))) (leaves_of (shapes (drop (i + 1) ts))))))
 distinct_rest ts i d lt =
     ap distinct (leaves_of-drop ts i d lt) ∙ distinct-append (leaves (shape (get_or ts i d))) (leaves_of (shapes (drop (i + 1) ts)))
 
@@ -144,21 +144,21 @@ distinct_stop ts i d lt e h = let r = distinct_rest ts i d lt in grind (arith, c
 
 pub distinct_clash : (ts : List TagTree) (i : ℕ) (d : TagTree) → i < length ts →
     distinct (leaves_of (shapes ts)) ≡ distinct (leaves_of (shapes (drop i ts))) →
-    meet (leaves (shape (get_or ts i d))) (leaves_of (shapes (take (length ts - (i + 1)) (drop (i + 1) ts)))) ≡ true →
+    have_common_tag (leaves (shape (get_or ts i d))) (leaves_of (shapes (take (length ts - (i + 1)) (drop (i + 1) ts)))) ≡ true →
     distinct (leaves_of (shapes ts)) ≡ false
 distinct_clash ts i d lt e h =
     let r = distinct_rest ts i d lt in
-    let k : meet (leaves (shape (get_or ts i d))) (leaves_of (shapes (drop (i + 1) ts))) ≡ true = rw (take_rest ts (i + 1)) at h in
+    let k : have_common_tag (leaves (shape (get_or ts i d))) (leaves_of (shapes (drop (i + 1) ts))) ≡ true = rw (take_rest ts (i + 1)) at h in
     grind (arith, common_steps)
 
 pub distinct_more : (ts : List TagTree) (i : ℕ) (d : TagTree) → i < length ts →
     distinct (leaves_of (shapes ts)) ≡ distinct (leaves_of (shapes (drop i ts))) →
     distinct (leaves (shape (get_or ts i d))) ≡ true →
-    meet (leaves (shape (get_or ts i d))) (leaves_of (shapes (take (length ts - (i + 1)) (drop (i + 1) ts)))) ≡ false →
+    have_common_tag (leaves (shape (get_or ts i d))) (leaves_of (shapes (take (length ts - (i + 1)) (drop (i + 1) ts)))) ≡ false →
     distinct (leaves_of (shapes ts)) ≡ distinct (leaves_of (shapes (drop (i + 1) ts)))
 distinct_more ts i d lt e h apart =
     let r = distinct_rest ts i d lt in
-    let k : meet (leaves (shape (get_or ts i d))) (leaves_of (shapes (drop (i + 1) ts))) ≡ false = rw (take_rest ts (i + 1)) at apart in
+    let k : have_common_tag (leaves (shape (get_or ts i d))) (leaves_of (shapes (drop (i + 1) ts))) ≡ false = rw (take_rest ts (i + 1)) at apart in
     grind (arith, common_steps)
 
 -- the leaves of one tree alone

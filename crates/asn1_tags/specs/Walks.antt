@@ -6,8 +6,8 @@ use Rattle.asn1_tags.specs.Trees.{Tree, Trees, is_any_open, is_open, leaves, lea
 use Rattle.asn1_tags.specs.declared.tags.Tag.{Tag}
 
 -- whether a tag is in both lists
-abbrev pub meet : List Tag → List Tag → Bool
-meet ts us = list_any (λ t. has t us) ts
+abbrev pub have_common_tag : List Tag → List Tag → Bool
+have_common_tag ts us = list_any (λ t. has t us) ts
 
 -- whether what has the tree, or one of the trees, can begin with the tag
 abbrev pub begins_with : Tag → Tree → Bool

@@ -4,7 +4,7 @@
 ghost use Rattle.std.specs.Prelude.{◌≡◌, ◌<◌, ◌^◌, length};
 ghost use Rattle.std.specs.Option.{SomeIff};
 ghost use Rattle.asn1_tags.specs.Tags.{distinct, has};
-ghost use Rattle.asn1_tags.specs.Walks.{IsSmallestIfAny, any_begins_with, begins_with, lesser_of, meet};
+ghost use Rattle.asn1_tags.specs.Walks.{IsSmallestIfAny, any_begins_with, begins_with, lesser_of, have_common_tag};
 ghost use Rattle.asn1_tags.specs.Trees.{is_any_open, is_open, leaves, leaves_of, shape, shapes};
 
 use crate::tags::Tag;
@@ -151,7 +151,7 @@ fn have_empty_choice(nodes: &[TagTree<'_>]) -> bool
 // Whether a leaf of the tree is also a leaf of one of the others.
 #[cycle(share)]
 pub(crate) fn shares_leaf(tree: &TagTree<'_>, others: &[TagTree<'_>]) -> bool
-    ensures { result ≡ meet (leaves (shape tree.now)) (leaves_of (shapes others.now)) }
+    ensures { result ≡ have_common_tag (leaves (shape tree.now)) (leaves_of (shapes others.now)) }
 {
     match tree {
         TagTree::Leaf(leaf) => have_leaf(others, leaf),
@@ -162,7 +162,7 @@ pub(crate) fn shares_leaf(tree: &TagTree<'_>, others: &[TagTree<'_>]) -> bool
 // Whether a leaf of one of the trees is also a leaf of one of the others.
 #[cycle(share)]
 fn share_leaf(nodes: &[TagTree<'_>], others: &[TagTree<'_>]) -> bool
-    ensures { result ≡ meet (leaves_of (shapes nodes.now)) (leaves_of (shapes others.now)) }
+    ensures { result ≡ have_common_tag (leaves_of (shapes nodes.now)) (leaves_of (shapes others.now)) }
 {
     for node in nodes {
         if shares_leaf(node, others) {

@@ -12,7 +12,7 @@ use Rattle.std.proofs.lemmas.List.Sorted.{All-permutation, IsPermutation-cons, I
 use Rattle.std.proofs.lemmas.List.Sums.{AllPass-from_list_all, list_all-from_AllPass, sum_by-cons}
 use lib.ListN.{length-map}
 use lib.Pointwise.{pointwise_long}
-use Rattle.asn1_types.specs.Multisets.{SameElements, count_of, stands_as_often, same_counts}
+use Rattle.asn1_types.specs.Multisets.{SameElements, count_of, occurs_as_often, same_counts}
 
 -- a rearrangement passes the tests that the list does
 list_all-permutation : {T : Type 0} (p : T → Bool) (xs ys : List T) → IsPermutation xs ys → list_all p xs ≡ true → list_all p ys ≡ true
@@ -59,7 +59,7 @@ module _ {T : Type 0} (eq : T → T → Bool) where
 
   -- where there are as many of each, and some, counting says so
   all_counted : (zs xs ys : List T) → all_found zs xs ≡ true → ((z : T) → count_of eq z xs ≡ count_of eq z ys) →
-      list_all (stands_as_often eq xs ys) zs ≡ true
+      list_all (occurs_as_often eq xs ys) zs ≡ true
   all_counted [] xs ys found h = refl
   all_counted (z ∷ zs) xs ys found h =
       let parts = and_parts (nat_lt 0 (count_of eq z xs)) (all_found zs xs) found in
@@ -73,13 +73,13 @@ module _ {T : Type 0} (eq : T → T → Bool) where
   pub same_length : (xs ys : List T) → same_counts eq xs ys ≡ true → length xs ≡ length ys
   same_length xs ys h = eqb-true (length xs) (length ys) (and_parts _ _ h).0
 
-  all_stand : (xs ys : List T) → same_counts eq xs ys ≡ true → list_all (stands_as_often eq xs ys) xs ≡ true
-  all_stand xs ys h = (and_parts (length xs == length ys) (list_all (stands_as_often eq xs ys) xs) h).1
+  all_stand : (xs ys : List T) → same_counts eq xs ys ≡ true → list_all (occurs_as_often eq xs ys) xs ≡ true
+  all_stand xs ys h = (and_parts (length xs == length ys) (list_all (occurs_as_often eq xs ys) xs) h).1
 
-  found_of : (zs xs ys : List T) → list_all (stands_as_often eq xs ys) zs ≡ true → all_found zs xs ≡ true
+  found_of : (zs xs ys : List T) → list_all (occurs_as_often eq xs ys) zs ≡ true → all_found zs xs ≡ true
   found_of [] xs ys h = refl
   found_of (z ∷ zs) xs ys h =
-      let parts = and_parts (stands_as_often eq xs ys z) (list_all (stands_as_often eq xs ys) zs) h in
+      let parts = and_parts (occurs_as_often eq xs ys z) (list_all (occurs_as_often eq xs ys) zs) h in
       let found = and_parts (nat_lt 0 (count_of eq z xs)) (count_of eq z xs == count_of eq z ys) parts.0 in
       both_true found.0 (found_of zs xs ys parts.1)
 
@@ -163,10 +163,10 @@ module _ {T : Type 0} {eq : T → T → Bool} (laws : IsPartialEquivalence eq) w
   abbrev all_kept : List T → List T → List T → Bool
   all_kept zs xs ys = list_all (λ z. eq z z && (count_of eq z xs == count_of eq z ys)) zs
 
-  kept_where_counted : (zs xs ys : List T) → list_all (stands_as_often eq xs ys) zs ≡ true → all_kept zs xs ys ≡ true
+  kept_where_counted : (zs xs ys : List T) → list_all (occurs_as_often eq xs ys) zs ≡ true → all_kept zs xs ys ≡ true
   kept_where_counted [] xs ys h = refl
   kept_where_counted (z ∷ zs) xs ys h =
-      let parts = and_parts (stands_as_often eq xs ys z) (list_all (stands_as_often eq xs ys) zs) h in
+      let parts = and_parts (occurs_as_often eq xs ys z) (list_all (occurs_as_often eq xs ys) zs) h in
       let often = and_parts (nat_lt 0 (count_of eq z xs)) (count_of eq z xs == count_of eq z ys) parts.0 in
       let one = take_one z xs often.0 in
       both_true (both_true (equal_to_itself z one.element one.equal) often.1) (kept_where_counted zs xs ys parts.1)
@@ -265,7 +265,7 @@ module _ {S T : Type 0} (h : S → T) (eq : T → T → Bool) where
       ∙ sym (count_of-cons (λ y z. eq (h y) (h z)) x y ys)
 
   all_counted-map : (zs xs ys : List S) →
-      list_all (stands_as_often eq (map h xs) (map h ys)) (map h zs) ≡ list_all (stands_as_often (λ y z. eq (h y) (h z)) xs ys) zs
+      list_all (occurs_as_often eq (map h xs) (map h ys)) (map h zs) ≡ list_all (occurs_as_often (λ y z. eq (h y) (h z)) xs ys) zs
   all_counted-map [] xs ys = refl
   all_counted-map (z ∷ zs) xs ys = λ i. (nat_lt 0 (count_of-map z xs i) && (count_of-map z xs i == count_of-map z ys i)) && all_counted-map zs xs ys i
 

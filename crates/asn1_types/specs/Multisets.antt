@@ -14,10 +14,10 @@ abbrev pub count_of : {T : Type 0} → (T → T → Bool) → T → List T → �
 count_of eq x ys = count_by (λ y. eq x y) ys
 
 -- whether x is in both lists, as often in the one as in the other
-abbrev pub stands_as_often : {T : Type 0} → (T → T → Bool) → List T → List T → T → Bool
-stands_as_often eq xs ys x = nat_lt 0 (count_of eq x xs) && (count_of eq x xs == count_of eq x ys)
+abbrev pub occurs_as_often : {T : Type 0} → (T → T → Bool) → List T → List T → T → Bool
+occurs_as_often eq xs ys x = nat_lt 0 (count_of eq x xs) && (count_of eq x xs == count_of eq x ys)
 
 -- Whether the lists are as long, and each element of the first is as often in the second. For a lawful equality that
 -- is whether they have the same elements (specs/MultisetLaws).
 abbrev pub same_counts : {T : Type 0} → (T → T → Bool) → List T → List T → Bool
-same_counts eq xs ys = (length xs == length ys) && list_all (stands_as_often eq xs ys) xs
+same_counts eq xs ys = (length xs == length ys) && list_all (occurs_as_often eq xs ys) xs

@@ -1,6 +1,6 @@
 //! Arrays, in a struct of their own.
 ghost use Rattle.std.specs.Prelude.{◌≡◌, ◌≢◌, MatchResult, vec_len};
-ghost use Rattle.asn1_model.specs.Kinds.{array_type, through};
+ghost use Rattle.asn1_model.specs.Kinds.{array_type, wrapper_type};
 
 use asn1_model::{AsnType, TypeTable};
 
@@ -57,7 +57,7 @@ impl<T: Drop, const N: usize> TryFrom<Vec<T>> for Array<T, N> {
 }
 
 impl<T: AsnType, const N: usize> AsnType for Array<T, N> {
-    ghost meaning = { through (λ array. array.elements) (array_type N T.meaning) };
+    ghost meaning = { wrapper_type (λ array. array.elements) (array_type N T.meaning) };
 
     #[inline(always)]
     fn table() -> TypeTable {

@@ -74,8 +74,8 @@ pub use asn1_bounds::{
 pub use asn1_components::{
     Choice, ChoiceType, Constructed, ConstructedType, DiscriminantIter, Enumerated,
     EnumeratedItems, EnumerationItem, FieldTable, ItemIdentifierIter, VariantIter,
-    alternatives_are_as_in_records, components_are_told_apart, field_in, tables_are_in_order,
-    the_chosen_tag_tells_the_alternative, written_number,
+    alternatives_are_as_in_records, components_are_identified_by_tags, field_in,
+    tables_are_in_order, the_chosen_tag_identifies_the_alternative, written_number,
 };
 pub use asn1_fields::{
     Field, FieldIter, FieldPresence, Fields, IdentifierIter, OptionalFieldIter, TableField,

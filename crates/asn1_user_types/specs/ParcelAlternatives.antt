@@ -6,7 +6,7 @@ use Rattle.asn1_schema.specs.model.contracts.impls.null.UnitAsnType.TheImpl.{gho
 use Rattle.asn1_schema.specs.model.Meaning.{Meaning}
 use Rattle.asn1_schema.specs.model.RecordTables.{Line, Table}
 use Rattle.asn1_schema.specs.model.TaggedTypes.{tagged, untagged}
-use Rattle.asn1_schema.specs.components.Alternatives.{Alternatives, OneOf, SaysTheSame, ValueMeaning, all_of, alternative, closed, chosen_meaning, says_itself, value_meaning}
+use Rattle.asn1_schema.specs.components.Alternatives.{Alternatives, OneOf, MeansTheSame, ValueMeaning, all_of, alternative, closed, chosen_meaning, means_itself, value_meaning}
 use Rattle.asn1_schema.specs.components.ChoiceTypes.{alternatives_with_itself, choice_holding_itself, itself_under, table_with_itself}
 use Rattle.asn1_user_types.specs.declared.parcel.Parcel.{Parcel, Letter, Inner'}
 
@@ -32,9 +32,9 @@ abbrev pub parcel_pick : Parcel → OneOf (all_of parcel_alternatives)
 parcel_pick Letter = inl tt
 parcel_pick (Inner' p inner) = inr (inl inner)
 
-pub parcel_agrees : (v : Parcel) → SaysTheSame (parcel_means v) (chosen_meaning (all_of parcel_alternatives) (parcel_pick v))
-parcel_agrees Letter = says_itself
-parcel_agrees (Inner' p inner) = says_itself
+pub parcel_agrees : (v : Parcel) → MeansTheSame (parcel_means v) (chosen_meaning (all_of parcel_alternatives) (parcel_pick v))
+parcel_agrees Letter = means_itself
+parcel_agrees (Inner' p inner) = means_itself
 
 -- What a value means.
 abbrev pub parcel_meaning : Meaning Parcel

@@ -19,7 +19,7 @@ use Rattle.asn1_components.specs.Components.{all_components, lines}
 use Rattle.asn1_model.proofs.SameUpToOrder.{SameAll-append, SameAll-refl, SameRecords-refl, same_rearranged}
 use Rattle.asn1_model.specs.ConstraintSets.{unconstrained}
 use Rattle.asn1_model.specs.Meaning.{own_records}
-use Rattle.asn1_model.specs.Orders.{Same, SameRecords, at_end, equal, in_place, is_unordered, next}
+use Rattle.asn1_model.specs.Orders.{SameRecord, SameRecords, at_end, equal, one_by_one, is_unordered, next}
 use Rattle.asn1_model.specs.Records.{Head, Record, Side, holding, sequence as sequence_head, set_of}
 use Rattle.asn1_model.specs.Tags.{universal}
 use Rattle.asn1_types.specs.MultisetLaws.{same_counts-SameElements}
@@ -110,7 +110,7 @@ rearranged vs ws alike =
 
 -- the elements of a SET OF attributes
 part_same : (h : Head) (vs ws : List AttributeTypeAndValue) → is_unordered h ≡ true → same_counts attributes.eq vs ws ≡ true →
-    Same (holding h (flat_map (own_records attribute_types.meaning) vs)) (holding h (flat_map (own_records attribute_types.meaning) ws))
+    SameRecord (holding h (flat_map (own_records attribute_types.meaning) vs)) (holding h (flat_map (own_records attribute_types.meaning) ws))
 part_same h vs ws unordered alike =
     same_rearranged h
     (flat_map (own_records attribute_types.meaning) vs)
@@ -139,7 +139,7 @@ set_of_attributes = set_of (universal 17) unconstrained (Some (codes "SET_OF"))
 
 name_same : (a b : Name) → names.eq a b ≡ true → SameRecords (own_records name_types.meaning a) (own_records name_types.meaning b)
 name_same (Rdns a) (Rdns b) alike =
-    next (in_place _ (next (in_place _ (parts_same set_of_attributes a.items b.items refl alike)) at_end)) at_end
+    next (one_by_one _ (next (one_by_one _ (parts_same set_of_attributes a.items b.items refl alike)) at_end)) at_end
 
 -- options of equal values
 option_same : {V : Type 0} {eq : V → V → Bool} → ((v w : V) → eq v w ≡ true → v ≡ w) → (o p : Option V) → option_eq eq o p ≡ true → o ≡ p
@@ -171,7 +171,7 @@ signed_parts_same a b alike =
     let p6 = and_parts _ _ p5.1 in
     let p7 = and_parts _ _ p6.1 in
     let p8 = and_parts _ _ p7.1 in
-    next (in_place _ (all_same (all_components signed_fields.components) a b (
+    next (one_by_one _ (all_same (all_components signed_fields.components) a b (
       rw ((signed_Decides a.version b.version).0 p0.0) (SameAll-refl _),
       (
         rw ((signed_Decides a.serial_number b.serial_number).0 p1.0) (SameAll-refl _),
@@ -205,5 +205,5 @@ pub certificates_same : (a b : Certificate) → certificates.eq a b ≡ true →
 certificates_same a b alike =
     let parts = and_parts _ _ alike in
     let others = and_parts _ _ parts.1 in
-    next (in_place _ (all_same (all_components certificate_fields.components) a b
+    next (one_by_one _ (all_same (all_components certificate_fields.components) a b
     (signed_parts_same a.tbs_certificate b.tbs_certificate parts.0, (rw (algorithm_same a.signature_algorithm b.signature_algorithm others.0) (SameAll-refl _), (rw (bits_same a.signature_value b.signature_value others.1) (SameAll-refl _), tt))))) at_end

@@ -12,9 +12,9 @@ use Rattle.asn1_model.specs.contracts.impls.integer.IntegerAsnType.TheImpl.{ghos
 use Rattle.asn1_model.specs.contracts.impls.null.UnitAsnType.TheImpl.{ghosts as null}
 use Rattle.asn1_components.specs.ComponentTypes.{required}
 use Rattle.asn1_components.specs.Components.{Components, constructed_type, set}
-use Rattle.asn1_components.specs.Alternatives.{Alternatives, OneOf, SaysTheSame, all_of, alternative, chosen_meaning, closed, says_itself, value_meaning}
+use Rattle.asn1_components.specs.Alternatives.{Alternatives, OneOf, MeansTheSame, all_of, alternative, chosen_meaning, closed, means_itself, value_meaning}
 use Rattle.asn1_components.specs.ChoiceTypes.{table_with_itself}
-use Rattle.asn1_components.specs.UntaggedItself.{SaidWithin, alternatives_with_untagged_itself, choice_holding_untagged_itself, trees_with_itself, untagged_inside_itself}
+use Rattle.asn1_components.specs.UntaggedItself.{MeaningWithin, alternatives_with_untagged_itself, choice_holding_untagged_itself, trees_with_itself, untagged_inside_itself}
 
 -- its values
 pub data Chain : Type 0 where
@@ -43,16 +43,16 @@ abbrev chain_trees : Tag → Trees
 chain_trees k = trees_with_itself (codes "Chain") (chain_alternatives_with k)
 
 -- what a link says, by what the chain in it says
-abbrev link_says : (k : Tag) → SaidWithin (chain_trees k) → ℤ → SaidWithin (chain_trees k)
+abbrev link_says : (k : Tag) → MeaningWithin (chain_trees k) → ℤ → MeaningWithin (chain_trees k)
 link_says k next count = record {
-  said = value_meaning (tagged (context 1)
+  meaning = value_meaning (tagged (context 1)
       (link_type k (untagged_inside_itself {V = Unit} (codes "Chain") (chain_table k) (chain_trees k) (λ _. next))))
       (tt, count);
   within = (1, ltb-true 1 2 refl, refl);
 }
 
-abbrev chain_means : (k : Tag) → Chain → SaidWithin (chain_trees k)
-chain_means k end = record { said = value_meaning (untagged null.meaning) tt; within = (0, ltb-true 0 2 refl, refl) }
+abbrev chain_means : (k : Tag) → Chain → MeaningWithin (chain_trees k)
+chain_means k end = record { meaning = value_meaning (untagged null.meaning) tt; within = (0, ltb-true 0 2 refl, refl) }
 chain_means k (link next count) = link_says k (chain_means k next) count
 
 abbrev chain_alternatives : Tag → Alternatives
@@ -62,8 +62,8 @@ abbrev chain_pick : (k : Tag) → Chain → OneOf (all_of (chain_alternatives k)
 chain_pick k end = inl tt
 chain_pick k (link next count) = inr (inl (next, count))
 
-pub chain_agrees : (k : Tag) (v : Chain) → SaysTheSame (chain_means k v).said (chosen_meaning (all_of (chain_alternatives k)) (chain_pick k v))
-chain_agrees k end = says_itself
+pub chain_agrees : (k : Tag) (v : Chain) → MeansTheSame (chain_means k v).meaning (chosen_meaning (all_of (chain_alternatives k)) (chain_pick k v))
+chain_agrees k end = means_itself
 chain_agrees k (link next count) = record { records = refl; of_type = (λ h. h, λ h. h); valid = λ _. (λ h. h, λ h. h) }
 
 -- What a chain means.

@@ -4,7 +4,7 @@
 ghost use Rattle.std.specs.Prelude.{◌≡◌, ℕ, Bool, true, false, List, [], ◌∷◌, ◌++◌, None, Some, codes};
 ghost use Rattle.asn1_model.specs.Composites.{sequence_records, default_records, group_records, option_records, explicit_tag_records};
 ghost use Rattle.asn1_model.specs.ConstraintSets.{unconstrained, size_of};
-ghost use Rattle.asn1_model.specs.Orders.{Same};
+ghost use Rattle.asn1_model.specs.Orders.{SameRecord};
 ghost use Rattle.asn1_model.specs.Records.{Record, scalar, open_type, presence_mark, holding, explicit_tag, alternative, in_root, present, absent, group_start, group_absent, group_end, null, highest};
 ghost use Rattle.asn1_model.specs.RecordTables.{no_table};
 ghost use Rattle.asn1_model.specs.Tags.{universal, context, CHOICE, every, among, only, first_tags};
@@ -38,13 +38,13 @@ fn choice()
 
 /// The order means nothing in a SET and in a SET OF, also within other records, and something in a SEQUENCE.
 fn sameness()
-    ensures set { (r s : Record) → Same (set_with (r ∷ s ∷ [])) (set_with (s ∷ r ∷ [])) }
-    ensures inside { (r s : Record) → Same (sequence_with (set_of_with (r ∷ s ∷ []) ∷ []))
+    ensures set { (r s : Record) → SameRecord (set_with (r ∷ s ∷ [])) (set_with (s ∷ r ∷ [])) }
+    ensures inside { (r s : Record) → SameRecord (sequence_with (set_of_with (r ∷ s ∷ []) ∷ []))
         (sequence_with (set_of_with (s ∷ r ∷ []) ∷ [])) }
-    ensures sequence { ¬ Same
+    ensures sequence { ¬ SameRecord
         (sequence_with (open_type None [] ∷ presence_mark (group_start no_table) ∷ []))
         (sequence_with (presence_mark (group_start no_table) ∷ open_type None [] ∷ [])) }
-    ensures contents { ¬ Same (open_type None []) (open_type None (0 ∷ [])) }
+    ensures contents { ¬ SameRecord (open_type None []) (open_type None (0 ∷ [])) }
 {}
 
 /// Heights: of contents and marks 0, of a scope one more than what is in it, and 1 where nothing does.

@@ -6,11 +6,10 @@ ghost use Rattle.asn1_model.specs.Records.{number, scalar};
 ghost use Rattle.asn1_model.specs.Tags.{context};
 ghost use Rattle.asn1_ranges.specs.declared.bounded.Bounded.TheVariants.{Range};
 
-use asn1_bench::BenchRules;
+use asn1_bench::{BenchRules, ItemBuffer, PresenceMarks};
 use asn1_buffers::BufferEncoder;
 use asn1_dec::DecodeError;
 use asn1_enc::Encode;
-use asn1_bench::{ItemBuffer, PresenceMarks};
 use asn1_rules::Rules;
 use asn1_tags::{Identifier, Tag};
 use asn1_types::AsnType;

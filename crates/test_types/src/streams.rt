@@ -2,8 +2,9 @@
 use asn1_bench::{ByteReader, NoRules};
 use asn1_dec::{DecodeError, Needed};
 use asn1_enc::EncodeError;
-use asn1_rules::{RoundTripError, Rules};
-use asn1_rules::{Iter, iter_of, read_pieces, round_trip_in_pieces, write_list};
+use asn1_rules::{
+    Iter, RoundTripError, Rules, iter_of, read_pieces, round_trip_in_pieces, write_list,
+};
 use std::alloc::Global;
 use std::process::Abort;
 

@@ -61,7 +61,7 @@ impl<U: StringUnit, K> UnitString<U, K> {
         ensures units { result.now ≡ self.now }
         ensures in_range { All U.IsInRange self.now }
     {
-        U::tell_range(&self.units);
+        U::units_are_in_range(&self.units);
         self.units.as_slice()
     }
 
@@ -70,7 +70,7 @@ impl<U: StringUnit, K> UnitString<U, K> {
         ensures units { result.items ≡ self }
         ensures in_range { All U.IsInRange result.items }
     {
-        U::tell_range(&self.units);
+        U::units_are_in_range(&self.units);
         self.units
     }
 }

@@ -3,7 +3,7 @@ ghost use Rattle.std.specs.Prelude.{◌≡◌, ◌↔◌, IsTrue, length, positi
 ghost use Rattle.std.specs.Hash as fed;
 ghost use Rattle.std.specs.List.{list_all};
 ghost use Rattle.std.proofs.Common.{ap};
-ghost use Rattle.asn1_types.specs.Multisets.{count_of, stands_as_often, same_counts, SameElements};
+ghost use Rattle.asn1_types.specs.Multisets.{count_of, occurs_as_often, same_counts, SameElements};
 ghost use Rattle.asn1_types.specs.MultisetLaws.{same_length, same_counts-equiv, same_counts-partial};
 
 use super::SetOf;
@@ -24,8 +24,8 @@ fn count<T: PartialEq>(element: &T, others: &[T]) -> usize
 }
 
 /// Whether the element is in both, as often in the others as among the elements.
-fn stands_as_often<T: PartialEq>(element: &T, elements: &[T], others: &[T]) -> bool
-    ensures { result ≡ stands_as_often T.eq elements.now others.now element.now }
+fn occurs_as_often<T: PartialEq>(element: &T, elements: &[T], others: &[T]) -> bool
+    ensures { result ≡ occurs_as_often T.eq elements.now others.now element.now }
 {
     let wanted = count(element, elements);
     wanted > 0 && wanted == count(element, others)
@@ -34,11 +34,11 @@ fn stands_as_often<T: PartialEq>(element: &T, elements: &[T], others: &[T]) -> b
 /// Whether each of the elements is as often among the others.
 fn all_stand_as_often<T: PartialEq>(elements: &[T], others: &[T]) -> bool
     ensures { result ≡
-        list_all (λ element. stands_as_often T.eq elements.now others.now element) elements.now }
+        list_all (λ element. occurs_as_often T.eq elements.now others.now element) elements.now }
 {
     elements
         .iter()
-        .all(|element| stands_as_often(element, elements, others))
+        .all(|element| occurs_as_often(element, elements, others))
 }
 
 /// Whether both are as long, and each of the elements is as often among the others.

@@ -2,10 +2,8 @@
 ghost use Rattle.std.specs.Prelude.{⊤, true};
 
 use asn1_bounds::{Codec, Constraints};
-use asn1_components::Choice;
-use asn1_components::FieldTable;
+use asn1_components::{Choice, EnumeratedTable, FieldTable};
 use asn1_enc::{EncodeError, Encoder};
-use asn1_components::EnumeratedTable;
 use asn1_tags::{Identifier, Tag};
 use asn1_types::{Any, CodecString};
 use asn1_values::IntegerType;

@@ -3,7 +3,7 @@ use Rattle.std.proofs.Common.{sym, ◌∙◌}
 use Rattle.std.proofs.lemmas.Bool.{false≢true}
 use Rattle.std.proofs.lemmas.List.Sorted.{IsPermutation-middle}
 use Rattle.asn1_model.specs.ConstraintSets.{unconstrained}
-use Rattle.asn1_model.specs.Orders.{is_unordered, Same, SameAll, equal, in_place, in_any_order, at_end, next}
+use Rattle.asn1_model.specs.Orders.{is_unordered, SameRecord, SameAll, equal, one_by_one, in_any_order, at_end, next}
 use Rattle.asn1_model.specs.Records.{Record, Records, scalar, scope, open_type, presence_mark, none, more, is_presence_mark, sequence, set, set_of}
 use Rattle.asn1_model.specs.RecordTables.{no_table}
 use Rattle.asn1_model.specs.Tags.{universal}
@@ -20,7 +20,7 @@ returns-clause-set c = λ r s. in_any_order (set (universal 17) no_table None) r
 -- src/model.rt
 pub returns-clause-inside : goal.returns-clause-inside
 returns-clause-inside c = λ r s.
-    in_place
+    one_by_one
     (sequence (universal 16) no_table None)
     (next (in_any_order (set_of (universal 17) unconstrained None) refl (next (equal r) (next (equal s) at_end)) (turned r s)) at_end)
 
@@ -48,9 +48,9 @@ first_alike at_end = refl
 first_alike (next same all) = same-mark same
 
 -- where the order means something, the first records are alike
-ordered_alike : {r s : Record} → Same r s → has_no_order r ≡ false → holds_mark_first r ≡ holds_mark_first s
+ordered_alike : {r s : Record} → SameRecord r s → has_no_order r ≡ false → holds_mark_first r ≡ holds_mark_first s
 ordered_alike (equal r) e = refl
-ordered_alike (in_place h all) e = first_alike all
+ordered_alike (one_by_one h all) e = first_alike all
 ordered_alike (in_any_order h unordered all moved) e = absurd (false≢true (sym e ∙ unordered))
 
 -- src/model.rt

@@ -2,7 +2,7 @@ use Rattle.std.specs.Prelude.{[]}
 use Rattle.std.proofs.Common.{subst}
 use Rattle.asn1_components.specs.Components.{AreDistinctIn, all_components}
 use Rattle.asn1_components.proofs.DistinctFollowers.{sequence_apart, set_apart, group_ends, nothing_follows}
-use Rattle.asn1_components.proofs.following.components_are_told_apart.Goals as goal
+use Rattle.asn1_components.proofs.following.components_are_identified_by_tags.Goals as goal
 
 pub returns-clause-sequence : goal.returns-clause-sequence
 returns-clause-sequence g c = λ kind can.
