@@ -9,11 +9,11 @@ use Rattle.asn1_model.proofs.SameRecords.{same-mark}
 use Rattle.asn1_model.proofs.SameUpToOrder.{same_as_mark}
 use Rattle.asn1_model.specs.Orders.{SameRecord}
 use Rattle.asn1_model.specs.Records.{Record, held, is_presence_mark, scalar, scope, open_type, presence_mark}
-use Rattle.asn1_bench.proofs.Remaining.{is_form}
+use Rattle.asn1_bench.proofs.RemainingItems.{is_form}
 use Rattle.asn1_bench.specs.Carried.{TakesBytes}
 use Rattle.asn1_bench.specs.Decoder.{Remains, in_one_order}
 use Rattle.asn1_bench.specs.declared.decoder.ItemDecoder.{ItemDecoder}
-use Rattle.asn1_items.proofs.Remaining.{some_left}
+use Rattle.asn1_items.proofs.DecodeStates.{some_left}
 
 -- what has bytes has them up to order, and is not nothing
 no_mark_takes : (marks : MarkBytes) (q : Record) → is_presence_mark q ≡ false → TakesBytes marks q

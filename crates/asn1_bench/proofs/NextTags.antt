@@ -11,12 +11,12 @@ use Rattle.asn1_items.specs.Slices.{left_inside}
 use Rattle.asn1_model.specs.Records as model
 use Rattle.asn1_model.specs.Records.{PresenceMark, held, is_presence_mark}
 use Rattle.asn1_model.specs.Tags.{Has, record_tags}
-use Rattle.asn1_bench.proofs.Remaining.{is_form}
+use Rattle.asn1_bench.proofs.RemainingItems.{is_form}
 use Rattle.asn1_bench.specs.Decoder.{in_one_order, item_form}
 use Rattle.asn1_bench.specs.Presence.{KeepsOutside}
 use Rattle.asn1_bench.specs.declared.decoder.ItemDecoder.{ItemDecoder}
-use Rattle.asn1_items.proofs.Remaining.{some_left}
-use Rattle.asn1_items.specs.Remaining.{AllHave, RemainsExactly, lists_outside}
+use Rattle.asn1_items.proofs.DecodeStates.{some_left}
+use Rattle.asn1_items.specs.DecodeStates.{AllHave, RemainsExactly, lists_outside}
 use Rattle.asn1_tags.specs.declared.tags.Tag.{Tag}
 
 -- The header of a record: its tag is one with which the record begins.
@@ -59,8 +59,8 @@ none_next marks left items none have = by (marks_passed items) refl have
     by [] is have = refl
     by (s ∷ ss) is have = absurd (some_left (is_form marks) s ss left (first_left items s ss is).no_mark have none)
 
-module _ {V P : Type 0} (cs : List (ComponentType V)) (marks : MarkBytes) (d e : ItemDecoder P) (kept : KeepsOutside d.scopes.slices e.scopes.slices) (no_failure : e.scopes.failed ≡ false)
-    (items : List model.Record) (outer : Outside) (have : HaveBytes (read_with marks) (held (marks_passed items)) (left_inside e.scopes.slices)) (at : RemainsExactly (item_form marks) d.scopes (items, outer)) where
+module _ {V P : Type 0} (cs : List (ComponentType V)) (marks : MarkBytes) (d e : ItemDecoder P) (kept : KeepsOutside d.state.slices e.state.slices) (no_failure : e.state.failed ≡ false)
+    (items : List model.Record) (outer : Outside) (have : HaveBytes (read_with marks) (held (marks_passed items)) (left_inside e.state.slices)) (at : RemainsExactly (item_form marks) d.state (items, outer)) where
   advanced : (next : Option Tag) → IsNextTag cs items next → HasAdvanced (in_one_order marks) d e 0 (marks_passed items, outer) (IsNextTag cs items next)
   advanced next is = record {
     answer = is;
@@ -69,12 +69,12 @@ module _ {V P : Type 0} (cs : List (ComponentType V)) (marks : MarkBytes) (d e :
   }
 
   -- no record is next
-  pub none_found : left_inside e.scopes.slices ≡ [] → HasAdvanced (in_one_order marks) d e 0 (marks_passed items, outer) (IsNextTag cs items None)
-  none_found none = advanced None (no_next_tag cs items (none_next marks (left_inside e.scopes.slices) items none have))
+  pub none_found : left_inside e.state.slices ≡ [] → HasAdvanced (in_one_order marks) d e 0 (marks_passed items, outer) (IsNextTag cs items None)
+  none_found none = advanced None (no_next_tag cs items (none_next marks (left_inside e.state.slices) items none have))
 
   -- a record is next, and its tag was found
-  pub next_found : (t : Tag) → (left_inside e.scopes.slices ≡ [] → ⊥) → ((h : Header) → header_at (left_inside e.scopes.slices) ≡ Some h → t ≡ h.tag) →
+  pub next_found : (t : Tag) → (left_inside e.state.slices ≡ [] → ⊥) → ((h : Header) → header_at (left_inside e.state.slices) ≡ Some h → t ≡ h.tag) →
       HasAdvanced (in_one_order marks) d e 0 (marks_passed items, outer) (IsNextTag cs items (Some t))
   next_found t some found =
-      let n = next_header marks (left_inside e.scopes.slices) items some have in
+      let n = next_header marks (left_inside e.state.slices) items some have in
       advanced (Some t) (next_tag cs items n.first n.others t n.is_next (subst (Has (record_tags n.first)) (sym (found n.header n.at)) n.has))

@@ -20,7 +20,7 @@ use Rattle.asn1_items.specs.Headers.{kind_of, tag_bytes}
 use Rattle.asn1_model.specs.Orders.{SameRecord, SameAll, equal, one_by_one, in_any_order, at_end, next}
 use Rattle.asn1_model.specs.Tags.{head_tag}
 use Rattle.asn1_bench.specs.Carried.{CarriesWith}
-use Rattle.asn1_bench.specs.Written.{item_writer}
+use Rattle.asn1_bench.specs.WrittenItems.{item_writer}
 use Rattle.asn1_tags.specs.declared.tags.Tag.{Tag}
 use Rattle.asn1_model.specs.Records.{Content, Record, Records, StringKind, null, boolean, number, discriminant, arcs, bits, units, teletex, bmp, scalar, scope, open_type, presence_mark, none, more, held, listed}
 

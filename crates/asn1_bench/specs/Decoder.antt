@@ -8,16 +8,16 @@ use Rattle.asn1_items.specs.Contents.{LooksLike}
 use Rattle.asn1_items.specs.Headers.{Header, Meets, header_at, is_one_item, kind_of}
 use Rattle.asn1_items.specs.Items.{HasBytes, HaveBytes, MarkBytes, read_with}
 use Rattle.asn1_items.specs.Slices.{IsTaken, left_inside}
-use Rattle.asn1_items.specs.declared.header.Wanted.{Wanted}
-use Rattle.asn1_items.specs.declared.header.Wanted.TheVariants.{Content, Scope, Alternative, Any}
+use Rattle.asn1_items.specs.declared.header.ExpectedHeader.{ExpectedHeader}
+use Rattle.asn1_items.specs.declared.header.ExpectedHeader.TheVariants.{Content, Scope, Alternative, Any}
 use Rattle.asn1_items.specs.declared.slices.Item.{Item}
 use Rattle.asn1_model.specs.ConstraintSets.{ConstraintSet}
 use Rattle.asn1_model.specs.Records as model
 use Rattle.asn1_model.specs.Records.{Head, held}
 use Rattle.asn1_model.specs.Tags.{head_tag}
 use Rattle.asn1_bench.specs.declared.decoder.ItemDecoder.{ItemDecoder}
-use Rattle.asn1_items.specs.Remaining.{ReadForm, exact_reader}
-use Rattle.asn1_items.specs.declared.decode_state.Scopes.{Scopes}
+use Rattle.asn1_items.specs.DecodeStates.{ReadForm, exact_reader}
+use Rattle.asn1_items.specs.declared.decode_state.DecodeState.{DecodeState}
 use Rattle.asn1_tags.specs.declared.tags.Tag.{Tag}
 
 -- The form in which the decoder reads records: that of items, with presence marks of these bytes. It takes what is one item as
@@ -32,7 +32,7 @@ item_form marks = record {
 module _ {P : Type 0} (marks : MarkBytes) where
   -- the decoder in the order in which its bytes come
   abbrev pub in_one_order : Reader (ItemDecoder P)
-  in_one_order = exact_reader (item_form marks) (λ d. d.scopes)
+  in_one_order = exact_reader (item_form marks) (λ d. d.state)
 
   -- the decoder as types see it: the order inside sets means nothing
   abbrev pub item_reader : Reader (ItemDecoder P)
@@ -43,18 +43,18 @@ module _ {P : Type 0} (marks : MarkBytes) where
   Remains d remaining = item_reader.remains d remaining
 
 -- The head is what is wanted.
-abbrev pub IsWanted : Wanted → Head → Type 0
-IsWanted (Content t k) h = ⊥
-IsWanted (Scope k t) h = (kind_of h ≡ k) × (head_tag h ≡ t)
-IsWanted Alternative h = kind_of h ≡ 7
-IsWanted Any h = ⊥
+abbrev pub IsExpected : ExpectedHeader → Head → Type 0
+IsExpected (Content t k) h = ⊥
+IsExpected (Scope k t) h = (kind_of h ≡ k) × (head_tag h ≡ t)
+IsExpected Alternative h = kind_of h ≡ 7
+IsExpected Any h = ⊥
 
 -- A call that takes the next item. Where no call has failed and the bytes that are left begin with the item of a header that is
 -- what is wanted, it is taken, and what follows it is left.
-abbrev pub TakesItem : Wanted → Scopes → Scopes → Result Item DecodeError → Type 0
-TakesItem wanted old new result =
+abbrev pub TakesItem : ExpectedHeader → DecodeState → DecodeState → Result Item DecodeError → Type 0
+TakesItem expected old new result =
     (h : Header) (inside back : List ℕ) → old.failed ≡ false → header_at (left_inside old.slices) ≡ Some h →
-    h.body ≡ inside ++ back → h.size ≡ length inside → Meets wanted h →
+    h.body ≡ inside ++ back → h.size ≡ length inside → Meets expected h →
     MatchResult result (λ i. IsTaken i h.tag inside back old.slices new.slices) (λ _. ⊥)
 
 -- a call that reads each content under this tag which has the bytes and the kind of this one, with any constraints

@@ -4,7 +4,7 @@ use Rattle.std.specs.declared.alloc.Global.{Global}
 use Rattle.asn1_buffers.specs.Format.{buffer_format, buffer_format_is_lawful}
 use Rattle.asn1_items.specs.Headers.{is_one_item}
 use Rattle.asn1_items.specs.Items.{MarkBytes, packed_marks}
-use Rattle.asn1_bench.specs.Written.{rejects_by_parts, written_items}
+use Rattle.asn1_bench.specs.WrittenItems.{rejects_by_parts, written_items}
 use Rattle.asn1_bench.specs.declared.marks.PresenceMarks.{PresenceMarks}
 use Rattle.asn1_rules.specs.Rules.{Format, IsLawful}
 

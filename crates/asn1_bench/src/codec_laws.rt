@@ -6,7 +6,7 @@ ghost use Rattle.asn1_items.specs.Headers.{is_one_item};
 ghost use Rattle.asn1_items.specs.Items.{HaveBytes, SomeTooLong, packed_marks, written_with};
 ghost use Rattle.asn1_model.specs.Records.{PresenceMark, Record, held};
 ghost use Rattle.asn1_bench.specs.Decoder.{Remains};
-ghost use Rattle.asn1_bench.specs.Written.{item_writer};
+ghost use Rattle.asn1_bench.specs.WrittenItems.{item_writer};
 ghost use Rattle.std.specs.Prelude.{◌≡◌, ◌↔◌, List, ℕ};
 
 use crate::decoder::ItemDecoder;

@@ -1,9 +1,10 @@
 //! The decoder that reads from the bytes of items.
 use crate::presence::Presence;
 use asn1_bounds::{Codec, Constraints};
+use asn1_buffers::WholeDecoder;
 use asn1_components::{Choice, EnumeratedTable, FieldTable};
 use asn1_dec::{DecodeError, Decoder};
-use asn1_items::{BAD_ITEM, FromContent, Item, Opened, Scopes, StringOf, Wanted};
+use asn1_items::{BAD_ITEM, DecodeState, ExpectedHeader, FromContent, Item, Opened, StringOf};
 use asn1_tags::{Tag, TagTree};
 use asn1_types::{Any, CodecString};
 use asn1_values::{Integer, IntegerType, ObjectIdentifier};
@@ -19,7 +20,7 @@ use std::marker::PhantomData;
 #[derive(Drop)]
 pub struct ItemDecoder<'a, P> {
     alloc: Global,
-    scopes: Scopes<'a>,
+    state: DecodeState<'a>,
     presence: PhantomData<P>,
 }
 
@@ -34,8 +35,8 @@ impl<'a, P: Presence> ItemDecoder<'a, P> {
     ghost use Rattle.asn1_model.specs.Tags.{tree_tags};
     ghost use Rattle.asn1_model.specs.WellFormed.{AreWellFormed};
     ghost use Rattle.asn1_bench.specs.Carried.{CarriesWith};
-    ghost use Rattle.asn1_bench.specs.Decoder.{IsWanted, ReadsContentLike, Remains, TakesItem, in_one_order, item_reader};
-    ghost use Rattle.asn1_items.specs.Remaining.{IsWithinBound, OpensWanted, ReadsWantedHead, ReadsWantedSet};
+    ghost use Rattle.asn1_bench.specs.Decoder.{IsExpected, ReadsContentLike, Remains, TakesItem, in_one_order, item_reader};
+    ghost use Rattle.asn1_items.specs.DecodeStates.{IsWithinBound, OpensExpected, ReadsExpectedHead, ReadsExpectedSet};
     ghost use Rattle.asn1_tags.specs.Trees.{shape};
     ghost use Rattle.asn1_tags.specs.declared.tags.Tag.{Tag as Under};
     ghost use Rattle.std.specs.Prelude.{◌≡◌, ◌≢◌, ◌↔◌, [], ⊤, Err, IfErr, IsOk, List, OnOk, codes, false, true};
@@ -49,7 +50,7 @@ impl<'a, P: Presence> ItemDecoder<'a, P> {
     {
         ItemDecoder {
             alloc,
-            scopes: Scopes::new(alloc, bytes, depth),
+            state: DecodeState::new(alloc, bytes, depth),
             presence: PhantomData,
         }
     }
@@ -65,24 +66,24 @@ impl<'a, P: Presence> ItemDecoder<'a, P> {
             ((item_reader P.mark_bytes).failed self.entry ≡ true) }
         ensures bad_item { IfErr result (λ e. e ≢ Failed → reason e ≡ custom (codes "bad item")) }
     {
-        self.scopes.finish()
+        self.state.finish()
     }
 
     /// Takes the next item, which is to be what is wanted.
     #[inline(always)]
-    fn take(&mut self, wanted: Wanted) -> Result<Item<'a>, DecodeError>
-        ensures took { TakesItem wanted self.old.scopes self.new.scopes result }
+    fn take(&mut self, expected: ExpectedHeader) -> Result<Item<'a>, DecodeError>
+        ensures took { TakesItem expected self.old.state self.new.state result }
         ensures outside { OnOk result
-            (left_outside self.new.scopes.slices ≡ left_outside self.old.scopes.slices) }
+            (left_outside self.new.state.slices ≡ left_outside self.old.state.slices) }
         ensures opens_nothing { OpensNothing (item_reader P.mark_bytes) self.old self.new result }
     {
-        let scopes = &mut self.scopes;
-        if scopes.failed {
+        let state = &mut self.state;
+        if state.failed {
             return Err(DecodeError::Failed);
         }
-        match scopes.slices.take_item(wanted) {
+        match state.slices.take_item(expected) {
             Ok(item) => Ok(item),
-            Err(error) => Err(scopes.fault(error)),
+            Err(error) => Err(state.fail_with(error)),
         }
     }
 
@@ -92,10 +93,10 @@ impl<'a, P: Presence> ItemDecoder<'a, P> {
             self.old self.new result }
         ensures opens_nothing { OpensNothing (item_reader P.mark_bytes) self.old self.new result }
     {
-        let item = self.take(Wanted::Content(tag, V::kind()))?;
+        let item = self.take(ExpectedHeader::Content(tag, V::kind()))?;
         match V::from_content(self.alloc, item.body) {
             Ok(value) => Ok(value),
-            Err(error) => Err(self.scopes.fault(error)),
+            Err(error) => Err(self.state.fail_with(error)),
         }
     }
 
@@ -106,52 +107,52 @@ impl<'a, P: Presence> ItemDecoder<'a, P> {
             result }
         ensures opens_nothing { OpensNothing (item_reader P.mark_bytes) self.old self.new result }
     {
-        let scopes = &mut self.scopes;
-        if scopes.failed {
+        let state = &mut self.state;
+        if state.failed {
             return Err(DecodeError::Failed);
         }
-        match P::component(&mut scopes.slices, tree) {
+        match P::component(&mut state.slices, tree) {
             Ok(is_there) => Ok(is_there),
-            Err(error) => Err(scopes.fault(error)),
+            Err(error) => Err(state.fail_with(error)),
         }
     }
 
     /// Opens a scope.
     #[inline(always)]
-    fn open(&mut self, wanted: Wanted) -> Result<Opened, DecodeError>
-        ensures read { OpensWanted (in_one_order P.mark_bytes) (IsWanted wanted)
+    fn open(&mut self, expected: ExpectedHeader) -> Result<Opened, DecodeError>
+        ensures read { OpensExpected (in_one_order P.mark_bytes) (IsExpected expected)
             self.old self.new result }
         ensures takes_depth { TakesDepth (item_reader P.mark_bytes) self.old self.new result }
     {
-        if self.scopes.failed {
+        if self.state.failed {
             return Err(DecodeError::Failed);
         }
-        if self.scopes.depth_left == 0 {
-            return Err(self.scopes.fail(DecodeError::Depth));
+        if self.state.depth_left == 0 {
+            return Err(self.state.fail(DecodeError::Depth));
         }
-        let item = self.take(wanted)?;
-        self.scopes.open(item.tag, item.body)
+        let item = self.take(expected)?;
+        self.state.open(item.tag, item.body)
     }
 
     /// Opens a scope in which the order of the records means something.
-    fn open_in_order(&mut self, wanted: Wanted) -> Result<(), DecodeError>
-        ensures read { ReadsWantedHead (item_reader P.mark_bytes) (IsWanted wanted) (λ _ _. ⊤)
+    fn open_in_order(&mut self, expected: ExpectedHeader) -> Result<(), DecodeError>
+        ensures read { ReadsExpectedHead (item_reader P.mark_bytes) (IsExpected expected) (λ _ _. ⊤)
             self.old self.new result }
         ensures takes_depth { TakesDepth (item_reader P.mark_bytes) self.old self.new result }
     {
-        self.open(wanted)?;
+        self.open(expected)?;
         Ok(())
     }
 
     /// Opens a list of elements or the components of a set, and answers how many bytes are in it.
-    fn open_list(&mut self, wanted: Wanted) -> Result<usize, DecodeError>
-        ensures read { ReadsWantedHead (item_reader P.mark_bytes) (IsWanted wanted) IsWithinBound
-            self.old self.new result }
-        ensures read_set { ReadsWantedSet (item_reader P.mark_bytes) (IsWanted wanted) IsWithinBound
-            self.old self.new result }
+    fn open_list(&mut self, expected: ExpectedHeader) -> Result<usize, DecodeError>
+        ensures read { ReadsExpectedHead (item_reader P.mark_bytes) (IsExpected expected)
+            IsWithinBound self.old self.new result }
+        ensures read_set { ReadsExpectedSet (item_reader P.mark_bytes) (IsExpected expected)
+            IsWithinBound self.old self.new result }
         ensures takes_depth { TakesDepth (item_reader P.mark_bytes) self.old self.new result }
     {
-        let opened = self.open(wanted)?;
+        let opened = self.open(expected)?;
         Ok(opened.bound)
     }
 }
@@ -170,7 +171,7 @@ impl<'a, P: Presence> Decoder for ItemDecoder<'a, P> {
     }
 
     fn depth(&self) -> usize {
-        self.scopes.depth_left
+        self.state.depth_left
     }
 
     fn global(&self) -> Global {
@@ -179,10 +180,10 @@ impl<'a, P: Presence> Decoder for ItemDecoder<'a, P> {
 
     fn refuse(&mut self, error: DecodeError) -> DecodeError
         ensures same { result ≡ error }
-        ensures has_failed { self.new.scopes.failed ≡ true }
-        ensures same_depth { self.new.scopes.depth_left ≡ self.old.scopes.depth_left }
+        ensures has_failed { self.new.state.failed ≡ true }
+        ensures same_depth { self.new.state.depth_left ≡ self.old.state.depth_left }
     {
-        self.scopes.fail(error)
+        self.state.fail(error)
     }
 
     fn decode_bool(&mut self, tag: Tag) -> Result<bool, DecodeError> {
@@ -200,7 +201,7 @@ impl<'a, P: Presence> Decoder for ItemDecoder<'a, P> {
         let number = self.scalar(tag)?;
         match E::name_of_number(number) {
             Some(_) => Ok(number),
-            None => Err(self.scopes.fail(BAD_ITEM)),
+            None => Err(self.state.fail(BAD_ITEM)),
         }
     }
 
@@ -216,7 +217,7 @@ impl<'a, P: Presence> Decoder for ItemDecoder<'a, P> {
         let number: Integer = self.scalar(tag)?;
         match I::try_from_integer(number) {
             Some(value) => Ok(value),
-            None => Err(self.scopes.fail(BAD_ITEM)),
+            None => Err(self.state.fail(BAD_ITEM)),
         }
     }
 
@@ -230,10 +231,10 @@ impl<'a, P: Presence> Decoder for ItemDecoder<'a, P> {
     }
 
     fn decode_any(&mut self, _tag: Tag) -> Result<Any, DecodeError> {
-        let item = self.take(Wanted::Any)?;
+        let item = self.take(ExpectedHeader::Any)?;
         match Vec::from_slice(self.alloc, item.bytes) {
             Ok(bytes) => Ok(Any::new(bytes)),
-            Err(_) => Err(self.scopes.fail(DecodeError::Memory)),
+            Err(_) => Err(self.state.fail(DecodeError::Memory)),
         }
     }
 
@@ -250,47 +251,47 @@ impl<'a, P: Presence> Decoder for ItemDecoder<'a, P> {
     }
 
     fn open_group<C: FieldTable>(&mut self) -> Result<bool, DecodeError> {
-        let scopes = &mut self.scopes;
-        if scopes.failed {
+        let state = &mut self.state;
+        if state.failed {
             return Err(DecodeError::Failed);
         }
-        match P::group::<C>(&mut scopes.slices) {
+        match P::group::<C>(&mut state.slices) {
             Ok(is_there) => Ok(is_there),
-            Err(error) => Err(scopes.fault(error)),
+            Err(error) => Err(state.fail_with(error)),
         }
     }
 
     fn close_group(&mut self) -> Result<(), DecodeError> {
-        let scopes = &mut self.scopes;
-        if scopes.failed {
+        let state = &mut self.state;
+        if state.failed {
             return Err(DecodeError::Failed);
         }
-        match P::end_of_group(&mut scopes.slices) {
+        match P::end_of_group(&mut state.slices) {
             Ok(()) => Ok(()),
-            Err(error) => Err(scopes.fault(error)),
+            Err(error) => Err(state.fail_with(error)),
         }
     }
 
     fn open_sequence<C: FieldTable>(&mut self, tag: Tag) -> Result<(), DecodeError> {
-        self.open_in_order(Wanted::Scope(2, tag))
+        self.open_in_order(ExpectedHeader::Scope(2, tag))
     }
 
     fn open_set<C: FieldTable>(&mut self, tag: Tag) -> Result<usize, DecodeError> {
-        self.open_list(Wanted::Scope(3, tag))
+        self.open_list(ExpectedHeader::Scope(3, tag))
     }
 
     fn next_component<C: FieldTable>(&mut self) -> Result<Option<Tag>, DecodeError> {
-        let scopes = &mut self.scopes;
-        if scopes.failed {
+        let state = &mut self.state;
+        if state.failed {
             return Err(DecodeError::Failed);
         }
-        P::skip_marks(&mut scopes.slices);
-        if scopes.slices.is_at_end() {
+        P::skip_marks(&mut state.slices);
+        if state.slices.is_at_end() {
             return Ok(None);
         }
-        match scopes.slices.next_header() {
+        match state.slices.next_header() {
             Ok(header) => Ok(Some(header.tag)),
-            Err(error) => Err(scopes.fault(error)),
+            Err(error) => Err(state.fail_with(error)),
         }
     }
 
@@ -299,7 +300,7 @@ impl<'a, P: Presence> Decoder for ItemDecoder<'a, P> {
         tag: Tag,
         _constraints: &Constraints<'_>,
     ) -> Result<usize, DecodeError> {
-        self.open_list(Wanted::Scope(4, tag))
+        self.open_list(ExpectedHeader::Scope(4, tag))
     }
 
     fn open_set_of(
@@ -307,28 +308,34 @@ impl<'a, P: Presence> Decoder for ItemDecoder<'a, P> {
         tag: Tag,
         _constraints: &Constraints<'_>,
     ) -> Result<usize, DecodeError> {
-        self.open_list(Wanted::Scope(5, tag))
+        self.open_list(ExpectedHeader::Scope(5, tag))
     }
 
     fn open_explicit_prefix(&mut self, tag: Tag) -> Result<(), DecodeError> {
-        self.open_in_order(Wanted::Scope(6, tag))
+        self.open_in_order(ExpectedHeader::Scope(6, tag))
     }
 
     fn open_choice<T: Choice>(
         &mut self,
         _constraints: &Constraints<'_>,
     ) -> Result<Tag, DecodeError> {
-        let opened = self.open(Wanted::Alternative)?;
+        let opened = self.open(ExpectedHeader::Alternative)?;
         Ok(opened.tag)
     }
 
     fn more(&mut self) -> Result<bool, DecodeError> {
-        self.scopes.more()
+        self.state.more()
     }
 
     fn close(&mut self) -> Result<(), DecodeError> {
-        self.scopes.close()
+        self.state.close()
     }
 
     ghost lawful = { lawful (in_one_order P.mark_bytes) };
+}
+
+impl<'a, P: Presence> WholeDecoder for ItemDecoder<'a, P> {
+    fn end(self) -> Result<(), DecodeError> {
+        self.finish()
+    }
 }

@@ -26,7 +26,7 @@ pub struct ItemBuffer<P> {
 
 impl<P: Presence> RecordBuffer for ItemBuffer<P> {
     ghost use Rattle.asn1_buffers.specs.Buffers.{EndsScope, EndsScopeInOrder};
-    ghost use Rattle.asn1_bench.specs.Written.{rejects_by_parts, written_items};
+    ghost use Rattle.asn1_bench.specs.WrittenItems.{rejects_by_parts, written_items};
 
     ghost form = { written_items P.mark_bytes };
 
@@ -51,14 +51,14 @@ impl<P: Presence> RecordBuffer for ItemBuffer<P> {
     fn append_scalar(&mut self, tag: Tag, content: Content<'_>) -> Result<(), WriteError> {
         match self.items.append_scalar(tag, content) {
             Ok(()) => Ok(()),
-            Err(error) => Err(told(error)),
+            Err(error) => Err(write_error_of(error)),
         }
     }
 
     fn append_open_type(&mut self, bytes: &[u8]) -> Result<(), WriteError> {
         match self.items.append_open_type(bytes) {
             Ok(()) => Ok(()),
-            Err(error) => Err(told(error)),
+            Err(error) => Err(write_error_of(error)),
         }
     }
 
@@ -66,7 +66,7 @@ impl<P: Presence> RecordBuffer for ItemBuffer<P> {
     fn append_mark(&mut self, kind: MarkKind) -> Result<(), WriteError> {
         match self.items.append_mark(P::bytes_of_mark(kind)) {
             Ok(()) => Ok(()),
-            Err(error) => Err(told(error)),
+            Err(error) => Err(write_error_of(error)),
         }
     }
 
@@ -74,7 +74,7 @@ impl<P: Presence> RecordBuffer for ItemBuffer<P> {
     fn begin_scope(&mut self, kind: ScopeKind, tag: Tag) -> Result<(), WriteError> {
         match self.items.open_scope(number_of(kind), tag) {
             Ok(()) => Ok(()),
-            Err(error) => Err(told(error)),
+            Err(error) => Err(write_error_of(error)),
         }
     }
 
@@ -87,7 +87,7 @@ impl<P: Presence> RecordBuffer for ItemBuffer<P> {
     {
         match self.items.close_scope() {
             Ok(()) => Ok(()),
-            Err(error) => Err(told(error)),
+            Err(error) => Err(write_error_of(error)),
         }
     }
 
@@ -97,7 +97,7 @@ impl<P: Presence> RecordBuffer for ItemBuffer<P> {
             .open_group(P::bytes_of_mark(MarkKind::GroupStart))
         {
             Ok(()) => Ok(()),
-            Err(error) => Err(told(error)),
+            Err(error) => Err(write_error_of(error)),
         }
     }
 
@@ -106,16 +106,16 @@ impl<P: Presence> RecordBuffer for ItemBuffer<P> {
         let absent = P::bytes_of_mark(MarkKind::GroupAbsent);
         match self.items.close_group(end, absent) {
             Ok(()) => Ok(()),
-            Err(error) => Err(told(error)),
+            Err(error) => Err(write_error_of(error)),
         }
     }
 
     ghost by_parts = { rejects_by_parts P.mark_bytes };
 }
 
-/// The error, as an encoder is told it.
+/// The error of a buffer for this one.
 #[cold]
-fn told(error: BufferError) -> WriteError
+fn write_error_of(error: BufferError) -> WriteError
     ensures { (result ≡ Memory) ↔ (error ≡ buffer_error.Memory) }
 {
     match error {

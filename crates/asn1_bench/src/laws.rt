@@ -4,7 +4,7 @@ ghost use Rattle.asn1_items.specs.Headers.{is_one_item};
 ghost use Rattle.asn1_model.specs.Meaning.{IsWellTagged, own_records};
 ghost use Rattle.asn1_model.specs.Records.{Record, highest};
 ghost use Rattle.asn1_bench.specs.Carried.{Carries, CarriesWith};
-ghost use Rattle.asn1_bench.specs.Written.{item_writer};
+ghost use Rattle.asn1_bench.specs.WrittenItems.{item_writer};
 ghost use Rattle.asn1_rules.specs.Fronts.{BelongsTo, IsSteady};
 ghost use Rattle.asn1_tags.specs.Derives.{ClonesAll};
 ghost use Rattle.std.specs.Prelude.{◌≡◌, ◌↔◌, ◌<◌, ◌≤◌, ◌^◌, All, IsTrue, List, Some, ℕ, false, length, slice_get, take};
@@ -45,14 +45,14 @@ pub fn the_reader_belongs_to_the_rules<T: Decode>(reader: &BenchReader)
 {}
 
 /// A law of the reader: it takes the first bytes of an input for those of one value if and only if they are one whole item
-/// (`cut`), and never none (`never_none`). It opens as many nested scopes as it was made with (`depth`), and a value has the height
+/// (`cut`), and never none (`not_empty`). It opens as many nested scopes as it was made with (`depth`), and a value has the height
 /// of its own records (`height`).
 #[tactic(auto, using(crate::proofs::Cuts::no_empty_cut))]
 pub fn the_reader_cuts_one_item<T: Decode>(reader: &BenchReader)
     ensures cut { (bytes : List ℕ) (n : ℕ) →
         ⟦<BenchReader as FrontReader<T>>⟧.fronts.cut reader.now bytes n ↔
         ((n ≤ length bytes) × IsTrue (is_one_item (take n bytes))) }
-    ensures never_none { (bytes : List ℕ) →
+    ensures not_empty { (bytes : List ℕ) →
         ¬ ⟦<BenchReader as FrontReader<T>>⟧.fronts.cut reader.now bytes 0 }
     ensures depth { ⟦<BenchReader as FrontReader<T>>⟧.fronts.depth reader.now ≡
         reader.now.depth }

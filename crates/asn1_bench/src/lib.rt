@@ -21,7 +21,7 @@
 //!
 //! - The encoder is that of `asn1_buffers`, over a buffer of items. It has written the bytes of the records (`HasWritten` of
 //!   `asn1_items`), in the scopes and groups that are open. As types see it, the order inside sets means nothing
-//!   (`item_writer` of `specs/Written.antt`).
+//!   (`item_writer` of `specs/WrittenItems.antt`).
 //! - It rejects the records that are too long, with 2^32 bytes or more inside an item (`IsTooLong` of `asn1_items`), and no
 //!   others. So an error of a type's writing is `Memory`, `Depth`, `Custom` with the text `item too long` or, after another
 //!   error, `Failed`; another `Custom` comes only where a scope or a group is closed and no such is innermost.
@@ -59,7 +59,6 @@ mod no_rules;
 mod presence;
 mod reader;
 mod rules;
-mod whole;
 
 use asn1_buffers::BufferEncoder;
 pub use byte_reader::ByteReader;

@@ -45,7 +45,7 @@ impl BenchReader {
     }
 
     /// Why bytes are not read that begin with no whole item.
-    fn fault<D: Decode>(&self, input: &[u8]) -> DecodeError {
+    fn refusal<D: Decode>(&self, input: &[u8]) -> DecodeError {
         match self.read::<D>(input) {
             Ok(_no_item) => DecodeError::Custom("bad item"),
             Err(error) => error,
@@ -60,7 +60,7 @@ impl<D: Decode> FrontReader<D> for BenchReader {
 
     fn read_front(&self, input: &[u8]) -> Result<(D, usize), DecodeError> {
         let Some(length) = item_length(input) else {
-            return Err(self.fault::<D>(input));
+            return Err(self.refusal::<D>(input));
         };
         let value = self.read(&input[..length])?;
         Ok((value, length))

@@ -2,4 +2,4 @@ pub mod Buffers
 pub mod Encoder
 pub mod Format
 pub mod MarksAndScopes
-pub mod Whole
+pub mod CompleteInput

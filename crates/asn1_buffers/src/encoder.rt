@@ -214,7 +214,7 @@ impl<B: RecordBuffer> BufferEncoder<B> {
     }
 }
 
-#[tactic(auto, using(crate::proofs::Written::known))]
+#[tactic(auto, using(crate::proofs::EncodersOverBuffers::known))]
 impl<B: RecordBuffer> Encoder for BufferEncoder<B> {
     ghost use Rattle.asn1_laws.proofs.WritingUpToOrder.{lawful};
     ghost use Rattle.asn1_laws.specs.Writing.{WritesEnd, Written};

@@ -1,6 +1,6 @@
 //! A value and all of its bytes.
 ghost use Rattle.asn1_buffers.specs.Format.{buffer_format};
-ghost use Rattle.asn1_buffers.specs.Whole.{ReadsOwnRecords, RefusesAsItsType, RefusesWhatFollows};
+ghost use Rattle.asn1_buffers.specs.CompleteInput.{ReadsOwnRecords, RefusesAsItsType, RefusesWhatFollows};
 ghost use Rattle.asn1_model.specs.Meaning.{own_records};
 ghost use Rattle.asn1_rules.specs.Rules.{WritesWhole};
 ghost use Rattle.std.specs.Prelude.{◌↔◌, Bool, List, ℕ, [], IsOk};

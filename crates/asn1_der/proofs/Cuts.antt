@@ -6,7 +6,7 @@ use Rattle.std.specs.Prelude.{◌↔◌, IsTrue}
 use Rattle.asn1_der_items.proofs.RecordElements.{record_element}
 use Rattle.asn1_der_items.specs.Bytes.{HaveDer}
 use Rattle.asn1_der.specs.Format.{Carries, der_format}
-use Rattle.asn1_der_items.proofs.Behind.{cut_off, element_at-append, element_before}
+use Rattle.asn1_der_items.proofs.TrailingBytes.{cut_off, element_at-append, element_before}
 use Rattle.asn1_der_items.proofs.OneElement.{one, some_bytes}
 use Rattle.asn1_der_items.specs.Elements.{Element, element_at}
 use Rattle.asn1_der_items.specs.Series.{is_one_element, is_whole}

@@ -3,7 +3,7 @@ use Rattle.std.proofs.Common.{◌≡◌, ℕ, ◌-◌, ◌≤◌, Bool, true, fa
 use Rattle.std.proofs.Math.Seq.{take-append_seam, drop-append_seam}
 use Rattle.std.specs.Prelude.{◌&&◌, ◌==◌, IsTrue}
 use Rattle.std.specs.List.{IsSplitAt}
-use Rattle.asn1_der_items.proofs.Behind.{element_at-append, element_before}
+use Rattle.asn1_der_items.proofs.TrailingBytes.{element_at-append, element_before}
 use Rattle.asn1_der_items.proofs.OneElement.{one}
 use Rattle.asn1_der_items.specs.Elements.{Element, element_at}
 use Rattle.asn1_der_items.specs.Series.{ends, is_one_element, is_whole, tag_found, tag_of}

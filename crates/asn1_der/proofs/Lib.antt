@@ -4,9 +4,9 @@ mod Arranging
 mod ElementCuts
 mod Ordering
 mod Pieces
-mod Written
-mod InOrder
+mod WrittenElements
+mod Ascending
 mod Inside
-mod Taking
-mod Telling
-pub mod Remaining
+mod ParsedElements
+mod PresenceByTag
+pub mod RemainingElements

@@ -13,7 +13,7 @@ use Rattle.asn1_tags.specs.Tags.{tag_cmp}
 use Rattle.asn1_tags.specs.contracts.tags.TagOrd.TheImpl.{ghosts as tag_ord}
 use Rattle.asn1_tags.specs.declared.tags.Tag.{Tag}
 use Rattle.asn1_der.proofs.Pieces.{bytes_of_pieces}
-use Rattle.asn1_der.specs.Sorting.{AreJoined, ArePieces, AreSorted, IsInOrder, key_of, piece_cmp}
+use Rattle.asn1_der.specs.Sorting.{AreJoined, ArePieces, AreSorted, IsAscendingBy, key_of, piece_cmp}
 use Rattle.asn1_der.specs.contracts.sorting.PieceOrd.TheImpl.{ghosts as piece_ord}
 use Rattle.asn1_der.specs.declared.sorting.Order.{Order}
 use Rattle.asn1_der.specs.declared.sorting.Order.TheVariants.{Tags, Encodings}
@@ -42,7 +42,7 @@ tag_order s t = search rules
 pub piece_order : (p q : Piece) → piece_ord.cmp p q ≡ piece_cmp p q
 piece_order p q = ap (λ o. ordering_then o (slice_cmp nat_cmp p.bytes.now q.bytes.now)) (tag_order p.key q.key)
 
-in_order : (order : Order) (ps : List Piece) → All (λ p. p.key ≡ key_of order (tag_of p.bytes.now)) ps → IsSortedBy (λ p q. is_lt (piece_cmp p q)) ps → IsInOrder order (map (λ p. p.bytes.now) ps)
+in_order : (order : Order) (ps : List Piece) → All (λ p. p.key ≡ key_of order (tag_of p.bytes.now)) ps → IsSortedBy (λ p q. is_lt (piece_cmp p q)) ps → IsAscendingBy order (map (λ p. p.bytes.now) ps)
 in_order Tags ps keyed sorted =
     sorted_map (λ p. p.key ≡ tag_of p.bytes.now) (λ p q. is_lt (piece_cmp p q)) (λ x y. is_lt (tag_cmp (tag_of x) (tag_of y))) (λ p. p.bytes.now) ps
     (λ p q own other not. ap (λ t. is_lt (tag_cmp t (tag_of q.bytes.now))) (sym own) ∙ ap (λ t. is_lt (tag_cmp p.key t)) (sym other) ∙ first_not_below (tag_cmp p.key q.key) (slice_cmp nat_cmp p.bytes.now q.bytes.now) not)

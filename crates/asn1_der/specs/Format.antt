@@ -3,7 +3,7 @@ use Rattle.std.specs.Prelude.{ℕ, List, Vec}
 use Rattle.std.specs.declared.alloc.Global.{Global}
 use Rattle.asn1_buffers.specs.Encoder.{CarriesUpToOrder}
 use Rattle.asn1_buffers.specs.Format.{buffer_format, buffer_format_is_lawful}
-use Rattle.asn1_der.specs.Written.{rejects_by_parts, written_der}
+use Rattle.asn1_der.specs.WrittenElements.{rejects_by_parts, written_der}
 use Rattle.asn1_der_items.specs.Series.{is_one_element}
 use Rattle.asn1_model.specs.Records.{Record}
 use Rattle.asn1_rules.specs.Rules.{Format, IsLawful}

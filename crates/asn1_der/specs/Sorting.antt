@@ -9,7 +9,7 @@ use Rattle.asn1_der.specs.declared.sorting.Order.{Order}
 use Rattle.asn1_der.specs.declared.sorting.Order.TheVariants.{Tags, Encodings}
 use Rattle.asn1_der.specs.declared.sorting.Piece.{Piece}
 use Rattle.asn1_der.specs.declared.sorting.Cut.{Cut}
-use Rattle.asn1_der_items.specs.Series.{RiseByEncoding, RiseByTag, is_one_element, tag_of}
+use Rattle.asn1_der_items.specs.Series.{AscendByEncoding, AscendByTag, is_one_element, tag_of}
 use Rattle.asn1_tags.specs.Tags.{tag_cmp}
 use Rattle.asn1_tags.specs.declared.classes.Class.TheVariants.{Universal}
 use Rattle.asn1_tags.specs.declared.tags.Tag.{Tag}
@@ -20,9 +20,9 @@ pub record AreJoined (elements : List (List ℕ)) (bytes : List ℕ) : Type 0 wh
   pub are : bytes ≡ flat_map (λ e. e) elements
 
 -- The elements are in ascending order, by their tags or as lists of octets.
-abbrev pub IsInOrder : Order → List (List ℕ) → Type 0
-IsInOrder Tags elements = RiseByTag elements
-IsInOrder Encodings elements = RiseByEncoding elements
+abbrev pub IsAscendingBy : Order → List (List ℕ) → Type 0
+IsAscendingBy Tags elements = AscendByTag elements
+IsAscendingBy Encodings elements = AscendByEncoding elements
 
 -- the tag by which an element of this tag comes before others: of a SET OF one and the same
 abbrev pub key_of : Order → Tag → Tag
@@ -53,5 +53,5 @@ items_or bytes (Some made) = made.items
 pub record AreSorted (order : Order) (elements : List (List ℕ)) (bytes : List ℕ) : Type 0 where
   pub sorted : List (List ℕ)
   pub moved : IsPermutation elements sorted
-  pub in_order : IsInOrder order sorted
+  pub in_order : IsAscendingBy order sorted
   pub are : bytes ≡ flat_map (λ e. e) sorted

@@ -1,16 +1,16 @@
 //! The bytes of DER, as an encoder writes them.
 ghost use Rattle.asn1_buffers.specs.MarksAndScopes.{kind_of_scope};
 ghost use Rattle.asn1_buffers.specs.declared.error.WriteError.TheVariants.{Memory};
-ghost use Rattle.asn1_der_items.specs.Bytes.{form_of};
+ghost use Rattle.asn1_der_items.specs.Bytes.{content_order_of};
 ghost use Rattle.asn1_der_items.specs.declared.error.ElementError.TheVariants as element_error;
 ghost use Rattle.asn1_model.specs.Records.{Head};
 ghost use Rattle.std.specs.Prelude.{◌≡◌, ◌↔◌};
 
 use crate::frame::Frame;
-use crate::holding::{begin, hold};
+use crate::scopes::{begin_scope, finish_scope};
 use asn1_bounds::Codec;
 use asn1_buffers::{MarkKind, RecordBuffer, ScopeKind, WriteError};
-use asn1_der_items::{ElementError, ScopeForm, append_primitive, is_one_element};
+use asn1_der_items::{ContentOrder, ElementError, append_primitive, is_one_element};
 use asn1_items::Content;
 use asn1_tags::Tag;
 use std::alloc::Global;
@@ -29,7 +29,7 @@ pub struct DerBuffer {
 
 impl RecordBuffer for DerBuffer {
     ghost use Rattle.asn1_bounds.specs.declared.codec.Codec.TheVariants.{Der};
-    ghost use Rattle.asn1_der.specs.Written.{rejects_by_parts, written_der};
+    ghost use Rattle.asn1_der.specs.WrittenElements.{rejects_by_parts, written_der};
 
     ghost form = { written_der };
 
@@ -55,7 +55,7 @@ impl RecordBuffer for DerBuffer {
     fn append_scalar(&mut self, tag: Tag, content: Content<'_>) -> Result<(), WriteError> {
         match append_primitive(&mut self.bytes, self.alloc, tag, content) {
             Ok(()) => Ok(()),
-            Err(error) => Err(told(error)),
+            Err(error) => Err(write_error_of(error)),
         }
     }
 
@@ -74,10 +74,14 @@ impl RecordBuffer for DerBuffer {
 
     #[inline(always)]
     fn begin_scope(&mut self, kind: ScopeKind, tag: Tag) -> Result<(), WriteError> {
-        let form = form_of(kind);
-        begin(&mut self.bytes, form, tag)?;
+        let content_order = content_order_of(kind);
+        begin_scope(&mut self.bytes, content_order, tag)?;
         let start = self.bytes.len();
-        if let Err(_) = self.outer.push(Frame { start, tag, form }) {
+        if let Err(_) = self.outer.push(Frame {
+            start,
+            tag,
+            content_order,
+        }) {
             return Err(WriteError::Memory);
         }
         Ok(())
@@ -88,7 +92,7 @@ impl RecordBuffer for DerBuffer {
         let Some(frame) = self.outer.pop() else {
             return Err(WriteError::Rejected("nothing is open"));
         };
-        hold(self.alloc, &mut self.bytes, frame)
+        finish_scope(self.alloc, &mut self.bytes, frame)
     }
 
     #[inline(always)]
@@ -104,24 +108,24 @@ impl RecordBuffer for DerBuffer {
     ghost by_parts = { rejects_by_parts };
 }
 
-/// In which form a scope of a kind holds what is inside.
+/// The order of the contents of a kind of scope.
 #[inline(always)]
-fn form_of(kind: ScopeKind) -> ScopeForm
-    ensures { (h : Head) → kind_of_scope h ≡ kind → result ≡ form_of h }
+fn content_order_of(kind: ScopeKind) -> ContentOrder
+    ensures { (h : Head) → kind_of_scope h ≡ kind → result ≡ content_order_of h }
 {
     match kind {
-        ScopeKind::Sequence => ScopeForm::AsDefined,
-        ScopeKind::Set => ScopeForm::ByTag,
-        ScopeKind::SequenceOf => ScopeForm::AsDefined,
-        ScopeKind::SetOf => ScopeForm::ByEncoding,
-        ScopeKind::ExplicitTag => ScopeForm::AsDefined,
-        ScopeKind::Alternative => ScopeForm::Chosen,
+        ScopeKind::Sequence => ContentOrder::AsDefined,
+        ScopeKind::Set => ContentOrder::ByTag,
+        ScopeKind::SequenceOf => ContentOrder::AsDefined,
+        ScopeKind::SetOf => ContentOrder::ByEncoding,
+        ScopeKind::ExplicitTag => ContentOrder::AsDefined,
+        ScopeKind::Alternative => ContentOrder::Chosen,
     }
 }
 
-/// The error, as an encoder is told it.
+/// The error of a buffer for this one.
 #[cold]
-pub(crate) fn told(error: ElementError) -> WriteError
+pub(crate) fn write_error_of(error: ElementError) -> WriteError
     ensures { (result ≡ Memory) ↔ (error ≡ element_error.Memory) }
 {
     match error {

@@ -2,13 +2,14 @@
 ghost use Rattle.std.specs.Prelude.{◌≡◌, Decides, IfSome};
 
 use crate::from_contents::FromContents;
-use crate::taken::Taken;
-use crate::unread::bytes_left;
+use crate::parsed_element::ParsedElement;
+use crate::unread_bytes::bytes_left;
 use asn1_bounds::{Codec, Constraints};
+use asn1_buffers::WholeDecoder;
 use asn1_components::{Choice, EnumeratedTable, FieldTable};
 use asn1_dec::{DecodeError, Decoder};
-use asn1_der_items::{ScopeForm, find_element};
-use asn1_items::{BAD_ITEM, Opened, Scopes, StringOf, group_can_begin_with};
+use asn1_der_items::{ContentOrder, find_element};
+use asn1_items::{BAD_ITEM, DecodeState, Opened, StringOf, group_can_begin_with};
 use asn1_model::can_begin_with;
 use asn1_tags::{Tag, TagTree};
 use asn1_types::{Any, CodecString};
@@ -26,7 +27,7 @@ use std::alloc::Global;
 #[derive(Drop)]
 pub struct DerDecoder<'a> {
     alloc: Global,
-    scopes: Scopes<'a>,
+    state: DecodeState<'a>,
 }
 
 impl<'a> DerDecoder<'a> {
@@ -36,10 +37,10 @@ impl<'a> DerDecoder<'a> {
     ghost use Rattle.asn1_laws.specs.declared.decode_error.DecodeError.TheVariants.{Failed};
     ghost use Rattle.asn1_der_items.specs.Bytes.{HaveDer};
     ghost use Rattle.asn1_der_items.specs.Series.{IsAlone};
-    ghost use Rattle.asn1_der_items.specs.declared.form.ScopeForm.TheVariants.{AsDefined};
-    ghost use Rattle.asn1_der.specs.Decoder.{AreInForm, AreLeft, IsTaken, IsWanted, Remains, der_reader, in_one_order};
-    ghost use Rattle.asn1_der.specs.Unread.{unread};
-    ghost use Rattle.asn1_items.specs.Remaining.{IsWithinBound, OpensWanted, ReadsWantedHead, ReadsWantedSet};
+    ghost use Rattle.asn1_der_items.specs.declared.content_order.ContentOrder.TheVariants.{AsDefined};
+    ghost use Rattle.asn1_der.specs.Decoder.{AreInOrder, AreLeft, IsTaken, IsExpected, Remains, der_reader, in_one_order};
+    ghost use Rattle.asn1_der.specs.UnreadBytes.{unread};
+    ghost use Rattle.asn1_items.specs.DecodeStates.{IsWithinBound, OpensExpected, ReadsExpectedHead, ReadsExpectedSet};
     ghost use Rattle.asn1_der_items.specs.Contents.{HasOctetsOf};
     ghost use Rattle.asn1_der_items.specs.Elements.{Element};
     ghost use Rattle.asn1_items.specs.NextTags.{IsNext};
@@ -61,7 +62,7 @@ impl<'a> DerDecoder<'a> {
     {
         DerDecoder {
             alloc,
-            scopes: Scopes::new(alloc, bytes, depth),
+            state: DecodeState::new(alloc, bytes, depth),
         }
     }
 
@@ -75,7 +76,7 @@ impl<'a> DerDecoder<'a> {
         ensures failed { result ≡ Err Failed ↔ (der_reader.failed self.entry ≡ true) }
         ensures bad_item { IfErr result (λ e. e ≢ Failed → reason e ≡ custom (codes "bad item")) }
     {
-        self.scopes.finish()
+        self.state.finish()
     }
 
     /// How many bytes have not been read, in all scopes that are open. Where a call has failed, the bytes before these are those that
@@ -83,56 +84,57 @@ impl<'a> DerDecoder<'a> {
     pub fn unread(self) -> usize
         ensures { unread self.entry < 2 ^ 64 → result ≡ unread self.entry }
     {
-        let mut scopes = self.scopes;
-        bytes_left(&mut scopes.slices)
+        let mut state = self.state;
+        bytes_left(&mut state.slices)
     }
 
     /// Takes the next element.
     #[inline(always)]
-    fn take(&mut self) -> Result<Taken<'a>, DecodeError>
-        ensures took { (own back : List ℕ) (e : Element) → self.old.scopes.failed ≡ false →
-            IsAlone e own → left_inside self.old.scopes.slices ≡ own ++ back →
-            MatchResult result (λ taken. IsTaken taken e own back self.new.scopes.slices) (λ _. ⊥) }
+    fn take(&mut self) -> Result<ParsedElement<'a>, DecodeError>
+        ensures took { (own back : List ℕ) (e : Element) → self.old.state.failed ≡ false →
+            IsAlone e own → left_inside self.old.state.slices ≡ own ++ back →
+            MatchResult result (λ parsed. IsTaken parsed e own back self.new.state.slices)
+            (λ _. ⊥) }
         ensures outside { OnOk result
-            (left_outside self.new.scopes.slices ≡ left_outside self.old.scopes.slices) }
+            (left_outside self.new.state.slices ≡ left_outside self.old.state.slices) }
         ensures opens_nothing { OpensNothing der_reader self.old self.new result }
     {
-        let scopes = &mut self.scopes;
-        if scopes.failed {
+        let state = &mut self.state;
+        if state.failed {
             return Err(DecodeError::Failed);
         }
-        let left = scopes.slices.left();
+        let left = state.slices.left();
         match find_element(left) {
             Ok(element) => {
-                scopes.slices.advance_to(element.rest);
-                Ok(Taken {
+                state.slices.advance_to(element.rest);
+                Ok(ParsedElement {
                     tag: element.tag,
                     constructed: element.constructed,
                     contents: element.contents,
                     bytes: &left[..left.len() - element.rest.len()],
                 })
             }
-            Err(error) => Err(scopes.fault(error)),
+            Err(error) => Err(state.fail_with(error)),
         }
     }
 
     /// The tag of the next element, which stays where it is, if one is left.
     #[inline(always)]
     fn next_tag(&mut self) -> Result<Option<Tag>, DecodeError>
-        ensures told { (rs : List model.Record) → self.old.scopes.failed ≡ false →
-            AreLeft rs self.old.scopes.slices → MatchResult result (IsNext rs) (λ _. ⊥) }
-        ensures same_bytes { OnOk result (self.new.scopes.slices ≡ self.old.scopes.slices) }
+        ensures told { (rs : List model.Record) → self.old.state.failed ≡ false →
+            AreLeft rs self.old.state.slices → MatchResult result (IsNext rs) (λ _. ⊥) }
+        ensures same_bytes { OnOk result (self.new.state.slices ≡ self.old.state.slices) }
         ensures opens_nothing { OpensNothing der_reader self.old self.new result }
     {
-        if self.scopes.failed {
+        if self.state.failed {
             return Err(DecodeError::Failed);
         }
-        if self.scopes.slices.is_at_end() {
+        if self.state.slices.is_at_end() {
             return Ok(None);
         }
-        match find_element(self.scopes.slices.left()) {
+        match find_element(self.state.slices.left()) {
             Ok(element) => Ok(Some(element.tag)),
-            Err(error) => Err(self.scopes.fault(error)),
+            Err(error) => Err(self.state.fail_with(error)),
         }
     }
 
@@ -145,11 +147,11 @@ impl<'a> DerDecoder<'a> {
     {
         let element = self.take()?;
         let Some(octets) = element.contents_under(tag) else {
-            return Err(self.scopes.fail(BAD_ITEM));
+            return Err(self.state.fail(BAD_ITEM));
         };
         match V::from_contents(self.alloc, octets) {
             Ok(value) => Ok(value),
-            Err(error) => Err(self.scopes.fault(error)),
+            Err(error) => Err(self.state.fail_with(error)),
         }
     }
 
@@ -166,48 +168,48 @@ impl<'a> DerDecoder<'a> {
         }
     }
 
-    /// Opens a scope of this form, under this tag, where one is asked for.
-    fn open(&mut self, form: ScopeForm, tag: Option<Tag>) -> Result<Opened, DecodeError>
-        ensures read { OpensWanted in_one_order (IsWanted form tag) self.old self.new result }
-        ensures in_form { OnOk result (AreInForm form (left_inside self.new.scopes.slices)) }
+    /// Opens a scope whose contents have this order, under this tag, where one is asked for.
+    fn open(&mut self, order: ContentOrder, tag: Option<Tag>) -> Result<Opened, DecodeError>
+        ensures read { OpensExpected in_one_order (IsExpected order tag) self.old self.new result }
+        ensures in_order { OnOk result (AreInOrder order (left_inside self.new.state.slices)) }
         ensures takes_depth { TakesDepth der_reader self.old self.new result }
     {
-        if self.scopes.failed {
+        if self.state.failed {
             return Err(DecodeError::Failed);
         }
-        if self.scopes.depth_left == 0 {
-            return Err(self.scopes.fail(DecodeError::Depth));
+        if self.state.depth_left == 0 {
+            return Err(self.state.fail(DecodeError::Depth));
         }
         let element = self.take()?;
         if !is_under(element.tag, tag) {
-            return Err(self.scopes.fail(BAD_ITEM));
+            return Err(self.state.fail(BAD_ITEM));
         }
-        let Some(inside) = element.inside(form) else {
-            return Err(self.scopes.fail(BAD_ITEM));
+        let Some(inside) = element.inside(order) else {
+            return Err(self.state.fail(BAD_ITEM));
         };
-        self.scopes.open(element.tag, inside)
+        self.state.open(element.tag, inside)
     }
 
     /// Opens a scope in which the order of the records means something.
     fn open_in_order(&mut self, tag: Tag) -> Result<(), DecodeError>
-        ensures read { ReadsWantedHead der_reader (IsWanted AsDefined (Some tag)) (λ _ _. ⊤)
+        ensures read { ReadsExpectedHead der_reader (IsExpected AsDefined (Some tag)) (λ _ _. ⊤)
             self.old self.new result }
         ensures takes_depth { TakesDepth der_reader self.old self.new result }
     {
-        self.open(ScopeForm::AsDefined, Some(tag))?;
+        self.open(ContentOrder::AsDefined, Some(tag))?;
         Ok(())
     }
 
     /// Opens a list of elements or the components of a set, and answers how many bytes are in it.
-    fn open_list(&mut self, form: ScopeForm, tag: Tag) -> Result<usize, DecodeError>
-        ensures read { ReadsWantedHead der_reader (IsWanted form (Some tag)) IsWithinBound
+    fn open_list(&mut self, order: ContentOrder, tag: Tag) -> Result<usize, DecodeError>
+        ensures read { ReadsExpectedHead der_reader (IsExpected order (Some tag)) IsWithinBound
             self.old self.new result }
-        ensures read_set { ReadsWantedSet der_reader (IsWanted form (Some tag)) IsWithinBound
+        ensures read_set { ReadsExpectedSet der_reader (IsExpected order (Some tag)) IsWithinBound
             self.old self.new result }
-        ensures in_form { OnOk result (AreInForm form (left_inside self.new.scopes.slices)) }
+        ensures in_order { OnOk result (AreInOrder order (left_inside self.new.state.slices)) }
         ensures takes_depth { TakesDepth der_reader self.old self.new result }
     {
-        let opened = self.open(form, Some(tag))?;
+        let opened = self.open(order, Some(tag))?;
         Ok(opened.bound)
     }
 }
@@ -228,7 +230,7 @@ impl<'a> Decoder for DerDecoder<'a> {
     ghost use Rattle.asn1_laws.specs.Reading.{ReadsHeadOfSet, TakesDepth, records_in};
     ghost use Rattle.asn1_components.specs.Components.{lines};
     ghost use Rattle.asn1_der.specs.Decoder.{der_reader, in_one_order};
-    ghost use Rattle.asn1_der_items.specs.Series.{AreElements, RiseByEncoding, RiseByTag};
+    ghost use Rattle.asn1_der_items.specs.Series.{AreElements, AscendByEncoding, AscendByTag};
     ghost use Rattle.asn1_items.specs.Slices.{left_inside};
     ghost use Rattle.asn1_model.specs.ConstraintSets.{constraint_set};
     ghost use Rattle.asn1_model.specs.Records.{set, set_of};
@@ -243,7 +245,7 @@ impl<'a> Decoder for DerDecoder<'a> {
     }
 
     fn depth(&self) -> usize {
-        self.scopes.depth_left
+        self.state.depth_left
     }
 
     fn global(&self) -> Global {
@@ -252,10 +254,10 @@ impl<'a> Decoder for DerDecoder<'a> {
 
     fn refuse(&mut self, error: DecodeError) -> DecodeError
         ensures same { result ≡ error }
-        ensures has_failed { self.new.scopes.failed ≡ true }
-        ensures same_depth { self.new.scopes.depth_left ≡ self.old.scopes.depth_left }
+        ensures has_failed { self.new.state.failed ≡ true }
+        ensures same_depth { self.new.state.depth_left ≡ self.old.state.depth_left }
     {
-        self.scopes.fail(error)
+        self.state.fail(error)
     }
 
     fn decode_bool(&mut self, tag: Tag) -> Result<bool, DecodeError> {
@@ -273,7 +275,7 @@ impl<'a> Decoder for DerDecoder<'a> {
         let number = self.scalar(tag)?;
         match E::name_of_number(number) {
             Some(_) => Ok(number),
-            None => Err(self.scopes.fail(BAD_ITEM)),
+            None => Err(self.state.fail(BAD_ITEM)),
         }
     }
 
@@ -289,7 +291,7 @@ impl<'a> Decoder for DerDecoder<'a> {
         let number: Integer = self.scalar(tag)?;
         match I::try_from_integer(number) {
             Some(value) => Ok(value),
-            None => Err(self.scopes.fail(BAD_ITEM)),
+            None => Err(self.state.fail(BAD_ITEM)),
         }
     }
 
@@ -306,7 +308,7 @@ impl<'a> Decoder for DerDecoder<'a> {
         let element = self.take()?;
         match Vec::from_slice(self.alloc, element.bytes) {
             Ok(bytes) => Ok(Any::new(bytes)),
-            Err(_) => Err(self.scopes.fail(DecodeError::Memory)),
+            Err(_) => Err(self.state.fail(DecodeError::Memory)),
         }
     }
 
@@ -331,7 +333,7 @@ impl<'a> Decoder for DerDecoder<'a> {
     }
 
     fn close_group(&mut self) -> Result<(), DecodeError> {
-        if self.scopes.failed {
+        if self.state.failed {
             return Err(DecodeError::Failed);
         }
         Ok(())
@@ -347,9 +349,9 @@ impl<'a> Decoder for DerDecoder<'a> {
             (set tag (lines C.components)) (λ items bound. records_in items ≤ bound) result }
         ensures takes_depth { TakesDepth der_reader self.old self.new result }
         ensures in_order { OnOk result
-            (AreElements RiseByTag (left_inside self.new.scopes.slices)) }
+            (AreElements AscendByTag (left_inside self.new.state.slices)) }
     {
-        self.open_list(ScopeForm::ByTag, tag)
+        self.open_list(ContentOrder::ByTag, tag)
     }
 
     fn next_component<C: FieldTable>(&mut self) -> Result<Option<Tag>, DecodeError> {
@@ -361,7 +363,7 @@ impl<'a> Decoder for DerDecoder<'a> {
         tag: Tag,
         _constraints: &Constraints<'_>,
     ) -> Result<usize, DecodeError> {
-        self.open_list(ScopeForm::AsDefined, tag)
+        self.open_list(ContentOrder::AsDefined, tag)
     }
 
     // The elements of a SET OF that was opened are in the order of their encodings.
@@ -371,9 +373,9 @@ impl<'a> Decoder for DerDecoder<'a> {
             result }
         ensures takes_depth { TakesDepth der_reader self.old self.new result }
         ensures in_order { OnOk result
-            (AreElements RiseByEncoding (left_inside self.new.scopes.slices)) }
+            (AreElements AscendByEncoding (left_inside self.new.state.slices)) }
     {
-        self.open_list(ScopeForm::ByEncoding, tag)
+        self.open_list(ContentOrder::ByEncoding, tag)
     }
 
     fn open_explicit_prefix(&mut self, tag: Tag) -> Result<(), DecodeError> {
@@ -384,17 +386,23 @@ impl<'a> Decoder for DerDecoder<'a> {
         &mut self,
         _constraints: &Constraints<'_>,
     ) -> Result<Tag, DecodeError> {
-        let opened = self.open(ScopeForm::Chosen, None)?;
+        let opened = self.open(ContentOrder::Chosen, None)?;
         Ok(opened.tag)
     }
 
     fn more(&mut self) -> Result<bool, DecodeError> {
-        self.scopes.more()
+        self.state.more()
     }
 
     fn close(&mut self) -> Result<(), DecodeError> {
-        self.scopes.close()
+        self.state.close()
     }
 
     ghost lawful = { lawful in_one_order };
+}
+
+impl<'a> WholeDecoder for DerDecoder<'a> {
+    fn end(self) -> Result<(), DecodeError> {
+        self.finish()
+    }
 }

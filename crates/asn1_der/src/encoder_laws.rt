@@ -2,7 +2,7 @@
 ghost use Rattle.asn1_bounds.specs.declared.codec.Codec.TheVariants.{Der};
 ghost use Rattle.asn1_laws.specs.Writing.{Written};
 ghost use Rattle.asn1_der_items.specs.Bytes.{HaveDer, SomeHasNoDer};
-ghost use Rattle.asn1_der.specs.Written.{der_writer};
+ghost use Rattle.asn1_der.specs.WrittenElements.{der_writer};
 ghost use Rattle.asn1_model.specs.Records.{Record, held};
 ghost use Rattle.std.specs.Prelude.{◌≡◌, ◌↔◌, List, ℕ};
 

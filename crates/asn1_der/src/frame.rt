@@ -1,5 +1,5 @@
 //! The scopes that are open.
-use asn1_der_items::ScopeForm;
+use asn1_der_items::ContentOrder;
 use asn1_tags::Tag;
 
 /// A scope that is open.
@@ -9,6 +9,6 @@ pub(crate) struct Frame {
     pub(crate) start: usize,
     /// Its tag; of a CHOICE that of the alternative.
     pub(crate) tag: Tag,
-    /// In which form its bytes hold what is inside.
-    pub(crate) form: ScopeForm,
+    /// The order of its contents.
+    pub(crate) content_order: ContentOrder,
 }

@@ -35,13 +35,13 @@ pub fn the_reader_belongs_to_the_rules<T: Decode>(reader: &DerReader)
 {}
 
 /// A law of the reader: it takes the first bytes of an input for those of one value if and only if they are one whole element
-/// (`cut`), and never none (`never_none`). It opens as many nested scopes as it was made with (`depth`), and a value has the height
+/// (`cut`), and never none (`not_empty`). It opens as many nested scopes as it was made with (`depth`), and a value has the height
 /// of its own records (`height`).
 pub fn the_reader_cuts_one_element<T: Decode>(reader: &DerReader)
     ensures cut { (bytes : List ℕ) (n : ℕ) →
         ⟦<DerReader as FrontReader<T>>⟧.fronts.cut reader.now bytes n ↔
         ((n ≤ length bytes) × IsTrue (is_one_element (take n bytes))) }
-    ensures never_none { (bytes : List ℕ) →
+    ensures not_empty { (bytes : List ℕ) →
         ¬ ⟦<DerReader as FrontReader<T>>⟧.fronts.cut reader.now bytes 0 }
     ensures depth { ⟦<DerReader as FrontReader<T>>⟧.fronts.depth reader.now ≡ reader.now.depth }
     ensures height { (v : T) → ⟦<DerReader as FrontReader<T>>⟧.fronts.height v ≡

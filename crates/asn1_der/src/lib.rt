@@ -28,7 +28,7 @@
 //! its own, and presence marks and groups of additions have no bytes. Components that are their DEFAULT are absent for every codec.
 //!
 //! - It has written the DER of the records (`HasDer` of `asn1_der_items`), in the scopes that are open (`IsWritten` of
-//!   `specs/Written.antt`), and keeps the laws of every encoder (`Encoder`). As types see it, the order inside sets means
+//!   `specs/WrittenElements.antt`), and keeps the laws of every encoder (`Encoder`). As types see it, the order inside sets means
 //!   nothing: the components of a SET come out by their tags, and the elements of a SET OF by their encodings
 //!   (`AreSorted` of `specs/Sorting.antt`).
 //! - It rejects the records of which one has no DER, at whatever depth, and no others ([`encoder_laws::the_buffer_is_der`]). So an
@@ -48,9 +48,9 @@
 //!   of [`DerDecoder::new`]). [`DerDecoder::finish`] succeeds if and only if all has been read (`all_read`), and says else that a
 //!   call has failed (`failed`) or that trailing bytes are left (`bad_item`).
 //! - [`DerDecoder::unread`] answers how many bytes have not been read, of all scopes that are open (`unread` of
-//!   `specs/Unread.antt`), if so many can be counted.
+//!   `specs/UnreadBytes.antt`), if so many can be counted.
 //! - A SET whose elements are ascending by their tags is opened, and a SET OF whose elements are ascending by their encodings
-//!   (`IsInOrder` of `specs/Rising.antt`), and no others (`in_order` of `open_set` and `open_set_of`).
+//!   (`IsAscending` of `specs/Ascending.antt`), and no others (`in_order` of `open_set` and `open_set_of`).
 //!
 //! No contract covers bytes that are not the DER of the type. Tests show that each of these is an error: a length that is
 //! indefinite or not the shortest, an integer, a tag or an arc that is not the shortest, a BOOLEAN other than 0 and 255, unused
@@ -58,6 +58,7 @@
 //! bytes tell reserves no memory. A component that is present though it is its DEFAULT is read: no call tells a decoder the DEFAULT.
 #![tactic(auto)]
 
+mod ascending;
 mod buffer;
 pub mod canonical;
 mod decoder;
@@ -66,15 +67,13 @@ mod elements;
 pub mod encoder_laws;
 mod frame;
 mod from_contents;
-mod holding;
 pub mod laws;
+mod parsed_element;
 mod reader;
-mod rising;
 mod rules;
+mod scopes;
 mod sorting;
-mod taken;
-mod unread;
-mod whole;
+mod unread_bytes;
 
 use asn1_buffers::BufferEncoder;
 pub use buffer::DerBuffer;

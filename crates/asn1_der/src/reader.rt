@@ -45,7 +45,7 @@ impl DerReader {
     }
 
     /// Why bytes are not read that begin with no whole element.
-    fn fault<D: Decode>(&self, input: &[u8]) -> DecodeError {
+    fn refusal<D: Decode>(&self, input: &[u8]) -> DecodeError {
         match self.read::<D>(input) {
             Ok(_no_element) => DecodeError::Custom("bad item"),
             Err(error) => error,
@@ -60,7 +60,7 @@ impl<D: Decode> FrontReader<D> for DerReader {
 
     fn read_front(&self, input: &[u8]) -> Result<(D, usize), DecodeError> {
         let Some(length) = element_length(input) else {
-            return Err(self.fault::<D>(input));
+            return Err(self.refusal::<D>(input));
         };
         let value = self.read(&input[..length])?;
         Ok((value, length))

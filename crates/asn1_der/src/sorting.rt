@@ -1,6 +1,6 @@
 //! Elements in the orders that DER has inside sets.
 ghost use Rattle.asn1_buffers.specs.declared.error.WriteError.TheVariants.{Memory};
-ghost use Rattle.asn1_der.specs.Holding.{SortsElements};
+ghost use Rattle.asn1_der.specs.Scopes.{SortsElements};
 ghost use Rattle.asn1_der.specs.Sorting.{AreJoined, ArePieces, AreSorted, IsCutAs, items_or, key_of, piece_cmp};
 ghost use Rattle.asn1_der_items.specs.Series.{is_one_element};
 ghost use Rattle.std.specs.List.{flat_map};

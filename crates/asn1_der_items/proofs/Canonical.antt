@@ -16,9 +16,9 @@ use Rattle.asn1_model.specs.Records.{Head, Record, Records, none, more, scope, h
 use Rattle.asn1_model.specs.Tags.{Has, head_tag, record_tags}
 use Rattle.asn1_tags.specs.Tags.{tag_cmp}
 use Rattle.asn1_tags.specs.declared.tags.Tag.{Tag}
-use Rattle.asn1_der_items.specs.declared.form.ScopeForm.{ScopeForm}
-use Rattle.asn1_der_items.specs.declared.form.ScopeForm.TheVariants.{AsDefined, ByTag, ByEncoding, Chosen}
-use Rattle.asn1_der_items.specs.Bytes.{HasDer, HaveDer, HoldsInForm, form_of}
+use Rattle.asn1_der_items.specs.declared.content_order.ContentOrder.{ContentOrder}
+use Rattle.asn1_der_items.specs.declared.content_order.ContentOrder.TheVariants.{AsDefined, ByTag, ByEncoding, Chosen}
+use Rattle.asn1_der_items.specs.Bytes.{HasDer, HaveDer, HoldsInOrder, content_order_of}
 use Rattle.asn1_der_items.specs.DistinctTags.{AreDistinctIn, HasDistinctSets, HaveDistinctSets, HaveDistinctTags, SharesNoTag}
 use Rattle.asn1_der_items.specs.Series.{AreElements, HoldsContents, is_one_element, tag_of}
 use Rattle.asn1_der_items.proofs.OneContents.{below_first, below_later}
@@ -203,7 +203,7 @@ hold_one : (t : Tag) (Are AreToo : List ℕ → Type 0) → AreOne Are AreToo �
 hold_one t Are AreToo one own other below above a b =
     same_contents t true own other a.contents b.contents a.element b.element (one a.contents b.contents (contents_below t true a.contents own a.element below) (contents_below t true b.contents other b.element above) a.are b.are)
 
-form_one : (f : ScopeForm) (t : Tag) (Is Too : List ℕ → Type 0) → AreOne Is Too → AreOne (HoldsInForm f t Is) (HoldsInForm f t Too)
+form_one : (f : ContentOrder) (t : Tag) (Is Too : List ℕ → Type 0) → AreOne Is Too → AreOne (HoldsInOrder f t Is) (HoldsInOrder f t Too)
 form_one AsDefined t Is Too one = hold_one t Is Too one
 form_one ByTag t Is Too one = hold_one t _ _ (λ own other below above a b. one own other below above a.0 b.0)
 form_one ByEncoding t Is Too one = hold_one t _ _ (λ own other below above a b. one own other below above a.0 b.0)
@@ -233,7 +233,7 @@ joined_one r s rs ss one later own other below above a b =
 mutual
   pub same_der : (r s : Record) → SameRecord r s → HasDistinctSets r → AreOne (HasDer r) (HasDer s)
   same_der r s (equal _) distinct = one_der r
-  same_der r s (one_by_one h {rs = rs} {ss = ss} all) distinct = form_one (form_of h) (head_tag h) (HaveDer rs) (HaveDer ss) (same_ders rs ss all distinct.1)
+  same_der r s (one_by_one h {rs = rs} {ss = ss} all) distinct = form_one (content_order_of h) (head_tag h) (HaveDer rs) (HaveDer ss) (same_ders rs ss all distinct.1)
   same_der r s (in_any_order h {rs = rs} {qs = qs} {ss = ss} unordered all moved) distinct = in_any_order_one h rs qs ss unordered moved distinct.0 (same_ders rs qs all distinct.1)
 
   pub same_ders : (rs ss : Records) → SameAll rs ss → HaveDistinctSets rs → AreOne (HaveDer rs) (HaveDer ss)

@@ -1,4 +1,4 @@
-pub mod Behind
+pub mod TrailingBytes
 mod Complements
 mod ElementFronts
 pub mod Encodings

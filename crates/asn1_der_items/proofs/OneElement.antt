@@ -7,7 +7,7 @@ use Rattle.asn1_tags.specs.declared.tags.Tag.{Tag}
 use Rattle.asn1_items.proofs.Items.{same_front}
 use Rattle.asn1_der_items.specs.Elements.{Element, IsElement, element_at}
 use Rattle.asn1_der_items.specs.Series.{IsAlone, IsElementOf, ends, is_one_element, is_whole, tag_found, tag_of}
-use Rattle.asn1_der_items.proofs.Behind.{element_at-append}
+use Rattle.asn1_der_items.proofs.TrailingBytes.{element_at-append}
 use Rattle.asn1_der_items.proofs.Found.{element-found}
 
 -- the element of these contents octets, alone

@@ -6,9 +6,9 @@ use Rattle.std.specs.Prelude.{Bool}
 use Rattle.asn1_tags.specs.declared.tags.Tag.{Tag}
 use Rattle.asn1_model.specs.Records.{Record, Records, scalar, scope, open_type, presence_mark, none, more, is_presence_mark}
 use Rattle.asn1_model.specs.Tags.{head_tag}
-use Rattle.asn1_der_items.specs.declared.form.ScopeForm.{ScopeForm}
-use Rattle.asn1_der_items.specs.declared.form.ScopeForm.TheVariants.{AsDefined, ByTag, ByEncoding, Chosen}
-use Rattle.asn1_der_items.specs.Bytes.{CannotHold, HasDer, HasNoDer, HaveDer, HoldsInForm, IsTooLong, SomeHasNoDer, form_of}
+use Rattle.asn1_der_items.specs.declared.content_order.ContentOrder.{ContentOrder}
+use Rattle.asn1_der_items.specs.declared.content_order.ContentOrder.TheVariants.{AsDefined, ByTag, ByEncoding, Chosen}
+use Rattle.asn1_der_items.specs.Bytes.{CannotHold, HasDer, HasNoDer, HaveDer, HoldsInOrder, IsTooLong, SomeHasNoDer, content_order_of}
 use Rattle.asn1_der_items.specs.Contents.{HasContents}
 use Rattle.asn1_der_items.specs.Elements.{IsElement}
 use Rattle.asn1_der_items.specs.Lengths.{IsLength}
@@ -34,7 +34,7 @@ holds_one t constructed AreContents one own other below above a b =
     same_contents t constructed own other a.contents b.contents a.element b.element
     (one a.contents b.contents (contents_below t constructed a.contents own a.element below) (contents_below t constructed b.contents other b.element above) a.are b.are)
 
-form_one : (f : ScopeForm) (t : Tag) (IsInside : List ℕ → Type 0) → IsOne IsInside → IsOne (HoldsInForm f t IsInside)
+form_one : (f : ContentOrder) (t : Tag) (IsInside : List ℕ → Type 0) → IsOne IsInside → IsOne (HoldsInOrder f t IsInside)
 form_one AsDefined t IsInside one = holds_one t true IsInside one
 form_one ByTag t IsInside one = holds_one t true _ (λ own other below above a b. one own other below above a.0 b.0)
 form_one ByEncoding t IsInside one = holds_one t true _ (λ own other below above a b. one own other below above a.0 b.0)
@@ -43,7 +43,7 @@ form_one Chosen t IsInside one = λ own other below above a b. one own other bel
 mutual
   pub one_der : (r : Record) → IsOne (HasDer r)
   one_der (scalar t c n x) = holds_one t false (HasContents x) (one_contents x)
-  one_der (scope h rs) = form_one (form_of h) (head_tag h) (HaveDer rs) (one_ders rs)
+  one_der (scope h rs) = form_one (content_order_of h) (head_tag h) (HaveDer rs) (one_ders rs)
   one_der (open_type n bytes) = λ own other below above a b. a.0 ∙ sym b.0
   one_der (presence_mark m) = λ own other below above a b. a ∙ sym b
 
@@ -61,7 +61,7 @@ mutual
 same_tag : (r : Record) (own other : List ℕ) → HasDer r own → HasDer r other → tag_of own ≡ tag_of other
 same_tag (scalar t c n x) own other a b = tag_of_element t false a.contents own a.element ∙ sym (tag_of_element t false b.contents other b.element)
 same_tag (scope h rs) own other a b =
-    tag_is (head_tag h) own (scope_is_one (form_of h) (head_tag h) (HaveDer rs) own a) ∙ sym (tag_is (head_tag h) other (scope_is_one (form_of h) (head_tag h) (HaveDer rs) other b))
+    tag_is (head_tag h) own (scope_is_one (content_order_of h) (head_tag h) (HaveDer rs) own a) ∙ sym (tag_is (head_tag h) other (scope_is_one (content_order_of h) (head_tag h) (HaveDer rs) other b))
 same_tag (open_type n bytes) own other a b = ap tag_of (a.0 ∙ sym b.0)
 same_tag (presence_mark m) own other a b = ap tag_of (a ∙ sym b)
 
@@ -109,7 +109,7 @@ record Inside (IsInside : List ℕ → Type 0) : Type 0 where
   pub are : IsInside inside
   pub are_octets : AllBelowBase 256 inside
 
-inside_of : (f : ScopeForm) (t : Tag) (IsInside : List ℕ → Type 0) (bytes : List ℕ) → AllBelowBase 256 bytes → HoldsInForm f t IsInside bytes → Inside IsInside
+inside_of : (f : ContentOrder) (t : Tag) (IsInside : List ℕ → Type 0) (bytes : List ℕ) → AllBelowBase 256 bytes → HoldsInOrder f t IsInside bytes → Inside IsInside
 inside_of AsDefined t IsInside bytes below d = record { inside = d.contents; are = d.are; are_octets = contents_below t true d.contents bytes d.element below }
 inside_of ByTag t IsInside bytes below d = record { inside = d.contents; are = d.are.0; are_octets = contents_below t true d.contents bytes d.element below }
 inside_of ByEncoding t IsInside bytes below d = record { inside = d.contents; are = d.are.0; are_octets = contents_below t true d.contents bytes d.element below }
@@ -118,7 +118,7 @@ inside_of Chosen t IsInside bytes below d = record { inside = bytes; are = d.0; 
 in_order : (t : Tag) (IsInside AreInOrder : List ℕ → Type 0) → IsOne IsInside → (bytes : List ℕ) → AllBelowBase 256 bytes → HoldsContents (λ inside. IsInside inside × AreInOrder inside) t true bytes → IsTooLong IsInside → ⊥
 in_order t IsInside AreInOrder one bytes below d long = not_too_long t true IsInside one bytes below (record { contents = d.contents; are = d.are.0; element = d.element }) long
 
-can_hold : (f : ScopeForm) (t : Tag) (rs : Records) (bytes : List ℕ) → AllBelowBase 256 bytes → HoldsInForm f t (HaveDer rs) bytes → CannotHold f t (HaveDer rs) → ⊥
+can_hold : (f : ContentOrder) (t : Tag) (rs : Records) (bytes : List ℕ) → AllBelowBase 256 bytes → HoldsInOrder f t (HaveDer rs) bytes → CannotHold f t (HaveDer rs) → ⊥
 can_hold AsDefined t rs bytes below d long = not_too_long t true (HaveDer rs) (one_ders rs) bytes below d long
 can_hold ByTag t rs bytes below d long = in_order t (HaveDer rs) _ (one_ders rs) bytes below d long
 can_hold ByEncoding t rs bytes below d long = in_order t (HaveDer rs) _ (one_ders rs) bytes below d long
@@ -129,9 +129,9 @@ mutual
   has_der (scalar t c n x) bytes below d (inl lack) = not_both x d.contents d.are lack
   has_der (scalar t c n x) bytes below d (inr long) = not_too_long t false (HasContents x) (one_contents x) bytes below d long
   has_der (scope h rs) bytes below d (inl some) =
-      let i = inside_of (form_of h) (head_tag h) (HaveDer rs) bytes below d in
+      let i = inside_of (content_order_of h) (head_tag h) (HaveDer rs) bytes below d in
       have_der rs i.inside i.are_octets i.are some
-  has_der (scope h rs) bytes below d (inr cannot) = can_hold (form_of h) (head_tag h) rs bytes below d cannot
+  has_der (scope h rs) bytes below d (inr cannot) = can_hold (content_order_of h) (head_tag h) rs bytes below d cannot
   has_der (open_type n own) bytes below d not_one = true≢false (sym d.1 ∙ not_one)
   has_der (presence_mark m) bytes below d impossible = impossible
 

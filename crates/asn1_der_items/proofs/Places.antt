@@ -1,6 +1,6 @@
 -- The places of faults.
 use Rattle.std.proofs.Common.{◌≡◌, ◌≢◌, ℕ, zero, suc, ◌+◌, ◌-◌, ◌≤◌, List, [], None, Some, true, arith, length, refl, subst, sym}
-use Rattle.asn1_der_items.proofs.Behind.{element_at-shorter, parts_fit}
+use Rattle.asn1_der_items.proofs.TrailingBytes.{element_at-shorter, parts_fit}
 use Rattle.asn1_der_items.specs.Elements.{Element, element_at}
 use Rattle.asn1_der_items.specs.Faults.{AreElementsDownTo, HoldsElements, IsFaultInside, IsFirstFault, here, behind, inside, none_left, one_more}
 

@@ -1,7 +1,7 @@
 -- The elements to which paths lead.
 use Rattle.std.proofs.Common.{◌≡◌, ◌≤◌, ◌<◌, ℕ, zero, suc, ◌+◌, ◌-◌, List, [], ◌∷◌, Option, None, Some, ap, arith, false, length, refl, sym, true, ◌∙◌}
 use Rattle.std.specs.Option.{option_and_then, option_map}
-use Rattle.asn1_der_items.proofs.Behind.{element_at-shorter, parts_fit}
+use Rattle.asn1_der_items.proofs.TrailingBytes.{element_at-shorter, parts_fit}
 use Rattle.asn1_der_items.specs.Elements.{Element, element_at}
 use Rattle.asn1_der_items.specs.Paths.{behind_elements, place_of}
 

@@ -1,9 +1,9 @@
 -- A record that is no presence mark is one element, whose tag is one with which the record begins.
 use Rattle.std.proofs.Common.{◌≡◌, ℕ, ◌≤◌, true, false, List, [], ◌∷◌, ◌++◌, refl, sym, ap, subst, ◌∙◌, arith, length}
-use Rattle.asn1_der_items.specs.Bytes.{HasDer, HaveDer, HoldsInForm, form_of}
+use Rattle.asn1_der_items.specs.Bytes.{HasDer, HaveDer, HoldsInOrder, content_order_of}
 use Rattle.asn1_der_items.specs.RecordElements.{IsElementOfRecord}
-use Rattle.asn1_der_items.specs.declared.form.ScopeForm.{ScopeForm}
-use Rattle.asn1_der_items.specs.declared.form.ScopeForm.TheVariants.{AsDefined, ByTag, ByEncoding, Chosen}
+use Rattle.asn1_der_items.specs.declared.content_order.ContentOrder.{ContentOrder}
+use Rattle.asn1_der_items.specs.declared.content_order.ContentOrder.TheVariants.{AsDefined, ByTag, ByEncoding, Chosen}
 use Rattle.asn1_der_items.proofs.OneElement.{OneOf, element_alone, element_of, element_of_tag, one, one_of}
 use Rattle.asn1_der_items.specs.Elements.{Element}
 use Rattle.asn1_der_items.specs.Series.{IsAlone, IsElementOf, ends, is_whole, tag_found}
@@ -13,11 +13,11 @@ use Rattle.asn1_model.specs.Tags.{Has, record_tags, head_tag}
 use Rattle.asn1_tags.specs.declared.tags.Tag.{Tag}
 
 -- what holds records is one element of its tag
-pub one_in_form : (form : ScopeForm) (t : Tag) (IsInside : List ℕ → Type 0) (own : List ℕ) → HoldsInForm form t IsInside own → OneOf t own
-one_in_form AsDefined t IsInside own p = record { element = element_of t true p.contents; alone = element_alone t true p.contents own p.element; tag = refl }
-one_in_form ByTag t IsInside own p = record { element = element_of t true p.contents; alone = element_alone t true p.contents own p.element; tag = refl }
-one_in_form ByEncoding t IsInside own p = record { element = element_of t true p.contents; alone = element_alone t true p.contents own p.element; tag = refl }
-one_in_form Chosen t IsInside own p = one_of t own p.1
+pub one_in_order : (form : ContentOrder) (t : Tag) (IsInside : List ℕ → Type 0) (own : List ℕ) → HoldsInOrder form t IsInside own → OneOf t own
+one_in_order AsDefined t IsInside own p = record { element = element_of t true p.contents; alone = element_alone t true p.contents own p.element; tag = refl }
+one_in_order ByTag t IsInside own p = record { element = element_of t true p.contents; alone = element_alone t true p.contents own p.element; tag = refl }
+one_in_order ByEncoding t IsInside own p = record { element = element_of t true p.contents; alone = element_alone t true p.contents own p.element; tag = refl }
+one_in_order Chosen t IsInside own p = one_of t own p.1
 
 -- The element of a record, whose tag is one with which the record begins.
 pub record HasElement (r : model.Record) (own : List ℕ) : Type 0 where
@@ -32,7 +32,7 @@ record_element (model.scalar t c n x) own no_mark p = record {
   has = (0, omega arith, refl);
 }
 record_element (model.scope h rs) own no_mark p =
-    let i = one_in_form (form_of h) (head_tag h) (HaveDer rs) own p in
+    let i = one_in_order (content_order_of h) (head_tag h) (HaveDer rs) own p in
     record { element = i.element; alone = i.alone; has = (0, omega arith, sym i.tag) }
 record_element (model.open_type n bytes) own no_mark p =
     let o = one bytes p.1 in
@@ -61,7 +61,7 @@ is_element_of_record r own no_mark p =
     }
 
 -- so what holds records is one element of its tag
-pub scope_is_one : (f : ScopeForm) (t : Tag) (IsInside : List ℕ → Type 0) (bytes : List ℕ) → HoldsInForm f t IsInside bytes → IsElementOf t bytes
+pub scope_is_one : (f : ContentOrder) (t : Tag) (IsInside : List ℕ → Type 0) (bytes : List ℕ) → HoldsInOrder f t IsInside bytes → IsElementOf t bytes
 scope_is_one AsDefined t IsInside bytes d = element_of_tag t true d.contents bytes d.element
 scope_is_one ByTag t IsInside bytes d = element_of_tag t true d.contents bytes d.element
 scope_is_one ByEncoding t IsInside bytes d = element_of_tag t true d.contents bytes d.element

@@ -15,7 +15,7 @@ use Rattle.asn1_tags.specs.declared.tags.Tag.{Tag}
 use Rattle.asn1_der_items.specs.Bytes.{HasDer, HasNoDer, HaveDer, IsTooLong, SomeHasNoDer}
 use Rattle.asn1_der_items.specs.Existence.{EachIsInRange, HasDerOrNone, IsInRange}
 use Rattle.asn1_der_items.specs.Contents.{HasContents, HasNoContents}
-use Rattle.asn1_der_items.specs.Series.{AreElements, HasOctets, HoldsContents, RiseByEncoding, RiseByTag, is_one_element, tag_of}
+use Rattle.asn1_der_items.specs.Series.{AreElements, HasOctets, HoldsContents, AscendByEncoding, AscendByTag, is_one_element, tag_of}
 use Rattle.asn1_der_items.proofs.SomeEncoding.{below_both, some_contents, some_element}
 use Rattle.asn1_der_items.proofs.SetOrders.{encodings_rank, tags_rank}
 use Rattle.asn1_der_items.proofs.SomeOrder.{Reordered, reordered}
@@ -74,10 +74,10 @@ scope_or_none (sequence_of t c n) rs ordered inside fits same are below = define
 scope_or_none (explicit_tag t n) rs ordered inside fits same are below = defined (explicit_tag t n) rs ordered inside fits same are below (λ bytes d. d) (λ long. inr long)
 scope_or_none (set t table n) rs ordered inside fits same are below =
     let r = reordered (λ x y. is_lt (tag_cmp (tag_of x) (tag_of y))) by_tag (listed ordered) inside below (subst (λ l. HaveDer l inside) (sym (held-listed ordered)) are) in
-    in_a_set (set t table n) RiseByTag rs ordered fits refl same r (λ ss bytes d. d) (λ ss long. inr long)
+    in_a_set (set t table n) AscendByTag rs ordered fits refl same r (λ ss bytes d. d) (λ ss long. inr long)
 scope_or_none (set_of t c n) rs ordered inside fits same are below =
     let r = reordered (λ x y. is_lt (slice_cmp nat_cmp x y)) by_encoding (listed ordered) inside below (subst (λ l. HaveDer l inside) (sym (held-listed ordered)) are) in
-    in_a_set (set_of t c n) RiseByEncoding rs ordered fits refl same r (λ ss bytes d. d) (λ ss long. inr long)
+    in_a_set (set_of t c n) AscendByEncoding rs ordered fits refl same r (λ ss bytes d. d) (λ ss long. inr long)
 scope_or_none (alternative t c table n) rs ordered inside fits same are below = record { ordered = scope (alternative t c table n) ordered; same = one_by_one (alternative t c table n) same; either = by (is_one_element inside && tag_eq (tag_of inside) t) refl }
   where
     by : (b : Bool) → (is_one_element inside && tag_eq (tag_of inside) t) ≡ b → HasOctets (HasDer (scope (alternative t c table n) ordered)) ⊎ HasNoDer (scope (alternative t c table n) ordered)

@@ -55,12 +55,12 @@ pub record AreElements (AreInOrder : List (List ℕ) → Type 0) (bytes : List �
   pub are : bytes ≡ flat_map (λ e. e) elements
 
 -- They are in ascending order by their tags, in the canonical order of tags (10.3, and X.680, 8.6).
-abbrev pub RiseByTag : List (List ℕ) → Type 0
-RiseByTag elements = IsSortedByKey tag_of tag_cmp elements
+abbrev pub AscendByTag : List (List ℕ) → Type 0
+AscendByTag elements = IsSortedByKey tag_of tag_cmp elements
 
 -- They are in ascending order as lists of octets (11.6). No element begins with another, so none has to be filled up to be compared.
-abbrev pub RiseByEncoding : List (List ℕ) → Type 0
-RiseByEncoding elements = IsSorted (slice_cmp nat_cmp) elements
+abbrev pub AscendByEncoding : List (List ℕ) → Type 0
+AscendByEncoding elements = IsSorted (slice_cmp nat_cmp) elements
 
 -- Octets of which this holds.
 pub record HasOctets (Are : List ℕ → Type 0) : Type 0 where

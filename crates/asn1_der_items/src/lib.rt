@@ -9,7 +9,7 @@
 //! | [`append_arcs`], [`read_arcs`] | the contents octets of an OBJECT IDENTIFIER |
 //! | [`append_teletex`] | the contents octets of a TeletexString |
 //! | [`ElementError`] | why an element was not written |
-//! | [`ScopeForm`] | the form in which the bytes of a record hold others |
+//! | [`ContentOrder`] | the form in which the bytes of a record hold others |
 //! | [`first_fault`] | the first place where an element is due and none begins |
 //! | [`place_of`] | the place to which a path leads through elements that hold others |
 //! | [`laws`], [`record_laws`], [`fault_laws`] | laws of elements, of the DER of records, and of places |
@@ -47,12 +47,12 @@
 mod arcs_read;
 mod arcs_written;
 mod base128;
+mod content_order;
 mod contents;
 mod elements;
 mod error;
 mod fault;
 pub mod fault_laws;
-mod form;
 mod identifiers;
 mod integers;
 pub mod laws;
@@ -63,13 +63,13 @@ mod teletex;
 
 pub use arcs_read::read_arcs;
 pub use arcs_written::append_arcs;
+pub use content_order::ContentOrder;
 pub use contents::append_contents;
 pub use elements::{
     Element, append_primitive, begin_element, end_element, find_element, is_one_element,
 };
 pub use error::ElementError;
 pub use fault::first_fault;
-pub use form::ScopeForm;
 pub use integers::{append_integer, read_integer};
 pub use path::place_of;
 pub use teletex::append_teletex;

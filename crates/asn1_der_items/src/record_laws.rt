@@ -13,7 +13,7 @@ ghost use Rattle.asn1_tags.specs.declared.tags.Tag.{Tag};
 ghost use Rattle.std.specs.Prelude.{◌≡◌, ◌↔◌, ◌∷◌, List, ℕ, false};
 ghost use Rattle.std.specs.Int.Digits.{AllBelowBase};
 
-use crate::form::ScopeForm;
+use crate::content_order::ContentOrder;
 
 /// A law of a CHOICE: it has the bytes of the chosen alternative, which are one element of the chosen tag, and no others.
 pub fn a_choice_has_no_element_of_its_own()
@@ -62,7 +62,7 @@ pub fn der_is_canonical()
 
 /// A law of the derives: two forms are equal if and only if they are the same, and clones are their sources.
 pub fn derives_keep_what_a_form_is()
-    ensures same { ComparesAll ⟦<ScopeForm as PartialEq>⟧.eq }
-    ensures clones { ClonesAll ⟦<ScopeForm as Clone>⟧.is_clone
-        ⟦<ScopeForm as Clone>⟧.is_infallible }
+    ensures same { ComparesAll ⟦<ContentOrder as PartialEq>⟧.eq }
+    ensures clones { ClonesAll ⟦<ContentOrder as Clone>⟧.is_clone
+        ⟦<ContentOrder as Clone>⟧.is_infallible }
 {}

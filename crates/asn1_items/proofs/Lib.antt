@@ -9,4 +9,4 @@ mod OctetsWritten
 mod Twos
 mod Writing
 mod SizedItems
-pub mod Remaining
+pub mod DecodeStates

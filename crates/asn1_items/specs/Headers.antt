@@ -3,8 +3,8 @@ use Rattle.std.specs.Prelude.{◌≡◌, ℕ, zero, suc, Bool, false, ◌&&◌, 
 use Rattle.std.specs.Option.{option_and_then}
 use Rattle.std.specs.Int.{w32, from_be_bytes}
 use Rattle.asn1_items.specs.Numbers.{four_bytes}
-use Rattle.asn1_items.specs.declared.header.Wanted.{Wanted}
-use Rattle.asn1_items.specs.declared.header.Wanted.TheVariants as wanted
+use Rattle.asn1_items.specs.declared.header.ExpectedHeader.{ExpectedHeader}
+use Rattle.asn1_items.specs.declared.header.ExpectedHeader.TheVariants as expected
 use Rattle.asn1_items.specs.declared.header.Header.{Header as Found}
 use Rattle.asn1_model.specs.Records.{Head, sequence, set, sequence_of, set_of, explicit_tag, alternative}
 use Rattle.asn1_tags.specs.Tags.{class_number}
@@ -98,8 +98,8 @@ pub record IsHeaderAfter (kind : ℕ) (bytes : List ℕ) (found : Found) : Type 
   pub is : IsHeader found header
 
 -- The header is what is wanted.
-abbrev pub Meets : Wanted → Header → Type 0
-Meets (wanted.Content t k) h = (h.kind ≡ 1) × (h.tag ≡ t) × (h.content ≡ k)
-Meets (wanted.Scope k t) h = (h.kind ≡ k) × (h.tag ≡ t)
-Meets wanted.Alternative h = h.kind ≡ 7
-Meets wanted.Any h = ⊤
+abbrev pub Meets : ExpectedHeader → Header → Type 0
+Meets (expected.Content t k) h = (h.kind ≡ 1) × (h.tag ≡ t) × (h.content ≡ k)
+Meets (expected.Scope k t) h = (h.kind ≡ k) × (h.tag ≡ t)
+Meets expected.Alternative h = h.kind ≡ 7
+Meets expected.Any h = ⊤

@@ -6,4 +6,4 @@ pub mod Items
 pub mod NextTags
 pub mod Numbers
 pub mod Slices
-pub mod Remaining
+pub mod DecodeStates

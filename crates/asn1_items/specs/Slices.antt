@@ -1,7 +1,7 @@
 -- What is left of the lists that are open, and what is taken of it.
 use Rattle.std.specs.Prelude.{◌≡◌, ℕ, List, [], ◌∷◌, ◌++◌, MatchResult, Result, Some, length, vec_len}
 use Rattle.asn1_items.specs.Headers.{Header, Meets, header_at}
-use Rattle.asn1_items.specs.declared.header.Wanted.{Wanted}
+use Rattle.asn1_items.specs.declared.header.ExpectedHeader.{ExpectedHeader}
 use Rattle.asn1_items.specs.declared.slices.Item.{Item}
 use Rattle.asn1_items.specs.declared.slices.Rest.{Rest}
 use Rattle.asn1_items.specs.declared.slices.Slices.{Slices}
@@ -31,6 +31,6 @@ pub record IsTaken (i : Item) (t : Tag) (inside back : List ℕ) (old new : Slic
   pub left : left_inside new ≡ back
 
 -- A call that takes the item that is next, and is what is wanted: it does not fail where the item is there whole.
-abbrev pub TakesItem : {E : Type 0} → Wanted → Slices → Slices → Result Item E → Type 0
-TakesItem wanted old new result = (h : Header) (inside back : List ℕ) → header_at (left_inside old) ≡ Some h → h.body ≡ inside ++ back → h.size ≡ length inside → Meets wanted h →
+abbrev pub TakesItem : {E : Type 0} → ExpectedHeader → Slices → Slices → Result Item E → Type 0
+TakesItem expected old new result = (h : Header) (inside back : List ℕ) → header_at (left_inside old) ≡ Some h → h.body ≡ inside ++ back → h.size ≡ length inside → Meets expected h →
     MatchResult result (λ i. IsTaken i h.tag inside back old new) (λ _. ⊥)

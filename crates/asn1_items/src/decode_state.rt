@@ -12,10 +12,10 @@ pub const BAD_ITEM: DecodeError = DecodeError::Custom("bad item");
 
 /// The state of a decoder over bytes. It borrows them, and copies none.
 ///
-/// After an error the state is failed, and [`Scopes::open`], [`Scopes::more`], [`Scopes::close`] and [`Scopes::finish`] answer
+/// After an error the state is failed, and [`DecodeState::open`], [`DecodeState::more`], [`DecodeState::close`] and [`DecodeState::finish`] answer
 /// [`DecodeError::Failed`] from then on.
 #[derive(Drop)]
-pub struct Scopes<'a> {
+pub struct DecodeState<'a> {
     /// How many nested scopes may still be opened.
     pub depth_left: usize,
     /// Whether a call has failed.
@@ -34,23 +34,23 @@ pub struct Opened {
     pub bound: usize,
 }
 
-impl<'a> Scopes<'a> {
+impl<'a> DecodeState<'a> {
     ghost use Rattle.asn1_laws.specs.DecodeErrors.{custom, reason};
     ghost use Rattle.asn1_laws.specs.declared.decode_error.DecodeError.TheVariants.{Depth, Failed, Memory};
     ghost use Rattle.asn1_items.specs.Slices.{left_inside, left_outside, open_lists};
     ghost use Rattle.asn1_items.specs.declared.error.ItemError.TheVariants as item_error;
-    ghost use Rattle.asn1_items.specs.Remaining.{IsAtEnd, IsClosed, IsOpen, NoneToClose};
+    ghost use Rattle.asn1_items.specs.DecodeStates.{IsAtEnd, IsClosed, IsOpen, NoneToClose};
     ghost use Rattle.std.specs.Bool.{Decides};
     ghost use Rattle.std.specs.Prelude.{◌≡◌, ◌≢◌, ◌↔◌, [], Err, IfErr, IfOk, IsOk, OnErr, OnOk, codes, false, not, suc, true};
 
     /// All of these bytes, outside all scopes. This many nested scopes may be opened.
-    pub fn new(alloc: Global, bytes: &'a [u8], depth: usize) -> Scopes<'a>
+    pub fn new(alloc: Global, bytes: &'a [u8], depth: usize) -> DecodeState<'a>
         ensures inside { left_inside result.slices ≡ bytes.now }
         ensures outside { left_outside result.slices ≡ [] }
         ensures depth_left { result.depth_left ≡ depth }
         ensures no_failure { result.failed ≡ false }
     {
-        Scopes {
+        DecodeState {
             depth_left: depth,
             failed: false,
             slices: Slices::new(alloc, bytes),
@@ -62,7 +62,7 @@ impl<'a> Scopes<'a> {
     ///
     /// # Errors
     /// [`DecodeError::Failed`] where a call has failed before, and else [`DecodeError::Custom`], with the text `bad item`.
-    #[tactic(auto, using(crate::proofs::Remaining::none_is_open))]
+    #[tactic(auto, using(crate::proofs::DecodeStates::none_is_open))]
     pub fn finish(self) -> Result<(), DecodeError>
         ensures all_read { IsOk result ↔ IsAtEnd self.entry }
         ensures failed { result ≡ Err Failed ↔ (self.entry.failed ≡ true) }
@@ -96,7 +96,7 @@ impl<'a> Scopes<'a> {
     /// left stays, and what is left of each scope.
     #[cold]
     #[inline(never)]
-    pub fn fault(&mut self, error: ItemError) -> DecodeError
+    pub fn fail_with(&mut self, error: ItemError) -> DecodeError
         ensures memory { error ≡ item_error.Memory → result ≡ Memory }
         ensures not_too_deep { result ≢ Depth }
         ensures not_failed { result ≢ Failed }

@@ -25,7 +25,7 @@ pub struct Header<'a> {
 
 /// What an item has to be that is read.
 #[derive(Clone, Copy, Debug)]
-pub enum Wanted {
+pub enum ExpectedHeader {
     /// A content under a tag, of the kind with this number.
     Content(Tag, u8),
     /// An item of this kind, under a tag, that holds others.
@@ -36,18 +36,18 @@ pub enum Wanted {
     Any,
 }
 
-impl Wanted {
+impl ExpectedHeader {
     /// Whether the header is what is wanted.
     pub fn is_met_by(self, header: Header<'_>) -> bool
         ensures met { (h : Seen) → IsHeader header.entry h → Decides result (Meets self h) }
     {
         match self {
-            Wanted::Content(tag, content) => {
+            ExpectedHeader::Content(tag, content) => {
                 header.kind == 1 && header.tag == tag && header.content == content
             }
-            Wanted::Scope(kind, tag) => header.kind == kind && header.tag == tag,
-            Wanted::Alternative => header.kind == 7,
-            Wanted::Any => true,
+            ExpectedHeader::Scope(kind, tag) => header.kind == kind && header.tag == tag,
+            ExpectedHeader::Alternative => header.kind == 7,
+            ExpectedHeader::Any => true,
         }
     }
 }

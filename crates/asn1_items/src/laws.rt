@@ -3,7 +3,7 @@ ghost use Rattle.asn1_tags.specs.Derives.{ClonesAll, ComparesAll};
 
 use crate::content::Content;
 use crate::error::{BufferError, ItemError};
-use crate::header::{Header, Wanted};
+use crate::header::{ExpectedHeader, Header};
 use crate::slices::Item;
 
 /// A law of the derives: two errors are equal if and only if they are the same, and clones are their sources.
@@ -18,8 +18,8 @@ pub fn derives_keep_what_a_value_is()
         ⟦<Content<'static> as Clone>⟧.is_infallible }
     ensures clones_of_headers { ClonesAll ⟦<Header<'static> as Clone>⟧.is_clone
         ⟦<Header<'static> as Clone>⟧.is_infallible }
-    ensures clones_of_wanted { ClonesAll ⟦<Wanted as Clone>⟧.is_clone
-        ⟦<Wanted as Clone>⟧.is_infallible }
+    ensures clones_of_expected_headers { ClonesAll ⟦<ExpectedHeader as Clone>⟧.is_clone
+        ⟦<ExpectedHeader as Clone>⟧.is_infallible }
     ensures clones_of_items { ClonesAll ⟦<Item<'static> as Clone>⟧.is_clone
         ⟦<Item<'static> as Clone>⟧.is_infallible }
 {}

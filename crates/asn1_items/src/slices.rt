@@ -6,7 +6,7 @@ ghost use Rattle.std.specs.Bool.{Decides};
 ghost use Rattle.std.specs.Prelude.{◌≡◌, ◌∷◌, [], IfErr, IsOkAnd, List, MatchResult, OnOk, Some, ℕ, false, suc, true};
 
 use crate::error::ItemError;
-use crate::header::{Header, Wanted, find_header};
+use crate::header::{ExpectedHeader, Header, find_header};
 use asn1_tags::Tag;
 use std::alloc::{AllocError, Global};
 
@@ -83,13 +83,13 @@ impl<'a> Slices<'a> {
     /// As [`find_header`]; [`ItemError::Malformed`] where the header is not what is wanted; and [`ItemError::Missing`] where the
     /// bytes end before the item does, with the number of bytes that are missing inside it. Nothing is taken then.
     #[inline(always)]
-    pub fn take_item(&mut self, wanted: Wanted) -> Result<Item<'a>, ItemError>
-        ensures took { TakesItem wanted self.old self.new result }
+    pub fn take_item(&mut self, expected: ExpectedHeader) -> Result<Item<'a>, ItemError>
+        ensures took { TakesItem expected self.old self.new result }
         ensures outside { left_outside self.new ≡ left_outside self.old }
         ensures same_lists { open_lists self.new ≡ open_lists self.old }
     {
         let header = find_header(self.left)?;
-        if !wanted.is_met_by(header) {
+        if !expected.is_met_by(header) {
             return Err(ItemError::Malformed);
         }
         let size = header.size as usize;

@@ -1,5 +1,5 @@
 use Rattle.std.proofs.lemmas.Result.{err_from_is_err_and}
-use Rattle.asn1_buffers.proofs.Written.{not_written}
+use Rattle.asn1_buffers.proofs.EncodersOverBuffers.{not_written}
 use Rattle.asn1_buffers.proofs.whole.write_whole.Goals as goal
 
 pub returns-in_err-encode : goal.returns-in_err-encode

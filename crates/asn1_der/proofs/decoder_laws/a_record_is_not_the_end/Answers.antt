@@ -1,4 +1,4 @@
-use Rattle.asn1_der.proofs.Remaining.{not_at_end}
+use Rattle.asn1_der.proofs.RemainingElements.{not_at_end}
 use Rattle.asn1_der.proofs.decoder_laws.a_record_is_not_the_end.Goals as goal
 
 pub returns : goal.returns

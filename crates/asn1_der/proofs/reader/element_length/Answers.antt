@@ -1,5 +1,5 @@
 use Rattle.std.proofs.Common.{arith}
-use Rattle.asn1_der_items.proofs.Behind.{element_at-shorter}
+use Rattle.asn1_der_items.proofs.TrailingBytes.{element_at-shorter}
 use Rattle.asn1_der_items.specs.Elements.{Element}
 use Rattle.asn1_der.proofs.reader.element_length.Goals as goal
 

@@ -1,5 +1,5 @@
 use Rattle.std.proofs.Common.{◌∙◌, ap, arith}
-use Rattle.asn1_der_items.proofs.Behind.{element_at-shorter}
+use Rattle.asn1_der_items.proofs.TrailingBytes.{element_at-shorter}
 use Rattle.asn1_der.specs.Sorting.{key_of}
 use Rattle.asn1_der.proofs.ElementCuts.{cut_off, is_found}
 use Rattle.asn1_der.proofs.sorting.first_of.Goals as goal

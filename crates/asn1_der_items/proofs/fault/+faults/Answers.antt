@@ -2,7 +2,7 @@ use Rattle.std.specs.Bool.{◌==◌}
 use Rattle.std.proofs.Common.{◌≡◌, ◌≢◌, [], ◌∷◌, ◌<◌, ℕ, IfNone, List, Option, None, Some, length, false, true, arith, sym}
 use Rattle.std.proofs.lemmas.Bool.{eqb-true}
 use Rattle.asn1_der_items.specs.Elements.{element_of}
-use Rattle.asn1_der_items.proofs.Behind.{element_at-shorter, parts_fit}
+use Rattle.asn1_der_items.proofs.TrailingBytes.{element_at-shorter, parts_fit}
 use Rattle.asn1_der_items.proofs.Places.{at_place, from_inside, holds_inside, is_within}
 use Rattle.asn1_der_items.proofs.Reached.{none_found}
 use Rattle.asn1_der_items.specs.Faults.{AreElementsDownTo, here, behind, none_left, one_more}

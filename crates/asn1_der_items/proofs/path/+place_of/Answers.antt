@@ -1,5 +1,5 @@
 use Rattle.std.proofs.Common.{arith, sym}
-use Rattle.asn1_der_items.proofs.Behind.{parts_fit}
+use Rattle.asn1_der_items.proofs.TrailingBytes.{parts_fit}
 use Rattle.asn1_der_items.specs.Elements.{element_of}
 use Rattle.asn1_der_items.proofs.Reached.{behind-shorter, place-within}
 use Rattle.asn1_der_items.proofs.path.+place_of.Goals as goal

@@ -1,4 +1,4 @@
-use Rattle.asn1_tagform.proofs.Telling.{end_tells, has_header, header_tells}
+use Rattle.asn1_tagform.proofs.PresenceByTag.{end_tells, has_header, header_tells}
 use Rattle.asn1_tagform.proofs.next_item.next_tag.Goals as goal
 
 pub returns-then-is_at_end : goal.returns-then-is_at_end

@@ -4,7 +4,7 @@ use Rattle.asn1_components.specs.ComponentLists.{trees_of}
 use Rattle.asn1_components.specs.Components.{all_components, lines}
 use Rattle.asn1_model.specs.Records.{group_start, group_absent}
 use Rattle.asn1_model.specs.Tags.{tree_tags}
-use Rattle.asn1_bench.proofs.Remaining.{found, not_found}
+use Rattle.asn1_bench.proofs.RemainingItems.{found, not_found}
 use Rattle.asn1_bench.specs.Decoder.{in_one_order}
 use Rattle.asn1_tags.specs.Trees.{choice}
 use Rattle.asn1_bench.proofs.decoder.ItemDecoderDecoder.open_group.Goals as goal
@@ -15,12 +15,12 @@ returns-in-Ok-clause-read g c =
     let there = group_start (lines g.C.FieldTable.components) in
     let own = tree_tags (choice (trees_of (all_components g.C.FieldTable.components))) in
     tells_presence (in_one_order marks) c.args.self.now _ there group_absent own (Ok c.in-Ok.is_there)
-    (found marks c.args.self.now _ there group_absent own c.in-Ok.is_there c.if-scopes.false c.in-Ok.ensures.keeps_outside c.in-Ok.ensures.told)
+    (found marks c.args.self.now _ there group_absent own c.in-Ok.is_there c.if-state.false c.in-Ok.ensures.keeps_outside c.in-Ok.ensures.told)
 
 pub returns-in-Err-clause-read : goal.returns-in-Err-clause-read
 returns-in-Err-clause-read g c =
     let marks = g.P.Presence.mark_bytes in
     let there = group_start (lines g.C.FieldTable.components) in
     let own = tree_tags (choice (trees_of (all_components g.C.FieldTable.components))) in
-    tells_presence (in_one_order marks) c.args.self.now _ there group_absent own (Err c.fault.result)
-    (not_found marks c.args.self.now _ there group_absent own _ c.in-Err.error c.fault.result c.in-Err.ensures.told)
+    tells_presence (in_one_order marks) c.args.self.now _ there group_absent own (Err c.fail_with.result)
+    (not_found marks c.args.self.now _ there group_absent own _ c.in-Err.error c.fail_with.result c.in-Err.ensures.told)

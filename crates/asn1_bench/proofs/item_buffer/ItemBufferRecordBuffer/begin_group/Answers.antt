@@ -6,4 +6,4 @@ pub returns-in-Ok : goal.returns-in-Ok
 returns-in-Ok g c = λ table w wrote. c.in-Ok.ensures.opened g.P.Presence.mark_bytes table w (c.bytes_of_mark.ensures (group_start table) refl) wrote
 
 pub returns-in-Err : goal.returns-in-Err
-returns-in-Err g c = λ table. c.told.ensures.1 c.in-Err.ensures.memory
+returns-in-Err g c = λ table. c.write_error_of.ensures.1 c.in-Err.ensures.memory

@@ -6,4 +6,4 @@ pub returns-in-Ok : goal.returns-in-Ok
 returns-in-Ok g c = λ table rs w wrote. c.in-Ok.ensures.closed g.P.Presence.mark_bytes table rs w (c.bytes_of_mark-end.ensures group_end refl) (c.bytes_of_mark-absent.ensures group_absent refl) wrote
 
 pub returns-in-Err : goal.returns-in-Err
-returns-in-Err g c = λ table rs w wrote. c.told.ensures.1 (c.in-Err.ensures.closed g.P.Presence.mark_bytes table rs w (c.bytes_of_mark-end.ensures group_end refl) (c.bytes_of_mark-absent.ensures group_absent refl) wrote)
+returns-in-Err g c = λ table rs w wrote. c.write_error_of.ensures.1 (c.in-Err.ensures.closed g.P.Presence.mark_bytes table rs w (c.bytes_of_mark-end.ensures group_end refl) (c.bytes_of_mark-absent.ensures group_absent refl) wrote)

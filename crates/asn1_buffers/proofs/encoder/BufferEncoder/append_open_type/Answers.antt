@@ -1,5 +1,5 @@
 use Rattle.std.proofs.Common.{refl}
-use Rattle.asn1_buffers.proofs.Written.{appended, not_appended}
+use Rattle.asn1_buffers.proofs.EncodersOverBuffers.{appended, not_appended}
 use Rattle.asn1_buffers.specs.Encoder.{in_one_order}
 use Rattle.asn1_laws.proofs.WritingUpToOrder.{appends, fails}
 use Rattle.asn1_model.specs.Records.{open_type}

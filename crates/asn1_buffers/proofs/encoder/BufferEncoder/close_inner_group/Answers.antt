@@ -1,5 +1,5 @@
 use Rattle.std.proofs.Common.{refl}
-use Rattle.asn1_buffers.proofs.Written.{group_is_closed, group_is_not_closed}
+use Rattle.asn1_buffers.proofs.EncodersOverBuffers.{group_is_closed, group_is_not_closed}
 use Rattle.asn1_buffers.specs.Encoder.{in_one_order}
 use Rattle.asn1_laws.proofs.WritingUpToOrder.{group_is_closed as closed_in_any_order, group_is_not_closed as not_closed_in_any_order}
 use Rattle.asn1_buffers.proofs.encoder.BufferEncoder.close_inner_group.Goals as goal

@@ -1,5 +1,5 @@
 use Rattle.std.proofs.Common.{◌≡◌, ◌+◌, refl, suc, arith}
-use Rattle.asn1_buffers.proofs.Written.{all_is_left, scope_is_closed, scope_is_not_closed}
+use Rattle.asn1_buffers.proofs.EncodersOverBuffers.{all_is_left, scope_is_closed, scope_is_not_closed}
 use Rattle.asn1_buffers.specs.Encoder.{in_one_order}
 use Rattle.asn1_laws.proofs.WritingUpToOrder.{scope_is_not_closed as not_closed_in_any_order}
 use Rattle.asn1_buffers.proofs.encoder.BufferEncoder.close_scope.Goals as goal

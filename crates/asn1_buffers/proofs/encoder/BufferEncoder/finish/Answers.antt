@@ -1,4 +1,4 @@
-use Rattle.asn1_buffers.proofs.Written.{finished}
+use Rattle.asn1_buffers.proofs.EncodersOverBuffers.{finished}
 use Rattle.asn1_buffers.proofs.encoder.BufferEncoder.finish.Goals as goal
 
 pub returns : goal.returns

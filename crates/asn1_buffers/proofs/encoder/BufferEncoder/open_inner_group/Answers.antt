@@ -1,5 +1,5 @@
 use Rattle.std.proofs.Common.{refl}
-use Rattle.asn1_buffers.proofs.Written.{group_is_not_opened, group_is_opened}
+use Rattle.asn1_buffers.proofs.EncodersOverBuffers.{group_is_not_opened, group_is_opened}
 use Rattle.asn1_buffers.specs.Encoder.{in_one_order}
 use Rattle.asn1_laws.proofs.WritingUpToOrder.{group_is_not_open, group_is_open}
 use Rattle.asn1_buffers.proofs.encoder.BufferEncoder.open_inner_group.Goals as goal

@@ -1,5 +1,5 @@
 use Rattle.std.proofs.Common.{◌≡◌, ◌-◌, refl, suc, arith}
-use Rattle.asn1_buffers.proofs.Written.{scope_is_not_opened, scope_is_opened}
+use Rattle.asn1_buffers.proofs.EncodersOverBuffers.{scope_is_not_opened, scope_is_opened}
 use Rattle.asn1_buffers.specs.Encoder.{in_one_order}
 use Rattle.asn1_laws.proofs.WritingUpToOrder.{scope_is_not_open, scope_is_open}
 use Rattle.asn1_buffers.proofs.encoder.BufferEncoder.open_scope.Goals as goal

@@ -1,4 +1,4 @@
-use Rattle.asn1_buffers.proofs.Written.{string_unlabelled}
+use Rattle.asn1_buffers.proofs.EncodersOverBuffers.{string_unlabelled}
 use Rattle.asn1_model.specs.ConstraintSets.{constraint_set}
 use Rattle.asn1_buffers.proofs.encoder.BufferEncoderEncoder.encode_string.Goals as goal
 

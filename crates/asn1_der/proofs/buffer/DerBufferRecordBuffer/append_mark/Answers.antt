@@ -1,4 +1,4 @@
-use Rattle.asn1_der.proofs.Written.{mark_appended}
+use Rattle.asn1_der.proofs.WrittenElements.{mark_appended}
 use Rattle.asn1_der.proofs.buffer.DerBufferRecordBuffer.append_mark.Goals as goal
 
 pub returns : goal.returns

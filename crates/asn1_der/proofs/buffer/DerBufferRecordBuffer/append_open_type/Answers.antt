@@ -1,5 +1,5 @@
 use Rattle.std.proofs.Common.{refl, sym, ◌∙◌}
-use Rattle.asn1_der.proofs.Written.{appended}
+use Rattle.asn1_der.proofs.WrittenElements.{appended}
 use Rattle.asn1_model.specs.Records.{open_type}
 use Rattle.asn1_der.proofs.buffer.DerBufferRecordBuffer.append_open_type.Goals as goal
 

@@ -1,4 +1,4 @@
-use Rattle.asn1_der.proofs.Written.{scalar_appended}
+use Rattle.asn1_der.proofs.WrittenElements.{scalar_appended}
 use Rattle.asn1_der.proofs.buffer.DerBufferRecordBuffer.append_scalar.Goals as goal
 
 pub returns-in-Ok : goal.returns-in-Ok

@@ -1,4 +1,4 @@
-use Rattle.asn1_der.proofs.Written.{group_ended}
+use Rattle.asn1_der.proofs.WrittenElements.{group_ended}
 use Rattle.asn1_der.proofs.buffer.DerBufferRecordBuffer.end_group.Goals as goal
 
 pub returns : goal.returns

@@ -1,6 +1,6 @@
 use Rattle.std.proofs.Common.{refl, ◌∙◌, arith}
-use Rattle.asn1_der_items.proofs.Behind.{element_at-shorter}
-use Rattle.asn1_der.proofs.Taking.{is_found, was_taken}
+use Rattle.asn1_der_items.proofs.TrailingBytes.{element_at-shorter}
+use Rattle.asn1_der.proofs.ParsedElements.{is_found, was_taken}
 use Rattle.asn1_der.proofs.decoder.DerDecoder.take.Goals as goal
 
 pub returns-in-Ok-clause-took : goal.returns-in-Ok-clause-took

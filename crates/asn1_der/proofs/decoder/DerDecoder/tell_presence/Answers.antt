@@ -1,7 +1,7 @@
 use Rattle.std.proofs.Common.{Ok}
 use Rattle.std.proofs.lemmas.Result.{err_from_is_err_and}
 use Rattle.asn1_laws.proofs.ReadingUpToOrder.{tells_presence}
-use Rattle.asn1_der.proofs.Telling.{not_told, told, told_none}
+use Rattle.asn1_der.proofs.PresenceByTag.{not_told, told, told_none}
 use Rattle.asn1_der.specs.Decoder.{in_one_order}
 use Rattle.asn1_model.specs.Tags.{tree_tags}
 use Rattle.asn1_tags.specs.Trees.{shape}

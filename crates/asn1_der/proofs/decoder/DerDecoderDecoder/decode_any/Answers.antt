@@ -2,16 +2,16 @@ use Rattle.std.proofs.Common.{◌≡◌, ◌++◌, Ok, Err, ap, ◌∙◌, arith
 use Rattle.asn1_laws.proofs.ReadingUpToOrder.{reads_open_type}
 use Rattle.asn1_der.specs.Decoder.{in_one_order}
 use Rattle.asn1_der_items.proofs.OneElement.{one}
-use Rattle.asn1_der.proofs.Remaining.{is_form}
+use Rattle.asn1_der.proofs.RemainingElements.{is_form}
 use Rattle.asn1_model.specs.Records.{open_type}
-use Rattle.asn1_items.proofs.Remaining.{next_is}
+use Rattle.asn1_items.proofs.DecodeStates.{next_is}
 use Rattle.asn1_der.proofs.decoder.DerDecoderDecoder.decode_any.Goals as goal
 
 pub returns-in_err-element-clause-read : goal.returns-in_err-element-clause-read
 returns-in_err-element-clause-read c =
     reads_open_type in_one_order c.args.self.now c.take.new.self (λ w bytes. w ≡ bytes) c.from_residual.result
     (λ bytes n rest outer accepts at.
-    let next = next_is is_form c.args.self.now.scopes (open_type n bytes) rest outer at in
+    let next = next_is is_form c.args.self.now.state (open_type n bytes) rest outer at in
     let o = one bytes accepts in
     absurd (c.in_err-element.ensures.took bytes next.back o.element at.no_failure o.alone (next.left ∙ ap (λ l. l ++ next.back) next.has.0)))
 
@@ -19,12 +19,12 @@ pub returns-in-Ok-clause-read : goal.returns-in-Ok-clause-read
 returns-in-Ok-clause-read c =
     reads_open_type in_one_order c.args.self.now c.take.new.self (λ w bytes. w ≡ bytes) (Ok c.new.result)
     (λ bytes n rest outer accepts at.
-    let next = next_is is_form c.args.self.now.scopes (open_type n bytes) rest outer at in
+    let next = next_is is_form c.args.self.now.state (open_type n bytes) rest outer at in
     let o = one bytes accepts in
-    let taken = c.in_ok-element.ensures.took bytes next.back o.element at.no_failure o.alone (next.left ∙ ap (λ l. l ++ next.back) next.has.0) in
+    let parsed = c.in_ok-element.ensures.took bytes next.back o.element at.no_failure o.alone (next.left ∙ ap (λ l. l ++ next.back) next.has.0) in
     record {
-      answer = c.new.ensures ∙ c.in-Ok.ensures.items ∙ taken.seen.bytes;
-      at = next.after c.take.new.self.scopes c.in_ok-element.ensures.opens_nothing.keeps_depth.no_failure taken.left c.in_ok-element.ensures.outside;
+      answer = c.new.ensures ∙ c.in-Ok.ensures.items ∙ parsed.seen.bytes;
+      at = next.after c.take.new.self.state c.in_ok-element.ensures.opens_nothing.keeps_depth.no_failure parsed.left c.in_ok-element.ensures.outside;
       within_depth_left = omega arith;
     })
 

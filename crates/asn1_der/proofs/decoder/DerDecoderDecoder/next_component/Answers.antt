@@ -1,7 +1,7 @@
 use Rattle.std.proofs.Common.{◌∷◌}
 use Rattle.asn1_laws.proofs.ReadingUpToOrder.{tells_next_tag}
 use Rattle.asn1_components.specs.Components.{all_components, lines}
-use Rattle.asn1_der.proofs.Telling.{next_tag_told}
+use Rattle.asn1_der.proofs.PresenceByTag.{next_tag_told}
 use Rattle.asn1_der.specs.Decoder.{in_one_order}
 use Rattle.asn1_model.specs.Records.{set}
 use Rattle.asn1_der.proofs.decoder.DerDecoderDecoder.next_component.Goals as goal

@@ -3,7 +3,7 @@ use Rattle.std.proofs.lemmas.Result.{err_from_is_err_and}
 use Rattle.asn1_laws.proofs.ReadingUpToOrder.{tells_presence}
 use Rattle.asn1_components.specs.ComponentLists.{trees_of}
 use Rattle.asn1_components.specs.Components.{all_components, lines}
-use Rattle.asn1_der.proofs.Telling.{not_told, told, told_none}
+use Rattle.asn1_der.proofs.PresenceByTag.{not_told, told, told_none}
 use Rattle.asn1_der.specs.Decoder.{in_one_order}
 use Rattle.asn1_model.specs.Records.{group_start, group_absent}
 use Rattle.asn1_model.specs.Tags.{tree_tags}

@@ -4,4 +4,4 @@ use Rattle.asn1_model.specs.Records.{set_of}
 use Rattle.asn1_der.proofs.decoder.DerDecoderDecoder.open_set_of.Goals as goal
 
 pub returns-clause-read : goal.returns-clause-read
-returns-clause-read c = c.open_list.ensures.read_set (set_of c.args.tag (constraint_set c.args.constraints.now)) (λ n. record { has_form = refl; has_tag = refl })
+returns-clause-read c = c.open_list.ensures.read_set (set_of c.args.tag (constraint_set c.args.constraints.now)) (λ n. record { has_order = refl; has_tag = refl })

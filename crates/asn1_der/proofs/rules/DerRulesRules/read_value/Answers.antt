@@ -1,12 +1,12 @@
 use Rattle.std.proofs.Common.{◌++◌}
-use Rattle.asn1_der.proofs.Remaining.{is_form}
+use Rattle.asn1_der.proofs.RemainingElements.{is_form}
 use Rattle.asn1_der.specs.Format.{Carries}
 use Rattle.asn1_model.specs.Meaning.{own_records}
-use Rattle.asn1_items.proofs.Remaining.{records_are_not_the_end}
+use Rattle.asn1_items.proofs.DecodeStates.{records_are_not_the_end}
 use Rattle.asn1_der.proofs.rules.DerRulesRules.read_value.Goals as goal
 
 pub returns-clause-none_left : goal.returns-clause-none_left
 returns-clause-none_left g c = λ v rest can of_type valid well some carries.
     let rs = own_records g.T.AsnType.meaning v ++ rest in
     let carried : Carries c.as_slice.result.now rs = rw c.as_slice.ensures.value carries in
-    c.read_whole.ensures.none_left v rest can of_type valid (c.new-decoder.ensures.before carried.exactly rs carried.have_bytes carried.same) (λ d. records_are_not_the_end is_form (λ d. d.scopes) d rest some)
+    c.read_whole.ensures.none_left v rest can of_type valid (c.new-decoder.ensures.before carried.exactly rs carried.have_bytes carried.same) (λ d. records_are_not_the_end is_form (λ d. d.state) d rest some)

@@ -1,5 +1,5 @@
 use Rattle.asn1_model.specs.Records.{group_end}
-use Rattle.asn1_tagform.proofs.Telling.{mark_passed}
+use Rattle.asn1_tagform.proofs.PresenceByTag.{mark_passed}
 use Rattle.asn1_tagform.proofs.next_item.NextItemPresence.end_of_group.Goals as goal
 
 pub returns-clause-passed : goal.returns-clause-passed

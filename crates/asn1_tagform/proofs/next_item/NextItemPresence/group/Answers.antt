@@ -6,7 +6,7 @@ use Rattle.asn1_model.specs.Records.{group_start, group_absent}
 use Rattle.asn1_model.specs.Tags.{tree_tags}
 use Rattle.asn1_tags.specs.Trees.{choice}
 use Rattle.asn1_items.specs.NextTags.{IsNext}
-use Rattle.asn1_tagform.proofs.Telling.{not_told, told, told_none}
+use Rattle.asn1_tagform.proofs.PresenceByTag.{not_told, told, told_none}
 use Rattle.asn1_tagform.proofs.next_item.NextItemPresence.group.Goals as goal
 
 pub returns-in_err-tag-clause-told : goal.returns-in_err-tag-clause-told

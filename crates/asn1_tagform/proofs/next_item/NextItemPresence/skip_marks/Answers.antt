@@ -1,4 +1,4 @@
-use Rattle.asn1_tagform.proofs.Telling.{passed}
+use Rattle.asn1_tagform.proofs.PresenceByTag.{passed}
 use Rattle.asn1_tagform.proofs.next_item.NextItemPresence.skip_marks.Goals as goal
 
 pub returns-clause-passed : goal.returns-clause-passed

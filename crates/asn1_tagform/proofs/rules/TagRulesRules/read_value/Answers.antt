@@ -2,9 +2,9 @@ use Rattle.std.proofs.Common.{◌++◌}
 use Rattle.asn1_items.specs.Headers.{is_one_item}
 use Rattle.asn1_model.specs.Meaning.{own_records}
 use Rattle.asn1_model.specs.WellFormed.{well_formed_append}
-use Rattle.asn1_bench.proofs.Remaining.{is_form}
+use Rattle.asn1_bench.proofs.RemainingItems.{is_form}
 use Rattle.asn1_bench.specs.Carried.{CarriesWith}
-use Rattle.asn1_items.proofs.Remaining.{records_are_not_the_end}
+use Rattle.asn1_items.proofs.DecodeStates.{records_are_not_the_end}
 use Rattle.asn1_tagform.specs.Next.{no_marks}
 use Rattle.asn1_tagform.proofs.rules.TagRulesRules.read_value.Goals as goal
 
@@ -27,4 +27,4 @@ returns-clause-none_left g c = λ v rest can of_type valid well some carries.
     let carried : CarriesWith no_marks c.as_slice.result.now rs = rw c.as_slice.ensures.value carries in
     let own = m.well_formed (λ own. is_one_item own) v m.tag m.constraints m.name valid in
     let both = well_formed_append (λ own. is_one_item own) (own_records m v) rest own well in
-    c.read_whole.ensures.none_left v rest can of_type valid (c.new-decoder.ensures.before rs carried both) (λ d. records_are_not_the_end (is_form no_marks) (λ d. d.scopes) d rest some)
+    c.read_whole.ensures.none_left v rest can of_type valid (c.new-decoder.ensures.before rs carried both) (λ d. records_are_not_the_end (is_form no_marks) (λ d. d.state) d rest some)

@@ -1,0 +1,149 @@
+-- What the tag of the next element tells: whether something is there, and whose the next record of a SET is.
+use Rattle.std.proofs.Common.{◌≡◌, ℕ, Bool, true, false, List, [], ◌∷◌, Option, None, Some, Ok, Err, refl, ap, sym, subst, ◌∙◌, arith}
+use Rattle.std.specs.Prelude.{◌↔◌, IsTrue, MatchResult, OnOk, Result}
+use Rattle.asn1_laws.proofs.MarksPassed.{first_left, none_left}
+use Rattle.asn1_laws.proofs.TellingTags.{selects_itself}
+use Rattle.asn1_laws.specs.Reading.{Advances, HasAdvanced, IsNextTag, Outside, TellsPresence, marks_passed}
+use Rattle.asn1_laws.specs.declared.decode_error.DecodeError.{DecodeError}
+use Rattle.asn1_components.specs.ComponentTypes.{ComponentType}
+use Rattle.asn1_der_items.specs.Bytes.{HaveDer}
+use Rattle.asn1_der.specs.Decoder.{AreLeft, der_form, in_one_order}
+use Rattle.asn1_items.specs.NextTags.{IsNext}
+use Rattle.asn1_der.specs.declared.decoder.DerDecoder.{DerDecoder}
+use Rattle.asn1_der_items.proofs.RecordElements.{record_element}
+use Rattle.asn1_der_items.proofs.Marks.{without_mark}
+use Rattle.asn1_der.proofs.RemainingElements.{is_form, past_mark}
+use Rattle.asn1_der_items.proofs.TrailingBytes.{element_at-append, element_before}
+use Rattle.asn1_der_items.specs.Elements.{Element, element_at}
+use Rattle.asn1_items.specs.Slices.{left_inside, left_outside}
+use Rattle.asn1_items.specs.declared.slices.Slices.{Slices}
+use Rattle.asn1_model.proofs.TagSets.{lies_has}
+use Rattle.asn1_model.specs.Records as model
+use Rattle.asn1_model.specs.Records.{held}
+use Rattle.asn1_model.specs.Tags.{Tags, Has, first_tags, record_tags}
+use Rattle.asn1_items.proofs.DecodeStates.{some_left}
+use Rattle.asn1_items.specs.DecodeStates.{AllHave, RemainsExactly, lists_outside}
+use Rattle.asn1_tags.specs.declared.tags.Tag.{Tag}
+
+-- the marks in front are passed over wherever the records are left
+pub passed : (rs : List model.Record) (bytes : List ℕ) → HaveDer (held rs) bytes → HaveDer (held (marks_passed rs)) bytes
+passed [] bytes p = p
+passed (model.scalar t c n x ∷ rs) bytes p = p
+passed (model.scope h is ∷ rs) bytes p = p
+passed (model.open_type n own ∷ rs) bytes p = p
+passed (model.presence_mark m ∷ rs) bytes p = passed rs bytes (without_mark m rs bytes p)
+
+-- The record that is next, after the presence marks that are passed over, and its element.
+record NextElement (left : List ℕ) (items : List model.Record) : Type 0 where
+  pub first : model.Record
+  pub others : List model.Record
+  pub is_next : marks_passed items ≡ first ∷ others
+  pub element : Element
+  pub at : element_at left ≡ Some element
+  pub has : Has (record_tags first) element.tag
+
+next_element : (left : List ℕ) (items : List model.Record) → (left ≡ [] → ⊥) → HaveDer (held items) left → NextElement left items
+next_element left items some have = by (marks_passed items) refl (passed items left have)
+  where
+    by : (l : List model.Record) → marks_passed items ≡ l → HaveDer (held l) left → NextElement left items
+    by [] is have = absurd (some have)
+    by (s ∷ ss) is have =
+        let one = record_element s have.first (first_left items s ss is).no_mark have.is_first in
+        record {
+          first = s;
+          others = ss;
+          is_next = is;
+          element = element_before one.element have.others;
+          at = ap element_at have.are ∙ element_at-append have.first have.others one.element one.alone.at;
+          has = one.has;
+        }
+
+-- no record is next where nothing is left
+none_next : (left : List ℕ) (items : List model.Record) → left ≡ [] → HaveDer (held items) left → marks_passed items ≡ []
+none_next left items none have = by (marks_passed items) refl (passed items left have)
+  where
+    by : (l : List model.Record) → marks_passed items ≡ l → HaveDer (held l) left → l ≡ []
+    by [] is have = refl
+    by (s ∷ ss) is have = absurd (some_left is_form s ss left (first_left items s ss is).no_mark have none)
+
+-- the tag of the next element, and none at the end
+pub element_tells : (s : Slices) (t : Tag) (rs : List model.Record) → (left_inside s ≡ [] → ⊥) → ((e : Element) → element_at (left_inside s) ≡ Some e → t ≡ e.tag) → AreLeft rs s → IsNext rs (Some t)
+element_tells s t rs some found left =
+    let n = next_element (left_inside s) rs some left in
+    let first = first_left rs n.first n.others n.is_next in
+    let has : Has (first_tags rs) t = subst (λ ts. Has ts t) (sym first.tags) (subst (Has (record_tags n.first)) (sym (found n.element n.at)) n.has) in
+    record { none = λ e. cc; some = λ u e. let same : t ≡ u = cc in subst (Has (first_tags rs)) same has }
+
+pub end_tells : (s : Slices) (rs : List model.Record) → left_inside s ≡ [] → AreLeft rs s → IsNext rs None
+end_tells s rs none left = record { none = λ _. none_left rs (none_next (left_inside s) rs none left); some = λ t e. cc }
+
+-- the tag that was found is that of the element
+pub found_tag : (s : Slices) (bytes : List ℕ) (f : Element) → bytes ≡ left_inside s → element_at bytes ≡ Some f → (e : Element) → element_at (left_inside s) ≡ Some e → f.tag ≡ e.tag
+found_tag s bytes f is found e at =
+    let both : Some f ≡ Some e = sym found ∙ ap element_at is ∙ at in
+    let same : f ≡ e = cc in
+    ap (λ (x : Element). x.tag) same
+
+-- there is an element
+pub has_element : (s : Slices) (rs : List model.Record) → (left_inside s ≡ [] → ⊥) → ((e : Element) → element_at (left_inside s) ≡ Some e → ⊥) → AreLeft rs s → ⊥
+has_element s rs some never left = let n = next_element (left_inside s) rs some left in never n.element n.at
+
+false_of : (b : Bool) → (IsTrue b → ⊥) → b ≡ false
+false_of true h = absurd (h refl)
+false_of false h = refl
+
+module _ (d e : DerDecoder) (there away : model.PresenceMark) (own : Tags) where
+  -- an element is next: the component is there if and only if its tag is one of the component's
+  pub told : (t : Tag) (b : Bool) (next : Option Tag) → next ≡ Some t → e.state.failed ≡ false → e.state.slices ≡ d.state.slices → ((rs : List model.Record) → d.state.failed ≡ false → AreLeft rs d.state.slices → IsNext rs next) → IsTrue b ↔ Has own t →
+      TellsPresence in_one_order d e there away own (Ok b)
+  told t b next is no_failure same tells has = record {
+    there = λ rest outer begins at.
+        let left = without_mark there rest (left_inside d.state.slices) at.inside in
+        record {
+          answer = has.1 (lies_has (first_tags rest) own begins.within t ((tells rest at.no_failure left).some t is));
+          at = past_mark d.state e.state there rest outer no_failure same at;
+          within_depth_left = omega arith;
+        };
+    away = λ rest outer apart at.
+        let left = without_mark away rest (left_inside d.state.slices) at.inside in
+        record {
+          answer = false_of b (λ yes. apart t (has.0 yes) ((tells rest at.no_failure left).some t is));
+          at = past_mark d.state e.state away rest outer no_failure same at;
+          within_depth_left = omega arith;
+        };
+  }
+
+  -- none is next: it is absent
+  pub told_none : (next : Option Tag) → next ≡ None → e.state.failed ≡ false → e.state.slices ≡ d.state.slices → ((rs : List model.Record) → d.state.failed ≡ false → AreLeft rs d.state.slices → IsNext rs next) →
+      TellsPresence in_one_order d e there away own (Ok false)
+  told_none next is no_failure same tells = record {
+    there = λ rest outer begins at.
+        let wrong = sym begins.some ∙ (tells rest at.no_failure (without_mark there rest (left_inside d.state.slices) at.inside)).none is in cc;
+    away = λ rest outer apart at. record { answer = refl; at = past_mark d.state e.state away rest outer no_failure same at; within_depth_left = omega arith };
+  }
+
+  -- where records are left, it is told
+  pub not_told : (result : Result Bool DecodeError) (error : DecodeError) → result ≡ Err error → ((rs : List model.Record) → d.state.failed ≡ false → AreLeft rs d.state.slices → ⊥) → TellsPresence in_one_order d e there away own result
+  not_told result error is never = record {
+    there = λ rest outer begins at. absurd (never rest at.no_failure (without_mark there rest (left_inside d.state.slices) at.inside));
+    away = λ rest outer apart at. absurd (never rest at.no_failure (without_mark away rest (left_inside d.state.slices) at.inside));
+  }
+
+-- the tag of the next record of a SET
+pub next_told : {V : Type 0} (cs : List (ComponentType V)) (d e : DerDecoder) (items : List model.Record) (outer : Outside) (next : Option Tag) → e.state.failed ≡ false → e.state.slices ≡ d.state.slices → IsNext items next →
+    RemainsExactly der_form d.state (items, outer) → HasAdvanced in_one_order d e 0 (marks_passed items, outer) (IsNextTag cs items next)
+next_told cs d e items outer next no_failure same is at = record {
+  answer = record { none = is.none; some = λ t found. (t, (is.some t found, selects_itself cs (first_tags items) t (is.some t found))) };
+  at = record {
+    no_failure = no_failure;
+    inside = subst (λ s. HaveDer (held (marks_passed items)) (left_inside s)) (sym same) (passed items (left_inside d.state.slices) at.inside);
+    outside = subst (λ s. AllHave der_form (lists_outside outer) (left_outside s)) (sym same) at.outside;
+  };
+  within_depth_left = omega arith;
+}
+
+pub next_tag_told : {V : Type 0} (cs : List (ComponentType V)) (d e : DerDecoder) (items : List model.Record) (outer : Outside) (result : Result (Option Tag) DecodeError) →
+    ((rs : List model.Record) → d.state.failed ≡ false → AreLeft rs d.state.slices → MatchResult result (IsNext rs) (λ _. ⊥)) → OnOk result (e.state.slices ≡ d.state.slices) → OnOk result (e.state.failed ≡ false) →
+    Advances in_one_order d e 0 (items, outer) (marks_passed items, outer) (IsNextTag cs items) result
+next_tag_told cs d e items outer (Ok next) told same no_failure at = next_told cs d e items outer next no_failure same (told items at.no_failure at.inside) at
+next_tag_told cs d e items outer (Err error) told same no_failure at = absurd (told items at.no_failure at.inside)

@@ -1,5 +1,0 @@
-use Rattle.std.proofs.Common.{true}
-use Rattle.asn1_der.proofs.holding.end_as_written.Goals as goal
-
-pub returns-in-Err : goal.returns-in-Err
-returns-in-Err c = λ t before front inside begun is starts. c.told.ensures.1 (c.in-Err.ensures t true before front inside begun is starts)

@@ -1,9 +1,0 @@
-use Rattle.std.proofs.Common.{length}
-use Rattle.asn1_der.specs.Rising.{IsReached}
-use Rattle.asn1_der.proofs.rising.rises.Given as goal
-
-abbrev pub invariant-loop-before : goal.invariant-loop-before
-invariant-loop-before l = IsReached l.form l.fn.contents l.before.tag l.before.bytes.now l.left
-
-abbrev pub decreases-loop-before : goal.decreases-loop-before
-decreases-loop-before l = length l.left
